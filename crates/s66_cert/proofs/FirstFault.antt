@@ -5,10 +5,9 @@ use Rattle.std.specs.Prelude.{Result, Ok, Err}
 use Rattle.s66_isa.specs.declared.limits.TheConstants.{BLOCK_LIMIT}
 use Rattle.s66_model.specs.Tree.{AtTerminal, AtSplit}
 use Rattle.s66_cert.specs.Document.{Document, IsTextWithin}
-use Rattle.s66_cert.specs.Faults.{IsLine, HaveNoNewline, BeginsWithin, Begins, HasLine, IsBadLine, IsSplitTooMany, IsCut, IsFault}
-use Rattle.s66_line.specs.Fields.{with_newlines}
-use Rattle.s66_cert.specs.Lines.{DocumentLine, Header, Profile, Block, Instruction, Time, Bound, Order, OfTree, End, line_read}
-use Rattle.s66_cert.specs.Reading.{DocumentState, first_state, place_of_tree, with_vertex, is_allowed, wants_dominated, step_at, step_if, step, and_then, steps, ended, is_header, read_within, whole_lines, last_bytes}
+use Rattle.s66_cert.specs.Faults.{IsLine, HaveNoNewline, with_newlines, BeginsWithin, Begins, HasLine, IsBadLine, IsSplitTooMany, IsCut, IsFault}
+use Rattle.s66_cert.specs.Lines.{DocumentLine, Header, Profile, Block, Instruction, Time, Bound, Order, OfFact, OfTree, End, line_read}
+use Rattle.s66_cert.specs.Reading.{DocumentState, first_state, place_of_tree, with_vertex, is_leaf_of, takes_fact, wants_dominated, step_at, step_if, step, and_then, steps, ended, is_header, read_within, whole_lines, last_bytes}
 use Rattle.s66_cert.specs.declared.limits.TheConstants.{SPLIT_LIMIT}
 use Rattle.s66_cert.specs.declared.error.CertError.{CertError}
 use Rattle.s66_cert.specs.declared.error.CertError.TheVariants.{BadLine, Truncated, TooManyNodes, OutOfMemory}
@@ -21,7 +20,7 @@ use Rattle.s66_cert.proofs.Sound.{read-sound, after-ok}
 
 -- ONE LINE, however many splits there may be
 
-data Outcome (s : DocumentState) (f : ℕ → Result DocumentState CertError) : Type 0 where
+pub data Outcome (s : DocumentState) (f : ℕ → Result DocumentState CertError) : Type 0 where
   IsBad : ((most : ℕ) → f most ≡ Err (BadLine (suc s.count))) → Outcome s f
   IsGood : (t : DocumentState) → t.count ≡ suc s.count → ((most : ℕ) → f most ≡ Ok t) → Outcome s f
   IsSplit : (t : DocumentState) → t.count ≡ suc s.count → ((most : ℕ) → f most ≡ cond (leb most s.splits) (Err TooManyNodes) (Ok t)) → Outcome s f
@@ -36,15 +35,16 @@ outcome-unless : (s t : DocumentState) (test : Bool) → t.count ≡ suc s.count
 outcome-unless s t true counted = IsBad (λ most. refl)
 outcome-unless s t false counted = IsGood t counted (λ most. refl)
 
-outcome-at : (s : DocumentState) (place : Place) (l : DocumentLine) → Outcome s (λ most. step_at most s place l)
-outcome-at s AtHeader (Header rule) = IsGood _ refl (λ most. refl)
+pub outcome-at : (s : DocumentState) (place : Place) (l : DocumentLine) → Outcome s (λ most. step_at most s place l)
+outcome-at s AtHeader (Header facts rule) = IsGood _ refl (λ most. refl)
 outcome-at s AtProfile (Profile numbers) = IsGood _ refl (λ most. refl)
 outcome-at s AtBlock (Block count) = IsGood _ refl (λ most. refl)
 outcome-at s AtInstruction (Instruction text) = IsGood _ refl (λ most. refl)
 outcome-at s AtTime (Time time) = IsGood _ refl (λ most. refl)
 outcome-at s AtBound (Bound bound) = IsGood _ refl (λ most. refl)
 outcome-at s AtOrder (Order numbers) = IsGood _ refl (λ most. refl)
-outcome-at s AtTree (OfTree (AtTerminal ending)) = outcome-test s _ (is_allowed s.part.rule (AtTerminal ending)) refl
+outcome-at s AtTree (OfFact line) = outcome-test s _ (takes_fact s.part) refl
+outcome-at s AtTree (OfTree (AtTerminal ending)) = outcome-test s _ (is_leaf_of s.part (AtTerminal ending)) refl
 outcome-at s AtTree (OfTree (AtSplit numbers)) =
     IsSplit (record { count = suc s.count; documents = s.documents; place = place_of_tree (s.left - 1 + length numbers); part = with_vertex s.part (AtSplit numbers); left = s.left - 1 + length numbers; splits = suc s.splits }) refl (λ most. refl)
 outcome-at s AtEnd End = outcome-unless s _ (wants_dominated s.part) refl
@@ -68,7 +68,7 @@ ok-more s t f most more (IsSplit u count all) le h = by (leb most s.splits) refl
         let above : s.splits < most = leb-false most s.splits e in
         all more ∙ cond-false (leb more s.splits) (Err TooManyNodes) (Ok u) (lt-leb more s.splits (omega arith)) ∙ h
 
-ok-count : (s t : DocumentState) (f : ℕ → Result DocumentState CertError) (most : ℕ) → Outcome s f → f most ≡ Ok t → t.count ≡ suc s.count
+pub ok-count : (s t : DocumentState) (f : ℕ → Result DocumentState CertError) (most : ℕ) → Outcome s f → f most ≡ Ok t → t.count ≡ suc s.count
 ok-count s t f most (IsBad all) h = absurd (let e = sym (all most) ∙ h in (cc))
 ok-count s t f most (IsGood u count all) h = let e = sym (all most) ∙ h in let same : t ≡ u = (cc) in ap (λ (v : DocumentState). v.count) same ∙ count
 ok-count s t f most (IsSplit u count all) h = by (leb most s.splits) (sym (all most) ∙ h)

@@ -1,24 +1,27 @@
 -- The lines of a document, read one after the other, give the document.
-use Rattle.std.proofs.Common.{◌≡◌, ◌≤◌, ◌<◌, ◌+◌, ◌-◌, ◌^◌, ℕ, suc, true, false, List, [], ◌∷◌, ◌++◌, length, map, Option, refl, sym, ap, ◌∙◌, arith, append_assoc, length-append}
-use Rattle.std.proofs.lemmas.Bool.{lt-leb}
+use Rattle.std.proofs.Common.{◌≡◌, ◌≤◌, ◌<◌, ◌+◌, ◌-◌, ◌^◌, ℕ, suc, Bool, true, false, List, [], ◌∷◌, ◌++◌, length, map, Option, None, Some, is_some, refl, sym, ap, ◌∙◌, arith, append_assoc, length-append}
+use Rattle.std.proofs.lemmas.Bool.{lt-leb, lt-ltb, and_parts}
 use Rattle.std.proofs.lemmas.List.{append-nil, map-append}
 use Rattle.std.specs.Prelude.{Result, Ok}
+use Rattle.s66_isa.specs.Lists.{every}
 use Rattle.s66_model.specs.declared.rule.Rule.{Rule}
+use Rattle.s66_model.specs.declared.rule.Rule.TheVariants.{ClampedStanding}
 use Rattle.s66_model.specs.Leaves.{Whole}
 use Rattle.s66_model.specs.Tree.{Tree, Alone, Parted, Siblings, NoMore, Unsplit, Split, Vertex, AtTerminal, AtSplit, flat_siblings, flat, sibling_splits, splits}
 use Rattle.s66_model.specs.DominatedLeaves.{Ending, Bounding}
 use Rattle.s66_model.specs.Preorder.{SiblingsMatch, TreeMatches}
 use Rattle.s66_model.proofs.Forests.{read-flat}
-use Rattle.s66_tree.specs.Lines.{has_dominated_line}
-use Rattle.s66_cert.specs.Document.{Document, IsDocumentWithin, AreDocumentsWithin, AreInstructions, SiblingsFit, TreeFits, has_dominated, names_nodes}
-use Rattle.s66_cert.proofs.DocumentLines.{open_lines, document_lines, documents_lines, instructions_of, vertices_of}
-use Rattle.s66_cert.specs.Lines.{DocumentLine, Header, Profile, Block, Instruction, Time, Bound, Order, OfTree, End, line_bytes, IsLineInRange}
+use Rattle.s66_moments.specs.declared.fact_line.FactLine.{FactLine}
+use Rattle.s66_cert.specs.Document.{Document, IsDocumentWithin, AreDocumentsWithin, AreInstructions, AreFactLines, AreFacts, SiblingsFit, TreeFits}
+use Rattle.s66_cert.proofs.DocumentLines.{open_lines, document_lines, documents_lines, instructions_of, fact_lines_of, facts_of, vertices_of}
+use Rattle.s66_cert.specs.Lines.{DocumentLine, Header, Profile, Block, Instruction, Time, Bound, Order, OfFact, OfTree, End, line_bytes, IsLineInRange}
 use Rattle.s66_cert.specs.DocumentParts.{Parts, tree_of_lines}
-use Rattle.s66_cert.specs.Reading.{nothing, DocumentState, place_of_instruction, place_of_tree, is_allowed, wants_dominated, step_at, step_if, and_then, steps}
+use Rattle.s66_cert.specs.Reading.{nothing, headed, first_facts, DocumentState, place_of_instruction, place_of_tree, is_leaf_of, wants_dominated, step_at, step_if, and_then, steps}
+use Rattle.s66_cert.specs.declared.limits.TheConstants.{FACT_LIMIT}
 use Rattle.s66_cert.specs.declared.error.CertError.{CertError}
 use Rattle.s66_cert.specs.declared.place.Place.TheVariants.{AtHeader, AtProfile, AtBlock, AtInstruction, AtTime, AtBound, AtOrder}
 use Rattle.s66_cert.proofs.LineTexts.{line-again}
-use Rattle.s66_cert.proofs.DominatedLines.{first-allowed, later-allowed, front-dominated, rest-dominated, not-wanting}
+use Rattle.s66_cert.proofs.DominatedLines.{AreAllowed, every-parts, leaves-allowed, leaves-wanting, facts-fit, first-some}
 use Rattle.s66_cert.proofs.States.{at, place-instruction, place-tree}
 
 -- THE TREE OF ITS LINES
@@ -83,7 +86,7 @@ module _ (limit most : ℕ) (narrow : limit < 2 ^ 64) where
   abbrev in_tree : ℕ → List Document → Parts → List (Vertex Ending) → ℕ → ℕ → DocumentState
   in_tree count documents part vertices left splits = at count documents (place_of_tree left) (record part { vertices = vertices }) left splits
 
-  terminal-step : (count left splits : ℕ) (documents : List Document) (part : Parts) (vertices : List (Vertex Ending)) (ending : Ending) → is_allowed part.rule (AtTerminal ending) ≡ true →
+  terminal-step : (count left splits : ℕ) (documents : List Document) (part : Parts) (vertices : List (Vertex Ending)) (ending : Ending) → is_leaf_of part (AtTerminal ending) ≡ true →
       step_at most (in_tree count documents part vertices (suc left) splits) (place_of_tree (suc left)) (OfTree (AtTerminal ending)) ≡ Ok (in_tree (suc count) documents part (vertices ++ AtTerminal ending ∷ []) left splits)
   terminal-step count left splits documents part vertices ending is =
       let less : suc left - 1 ≡ left = omega arith in
@@ -97,7 +100,7 @@ module _ (limit most : ℕ) (narrow : limit < 2 ^ 64) where
 
   siblings-run : (count to left here splits after : ℕ) (documents : List Document) (part : Parts) (vertices : List (Vertex Ending)) (ns : List ℕ) (siblings : Siblings Ending) (lines : List (List ℕ)) →
       SiblingsFit limit ns siblings → to ≡ count + length (flat_siblings siblings) → here ≡ length ns + left → after ≡ splits + sibling_splits siblings → after ≤ most →
-      (has_dominated_line (flat_siblings siblings) ≡ true → names_nodes part.rule ≡ true) →
+      every (is_leaf_of part) (flat_siblings siblings) ≡ true →
       steps limit most (in_tree count documents part vertices here splits) (map line_bytes (vertices_of (flat_siblings siblings)) ++ lines)
       ≡ steps limit most (in_tree to documents part (vertices ++ flat_siblings siblings) left after) lines
   siblings-run count to left here splits after documents part vertices [] NoMore lines fits e f g few named =
@@ -110,15 +113,17 @@ module _ (limit most : ℕ) (narrow : limit < 2 ^ 64) where
   siblings-run count to left here splits after documents part vertices (n ∷ ns) NoMore lines fits e f g few named = absurd fits
   siblings-run count to left here splits after documents part vertices (n ∷ ns) (Unsplit ending siblings) lines fits e f g few named =
       let more : here ≡ suc (length ns + left) = omega arith in
+      let each = and_parts (is_leaf_of part (AtTerminal ending)) (every (is_leaf_of part) (flat_siblings siblings)) named in
       let joined : (vertices ++ AtTerminal ending ∷ []) ++ flat_siblings siblings ≡ vertices ++ AtTerminal ending ∷ flat_siblings siblings = append_assoc vertices (AtTerminal ending ∷ []) (flat_siblings siblings) in
       rw more (
-      step-line (in_tree count documents part vertices (suc (length ns + left)) splits) (in_tree (suc count) documents part (vertices ++ AtTerminal ending ∷ []) (length ns + left) splits) (OfTree (AtTerminal ending)) (map line_bytes (vertices_of (flat_siblings siblings)) ++ lines) fits.0 (terminal-step count (length ns + left) splits documents part vertices ending (first-allowed part.rule ending (flat_siblings siblings) named))
-      ∙ siblings-run (suc count) to left (length ns + left) splits after documents part (vertices ++ AtTerminal ending ∷ []) ns siblings lines fits.1 (omega arith) refl g few (later-allowed part.rule ending (flat_siblings siblings) named)
+      step-line (in_tree count documents part vertices (suc (length ns + left)) splits) (in_tree (suc count) documents part (vertices ++ AtTerminal ending ∷ []) (length ns + left) splits) (OfTree (AtTerminal ending)) (map line_bytes (vertices_of (flat_siblings siblings)) ++ lines) fits.0 (terminal-step count (length ns + left) splits documents part vertices ending each.0)
+      ∙ siblings-run (suc count) to left (length ns + left) splits after documents part (vertices ++ AtTerminal ending ∷ []) ns siblings lines fits.1 (omega arith) refl g few each.1
       ∙ ap (λ (k : List (Vertex Ending)). steps limit most (in_tree to documents part k left after) lines) joined
       )
   siblings-run count to left here splits after documents part vertices (n ∷ ns) (Split numbers sub siblings) lines fits e f g few named =
       let more : here ≡ suc (length ns + left) = omega arith in
       let trees : ℕ = length numbers + (length ns + left) in
+      let each = every-parts (is_leaf_of part) (flat_siblings sub) (flat_siblings siblings) named in
       let count2 : ℕ = suc count + length (flat_siblings sub) in
       let splits2 : ℕ = suc splits + sibling_splits sub in
       let before : List (Vertex Ending) = vertices ++ AtSplit numbers ∷ [] in
@@ -128,15 +133,15 @@ module _ (limit most : ℕ) (narrow : limit < 2 ^ 64) where
       rw more (
       step-line (in_tree count documents part vertices (suc (length ns + left)) splits) (in_tree (suc count) documents part before trees (suc splits)) (OfTree (AtSplit numbers)) (map line_bytes (vertices_of (flat_siblings sub ++ flat_siblings siblings)) ++ lines) fits.0 (split-step count (length ns + left) trees splits documents part vertices numbers (omega arith) refl)
       ∙ ap (λ (l : List (List ℕ)). steps limit most (in_tree (suc count) documents part before trees (suc splits)) l) cut
-      ∙ siblings-run (suc count) count2 (length ns + left) trees (suc splits) splits2 documents part before numbers sub (map line_bytes (vertices_of (flat_siblings siblings)) ++ lines) fits.1 refl refl refl (omega arith) (λ has. named (front-dominated (flat_siblings sub) (flat_siblings siblings) has))
-      ∙ siblings-run count2 to left (length ns + left) splits2 after documents part (before ++ flat_siblings sub) ns siblings lines fits.2 (omega (arith, length-append {A = Vertex Ending})) refl (omega arith) few (λ has. named (rest-dominated (flat_siblings sub) (flat_siblings siblings) has))
+      ∙ siblings-run (suc count) count2 (length ns + left) trees (suc splits) splits2 documents part before numbers sub (map line_bytes (vertices_of (flat_siblings siblings)) ++ lines) fits.1 refl refl refl (omega arith) each.0
+      ∙ siblings-run count2 to left (length ns + left) splits2 after documents part (before ++ flat_siblings sub) ns siblings lines fits.2 (omega (arith, length-append {A = Vertex Ending})) refl (omega arith) few each.1
       ∙ ap (λ (k : List (Vertex Ending)). steps limit most (in_tree to documents part k left after) lines) joined
       )
 
-  tree-run : (count : ℕ) (documents : List Document) (part : Parts) (tree : Tree Ending) (lines : List (List ℕ)) → TreeFits limit tree → splits tree ≤ most → (has_dominated tree ≡ true → names_nodes part.rule ≡ true) →
+  tree-run : (count : ℕ) (documents : List Document) (part : Parts) (tree : Tree Ending) (lines : List (List ℕ)) → TreeFits limit tree → splits tree ≤ most → every (is_leaf_of part) (flat tree) ≡ true →
       (to : ℕ) × (steps limit most (in_tree count documents part [] 1 0) (map line_bytes (vertices_of (flat tree)) ++ lines) ≡ steps limit most (in_tree to documents part (flat tree) 0 (splits tree)) lines)
   tree-run count documents part (Alone ending) lines fits few named =
-      (suc count, step-line (in_tree count documents part [] 1 0) (in_tree (suc count) documents part (AtTerminal ending ∷ []) 0 0) (OfTree (AtTerminal ending)) lines fits (terminal-step count 0 0 documents part [] ending (first-allowed part.rule ending [] named)))
+      (suc count, step-line (in_tree count documents part [] 1 0) (in_tree (suc count) documents part (AtTerminal ending ∷ []) 0 0) (OfTree (AtTerminal ending)) lines fits (terminal-step count 0 0 documents part [] ending (and_parts (is_leaf_of part (AtTerminal ending)) true named).0))
   tree-run count documents part (Parted numbers siblings) lines fits few named =
       let trees : ℕ = length numbers + 0 in (
         suc count + length (flat_siblings siblings),
@@ -151,21 +156,28 @@ module _ (limit most : ℕ) (narrow : limit < 2 ^ 64) where
   between count documents = at count documents AtHeader nothing 0 0
 
   abbrev heading : Document → Parts
-  heading d = record { rule = d.rule; profile = d.profile; block = d.block; time = d.time; bound = d.bound; numbers = d.numbers; vertices = [] }
+  heading d = record { rule = d.rule; facts = d.facts; profile = d.profile; block = d.block; time = d.time; bound = d.bound; numbers = d.numbers; vertices = [] }
 
   lines-cut : (xs ys : List DocumentLine) (lines : List (List ℕ)) → map line_bytes (xs ++ ys) ++ lines ≡ map line_bytes xs ++ (map line_bytes ys ++ lines)
   lines-cut xs ys lines = ap (λ (front : List (List ℕ)). front ++ lines) (map-append line_bytes xs ys) ∙ append_assoc (map line_bytes xs) (map line_bytes ys) lines
 
+  -- with these fact lines so far
+  abbrev with_facts : Parts → Option (List FactLine) → Parts
+  with_facts o facts = record o { facts = facts }
+
   -- PROFILE, BLOCK and the header, the instructions, and TIME, BOUND and ORDER
-  heading-run : (count : ℕ) (documents : List Document) (d : Document) (other : Rule) (lines : List (List ℕ)) → IsDocumentWithin limit most (record d { rule = other }) →
-      (to : ℕ) × (steps limit most (between count documents) (map line_bytes (Header d.rule ∷ Profile d.profile ∷ Block (length d.block) ∷ (instructions_of d.block ++ Time d.time ∷ Bound d.bound ∷ Order d.numbers ∷ [])) ++ lines) ≡ steps limit most (in_tree to documents (heading d) [] 1 0) lines)
-  heading-run count documents d other lines is =
+  heading-run : (count : ℕ) (documents : List Document) (d : Document) (other : Rule) (lines : List (List ℕ)) → IsDocumentWithin limit most (record d { rule = other }) → (is_some d.facts ≡ true → d.rule ≡ ClampedStanding) →
+      (to : ℕ) × (steps limit most (between count documents) (map line_bytes (Header (is_some d.facts) d.rule ∷ Profile d.profile ∷ Block (length d.block) ∷ (instructions_of d.block ++ Time d.time ∷ Bound d.bound ∷ Order d.numbers ∷ [])) ++ lines)
+      ≡ steps limit most (in_tree to documents (with_facts (heading d) (first_facts (is_some d.facts))) [] 1 0) lines)
+  heading-run count documents d other lines is fits =
       let rest : List DocumentLine = Time d.time ∷ Bound d.bound ∷ Order d.numbers ∷ [] in
-      let part0 : Parts = record nothing { rule = d.rule } in
+      let begun : Bool = is_some d.facts in
+      let part0 : Parts = headed begun d.rule in
       let part1 : Parts = record part0 { profile = d.profile } in
       let part2 : Parts = record part1 { block = d.block } in
       let part3 : Parts = record part2 { time = d.time } in
       let part4 : Parts = record part3 { bound = d.bound } in
+      let part5 : Parts = with_facts (heading d) (first_facts begun) in
       let to : ℕ = suc (suc (suc count)) + length d.block in
       let after : List (List ℕ) = map line_bytes rest ++ lines in
       let body : List (List ℕ) = map line_bytes (instructions_of d.block ++ rest) ++ lines in
@@ -173,43 +185,73 @@ module _ (limit most : ℕ) (narrow : limit < 2 ^ 64) where
       let begin : steps limit most in_order (map line_bytes (instructions_of d.block ++ rest) ++ lines) ≡ steps limit most (in_block to documents part2 0) after =
       ap (λ (l : List (List ℕ)). steps limit most in_order l) (lines-cut (instructions_of d.block) rest lines)
       ∙ instructions-run (suc (suc (suc count))) to documents part1 d.block after is.block.2 refl in
-      let placed : AtInstruction ≡ place_of_instruction (length d.block) = sym (some-place d.block is.block.0) in (
+      let placed : AtInstruction ≡ place_of_instruction (length d.block) = sym (some-place d.block is.block.0) in
+      let again : Ok (in_tree (suc (suc (suc to))) documents (with_facts (heading d) (first_facts (is_some (first_facts begun)))) [] 1 0) ≡ Ok (in_tree (suc (suc (suc to))) documents part5 [] 1 0) =
+      ap (λ (b : Bool). Ok (in_tree (suc (suc (suc to))) documents (with_facts (heading d) (first_facts b)) [] 1 0)) (first-some begun) in (
         suc (suc (suc to)),
-        step-line (between count documents) (at (suc count) documents AtProfile part0 0 0) (Header d.rule) (line_bytes (Profile d.profile) ∷ line_bytes (Block (length d.block)) ∷ body) tt refl
+        step-line (between count documents) (at (suc count) documents AtProfile part0 0 0) (Header begun d.rule) (line_bytes (Profile d.profile) ∷ line_bytes (Block (length d.block)) ∷ body) fits refl
             ∙ step-line (at (suc count) documents AtProfile part0 0 0) (at (suc (suc count)) documents AtBlock part1 0 0) (Profile d.profile) (line_bytes (Block (length d.block)) ∷ body) is.profile refl
             ∙ step-line (at (suc (suc count)) documents AtBlock part1 0 0) in_order (Block (length d.block)) body (is.block.0, is.block.1) (rw (← placed) refl)
             ∙ begin
             ∙ step-line (at to documents AtTime part2 0 0) (at (suc to) documents AtBound part3 0 0) (Time d.time) (line_bytes (Bound d.bound) ∷ line_bytes (Order d.numbers) ∷ lines) is.time refl
             ∙ step-line (at (suc to) documents AtBound part3 0 0) (at (suc (suc to)) documents AtOrder part4 0 0) (Bound d.bound) (line_bytes (Order d.numbers) ∷ lines) is.bound refl
-            ∙ step-line (at (suc (suc to)) documents AtOrder part4 0 0) (in_tree (suc (suc (suc to))) documents (heading d) [] 1 0) (Order d.numbers) lines is.numbers refl,
+            ∙ step-line (at (suc (suc to)) documents AtOrder part4 0 0) (in_tree (suc (suc (suc to))) documents part5 [] 1 0) (Order d.numbers) lines is.numbers again,
       )
     where
       some-place : (texts : List (List ℕ)) → 1 ≤ length texts → place_of_instruction (length texts) ≡ AtInstruction
       some-place [] some = absurd (omega arith)
       some-place (text ∷ texts) some = place-instruction (length texts)
 
-  -- all but the last line of a document, by any rule that names nodes if a leaf is dominated
+  -- FACT LINES
+
+  fact-step : (count : ℕ) (documents : List Document) (part : Parts) (front : List FactLine) (line : FactLine) → length front < FACT_LIMIT →
+      step_at most (in_tree count documents (with_facts part (Some front)) [] 1 0) (place_of_tree 1) (OfFact line) ≡ Ok (in_tree (suc count) documents (with_facts part (Some (front ++ line ∷ []))) [] 1 0)
+  fact-step count documents part front line few = rw (lt-ltb (length front) FACT_LIMIT few) refl
+
+  lines-run : (count : ℕ) (documents : List Document) (part : Parts) (front facts : List FactLine) (lines : List (List ℕ)) → AreFactLines limit facts → length front + length facts ≤ FACT_LIMIT →
+      (to : ℕ) × (steps limit most (in_tree count documents (with_facts part (Some front)) [] 1 0) (map line_bytes (fact_lines_of facts) ++ lines) ≡ steps limit most (in_tree to documents (with_facts part (Some (front ++ facts))) [] 1 0) lines)
+  lines-run count documents part front [] lines are few = (count, ap (λ (fs : List FactLine). steps limit most (in_tree count documents (with_facts part (Some fs)) [] 1 0) lines) (sym (append-nil front)))
+  lines-run count documents part front (line ∷ facts) lines are few =
+      let longer : length (front ++ line ∷ []) ≡ length front + 1 = length-append front (line ∷ []) in
+      let rest = lines-run (suc count) documents part (front ++ line ∷ []) facts lines are.1 (omega (arith, longer, few)) in (
+        rest.0,
+        step-line (in_tree count documents (with_facts part (Some front)) [] 1 0) (in_tree (suc count) documents (with_facts part (Some (front ++ line ∷ []))) [] 1 0) (OfFact line) (map line_bytes (fact_lines_of facts) ++ lines) are.0 (fact-step count documents part front line (omega (arith, few)))
+            ∙ rest.1
+            ∙ ap (λ (fs : List FactLine). steps limit most (in_tree rest.0 documents (with_facts part (Some fs)) [] 1 0) lines) (append_assoc front (line ∷ []) facts),
+      )
+
+  facts-run : (count : ℕ) (documents : List Document) (part : Parts) (rule : Rule) (facts : Option (List FactLine)) (lines : List (List ℕ)) → AreFacts limit rule facts →
+      (to : ℕ) × (steps limit most (in_tree count documents (with_facts part (first_facts (is_some facts))) [] 1 0) (map line_bytes (facts_of facts) ++ lines) ≡ steps limit most (in_tree to documents (with_facts part facts) [] 1 0) lines)
+  facts-run count documents part rule None lines are = (count, refl)
+  facts-run count documents part rule (Some facts) lines are = lines-run count documents part [] facts lines are.2 (omega (arith, are.1))
+
+  -- all but the last line of a document, by any rule with which its lines may stand
   pub open-run : (count : ℕ) (documents : List Document) (d : Document) (other : Rule) (lines : List (List ℕ)) → IsDocumentWithin limit most (record d { rule = other }) →
-      (has_dominated d.tree ≡ true → names_nodes d.rule ≡ true) →
+      (is_some d.facts ≡ true → d.rule ≡ ClampedStanding) → AreAllowed d.rule d.facts (flat d.tree) →
       (to : ℕ) × (steps limit most (between count documents) (map line_bytes (open_lines d) ++ lines) ≡ steps limit most (in_tree to documents (heading d) (flat d.tree) 0 (splits d.tree)) lines)
-  open-run count documents d other lines is named =
-      let front : List DocumentLine = Header d.rule ∷ Profile d.profile ∷ Block (length d.block) ∷ (instructions_of d.block ++ Time d.time ∷ Bound d.bound ∷ Order d.numbers ∷ []) in
-      let whole : open_lines d ≡ front ++ vertices_of (flat d.tree) =
-      ap (λ (l : List DocumentLine). Header d.rule ∷ Profile d.profile ∷ Block (length d.block) ∷ l) (sym (append_assoc (instructions_of d.block) (Time d.time ∷ Bound d.bound ∷ Order d.numbers ∷ []) (vertices_of (flat d.tree)))) in
-      let one = heading-run count documents d other (map line_bytes (vertices_of (flat d.tree)) ++ lines) is in
-      let two = tree-run one.0 documents (heading d) d.tree lines is.tree is.splits named in (
-        two.0,
+  open-run count documents d other lines is fits allowed =
+      let front : List DocumentLine = Header (is_some d.facts) d.rule ∷ Profile d.profile ∷ Block (length d.block) ∷ (instructions_of d.block ++ Time d.time ∷ Bound d.bound ∷ Order d.numbers ∷ []) in
+      let body : List DocumentLine = facts_of d.facts ++ vertices_of (flat d.tree) in
+      let whole : open_lines d ≡ front ++ body =
+      ap (λ (l : List DocumentLine). Header (is_some d.facts) d.rule ∷ Profile d.profile ∷ Block (length d.block) ∷ l) (sym (append_assoc (instructions_of d.block) (Time d.time ∷ Bound d.bound ∷ Order d.numbers ∷ []) body)) in
+      let tree : List (List ℕ) = map line_bytes (vertices_of (flat d.tree)) ++ lines in
+      let one = heading-run count documents d other (map line_bytes body ++ lines) is fits in
+      let two = facts-run one.0 documents (heading d) other d.facts tree is.facts in
+      let three = tree-run two.0 documents (heading d) d.tree lines is.tree is.splits allowed in (
+        three.0,
         ap (λ (l : List DocumentLine). steps limit most (between count documents) (map line_bytes l ++ lines)) whole
-            ∙ ap (λ (l : List (List ℕ)). steps limit most (between count documents) l) (lines-cut front (vertices_of (flat d.tree)) lines)
-            ∙ one.1 ∙ two.1,
+            ∙ ap (λ (l : List (List ℕ)). steps limit most (between count documents) l) (lines-cut front body lines)
+            ∙ one.1
+            ∙ ap (λ (l : List (List ℕ)). steps limit most (in_tree one.0 documents (with_facts (heading d) (first_facts (is_some d.facts))) [] 1 0) l) (lines-cut (facts_of d.facts) (vertices_of (flat d.tree)) lines)
+            ∙ two.1 ∙ three.1,
       )
 
   document-run : (count : ℕ) (documents : List Document) (d : Document) (lines : List (List ℕ)) → IsDocumentWithin limit most d →
       (to : ℕ) × (steps limit most (between count documents) (map line_bytes (document_lines d) ++ lines) ≡ steps limit most (between to (documents ++ d ∷ [])) lines)
   document-run count documents d lines is =
-      let run = open-run count documents d d.rule (line_bytes End ∷ lines) is (λ has. is.rule ∙ has) in
+      let run = open-run count documents d d.rule (line_bytes End ∷ lines) is (facts-fit limit d.rule d.facts is.facts) (leaves-allowed d.rule d.facts d.tree is.leaves) in
       let same : tree_of_lines (flat d.tree) ≡ d.tree = tree-again limit d.tree is.tree in
-      let none : wants_dominated (record (heading d) { vertices = flat d.tree }) ≡ false = not-wanting (names_nodes d.rule) (has_dominated d.tree) is.rule in (
+      let none : wants_dominated (record (heading d) { vertices = flat d.tree }) ≡ false = leaves-wanting d.rule d.facts d.tree is.leaves in (
         suc run.0,
         ap (λ (l : List (List ℕ)). steps limit most (between count documents) l) (lines-cut (open_lines d) (End ∷ []) lines)
             ∙ run.1

@@ -1,6 +1,6 @@
 -- No line of a document has a newline.
-use Rattle.std.proofs.Common.{◌<◌, ◌^◌, ℕ, List, [], ◌∷◌, ◌++◌, map, refl, arith}
-use Rattle.std.specs.Prelude.{decimal}
+use Rattle.std.proofs.Common.{Bool, true, false, Option, None, Some, ◌<◌, ◌^◌, ℕ, List, [], ◌∷◌, ◌++◌, map, refl, arith}
+use Rattle.std.specs.Prelude.{◌≡◌, codes, decimal, is_some}
 use Rattle.s66_isa.specs.Lists.{after_blanks}
 use Rattle.s66_isa.specs.declared.instr.Kind.{Kind}
 use Rattle.s66_isa.specs.declared.instr.Kind.TheVariants.{Boolean, Shift, Add, LongAdd, Multiply, Divide, Increment}
@@ -10,12 +10,19 @@ use Rattle.s66_model.specs.declared.rule.Rule.{Rule}
 use Rattle.s66_model.specs.declared.rule.Rule.TheVariants.{NoneNamed, WrittenEarlier, ClampedStanding}
 use Rattle.s66_model.specs.Leaves.{Whole, Chain, Load, Parcels}
 use Rattle.s66_model.specs.Tree.{Tree, Alone, Parted, Siblings, NoMore, Unsplit, Split, Vertex, AtTerminal, AtSplit, flat, flat_siblings}
-use Rattle.s66_model.specs.DominatedLeaves.{Ending, Bounding, Dominated}
-use Rattle.s66_cert.specs.Document.{Document, IsDocumentWithin, AreDocumentsWithin, AreIn, AreInstructions, SiblingsFit, TreeFits, version}
-use Rattle.s66_isa.specs.KindNames.{kind_name}
+use Rattle.s66_model.specs.DominatedLeaves.{Ending, Bounding, Dominated, Next, Turned, AtLine}
+use Rattle.s66_moments.specs.declared.moment.Stage.TheVariants.{Issue, Start, Done, Free}
+use Rattle.s66_moments.specs.declared.moment.Moment.{Moment}
+use Rattle.s66_moments.specs.declared.moment.Moment.TheVariants.{Origin, At}
+use Rattle.s66_moments.specs.declared.moment.Moment.TheVariants as moment
+use Rattle.s66_moments.specs.declared.fact_line.FactLine.{FactLine}
+use Rattle.s66_moments.specs.declared.fact_line.FactLine.TheVariants as fact
+use Rattle.s66_moments.specs.Known.{IsMomentWithin}
+use Rattle.s66_cert.specs.Document.{Document, IsDocumentWithin, AreDocumentsWithin, AreIn, AreInstructions, AreFactLines, AreFacts, SiblingsFit, TreeFits, kind_name, moment_text, version}
 use Rattle.s66_cert.specs.Faults.{IsLine, HaveNoNewline}
-use Rattle.s66_cert.specs.Lines.{DocumentLine, Header, Profile, Block, Instruction, Time, Bound, Order, OfTree, End, line_bytes, IsLineInRange}
-use Rattle.s66_cert.proofs.DocumentLines.{documents_lines, document_lines, open_lines, instructions_of, vertices_of}
+use Rattle.s66_cert.specs.Lines.{DocumentLine, Header, Profile, Block, Instruction, Time, Bound, Order, OfFact, OfTree, End, line_bytes, IsLineInRange}
+use Rattle.s66_cert.proofs.DocumentLines.{documents_lines, document_lines, open_lines, instructions_of, fact_lines_of, facts_of, vertices_of}
+use Rattle.s66_cert.proofs.DominatedLines.{facts-fit}
 use Rattle.s66_cert.proofs.NumberTexts.{decimal-clear}
 
 decimal-line : (n : ℕ) → n < 2 ^ 64 → IsLine (decimal n)
@@ -34,13 +41,29 @@ kind-line Multiply = refl
 kind-line Divide = refl
 kind-line Increment = refl
 
-version-narrow : (rule : Rule) → version rule < 2 ^ 64
-version-narrow NoneNamed = omega arith
-version-narrow WrittenEarlier = omega arith
-version-narrow ClampedStanding = omega arith
+version-narrow : (facts : Bool) (rule : Rule) → version facts rule < 2 ^ 64
+version-narrow true rule = omega arith
+version-narrow false NoneNamed = omega arith
+version-narrow false WrittenEarlier = omega arith
+version-narrow false ClampedStanding = omega arith
+
+moment-line : (limit : ℕ) (m : Moment) → limit < 2 ^ 64 → IsMomentWithin limit m → IsLine (moment_text m)
+moment-line limit Origin narrow is = refl
+moment-line limit (At n Issue) narrow is = decimal-line n (omega (arith, narrow, is.1))
+moment-line limit (At n Start) narrow is = decimal-line n (omega (arith, narrow, is.1))
+moment-line limit (At n (Done x)) narrow is = refl
+moment-line limit (At n Free) narrow is = refl
+moment-line limit moment.End narrow is = refl
+
+-- of these moments, amounts and numbers
+load-line : (from to : List ℕ) (after wait : ℕ) (numbers : List ℕ) → IsLine from → IsLine to → after < 2 ^ 64 → wait < 2 ^ 64 → IsLine (after_blanks numbers) →
+    IsLine (codes "A " ++ from ++ codes " " ++ to ++ after_blanks (after ∷ wait ∷ numbers))
+load-line from to after wait numbers is_from is_to few_after few_wait are =
+    let amounts : IsLine (after_blanks (after ∷ wait ∷ numbers)) = every-append _ (decimal after) (after_blanks (wait ∷ numbers)) (decimal-line after few_after) (every-append _ (decimal wait) (after_blanks numbers) (decimal-line wait few_wait) are) in
+    every-append _ (from ++ codes " " ++ to) (after_blanks (after ∷ wait ∷ numbers)) (every-append _ (from ++ codes " ") to (every-append _ from (codes " ") is_from refl) is_to) amounts
 
 pub is-line : (limit : ℕ) (l : DocumentLine) → limit < 2 ^ 64 → IsLineInRange limit l → IsLine (line_bytes l)
-is-line limit (Header rule) narrow is = decimal-line (version rule) (version-narrow rule)
+is-line limit (Header facts rule) narrow is = decimal-line (version facts rule) (version-narrow facts rule)
 is-line limit (Profile numbers) narrow is = after_blanks-line 1 100 numbers (omega arith) is.1
 is-line limit (Block count) narrow is = decimal-line count (omega (arith, narrow, is.1))
 is-line limit (Instruction text) narrow is = one-line text is
@@ -52,6 +75,13 @@ is-line limit (OfTree (AtTerminal (Bounding (Chain numbers)))) narrow is = after
 is-line limit (OfTree (AtTerminal (Bounding (Load kind)))) narrow is = kind-line kind
 is-line limit (OfTree (AtTerminal (Bounding Parcels))) narrow is = refl
 is-line limit (OfTree (AtTerminal (Dominated name))) narrow is = after_blanks-line 1 limit name narrow is.2
+is-line limit (OfTree (AtTerminal (Next n))) narrow is = decimal-line n (omega (arith, narrow, is.1))
+is-line limit (OfTree (AtTerminal (Turned n m))) narrow is = after_blanks-line 1 limit (n ∷ m ∷ []) narrow is
+is-line limit (OfTree (AtTerminal (AtLine n))) narrow is = decimal-line n (omega (arith, is.1))
+is-line limit (OfFact (fact.Pair n m)) narrow is = after_blanks-line 1 limit (n ∷ m ∷ []) narrow is
+is-line limit (OfFact (fact.Load line)) narrow is =
+    load-line (moment_text line.from) (moment_text line.to) line.after line.wait line.numbers.items (moment-line limit line.from narrow is.0.front.1) (moment-line limit line.to narrow is.0.back.1)
+    (omega (arith, is.1.1)) (omega (arith, is.1.2.1)) (after_blanks-line 1 limit line.numbers.items narrow is.2.2)
 is-line limit (OfTree (AtSplit numbers)) narrow is = after_blanks-line 1 limit numbers narrow is.2
 is-line limit End narrow is = refl
 
@@ -68,6 +98,14 @@ range-append limit (x ∷ xs) ys h k = (h.0, range-append limit xs ys h.1 k)
 instructions-range : (limit : ℕ) (texts : List (List ℕ)) → AreInstructions texts → AreInRange limit (instructions_of texts)
 instructions-range limit [] are = tt
 instructions-range limit (text ∷ texts) are = (are.0, instructions-range limit texts are.1)
+
+lines-range : (limit : ℕ) (lines : List FactLine) → AreFactLines limit lines → AreInRange limit (fact_lines_of lines)
+lines-range limit [] are = tt
+lines-range limit (line ∷ lines) are = (are.0, lines-range limit lines are.1)
+
+facts-range : (limit : ℕ) (rule : Rule) (facts : Option (List FactLine)) → AreFacts limit rule facts → AreInRange limit (facts_of facts)
+facts-range limit rule None are = tt
+facts-range limit rule (Some lines) are = lines-range limit lines are.2
 
 vertices-append : (limit : ℕ) (xs ys : List (Vertex Ending)) → AreInRange limit (vertices_of xs) → AreInRange limit (vertices_of ys) → AreInRange limit (vertices_of (xs ++ ys))
 vertices-append limit [] ys h k = k
@@ -86,12 +124,13 @@ tree-range limit (Alone leaf) fits = (fits, tt)
 tree-range limit (Parted numbers siblings) fits = (fits.0, siblings-range limit numbers siblings fits.1)
 
 -- whatever the rule
-open-range : (limit most : ℕ) (d : Document) (other : Rule) → IsDocumentWithin limit most (record d { rule = other }) → AreInRange limit (open_lines d)
-open-range limit most d other is =
-    (tt, (is.profile, ((is.block.0, is.block.1), range-append limit (instructions_of d.block) _ (instructions-range limit d.block is.block.2) (is.time, (is.bound, (is.numbers, tree-range limit d.tree is.tree))))))
+open-range : (limit most : ℕ) (d : Document) (other : Rule) → IsDocumentWithin limit most (record d { rule = other }) → (is_some d.facts ≡ true → d.rule ≡ ClampedStanding) → AreInRange limit (open_lines d)
+open-range limit most d other is fits =
+    let tree : AreInRange limit (facts_of d.facts ++ vertices_of (flat d.tree)) = range-append limit (facts_of d.facts) (vertices_of (flat d.tree)) (facts-range limit other d.facts is.facts) (tree-range limit d.tree is.tree) in
+    (fits, (is.profile, ((is.block.0, is.block.1), range-append limit (instructions_of d.block) _ (instructions-range limit d.block is.block.2) (is.time, (is.bound, (is.numbers, tree))))))
 
 document-range : (limit most : ℕ) (d : Document) → IsDocumentWithin limit most d → AreInRange limit (document_lines d)
-document-range limit most d is = range-append limit (open_lines d) (End ∷ []) (open-range limit most d d.rule is) (tt, tt)
+document-range limit most d is = range-append limit (open_lines d) (End ∷ []) (open-range limit most d d.rule is (facts-fit limit d.rule d.facts is.facts)) (tt, tt)
 
 documents-range : (limit most : ℕ) (ds : List Document) → AreDocumentsWithin limit most ds → AreInRange limit (documents_lines ds)
 documents-range limit most [] are = tt
@@ -101,8 +140,8 @@ range-lines : (limit : ℕ) (ls : List DocumentLine) → limit < 2 ^ 64 → AreI
 range-lines limit [] narrow are = tt
 range-lines limit (l ∷ ls) narrow are = (is-line limit l narrow are.0, range-lines limit ls narrow are.1)
 
-pub lines-of-open : (limit most : ℕ) (d : Document) (other : Rule) → limit < 2 ^ 64 → IsDocumentWithin limit most (record d { rule = other }) → HaveNoNewline (map line_bytes (open_lines d))
-lines-of-open limit most d other narrow is = range-lines limit (open_lines d) narrow (open-range limit most d other is)
+pub lines-of-open : (limit most : ℕ) (d : Document) (other : Rule) → limit < 2 ^ 64 → IsDocumentWithin limit most (record d { rule = other }) → (is_some d.facts ≡ true → d.rule ≡ ClampedStanding) → HaveNoNewline (map line_bytes (open_lines d))
+lines-of-open limit most d other narrow is fits = range-lines limit (open_lines d) narrow (open-range limit most d other is fits)
 
 pub lines-of-documents : (limit most : ℕ) (ds : List Document) → limit < 2 ^ 64 → AreDocumentsWithin limit most ds → HaveNoNewline (map line_bytes (documents_lines ds))
 lines-of-documents limit most ds narrow are = range-lines limit (documents_lines ds) narrow (documents-range limit most ds are)

@@ -1,23 +1,24 @@
 -- A line at a place where it doesn't come, and what is known at the place where it does.
-use Rattle.std.proofs.Common.{◌≡◌, ◌≤◌, ◌+◌, ◌*◌, ◌^◌, ℕ, zero, suc, true, false, List, [], ◌∷◌, length, refl, arith, subst}
+use Rattle.std.proofs.Common.{Bool, ◌≡◌, ◌≤◌, ◌+◌, ◌*◌, ◌^◌, ℕ, zero, suc, true, false, List, [], ◌∷◌, length, refl, arith, subst}
 use Rattle.std.specs.Prelude.{Err}
 use Rattle.s66_isa.specs.declared.limits.TheConstants.{BLOCK_LIMIT}
 use Rattle.s66_model.specs.declared.rule.Rule.{Rule}
 use Rattle.s66_model.specs.Tree.{Vertex, AtTerminal, AtSplit}
-use Rattle.s66_model.specs.DominatedLeaves.{Ending, Bounding, Dominated}
+use Rattle.s66_model.specs.DominatedLeaves.{Ending, Bounding, Dominated, Next, Turned, AtLine}
+use Rattle.s66_moments.specs.declared.fact_line.FactLine.{FactLine}
 use Rattle.s66_cert.specs.Fine.{Leave, split_count, IsPart, IsFine}
-use Rattle.s66_cert.specs.Lines.{Header, Profile, Block, Instruction, Time, Bound, Order, OfTree, End}
+use Rattle.s66_cert.specs.Lines.{Header, Profile, Block, Instruction, Time, Bound, Order, OfFact, OfTree, End}
 use Rattle.s66_cert.specs.DocumentParts.{AreWhole}
-use Rattle.s66_cert.specs.Reading.{DocumentState, is_allowed, wants_dominated, step_at}
+use Rattle.s66_cert.specs.Reading.{DocumentState, is_leaf_of, wants_dominated, step_at}
 use Rattle.s66_cert.specs.declared.limits.TheConstants.{SPLIT_LIMIT}
 use Rattle.s66_cert.specs.declared.error.CertError.TheVariants.{BadLine}
 use Rattle.s66_cert.specs.declared.place.Place.{Place}
 use Rattle.s66_cert.specs.declared.place.Place.TheVariants.{AtHeader, AtProfile, AtBlock, AtInstruction, AtTime, AtBound, AtOrder, AtTree, AtEnd}
 use Rattle.s66_cert.proofs.Sound.{whole-tree, whole-document}
 
-pub other_header : (most : ℕ) (s : DocumentState) (place : Place) (rule : Rule) → (place ≡ AtHeader → ⊥) → step_at most s place (Header rule) ≡ Err (BadLine (suc s.count))
-other_header most s AtHeader rule other = absurd (other refl)
-other_header most s place rule other = refl
+pub other_header : (most : ℕ) (s : DocumentState) (place : Place) (facts : Bool) (rule : Rule) → (place ≡ AtHeader → ⊥) → step_at most s place (Header facts rule) ≡ Err (BadLine (suc s.count))
+other_header most s AtHeader facts rule other = absurd (other refl)
+other_header most s place facts rule other = refl
 
 pub other_profile : (most : ℕ) (s : DocumentState) (place : Place) (numbers : List ℕ) → (place ≡ AtProfile → ⊥) → step_at most s place (Profile numbers) ≡ Err (BadLine (suc s.count))
 other_profile most s AtProfile numbers other = absurd (other refl)
@@ -43,6 +44,10 @@ pub other_order : (most : ℕ) (s : DocumentState) (place : Place) (numbers : Li
 other_order most s AtOrder numbers other = absurd (other refl)
 other_order most s place numbers other = refl
 
+pub other_fact : (most : ℕ) (s : DocumentState) (place : Place) (line : FactLine) → (place ≡ AtTree → ⊥) → step_at most s place (OfFact line) ≡ Err (BadLine (suc s.count))
+other_fact most s AtTree line other = absurd (other refl)
+other_fact most s place line other = refl
+
 pub other_vertex : (most : ℕ) (s : DocumentState) (place : Place) (vertex : Vertex Ending) → (place ≡ AtTree → ⊥) → step_at most s place (OfTree vertex) ≡ Err (BadLine (suc s.count))
 other_vertex most s AtTree vertex other = absurd (other refl)
 other_vertex most s place vertex other = refl
@@ -51,10 +56,13 @@ pub other_end : (most : ℕ) (s : DocumentState) (place : Place) → (place ≡ 
 other_end most s AtEnd other = absurd (other refl)
 other_end most s place other = refl
 
--- a dominated leaf if the rule names no nodes
-pub refused_vertex : (most : ℕ) (s : DocumentState) (vertex : Vertex Ending) → is_allowed s.part.rule vertex ≡ false → step_at most s AtTree (OfTree vertex) ≡ Err (BadLine (suc s.count))
+-- a leaf of another version
+pub refused_vertex : (most : ℕ) (s : DocumentState) (vertex : Vertex Ending) → is_leaf_of s.part vertex ≡ false → step_at most s AtTree (OfTree vertex) ≡ Err (BadLine (suc s.count))
 refused_vertex most s (AtTerminal (Bounding leaf)) h = absurd (cc)
 refused_vertex most s (AtTerminal (Dominated name)) h = rw h refl
+refused_vertex most s (AtTerminal (Next number)) h = rw h refl
+refused_vertex most s (AtTerminal (Turned first second)) h = rw h refl
+refused_vertex most s (AtTerminal (AtLine line)) h = rw h refl
 refused_vertex most s (AtSplit numbers) h = absurd (cc)
 
 -- the last line if a dominated leaf is missing

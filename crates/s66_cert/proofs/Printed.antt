@@ -1,12 +1,13 @@
 -- The parts of a document's text, in the order in which they are printed.
-use Rattle.std.proofs.Common.{◌≡◌, ℕ, List, [], ◌∷◌, ◌++◌, Option, length, refl, sym, ap, subst, ◌∙◌, append_assoc, codes, decimal}
+use Rattle.std.proofs.Common.{◌≡◌, ◌<◌, ◌+◌, ℕ, suc, drop, get_or, add-one, drop-cons, List, [], ◌∷◌, ◌++◌, Option, is_some, length, refl, sym, ap, subst, ◌∙◌, append_assoc, codes, decimal}
 use Rattle.std.proofs.lemmas.List.{append-nil}
 use Rattle.s66_isa.specs.Lists.{after_blanks}
 use Rattle.s66_isa.specs.declared.limits.TheConstants.{BLOCK_LIMIT}
 use Rattle.s66_model.specs.Leaves.{Whole, Chain, Load, Parcels}
 use Rattle.s66_model.specs.Tree.{Tree, Alone, Parted, Siblings, NoMore, Unsplit, Split, Vertex, AtTerminal, AtSplit, flat, flat_siblings}
-use Rattle.s66_model.specs.DominatedLeaves.{Ending, Bounding, Dominated}
-use Rattle.s66_cert.specs.Document.{IsLeafLine, SiblingsFit, TreeFits, version, document_text, leaf_line, instructions_text, tree_lines}
+use Rattle.s66_model.specs.DominatedLeaves.{Ending, Bounding, Dominated, Next, Turned, AtLine}
+use Rattle.s66_moments.specs.declared.fact_line.FactLine.{FactLine}
+use Rattle.s66_cert.specs.Document.{IsLeafLine, SiblingsFit, TreeFits, version, document_text, leaf_line, instructions_text, fact_line, fact_lines, facts_text, tree_lines}
 use Rattle.s66_cert.specs.Pages.{AreShort, IsPrinted, opening_lines, claim_lines}
 use Rattle.s66_cert.proofs.Pages.{IsUnderway, printed-here, underway-more}
 use Rattle.s66_tree.specs.Lines.{IsShort}
@@ -20,6 +21,9 @@ leaf-short (Bounding (Chain numbers)) fits = fits.1
 leaf-short (Bounding (Load kind)) fits = tt
 leaf-short (Bounding Parcels) fits = tt
 leaf-short (Dominated name) fits = fits.1
+leaf-short (Next number) fits = tt
+leaf-short (Turned first second) fits = tt
+leaf-short (AtLine line) fits = tt
 
 short-both : (vertices more : List (Vertex Ending)) → AreShort vertices → AreShort more → AreShort (vertices ++ more)
 short-both [] more short others = others
@@ -43,6 +47,9 @@ lines-short p whole = subst AreShort whole.preorder (tree-short (tree_of_lines p
 
 -- A LINE, AND THEN THE OTHERS
 
+pub drop-here : {X : Type 0} (xs : List X) (i : ℕ) (x : X) → i < length xs → x ≡ get_or xs i x → drop i xs ≡ x ∷ drop (i + 1) xs
+drop-here xs i x within is = rw add-one (drop-cons xs i x within ∙ ap (λ y. y ∷ drop (suc i) xs) (sym is))
+
 apart : (line others : List ℕ) → line ++ others ≡ (line ++ []) ++ others
 apart line others = ap (λ t. t ++ others) (sym (append-nil line))
 
@@ -50,27 +57,42 @@ pub first-tree-line : (vertex : Vertex Ending) (vertices : List (Vertex Ending))
 first-tree-line (AtTerminal leaf) vertices = apart (leaf_line leaf) (tree_lines vertices)
 first-tree-line (AtSplit numbers) vertices = apart (codes "S" ++ after_blanks numbers ++ codes "\n") (tree_lines vertices)
 
+pub first-fact : (line : FactLine) (lines : List FactLine) → fact_lines (line ∷ lines) ≡ fact_lines (line ∷ []) ++ fact_lines lines
+first-fact line lines = apart (fact_line line) (fact_lines lines)
+
 pub first-instruction : (text : List ℕ) (texts : List (List ℕ)) → instructions_text (text ∷ texts) ≡ instructions_text (text ∷ []) ++ instructions_text texts
 first-instruction text texts = apart (codes "I " ++ text ++ codes "\n") (instructions_text texts)
 
+-- the line of a load, part by part
+pub load-printed : (page letter from blank to after wait numbers end : List ℕ) →
+    page ++ letter ++ from ++ blank ++ to ++ blank ++ after ++ blank ++ wait ++ numbers ++ end
+    ≡ page ++ ((letter ++ from ++ blank ++ to ++ (blank ++ (after ++ (blank ++ (wait ++ numbers)))) ++ end) ++ [])
+load-printed page letter from blank to after wait numbers end =
+    let line : List ℕ = letter ++ from ++ blank ++ to ++ (blank ++ (after ++ (blank ++ (wait ++ numbers)))) ++ end in
+    let joined : page ++ letter ++ from ++ blank ++ to ++ blank ++ after ++ blank ++ wait ++ numbers ++ end ≡ page ++ line = simp append_assoc in
+    joined ∙ ap (λ (text : List ℕ). page ++ text) (sym (append-nil line))
+
 -- THE PARTS
 
+abbrev pub after_facts : Parts → List ℕ
+after_facts p = tree_lines p.vertices ++ codes "END\n"
+
 abbrev pub after_claim : Parts → List ℕ
-after_claim p = tree_lines p.vertices ++ codes "END\n"
+after_claim p = facts_text p.facts ++ after_facts p
 
 abbrev pub after_block : Parts → List ℕ
 after_block p = claim_lines p ++ after_claim p
 
-right-nested : (a version r profile b count c block d time e bound f numbers g tree h : List ℕ) →
-    a ++ version ++ r ++ profile ++ b ++ count ++ c ++ block ++ d ++ time ++ e ++ bound ++ f ++ numbers ++ g ++ tree ++ h
-    ≡ (a ++ version ++ r ++ profile ++ b ++ count ++ c) ++ (block ++ ((d ++ time ++ e ++ bound ++ f ++ numbers ++ g) ++ (tree ++ h)))
-right-nested a version r profile b count c block d time e bound f numbers g tree h = simp append_assoc
+right-nested : (a version r profile b count c block d time e bound f numbers g facts tree h : List ℕ) →
+    a ++ version ++ r ++ profile ++ b ++ count ++ c ++ block ++ d ++ time ++ e ++ bound ++ f ++ numbers ++ g ++ facts ++ tree ++ h
+    ≡ (a ++ version ++ r ++ profile ++ b ++ count ++ c) ++ (block ++ ((d ++ time ++ e ++ bound ++ f ++ numbers ++ g) ++ (facts ++ (tree ++ h))))
+right-nested a version r profile b count c block d time e bound f numbers g facts tree h = simp append_assoc
 
 pub document-parts : (p : Parts) → AreWhole p → document_text (document_of p) ≡ opening_lines p ++ (instructions_text p.block ++ after_block p)
 document-parts p whole =
-    right-nested (codes "S66 CERTIFICATE ") (decimal (version p.rule)) (codes "\nPROFILE") (after_blanks p.profile) (codes "\nBLOCK ") (decimal (length p.block)) (codes "\n") (instructions_text p.block) (codes "TIME ") (decimal p.time)
-    (codes "\nBOUND ") (decimal p.bound) (codes "\nORDER") (after_blanks p.numbers) (codes "\n") (tree_lines (flat (tree_of_lines p.vertices))) (codes "END\n")
-    ∙ ap (λ vertices. opening_lines p ++ (instructions_text p.block ++ (claim_lines p ++ (tree_lines vertices ++ codes "END\n")))) whole.preorder
+    right-nested (codes "S66 CERTIFICATE ") (decimal (version (is_some p.facts) p.rule)) (codes "\nPROFILE") (after_blanks p.profile) (codes "\nBLOCK ") (decimal (length p.block)) (codes "\n") (instructions_text p.block) (codes "TIME ") (decimal p.time)
+    (codes "\nBOUND ") (decimal p.bound) (codes "\nORDER") (after_blanks p.numbers) (codes "\n") (facts_text p.facts) (tree_lines (flat (tree_of_lines p.vertices))) (codes "END\n")
+    ∙ ap (λ vertices. opening_lines p ++ (instructions_text p.block ++ (claim_lines p ++ (facts_text p.facts ++ (tree_lines vertices ++ codes "END\n"))))) whole.preorder
 
 -- all before the instructions is on the page
 pub opened : (old : Option (List ℕ)) (p : Parts) (page : List ℕ) (block : List (List ℕ)) → AreWhole p → page ≡ opening_lines p → block ≡ p.block →
@@ -91,7 +113,12 @@ pub claim-left : (p : Parts) {old mid new : Option (List ℕ)} {page next : List
     IsLeft p old new next (after_claim p)
 claim-left p {old} {mid} {new} {page} {next} left printed = underway-more old mid new [] page next (document_text (document_of p)) (claim_lines p) (after_claim p) left printed
 
-pub tree-left : (p : Parts) {old mid new : Option (List ℕ)} {page next : List ℕ} {vertices : List (Vertex Ending)} → vertices ≡ p.vertices → IsLeft p old mid page (after_claim p) →
+pub facts-left : (p : Parts) {old mid new : Option (List ℕ)} {page next : List ℕ} {facts : Option (List FactLine)} → facts ≡ p.facts → IsLeft p old mid page (after_claim p) →
+    IsPrinted mid new page next (facts_text facts) → IsLeft p old new next (after_facts p)
+facts-left p {old} {mid} {new} {page} {next} {facts} same left printed =
+    underway-more old mid new [] page next (document_text (document_of p)) (facts_text p.facts) (after_facts p) left (rw (← same) printed)
+
+pub tree-left : (p : Parts) {old mid new : Option (List ℕ)} {page next : List ℕ} {vertices : List (Vertex Ending)} → vertices ≡ p.vertices → IsLeft p old mid page (after_facts p) →
     IsPrinted mid new page next (tree_lines vertices) → IsLeft p old new next (codes "END\n")
 tree-left p {old} {mid} {new} {page} {next} {vertices} same left printed =
     underway-more old mid new [] page next (document_text (document_of p)) (tree_lines p.vertices) (codes "END\n") left (rw (← same) printed)

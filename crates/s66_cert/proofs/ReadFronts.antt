@@ -1,28 +1,29 @@
 -- Whatever was read without a fault begins some text of documents, and what begins one is read without a fault.
-use Rattle.std.proofs.Common.{◌≡◌, ◌-◌, ℕ, zero, suc, true, List, [], ◌∷◌, ◌++◌, inl, inr, map, refl, sym, ap, ◌∙◌, arith, subst}
+use Rattle.std.proofs.Common.{◌≡◌, ◌-◌, ℕ, zero, suc, true, false, is_some, List, [], ◌∷◌, ◌++◌, inl, inr, map, refl, sym, ap, ◌∙◌, arith, subst}
 use Rattle.std.proofs.lemmas.List.{append-nil, map-append}
 use Rattle.std.specs.Prelude.{Result, Ok, Err, codes}
 use Rattle.s66_isa.specs.declared.limits.TheConstants.{BLOCK_LIMIT}
 use Rattle.s66_model.specs.declared.rule.Rule.{Rule}
-use Rattle.s66_model.specs.declared.rule.Rule.TheVariants.{NoneNamed}
+use Rattle.s66_model.specs.declared.rule.Rule.TheVariants.{NoneNamed, ClampedStanding}
 use Rattle.s66_model.specs.Leaves.{Whole}
-use Rattle.s66_model.specs.Tree.{AtTerminal}
+use Rattle.s66_model.specs.Tree.{AtTerminal, flat}
 use Rattle.s66_model.specs.DominatedLeaves.{Bounding}
 use Rattle.s66_line.specs.InstructionText.{IsInstruction}
 use Rattle.s66_line.proofs.InstructionTexts.{instruction}
-use Rattle.s66_cert.specs.Document.{Document, IsDocumentWithin, text_before_end, documents_text, has_dominated, names_nodes}
+use Rattle.s66_cert.specs.Document.{Document, IsDocumentWithin, text_before_end, documents_text}
 use Rattle.s66_cert.specs.Examples.{standard_numbers}
 use Rattle.s66_cert.specs.Faults.{HaveNoNewline, IsOpenWithin, BeginsWithin}
 use Rattle.s66_line.specs.Fields.{with_newlines}
 use Rattle.s66_cert.specs.Fine.{HasTree, IsPart}
 use Rattle.s66_cert.specs.Lines.{DocumentLine, Header, Profile, Block, Instruction, Time, Bound, Order, OfTree, line_bytes, IsLineInRange}
 use Rattle.s66_cert.specs.DocumentParts.{Parts, document_of}
-use Rattle.s66_cert.specs.Reading.{nothing, DocumentState, first_state, place_of_instruction, place_of_tree, with_vertex, step_at, step, and_then, steps, whole_lines}
+use Rattle.s66_cert.specs.Reading.{nothing, first_facts, DocumentState, first_state, place_of_instruction, place_of_tree, with_vertex, step_at, step, and_then, steps, whole_lines}
 use Rattle.s66_cert.specs.declared.error.CertError.{CertError}
 use Rattle.s66_cert.specs.declared.place.Place.{Place}
 use Rattle.s66_cert.specs.declared.place.Place.TheVariants.{AtHeader, AtProfile, AtBlock, AtInstruction, AtTime, AtBound, AtOrder, AtTree, AtEnd}
 use Rattle.s66_cert.proofs.DocumentLines.{documents_lines, open_lines}
 use Rattle.s66_cert.proofs.TextLines.{whole-of, whole-all, newlines-append, open-text, documents-text}
+use Rattle.s66_cert.proofs.DominatedLines.{AreAllowed, leaves-allowed, leaves-any, facts-fit}
 use Rattle.s66_cert.proofs.Grammar.{step-line, documents-run, open-run}
 use Rattle.s66_cert.proofs.LineBytes.{is-line, lines-of-documents, lines-of-open}
 use Rattle.s66_cert.proofs.States.{at, place-instruction, place-tree}
@@ -63,7 +64,7 @@ module _ (most : ℕ) where
 
   order-ends : (count : ℕ) (documents : List Document) (part : Parts) (left splits : ℕ) → Ends most (at count documents AtOrder part left splits)
   order-ends count documents part left splits =
-      let next : Parts = record part { numbers = 1 ∷ []; vertices = [] } in
+      let next : Parts = record part { facts = first_facts (is_some part.facts); numbers = 1 ∷ []; vertices = [] } in
       put most (at count documents AtOrder part left splits) (at (suc count) documents AtTree next 1 0) (Order (1 ∷ [])) (omega arith) refl (tree-ends 1 (suc count) documents next 0)
 
   bound-ends : (count : ℕ) (documents : List Document) (part : Parts) (left splits : ℕ) → Ends most (at count documents AtBound part left splits)
@@ -103,7 +104,7 @@ module _ (most : ℕ) where
 
   header-ends : (count : ℕ) (documents : List Document) (part : Parts) (left splits : ℕ) → Ends most (at count documents AtHeader part left splits)
   header-ends count documents part left splits =
-      put most (at count documents AtHeader part left splits) (at (suc count) documents AtProfile nothing 0 0) (Header NoneNamed) tt refl (profile-ends (suc count) documents nothing 0 0)
+      put most (at count documents AtHeader part left splits) (at (suc count) documents AtProfile nothing 0 0) (Header false NoneNamed) (λ facts. absurd (cc)) refl (profile-ends (suc count) documents nothing 0 0)
 
   ends-at : (count : ℕ) (documents : List Document) (place : Place) (part : Parts) (left splits : ℕ) → Ends most (at count documents place part left splits)
   ends-at count documents AtHeader part left splits = header-ends count documents part left splits
@@ -158,20 +159,22 @@ begins most before s are run =
 
 -- a rule by which an open document is a document, and what of its own rule
 open-parts : (most : ℕ) (d : Document) → IsOpenWithin BLOCK_LIMIT most d →
-    (other : Rule) × IsDocumentWithin BLOCK_LIMIT most (record d { rule = other }) × (has_dominated d.tree ≡ true → names_nodes d.rule ≡ true)
-open-parts most d (inl is) = (d.rule, is, λ has. is.rule ∙ has)
-open-parts most d (inr is) = (NoneNamed, is, λ has. absurd (let clash = is.rule ∙ has in (cc)))
+    (other : Rule) × IsDocumentWithin BLOCK_LIMIT most (record d { rule = other }) × (is_some d.facts ≡ true → d.rule ≡ ClampedStanding) × AreAllowed d.rule d.facts (flat d.tree)
+open-parts most d (inl is) = (d.rule, is, facts-fit BLOCK_LIMIT d.rule d.facts is.facts, leaves-allowed d.rule d.facts d.tree is.leaves)
+open-parts most d (inr is) =
+    let any = leaves-any BLOCK_LIMIT d.rule d.facts d.tree is.facts is.leaves in
+    (NoneNamed, is, any.0, any.1)
 
 pub fronts : (most : ℕ) (before : List (List ℕ)) → HaveNoNewline before → BeginsWithin most (with_newlines before) → (s : DocumentState) × (steps BLOCK_LIMIT most first_state before ≡ Ok s)
 fronts most before are (more, ds, d, within, open_is, same) =
-    let (other, is, named) = open-parts most d open_is in
+    let (other, is, fits, allowed) = open-parts most d open_is in
     let first : List (List ℕ) = map line_bytes (documents_lines ds) in
     let last : List (List ℕ) = map line_bytes (open_lines d) in
-    let lines : HaveNoNewline (first ++ last) = are-append first last (lines-of-documents BLOCK_LIMIT most ds (omega arith) within) (lines-of-open BLOCK_LIMIT most d other (omega arith) is) in
+    let lines : HaveNoNewline (first ++ last) = are-append first last (lines-of-documents BLOCK_LIMIT most ds (omega arith) within) (lines-of-open BLOCK_LIMIT most d other (omega arith) is fits) in
     let cut : before ++ whole_lines [] more ≡ first ++ last =
     sym (whole-of before more are) ∙ ap (whole_lines []) (same ∙ open-cut ds d ∙ sym (append-nil (with_newlines (first ++ last)))) ∙ whole-all (first ++ last) [] lines refl in
     let one = documents-run BLOCK_LIMIT most (omega arith) 0 [] ds last within in
-    let two = open-run BLOCK_LIMIT most (omega arith) one.0 ds d other [] is named in
+    let two = open-run BLOCK_LIMIT most (omega arith) one.0 ds d other [] is fits allowed in
     let run : steps BLOCK_LIMIT most first_state (before ++ whole_lines [] more) ≡ Ok _ =
     ap (steps BLOCK_LIMIT most first_state) cut ∙ one.1 ∙ ap (λ (l : List (List ℕ)). steps BLOCK_LIMIT most (at one.0 ds AtHeader nothing 0 0) l) (sym (append-nil last)) ∙ two.1 in
     let (s, front, rest) = after-ok (steps BLOCK_LIMIT most first_state before) (λ u. steps BLOCK_LIMIT most u (whole_lines [] more)) _ (sym (steps-append most first_state before (whole_lines [] more)) ∙ run) in

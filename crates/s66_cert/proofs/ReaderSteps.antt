@@ -11,11 +11,16 @@ use Rattle.s66_cert.specs.DocumentReader.{Steps}
 use Rattle.s66_cert.specs.declared.limits.TheConstants.{SPLIT_LIMIT}
 use Rattle.s66_cert.specs.declared.error.CertError.{CertError}
 use Rattle.s66_cert.specs.declared.error.CertError.TheVariants.{BadLine, Truncated, TooManyNodes, OutOfMemory}
+use Rattle.s66_cert.proofs.FirstFault.{outcome-at, ok-count}
 use Rattle.s66_cert.proofs.Sound.{step-fine}
 
 pub fine-kept : (s new : DocumentState) (result : Result (Unit {0}) CertError) (l : DocumentLine) → IsLineInRange BLOCK_LIMIT l → IsFine SPLIT_LIMIT s → Steps new result (step_at SPLIT_LIMIT s s.place l) → OnOk result (IsFine SPLIT_LIMIT new)
 fine-kept s new (Ok u) l is fine made = step-fine SPLIT_LIMIT s new l is fine made
 fine-kept s new (Err e) l is fine made = tt
+
+pub count-kept : (s new : DocumentState) (result : Result (Unit {0}) CertError) (l : DocumentLine) → Steps new result (step_at SPLIT_LIMIT s s.place l) → OnOk result (new.count ≡ s.count + 1)
+count-kept s new (Ok u) l made = omega (arith, ok-count s new (λ most. step_at most s s.place l) SPLIT_LIMIT (outcome-at s s.place l) made)
+count-kept s new (Err e) l made = tt
 
 -- THE LINE THAT IS BEGUN
 

@@ -4,30 +4,33 @@ use Rattle.std.proofs.lemmas.Bool.{lt-leb, leb-true, leb-false}
 use Rattle.std.proofs.lemmas.Fmt.{length-decimal-le}
 use Rattle.std.specs.Prelude.{decimal}
 use Rattle.s66_cert.specs.Lines.{if_count, number_in, numbers_in, first_word, after_first_word, words_of, words_in, put_front, consed, consed_if}
-use Rattle.s66_cert.specs.declared.limits.TheConstants.{TIME_LIMIT}
+use Rattle.s66_cert.specs.declared.limits.TheConstants.{LINE_LIMIT}
 use Rattle.std.proofs.lemmas.List.{append-nil}
 use Rattle.s66_cert.proofs.NumberTexts.{number-is}
 
-pub below-million : (k v : ℕ) → k ≤ 6 → v < 10 ^ k → v < 1000000
-below-million zero v le h = omega arith
-below-million (suc zero) v le h = omega arith
-below-million (suc (suc zero)) v le h = omega arith
-below-million (suc (suc (suc zero))) v le h = omega arith
-below-million (suc (suc (suc (suc zero)))) v le h = omega arith
-below-million (suc (suc (suc (suc (suc zero))))) v le h = omega arith
-below-million (suc (suc (suc (suc (suc (suc zero)))))) v le h = omega arith
-below-million (suc (suc (suc (suc (suc (suc (suc k))))))) v le h = absurd (omega arith)
+pub below-billion : (k v : ℕ) → k ≤ 9 → v < 10 ^ k → v < 1000000000
+below-billion zero v le h = omega arith
+below-billion (suc zero) v le h = omega arith
+below-billion (suc (suc zero)) v le h = omega arith
+below-billion (suc (suc (suc zero))) v le h = omega arith
+below-billion (suc (suc (suc (suc zero)))) v le h = omega arith
+below-billion (suc (suc (suc (suc (suc zero))))) v le h = omega arith
+below-billion (suc (suc (suc (suc (suc (suc zero)))))) v le h = omega arith
+below-billion (suc (suc (suc (suc (suc (suc (suc zero))))))) v le h = omega arith
+below-billion (suc (suc (suc (suc (suc (suc (suc (suc zero)))))))) v le h = omega arith
+below-billion (suc (suc (suc (suc (suc (suc (suc (suc (suc zero))))))))) v le h = omega arith
+below-billion (suc (suc (suc (suc (suc (suc (suc (suc (suc (suc k)))))))))) v le h = absurd (omega arith)
 
--- a word of more than six bytes is none of these numbers
+-- a word of more than nine bytes is none of these numbers
 none-or : (o : Option ℕ) → ((n : ℕ) → o ≡ Some n → ⊥) → o ≡ None
 none-or None h = refl
 none-or (Some n) h = absurd (h n refl)
 
-pub too-long : (low high : ℕ) (word : List ℕ) → high ≤ TIME_LIMIT → 6 < length word → None ≡ number_in low high word
+pub too-long : (low high : ℕ) (word : List ℕ) → high ≤ LINE_LIMIT → 9 < length word → None ≡ number_in low high word
 too-long low high word few long =
     sym (none-or (number_in low high word) (λ n h.
     let is = number-is low high n word (omega arith) h in
-    let short : length (decimal n) ≤ 6 = length-decimal-le 6 n (omega arith) (omega (arith, is.2)) (omega (arith, is.2)) in
+    let short : length (decimal n) ≤ 9 = length-decimal-le 9 n (omega arith) (omega (arith, is.2)) (omega (arith, is.2)) in
     omega (arith, short, ap length is.0)))
 
 -- more numbers after these

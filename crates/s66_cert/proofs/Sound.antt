@@ -1,8 +1,10 @@
 -- What is read as documents is the text of these documents.
-use Rattle.std.proofs.Common.{◌≡◌, ◌≤◌, ◌<◌, ◌+◌, ◌-◌, ◌&&◌, ℕ, zero, suc, Bool, true, false, List, [], ◌∷◌, ◌++◌, inl, inr, length, map, Option, None, Some, refl, sym, ap, ◌∙◌, arith, cond, leb, eqb, append_assoc, subst, length-append}
-use Rattle.std.proofs.lemmas.Bool.{eqb-true, leb-false, and_parts}
+use Rattle.std.proofs.Common.{◌≡◌, ◌≤◌, ◌<◌, ◌+◌, ◌-◌, ◌&&◌, ℕ, zero, suc, Bool, true, false, List, [], ◌∷◌, ◌++◌, inl, inr, length, map, Option, None, Some, is_some, refl, sym, ap, ◌∙◌, arith, cond, leb, eqb, append_assoc, subst, length-append}
+use Rattle.std.proofs.lemmas.Bool.{eqb-true, leb-false, ltb-true, and_parts}
 use Rattle.std.proofs.lemmas.List.{append-nil, map-append}
 use Rattle.std.specs.Prelude.{Result, Ok, Err}
+use Rattle.std.specs.Option.{option_map}
+use Rattle.s66_isa.specs.Lists.{every}
 use Rattle.s66_isa.specs.declared.limits.TheConstants.{BLOCK_LIMIT}
 use Rattle.s66_model.specs.declared.rule.Rule.{Rule}
 use Rattle.s66_model.specs.declared.rule.Rule.TheVariants.{NoneNamed}
@@ -10,22 +12,22 @@ use Rattle.s66_model.specs.Leaves.{Whole}
 use Rattle.s66_model.specs.Tree.{Tree, Alone, Parted, Siblings, NoMore, Unsplit, Split, Vertex, AtTerminal, AtSplit, flat_siblings, flat, sibling_splits, splits}
 use Rattle.s66_model.specs.DominatedLeaves.{Ending, Bounding}
 use Rattle.s66_line.specs.InstructionText.{IsInstruction}
-use Rattle.s66_tree.specs.Lines.{has_dominated_line}
-use Rattle.s66_cert.specs.Document.{Document, IsDocumentWithin, AreDocumentsWithin, AreNumbers, AreInstructions, IsLeafLine, SiblingsFit, TreeFits, IsTextWithin, documents_text, names_nodes}
-use Rattle.s66_cert.specs.Faults.{IsOpenWithin}
-use Rattle.s66_line.specs.Fields.{with_newlines}
-use Rattle.s66_cert.specs.Lines.{DocumentLine, Header, Profile, Block, Instruction, Time, Bound, Order, OfTree, End, line_bytes, IsLineInRange, line_read}
+use Rattle.s66_moments.specs.declared.fact_line.FactLine.{FactLine}
+use Rattle.s66_cert.specs.Document.{Document, IsDocumentWithin, AreDocumentsWithin, AreNumbers, AreInstructions, IsFactLine, AreFactLines, AreFacts, HasItsLeaves, IsLeafLine, SiblingsFit, TreeFits, IsTextWithin, documents_text}
+use Rattle.s66_cert.specs.Faults.{with_newlines, IsOpenWithin}
+use Rattle.s66_cert.specs.Lines.{DocumentLine, Header, Profile, Block, Instruction, Time, Bound, Order, OfFact, OfTree, End, line_bytes, IsLineInRange, line_read}
 use Rattle.s66_cert.specs.DocumentParts.{Parts, document_of, tree_of_lines}
 use Rattle.s66_model.specs.Preorder.{forest, first_tree, first_siblings, later_siblings}
-use Rattle.s66_cert.specs.Reading.{nothing, DocumentState, first_state, place_of_instruction, place_of_tree, with_vertex, is_allowed, wants_dominated, vertex_step, step_at, step_if, step, and_then, steps, ended, is_header, read_within, whole_lines, last_bytes}
-use Rattle.s66_cert.specs.Fine.{Leave, split_count, HasTree, IsPart, IsFine}
-use Rattle.s66_cert.proofs.DocumentLines.{open_lines, document_lines, documents_lines, instructions_of, vertices_of}
+use Rattle.s66_cert.specs.Reading.{nothing, headed, first_facts, DocumentState, first_state, place_of_instruction, place_of_tree, with_vertex, is_leaf_of, has_room, takes_fact, with_fact, fact_step, wants_dominated, vertex_step, step_at, step_if, step, and_then, steps, ended, is_header, read_within, whole_lines, last_bytes}
+use Rattle.s66_cert.specs.Fine.{Leave, split_count, HasProfile, HasTree, IsPart, IsFine}
+use Rattle.s66_cert.proofs.DocumentLines.{open_lines, document_lines, documents_lines, instructions_of, fact_lines_of, facts_of, vertices_of}
+use Rattle.s66_cert.specs.declared.limits.TheConstants.{FACT_LIMIT}
 use Rattle.s66_cert.specs.declared.error.CertError.{CertError}
 use Rattle.s66_cert.specs.declared.error.CertError.TheVariants.{BadLine, Truncated, TooManyNodes}
 use Rattle.s66_cert.specs.declared.place.Place.{Place}
 use Rattle.s66_cert.specs.declared.place.Place.TheVariants.{AtHeader, AtProfile, AtBlock, AtInstruction, AtTime, AtBound, AtOrder, AtTree, AtEnd}
 use Rattle.s66_cert.proofs.LineTexts.{line-is}
-use Rattle.s66_cert.proofs.DominatedLines.{allowed-more, names-exactly}
+use Rattle.s66_cert.proofs.DominatedLines.{AreAllowed, every-append, leaves-whole, leaves-open, first-some, first-fit, facts-fit}
 use Rattle.s66_model.proofs.Forests.{flat-forest}
 use Rattle.s66_cert.proofs.TextLines.{cut, documents-text}
 use Rattle.s66_cert.proofs.States.{at, place-instruction, place-tree}
@@ -103,19 +105,19 @@ whole-tree vertices h =
 -- WHAT WAS READ OF A DOCUMENT
 
 abbrev heading_lines : Parts → ℕ → List DocumentLine → List DocumentLine
-heading_lines o count more = Header o.rule ∷ Profile o.profile ∷ Block count ∷ (instructions_of o.block ++ more)
+heading_lines o count more = Header (is_some o.facts) o.rule ∷ Profile o.profile ∷ Block count ∷ (instructions_of o.block ++ more)
 
 -- the lines of the open document
 abbrev pub part_lines : Place → Parts → ℕ → List DocumentLine
 part_lines AtHeader o left = []
-part_lines AtProfile o left = Header o.rule ∷ []
-part_lines AtBlock o left = Header o.rule ∷ Profile o.profile ∷ []
+part_lines AtProfile o left = Header (is_some o.facts) o.rule ∷ []
+part_lines AtBlock o left = Header (is_some o.facts) o.rule ∷ Profile o.profile ∷ []
 part_lines AtInstruction o left = heading_lines o (length o.block + left) []
 part_lines AtTime o left = heading_lines o (length o.block) []
 part_lines AtBound o left = heading_lines o (length o.block) (Time o.time ∷ [])
 part_lines AtOrder o left = heading_lines o (length o.block) (Time o.time ∷ Bound o.bound ∷ [])
-part_lines AtTree o left = heading_lines o (length o.block) (Time o.time ∷ Bound o.bound ∷ Order o.numbers ∷ vertices_of o.vertices)
-part_lines AtEnd o left = heading_lines o (length o.block) (Time o.time ∷ Bound o.bound ∷ Order o.numbers ∷ vertices_of o.vertices)
+part_lines AtTree o left = heading_lines o (length o.block) (Time o.time ∷ Bound o.bound ∷ Order o.numbers ∷ (facts_of o.facts ++ vertices_of o.vertices))
+part_lines AtEnd o left = heading_lines o (length o.block) (Time o.time ∷ Bound o.bound ∷ Order o.numbers ∷ (facts_of o.facts ++ vertices_of o.vertices))
 
 -- ONE LINE MORE
 
@@ -138,7 +140,7 @@ texts-more (other ∷ texts) text are is = (are.0, texts-more texts text are.1 i
 
 -- the heading with one line more after it
 heading-more : (o : Parts) (count : ℕ) (more : List DocumentLine) (l : DocumentLine) → heading_lines o count (more ++ l ∷ []) ≡ heading_lines o count more ++ l ∷ []
-heading-more o count more l = ap (λ x. Header o.rule ∷ Profile o.profile ∷ Block count ∷ x) (sym (append_assoc (instructions_of o.block) more (l ∷ [])))
+heading-more o count more l = ap (λ x. Header (is_some o.facts) o.rule ∷ Profile o.profile ∷ Block count ∷ x) (sym (append_assoc (instructions_of o.block) more (l ∷ [])))
 
 -- the documents are the same
 same-documents : (most : ℕ) (s t : DocumentState) (l : DocumentLine) → AreDocumentsWithin BLOCK_LIMIT most s.documents → t.documents ≡ s.documents → IsPart most t.place t.part t.left t.splits →
@@ -160,24 +162,26 @@ instruction-sound most count documents part (suc zero) splits text is are h =
     let less : 1 - 1 ≡ 0 = refl in
     same-documents most (at count documents AtInstruction part 1 splits) (at (suc count) documents AtTime (record part { block = part.block ++ text ∷ [] }) 0 0) (Instruction text) are refl
     (h.0, omega (arith, counted), omega (arith, counted, h.2), texts-more part.block text h.3 is)
-    (ap (λ n. heading_lines (record part { block = part.block ++ text ∷ [] }) n []) counted ∙ ap (λ x. Header part.rule ∷ Profile part.profile ∷ Block (length part.block + 1) ∷ x) (instructions-more part.block text []) ∙ heading-more part (length part.block + 1) [] (Instruction text))
+    (ap (λ n. heading_lines (record part { block = part.block ++ text ∷ [] }) n []) counted ∙ ap (λ x. Header (is_some part.facts) part.rule ∷ Profile part.profile ∷ Block (length part.block + 1) ∷ x) (instructions-more part.block text []) ∙ heading-more part (length part.block + 1) [] (Instruction text))
 instruction-sound most count documents part (suc (suc left)) splits text is are h =
     let counted : length (part.block ++ text ∷ []) ≡ length part.block + 1 = length-append part.block (text ∷ []) in
     let sum : length (part.block ++ text ∷ []) + suc left ≡ length part.block + suc (suc left) = omega (arith, counted) in
     let less : suc (suc left) - 1 ≡ suc left = omega arith in
     rw less (rw (place-instruction left) (same-documents most (at count documents AtInstruction part (suc (suc left)) splits) (at (suc count) documents AtInstruction (record part { block = part.block ++ text ∷ [] }) (suc left) 0) (Instruction text) are refl
     (h.0, omega arith, omega (arith, sum, h.2), texts-more part.block text h.3 is)
-    (ap (λ n. heading_lines (record part { block = part.block ++ text ∷ [] }) n []) sum ∙ ap (λ x. Header part.rule ∷ Profile part.profile ∷ Block (length part.block + suc (suc left)) ∷ x) (instructions-more part.block text []) ∙ heading-more part (length part.block + suc (suc left)) [] (Instruction text))))
+    (ap (λ n. heading_lines (record part { block = part.block ++ text ∷ [] }) n []) sum ∙ ap (λ x. Header (is_some part.facts) part.rule ∷ Profile part.profile ∷ Block (length part.block + suc (suc left)) ∷ x) (instructions-more part.block text []) ∙ heading-more part (length part.block + suc (suc left)) [] (Instruction text))))
 
 -- a line of the tree, after which this many trees are to come
 tree-sound : (most count : ℕ) (documents : List Document) (part : Parts) (left to splits after : ℕ) (vertex : Vertex Ending) → AreDocumentsWithin BLOCK_LIMIT most documents → IsPart most AtTree part left splits →
-    Leave 1 (part.vertices ++ vertex ∷ []) to → after ≡ split_count (part.vertices ++ vertex ∷ []) → after ≤ most → is_allowed part.rule vertex ≡ true →
+    Leave 1 (part.vertices ++ vertex ∷ []) to → after ≡ split_count (part.vertices ++ vertex ∷ []) → after ≤ most → is_leaf_of part vertex ≡ true →
     Sounds most (at count documents AtTree part left splits) (at (suc count) documents (place_of_tree to) (with_vertex part vertex) to after) (OfTree vertex)
 tree-sound most count documents part left to splits after vertex are h leave counted few allowed =
-    let front : List DocumentLine = Time part.time ∷ Bound part.bound ∷ Order part.numbers ∷ vertices_of part.vertices in
-    let more : heading_lines (with_vertex part vertex) (length part.block) (Time part.time ∷ Bound part.bound ∷ Order part.numbers ∷ vertices_of (part.vertices ++ vertex ∷ [])) ≡ heading_lines part (length part.block) front ++ OfTree vertex ∷ [] =
-    ap (λ x. heading_lines part (length part.block) (Time part.time ∷ Bound part.bound ∷ Order part.numbers ∷ x)) (vertices-more part.vertices vertex) ∙ heading-more part (length part.block) front (OfTree vertex) in
-    let has : HasTree most (with_vertex part vertex) to after = (h.1.0, h.1.1, h.1.2, h.1.3, leave, counted, few, allowed-more part.rule part.vertices vertex h.1.7 allowed) in
+    let front : List DocumentLine = Time part.time ∷ Bound part.bound ∷ Order part.numbers ∷ (facts_of part.facts ++ vertices_of part.vertices) in
+    let more : heading_lines (with_vertex part vertex) (length part.block) (Time part.time ∷ Bound part.bound ∷ Order part.numbers ∷ (facts_of part.facts ++ vertices_of (part.vertices ++ vertex ∷ []))) ≡ heading_lines part (length part.block) front ++ OfTree vertex ∷ [] =
+    ap (λ x. heading_lines part (length part.block) (Time part.time ∷ Bound part.bound ∷ Order part.numbers ∷ (facts_of part.facts ++ x))) (vertices-more part.vertices vertex)
+    ∙ ap (λ x. heading_lines part (length part.block) (Time part.time ∷ Bound part.bound ∷ Order part.numbers ∷ x)) (sym (append_assoc (facts_of part.facts) (vertices_of part.vertices) (OfTree vertex ∷ [])))
+    ∙ heading-more part (length part.block) front (OfTree vertex) in
+    let has : HasTree most (with_vertex part vertex) to after = (h.1.0, h.1.1, h.1.2, h.1.3, leave, counted, few, every-append (is_leaf_of part) part.vertices (vertex ∷ []) h.1.7 (rw allowed refl)) in
     by to has more
   where
     by : (to : ℕ) → HasTree most (with_vertex part vertex) to after → part_lines AtTree (with_vertex part vertex) to ≡ part_lines AtTree part left ++ OfTree vertex ∷ [] →
@@ -199,7 +203,7 @@ vertex-sound : (most count : ℕ) (documents : List Document) (part : Parts) (le
 vertex-sound most count documents part zero splits t vertex is are h made = absurd (omega (arith, h.0))
 vertex-sound most count documents part (suc left) splits t (AtTerminal leaf) is are h made =
     let less : suc left - 1 ≡ left = omega arith in
-    let got = chosen-true (is_allowed part.rule (AtTerminal leaf)) (BadLine (suc count)) (at (suc count) documents (place_of_tree (suc left - 1)) (with_vertex part (AtTerminal leaf)) (suc left - 1) splits) t made in
+    let got = chosen-true (is_leaf_of part (AtTerminal leaf)) (BadLine (suc count)) (at (suc count) documents (place_of_tree (suc left - 1)) (with_vertex part (AtTerminal leaf)) (suc left - 1) splits) t made in
     let leave : Leave 1 (part.vertices ++ AtTerminal leaf ∷ []) left = leave-terminal 1 left part.vertices leaf is h.1.4 in
     subst (λ (u : DocumentState). Sounds most (at count documents AtTree part (suc left) splits) u (OfTree (AtTerminal leaf))) got.1
     (rw less (tree-sound most count documents part (suc left) left splits splits (AtTerminal leaf) are h leave (omega (arith, count-append part.vertices (AtTerminal leaf ∷ []), h.1.5)) h.1.6 got.0))
@@ -210,6 +214,56 @@ vertex-sound most count documents part (suc left) splits t (AtSplit numbers) is 
     subst (λ (u : DocumentState). Sounds most (at count documents AtTree part (suc left) splits) u (OfTree (AtSplit numbers))) got.1
     (tree-sound most count documents part (suc left) (suc left - 1 + length numbers) splits (suc splits) (AtSplit numbers) are h leave (omega (arith, count-append part.vertices (AtSplit numbers ∷ []), h.1.5)) (omega arith) refl)
 
+-- FACT LINES
+
+lines-more : (lines : List FactLine) (line : FactLine) → fact_lines_of (lines ++ line ∷ []) ≡ fact_lines_of lines ++ OfFact line ∷ []
+lines-more [] line = refl
+lines-more (other ∷ lines) line = ap (λ x. OfFact other ∷ x) (lines-more lines line)
+
+lines-fit : (lines : List FactLine) (line : FactLine) → AreFactLines BLOCK_LIMIT lines → IsFactLine BLOCK_LIMIT line → AreFactLines BLOCK_LIMIT (lines ++ line ∷ [])
+lines-fit [] line are is = (is, tt)
+lines-fit (other ∷ lines) line are is = (are.0, lines-fit lines line are.1 is)
+
+-- with one more, for which there is room
+abbrev more_facts : Option (List FactLine) → FactLine → Option (List FactLine)
+more_facts facts line = option_map (λ lines. lines ++ line ∷ []) facts
+
+facts-some : (facts : Option (List FactLine)) (line : FactLine) → is_some (more_facts facts line) ≡ is_some facts
+facts-some None line = refl
+facts-some (Some lines) line = refl
+
+facts-more : (facts : Option (List FactLine)) (line : FactLine) → has_room facts ≡ true → facts_of (more_facts facts line) ≡ facts_of facts ++ OfFact line ∷ []
+facts-more None line room = absurd (cc)
+facts-more (Some lines) line room = lines-more lines line
+
+facts-fit-more : (rule : Rule) (facts : Option (List FactLine)) (line : FactLine) → has_room facts ≡ true → AreFacts BLOCK_LIMIT rule facts → IsFactLine BLOCK_LIMIT line → AreFacts BLOCK_LIMIT rule (more_facts facts line)
+facts-fit-more rule None line room are is = absurd (cc)
+facts-fit-more rule (Some lines) line room are is =
+    (are.0, omega (arith, ltb-true (length lines) FACT_LIMIT room, length-append lines (line ∷ [])), lines-fit lines line are.2 is)
+
+no-vertices : (vertices : List (Vertex Ending)) → eqb (length vertices) 0 ≡ true → vertices ≡ []
+no-vertices [] h = refl
+no-vertices (vertex ∷ vertices) h = absurd (let e = eqb-true (length (vertex ∷ vertices)) 0 h in omega (arith, e))
+
+fact-sound : (most count : ℕ) (documents : List Document) (part : Parts) (left splits : ℕ) (t : DocumentState) (line : FactLine) → IsFactLine BLOCK_LIMIT line → AreDocumentsWithin BLOCK_LIMIT most documents → IsPart most AtTree part left splits →
+    fact_step (at count documents AtTree part left splits) line ≡ Ok t → Sounds most (at count documents AtTree part left splits) t (OfFact line)
+fact-sound most count documents part left splits t line is are h made =
+    let new : Parts = with_fact part line in
+    let got = chosen-true (takes_fact part) (BadLine (suc count)) (at (suc count) documents AtTree new left splits) t made in
+    let takes = and_parts (eqb (length part.vertices) 0) (has_room part.facts) got.0 in
+    let none : part.vertices ≡ [] = no-vertices part.vertices takes.0 in
+    let few : AreFacts BLOCK_LIMIT part.rule new.facts = facts-fit-more part.rule part.facts line takes.1 h.1.0.0.2 is in
+    let allowed : every (is_leaf_of new) part.vertices ≡ true = subst (λ (vertices : List (Vertex Ending)). every (is_leaf_of new) vertices ≡ true) (sym none) refl in
+    let has : HasTree most new left splits = (((h.1.0.0.0, h.1.0.0.1, few), h.1.0.1, h.1.0.2, h.1.0.3), h.1.1, h.1.2, h.1.3, h.1.4, h.1.5, h.1.6, allowed) in
+    let front : List DocumentLine = Time part.time ∷ Bound part.bound ∷ Order part.numbers ∷ (facts_of part.facts ++ vertices_of part.vertices) in
+    let body : facts_of new.facts ++ vertices_of part.vertices ≡ (facts_of part.facts ++ vertices_of part.vertices) ++ OfFact line ∷ [] =
+    rw none (append-nil (facts_of new.facts) ∙ facts-more part.facts line takes.1 ∙ ap (λ (x : List DocumentLine). x ++ OfFact line ∷ []) (sym (append-nil (facts_of part.facts)))) in
+    let more : part_lines AtTree new left ≡ part_lines AtTree part left ++ OfFact line ∷ [] =
+    ap (λ (b : Bool). Header b part.rule ∷ Profile part.profile ∷ Block (length part.block) ∷ (instructions_of part.block ++ Time part.time ∷ Bound part.bound ∷ Order part.numbers ∷ (facts_of new.facts ++ vertices_of part.vertices))) (facts-some part.facts line)
+    ∙ ap (λ x. heading_lines part (length part.block) (Time part.time ∷ Bound part.bound ∷ Order part.numbers ∷ x)) body ∙ heading-more part (length part.block) front (OfFact line) in
+    subst (λ (u : DocumentState). Sounds most (at count documents AtTree part left splits) u (OfFact line)) got.1
+    (same-documents most (at count documents AtTree part left splits) (at (suc count) documents AtTree new left splits) (OfFact line) are refl (h.0, has) more)
+
 within-more : (most : ℕ) (ds : List Document) (d : Document) → AreDocumentsWithin BLOCK_LIMIT most ds → IsDocumentWithin BLOCK_LIMIT most d → AreDocumentsWithin BLOCK_LIMIT most (ds ++ d ∷ [])
 within-more most [] d are is = (is, tt)
 within-more most (other ∷ ds) d are is = (are.0, within-more most ds d are.1 is)
@@ -219,34 +273,42 @@ documents-more [] d = append-nil (document_lines d)
 documents-more (other ∷ ds) d = ap (λ x. document_lines other ++ x) (documents-more ds d) ∙ sym (append_assoc (document_lines other) (documents_lines ds) (document_lines d))
 
 -- the parts by this rule are a document
-by-rule : (most : ℕ) (part : Parts) (splits : ℕ) (rule : Rule) → HasTree most part 0 splits → names_nodes rule ≡ has_dominated_line part.vertices → IsDocumentWithin BLOCK_LIMIT most (record (document_of part) { rule = rule })
-by-rule most part splits rule h named =
+by-rule : (most : ℕ) (part : Parts) (splits : ℕ) (rule : Rule) → HasTree most part 0 splits → AreFacts BLOCK_LIMIT rule part.facts → HasItsLeaves rule part.facts (tree_of_lines part.vertices) → IsDocumentWithin BLOCK_LIMIT most (record (document_of part) { rule = rule })
+by-rule most part splits rule h facts leaves =
     let tree = whole-tree part.vertices h.4 in
     record {
-      profile = h.0.0;
+      profile = (h.0.0.0, h.0.0.1);
       block = (h.0.1, h.0.2, h.0.3);
       time = h.1;
       bound = h.2;
       numbers = h.3;
       tree = tree.1;
       splits = omega (arith, tree.2, h.5, h.6);
-      rule = named ∙ sym (ap has_dominated_line tree.0);
+      facts = facts;
+      leaves = leaves;
     }
 
+-- each line of its tree is allowed
+tree-allowed : (most : ℕ) (part : Parts) (splits : ℕ) → HasTree most part 0 splits → AreAllowed part.rule part.facts (flat (tree_of_lines part.vertices))
+tree-allowed most part splits h = subst (λ (vertices : List (Vertex Ending)). every (is_leaf_of part) vertices ≡ true) (sym (whole-tree part.vertices h.4).0) h.7
+
 pub whole-document : (most : ℕ) (part : Parts) (splits : ℕ) → HasTree most part 0 splits → wants_dominated part ≡ false → IsDocumentWithin BLOCK_LIMIT most (document_of part)
-whole-document most part splits h none = by-rule most part splits part.rule h (names-exactly (names_nodes part.rule) (has_dominated_line part.vertices) h.7 none)
+whole-document most part splits h none =
+    let same : wants_dominated part ≡ wants_dominated (record part { vertices = flat (tree_of_lines part.vertices) }) =
+    ap (λ (vertices : List (Vertex Ending)). wants_dominated (record part { vertices = vertices })) (sym (whole-tree part.vertices h.4).0) in
+    by-rule most part splits part.rule h h.0.0.2 (leaves-whole part.rule part.facts (tree_of_lines part.vertices) (tree-allowed most part splits h) (sym same ∙ none))
 
 pub open-document : (most : ℕ) (part : Parts) (splits : ℕ) → HasTree most part 0 splits → IsOpenWithin BLOCK_LIMIT most (document_of part)
-open-document most part splits h = by (has_dominated_line part.vertices) refl
-  where
-    by : (has : Bool) → has_dominated_line part.vertices ≡ has → IsOpenWithin BLOCK_LIMIT most (document_of part)
-    by true e = inl (by-rule most part splits part.rule h (h.7 e ∙ sym e))
-    by false e = inr (by-rule most part splits NoneNamed h (sym e))
+open-document most part splits h =
+    elim (leaves-open part.rule part.facts (tree_of_lines part.vertices) h.0.0.2 (tree-allowed most part splits h)) [
+      | inl own ↦ inl (by-rule most part splits part.rule h own.0 own.1)
+      | inr none ↦ inr (by-rule most part splits NoneNamed h none.0 none.1)
+    ]
 
 -- the lines of the open document, if only the last is to come
 pub open-is : (part : Parts) (left splits most : ℕ) → HasTree most part 0 splits → part_lines AtEnd part left ≡ open_lines (document_of part)
 open-is part left splits most h =
-    ap (λ (k : List (Vertex Ending)). heading_lines part (length part.block) (Time part.time ∷ Bound part.bound ∷ Order part.numbers ∷ vertices_of k)) (sym (whole-tree part.vertices h.4).0)
+    ap (λ (k : List (Vertex Ending)). heading_lines part (length part.block) (Time part.time ∷ Bound part.bound ∷ Order part.numbers ∷ (facts_of part.facts ++ vertices_of k))) (sym (whole-tree part.vertices h.4).0)
 
 end-sound : (most count : ℕ) (documents : List Document) (part : Parts) (left splits : ℕ) → AreDocumentsWithin BLOCK_LIMIT most documents → IsPart most AtEnd part left splits →
     wants_dominated part ≡ false →
@@ -261,22 +323,26 @@ end-sound most count documents part left splits are h none =
           ∙ ap (λ x. documents_lines documents ++ x) lines ∙ sym (append_assoc (documents_lines documents) (part_lines AtEnd part left) (End ∷ []));
     }
 
+first-none : (facts : Bool) → facts_of (first_facts facts) ≡ []
+first-none true = refl
+first-none false = refl
+
 step-sound : (most count : ℕ) (documents : List Document) (place : Place) (part : Parts) (left splits : ℕ) (t : DocumentState) (l : DocumentLine) → IsLineInRange BLOCK_LIMIT l → AreDocumentsWithin BLOCK_LIMIT most documents → IsPart most place part left splits →
     step_at most (at count documents place part left splits) place l ≡ Ok t → Sounds most (at count documents place part left splits) t l
-step-sound most count documents AtHeader part left splits t (Header rule) is are h made =
-    let begun : Parts = record nothing { rule = rule } in
+step-sound most count documents AtHeader part left splits t (Header facts rule) is are h made =
+    let begun : Parts = headed facts rule in
     let e : at (suc count) documents AtProfile begun 0 0 ≡ t = (cc) in
-    subst (λ (u : DocumentState). Sounds most (at count documents AtHeader part left splits) u (Header rule)) e
-    (same-documents most (at count documents AtHeader part left splits) (at (suc count) documents AtProfile begun 0 0) (Header rule) are refl tt refl)
+    subst (λ (u : DocumentState). Sounds most (at count documents AtHeader part left splits) u (Header facts rule)) e
+    (same-documents most (at count documents AtHeader part left splits) (at (suc count) documents AtProfile begun 0 0) (Header facts rule) are refl (first-fit rule facts is) (ap (λ (b : Bool). Header b rule ∷ []) (first-some facts)))
 step-sound most count documents AtProfile part left splits t (Profile numbers) is are h made =
     let e : at (suc count) documents AtBlock (record part { profile = numbers }) 0 0 ≡ t = (cc) in
     subst (λ (u : DocumentState). Sounds most (at count documents AtProfile part left splits) u (Profile numbers)) e
-    (same-documents most (at count documents AtProfile part left splits) (at (suc count) documents AtBlock (record part { profile = numbers }) 0 0) (Profile numbers) are refl is refl)
+    (same-documents most (at count documents AtProfile part left splits) (at (suc count) documents AtBlock (record part { profile = numbers }) 0 0) (Profile numbers) are refl (is.0, is.1, h) refl)
 step-sound most count documents AtBlock part left splits t (Block number) is are h made =
     let e : at (suc count) documents AtInstruction (record part { block = [] }) number 0 ≡ t = (cc) in
     let sum : 0 + number ≡ number = omega arith in
     subst (λ (u : DocumentState). Sounds most (at count documents AtBlock part left splits) u (Block number)) e
-    (same-documents most (at count documents AtBlock part left splits) (at (suc count) documents AtInstruction (record part { block = [] }) number 0) (Block number) are refl (h, is.0, omega (arith, is.1), tt) (ap (λ n. Header part.rule ∷ Profile part.profile ∷ Block n ∷ []) sum))
+    (same-documents most (at count documents AtBlock part left splits) (at (suc count) documents AtInstruction (record part { block = [] }) number 0) (Block number) are refl (h, is.0, omega (arith, is.1), tt) (ap (λ n. Header (is_some part.facts) part.rule ∷ Profile part.profile ∷ Block n ∷ []) sum))
 step-sound most count documents AtInstruction part left splits t (Instruction text) is are h made =
     let e : at (suc count) documents (place_of_instruction (left - 1)) (record part { block = part.block ++ text ∷ [] }) (left - 1) 0 ≡ t = (cc) in
     subst (λ (u : DocumentState). Sounds most (at count documents AtInstruction part left splits) u (Instruction text)) e (instruction-sound most count documents part left splits text is are h)
@@ -289,9 +355,18 @@ step-sound most count documents AtBound part left splits t (Bound bound) is are 
     subst (λ (u : DocumentState). Sounds most (at count documents AtBound part left splits) u (Bound bound)) e
     (same-documents most (at count documents AtBound part left splits) (at (suc count) documents AtOrder (record part { bound = bound }) 0 0) (Bound bound) are refl (h.0, h.1, is) (heading-more part (length part.block) (Time part.time ∷ []) (Bound bound)))
 step-sound most count documents AtOrder part left splits t (Order numbers) is are h made =
-    let e : at (suc count) documents AtTree (record part { numbers = numbers; vertices = [] }) 1 0 ≡ t = (cc) in
+    let next : Parts = record part { facts = first_facts (is_some part.facts); numbers = numbers; vertices = [] } in
+    let e : at (suc count) documents AtTree next 1 0 ≡ t = (cc) in
+    let profile : HasProfile next = (h.0.0.0, h.0.0.1, first-fit part.rule (is_some part.facts) (facts-fit BLOCK_LIMIT part.rule part.facts h.0.0.2)) in
+    let some : is_some next.facts ≡ is_some part.facts = first-some (is_some part.facts) in
+    let none : facts_of next.facts ≡ [] = first-none (is_some part.facts) in
     subst (λ (u : DocumentState). Sounds most (at count documents AtOrder part left splits) u (Order numbers)) e
-    (same-documents most (at count documents AtOrder part left splits) (at (suc count) documents AtTree (record part { numbers = numbers; vertices = [] }) 1 0) (Order numbers) are refl (omega arith, (h.0, h.1, h.2, is, refl, refl, omega arith, λ has. absurd (cc))) (heading-more part (length part.block) (Time part.time ∷ Bound part.bound ∷ []) (Order numbers)))
+    (same-documents most (at count documents AtOrder part left splits) (at (suc count) documents AtTree next 1 0) (Order numbers) are refl
+    (omega arith, ((profile, h.0.1, h.0.2, h.0.3), h.1, h.2, is, refl, refl, omega arith, refl))
+    (ap (λ (b : Bool). Header b part.rule ∷ Profile part.profile ∷ Block (length part.block) ∷ (instructions_of part.block ++ Time part.time ∷ Bound part.bound ∷ Order numbers ∷ (facts_of next.facts ++ []))) some
+    ∙ ap (λ (x : List DocumentLine). heading_lines part (length part.block) (Time part.time ∷ Bound part.bound ∷ Order numbers ∷ (x ++ []))) none
+    ∙ heading-more part (length part.block) (Time part.time ∷ Bound part.bound ∷ []) (Order numbers)))
+step-sound most count documents AtTree part left splits t (OfFact line) is are h made = fact-sound most count documents part left splits t line is are h made
 step-sound most count documents AtTree part left splits t (OfTree vertex) is are h made = vertex-sound most count documents part left splits t vertex is are h made
 step-sound most count documents AtEnd part left splits t End is are h made =
     let got = chosen-false (wants_dominated part) (BadLine (suc count)) (at (suc count) (documents ++ document_of part ∷ []) AtHeader nothing 0 0) t made in

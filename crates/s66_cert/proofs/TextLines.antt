@@ -2,17 +2,18 @@
 use Rattle.std.proofs.Common.{◌≡◌, ℕ, Bool, true, false, not, List, [], ◌∷◌, ◌++◌, map, length, refl, sym, ap, ◌∙◌, eqb, append_assoc}
 use Rattle.std.proofs.lemmas.Bool.{and_parts, and_from, not-true, eqb-true}
 use Rattle.std.proofs.lemmas.List.{append-nil, map-append}
-use Rattle.std.specs.Prelude.{codes, decimal}
+use Rattle.std.specs.Prelude.{Option, None, Some, is_some, codes, decimal}
 use Rattle.s66_isa.specs.Lists.{every, after_blanks}
 use Rattle.s66_model.specs.Leaves.{Whole, Chain, Load, Parcels}
 use Rattle.s66_model.specs.Tree.{Vertex, AtTerminal, AtSplit, flat}
-use Rattle.s66_model.specs.DominatedLeaves.{Ending, Bounding, Dominated}
-use Rattle.s66_cert.specs.Document.{Document, tree_lines, leaf_line, instructions_text, version, text_before_end, document_text, documents_text}
-use Rattle.s66_cert.specs.Faults.{IsLine, HaveNoNewline}
-use Rattle.s66_line.specs.Fields.{with_newlines}
-use Rattle.s66_cert.specs.Lines.{DocumentLine, End, line_bytes, leaf_bytes}
+use Rattle.s66_model.specs.DominatedLeaves.{Ending, Bounding, Dominated, Next, Turned, AtLine}
+use Rattle.s66_moments.specs.declared.fact_line.FactLine.{FactLine}
+use Rattle.s66_moments.specs.declared.fact_line.FactLine.TheVariants as fact
+use Rattle.s66_cert.specs.Document.{Document, tree_lines, leaf_line, instructions_text, moment_text, fact_line, fact_lines, facts_text, version, text_before_end, document_text, documents_text}
+use Rattle.s66_cert.specs.Faults.{IsLine, HaveNoNewline, with_newlines}
+use Rattle.s66_cert.specs.Lines.{DocumentLine, End, line_bytes, fact_bytes, leaf_bytes}
 use Rattle.s66_cert.specs.Reading.{whole_lines, last_bytes}
-use Rattle.s66_cert.proofs.DocumentLines.{open_lines, document_lines, documents_lines, instructions_of, vertices_of}
+use Rattle.s66_cert.proofs.DocumentLines.{open_lines, document_lines, documents_lines, instructions_of, fact_lines_of, facts_of, vertices_of}
 
 line-parts : (b : ℕ) (line : List ℕ) → IsLine (b ∷ line) → (eqb b 10 ≡ false) × IsLine line
 line-parts b line h = let both = and_parts (not (eqb b 10)) (every (λ b. not (eqb b 10)) line) h in (not-true (eqb b 10) both.0, both.1)
@@ -101,6 +102,22 @@ leaf-text (Bounding (Chain numbers)) more = simp append_assoc
 leaf-text (Bounding (Load kind)) more = simp append_assoc
 leaf-text (Bounding Parcels) more = refl
 leaf-text (Dominated name) more = simp append_assoc
+leaf-text (Next number) more = simp append_assoc
+leaf-text (Turned first second) more = append_assoc (codes "R" ++ after_blanks (first ∷ second ∷ [])) (codes "\n") more
+leaf-text (AtLine line) more = simp append_assoc
+
+fact-text : (line : FactLine) (more : List ℕ) → fact_line line ++ more ≡ fact_bytes line ++ 10 ∷ more
+fact-text (fact.Pair first second) more = append_assoc (codes "F" ++ after_blanks (first ∷ second ∷ [])) (codes "\n") more
+fact-text (fact.Load line) more =
+    append_assoc (codes "A " ++ moment_text line.from ++ codes " " ++ moment_text line.to ++ after_blanks (line.after ∷ line.wait ∷ line.numbers.items)) (codes "\n") more
+
+fact_lines-text : (lines : List FactLine) → fact_lines lines ≡ with_newlines (map line_bytes (fact_lines_of lines))
+fact_lines-text [] = refl
+fact_lines-text (line ∷ lines) = ap (λ x. fact_line line ++ x) (fact_lines-text lines) ∙ fact-text line (with_newlines (map line_bytes (fact_lines_of lines)))
+
+facts-text : (facts : Option (List FactLine)) → facts_text facts ≡ with_newlines (map line_bytes (facts_of facts))
+facts-text None = refl
+facts-text (Some lines) = fact_lines-text lines
 
 tree-text : (vertices : List (Vertex Ending)) → tree_lines vertices ≡ with_newlines (map line_bytes (vertices_of vertices))
 tree-text [] = refl
@@ -110,15 +127,15 @@ tree-text (AtSplit numbers ∷ vertices) = ap (λ x. codes "S" ++ after_blanks n
 lines-append : (xs ys : List DocumentLine) → with_newlines (map line_bytes (xs ++ ys)) ≡ with_newlines (map line_bytes xs) ++ with_newlines (map line_bytes ys)
 lines-append xs ys = ap with_newlines (map-append line_bytes xs ys) ∙ newlines-append (map line_bytes xs) (map line_bytes ys)
 
-right-nested : (s r q p c k l i t a u b v n w m : List ℕ) →
-    s ++ r ++ q ++ p ++ c ++ k ++ l ++ i ++ t ++ a ++ u ++ b ++ v ++ n ++ w ++ m
-    ≡ s ++ (r ++ (q ++ (p ++ (c ++ (k ++ (l ++ (i ++ (t ++ (a ++ (u ++ (b ++ (v ++ (n ++ (w ++ m))))))))))))))
-right-nested s r q p c k l i t a u b v n w m = simp append_assoc
+right-nested : (s r q p c k l i t a u b v n w f m : List ℕ) →
+    s ++ r ++ q ++ p ++ c ++ k ++ l ++ i ++ t ++ a ++ u ++ b ++ v ++ n ++ w ++ f ++ m
+    ≡ s ++ (r ++ (q ++ (p ++ (c ++ (k ++ (l ++ (i ++ (t ++ (a ++ (u ++ (b ++ (v ++ (n ++ (w ++ (f ++ m)))))))))))))))
+right-nested s r q p c k l i t a u b v n w f m = simp append_assoc
 
 pub open-text : (d : Document) → text_before_end d ≡ with_newlines (map line_bytes (open_lines d))
 open-text d =
-    right-nested (codes "S66 CERTIFICATE ") (decimal (version d.rule)) (codes "\nPROFILE") (after_blanks d.profile) (codes "\nBLOCK ") (decimal (length d.block)) (codes "\n") (instructions_text d.block) (codes "TIME ") (decimal d.time) (codes "\nBOUND ") (decimal d.bound) (codes "\nORDER") (after_blanks d.numbers) (codes "\n") (tree_lines (flat d.tree))
-    ∙ rw (instructions-text d.block, tree-text (flat d.tree), lines-append (instructions_of d.block) _) refl
+    right-nested (codes "S66 CERTIFICATE ") (decimal (version (is_some d.facts) d.rule)) (codes "\nPROFILE") (after_blanks d.profile) (codes "\nBLOCK ") (decimal (length d.block)) (codes "\n") (instructions_text d.block) (codes "TIME ") (decimal d.time) (codes "\nBOUND ") (decimal d.bound) (codes "\nORDER") (after_blanks d.numbers) (codes "\n") (facts_text d.facts) (tree_lines (flat d.tree))
+    ∙ rw (instructions-text d.block, facts-text d.facts, tree-text (flat d.tree), lines-append (instructions_of d.block) _, lines-append (facts_of d.facts) (vertices_of (flat d.tree))) refl
 
 document-text : (d : Document) → document_text d ≡ with_newlines (map line_bytes (document_lines d))
 document-text d = ap (λ x. x ++ codes "END\n") (open-text d) ∙ sym (lines-append (open_lines d) (End ∷ []))

@@ -1,9 +1,15 @@
 -- Documents of blocks of a limit are documents of any greater limit.
-use Rattle.std.proofs.Common.{◌≤◌, ℕ, List, [], ◌∷◌, arith}
+use Rattle.std.proofs.Common.{◌≤◌, ℕ, List, [], ◌∷◌, Option, None, Some, arith}
 use Rattle.s66_model.specs.Leaves.{Whole, Chain, Load, Parcels}
 use Rattle.s66_model.specs.Tree.{Tree, Alone, Parted, Siblings, NoMore, Unsplit, Split}
-use Rattle.s66_model.specs.DominatedLeaves.{Ending, Bounding, Dominated}
-use Rattle.s66_cert.specs.Document.{Document, AreIn, AreNumbers, IsLeafLine, SiblingsFit, TreeFits, IsDocumentWithin, AreDocumentsWithin, IsTextWithin}
+use Rattle.s66_model.specs.DominatedLeaves.{Ending, Bounding, Dominated, Next, Turned, AtLine}
+use Rattle.s66_model.specs.declared.rule.Rule.{Rule}
+use Rattle.s66_moments.specs.declared.moment.Moment.{Moment}
+use Rattle.s66_moments.specs.declared.moment.Moment.TheVariants.{Origin, At, End}
+use Rattle.s66_moments.specs.declared.fact_line.FactLine.{FactLine}
+use Rattle.s66_moments.specs.declared.fact_line.FactLine.TheVariants as fact
+use Rattle.s66_moments.specs.Known.{IsMomentWithin}
+use Rattle.s66_cert.specs.Document.{Document, AreIn, AreNumbers, IsFactLine, AreFactLines, AreFacts, IsLeafLine, SiblingsFit, TreeFits, IsDocumentWithin, AreDocumentsWithin, IsTextWithin}
 
 module _ (limit wide : ℕ) (wider : limit ≤ wide) where
   wide-in : (ns : List ℕ) → AreIn 1 limit ns → AreIn 1 wide ns
@@ -19,6 +25,27 @@ module _ (limit wide : ℕ) (wider : limit ≤ wide) where
   wide-leaf (Bounding (Load kind)) is = tt
   wide-leaf (Bounding Parcels) is = tt
   wide-leaf (Dominated name) is = wide-numbers name is
+  wide-leaf (Next number) is = wide-in (number ∷ []) is
+  wide-leaf (Turned first second) is = wide-in (first ∷ second ∷ []) is
+  wide-leaf (AtLine line) is = is
+
+  wide-moment : (m : Moment) → IsMomentWithin limit m → IsMomentWithin wide m
+  wide-moment Origin is = tt
+  wide-moment (At n stage) is = (is.0, omega (arith, is.1, wider))
+  wide-moment End is = tt
+
+  wide-fact : (line : FactLine) → IsFactLine limit line → IsFactLine wide line
+  wide-fact (fact.Pair first second) is = wide-in (first ∷ second ∷ []) is
+  wide-fact (fact.Load line) is =
+      (record { front = (is.0.front.0, wide-moment line.from is.0.front.1); back = (is.0.back.0, wide-moment line.to is.0.back.1) }, is.1, wide-numbers line.numbers.items is.2)
+
+  wide-lines : (lines : List FactLine) → AreFactLines limit lines → AreFactLines wide lines
+  wide-lines [] are = tt
+  wide-lines (line ∷ lines) are = (wide-fact line are.0, wide-lines lines are.1)
+
+  wide-facts : (rule : Rule) (facts : Option (List FactLine)) → AreFacts limit rule facts → AreFacts wide rule facts
+  wide-facts rule None are = tt
+  wide-facts rule (Some lines) are = (are.0, are.1, wide-lines lines are.2)
 
   wide-siblings : (ns : List ℕ) (siblings : Siblings Ending) → SiblingsFit limit ns siblings → SiblingsFit wide ns siblings
   wide-siblings [] NoMore fits = tt
@@ -42,7 +69,8 @@ module _ (limit wide : ℕ) (wider : limit ≤ wide) where
         numbers = wide-numbers d.numbers is.numbers;
         tree = wide-tree d.tree is.tree;
         splits = omega (arith, is.splits, le);
-        rule = is.rule;
+        facts = wide-facts d.rule d.facts is.facts;
+        leaves = is.leaves;
       }
 
   pub wide-documents : (most more : ℕ) (ds : List Document) → most ≤ more → AreDocumentsWithin limit most ds → AreDocumentsWithin wide more ds

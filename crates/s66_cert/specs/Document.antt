@@ -1,20 +1,28 @@
 -- To be believed: certificates, and their texts.
-use Rattle.std.specs.Prelude.{◌≡◌, ℕ, Bool, true, false, List, [], ◌∷◌, ◌++◌, ◌≤◌, codes, decimal, length}
+use Rattle.std.specs.Prelude.{◌≡◌, ℕ, Bool, true, false, List, [], ◌∷◌, ◌++◌, ◌≤◌, Option, None, Some, is_some, codes, decimal, length}
+use Rattle.s66_isa.specs.declared.instr.Kind.{Kind}
+use Rattle.s66_isa.specs.declared.instr.Kind.TheVariants.{Boolean, Shift, Add, LongAdd, Multiply, Divide, Increment}
 use Rattle.s66_model.specs.declared.rule.Rule.{Rule}
 use Rattle.s66_model.specs.declared.rule.Rule.TheVariants.{NoneNamed, WrittenEarlier, ClampedStanding}
 use Rattle.s66_model.specs.Leaves.{Whole, Chain, Load, Parcels}
 use Rattle.s66_model.specs.Tree.{Tree, Alone, Parted, Siblings, NoMore, Unsplit, Split, Vertex, AtTerminal, AtSplit, flat, splits}
-use Rattle.s66_model.specs.DominatedLeaves.{Ending, Bounding, Dominated}
-use Rattle.s66_isa.specs.KindNames.{kind_name}
-use Rattle.s66_isa.specs.Lists.{after_blanks}
+use Rattle.s66_model.specs.DominatedLeaves.{Ending, Bounding, Dominated, Next, Turned, AtLine}
+use Rattle.s66_isa.specs.Lists.{some_of, after_blanks}
+use Rattle.s66_moments.specs.declared.moment.Stage.TheVariants.{Issue, Start, Done, Free}
+use Rattle.s66_moments.specs.declared.moment.Moment.{Moment}
+use Rattle.s66_moments.specs.declared.moment.Moment.TheVariants.{Origin, At, End}
+use Rattle.s66_moments.specs.declared.fact_line.FactLine.{FactLine}
+use Rattle.s66_moments.specs.declared.fact_line.FactLine.TheVariants as fact
+use Rattle.s66_moments.specs.Known.{IsAnchored}
 use Rattle.s66_line.specs.InstructionText.{IsInstruction}
 use Rattle.s66_isa.specs.declared.limits.TheConstants.{PROFILE_LENGTH, PROFILE_LIMIT}
 use Rattle.s66_tree.specs.Lines.{has_dominated_line}
-use Rattle.s66_cert.specs.declared.limits.TheConstants.{TIME_LIMIT, SPLIT_LIMIT}
+use Rattle.s66_cert.specs.declared.limits.TheConstants.{TIME_LIMIT, SPLIT_LIMIT, FACT_LIMIT, LINE_LIMIT}
 
--- what it claims: under this profile, the instructions of these texts, in this order, take this time, and none takes less than the bound, as the tree shows by the rule
+-- what it claims: under this profile, the instructions of these texts, in this order, take this time, and none takes less than the bound, as the fact lines, if it may have some, and the tree show by the rule
 pub record Document : Type 0 where
   pub rule : Rule
+  pub facts : Option (List FactLine)
   pub profile : List ℕ
   pub block : List (List ℕ)
   pub time : ℕ
@@ -39,6 +47,9 @@ IsLeafLine limit (Bounding (Chain numbers)) = AreNumbers limit numbers
 IsLeafLine limit (Bounding (Load kind)) = Unit {0}
 IsLeafLine limit (Bounding Parcels) = Unit {0}
 IsLeafLine limit (Dominated name) = AreNumbers limit name
+IsLeafLine limit (Next number) = AreIn 1 limit (number ∷ [])
+IsLeafLine limit (Turned first second) = AreIn 1 limit (first ∷ second ∷ [])
+IsLeafLine limit (AtLine line) = AreIn 1 LINE_LIMIT (line ∷ [])
 
 -- a tree for each number of a split
 abbrev pub SiblingsFit : ℕ → List ℕ → Siblings Ending → Type 0
@@ -53,7 +64,23 @@ abbrev pub TreeFits : ℕ → Tree Ending → Type 0
 TreeFits limit (Alone leaf) = IsLeafLine limit leaf
 TreeFits limit (Parted numbers siblings) = AreNumbers limit numbers × SiblingsFit limit numbers siblings
 
--- DOMINATED LEAVES
+-- FACT LINES
+
+abbrev pub IsFactLine : ℕ → FactLine → Type 0
+IsFactLine limit (fact.Pair first second) = AreIn 1 limit (first ∷ second ∷ [])
+IsFactLine limit (fact.Load line) =
+    IsAnchored limit line × AreIn 0 TIME_LIMIT (line.after ∷ line.wait ∷ []) × AreNumbers limit line.numbers.items
+
+abbrev pub AreFactLines : ℕ → List FactLine → Type 0
+AreFactLines limit [] = Unit {0}
+AreFactLines limit (line ∷ lines) = IsFactLine limit line × AreFactLines limit lines
+
+-- they are few, and there are some only by the rule of standing nodes
+abbrev pub AreFacts : ℕ → Rule → Option (List FactLine) → Type 0
+AreFacts limit rule None = Unit {0}
+AreFacts limit rule (Some lines) = (rule ≡ ClampedStanding) × (length lines ≤ FACT_LIMIT) × AreFactLines limit lines
+
+-- WHICH LEAVES A TREE HAS
 
 -- whether a leaf of the tree is dominated
 abbrev pub has_dominated : Tree Ending → Bool
@@ -64,6 +91,24 @@ abbrev pub names_nodes : Rule → Bool
 names_nodes NoneNamed = false
 names_nodes WrittenEarlier = true
 names_nodes ClampedStanding = true
+
+-- a leaf of the kinds that come with fact lines
+abbrev pub is_factual : Vertex Ending → Bool
+is_factual (AtSplit numbers) = false
+is_factual (AtTerminal (Bounding leaf)) = false
+is_factual (AtTerminal (Dominated name)) = false
+is_factual (AtTerminal (Next number)) = true
+is_factual (AtTerminal (Turned first second)) = true
+is_factual (AtTerminal (AtLine line)) = true
+
+abbrev pub has_factual : Tree Ending → Bool
+has_factual tree = some_of is_factual (flat tree)
+
+-- without fact lines nodes are named by the rule exactly when a leaf is dominated, and no leaf is of the kinds that come with fact lines;
+-- with them no leaf is dominated
+abbrev pub HasItsLeaves : Rule → Option (List FactLine) → Tree Ending → Type 0
+HasItsLeaves rule None tree = (names_nodes rule ≡ has_dominated tree) × (has_factual tree ≡ false)
+HasItsLeaves rule (Some lines) tree = has_dominated tree ≡ false
 
 -- INSTRUCTIONS
 
@@ -80,8 +125,8 @@ pub record IsDocumentWithin (limit most : ℕ) (d : Document) : Type 0 where
   pub numbers : AreNumbers limit d.numbers
   pub tree : TreeFits limit d.tree
   pub splits : splits d.tree ≤ most
-  -- a rule by which nodes are named exactly when a leaf is dominated
-  pub rule : names_nodes d.rule ≡ has_dominated d.tree
+  pub facts : AreFacts limit d.rule d.facts
+  pub leaves : HasItsLeaves d.rule d.facts d.tree
 
 abbrev pub IsDocument : ℕ → Document → Type 0
 IsDocument limit d = IsDocumentWithin limit SPLIT_LIMIT d
@@ -94,6 +139,9 @@ leaf_line (Bounding (Chain numbers)) = codes "C" ++ after_blanks numbers ++ code
 leaf_line (Bounding (Load kind)) = codes "U " ++ kind_name kind ++ codes "\n"
 leaf_line (Bounding Parcels) = codes "P\n"
 leaf_line (Dominated name) = codes "D" ++ after_blanks name ++ codes "\n"
+leaf_line (Next number) = codes "E " ++ decimal number ++ codes "\n"
+leaf_line (Turned first second) = codes "R" ++ after_blanks (first ∷ second ∷ []) ++ codes "\n"
+leaf_line (AtLine line) = codes "N " ++ decimal line ++ codes "\n"
 
 abbrev pub tree_lines : List (Vertex Ending) → List ℕ
 tree_lines [] = []
@@ -104,18 +152,41 @@ abbrev pub instructions_text : List (List ℕ) → List ℕ
 instructions_text [] = []
 instructions_text (text ∷ texts) = codes "I " ++ text ++ codes "\n" ++ instructions_text texts
 
--- the version of a document is its rule
-abbrev pub version : Rule → ℕ
-version NoneNamed = 1
-version WrittenEarlier = 2
-version ClampedStanding = 3
+-- of the origin, the end, and the stages that a fact line may have
+abbrev pub moment_text : Moment → List ℕ
+moment_text Origin = codes "0"
+moment_text End = codes "END"
+moment_text (At n Issue) = codes "I" ++ decimal n
+moment_text (At n Start) = codes "S" ++ decimal n
+moment_text (At n (Done x)) = []
+moment_text (At n Free) = []
+
+abbrev pub fact_line : FactLine → List ℕ
+fact_line (fact.Pair first second) = codes "F" ++ after_blanks (first ∷ second ∷ []) ++ codes "\n"
+fact_line (fact.Load line) =
+    codes "A " ++ moment_text line.from ++ codes " " ++ moment_text line.to ++ after_blanks (line.after ∷ line.wait ∷ line.numbers.items) ++ codes "\n"
+
+abbrev pub fact_lines : List FactLine → List ℕ
+fact_lines [] = []
+fact_lines (line ∷ lines) = fact_line line ++ fact_lines lines
+
+abbrev pub facts_text : Option (List FactLine) → List ℕ
+facts_text None = []
+facts_text (Some lines) = fact_lines lines
+
+-- the version of a document is its rule, and 4 if it may have fact lines
+abbrev pub version : Bool → Rule → ℕ
+version true rule = 4
+version false NoneNamed = 1
+version false WrittenEarlier = 2
+version false ClampedStanding = 3
 
 -- up to its last line
 abbrev pub text_before_end : Document → List ℕ
 text_before_end d =
-    codes "S66 CERTIFICATE " ++ decimal (version d.rule) ++ codes "\nPROFILE" ++ after_blanks d.profile ++ codes "\nBLOCK " ++ decimal (length d.block) ++ codes "\n" ++ instructions_text d.block
+    codes "S66 CERTIFICATE " ++ decimal (version (is_some d.facts) d.rule) ++ codes "\nPROFILE" ++ after_blanks d.profile ++ codes "\nBLOCK " ++ decimal (length d.block) ++ codes "\n" ++ instructions_text d.block
     ++ codes "TIME " ++ decimal d.time ++ codes "\nBOUND " ++ decimal d.bound ++ codes "\nORDER" ++ after_blanks d.numbers ++ codes "\n"
-    ++ tree_lines (flat d.tree)
+    ++ facts_text d.facts ++ tree_lines (flat d.tree)
 
 abbrev pub document_text : Document → List ℕ
 document_text d = text_before_end d ++ codes "END\n"

@@ -1,15 +1,22 @@
 -- Used by contracts: a document as code stores it, its tree by its lines in preorder.
-use Rattle.std.specs.Prelude.{◌≡◌, ℕ, List}
+use Rattle.std.specs.Prelude.{◌≡◌, ℕ, List, Option, Vec}
+use Rattle.std.specs.Option.{option_map}
+use Rattle.std.specs.declared.alloc.Global.{Global}
 use Rattle.s66_isa.specs.declared.limits.TheConstants.{BLOCK_LIMIT}
 use Rattle.s66_model.specs.declared.rule.Rule.{Rule}
 use Rattle.s66_model.specs.Leaves.{Whole}
 use Rattle.s66_model.specs.Tree.{Tree, Vertex, flat}
 use Rattle.s66_model.specs.DominatedLeaves.{Ending, Bounding}
 use Rattle.s66_model.specs.Preorder.{read_tree}
+use Rattle.s66_moments.specs.declared.fact_line.FactLine.{FactLine}
 use Rattle.s66_cert.specs.Document.{Document, IsDocument}
+
+abbrev pub facts_in : Option (Vec FactLine Global) → Option (List FactLine)
+facts_in facts = option_map (λ (lines : Vec FactLine Global). lines.items) facts
 
 pub record Parts : Type 0 where
   pub rule : Rule
+  pub facts : Option (List FactLine)
   pub profile : List ℕ
   pub block : List (List ℕ)
   pub time : ℕ
@@ -22,7 +29,7 @@ abbrev pub tree_of_lines : List (Vertex Ending) → Tree Ending
 tree_of_lines vertices = read_tree (Bounding Whole) vertices
 
 abbrev pub document_of : Parts → Document
-document_of p = record { rule = p.rule; profile = p.profile; block = p.block; time = p.time; bound = p.bound; numbers = p.numbers; tree = tree_of_lines p.vertices }
+document_of p = record { rule = p.rule; facts = p.facts; profile = p.profile; block = p.block; time = p.time; bound = p.bound; numbers = p.numbers; tree = tree_of_lines p.vertices }
 
 -- the parts of a document: their lines are those of one whole tree
 pub record AreWhole (p : Parts) : Type 0 where

@@ -3,10 +3,10 @@ use Rattle.std.specs.Prelude.{◌≡◌, ◌≤◌, ◌+◌, ℕ, zero, suc, tru
 use Rattle.s66_isa.specs.declared.limits.TheConstants.{BLOCK_LIMIT}
 use Rattle.s66_model.specs.Tree.{Vertex, AtTerminal, AtSplit}
 use Rattle.s66_model.specs.DominatedLeaves.{Ending}
-use Rattle.s66_tree.specs.Lines.{has_dominated_line}
-use Rattle.s66_cert.specs.Document.{AreDocumentsWithin, AreIn, AreNumbers, AreInstructions, IsLeafLine, names_nodes}
+use Rattle.s66_isa.specs.Lists.{every}
+use Rattle.s66_cert.specs.Document.{AreDocumentsWithin, AreIn, AreNumbers, AreInstructions, AreFacts, IsLeafLine}
 use Rattle.s66_cert.specs.DocumentParts.{Parts}
-use Rattle.s66_cert.specs.Reading.{DocumentState}
+use Rattle.s66_cert.specs.Reading.{DocumentState, is_leaf_of}
 use Rattle.s66_isa.specs.declared.limits.TheConstants.{PROFILE_LENGTH, PROFILE_LIMIT}
 use Rattle.s66_cert.specs.declared.limits.TheConstants.{TIME_LIMIT}
 use Rattle.s66_cert.specs.declared.place.Place.{Place}
@@ -26,15 +26,17 @@ split_count [] = 0
 split_count (AtTerminal leaf ∷ vertices) = split_count vertices
 split_count (AtSplit numbers ∷ vertices) = suc (split_count vertices)
 
+abbrev pub HasVersion : Parts → Type 0
+HasVersion p = AreFacts BLOCK_LIMIT p.rule p.facts
+
 abbrev pub HasProfile : Parts → Type 0
-HasProfile p = (length p.profile ≡ PROFILE_LENGTH) × AreIn 1 PROFILE_LIMIT p.profile
+HasProfile p = (length p.profile ≡ PROFILE_LENGTH) × AreIn 1 PROFILE_LIMIT p.profile × HasVersion p
 
 abbrev pub HasBlock : Parts → Type 0
 HasBlock p = HasProfile p × (1 ≤ length p.block) × (length p.block ≤ BLOCK_LIMIT) × AreInstructions p.block
 
--- a leaf is dominated only by a rule that names nodes
 abbrev pub IsAllowed : Parts → Type 0
-IsAllowed p = has_dominated_line p.vertices ≡ true → names_nodes p.rule ≡ true
+IsAllowed p = every (is_leaf_of p) p.vertices ≡ true
 
 abbrev pub HasTree : ℕ → Parts → ℕ → ℕ → Type 0
 HasTree most p left splits =
@@ -43,7 +45,7 @@ HasTree most p left splits =
 -- what its lines said is in range, by which line comes next
 abbrev pub IsPart : ℕ → Place → Parts → ℕ → ℕ → Type 0
 IsPart most AtHeader p left splits = Unit {0}
-IsPart most AtProfile p left splits = Unit {0}
+IsPart most AtProfile p left splits = HasVersion p
 IsPart most AtBlock p left splits = HasProfile p
 IsPart most AtInstruction p left splits = HasProfile p × (1 ≤ left) × (length p.block + left ≤ BLOCK_LIMIT) × AreInstructions p.block
 IsPart most AtTime p left splits = HasBlock p

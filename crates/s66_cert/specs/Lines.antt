@@ -9,23 +9,29 @@ use Rattle.s66_model.specs.declared.rule.Rule.{Rule}
 use Rattle.s66_model.specs.declared.rule.Rule.TheVariants.{NoneNamed, WrittenEarlier, ClampedStanding}
 use Rattle.s66_model.specs.Leaves.{Whole, Chain, Load, Parcels}
 use Rattle.s66_model.specs.Tree.{Vertex, AtTerminal, AtSplit}
-use Rattle.s66_model.specs.DominatedLeaves.{Ending, Bounding, Dominated}
+use Rattle.s66_model.specs.DominatedLeaves.{Ending, Bounding, Dominated, Next, Turned, AtLine}
 use Rattle.s66_line.specs.InstructionText.{spelling, operation_in, operand_in, IsInstruction}
 use Rattle.s66_line.specs.Operand.{instr_of}
 use Rattle.s66_line.specs.declared.limits.TheConstants.{TEXT_LIMIT}
-use Rattle.s66_cert.specs.Document.{AreIn, AreNumbers, IsLeafLine, version}
-use Rattle.s66_isa.specs.KindNames.{kind_name}
+use Rattle.s66_moments.specs.declared.moment.Stage.TheVariants.{Issue, Start}
+use Rattle.s66_moments.specs.declared.moment.Moment.{Moment}
+use Rattle.s66_moments.specs.declared.moment.Moment.TheVariants.{Origin, At}
+use Rattle.s66_moments.specs.declared.moment.Moment.TheVariants as moment
+use Rattle.s66_moments.specs.declared.fact_line.FactLine.{FactLine}
+use Rattle.s66_moments.specs.declared.fact_line.FactLine.TheVariants as fact
+use Rattle.s66_cert.specs.Document.{AreIn, AreNumbers, IsLeafLine, IsFactLine, kind_name, moment_text, version}
 use Rattle.s66_isa.specs.declared.limits.TheConstants.{PROFILE_LENGTH, PROFILE_LIMIT}
-use Rattle.s66_cert.specs.declared.limits.TheConstants.{TIME_LIMIT}
+use Rattle.s66_cert.specs.declared.limits.TheConstants.{TIME_LIMIT, LINE_LIMIT}
 
 pub data DocumentLine : Type 0 where
-  Header : (rule : Rule) → DocumentLine
+  Header : (facts : Bool) → (rule : Rule) → DocumentLine
   Profile : (numbers : List ℕ) → DocumentLine
   Block : (count : ℕ) → DocumentLine
   Instruction : (text : List ℕ) → DocumentLine
   Time : (time : ℕ) → DocumentLine
   Bound : (bound : ℕ) → DocumentLine
   Order : (numbers : List ℕ) → DocumentLine
+  OfFact : (line : FactLine) → DocumentLine
   OfTree : (vertex : Vertex Ending) → DocumentLine
   End : DocumentLine
 
@@ -37,19 +43,27 @@ leaf_bytes (Bounding (Chain numbers)) = codes "C" ++ after_blanks numbers
 leaf_bytes (Bounding (Load kind)) = codes "U " ++ kind_name kind
 leaf_bytes (Bounding Parcels) = codes "P"
 leaf_bytes (Dominated name) = codes "D" ++ after_blanks name
+leaf_bytes (Next number) = codes "E " ++ decimal number
+leaf_bytes (Turned first second) = codes "R" ++ after_blanks (first ∷ second ∷ [])
+leaf_bytes (AtLine line) = codes "N " ++ decimal line
 
 abbrev pub vertex_bytes : Vertex Ending → List ℕ
 vertex_bytes (AtTerminal leaf) = leaf_bytes leaf
 vertex_bytes (AtSplit numbers) = codes "S" ++ after_blanks numbers
 
+abbrev pub fact_bytes : FactLine → List ℕ
+fact_bytes (fact.Pair first second) = codes "F" ++ after_blanks (first ∷ second ∷ [])
+fact_bytes (fact.Load line) = codes "A " ++ moment_text line.from ++ codes " " ++ moment_text line.to ++ after_blanks (line.after ∷ line.wait ∷ line.numbers.items)
+
 abbrev pub line_bytes : DocumentLine → List ℕ
-line_bytes (Header rule) = codes "S66 CERTIFICATE " ++ decimal (version rule)
+line_bytes (Header facts rule) = codes "S66 CERTIFICATE " ++ decimal (version facts rule)
 line_bytes (Profile numbers) = codes "PROFILE" ++ after_blanks numbers
 line_bytes (Block count) = codes "BLOCK " ++ decimal count
 line_bytes (Instruction text) = codes "I " ++ text
 line_bytes (Time time) = codes "TIME " ++ decimal time
 line_bytes (Bound bound) = codes "BOUND " ++ decimal bound
 line_bytes (Order numbers) = codes "ORDER" ++ after_blanks numbers
+line_bytes (OfFact line) = fact_bytes line
 line_bytes (OfTree vertex) = vertex_bytes vertex
 line_bytes End = codes "END"
 
@@ -60,13 +74,15 @@ IsVertex limit (AtTerminal leaf) = IsLeafLine limit leaf
 IsVertex limit (AtSplit numbers) = AreNumbers limit numbers
 
 abbrev pub IsLineInRange : ℕ → DocumentLine → Type 0
-IsLineInRange limit (Header rule) = Unit {0}
+-- fact lines come only by the rule of standing nodes
+IsLineInRange limit (Header facts rule) = facts ≡ true → rule ≡ ClampedStanding
 IsLineInRange limit (Profile numbers) = (length numbers ≡ PROFILE_LENGTH) × AreIn 1 PROFILE_LIMIT numbers
 IsLineInRange limit (Block count) = (1 ≤ count) × (count ≤ limit)
 IsLineInRange limit (Instruction text) = IsInstruction text
 IsLineInRange limit (Time time) = time ≤ TIME_LIMIT
 IsLineInRange limit (Bound bound) = bound ≤ TIME_LIMIT
 IsLineInRange limit (Order numbers) = AreNumbers limit numbers
+IsLineInRange limit (OfFact line) = IsFactLine limit line
 IsLineInRange limit (OfTree vertex) = IsVertex limit vertex
 IsLineInRange limit End = Unit {0}
 
@@ -80,6 +96,15 @@ first_word (b ∷ bytes) = if b == 32 then [] else b ∷ first_word bytes
 abbrev pub after_first_word : List ℕ → Option (List ℕ)
 after_first_word [] = None
 after_first_word (b ∷ bytes) = if b == 32 then Some bytes else after_first_word bytes
+
+-- the next word, if there is one, and what comes after its blank
+abbrev pub word_in : Option (List ℕ) → Option (List ℕ)
+word_in None = None
+word_in (Some bytes) = Some (first_word bytes)
+
+abbrev pub rest_in : Option (List ℕ) → Option (List ℕ)
+rest_in None = None
+rest_in (Some bytes) = after_first_word bytes
 
 -- a byte in front of the first word
 abbrev pub put_front : ℕ → List (List ℕ) → List (List ℕ)
@@ -144,6 +169,54 @@ abbrev pub one_number : ℕ → ℕ → Option (List ℕ) → Option ℕ
 one_number low high None = None
 one_number low high (Some bytes) = number_in low high bytes
 
+-- TWO NUMBERS
+
+abbrev pub two_numbers : ℕ → Option (List ℕ) → Option (List ℕ)
+two_numbers limit rest = if_count 2 2 (numbers_in 1 limit (words_in rest))
+
+-- of these numbers, if there are two
+abbrev pub pair_with : (ℕ → ℕ → DocumentLine) → Option (List ℕ) → Option DocumentLine
+pair_with f None = None
+pair_with f (Some []) = None
+pair_with f (Some (n ∷ [])) = None
+pair_with f (Some (n ∷ m ∷ [])) = Some (f n m)
+pair_with f (Some (n ∷ m ∷ k ∷ ns)) = None
+
+-- MOMENTS
+
+-- an issue or a start
+abbrev pub stage_in : ℕ → List ℕ → Option Moment
+stage_in limit [] = None
+stage_in limit (b ∷ digits) =
+    if b == 73 then option_map (λ n. At n Issue) (number_in 1 limit digits)
+    else (if b == 83 then option_map (λ n. At n Start) (number_in 1 limit digits)
+    else None)
+
+abbrev pub front_in : ℕ → Option (List ℕ) → Option Moment
+front_in limit None = None
+front_in limit (Some word) = if bytes_eq word (codes "0") then Some Origin else stage_in limit word
+
+abbrev pub back_in : ℕ → Option (List ℕ) → Option Moment
+back_in limit None = None
+back_in limit (Some word) = if bytes_eq word (codes "END") then Some moment.End else stage_in limit word
+
+-- LOADS
+
+abbrev pub load_with : Option Moment → Option Moment → Option ℕ → Option ℕ → Option (List ℕ) → Option DocumentLine
+load_with (Some from) (Some to) (Some after) (Some wait) (Some numbers) =
+    Some (OfFact (fact.Load (record { from = from; to = to; after = after; wait = wait; numbers = record { items = numbers } })))
+load_with from to after wait numbers = None
+
+-- after these words
+abbrev pub load_after : ℕ → (from to after wait : Option (List ℕ)) → Option (List ℕ) → Option DocumentLine
+load_after limit from to after wait rest =
+    load_with (front_in limit from) (back_in limit to) (one_number 0 TIME_LIMIT after) (one_number 0 TIME_LIMIT wait) (block_numbers limit rest)
+
+abbrev pub load_in : ℕ → Option (List ℕ) → Option DocumentLine
+load_in limit rest =
+    load_after limit (word_in rest) (word_in (rest_in rest)) (word_in (rest_in (rest_in rest))) (word_in (rest_in (rest_in (rest_in rest))))
+    (rest_in (rest_in (rest_in (rest_in rest))))
+
 -- INSTRUCTIONS
 
 abbrev pub is_instruction_text : List ℕ → Bool
@@ -179,10 +252,11 @@ alone line (Some rest) = None
 abbrev pub header_in : Option (List ℕ) → Option DocumentLine
 header_in None = None
 header_in (Some rest) =
-    if bytes_eq rest (codes "CERTIFICATE 1") then Some (Header NoneNamed)
-    else (if bytes_eq rest (codes "CERTIFICATE 2") then Some (Header WrittenEarlier)
-    else (if bytes_eq rest (codes "CERTIFICATE 3") then Some (Header ClampedStanding)
-    else None))
+    if bytes_eq rest (codes "CERTIFICATE 1") then Some (Header false NoneNamed)
+    else (if bytes_eq rest (codes "CERTIFICATE 2") then Some (Header false WrittenEarlier)
+    else (if bytes_eq rest (codes "CERTIFICATE 3") then Some (Header false ClampedStanding)
+    else (if bytes_eq rest (codes "CERTIFICATE 4") then Some (Header true ClampedStanding)
+    else None)))
 
 -- what a line says whose first word is this, and what comes after its blank
 abbrev pub line_with : ℕ → List ℕ → Option (List ℕ) → Option DocumentLine
@@ -193,6 +267,11 @@ line_with limit name rest =
     else (if bytes_eq name (codes "D") then option_map (λ ns. OfTree (AtTerminal (Dominated ns))) (block_numbers limit rest)
     else (if bytes_eq name (codes "U") then option_map (λ kind. OfTree (AtTerminal (Bounding (Load kind)))) (kind_in rest)
     else (if bytes_eq name (codes "P") then alone (OfTree (AtTerminal (Bounding Parcels))) rest
+    else (if bytes_eq name (codes "E") then option_map (λ n. OfTree (AtTerminal (Next n))) (one_number 1 limit rest)
+    else (if bytes_eq name (codes "R") then pair_with (λ n m. OfTree (AtTerminal (Turned n m))) (two_numbers limit rest)
+    else (if bytes_eq name (codes "N") then option_map (λ n. OfTree (AtTerminal (AtLine n))) (one_number 1 LINE_LIMIT rest)
+    else (if bytes_eq name (codes "F") then pair_with (λ n m. OfFact (fact.Pair n m)) (two_numbers limit rest)
+    else (if bytes_eq name (codes "A") then load_in limit rest
     else (if bytes_eq name (codes "I") then instruction_in rest
     else (if bytes_eq name (codes "S66") then header_in rest
     else (if bytes_eq name (codes "PROFILE") then option_map Profile (profile_in rest)
@@ -201,7 +280,7 @@ line_with limit name rest =
     else (if bytes_eq name (codes "BOUND") then option_map Bound (one_number 0 TIME_LIMIT rest)
     else (if bytes_eq name (codes "ORDER") then option_map Order (block_numbers limit rest)
     else (if bytes_eq name (codes "END") then alone End rest
-    else None)))))))))))))
+    else None))))))))))))))))))
 
 -- what a line says, or that it's no line of a document
 abbrev pub line_read : ℕ → List ℕ → Option DocumentLine

@@ -1,15 +1,17 @@
 -- Used by contracts: a text of documents read line by line. A block has at most limit instructions, and a tree most splits.
-use Rattle.std.specs.Prelude.{◌+◌, ◌-◌, ◌==◌, ◌&&◌, if◌then◌else◌, ℕ, suc, Bool, true, false, not, List, [], ◌∷◌, ◌++◌, Option, None, Some, Result, Ok, Err, nat_le, length}
+use Rattle.std.specs.Prelude.{◌+◌, ◌-◌, ◌==◌, ◌&&◌, if◌then◌else◌, ℕ, suc, Bool, true, false, not, List, [], ◌∷◌, ◌++◌, Option, None, Some, is_some, Result, Ok, Err, nat_le, nat_lt, length}
+use Rattle.std.specs.Option.{option_map}
 use Rattle.s66_isa.specs.declared.limits.TheConstants.{BLOCK_LIMIT}
 use Rattle.s66_model.specs.declared.rule.Rule.{Rule}
 use Rattle.s66_model.specs.declared.rule.Rule.TheVariants.{NoneNamed}
 use Rattle.s66_model.specs.Tree.{Vertex, AtTerminal, AtSplit}
-use Rattle.s66_model.specs.DominatedLeaves.{Ending, Bounding, Dominated}
+use Rattle.s66_model.specs.DominatedLeaves.{Ending, Bounding, Dominated, Next, Turned, AtLine}
+use Rattle.s66_moments.specs.declared.fact_line.FactLine.{FactLine}
 use Rattle.s66_tree.specs.Lines.{has_dominated_line}
 use Rattle.s66_cert.specs.Document.{Document, names_nodes}
-use Rattle.s66_cert.specs.Lines.{DocumentLine, Header, Profile, Block, Instruction, Time, Bound, Order, OfTree, End, line_read}
+use Rattle.s66_cert.specs.Lines.{DocumentLine, Header, Profile, Block, Instruction, Time, Bound, Order, OfFact, OfTree, End, line_read}
 use Rattle.s66_cert.specs.DocumentParts.{Parts, document_of}
-use Rattle.s66_cert.specs.declared.limits.TheConstants.{SPLIT_LIMIT}
+use Rattle.s66_cert.specs.declared.limits.TheConstants.{SPLIT_LIMIT, FACT_LIMIT}
 use Rattle.s66_cert.specs.declared.error.CertError.{CertError}
 use Rattle.s66_cert.specs.declared.error.CertError.TheVariants.{BadLine, Truncated, TooManyNodes}
 use Rattle.s66_cert.specs.declared.place.Place.{Place}
@@ -19,7 +21,16 @@ use Rattle.s66_cert.specs.declared.place.Place.TheVariants.{AtHeader, AtProfile,
 
 -- nothing of a document
 abbrev pub nothing : Parts
-nothing = record { rule = NoneNamed; profile = []; block = []; time = 0; bound = 0; numbers = []; vertices = [] }
+nothing = record { rule = NoneNamed; facts = None; profile = []; block = []; time = 0; bound = 0; numbers = []; vertices = [] }
+
+-- no fact lines yet, if there may be some
+abbrev pub first_facts : Bool → Option (List FactLine)
+first_facts true = Some []
+first_facts false = None
+
+-- nothing but a version
+abbrev pub headed : Bool → Rule → Parts
+headed facts rule = record nothing { rule = rule; facts = first_facts facts }
 
 pub record DocumentState : Type 0 where
   -- how many lines were read
@@ -53,23 +64,47 @@ place_of_tree left = if left == 0 then AtEnd else AtTree
 abbrev pub with_vertex : Parts → Vertex Ending → Parts
 with_vertex p vertex = record p { vertices = p.vertices ++ vertex ∷ [] }
 
--- a dominated leaf comes only by a rule that names nodes
-abbrev pub is_allowed : Rule → Vertex Ending → Bool
-is_allowed rule (AtTerminal (Bounding leaf)) = true
-is_allowed rule (AtTerminal (Dominated name)) = names_nodes rule
-is_allowed rule (AtSplit numbers) = true
+-- dominated leaves come by a rule that names nodes, and without fact lines
+abbrev pub may_dominate : Parts → Bool
+may_dominate p = names_nodes p.rule && not (is_some p.facts)
+
+-- by whether dominated leaves come, and those that come with fact lines
+abbrev pub is_allowed : (dominated factual : Bool) → Vertex Ending → Bool
+is_allowed dominated factual (AtTerminal (Bounding leaf)) = true
+is_allowed dominated factual (AtTerminal (Dominated name)) = dominated
+is_allowed dominated factual (AtTerminal (Next number)) = factual
+is_allowed dominated factual (AtTerminal (Turned first second)) = factual
+is_allowed dominated factual (AtTerminal (AtLine line)) = factual
+is_allowed dominated factual (AtSplit numbers) = true
+
+abbrev pub is_leaf_of : Parts → Vertex Ending → Bool
+is_leaf_of p vertex = is_allowed (may_dominate p) (is_some p.facts) vertex
 
 abbrev pub vertex_step : ℕ → DocumentState → Vertex Ending → Result DocumentState CertError
 vertex_step most s (AtTerminal ending) =
-    if is_allowed s.part.rule (AtTerminal ending) then advanced s (place_of_tree (s.left - 1)) (with_vertex s.part (AtTerminal ending)) (s.left - 1) s.splits
+    if is_leaf_of s.part (AtTerminal ending) then advanced s (place_of_tree (s.left - 1)) (with_vertex s.part (AtTerminal ending)) (s.left - 1) s.splits
     else bad s
 vertex_step most s (AtSplit numbers) =
     if nat_le most s.splits then Err TooManyNodes
     else advanced s (place_of_tree (s.left - 1 + length numbers)) (with_vertex s.part (AtSplit numbers)) (s.left - 1 + length numbers) (suc s.splits)
 
--- nodes are named by the rule, and no leaf is dominated
+-- fact lines come before the tree, and there are fewer than FACT_LIMIT
+abbrev pub has_room : Option (List FactLine) → Bool
+has_room None = false
+has_room (Some lines) = nat_lt (length lines) FACT_LIMIT
+
+abbrev pub takes_fact : Parts → Bool
+takes_fact p = length p.vertices == 0 && has_room p.facts
+
+abbrev pub with_fact : Parts → FactLine → Parts
+with_fact p line = record p { facts = option_map (λ lines. lines ++ line ∷ []) p.facts }
+
+abbrev pub fact_step : DocumentState → FactLine → Result DocumentState CertError
+fact_step s line = if takes_fact s.part then advanced s AtTree (with_fact s.part line) s.left s.splits else bad s
+
+-- dominated leaves come, and there is none
 abbrev pub wants_dominated : Parts → Bool
-wants_dominated p = names_nodes p.rule && not (has_dominated_line p.vertices)
+wants_dominated p = may_dominate p && not (has_dominated_line p.vertices)
 
 abbrev pub end_step : DocumentState → Result DocumentState CertError
 end_step s =
@@ -78,13 +113,14 @@ end_step s =
 
 -- the line that comes at this place, and what it makes; any other is bad
 abbrev pub step_at : ℕ → DocumentState → Place → DocumentLine → Result DocumentState CertError
-step_at most s AtHeader (Header rule) = advanced s AtProfile (record nothing { rule = rule }) 0 0
+step_at most s AtHeader (Header facts rule) = advanced s AtProfile (headed facts rule) 0 0
 step_at most s AtProfile (Profile numbers) = advanced s AtBlock (record s.part { profile = numbers }) 0 0
 step_at most s AtBlock (Block count) = advanced s AtInstruction (record s.part { block = [] }) count 0
 step_at most s AtInstruction (Instruction text) = advanced s (place_of_instruction (s.left - 1)) (record s.part { block = s.part.block ++ text ∷ [] }) (s.left - 1) 0
 step_at most s AtTime (Time time) = advanced s AtBound (record s.part { time = time }) 0 0
 step_at most s AtBound (Bound bound) = advanced s AtOrder (record s.part { bound = bound }) 0 0
-step_at most s AtOrder (Order numbers) = advanced s AtTree (record s.part { numbers = numbers; vertices = [] }) 1 0
+step_at most s AtOrder (Order numbers) = advanced s AtTree (record s.part { facts = first_facts (is_some s.part.facts); numbers = numbers; vertices = [] }) 1 0
+step_at most s AtTree (OfFact line) = fact_step s line
 step_at most s AtTree (OfTree vertex) = vertex_step most s vertex
 step_at most s AtEnd End = end_step s
 step_at most s place line = bad s

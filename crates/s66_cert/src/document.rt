@@ -3,14 +3,18 @@ use crate::instruction::InstructionText;
 use arrayvec::ArrayVec;
 use s66_isa::{BLOCK_LIMIT, PROFILE_LENGTH};
 use s66_model::Rule;
+use s66_moments::FactLine;
 use s66_tree::{Tree, TreeLine, TreeLines};
 use std::marker::Model;
 
 /// What a document says.
 #[derive(Debug, Drop)]
 pub struct Claim {
-    /// Which nodes its dominated leaves name; `NoneNamed` exactly when no leaf of the tree is dominated.
+    /// Which nodes its leaves may name. Without fact lines it is `NoneNamed` exactly when no leaf of the tree is dominated, with them
+    /// `ClampedStanding`.
     pub rule: Rule,
+    /// The fact lines, if it may have some; then leaves may be of the kinds that come with them, and none is dominated.
+    pub facts: Option<Vec<FactLine>>,
     /// The ten times of a profile, then its seven copies of units.
     pub profile: ArrayVec<u8, PROFILE_LENGTH>,
     /// The instructions with their texts.
@@ -26,11 +30,11 @@ pub struct Claim {
 }
 
 impl Model for Claim {
-    ghost use Rattle.s66_cert.specs.DocumentParts.{Parts};
+    ghost use Rattle.s66_cert.specs.DocumentParts.{Parts, facts_in};
 
     ghost Value = { Parts };
 
-    ghost view = { λ c. record { rule = c.rule; profile = c.profile.items; block = c.block.items; time = c.time; bound = c.bound; numbers = c.order.items; vertices = c.tree } };
+    ghost view = { λ c. record { rule = c.rule; facts = facts_in c.facts; profile = c.profile.items; block = c.block.items; time = c.time; bound = c.bound; numbers = c.order.items; vertices = c.tree } };
 }
 
 /// A certificate: what it claims of a block under a profile, and a tree that shows it. It is one whole tree of at most
@@ -38,6 +42,7 @@ impl Model for Claim {
 #[derive(Debug, Drop)]
 pub struct Document {
     rule: Rule,
+    facts: Option<Vec<FactLine>>,
     profile: ArrayVec<u8, PROFILE_LENGTH>,
     block: Vec<InstructionText>,
     time: u32,
@@ -47,13 +52,13 @@ pub struct Document {
 }
 
 impl Model for Document {
-    ghost use Rattle.s66_cert.specs.DocumentParts.{Parts, AreWhole};
+    ghost use Rattle.s66_cert.specs.DocumentParts.{Parts, AreWhole, facts_in};
 
     ghost Value = { Parts };
 
-    ghost view = { λ d. record { rule = d.rule; profile = d.profile.items; block = d.block.items; time = d.time; bound = d.bound; numbers = d.order.items; vertices = d.tree } };
+    ghost view = { λ d. record { rule = d.rule; facts = facts_in d.facts; profile = d.profile.items; block = d.block.items; time = d.time; bound = d.bound; numbers = d.order.items; vertices = d.tree } };
 
-    ghost invariant = { λ d. AreWhole (record { rule = d.rule; profile = d.profile.items; block = d.block.items; time = d.time; bound = d.bound; numbers = d.order.items; vertices = d.tree }) };
+    ghost invariant = { λ d. AreWhole (record { rule = d.rule; facts = facts_in d.facts; profile = d.profile.items; block = d.block.items; time = d.time; bound = d.bound; numbers = d.order.items; vertices = d.tree }) };
 }
 
 impl Document {
@@ -64,8 +69,8 @@ impl Document {
     ghost use Rattle.s66_cert.specs.DocumentParts.{AreWhole, document_of};
 
     /// The document that says this. Its numbers have to be in their ranges, its texts those of instructions, and the lines of its
-    /// tree those of one whole tree of at most `SPLIT_LIMIT` splits. Its rule names nodes exactly when a leaf is dominated. It
-    /// takes time linear in the lines, and no memory.
+    /// tree those of one whole tree of at most `SPLIT_LIMIT` splits, of the kinds that may stand with its rule and its fact lines, of
+    /// which there are at most `FACT_LIMIT`. It takes time linear in the lines, and no memory.
     #[tactic(auto, using(crate::proofs::FewLines::few_lines))]
     pub fn new(claim: Claim) -> Document
         requires { AreWhole claim }
@@ -73,6 +78,7 @@ impl Document {
     {
         let Claim {
             rule,
+            facts,
             profile,
             block,
             time,
@@ -82,6 +88,7 @@ impl Document {
         } = claim;
         Document {
             rule,
+            facts,
             profile,
             block,
             time,
@@ -91,12 +98,24 @@ impl Document {
         }
     }
 
-    /// Which nodes its dominated leaves name; `NoneNamed` exactly when no leaf of the tree is dominated.
+    /// Which nodes its leaves may name. Without fact lines it is `NoneNamed` exactly when no leaf of the tree is dominated, with them
+    /// `ClampedStanding`.
     pub fn rule(&self) -> Rule
         ensures value { result ≡ self.now.rule }
         ensures whole { AreWhole self.now }
     {
         self.rule
+    }
+
+    /// The fact lines, at most `FACT_LIMIT`, if it may have some.
+    pub fn facts(&self) -> Option<&[FactLine]>
+        ensures value { option_map (λ lines. lines.now) result ≡ self.now.facts }
+        ensures whole { AreWhole self.now }
+    {
+        match &self.facts {
+            None => None,
+            Some(lines) => Some(lines.as_slice()),
+        }
     }
 
     /// The ten times of the profile, then its seven copies of units; each 1 to 100.

@@ -3,3 +3,9 @@ pub const TIME_LIMIT: u32 = 100_000;
 
 /// The most splits of a tree.
 pub const SPLIT_LIMIT: u32 = 1_000_000;
+
+/// The most fact lines.
+pub const FACT_LIMIT: usize = 4_096;
+
+/// The greatest number of a line that a leaf names; no document has so many lines.
+pub const LINE_LIMIT: u32 = 200_000_000;

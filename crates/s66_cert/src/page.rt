@@ -3,14 +3,16 @@ ghost use Rattle.s66_isa.specs.Lists.{after_blanks};
 ghost use Rattle.s66_isa.specs.declared.limits.TheConstants.{BLOCK_LIMIT};
 ghost use Rattle.s66_line.specs.declared.limits.TheConstants.{TEXT_LIMIT};
 ghost use Rattle.s66_model.specs.Tree.{AtTerminal, Vertex};
-ghost use Rattle.s66_cert.specs.Document.{instructions_text, tree_lines};
+ghost use Rattle.s66_moments.specs.declared.fact_line.FactLine.TheVariants as fact;
+ghost use Rattle.s66_cert.specs.Document.{kind_name, moment_text, instructions_text, fact_lines, tree_lines};
 ghost use Rattle.s66_cert.specs.Pages.{Printed};
 ghost use Rattle.s66_tree.specs.Lines.{vertex_of, IsShort};
 
 use arrayvec::ArrayVec;
 use itoa::Buffer;
 use s66_device::{Sink, WriteError, write_all};
-use s66_isa::{BLOCK_LIMIT, kind_name};
+use s66_isa::{BLOCK_LIMIT, Kind};
+use s66_moments::{FactLine, LoadLine, Moment, Stage};
 use s66_tree::TreeLine;
 use std::marker::Model;
 
@@ -22,6 +24,9 @@ const NUMBER_ROOM: usize = 10;
 
 /// The most bytes of a number of an instruction, which has at most three digits, after its blank.
 const SHORT_ROOM: usize = 4;
+
+/// The most bytes of a moment, a letter before a number.
+const MOMENT_ROOM: usize = NUMBER_ROOM + 1;
 
 /// The most bytes of the numbers of a line, each after a blank.
 const NUMBERS_ROOM: usize = SHORT_ROOM * BLOCK_LIMIT;
@@ -118,6 +123,67 @@ impl Page {
         self.text(b"\n");
     }
 
+    /// Prints a moment that a fact line may have, and nothing of any other.
+    fn moment(&mut self, moment: Moment)
+        requires { length self.old + MOMENT_ROOM ≤ PAGE_SIZE }
+        ensures text { self.new ≡ self.old ++ moment_text moment }
+        ensures few { length self.new ≤ length self.old + MOMENT_ROOM }
+    {
+        match moment {
+            Moment::Origin => self.text(b"0"),
+            Moment::End => self.text(b"END"),
+            Moment::At(number, Stage::Issue) => {
+                self.text(b"I");
+                self.number(u32::from(number));
+            }
+            Moment::At(number, Stage::Start) => {
+                self.text(b"S");
+                self.number(u32::from(number));
+            }
+            Moment::At(_, _) => {}
+        }
+    }
+
+    /// Prints the line of a load.
+    fn load(&mut self, line: &LoadLine)
+        requires { length self.old + LINE_ROOM ≤ PAGE_SIZE }
+        ensures { self.new ≡ self.old ++ fact_lines (fact.Load line.now ∷ []) }
+    {
+        self.text(b"A ");
+        self.moment(line.from);
+        self.text(b" ");
+        self.moment(line.to);
+        self.text(b" ");
+        self.number(line.after);
+        self.text(b" ");
+        self.number(line.wait);
+        self.numbers(line.numbers.as_slice());
+        self.text(b"\n");
+    }
+
+    /// Prints a fact line.
+    pub(crate) fn fact_line(&mut self, line: &FactLine)
+        requires { length self.old + LINE_ROOM ≤ PAGE_SIZE }
+        ensures { self.new ≡ self.old ++ fact_lines (line.now ∷ []) }
+    {
+        match line {
+            FactLine::Pair(first, second) => self.numbered_line(b"F", &[*first, *second]),
+            FactLine::Load(line) => self.load(line),
+        }
+    }
+
+    /// Prints a line of a tree that has a number.
+    fn number_line(&mut self, letter: &[u8], number: u32)
+        requires letter { length letter.now ≡ 1 }
+        requires room { length self.old + LINE_ROOM ≤ PAGE_SIZE }
+        ensures { self.new ≡ self.old ++ (letter.now ++ 32 ∷ decimal number ++ 10 ∷ []) }
+    {
+        self.text(letter);
+        self.text(b" ");
+        self.number(number);
+        self.text(b"\n");
+    }
+
     /// Prints a line of a tree that has numbers.
     fn numbered_line(&mut self, letter: &[u8], numbers: &[u8])
         requires letter { length letter.now ≡ 1 }
@@ -147,6 +213,9 @@ impl Page {
             }
             TreeLine::Parcels => self.text(b"P\n"),
             TreeLine::Dominated(numbers) => self.numbered_line(b"D", numbers),
+            TreeLine::Next(number) => self.number_line(b"E", u32::from(number)),
+            TreeLine::Turned(first, second) => self.numbered_line(b"R", &[first, second]),
+            TreeLine::AtLine(line) => self.number_line(b"N", line),
         }
     }
 

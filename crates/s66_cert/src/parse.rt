@@ -4,20 +4,22 @@ ghost use Rattle.std.specs.Option.{option_map};
 ghost use Rattle.s66_isa.specs.declared.limits.TheConstants.{BLOCK_LIMIT};
 ghost use Rattle.s66_model.specs.Leaves.{Chain, Load};
 ghost use Rattle.s66_model.specs.Tree.{AtTerminal, AtSplit};
-ghost use Rattle.s66_model.specs.DominatedLeaves.{Bounding, Dominated};
-ghost use Rattle.s66_cert.specs.Lines.{line_read, block_numbers, profile_in, one_number, instruction_in, kind_in, header_in, alone, OfTree};
+ghost use Rattle.s66_model.specs.DominatedLeaves.{Bounding, Dominated, Next, Turned, AtLine};
+ghost use Rattle.s66_moments.specs.declared.fact_line.FactLine.TheVariants as fact;
+ghost use Rattle.s66_cert.specs.Lines.{line_read, word_in, rest_in, block_numbers, two_numbers, pair_with, profile_in, one_number, stage_in, front_in, back_in, load_in, instruction_in, kind_in, header_in, alone, OfFact, OfTree};
 ghost use Rattle.s66_cert.specs.Lines as line;
 ghost use Rattle.s66_cert.specs.Said.{said};
-ghost use Rattle.s66_cert.specs.declared.limits.TheConstants.{TIME_LIMIT};
+ghost use Rattle.s66_cert.specs.declared.limits.TheConstants.{TIME_LIMIT, LINE_LIMIT};
 
 use crate::instruction::ReadText;
-use crate::limits::TIME_LIMIT;
+use crate::limits::{LINE_LIMIT, TIME_LIMIT};
 use crate::line::LineOf;
 use crate::scan::{number_in, numbers_in, split_word};
 use arrayvec::ArrayVec;
 use s66_isa::{BLOCK_LIMIT, Kind, PROFILE_LENGTH, PROFILE_LIMIT};
 use s66_line::instruction_of_text;
 use s66_model::Rule;
+use s66_moments::{FactLine, LoadLine, Moment, Stage};
 use s66_tree::TreeLine;
 
 fn is_name(bytes: &[u8], name: &[u8]) -> bool
@@ -28,10 +30,21 @@ fn is_name(bytes: &[u8], name: &[u8]) -> bool
 
 /// One number.
 fn number(rest: Option<&[u8]>, low: u32, high: u32) -> Option<u32>
-    requires { high ≤ TIME_LIMIT }
+    requires { high ≤ LINE_LIMIT }
     ensures { result ≡ one_number low high (option_map (λ r. r.now) rest.entry) }
 {
     number_in(rest?, low, high)
+}
+
+/// Numbers of instructions of a block, one at least.
+fn some_numbers(rest: Option<&[u8]>) -> Option<ArrayVec<u8, BLOCK_LIMIT>>
+    ensures { option_map (λ ns. ns.items) result ≡ block_numbers BLOCK_LIMIT (option_map (λ r. r.now) rest.entry) }
+{
+    let numbers = numbers_in::<BLOCK_LIMIT>(rest, 1, BLOCK_LIMIT as u32)?;
+    if numbers.is_empty() {
+        return None;
+    }
+    Some(numbers)
 }
 
 /// Numbers of instructions of a block, one at least, which are put into this room.
@@ -41,11 +54,19 @@ fn block_numbers<'a>(
 ) -> Option<&'a [u8]>
     ensures { option_map (λ ns. ns.now) result ≡ block_numbers BLOCK_LIMIT (option_map (λ r. r.now) rest.entry) }
 {
-    *room = numbers_in::<BLOCK_LIMIT>(rest, 1, BLOCK_LIMIT as u32)?;
-    if room.is_empty() {
+    *room = some_numbers(rest)?;
+    Some(room.as_slice())
+}
+
+/// Two numbers of instructions of a block.
+fn two_numbers(rest: Option<&[u8]>) -> Option<ArrayVec<u8, 2>>
+    ensures { option_map (λ ns. ns.items) result ≡ two_numbers BLOCK_LIMIT (option_map (λ r. r.now) rest.entry) }
+{
+    let numbers = numbers_in::<2>(rest, 1, BLOCK_LIMIT as u32)?;
+    if !numbers.is_full() {
         return None;
     }
-    Some(room.as_slice())
+    Some(numbers)
 }
 
 /// The numbers of a profile.
@@ -94,17 +115,25 @@ fn instruction_line(rest: Option<&[u8]>) -> Option<LineOf<'_>>
     Some(LineOf::Instruction(ReadText { bytes, instr }))
 }
 
+fn header<'a>(facts: bool, rule: Rule) -> LineOf<'a>
+    ensures { said result ≡ line.Header facts rule }
+{
+    LineOf::Header { facts, rule }
+}
+
 /// The first line of a document, of each version.
 fn header_line(rest: Option<&[u8]>) -> Option<LineOf<'_>>
     ensures { option_map said result ≡ header_in (option_map (λ r. r.now) rest.entry) }
 {
     let name = rest?;
     if is_name(name, b"CERTIFICATE 1") {
-        Some(LineOf::Header(Rule::NoneNamed))
+        Some(header(false, Rule::NoneNamed))
     } else if is_name(name, b"CERTIFICATE 2") {
-        Some(LineOf::Header(Rule::WrittenEarlier))
+        Some(header(false, Rule::WrittenEarlier))
     } else if is_name(name, b"CERTIFICATE 3") {
-        Some(LineOf::Header(Rule::ClampedStanding))
+        Some(header(false, Rule::ClampedStanding))
+    } else if is_name(name, b"CERTIFICATE 4") {
+        Some(header(true, Rule::ClampedStanding))
     } else {
         None
     }
@@ -145,6 +174,106 @@ fn dominated_line<'a>(
     ensures { option_map said result ≡ option_map (λ ns. OfTree (AtTerminal (Dominated ns))) (block_numbers BLOCK_LIMIT (option_map (λ r. r.now) rest.entry)) }
 {
     Some(LineOf::OfTree(TreeLine::Dominated(block_numbers(rest, room)?)))
+}
+
+fn next_line(rest: Option<&[u8]>) -> Option<LineOf<'_>>
+    ensures { option_map said result ≡ option_map (λ n. OfTree (AtTerminal (Next n))) (one_number 1 BLOCK_LIMIT (option_map (λ r. r.now) rest.entry)) }
+{
+    let number = number(rest, 1, BLOCK_LIMIT as u32)?;
+    Some(LineOf::OfTree(TreeLine::Next(number as u8)))
+}
+
+fn turned_line(rest: Option<&[u8]>) -> Option<LineOf<'_>>
+    ensures { option_map said result ≡ pair_with (λ n m. OfTree (AtTerminal (Turned n m))) (two_numbers BLOCK_LIMIT (option_map (λ r. r.now) rest.entry)) }
+{
+    match two_numbers(rest)?.as_slice() {
+        [first, second] => Some(LineOf::OfTree(TreeLine::Turned(*first, *second))),
+        _ => None,
+    }
+}
+
+fn at_line(rest: Option<&[u8]>) -> Option<LineOf<'_>>
+    ensures { option_map said result ≡ option_map (λ n. OfTree (AtTerminal (AtLine n))) (one_number 1 LINE_LIMIT (option_map (λ r. r.now) rest.entry)) }
+{
+    Some(LineOf::OfTree(TreeLine::AtLine(number(rest, 1, LINE_LIMIT)?)))
+}
+
+fn pair_line(rest: Option<&[u8]>) -> Option<LineOf<'_>>
+    ensures { option_map said result ≡ pair_with (λ n m. OfFact (fact.Pair n m)) (two_numbers BLOCK_LIMIT (option_map (λ r. r.now) rest.entry)) }
+{
+    match two_numbers(rest)?.as_slice() {
+        [first, second] => Some(LineOf::OfFact(FactLine::Pair(*first, *second))),
+        _ => None,
+    }
+}
+
+/// The next word, if there is one, and what comes after its blank.
+fn next_word(rest: Option<&[u8]>) -> (Option<&[u8]>, Option<&[u8]>)
+    ensures word { option_map (λ r. r.now) result.0 ≡ word_in (option_map (λ r. r.now) rest.entry) }
+    ensures rest { option_map (λ r. r.now) result.1 ≡ rest_in (option_map (λ r. r.now) rest.entry) }
+{
+    match rest {
+        None => (None, None),
+        Some(bytes) => {
+            let (word, more) = split_word(bytes);
+            (Some(word), more)
+        }
+    }
+}
+
+/// The issue or the start of an instruction.
+fn stage_in(word: &[u8]) -> Option<Moment>
+    ensures { result ≡ stage_in BLOCK_LIMIT word.now }
+{
+    let (letter, digits) = word.split_first()?;
+    if *letter == b'I' {
+        let number = number_in(digits, 1, BLOCK_LIMIT as u32)?;
+        return Some(Moment::At(number as u8, Stage::Issue));
+    }
+    if *letter == b'S' {
+        let number = number_in(digits, 1, BLOCK_LIMIT as u32)?;
+        return Some(Moment::At(number as u8, Stage::Start));
+    }
+    None
+}
+
+/// What a load may come after.
+fn front_in(word: Option<&[u8]>) -> Option<Moment>
+    ensures { result ≡ front_in BLOCK_LIMIT (option_map (λ r. r.now) word.entry) }
+{
+    let name = word?;
+    if is_name(name, b"0") {
+        return Some(Moment::Origin);
+    }
+    stage_in(name)
+}
+
+/// What a load may come before.
+fn back_in(word: Option<&[u8]>) -> Option<Moment>
+    ensures { result ≡ back_in BLOCK_LIMIT (option_map (λ r. r.now) word.entry) }
+{
+    let name = word?;
+    if is_name(name, b"END") {
+        return Some(Moment::End);
+    }
+    stage_in(name)
+}
+
+fn load_fact<'a>(rest: Option<&[u8]>) -> Option<LineOf<'a>>
+    ensures { option_map said result ≡ load_in BLOCK_LIMIT (option_map (λ r. r.now) rest.entry) }
+{
+    let (from, rest) = next_word(rest);
+    let (to, rest) = next_word(rest);
+    let (after, rest) = next_word(rest);
+    let (wait, rest) = next_word(rest);
+    let line = LoadLine {
+        from: front_in(from)?,
+        to: back_in(to)?,
+        after: number(after, 0, TIME_LIMIT)?,
+        wait: number(wait, 0, TIME_LIMIT)?,
+        numbers: some_numbers(rest)?,
+    };
+    Some(LineOf::OfFact(FactLine::Load(line)))
 }
 
 fn order_line<'a>(
@@ -211,6 +340,21 @@ pub(crate) fn line_of<'a>(
     }
     if is_name(name, b"P") {
         return alone_line(LineOf::OfTree(TreeLine::Parcels), rest);
+    }
+    if is_name(name, b"E") {
+        return next_line(rest);
+    }
+    if is_name(name, b"R") {
+        return turned_line(rest);
+    }
+    if is_name(name, b"N") {
+        return at_line(rest);
+    }
+    if is_name(name, b"F") {
+        return pair_line(rest);
+    }
+    if is_name(name, b"A") {
+        return load_fact(rest);
     }
     if is_name(name, b"I") {
         return instruction_line(rest);

@@ -1,6 +1,7 @@
+ghost use Rattle.std.specs.Option.{option_map};
 ghost use Rattle.std.specs.Prelude.{◌≡◌, ◌-◌, ◌^◌, ◌<◌, ◌++◌, ℕ, [], codes};
 ghost use Rattle.s66_device.specs.Devices.{Written};
-ghost use Rattle.s66_cert.specs.Document.{document_text, instructions_text, tree_lines, version};
+ghost use Rattle.s66_cert.specs.Document.{document_text, instructions_text, fact_lines, facts_text, tree_lines, version};
 ghost use Rattle.s66_cert.specs.Pages.{Printed, AreShort, opening_lines, claim_lines};
 ghost use Rattle.s66_cert.specs.DocumentParts.{document_of};
 
@@ -9,12 +10,16 @@ use crate::instruction::InstructionText;
 use crate::page::Page;
 use s66_device::{Sink, WriteError};
 use s66_model::Rule;
+use s66_moments::FactLine;
 use s66_tree::TreeLines;
 
-/// The version of a document by this rule.
-fn version(rule: Rule) -> u32
-    ensures { result ≡ version rule }
+/// The version of a document that may have fact lines or not, by this rule.
+fn version(facts: bool, rule: Rule) -> u32
+    ensures { result ≡ version facts rule }
 {
+    if facts {
+        return 4;
+    }
     match rule {
         Rule::NoneNamed => 1,
         Rule::WrittenEarlier => 2,
@@ -28,7 +33,7 @@ fn print_opening(document: &Document, page: &mut Page)
     ensures { page.new ≡ opening_lines document.now }
 {
     page.text(b"S66 CERTIFICATE ");
-    page.number(version(document.rule()));
+    page.number(version(document.facts().is_some(), document.rule()));
     page.text(b"\nPROFILE");
     page.numbers(document.profile());
     page.text(b"\nBLOCK ");
@@ -52,7 +57,7 @@ fn print_block<S: Sink>(
     Ok(())
 }
 
-/// Prints what a document has between its instructions and its tree.
+/// Prints what a document has between its instructions and its fact lines.
 fn print_claim<S: Sink>(
     document: &Document,
     page: &mut Page,
@@ -70,6 +75,37 @@ fn print_claim<S: Sink>(
     page.numbers(document.order());
     page.text(b"\n");
     Ok(())
+}
+
+/// Prints fact lines.
+fn print_lines<S: Sink>(
+    lines: &[FactLine],
+    page: &mut Page,
+    writer: &mut S,
+) -> Result<(), WriteError>
+    requires { (S.seen writer.old).failures < 2 ^ 64 - 1 }
+    ensures { Printed (S.seen writer.old) (S.seen writer.new) page.old page.new (fact_lines lines.now) result }
+{
+    for line in lines {
+        page.make_room(writer)?;
+        page.fact_line(line);
+    }
+    Ok(())
+}
+
+/// Prints the fact lines, if there may be some.
+fn print_facts<S: Sink>(
+    facts: Option<&[FactLine]>,
+    page: &mut Page,
+    writer: &mut S,
+) -> Result<(), WriteError>
+    requires { (S.seen writer.old).failures < 2 ^ 64 - 1 }
+    ensures { Printed (S.seen writer.old) (S.seen writer.new) page.old page.new (facts_text (option_map (λ lines. lines.now) facts.entry)) result }
+{
+    match facts {
+        None => Ok(()),
+        Some(lines) => print_lines(lines, page, writer),
+    }
 }
 
 /// Prints the lines of a tree.
@@ -109,6 +145,7 @@ pub fn print<S: Sink>(document: &Document, writer: &mut S) -> Result<(), WriteEr
     print_opening(document, &mut page);
     print_block(document.block(), &mut page, writer)?;
     print_claim(document, &mut page, writer)?;
+    print_facts(document.facts(), &mut page, writer)?;
     print_tree(document.tree(), &mut page, writer)?;
     print_end(&mut page, writer)
 }

@@ -1,12 +1,13 @@
 ghost use Rattle.std.specs.Prelude.{suc, false, ◌≡◌, ◌≤◌, ◌<◌, ◌+◌, ◌-◌, ◌^◌, [], length, OnOk};
 ghost use Rattle.s66_isa.specs.declared.limits.TheConstants.{BLOCK_LIMIT};
 ghost use Rattle.s66_cert.specs.Document.{names_nodes};
+ghost use Rattle.std.specs.Option.{option_map};
 ghost use Rattle.s66_cert.specs.Fine.{IsFine};
-ghost use Rattle.s66_cert.specs.Lines.{IsLineInRange, IsVertex, Header, Profile, Block, Instruction, Time, Bound, Order, OfTree, End};
+ghost use Rattle.s66_cert.specs.Lines.{IsLineInRange, IsVertex, Header, Profile, Block, Instruction, Time, Bound, Order, OfFact, OfTree, End};
 ghost use Rattle.s66_tree.specs.Lines.{vertex_of};
-ghost use Rattle.s66_cert.specs.DocumentParts.{AreWhole};
+ghost use Rattle.s66_cert.specs.DocumentParts.{AreWhole, facts_in};
 ghost use Rattle.s66_cert.specs.DocumentReader.{state, Steps, StepsEnd};
-ghost use Rattle.s66_cert.specs.Reading.{nothing, first_state, is_allowed, wants_dominated, step_at, step, steps, whole_lines, last_bytes};
+ghost use Rattle.s66_cert.specs.Reading.{nothing, headed, first_state, is_allowed, may_dominate, is_leaf_of, has_room, takes_fact, wants_dominated, step_at, step, steps, whole_lines, last_bytes};
 ghost use Rattle.s66_cert.specs.Said.{said};
 ghost use Rattle.s66_cert.specs.declared.error.CertError.TheVariants.{BadLine};
 ghost use Rattle.s66_cert.specs.declared.limits.TheConstants.{SPLIT_LIMIT};
@@ -15,13 +16,14 @@ ghost use Rattle.s66_cert.specs.declared.place.Place.TheVariants.{AtInstruction,
 use crate::document::{Claim, Document};
 use crate::error::CertError;
 use crate::instruction::{InstructionText, ReadText};
-use crate::limits::SPLIT_LIMIT;
+use crate::limits::{FACT_LIMIT, SPLIT_LIMIT};
 use crate::line::LineOf;
 use crate::parse::line_of;
 use crate::place::Place;
 use arrayvec::ArrayVec;
 use s66_isa::PROFILE_LENGTH;
 use s66_model::Rule;
+use s66_moments::FactLine;
 use s66_tree::{Tree, TreeLine};
 use std::alloc::Global;
 use std::mem;
@@ -32,6 +34,7 @@ fn nothing(alloc: Global) -> Claim
 {
     Claim {
         rule: Rule::NoneNamed,
+        facts: None,
         profile: ArrayVec::new(),
         block: Vec::new(alloc),
         time: 0,
@@ -51,13 +54,24 @@ fn names_nodes(rule: Rule) -> bool
     }
 }
 
-/// Whether the line may come by this rule.
-fn is_allowed(rule: Rule, line: TreeLine<'_>) -> bool
-    ensures { result ≡ is_allowed rule (vertex_of line.entry) }
+/// Whether the line may come, by whether dominated leaves come, and those that come with fact lines.
+fn is_allowed(dominated: bool, factual: bool, line: TreeLine<'_>) -> bool
+    ensures { result ≡ is_allowed dominated factual (vertex_of line.entry) }
 {
     match line {
-        TreeLine::Dominated(_) => names_nodes(rule),
+        TreeLine::Dominated(_) => dominated,
+        TreeLine::Next(_) | TreeLine::Turned(_, _) | TreeLine::AtLine(_) => factual,
         _ => true,
+    }
+}
+
+/// Whether there may be a fact line more.
+fn has_room(facts: &Option<Vec<FactLine>>) -> bool
+    ensures { result ≡ has_room (facts_in facts.now) }
+{
+    match facts {
+        None => false,
+        Some(lines) => lines.len() < FACT_LIMIT,
     }
 }
 
@@ -132,6 +146,42 @@ impl Reader {
         Ok(())
     }
 
+    /// Whether dominated leaves may come.
+    fn may_dominate(&self) -> bool
+        ensures { result ≡ may_dominate self.now.claim }
+    {
+        names_nodes(self.claim.rule) && self.claim.facts.is_none()
+    }
+
+    /// Whether the line may come in the open document.
+    fn is_leaf(&self, line: TreeLine<'_>) -> bool
+        ensures { result ≡ is_leaf_of self.now.claim (vertex_of line.entry) }
+    {
+        is_allowed(self.may_dominate(), self.claim.facts.is_some(), line)
+    }
+
+    /// Whether a fact line may come.
+    fn takes_fact(&self) -> bool
+        ensures { result ≡ takes_fact self.now.claim }
+    {
+        self.claim.tree.is_empty() && has_room(&self.claim.facts)
+    }
+
+    /// Reads a fact line if one may come.
+    fn take_fact(&mut self, line: FactLine) -> Result<(), CertError>
+        requires lines { self.old.lines < 2 ^ 64 - 1 }
+        ensures { Steps (state self.new) result (step_at SPLIT_LIMIT (state self.old) AtTree (OfFact line)) }
+    {
+        if !self.takes_fact() {
+            return Err(self.bad_line());
+        }
+        if let Some(lines) = &mut self.claim.facts {
+            lines.push(line)?;
+        }
+        self.go_on(Place::AtTree, self.left, self.splits);
+        Ok(())
+    }
+
     /// Reads a line of the tree if one is due.
     #[tactic(auto, using(crate::proofs::Places::refused_vertex))]
     fn take_vertex(&mut self, vertex: TreeLine<'_>) -> Result<(), CertError>
@@ -141,7 +191,7 @@ impl Reader {
         requires numbers { IsVertex BLOCK_LIMIT (vertex_of vertex) }
         ensures { Steps (state self.new) result (step_at SPLIT_LIMIT (state self.old) AtTree (OfTree (vertex_of vertex.entry))) }
     {
-        if !is_allowed(self.claim.rule, vertex) {
+        if !self.is_leaf(vertex) {
             return Err(self.bad_line());
         }
         let mut left = self.left - 1;
@@ -163,11 +213,11 @@ impl Reader {
         Ok(())
     }
 
-    /// Whether the rule names nodes and no leaf is dominated.
+    /// Whether dominated leaves come, and there is none.
     fn wants_dominated(&self) -> bool
         ensures { result ≡ wants_dominated self.now.claim }
     {
-        names_nodes(self.claim.rule) && !self.claim.tree.has_dominated()
+        self.may_dominate() && !self.claim.tree.has_dominated()
     }
 
     /// Reads the last line if it is due.
@@ -184,14 +234,17 @@ impl Reader {
     }
 
     #[tactic(auto, using(crate::proofs::Places::other_header))]
-    fn header(&mut self, alloc: Global, rule: Rule) -> Result<(), CertError>
+    fn header(&mut self, alloc: Global, facts: bool, rule: Rule) -> Result<(), CertError>
         requires lines { self.old.lines < 2 ^ 64 - 1 }
-        ensures { Steps (state self.new) result (step_at SPLIT_LIMIT (state self.old) self.old.place (Header rule)) }
+        ensures { Steps (state self.new) result (step_at SPLIT_LIMIT (state self.old) self.old.place (Header facts rule)) }
     {
         match self.place {
             Place::AtHeader => {
                 self.claim = nothing(alloc);
                 self.claim.rule = rule;
+                if facts {
+                    self.claim.facts = Some(Vec::new(alloc));
+                }
                 self.go_on(Place::AtProfile, 0, 0);
                 Ok(())
             }
@@ -283,10 +336,24 @@ impl Reader {
                 let Ok(()) = self.claim.order.try_extend_from_slice(numbers) else {
                     unreachable!()
                 };
+                if self.claim.facts.is_some() {
+                    self.claim.facts = Some(Vec::new(alloc));
+                }
                 self.claim.tree = Tree::new(alloc);
                 self.go_on(Place::AtTree, 1, 0);
                 Ok(())
             }
+            _ => Err(self.bad_line()),
+        }
+    }
+
+    #[tactic(auto, using(crate::proofs::Places::other_fact))]
+    fn fact(&mut self, line: FactLine) -> Result<(), CertError>
+        requires lines { self.old.lines < 2 ^ 64 - 1 }
+        ensures { Steps (state self.new) result (step_at SPLIT_LIMIT (state self.old) self.old.place (OfFact line)) }
+    {
+        match self.place {
+            Place::AtTree => self.take_fact(line),
             _ => Err(self.bad_line()),
         }
     }
@@ -329,13 +396,14 @@ impl Reader {
         ensures { Steps (state self.new) result (step_at SPLIT_LIMIT (state self.old) self.old.place (said line.entry)) }
     {
         match line {
-            LineOf::Header(rule) => self.header(alloc, rule),
+            LineOf::Header { facts, rule } => self.header(alloc, facts, rule),
             LineOf::Profile(numbers) => self.profile(numbers),
             LineOf::Block(count) => self.block(alloc, count),
             LineOf::Instruction(text) => self.instruction(alloc, &text),
             LineOf::Time(time) => self.time(time),
             LineOf::Bound(bound) => self.bound(bound),
             LineOf::Order(numbers) => self.order(alloc, numbers),
+            LineOf::OfFact(line) => self.fact(line),
             LineOf::OfTree(vertex) => self.vertex(vertex),
             LineOf::End => self.end(alloc),
         }

@@ -37,7 +37,7 @@ fn read_lines(alloc: Global, text: &[u8]) -> Result<Vec<Document>, CertError>
 
 /// Reads documents that follow each other. Returns the documents of which the input is the text, or the text's first fault in
 /// reading order. It takes one pass over the text and one back over the lines of trees, and memory linear in it: for a tree,
-/// fourteen bytes a line and one a number.
+/// twenty bytes a line and one a number.
 pub fn read(alloc: Global, text: &[u8]) -> Result<Vec<Document>, CertError>
     ensures documents { IfOk result (λ ds. IsText BLOCK_LIMIT text.now (map document_of ds.items)) }
     ensures fault { RefusesText text.now result }

@@ -49,7 +49,7 @@ pub fn fault_examples()
     ensures bad_bound { read_of (replaced 8 1 (codes "BOUND 012" ∷ []) one_load_text) ≡ Err (BadLine 8) }
     ensures bad_bound_in_the_second { read_of (three_multiplies_text ++ replaced 8 1 (codes "BOUND 012" ∷ []) one_load_text) ≡ Err (BadLine 34) }
     ensures version_0 { read_of (with_line 1 (codes "S66 CERTIFICATE 0")) ≡ Err (BadLine 1) }
-    ensures version_4 { read_of (with_line 1 (codes "S66 CERTIFICATE 4")) ≡ Err (BadLine 1) }
+    ensures version_5 { read_of (with_line 1 (codes "S66 CERTIFICATE 5")) ≡ Err (BadLine 1) }
     ensures version_of_two_digits { read_of (with_line 1 (codes "S66 CERTIFICATE 02")) ≡ Err (BadLine 1) }
     ensures blank_after_version { read_of (with_line 1 (codes "S66 CERTIFICATE 2 ")) ≡ Err (BadLine 1) }
     ensures none_dominated_in_version_2 { read_of (with_line 1 (codes "S66 CERTIFICATE 2")) ≡ Err (BadLine 26) }

@@ -2,9 +2,9 @@ ghost use Rattle.std.specs.Prelude.{◌≡◌, ◌≤◌, ◌<◌, ◌+◌, ◌-
 ghost use Rattle.std.specs.Option.{option_map};
 ghost use Rattle.s66_isa.specs.Lists.{every};
 ghost use Rattle.s66_cert.specs.Lines.{first_word, after_first_word, words_in, is_digit, value_after, has_no_leading_zero, number_in, numbers_in, if_count};
-ghost use Rattle.s66_cert.specs.declared.limits.TheConstants.{TIME_LIMIT};
+ghost use Rattle.s66_cert.specs.declared.limits.TheConstants.{LINE_LIMIT};
 
-use crate::limits::TIME_LIMIT;
+use crate::limits::LINE_LIMIT;
 use arrayvec::ArrayVec;
 
 /// The bytes before the first blank, and those after it if there is one.
@@ -29,7 +29,7 @@ fn is_digit(byte: u8) -> bool
 
 /// The number that the digits write after those of another.
 fn with_digit(value: u32, byte: u8) -> u32
-    requires small { value ≤ 99999 }
+    requires small { value ≤ 99999999 }
     requires digit { is_digit byte ≡ true }
     ensures value { result ≡ value * 10 + (byte - 48) }
     ensures below { result < 10 * value + 10 }
@@ -37,11 +37,11 @@ fn with_digit(value: u32, byte: u8) -> u32
     value * 10 + (byte - b'0') as u32
 }
 
-/// The value of at most six bytes, if all are digits.
+/// The value of at most nine bytes, if all are digits.
 fn value_of(word: &[u8]) -> Option<u32>
-    requires { length word.now ≤ 6 }
+    requires { length word.now ≤ 9 }
     ensures value { result ≡ (if every is_digit word.now then Some (value_after 0 word.now) else None) }
-    ensures small { IfSome result (λ n. n < 10 ^ 6) }
+    ensures small { IfSome result (λ n. n < 10 ^ 9) }
 {
     let mut value = 0;
     for byte in word {
@@ -64,13 +64,13 @@ fn has_no_leading_zero(word: &[u8]) -> bool
     }
 }
 
-/// A number from low to high, in decimal digits with no leading zero; one of more digits than six is above `TIME_LIMIT`.
+/// A number from low to high, in decimal digits with no leading zero; one of more digits than nine is above `LINE_LIMIT`.
 pub(crate) fn number_in(word: &[u8], low: u32, high: u32) -> Option<u32>
-    requires { high ≤ TIME_LIMIT }
+    requires { high ≤ LINE_LIMIT }
     ensures value { result ≡ number_in low high word.now }
     ensures at_most { IfSome result (λ n. n ≤ high) }
 {
-    if word.len() > 6 {
+    if word.len() > 9 {
         return None;
     }
     if !has_no_leading_zero(word) {

@@ -34,7 +34,7 @@ pub fn text_examples()
     ensures two_documents { IsText BLOCK_LIMIT (examples.three_multiplies_text ++ examples.one_load_text) (examples.three_multiplies ∷ examples.one_load ∷ []) }
     ensures no_document { IsText BLOCK_LIMIT [] [] }
     ensures nothing_is_read_of_no_text { (limit : ℕ) (ds : List Document) → IsText limit [] ds → ds ≡ [] }
-    ensures other_version { (limit : ℕ) (more : List ℕ) (ds : List Document) → ¬ IsText limit (codes "S66 CERTIFICATE 4\n" ++ more) ds }
+    ensures other_version { (limit : ℕ) (more : List ℕ) (ds : List Document) → ¬ IsText limit (codes "S66 CERTIFICATE 5\n" ++ more) ds }
     ensures unfinished_line { (limit : ℕ) (text : List ℕ) (ds : List Document) → ¬ IsText limit (text ++ codes "END") ds }
     ensures text_goes_on { ¬ IsText BLOCK_LIMIT (examples.one_load_text ++ codes "\n") (examples.one_load ∷ []) }
     ensures no_document_alone { ¬ IsText BLOCK_LIMIT (document_text (examples.with_order (129 ∷ []))) (examples.with_order (129 ∷ []) ∷ []) }

@@ -1,12 +1,9 @@
-use Rattle.std.proofs.Common.{◌≡◌, ◌<◌, suc, get_or, length, ◌+◌, ◌++◌, ◌∷◌, [], ℕ, List, drop, rules, sym, ap, subst, ◌∙◌, add-one, drop-cons}
+use Rattle.std.proofs.Common.{◌≡◌, ◌+◌, ◌++◌, ◌∷◌, [], ℕ, List, drop, rules, ap, subst, ◌∙◌}
 use Rattle.std.proofs.lemmas.Result.{MatchResult-from_err}
 use Rattle.s66_cert.specs.Document.{instructions_text}
 use Rattle.s66_cert.proofs.Pages.{IsUnderway, underway-more, underway-begun, printed-behind}
-use Rattle.s66_cert.proofs.Printed.{first-instruction}
+use Rattle.s66_cert.proofs.Printed.{drop-here, first-instruction}
 use Rattle.s66_cert.proofs.printing.print_block.Goals as goal
-
-drop-here : {X : Type 0} (xs : List X) (i : ℕ) (x : X) → i < length xs → x ≡ get_or xs i x → drop i xs ≡ x ∷ drop (i + 1) xs
-drop-here xs i x within is = rw add-one (drop-cons xs i x within ∙ ap (λ y. y ∷ drop (suc i) xs) (sym is))
 
 pub returns-in_err-make_room : goal.returns-in_err-make_room
 returns-in_err-make_room g c =
