@@ -1,5 +1,6 @@
 pub mod Texts
 pub mod NodePlaces
+pub mod PlacedLines
 pub mod FewLines
 pub mod NumberTexts
 pub mod Words

@@ -2,8 +2,8 @@
 use Rattle.std.specs.Prelude.{ℕ, ◌-◌, ◌+◌, Bool, true, false, List, [], ◌∷◌, ◌++◌, codes, take, drop, replicate, Result, Ok, Err}
 use Rattle.s66_isa.specs.Lists.{every, after_blanks}
 use Rattle.s66_cert.specs.Document.{Document}
-use Rattle.s66_cert.specs.Examples.{three_multiplies_text, late_reader_text}
-use Rattle.s66_line.specs.Fields.{with_newlines}
+use Rattle.s66_cert.specs.Examples.{three_multiplies_text, late_reader_text, by_facts_with, by_facts_text}
+use Rattle.s66_cert.specs.Faults.{with_newlines}
 use Rattle.s66_cert.specs.Reading.{whole_lines, read_of}
 use Rattle.s66_cert.specs.declared.error.CertError.{CertError}
 use Rattle.s66_cert.specs.declared.error.CertError.TheVariants.{BadLine, Truncated, TooManyNodes, OutOfMemory}
@@ -20,6 +20,14 @@ with_line line bytes = replaced line 1 (bytes ∷ []) three_multiplies_text
 -- the text of late reader with one line replaced, read by its version 2
 abbrev pub with_late_line : ℕ → List ℕ → List ℕ
 with_late_line line bytes = replaced line 1 (bytes ∷ []) (late_reader_text (codes "S66 CERTIFICATE 2"))
+
+-- the text by facts with one line replaced
+abbrev pub with_factual_line : ℕ → List ℕ → List ℕ
+with_factual_line line bytes = replaced line 1 (bytes ∷ []) by_facts_text
+
+-- with this line, and a tree of one leaf
+abbrev pub with_fact_line : List ℕ → List ℕ
+with_fact_line bytes = by_facts_with (codes "S66 CERTIFICATE 4") (bytes ++ codes "\nP\n")
 
 -- the text of three multiplies with another tree: a split of this many numbers, and this many whole orders
 abbrev pub with_split_of : ℕ → ℕ → List ℕ

@@ -110,6 +110,19 @@ abbrev pub HasItsLeaves : Rule → Option (List FactLine) → Tree Ending → Ty
 HasItsLeaves rule None tree = (names_nodes rule ≡ has_dominated tree) × (has_factual tree ≡ false)
 HasItsLeaves rule (Some lines) tree = has_dominated tree ≡ false
 
+-- THE LINES OF A TREE in preorder, each with its prefix
+
+abbrev pub siblings_placed : List ℕ → List ℕ → Siblings Ending → List (List ℕ × Vertex Ending)
+siblings_placed prefix [] siblings = []
+siblings_placed prefix (n ∷ ns) NoMore = []
+siblings_placed prefix (n ∷ ns) (Unsplit ending siblings) = (prefix ++ n ∷ [], AtTerminal ending) ∷ siblings_placed prefix ns siblings
+siblings_placed prefix (n ∷ ns) (Split numbers sub siblings) =
+    (prefix ++ n ∷ [], AtSplit numbers) ∷ (siblings_placed (prefix ++ n ∷ []) numbers sub ++ siblings_placed prefix ns siblings)
+
+abbrev pub tree_placed : List ℕ → Tree Ending → List (List ℕ × Vertex Ending)
+tree_placed prefix (Alone ending) = (prefix, AtTerminal ending) ∷ []
+tree_placed prefix (Parted numbers siblings) = (prefix, AtSplit numbers) ∷ siblings_placed prefix numbers siblings
+
 -- INSTRUCTIONS
 
 abbrev pub AreInstructions : List (List ℕ) → Type 0

@@ -1,9 +1,11 @@
--- Used by contracts: where the tree of each line of a tree ends, and the places of nodes among the lines.
-use Rattle.std.specs.Prelude.{◌≡◌, ◌<◌, ◌≤◌, ℕ, zero, suc, List, [], ◌∷◌, length, drop, get_or, Option, None, Some}
+-- Used by contracts: where the tree of each line of a tree ends, the places of nodes among the lines, and the line at a place.
+use Rattle.std.specs.Prelude.{◌≡◌, ◌-◌, ◌<◌, ◌≤◌, ℕ, zero, suc, List, [], ◌∷◌, ◌++◌, length, drop, get_or, slice_get, Option, None, Some}
+use Rattle.s66_isa.specs.declared.limits.TheConstants.{BLOCK_LIMIT}
 use Rattle.s66_model.specs.Tree.{Tree, Siblings, Vertex, AtTerminal, AtSplit}
 use Rattle.s66_model.specs.DominatedLeaves.{Ending}
 use Rattle.s66_model.specs.NodeNames.{node_named}
 use Rattle.s66_model.specs.Preorder.{forest, later_siblings}
+use Rattle.s66_cert.specs.Document.{tree_placed}
 use Rattle.s66_cert.specs.DocumentParts.{tree_of_lines}
 
 -- WHERE TREES END
@@ -43,4 +45,22 @@ tree_at vertices place = tree_of_lines (drop place vertices)
 abbrev pub IsChildAt : List (Vertex Ending) → ℕ → ℕ → Option ℕ → Type 0
 IsChildAt vertices place number None = (path : List ℕ) → node_named [] (tree_at vertices place) (number ∷ path) ≡ None
 IsChildAt vertices place number (Some sibling) =
-    (sibling < length vertices) × ((path : List ℕ) → node_named [] (tree_at vertices place) (number ∷ path) ≡ node_named [] (tree_at vertices sibling) path)
+    (sibling < length vertices) × ((path : List ℕ) → node_at [] (tree_at vertices place) (number ∷ path) ≡ node_at [] (tree_at vertices sibling) path)
+
+-- WHICH LINE STANDS AT A PLACE
+
+-- of the tree of the line here, over this prefix
+abbrev pub placed_at : List (Vertex Ending) → ℕ → ℕ → List ℕ → Option (List ℕ × Vertex Ending)
+placed_at vertices here place prefix = slice_get (tree_placed prefix (tree_at vertices here)) (place - here)
+
+-- it is in the tree of the child of this number, which begins there; none only if it isn't below the line here
+abbrev pub IsBelow : List (Vertex Ending) → ℕ → ℕ → Option (ℕ × ℕ) → Type 0
+IsBelow vertices here place None = (prefix : List ℕ) → placed_at vertices here place prefix ≡ None
+IsBelow vertices here place (Some (number, child)) =
+    (here < child) × (child ≤ place) × (child < length vertices)
+    × ((prefix : List ℕ) → placed_at vertices here place prefix ≡ placed_at vertices child place (prefix ++ number ∷ []))
+
+-- what stands at a place of a tree, with its prefix; none only if there is no such line, or its prefix is longer than any block
+abbrev pub IsLineAt : Tree Ending → ℕ → Option (Vertex Ending) → List ℕ → Type 0
+IsLineAt tree place None path = (line : List ℕ × Vertex Ending) → slice_get (tree_placed [] tree) place ≡ Some line → BLOCK_LIMIT < length line.0
+IsLineAt tree place (Some vertex) path = slice_get (tree_placed [] tree) place ≡ Some (path, vertex)

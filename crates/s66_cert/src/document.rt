@@ -67,6 +67,7 @@ impl Document {
     ghost use Rattle.s66_model.specs.NodeNames.{node_named};
     ghost use Rattle.s66_tree.specs.Lines.{vertex_of};
     ghost use Rattle.s66_cert.specs.DocumentParts.{AreWhole, document_of};
+    ghost use Rattle.s66_cert.specs.NodePlaces.{IsLineAt};
 
     /// The document that says this. Its numbers have to be in their ranges, its texts those of instructions, and the lines of its
     /// tree those of one whole tree of at most `SPLIT_LIMIT` splits, of the kinds that may stand with its rule and its fact lines, of
@@ -171,5 +172,19 @@ impl Document {
         ensures { option_map vertex_of result ≡ node_named [] (document_of self.now).tree name.now }
     {
         self.tree.node_at(name)
+    }
+
+    /// The line of the tree at a place in preorder, from 0, and the numbers of its prefix, which are put into this room. None if there
+    /// is no such line, or its prefix has more than `BLOCK_LIMIT` numbers. It is found by jumps over whole trees, one for each earlier
+    /// sibling on the way.
+    #[tactic(auto, using(crate::proofs::FewLines::some_lines))]
+    pub fn line_at(
+        &self,
+        place: usize,
+        path: &mut ArrayVec<u8, BLOCK_LIMIT>,
+    ) -> Option<TreeLine<'_>>
+        ensures { IsLineAt (document_of self.now).tree place (option_map vertex_of result) path.new.items }
+    {
+        self.tree.line_at(place, path)
     }
 }

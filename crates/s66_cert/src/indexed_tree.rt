@@ -2,6 +2,8 @@ ghost use Rattle.std.specs.Prelude.{◌≡◌, get_or};
 ghost use Rattle.s66_tree.specs.Lines.{vertex_of};
 ghost use Rattle.s66_cert.specs.NodePlaces.{end_behind, sibling_count};
 
+use arrayvec::ArrayVec;
+use s66_isa::BLOCK_LIMIT;
 use s66_tree::{KeptLines, Tree, TreeLine, TreeLines};
 use std::marker::Model;
 
@@ -65,7 +67,7 @@ impl IndexedTree {
     ghost use Rattle.s66_model.specs.NodeNames.{node_named};
     ghost use Rattle.s66_tree.specs.Lines.{vertex_of};
     ghost use Rattle.s66_cert.specs.DocumentParts.{tree_of_lines};
-    ghost use Rattle.s66_cert.specs.NodePlaces.{IsChildAt};
+    ghost use Rattle.s66_cert.specs.NodePlaces.{IsChildAt, IsBelow, IsLineAt};
 
     /// The same lines, in one pass over them; nothing is allocated.
     pub(crate) fn new(tree: Tree) -> IndexedTree
@@ -120,5 +122,51 @@ impl IndexedTree {
             place = self.child_at(place, *number)?;
         }
         Some(self.lines.at(place))
+    }
+
+    /// The number and the place of the child of the line here whose tree has the line at a place.
+    fn child_below(&self, here: usize, place: usize) -> Option<(u8, usize)>
+        requires within { here < length self.now }
+        requires behind { here < place }
+        ensures { IsBelow self.now here place result }
+    {
+        let TreeLine::Split(numbers) = self.lines.at(here) else {
+            return None;
+        };
+        let mut sibling = here + 1;
+        for number in numbers {
+            if sibling >= self.lines.len() {
+                return None;
+            }
+            let end = self.ends[sibling] as usize;
+            if place < end {
+                return Some((*number, sibling));
+            }
+            sibling = end;
+        }
+        None
+    }
+
+    /// The line at a place, from 0, and the numbers of its prefix, which are put into this room. None if there is no such line, or
+    /// its prefix is longer than any block.
+    pub(crate) fn line_at(
+        &self,
+        place: usize,
+        path: &mut ArrayVec<u8, BLOCK_LIMIT>,
+    ) -> Option<TreeLine<'_>>
+        requires { 1 ≤ length self.now }
+        ensures { IsLineAt (tree_of_lines self.now) place (option_map vertex_of result) path.new.items }
+    {
+        path.clear();
+        let mut here = 0;
+        while here < place {
+            let (number, child) = self.child_below(here, place)?;
+            if path.is_full() {
+                return None;
+            }
+            path.push(number);
+            here = child;
+        }
+        Some(self.lines.at(here))
     }
 }

@@ -1,17 +1,19 @@
 //! What texts are read as.
 
-ghost use Rattle.std.specs.Prelude.{[], ◌∷◌, ◌++◌, ◌-◌, ◌≡◌, codes, Ok, Err, take, replicate, true, length};
+ghost use Rattle.std.specs.Prelude.{Some, [], ◌∷◌, ◌++◌, ◌-◌, ◌≡◌, codes, Ok, Err, take, replicate, true, length};
 ghost use Rattle.s66_isa.specs.Lists.{rising};
 ghost use Rattle.s66_isa.specs.declared.instr.Kind.TheVariants.{Multiply};
 ghost use Rattle.s66_isa.specs.declared.limits.TheConstants.{BLOCK_LIMIT};
 ghost use Rattle.s66_model.specs.declared.rule.Rule.TheVariants.{WrittenEarlier, ClampedStanding};
-ghost use Rattle.s66_model.specs.Leaves.{Chain, Load};
+ghost use Rattle.s66_model.specs.Leaves.{Chain, Load, Parcels};
 ghost use Rattle.s66_model.specs.Tree.{Alone, Parted};
-ghost use Rattle.s66_model.specs.DominatedLeaves.{Bounding, Dominated};
+ghost use Rattle.s66_model.specs.DominatedLeaves.{Bounding, Dominated, AtLine};
+ghost use Rattle.s66_moments.specs.declared.moment.Stage.TheVariants.{Issue, Start};
+ghost use Rattle.s66_moments.specs.declared.moment.Moment.TheVariants.{Origin, At, End};
 ghost use Rattle.s66_cert.specs.declared.error.CertError.TheVariants.{BadLine, Truncated, TooManyNodes};
 ghost use Rattle.s66_cert.specs.declared.limits.TheConstants.{SPLIT_LIMIT};
 ghost use Rattle.s66_cert.specs.Reading.{read_of, read_within};
-ghost use Rattle.s66_cert.specs.Altered.{replaced, with_line, with_late_line, with_split_of, are_truncated};
+ghost use Rattle.s66_cert.specs.Altered.{replaced, with_line, with_late_line, with_factual_line, with_fact_line, with_split_of, are_truncated};
 ghost use Rattle.s66_cert.specs.Examples as examples;
 ghost use Rattle.s66_cert.specs.Examples.{three_multiplies, three_multiplies_text, one_load, one_load_text, late_reader, late_reader_text};
 
@@ -30,6 +32,11 @@ pub fn reading_examples()
     ensures split_of_128 { read_of (with_split_of 128 128) ≡ Ok (record three_multiplies { tree = Parted (replicate 128 1) (examples.wholes 128) } ∷ []) }
     ensures version_2 { read_of (late_reader_text (codes "S66 CERTIFICATE 2")) ≡ Ok (late_reader WrittenEarlier ∷ []) }
     ensures version_3 { read_of (late_reader_text (codes "S66 CERTIFICATE 3")) ≡ Ok (late_reader ClampedStanding ∷ []) }
+    ensures version_4 { read_of examples.by_facts_text ≡ Ok (examples.by_facts ∷ []) }
+    ensures no_fact_lines { read_of (replaced 12 3 [] examples.by_facts_text) ≡ Ok (examples.with_facts [] ∷ []) }
+    ensures load_from_the_origin { read_of (with_fact_line (codes "A 0 END 0 100000 3 4")) ≡ Ok (record (examples.with_load Origin End 0 100000 (3 ∷ 4 ∷ [])) { tree = Alone (Bounding Parcels) } ∷ []) }
+    ensures load_between { read_of (with_fact_line (codes "A I12 S128 7 9 3")) ≡ Ok (record (examples.with_load (At 12 Issue) (At 128 Start) 7 9 (3 ∷ [])) { tree = Alone (Bounding Parcels) } ∷ []) }
+    ensures line_that_dominates { read_of (replaced 15 5 (codes "N 200000000" ∷ []) examples.by_facts_text) ≡ Ok (examples.with_leaf (AtLine 200000000) ∷ []) }
     ensures dominated_alone { read_of (replaced 11 13 (codes "D 4 4 128" ∷ []) (late_reader_text (codes "S66 CERTIFICATE 2"))) ≡ Ok (record (late_reader WrittenEarlier) { tree = Alone (Dominated (4 ∷ 4 ∷ 128 ∷ [])) } ∷ []) }
     ensures two_versions { read_of (late_reader_text (codes "S66 CERTIFICATE 3") ++ one_load_text) ≡ Ok (late_reader ClampedStanding ∷ one_load ∷ []) }
     ensures ten_splits { read_within BLOCK_LIMIT 10 three_multiplies_text ≡ Ok (three_multiplies ∷ []) }
@@ -64,6 +71,31 @@ pub fn fault_examples()
     ensures blank_after_a_name { read_of (with_late_line 18 (codes "D 1 2 3 ")) ≡ Err (BadLine 18) }
     ensures tree_below_a_dominated_leaf { read_of (replaced 18 1 (codes "D 1 2 3" ∷ codes "T" ∷ []) (late_reader_text (codes "S66 CERTIFICATE 2"))) ≡ Err (BadLine 24) }
     ensures dominated_after_the_tree { read_of (with_late_line 24 (codes "D 1")) ≡ Err (BadLine 24) }
+    ensures pair_in_version_3 { read_of (with_factual_line 1 (codes "S66 CERTIFICATE 3")) ≡ Err (BadLine 12) }
+    ensures pair_after_a_tree_line { read_of (with_factual_line 16 (codes "F 2 1")) ≡ Err (BadLine 16) }
+    ensures pair_with_0 { read_of (with_factual_line 13 (codes "F 0 1")) ≡ Err (BadLine 13) }
+    ensures pair_with_129 { read_of (with_factual_line 13 (codes "F 2 129")) ≡ Err (BadLine 13) }
+    ensures pair_of_one { read_of (with_factual_line 13 (codes "F 2")) ≡ Err (BadLine 13) }
+    ensures pair_of_three { read_of (with_factual_line 13 (codes "F 2 1 3")) ≡ Err (BadLine 13) }
+    ensures load_to_the_origin { read_of (with_fact_line (codes "A 0 0 0 5 3")) ≡ Err (BadLine 12) }
+    ensures load_from_the_end { read_of (with_fact_line (codes "A END END 0 5 3")) ≡ Err (BadLine 12) }
+    ensures load_from_a_free_unit { read_of (with_fact_line (codes "A F1 END 0 5 3")) ≡ Err (BadLine 12) }
+    ensures load_from_issue_0 { read_of (with_fact_line (codes "A I0 END 0 5 3")) ≡ Err (BadLine 12) }
+    ensures load_to_start_129 { read_of (with_fact_line (codes "A 0 S129 0 5 3")) ≡ Err (BadLine 12) }
+    ensures wait_100001 { read_of (with_fact_line (codes "A 0 END 0 100001 3")) ≡ Err (BadLine 12) }
+    ensures load_of_none { read_of (with_fact_line (codes "A 0 END 0 5")) ≡ Err (BadLine 12) }
+    ensures load_without_wait { read_of (with_fact_line (codes "A 0 END 0")) ≡ Err (BadLine 12) }
+    ensures blank_after_a_load { read_of (with_fact_line (codes "A 0 END 0 5 3 ")) ≡ Err (BadLine 12) }
+    ensures next_of_none { read_of (with_factual_line 18 (codes "E")) ≡ Err (BadLine 18) }
+    ensures next_of_two { read_of (with_factual_line 18 (codes "E 3 4")) ≡ Err (BadLine 18) }
+    ensures turned_of_one { read_of (with_factual_line 16 (codes "R 2")) ≡ Err (BadLine 16) }
+    ensures line_0 { read_of (with_factual_line 16 (codes "N 0")) ≡ Err (BadLine 16) }
+    ensures line_200000001 { read_of (with_factual_line 16 (codes "N 200000001")) ≡ Err (BadLine 16) }
+    ensures dominated_in_version_4 { read_of (with_factual_line 16 (codes "D 2 1")) ≡ Err (BadLine 16) }
+    ensures next_in_version_1 { read_of (with_line 13 (codes "E 3")) ≡ Err (BadLine 13) }
+    ensures turned_in_version_2 { read_of (with_late_line 18 (codes "R 1 2")) ≡ Err (BadLine 18) }
+    ensures line_in_version_1 { read_of (with_line 13 (codes "N 12")) ≡ Err (BadLine 13) }
+    ensures unfinished_facts { read_of (take (length examples.by_facts_text - 4) examples.by_facts_text) ≡ Err Truncated }
     ensures profile_of_16 { read_of (with_line 2 (codes "PROFILE 3 3 4 4 3 10 29 8 3 8 1 1 1 1 2 1")) ≡ Err (BadLine 2) }
     ensures profile_of_18 { read_of (with_line 2 (codes "PROFILE 3 3 4 4 3 10 29 8 3 8 1 1 1 1 2 1 2 2")) ≡ Err (BadLine 2) }
     ensures profile_with_0 { read_of (with_line 2 (codes "PROFILE 0 3 4 4 3 10 29 8 3 8 1 1 1 1 2 1 2")) ≡ Err (BadLine 2) }

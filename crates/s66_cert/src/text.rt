@@ -4,7 +4,12 @@ ghost use Rattle.std.specs.Prelude.{ℕ, List, [], ◌∷◌, ◌++◌, ◌≡�
 ghost use Rattle.s66_isa.specs.Table.{entries, standard};
 ghost use Rattle.s66_isa.specs.declared.limits.TheConstants.{BLOCK_LIMIT};
 ghost use Rattle.s66_model.specs.declared.rule.Rule.TheVariants.{WrittenEarlier, ClampedStanding};
-ghost use Rattle.s66_model.specs.Tree.{flat};
+ghost use Rattle.s66_model.specs.Leaves.{Parcels};
+ghost use Rattle.s66_model.specs.Tree.{Alone, flat};
+ghost use Rattle.s66_model.specs.DominatedLeaves.{Bounding};
+ghost use Rattle.s66_moments.specs.declared.moment.Stage.TheVariants.{Issue};
+ghost use Rattle.s66_moments.specs.declared.moment.Moment.TheVariants.{At, End};
+ghost use Rattle.s66_cert.specs.Altered.{with_fact_line};
 ghost use Rattle.s66_model.specs.Examples.{uneven_profile};
 ghost use Rattle.s66_cert.specs.Document.{Document, IsText, document_text, tree_lines};
 ghost use Rattle.s66_cert.specs.Examples as examples;
@@ -28,6 +33,9 @@ pub fn text_examples()
     ensures late_reader_is_read { IsText BLOCK_LIMIT (examples.late_reader_text (codes "S66 CERTIFICATE 2")) (examples.late_reader WrittenEarlier ∷ []) }
     ensures standing_nodes_text { document_text (examples.late_reader ClampedStanding) ≡ examples.late_reader_text (codes "S66 CERTIFICATE 3") }
     ensures standing_nodes_are_read { IsText BLOCK_LIMIT (examples.late_reader_text (codes "S66 CERTIFICATE 3")) (examples.late_reader ClampedStanding ∷ []) }
+    ensures by_facts_text { document_text examples.by_facts ≡ examples.by_facts_text }
+    ensures by_facts_is_read { IsText BLOCK_LIMIT examples.by_facts_text (examples.by_facts ∷ []) }
+    ensures load_text { document_text (record (examples.with_load (At 1 Issue) End 2 10 (3 ∷ 4 ∷ [])) { tree = Alone (Bounding Parcels) }) ≡ with_fact_line (codes "A I1 END 2 10 3 4") }
     ensures each_unit_load { tree_lines (flat examples.unit_loads) ≡ examples.unit_loads_lines }
     ensures standard_profile { entries standard ≡ examples.standard_numbers }
     ensures uneven_profile { entries uneven_profile ≡ 11 ∷ 12 ∷ 13 ∷ 14 ∷ 15 ∷ 16 ∷ 17 ∷ 18 ∷ 20 ∷ 19 ∷ 1 ∷ 2 ∷ 3 ∷ 4 ∷ 5 ∷ 6 ∷ 7 ∷ [] }

@@ -52,3 +52,18 @@ returns-clause-name_of_128 c = search (rules, instruction)
 
 pub returns-clause-order_at_64 : goal.returns-clause-order_at_64
 returns-clause-order_at_64 c = search (rules, instruction)
+
+pub returns-clause-facts : goal.returns-clause-facts
+returns-clause-facts c = search (rules, instruction)
+
+pub returns-clause-no_facts : goal.returns-clause-no_facts
+returns-clause-no_facts c = search (rules, instruction)
+
+pub returns-clause-load_of_all : goal.returns-clause-load_of_all
+returns-clause-load_of_all c = search (rules, instruction)
+
+pub returns-clause-load_between : goal.returns-clause-load_between
+returns-clause-load_between c = search (rules, instruction)
+
+pub returns-clause-line_that_dominates : goal.returns-clause-line_that_dominates
+returns-clause-line_that_dominates c = search (rules, instruction)

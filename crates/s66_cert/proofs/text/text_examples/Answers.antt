@@ -52,3 +52,7 @@ returns-clause-unfinished_line c = unfinished-line
 pub returns-clause-text_goes_on : goal.returns-clause-text_goes_on
 unfolding digits
 returns-clause-text_goes_on c = search (rules, instruction)
+
+pub returns-clause-by_facts_is_read : goal.returns-clause-by_facts_is_read
+unfolding digits
+returns-clause-by_facts_is_read c = search (rules, instruction)
