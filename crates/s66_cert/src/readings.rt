@@ -1,6 +1,6 @@
 //! What texts are read as.
 
-ghost use Rattle.std.specs.Prelude.{Some, [], ◌∷◌, ◌++◌, ◌-◌, ◌≡◌, codes, Ok, Err, take, replicate, true, length};
+ghost use Rattle.std.specs.Prelude.{false, List, Some, [], ◌∷◌, ◌++◌, ◌-◌, ◌≡◌, codes, Ok, Err, take, replicate, true, length};
 ghost use Rattle.s66_isa.specs.Lists.{rising};
 ghost use Rattle.s66_isa.specs.declared.instr.Kind.TheVariants.{Multiply};
 ghost use Rattle.s66_isa.specs.declared.limits.TheConstants.{BLOCK_LIMIT};
@@ -12,7 +12,8 @@ ghost use Rattle.s66_moments.specs.declared.moment.Stage.TheVariants.{Issue, Sta
 ghost use Rattle.s66_moments.specs.declared.moment.Moment.TheVariants.{Origin, At, End};
 ghost use Rattle.s66_cert.specs.declared.error.CertError.TheVariants.{BadLine, Truncated, TooManyNodes};
 ghost use Rattle.s66_cert.specs.declared.limits.TheConstants.{SPLIT_LIMIT};
-ghost use Rattle.s66_cert.specs.Reading.{read_of, read_within};
+ghost use Rattle.s66_moments.specs.declared.fact_line.FactLine.{FactLine};
+ghost use Rattle.s66_cert.specs.Reading.{nothing, takes_fact, read_of, read_within};
 ghost use Rattle.s66_cert.specs.Altered.{replaced, with_line, with_late_line, with_factual_line, with_fact_line, with_split_of, are_truncated};
 ghost use Rattle.s66_cert.specs.Examples as examples;
 ghost use Rattle.s66_cert.specs.Examples.{three_multiplies, three_multiplies_text, one_load, one_load_text, late_reader, late_reader_text};
@@ -33,6 +34,7 @@ pub fn reading_examples()
     ensures version_2 { read_of (late_reader_text (codes "S66 CERTIFICATE 2")) ≡ Ok (late_reader WrittenEarlier ∷ []) }
     ensures version_3 { read_of (late_reader_text (codes "S66 CERTIFICATE 3")) ≡ Ok (late_reader ClampedStanding ∷ []) }
     ensures version_4 { read_of examples.by_facts_text ≡ Ok (examples.by_facts ∷ []) }
+    ensures fact_line_4096 { (lines : List FactLine) → length lines ≡ 4095 → takes_fact (record nothing { facts = Some lines }) ≡ true }
     ensures no_fact_lines { read_of (replaced 12 3 [] examples.by_facts_text) ≡ Ok (examples.with_facts [] ∷ []) }
     ensures load_from_the_origin { read_of (with_fact_line (codes "A 0 END 0 100000 3 4")) ≡ Ok (record (examples.with_load Origin End 0 100000 (3 ∷ 4 ∷ [])) { tree = Alone (Bounding Parcels) } ∷ []) }
     ensures load_between { read_of (with_fact_line (codes "A I12 S128 7 9 3")) ≡ Ok (record (examples.with_load (At 12 Issue) (At 128 Start) 7 9 (3 ∷ [])) { tree = Alone (Bounding Parcels) } ∷ []) }
@@ -71,6 +73,7 @@ pub fn fault_examples()
     ensures blank_after_a_name { read_of (with_late_line 18 (codes "D 1 2 3 ")) ≡ Err (BadLine 18) }
     ensures tree_below_a_dominated_leaf { read_of (replaced 18 1 (codes "D 1 2 3" ∷ codes "T" ∷ []) (late_reader_text (codes "S66 CERTIFICATE 2"))) ≡ Err (BadLine 24) }
     ensures dominated_after_the_tree { read_of (with_late_line 24 (codes "D 1")) ≡ Err (BadLine 24) }
+    ensures fact_line_4097 { (lines : List FactLine) → length lines ≡ 4096 → takes_fact (record nothing { facts = Some lines }) ≡ false }
     ensures pair_in_version_3 { read_of (with_factual_line 1 (codes "S66 CERTIFICATE 3")) ≡ Err (BadLine 12) }
     ensures pair_after_a_tree_line { read_of (with_factual_line 16 (codes "F 2 1")) ≡ Err (BadLine 16) }
     ensures pair_with_0 { read_of (with_factual_line 13 (codes "F 0 1")) ≡ Err (BadLine 13) }

@@ -1,5 +1,8 @@
-use Rattle.std.proofs.Common.{rules}
+use Rattle.std.proofs.Common.{refl, arith, rules}
 use Rattle.s66_line.proofs.InstructionTexts.{instruction}
+use Rattle.s66_isa.specs.declared.limits.TheConstants.{BLOCK_LIMIT}
+use Rattle.s66_cert.specs.Document.{IsDocument}
+use Rattle.s66_cert.specs.Examples.{by_facts}
 use Rattle.s66_cert.proofs.examples.document_examples.Goals as goal
 
 pub returns-clause-order_of_128 : goal.returns-clause-order_of_128
@@ -67,3 +70,21 @@ returns-clause-load_between c = search (rules, instruction)
 
 pub returns-clause-line_that_dominates : goal.returns-clause-line_that_dominates
 returns-clause-line_that_dominates c = search (rules, instruction)
+
+pub returns-clause-facts_4096 : goal.returns-clause-facts_4096
+returns-clause-facts_4096 c = λ lines e are.
+    let is : IsDocument BLOCK_LIMIT by_facts = search (rules, instruction) in
+    record {
+      profile = is.profile;
+      block = is.block;
+      time = is.time;
+      bound = is.bound;
+      numbers = is.numbers;
+      tree = is.tree;
+      splits = is.splits;
+      facts = (refl, omega (arith, e), are);
+      leaves = is.leaves;
+    }
+
+pub returns-clause-facts_4097 : goal.returns-clause-facts_4097
+returns-clause-facts_4097 c = λ lines e is. omega (arith, e, is.facts.1)
