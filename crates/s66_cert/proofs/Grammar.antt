@@ -103,27 +103,27 @@ module _ (limit most : ℕ) (narrow : limit < 2 ^ 64) where
       every (is_leaf_of part) (flat_siblings siblings) ≡ true →
       steps limit most (in_tree count documents part vertices here splits) (map line_bytes (vertices_of (flat_siblings siblings)) ++ lines)
       ≡ steps limit most (in_tree to documents part (vertices ++ flat_siblings siblings) left after) lines
-  siblings-run count to left here splits after documents part vertices [] NoMore lines fits e f g few named =
+  siblings-run count to left here splits after documents part vertices [] NoMore lines fits e f g few allowed =
       let same : to ≡ count = omega arith in
       let less : here ≡ left = omega arith in
       let none : after ≡ splits = omega arith in
       rw (same, less, none, append-nil vertices) refl
-  siblings-run count to left here splits after documents part vertices [] (Unsplit ending siblings) lines fits e f g few named = absurd fits
-  siblings-run count to left here splits after documents part vertices [] (Split numbers sub siblings) lines fits e f g few named = absurd fits
-  siblings-run count to left here splits after documents part vertices (n ∷ ns) NoMore lines fits e f g few named = absurd fits
-  siblings-run count to left here splits after documents part vertices (n ∷ ns) (Unsplit ending siblings) lines fits e f g few named =
+  siblings-run count to left here splits after documents part vertices [] (Unsplit ending siblings) lines fits e f g few allowed = absurd fits
+  siblings-run count to left here splits after documents part vertices [] (Split numbers sub siblings) lines fits e f g few allowed = absurd fits
+  siblings-run count to left here splits after documents part vertices (n ∷ ns) NoMore lines fits e f g few allowed = absurd fits
+  siblings-run count to left here splits after documents part vertices (n ∷ ns) (Unsplit ending siblings) lines fits e f g few allowed =
       let more : here ≡ suc (length ns + left) = omega arith in
-      let each = and_parts (is_leaf_of part (AtTerminal ending)) (every (is_leaf_of part) (flat_siblings siblings)) named in
+      let each = and_parts (is_leaf_of part (AtTerminal ending)) (every (is_leaf_of part) (flat_siblings siblings)) allowed in
       let joined : (vertices ++ AtTerminal ending ∷ []) ++ flat_siblings siblings ≡ vertices ++ AtTerminal ending ∷ flat_siblings siblings = append_assoc vertices (AtTerminal ending ∷ []) (flat_siblings siblings) in
       rw more (
       step-line (in_tree count documents part vertices (suc (length ns + left)) splits) (in_tree (suc count) documents part (vertices ++ AtTerminal ending ∷ []) (length ns + left) splits) (OfTree (AtTerminal ending)) (map line_bytes (vertices_of (flat_siblings siblings)) ++ lines) fits.0 (terminal-step count (length ns + left) splits documents part vertices ending each.0)
       ∙ siblings-run (suc count) to left (length ns + left) splits after documents part (vertices ++ AtTerminal ending ∷ []) ns siblings lines fits.1 (omega arith) refl g few each.1
       ∙ ap (λ (k : List (Vertex Ending)). steps limit most (in_tree to documents part k left after) lines) joined
       )
-  siblings-run count to left here splits after documents part vertices (n ∷ ns) (Split numbers sub siblings) lines fits e f g few named =
+  siblings-run count to left here splits after documents part vertices (n ∷ ns) (Split numbers sub siblings) lines fits e f g few allowed =
       let more : here ≡ suc (length ns + left) = omega arith in
       let trees : ℕ = length numbers + (length ns + left) in
-      let each = every-parts (is_leaf_of part) (flat_siblings sub) (flat_siblings siblings) named in
+      let each = every-parts (is_leaf_of part) (flat_siblings sub) (flat_siblings siblings) allowed in
       let count2 : ℕ = suc count + length (flat_siblings sub) in
       let splits2 : ℕ = suc splits + sibling_splits sub in
       let before : List (Vertex Ending) = vertices ++ AtSplit numbers ∷ [] in
@@ -140,13 +140,13 @@ module _ (limit most : ℕ) (narrow : limit < 2 ^ 64) where
 
   tree-run : (count : ℕ) (documents : List Document) (part : Parts) (tree : Tree Ending) (lines : List (List ℕ)) → TreeFits limit tree → splits tree ≤ most → every (is_leaf_of part) (flat tree) ≡ true →
       (to : ℕ) × (steps limit most (in_tree count documents part [] 1 0) (map line_bytes (vertices_of (flat tree)) ++ lines) ≡ steps limit most (in_tree to documents part (flat tree) 0 (splits tree)) lines)
-  tree-run count documents part (Alone ending) lines fits few named =
-      (suc count, step-line (in_tree count documents part [] 1 0) (in_tree (suc count) documents part (AtTerminal ending ∷ []) 0 0) (OfTree (AtTerminal ending)) lines fits (terminal-step count 0 0 documents part [] ending (and_parts (is_leaf_of part (AtTerminal ending)) true named).0))
-  tree-run count documents part (Parted numbers siblings) lines fits few named =
+  tree-run count documents part (Alone ending) lines fits few allowed =
+      (suc count, step-line (in_tree count documents part [] 1 0) (in_tree (suc count) documents part (AtTerminal ending ∷ []) 0 0) (OfTree (AtTerminal ending)) lines fits (terminal-step count 0 0 documents part [] ending (and_parts (is_leaf_of part (AtTerminal ending)) true allowed).0))
+  tree-run count documents part (Parted numbers siblings) lines fits few allowed =
       let trees : ℕ = length numbers + 0 in (
         suc count + length (flat_siblings siblings),
         step-line (in_tree count documents part [] 1 0) (in_tree (suc count) documents part (AtSplit numbers ∷ []) trees 1) (OfTree (AtSplit numbers)) (map line_bytes (vertices_of (flat_siblings siblings)) ++ lines) fits.0 (split-step count 0 trees 0 documents part [] numbers (omega arith) refl)
-            ∙ siblings-run (suc count) (suc count + length (flat_siblings siblings)) 0 trees 1 (1 + sibling_splits siblings) documents part (AtSplit numbers ∷ []) numbers siblings lines fits.1 refl refl refl few named,
+            ∙ siblings-run (suc count) (suc count + length (flat_siblings siblings)) 0 trees 1 (1 + sibling_splits siblings) documents part (AtSplit numbers ∷ []) numbers siblings lines fits.1 refl refl refl few allowed,
       )
 
   -- DOCUMENTS
