@@ -124,7 +124,7 @@ module _ (b : Problem) where
         omega (arith, placed.0, placed.1, early m e front)
     arc-up End f front is_e back is_f up = absurd (true≢false (sym front))
 
-    loads-rise : (loads : List KnownArc) → ((load : KnownArc) → Among load loads → is_arc_up b before load.from load.to ≡ true) → RisesBy b (with_loads (network b before) loads) rank
+    pub loads-rise : (loads : List KnownArc) → ((load : KnownArc) → Among load loads → is_arc_up b before load.from load.to ≡ true) → RisesBy b (with_loads (network b before) loads) rank
     loads-rise [] up = network-rises_by b before (place_by b before) (places b before through none)
     loads-rise (load ∷ loads) up =
         let (front, is_e, back, is_f, leads) = up-parts b before load.from load.to (up load (inl refl)) in

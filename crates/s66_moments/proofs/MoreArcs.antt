@@ -64,7 +64,7 @@ same_moment-self End = refl
 
 module _ (arcs : Network) (e : Moment) (w : ℕ) (f : Moment) where
   -- it is the arc from e to f, or as before
-  with-cases : (m n : Moment) → ((m ≡ e) × (n ≡ f) × (with_arc arcs e w f m n ≡ Some (max w (unwrap_or (arcs e f) 0)))) ⊎ (with_arc arcs e w f m n ≡ arcs m n)
+  pub with-cases : (m n : Moment) → ((m ≡ e) × (n ≡ f) × (with_arc arcs e w f m n ≡ Some (max w (unwrap_or (arcs e f) 0)))) ⊎ (with_arc arcs e w f m n ≡ arcs m n)
   with-cases m n =
       elim (cases_Bool (same_moment m e && same_moment n f)) [
         | inl both ↦

@@ -267,7 +267,7 @@ when-parts true o w h = (refl, h)
 when-parts false o w h = absurd (None-none w h)
 
 module _ (b : Problem) (before : ℕ → ℕ → Bool) where
-  network-parts : (e f : Moment) (w : ℕ) → network b before e f ≡ Some w → (is_moment b e ≡ true) × (is_moment b f ≡ true) × (is_in_order before e f ≡ true) × (arc b e f ≡ Some w)
+  pub network-parts : (e f : Moment) (w : ℕ) → network b before e f ≡ Some w → (is_moment b e ≡ true) × (is_moment b f ≡ true) × (is_in_order before e f ≡ true) × (arc b e f ≡ Some w)
   network-parts e f w h =
       let (all, is) = when-parts _ (arc b e f) w h in
       let (both, third) = and_parts (is_moment b e && is_moment b f) (is_in_order before e f) all in

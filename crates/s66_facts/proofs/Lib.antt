@@ -1,0 +1,9 @@
+pub mod MarkBits
+pub mod Latest
+pub mod Edges
+pub mod Results
+pub mod HeadLaw
+pub mod TailLaw
+pub mod Told
+pub mod SoFar
+pub mod FirstKnown

@@ -1,0 +1,98 @@
+-- What stands before a number by dependence, found from the first number on.
+use Rattle.std.proofs.Common.{ℕ, ◌+◌, ◌-◌, ◌≤◌, ◌<◌, ◌≡◌, ◌⊎◌, ◌==◌, ◌||◌, Bool, true, false, true≢false, List, [], ◌∷◌, ◌++◌, length, get_or, refl, sym, ap, arith, inl, inr, ltb, ◌∙◌, subst}
+use Rattle.std.proofs.lemmas.Bool.{and_parts, or_cases, or_left, or_right, eqb-true, eq-eqb, ltb-true, cases_lt}
+use Rattle.std.proofs.lemmas.List.{get_or_append_left, get_or_push}
+use Rattle.s66_isa.specs.declared.instr.Instr.{Instr}
+use Rattle.s66_isa.specs.Table.{instr_at}
+use Rattle.s66_model.specs.Dependence.{conflict, depends}
+use Rattle.s66_moments.specs.Networks.{precedes}
+use Rattle.s66_moments.proofs.Preceders.{precedes-near, precedes-far, precedes-cases}
+use Rattle.s66_facts.specs.declared.marks.Marks.{Marks}
+use Rattle.s66_facts.specs.Marked.{is_marked, no_marks, IsClosedUpTo}
+
+-- what the numbers up to one give
+pub record IsSoFar (block : List Instr) (n count : ℕ) (sooner : Marks) : Type 0 where
+  pub right : (m : ℕ) → 1 ≤ m → is_marked sooner m ≡ true → precedes block m n ≡ true
+  pub whole : (k m : ℕ) → 1 ≤ k → k ≤ count → 1 ≤ m → depends block k n ≡ true → ((m ≡ k) ⊎ (precedes block m k ≡ true)) → is_marked sooner m ≡ true
+
+pub so_far-none : (block : List Instr) (n : ℕ) (none : Marks) → ((m : ℕ) → is_marked none m ≡ false) → IsSoFar block n 0 none
+so_far-none block n none off =
+    record {
+      right = λ m one is. absurd (true≢false (sym is ∙ off m));
+      whole = λ k m low high. absurd (omega (arith, low, high));
+    }
+
+module _ (block : List Instr) (n count : ℕ) (old : Marks) (high_n : n ≤ length block) where
+  abbrev k : ℕ
+  k = count + 1
+
+  pub so_far-more : (own both new : Marks) → depends block k n ≡ true → IsSoFar block n count old → ((m : ℕ) → 1 ≤ m → is_marked own m ≡ precedes block m k) → ((m : ℕ) → is_marked both m ≡ (is_marked old m || is_marked own m)) → ((m : ℕ) → 1 ≤ m → is_marked new m ≡ (m == k || is_marked both m)) → IsSoFar block n (count + 1) new
+  so_far-more own both new dep so own_is both_is new_is = record { right = right; whole = whole }
+    where
+      right : (m : ℕ) → 1 ≤ m → is_marked new m ≡ true → precedes block m n ≡ true
+      right m one is =
+          elim (or_cases (m == k) (is_marked both m) (sym (new_is m one) ∙ is)) [
+            | inl same ↦ precedes-near block m n (subst (λ j. depends block j n ≡ true) (sym (eqb-true m k same)) dep)
+            | inr more ↦
+                elim (or_cases (is_marked old m) (is_marked own m) (sym (both_is m) ∙ more)) [
+                  | inl was ↦ so.right m one was
+                  | inr its ↦ precedes-far block m k n high_n (sym (own_is m one) ∙ its) dep
+                ]
+          ]
+
+      old-new : (m : ℕ) → 1 ≤ m → is_marked old m ≡ true → is_marked new m ≡ true
+      old-new m one is = new_is m one ∙ or_right (m == k) (is_marked both m) (both_is m ∙ or_left (is_marked old m) (is_marked own m) is)
+
+      whole : (j m : ℕ) → 1 ≤ j → j ≤ k → 1 ≤ m → depends block j n ≡ true → ((m ≡ j) ⊎ (precedes block m j ≡ true)) → is_marked new m ≡ true
+      whole j m low high one dep_j way =
+          elim (cases_lt j k) [
+            | inl less ↦ old-new m one (so.whole j m low (omega (arith, less)) one dep_j way)
+            | inr ge ↦
+                let same : j ≡ k = omega (arith, high, ge) in
+                elim way [
+                  | inl is_j ↦ new_is m one ∙ or_left (m == k) (is_marked both m) (eq-eqb m k (is_j ∙ same))
+                  | inr first ↦ new_is m one ∙ or_right (m == k) (is_marked both m) (both_is m ∙ or_right (is_marked old m) (is_marked own m) (own_is m one ∙ subst (λ i. precedes block m i ≡ true) same first))
+                ]
+          ]
+
+  pub so_far-past : depends block k n ≡ false → IsSoFar block n count old → IsSoFar block n (count + 1) old
+  so_far-past off so =
+      record {
+        right = so.right;
+        whole = λ j m low high one dep_j way. elim (cases_lt j k) [
+          | inl less ↦ so.whole j m low (omega (arith, less)) one dep_j way
+          | inr ge ↦ (let same : j ≡ k = omega (arith, high, ge) in absurd (true≢false (sym (subst (λ i. depends block i n ≡ true) same dep_j) ∙ off)))
+        ];
+      }
+
+same-bool : (x y : Bool) → (x ≡ true → y ≡ true) → (y ≡ true → x ≡ true) → x ≡ y
+same-bool true y there back = sym (there refl)
+same-bool false true there back = absurd (true≢false (sym (back refl)))
+same-bool false false there back = refl
+
+pub so_far-all : (block : List Instr) (n count : ℕ) (sooner : Marks) → 1 ≤ n → n ≤ length block → n ≤ count + 1 → IsSoFar block n count sooner → (m : ℕ) → 1 ≤ m → is_marked sooner m ≡ precedes block m n
+so_far-all block n count sooner low high all so m one =
+    same-bool (is_marked sooner m) (precedes block m n) (so.right m one) (λ first.
+    elim (precedes-cases block m n low high first) [
+      | inl dep ↦
+          let less : m < n = ltb-true m n (and_parts (ltb m n) (conflict (instr_at block m) (instr_at block n)) dep).0 in
+          so.whole m m one (omega (arith, less, all)) one dep (inl refl)
+      | inr (k, low_k, less, by, dep) ↦ so.whole k m low_k (omega (arith, less, all)) one dep (inr by)
+    ])
+
+-- one number more
+pub closed-push : (block : List Instr) (marks : List Marks) (sooner : Marks) (count : ℕ) → length marks ≡ count → IsClosedUpTo block marks count → ((m : ℕ) → 1 ≤ m → is_marked sooner m ≡ precedes block m (count + 1)) → IsClosedUpTo block (marks ++ sooner ∷ []) (count + 1)
+closed-push block marks sooner count is closed own k m low high one =
+    elim (cases_lt k (count + 1)) [
+      | inl less ↦ ap (λ ms. is_marked ms m) (get_or_append_left marks (sooner ∷ []) no_marks (k - 1) (omega (arith, less, is, low))) ∙ closed k m low (omega (arith, less)) one
+      | inr ge ↦
+          let last : length marks ≡ k - 1 = omega (arith, high, ge, is) in
+          let same : count + 1 ≡ k = omega (arith, high, ge) in
+          ap (λ ms. is_marked ms m) (get_or_push marks sooner no_marks (k - 1) last) ∙ (own m one ∙ ap (λ i. precedes block m i) same)
+    ]
+
+-- those of one
+pub closed-at : (block : List Instr) (marks : List Marks) (count i : ℕ) (own : Marks) → IsClosedUpTo block marks count → i < count → own ≡ get_or marks i no_marks → (m : ℕ) → 1 ≤ m → is_marked own m ≡ precedes block m (i + 1)
+closed-at block marks count i own closed less there m one =
+    let same : i ≡ i + 1 - 1 = omega arith in
+    ap (λ ms. is_marked ms m) (there ∙ ap (λ j. get_or marks j no_marks) same) ∙ closed (i + 1) m (omega arith) (omega (arith, less)) one

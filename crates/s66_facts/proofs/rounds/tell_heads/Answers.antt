@@ -1,0 +1,23 @@
+use Rattle.std.proofs.Common.{◌+◌, ◌≡◌, true, sym, subst, arith, inl, inr}
+use Rattle.s66_isa.proofs.Lists.{cases_le}
+use Rattle.s66_facts.specs.Marked.{is_marked}
+use Rattle.s66_facts.specs.Rounds.{IsReady}
+use Rattle.s66_facts.proofs.rounds.tell_heads.Goals as goal
+
+pub loop-position-preserved : goal.loop-position-preserved
+loop-position-preserved c =
+    let told = c.tell_head-marked.ensures in
+    let old = c.loop-position.invariant in
+    let g = c.args.facts.now in
+    let position = c.loop-position.position in
+    record {
+      right = λ are. told.right (old.right are);
+      more = λ n low high is. told.more n low high (old.more n low high is);
+      ready = λ n low high ready. elim (cases_le n position) [
+        | inl le ↦ told.more n low (omega (arith, high, c.loop-position-test.true, c.count-position-end.ensures.few)) (old.ready n low le ready)
+        | inr lt ↦
+            let same : position + 1 ≡ n = omega (arith, high, lt) in
+            let more_ready : IsReady g c.loop-position.marked n = λ m is_m first. old.more m is_m.0 (omega (arith, is_m.1, c.requires.few)) (ready m is_m first) in
+            subst (λ k. is_marked c.tell_head-marked.result k ≡ true) same (told.ready (subst (λ k. IsReady g c.loop-position.marked k) (sym same) more_ready))
+      ];
+    }

@@ -1,0 +1,39 @@
+-- Used by contracts: a block under a profile, and what is known of it.
+use Rattle.std.specs.Prelude.{◌-◌, ◌^◌, ◌≡◌, ◌≤◌, true, List, length, map}
+use Rattle.s66_isa.specs.declared.limits.TheConstants.{BLOCK_LIMIT}
+use Rattle.s66_isa.specs.declared.instr.Instr.{Instr}
+use Rattle.s66_isa.specs.declared.profile.Profile.{Profile}
+use Rattle.s66_isa.specs.Lists.{Among}
+use Rattle.s66_isa.specs.Table.{Row, row}
+use Rattle.s66_model.specs.Timing.{Problem}
+use Rattle.s66_moments.specs.declared.fact_line.KnownArc.{KnownArc}
+use Rattle.s66_moments.specs.Networks.{Network, IsTransitive, HasNoRing}
+use Rattle.s66_moments.specs.Known.{Known, is_arc_up, arcs_of}
+use Rattle.s66_facts.specs.declared.marks.Marks.{Marks}
+use Rattle.s66_facts.specs.Marked.{before_in}
+
+-- of each number those that are known to stand before it, and the arcs of loads
+pub record Ground : Type 0 where
+  pub problem : Problem
+  pub marks : List Marks
+  pub loads : List KnownArc
+
+abbrev pub known_of : Ground → Known
+known_of g = record { before = before_in g.marks; loads = g.loads }
+
+abbrev pub ground_arcs : Ground → Network
+ground_arcs g = arcs_of g.problem (known_of g)
+
+-- what is known forms no ring
+pub record IsOrdered (g : Ground) : Type 0 where
+  pub few : length g.problem.block ≤ BLOCK_LIMIT
+  pub count : length g.marks ≡ length g.problem.block
+  pub transitive : IsTransitive g.problem (before_in g.marks)
+  pub no_ring : HasNoRing g.problem (before_in g.marks)
+  pub up : (load : KnownArc) → Among load g.loads → is_arc_up g.problem (before_in g.marks) load.from load.to ≡ true
+  pub short : (load : KnownArc) → Among load g.loads → load.wait ≤ 2 ^ 32 - 1
+
+-- as it is kept, with the rows of the instructions
+pub record IsKept (block : List Instr) (profile : Profile) (rows : List Row) (marks : List Marks) (loads : List KnownArc) : Type 0 where
+  pub ordered : IsOrdered (record { problem = record { block = block; profile = profile }; marks = marks; loads = loads })
+  pub known_rows : rows ≡ map (row profile) block

@@ -1,0 +1,4 @@
+pub mod Marked
+pub mod Ground
+pub mod Passes
+pub mod Rounds

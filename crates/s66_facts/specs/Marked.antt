@@ -1,0 +1,25 @@
+-- Used by contracts: which numbers are marked: bit n - 1 of the word is that of n.
+use Rattle.std.specs.Prelude.{ℕ, ◌-◌, ◌≡◌, ◌≤◌, ◌==◌, ◌&&◌, Bool, List, length, get_or, nat_le}
+use Rattle.std.specs.Int.{bit_at}
+use Rattle.s66_isa.specs.declared.instr.Instr.{Instr}
+use Rattle.s66_moments.specs.Networks.{precedes}
+use Rattle.s66_facts.specs.declared.marks.Marks.{Marks}
+
+abbrev pub is_marked : Marks → ℕ → Bool
+is_marked marks n = bit_at marks.bits (n - 1) == 1
+
+abbrev pub no_marks : Marks
+no_marks = record { bits = 0 }
+
+-- a number of the block
+abbrev pub is_in : List Marks → ℕ → Bool
+is_in marks n = nat_le 1 n && nat_le n (length marks)
+
+-- those of each number are the numbers that stand before it
+abbrev pub before_in : List Marks → ℕ → ℕ → Bool
+before_in marks m n = is_in marks m && is_in marks n && is_marked (get_or marks (n - 1) no_marks) m
+
+-- the marks of the first numbers are those that stand before them by dependence
+abbrev pub IsClosedUpTo : List Instr → List Marks → ℕ → Type 0
+IsClosedUpTo block marks count =
+    (k m : ℕ) → 1 ≤ k → k ≤ count → 1 ≤ m → is_marked (get_or marks (k - 1) no_marks) m ≡ precedes block m k

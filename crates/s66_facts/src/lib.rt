@@ -1,0 +1,17 @@
+//! What the fact lines of a certificate give of a block: which number stands before which, and the longest paths between its moments.
+//! Nothing here schedules or allocates.
+#![tactic(auto, unfolding(s66_isa::specs::Table::row))]
+
+mod closure;
+mod facts;
+mod heads;
+mod limits;
+mod marks;
+mod rounds;
+mod tails;
+mod times;
+
+pub use facts::Facts;
+pub use limits::FACT_LIMIT;
+pub use marks::Marks;
+pub use times::Times;

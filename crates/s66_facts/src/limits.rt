@@ -1,0 +1,2 @@
+/// The most fact lines that are taken.
+pub const FACT_LIMIT: usize = 4096;

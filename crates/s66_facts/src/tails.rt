@@ -1,0 +1,192 @@
+//! The longest paths from the moments of all instructions to a moment.
+
+ghost use Rattle.std.specs.Prelude.{◌≡◌};
+ghost use Rattle.s66_moments.specs.Facts.{IsNumber};
+ghost use Rattle.s66_facts.specs.Passes.{start_before, done_before, before_one, before_all, by_loads_from, tail_done, tail_results, tail_start, tail_issue, tails_of};
+
+use crate::facts::Facts;
+use crate::times::{
+    Times, add, is_fetched, is_written, later, latest_read, latest_result, same_moment,
+    time_at_moment, times_at, when, zero_if_same,
+};
+use s66_isa::{BLOCK_LIMIT, Reg, has_register, is_memory_conflict};
+use s66_moments::{KnownArc, Moment, Stage};
+
+/// The start of n before m.
+fn start_before(facts: &Facts, n: u8, m: u8, time: &Times) -> Option<u64>
+    requires n { IsNumber facts.now.problem n }
+    requires m { IsNumber facts.now.problem m }
+    ensures { result ≡ start_before facts.now.problem n m time.now }
+{
+    let is_pair = is_memory_conflict(facts.row(n).memory, facts.row(m).memory);
+    let memory = when(is_pair, add(time.start, 1));
+    let results = latest_read(facts.row(n), time, facts.row(m));
+    later(memory, add(results, 1))
+}
+
+/// A result in a register before m, which may write or read it.
+fn done_before(facts: &Facts, m: u8, time: &Times, register: Reg) -> Option<u64>
+    requires m { IsNumber facts.now.problem m }
+    ensures { result ≡ done_before facts.now.problem m time.now register }
+{
+    let row = facts.row(m);
+    later(
+        when(is_written(row.writes.as_slice(), register), time.issue),
+        when(has_register(row.reads.as_slice(), register), time.start),
+    )
+}
+
+/// The moments of n before m.
+fn before_one(facts: &Facts, times: &[Times; BLOCK_LIMIT], n: u8, m: u8) -> Times
+    requires n { IsNumber facts.now.problem n }
+    requires m { IsNumber facts.now.problem m }
+    ensures { result ≡ before_one facts.now.problem times.now n m }
+{
+    let time = times_at(times, m);
+    let (first, second) = match facts.row(n).writes.as_slice() {
+        [] => (None, None),
+        [one] => (done_before(facts, m, &time, one.reg), None),
+        [one, two, ..] => (
+            done_before(facts, m, &time, one.reg),
+            done_before(facts, m, &time, two.reg),
+        ),
+    };
+    Times {
+        issue: add(time.issue, facts.row(n).parcels),
+        start: start_before(facts, n, m, &time),
+        free: when(facts.share_unit(n, m), time.issue),
+        first,
+        second,
+    }
+}
+
+/// The moments of n before all that stands after it.
+fn before_all(facts: &Facts, times: &[Times; BLOCK_LIMIT], n: u8) -> Times
+    requires { IsNumber facts.now.problem n }
+    ensures { result ≡ before_all facts.now times.now n }
+{
+    let mut latest = Times::none();
+    for position in 0..facts.count() {
+        if facts.is_before(n, position + 1) {
+            latest = latest.later(&before_one(facts, times, n, position + 1));
+        }
+    }
+    latest
+}
+
+/// The latest by loads that come from a moment.
+fn by_loads_from(
+    loads: &[KnownArc],
+    times: &[Times; BLOCK_LIMIT],
+    to: &Moment,
+    from: &Moment,
+) -> Option<u64>
+    ensures { result ≡ by_loads_from loads.now times.now to.now from.now }
+{
+    let end = zero_if_same(to, &Moment::End);
+    let mut latest = None;
+    for load in loads {
+        let time = add(time_at_moment(times, None, end, &load.to), load.wait);
+        latest = later(latest, when(same_moment(&load.from, from), time));
+    }
+    latest
+}
+
+/// From a result of n in a register, by what waits for it, and by the free of its unit if that holds it.
+fn tail_done(
+    facts: &Facts,
+    to: &Moment,
+    n: u8,
+    free: Option<u64>,
+    waiting: Option<u64>,
+    register: Reg,
+) -> Option<u64>
+    requires { IsNumber facts.now.problem n }
+    ensures { result ≡ tail_done facts.now.problem to.now n free waiting register }
+{
+    let by_unit = when(
+        !is_fetched(facts.row(n).writes.as_slice(), register),
+        add(free, 1),
+    );
+    later(zero_if_same(to, &Moment::End), later(by_unit, waiting))
+}
+
+/// From its free, and from its results in the order of its row.
+fn tail_results(facts: &Facts, to: &Moment, n: u8, before: &Times, free: Option<u64>) -> Times
+    requires { IsNumber facts.now.problem n }
+    ensures { result ≡ tail_results facts.now.problem to.now n before.now free }
+{
+    let (first, second) = match facts.row(n).writes.as_slice() {
+        [] => (None, None),
+        [one] => (tail_done(facts, to, n, free, before.first, one.reg), None),
+        [one, two, ..] => (
+            tail_done(facts, to, n, free, before.first, one.reg),
+            tail_done(facts, to, n, free, before.second, two.reg),
+        ),
+    };
+    Times {
+        issue: None,
+        start: None,
+        free,
+        first,
+        second,
+    }
+}
+
+/// From its start, by its free and its results too.
+fn tail_start(
+    facts: &Facts,
+    to: &Moment,
+    times: &[Times; BLOCK_LIMIT],
+    n: u8,
+    before: &Times,
+    time: &Times,
+) -> Option<u64>
+    requires { IsNumber facts.now.problem n }
+    ensures { result ≡ tail_start facts.now to.now times.now n before.now time.now }
+{
+    let from = Moment::At(n, Stage::Start);
+    let row = facts.row(n);
+    let by_unit = add(time.free, row.hold + 1);
+    let by_loads = by_loads_from(facts.loads(), times, to, &from);
+    later(
+        later(zero_if_same(&from, to), by_unit),
+        later(latest_result(row, time), later(before.start, by_loads)),
+    )
+}
+
+/// From its issue, by its start too.
+fn tail_issue(
+    facts: &Facts,
+    to: &Moment,
+    times: &[Times; BLOCK_LIMIT],
+    n: u8,
+    before: &Times,
+    start: Option<u64>,
+) -> Option<u64>
+    ensures { result ≡ tail_issue facts.now.loads to.now times.now n before.now start }
+{
+    let from = Moment::At(n, Stage::Issue);
+    let by_loads = by_loads_from(facts.loads(), times, to, &from);
+    later(
+        later(zero_if_same(&from, to), start),
+        later(before.issue, by_loads),
+    )
+}
+
+/// From all its moments, by the times of what stands after it.
+pub(crate) fn tails_of(facts: &Facts, to: &Moment, times: &[Times; BLOCK_LIMIT], n: u8) -> Times
+    requires { IsNumber facts.now.problem n }
+    ensures { result ≡ tails_of facts.now to.now times.now n }
+{
+    let before = before_all(facts, times, n);
+    let free = later(zero_if_same(to, &Moment::End), before.free);
+    let time = tail_results(facts, to, n, &before, free);
+    let start = tail_start(facts, to, times, n, &before, &time);
+    let issue = tail_issue(facts, to, times, n, &before, start);
+    Times {
+        issue,
+        start,
+        ..time
+    }
+}
