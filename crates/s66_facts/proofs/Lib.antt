@@ -7,3 +7,5 @@ pub mod TailLaw
 pub mod Told
 pub mod SoFar
 pub mod FirstKnown
+pub mod Paired
+pub mod PairTaken

@@ -1,14 +1,15 @@
 //! A block under a profile, and what is known of it.
 
-ghost use Rattle.std.specs.Prelude.{ℕ, ◌≡◌, ◌≤◌, length, map};
+ghost use Rattle.std.specs.Prelude.{ℕ, ◌≡◌, ◌≤◌, ◌↔◌, ◌||◌, IsTrue, if◌then◌else◌, length, map};
 ghost use Rattle.s66_isa.specs.Table.{row};
 ghost use Rattle.s66_isa.specs.declared.limits.TheConstants.{BLOCK_LIMIT};
 
 use crate::closure::before_each;
 use crate::limits::FACT_LIMIT;
 use crate::marks::Marks;
+use crate::pairs::with_pair;
 use crate::rounds::{heads, tails};
-use crate::times::Times;
+use crate::times::{Times, reaches_both, reaches_through, times_at};
 use arrayvec::ArrayVec;
 use s66_isa::{BLOCK_LIMIT, Instr, Profile, Row, is_same_kind};
 use s66_moments::{KnownArc, Moment};
@@ -55,7 +56,8 @@ impl Facts {
     ghost use Rattle.s66_facts.specs.Ground.{IsOrdered, known_of};
     ghost use Rattle.s66_facts.specs.Passes.{share_unit, times_at, AreTimes};
     ghost use Rattle.s66_moments.specs.declared.moment.Moment.TheVariants.{Origin, End};
-    ghost use Rattle.s66_moments.specs.Known.{known_first, arcs_of, span};
+    ghost use Rattle.s66_moments.specs.Known.{known_first, with_line, arcs_of, span, is_number, is_late_by_parcels, is_late_by_unit, is_pair_taken, is_taken};
+    ghost use Rattle.s66_moments.specs.declared.fact_line.FactLine.TheVariants.{Pair};
 
     /// What is known of a block under a profile by dependence alone.
     pub fn new(block: &[Instr], profile: &Profile) -> Facts
@@ -126,6 +128,54 @@ impl Facts {
         ensures { result ≡ before_in self.now.marks m n }
     {
         self.before[n as usize - 1].has(m)
+    }
+
+    /// Whether the block has a number.
+    fn is_number(&self, n: u8) -> bool
+        ensures value { result ≡ is_number self.now.problem n }
+        ensures number { IsTrue result ↔ IsNumber self.now.problem n }
+    {
+        1 <= n && n <= self.count()
+    }
+
+    /// Whether m would come too late for the bound if n stood before it: by parcels, or by the only unit of their kind.
+    fn is_late(&self, bound: u32, m: u8, n: u8) -> bool
+        requires m { IsNumber self.now.problem m }
+        requires n { IsNumber self.now.problem n }
+        ensures { result ≡ (is_late_by_parcels self.now.problem (arcs_of self.now.problem (known_of self.now)) bound m n || is_late_by_unit self.now.problem (arcs_of self.now.problem (known_of self.now)) bound m n) }
+    {
+        let heads = self.heads();
+        let tails = self.tails();
+        let head = times_at(&heads, n);
+        let tail = times_at(&tails, m).issue;
+        let by_parcels = reaches_through(bound, head.issue, self.row(n).parcels, tail);
+        let by_unit = self.share_unit(n, m) && reaches_both(bound, head.free, tail);
+        by_parcels || by_unit
+    }
+
+    /// Whether a pair is a fact of all legal orders that take less than the bound, by what is known.
+    fn is_forced(&self, bound: u32, m: u8, n: u8) -> bool
+        ensures { result ≡ is_pair_taken self.now.problem bound (known_of self.now) m n }
+    {
+        m != n
+            && self.is_number(m)
+            && self.is_number(n)
+            && !self.is_before(n, m)
+            && self.is_late(bound, m, n)
+    }
+
+    /// Takes a pair in if it is a fact of all legal orders that take less than the bound, by what is known, and returns whether it is: m
+    /// stands before n, since in the other case the order takes the bound at least. If it isn't, nothing changes.
+    pub fn take_pair(&mut self, bound: u32, m: u8, n: u8) -> bool
+        ensures taken { result ≡ is_taken self.old.problem bound (known_of self.old) (Pair m n) }
+        ensures problem { self.new.problem ≡ self.old.problem }
+        ensures known { known_of self.new ≡ (if result then with_line (known_of self.old) (Pair m n) else known_of self.old) }
+    {
+        if !self.is_forced(bound, m, n) {
+            return false;
+        }
+        self.before = with_pair(self.before.as_slice(), m, n);
+        true
     }
 
     /// The arcs of loads.

@@ -7,6 +7,7 @@ mod facts;
 mod heads;
 mod limits;
 mod marks;
+mod pairs;
 mod rounds;
 mod tails;
 mod times;

@@ -1,11 +1,11 @@
 //! Longest paths to or from the moments of an instruction, in minor cycles.
 
-ghost use Rattle.std.specs.Prelude.{◌≡◌, ◌&&◌, not, if◌then◌else◌};
+ghost use Rattle.std.specs.Prelude.{◌≡◌, ◌&&◌, not, if◌then◌else◌, Some};
 ghost use Rattle.s66_isa.specs.Lists.{greatest, some_of};
 ghost use Rattle.s66_isa.specs.Table.{Write as WriteOf, same_reg, has_reg};
 ghost use Rattle.s66_moments.specs.Moments.{writes, fetches, only_if};
 ghost use Rattle.s66_moments.specs.Networks.{same_moment, same_stage};
-ghost use Rattle.s66_moments.specs.Known.{later};
+ghost use Rattle.s66_moments.specs.Known.{later, plus, reaches};
 ghost use Rattle.s66_facts.specs.Passes.{add, when, times_at, latest_done, latest_result, time_at_moment};
 
 use s66_isa::{BLOCK_LIMIT, Reg, Row, Write, has_register, is_same_register};
@@ -144,6 +144,30 @@ pub(crate) fn times_at(times: &[Times; BLOCK_LIMIT], n: u8) -> Times
         return Times::none();
     }
     times[n as usize - 1]
+}
+
+/// Whether two paths and a wait between them take so long at least.
+pub(crate) fn reaches_through(low: u32, first: Option<u64>, wait: u32, second: Option<u64>) -> bool
+    ensures { result ≡ reaches low (plus (plus first (Some wait)) second) }
+{
+    match (first, second) {
+        (None, _) => false,
+        (Some(_), None) => false,
+        (Some(first), Some(second)) => {
+            low as u64 <= first.saturating_add(wait as u64).saturating_add(second)
+        }
+    }
+}
+
+/// Whether two paths take so long at least.
+pub(crate) fn reaches_both(low: u32, first: Option<u64>, second: Option<u64>) -> bool
+    ensures { result ≡ reaches low (plus first second) }
+{
+    match (first, second) {
+        (None, _) => false,
+        (Some(_), None) => false,
+        (Some(first), Some(second)) => low as u64 <= first.saturating_add(second),
+    }
 }
 
 /// Whether one of these results is in a register.

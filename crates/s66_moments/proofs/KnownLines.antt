@@ -56,6 +56,30 @@ up-parts b before e f h =
     let (front, is_e) = and_parts (is_front e) (is_moment b e) rest3 in
     (front, is_e, back, is_f, leads)
 
+-- which still leads up with a pair more
+pub up-pair : (b : Problem) (before : ℕ → ℕ → Bool) (m n : ℕ) (e f : Moment) → is_arc_up b before e f ≡ true → is_arc_up b (with_pair before m n) e f ≡ true
+up-pair b before m n e f h =
+    let (front, is_e, back, is_f, leads) = up-parts b before e f h in
+    rw (front, is_e, back, is_f) (up-more e f leads)
+  where
+    up-more : (e f : Moment) → leads_up before e f ≡ true → leads_up (with_pair before m n) e f ≡ true
+    up-more Origin f h = refl
+    up-more (At i s) Origin h = refl
+    up-more (At i s) (At j t) h = or_left (before i j) _ h
+    up-more (At i s) End h = refl
+    up-more End f h = refl
+
+-- what the test of a pair says
+pub pair-tests : (b : Problem) (bound : ℕ) (known : Known) (m n : ℕ) → is_pair_taken b bound known m n ≡ true →
+    (m ≢ n) × IsNumber b m × IsNumber b n × (known.before n m ≡ false) × ((is_late_by_parcels b (arcs_of b known) bound m n || is_late_by_unit b (arcs_of b known) bound m n) ≡ true)
+pair-tests b bound known m n h =
+    let late_ways = is_late_by_parcels b (arcs_of b known) bound m n || is_late_by_unit b (arcs_of b known) bound m n in
+    let (rest, late) = and_parts (not (eqb m n) && is_number b m && is_number b n && not (known.before n m)) late_ways h in
+    let (rest2, off) = and_parts (not (eqb m n) && is_number b m && is_number b n) (not (known.before n m)) rest in
+    let (rest3, is_n) = and_parts (not (eqb m n) && is_number b m) (is_number b n) rest2 in
+    let (differ, is_m) = and_parts (not (eqb m n)) (is_number b m) rest3 in
+    (eqb-false m n (not-true (eqb m n) differ), number-is b m is_m, number-is b n is_n, not-true (known.before n m) off, late)
+
 -- ITS ARCS
 
 module _ (b : Problem) where
@@ -183,19 +207,14 @@ module _ (b : Problem) (facts : List Fact) (known : Known) (sound : IsSound b fa
         let (u, t, head, tail, sum) = plus-some (S Origin (At n Free)) (S (At m Issue) End) w is in
         (u, t, (same, eqb-true (copies b (row_at b m).kind) 1 one), span-leads Origin (At n Free) u head, span-leads (At m Issue) End t tail, omega (arith, le, sum))
 
-    -- what its test says
     pair-parts : is_pair_taken b bound known m n ≡ true → (m ≢ n) × IsNumber b m × IsNumber b n × (known.before n m ≡ false) × (IsLateByParcels b bound facts n m ⊎ IsLateByUnit b bound facts n m)
     pair-parts h =
-        let late_ways = is_late_by_parcels b (arcs_of b known) bound m n || is_late_by_unit b (arcs_of b known) bound m n in
-        let (rest, late) = and_parts (not (eqb m n) && is_number b m && is_number b n && not (known.before n m)) late_ways h in
-        let (rest2, off) = and_parts (not (eqb m n) && is_number b m && is_number b n) (not (known.before n m)) rest in
-        let (rest3, is_n) = and_parts (not (eqb m n) && is_number b m) (is_number b n) rest2 in
-        let (differ, is_m) = and_parts (not (eqb m n)) (is_number b m) rest3 in
+        let (differ, is_m, is_n, off, late) = pair-tests b bound known m n h in
         let ways : IsLateByParcels b bound facts n m ⊎ IsLateByUnit b bound facts n m = elim (or_cases (is_late_by_parcels b (arcs_of b known) bound m n) (is_late_by_unit b (arcs_of b known) bound m n) late) [
           | inl parcels ↦ inl (by_parcels parcels)
           | inr unit ↦ inr (by_unit unit)
         ] in
-        (eqb-false m n (not-true (eqb m n) differ), number-is b m is_m, number-is b n is_n, not-true (known.before n m) off, ways)
+        (differ, is_m, is_n, off, ways)
 
   -- LOADS
 
@@ -269,18 +288,6 @@ module _ (b : Problem) (bound : ℕ) (facts : List Fact) (known : Known) (sound 
       ((λ e. differ (sym e)), is_n, is_m, late)
   line-founded (Load line) h = (load-parts line h).1
 
-  up-pair : (m n : ℕ) (e f : Moment) → is_arc_up b known.before e f ≡ true → is_arc_up b (with_pair known.before m n) e f ≡ true
-  up-pair m n e f h =
-      let (front, is_e, back, is_f, leads) = up-parts b known.before e f h in
-      rw (front, is_e, back, is_f) (up-more e f leads)
-    where
-      up-more : (e f : Moment) → leads_up known.before e f ≡ true → leads_up (with_pair known.before m n) e f ≡ true
-      up-more Origin f h = refl
-      up-more (At i s) Origin h = refl
-      up-more (At i s) (At j t) h = or_left (known.before i j) _ h
-      up-more (At i s) End h = refl
-      up-more End f h = refl
-
   pub line-sound : (line : FactLine) → is_taken b bound known line ≡ true → IsSound b (fact_of (line_of b line) ∷ facts) (with_line known line)
   line-sound (Pair m n) h =
       let (differ, is_m, is_n, off, late) = pair-parts b facts known sound bound m n h in
@@ -288,7 +295,7 @@ module _ (b : Problem) (bound : ℕ) (facts : List Fact) (known : Known) (sound 
         is_known = pair-known b (Before m n ∷ facts) known.before m n (known-more (Before m n)) is_m is_n (inl refl);
         transitive = pair-transitive b known.before m n is_m is_n sound.transitive;
         no_ring = pair-no_ring b known.before m n is_m is_n sound.transitive sound.no_ring differ off;
-        up = λ load among. up-pair m n load.from load.to (sound.up load among);
+        up = λ load among. up-pair b known.before m n load.from load.to (sound.up load among);
         among = λ load among. inr (sound.among load among);
       }
     where

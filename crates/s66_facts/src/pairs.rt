@@ -1,0 +1,44 @@
+//! A pair that is known too.
+
+ghost use Rattle.std.specs.Prelude.{ℕ, ◌≡◌, ◌≤◌, ◌<◌, ◌+◌, ◌-◌, ◌==◌, ◌||◌, ◌&&◌, length, get_or};
+ghost use Rattle.s66_isa.specs.declared.limits.TheConstants.{BLOCK_LIMIT};
+ghost use Rattle.s66_moments.specs.Networks.{with_pair};
+ghost use Rattle.s66_facts.specs.Marked.{is_marked, no_marks, before_in};
+
+use crate::closure::marks_at;
+use crate::marks::Marks;
+use arrayvec::ArrayVec;
+use s66_isa::BLOCK_LIMIT;
+
+/// The numbers that stand before the one at a position, if j stands before k too.
+fn marks_with_pair(before: &[Marks], j: u8, k: u8, position: usize) -> Marks
+    requires few { length before.now ≤ BLOCK_LIMIT }
+    requires j { (1 ≤ j) × (j ≤ length before.now) }
+    requires k { (1 ≤ k) × (k ≤ length before.now) }
+    requires place { position < length before.now }
+    ensures { (m : ℕ) → 1 ≤ m → is_marked result m ≡ (is_marked (get_or before.now position no_marks) m || (m == j || is_marked (get_or before.now (j - 1) no_marks) m) && (position + 1 == k || is_marked (get_or before.now position no_marks) k)) }
+{
+    let own = marks_at(before, position);
+    if position + 1 == k as usize || own.has(k) {
+        let earlier = marks_at(before, j as usize - 1).with(j);
+        own.with_all(earlier)
+    } else {
+        own
+    }
+}
+
+/// The numbers that stand before each, if j stands before k too.
+pub(crate) fn with_pair(before: &[Marks], j: u8, k: u8) -> ArrayVec<Marks, BLOCK_LIMIT>
+    requires few { length before.now ≤ BLOCK_LIMIT }
+    requires j { (1 ≤ j) × (j ≤ length before.now) }
+    requires k { (1 ≤ k) × (k ≤ length before.now) }
+    ensures count { length result.items ≡ length before.now }
+    ensures pairs { before_in result.items ≡ with_pair (before_in before.now) j k }
+{
+    let mut all: ArrayVec<Marks, BLOCK_LIMIT> = ArrayVec::new();
+    for position in 0..before.len() {
+        let sooner = marks_with_pair(before, j, k, position);
+        all.push(sooner);
+    }
+    all
+}
