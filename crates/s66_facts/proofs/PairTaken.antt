@@ -1,5 +1,5 @@
 -- A pair that is taken leaves no ring.
-use Rattle.std.proofs.Common.{ℕ, ◌≡◌, ◌≤◌, Bool, true, List, length, sym, subst, ◌∙◌}
+use Rattle.std.proofs.Common.{ℕ, ◌≡◌, Bool, true, List, length, sym, subst, ◌∙◌}
 use Rattle.s66_moments.specs.declared.fact_line.KnownArc.{KnownArc}
 use Rattle.s66_moments.specs.Networks.{IsTransitive, HasNoRing, with_pair}
 use Rattle.s66_moments.specs.Known.{is_arc_up, is_pair_taken}

@@ -1,7 +1,7 @@
 -- A pair more, in what is kept of which number stands before which.
-use Rattle.std.proofs.Common.{ℕ, zero, suc, ◌+◌, ◌-◌, ◌≤◌, ◌<◌, ◌≡◌, ◌==◌, ◌||◌, ◌&&◌, Bool, true, false, true≢false, List, [], ◌∷◌, ◌++◌, length, get_or, refl, sym, ap, arith, inl, inr, leb, ◌∙◌, subst}
+use Rattle.std.proofs.Common.{ℕ, ◌+◌, ◌-◌, ◌≤◌, ◌≡◌, ◌==◌, ◌||◌, ◌&&◌, true, false, true≢false, List, [], ◌∷◌, ◌++◌, length, get_or, sym, ap, arith, inl, inr, leb, ◌∙◌}
 use Rattle.std.proofs.Math.Path.{fun_ext}
-use Rattle.std.proofs.lemmas.Bool.{and_parts, and_left, and_right, and_from, or_from, cases_Bool, cases_eq, eq-eqb, ne_eqb, le-leb, leb-true, cases_lt}
+use Rattle.std.proofs.lemmas.Bool.{and_parts, and_left, and_right, or_from, cases_Bool, ne_eqb, leb-true, cases_lt}
 use Rattle.std.proofs.lemmas.List.{length-append, get_or_append_left, get_or_push}
 use Rattle.s66_moments.specs.Networks.{with_pair}
 use Rattle.s66_facts.specs.declared.marks.Marks.{Marks}

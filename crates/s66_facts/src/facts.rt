@@ -82,6 +82,7 @@ impl Facts {
     pub fn tails(&self) -> [Times; BLOCK_LIMIT]
         ensures { (n : ℕ) → IsNumber self.now.problem n → AreTimes self.now.problem (λ m. span self.now.problem (arcs_of self.now.problem (known_of self.now)) m End) n (times_at result n) }
     {
+        // its clauses say that the block is short, and that nothing forms a ring
         let _count = self.count();
         tails(self, &Moment::End)
     }
@@ -90,6 +91,7 @@ impl Facts {
     pub fn heads(&self) -> [Times; BLOCK_LIMIT]
         ensures { (n : ℕ) → IsNumber self.now.problem n → AreTimes self.now.problem (λ m. span self.now.problem (arcs_of self.now.problem (known_of self.now)) Origin m) n (times_at result n) }
     {
+        // as above
         let _count = self.count();
         heads(self, &Moment::Origin)
     }

@@ -1,4 +1,4 @@
-use Rattle.std.proofs.Common.{ℕ, ◌≡◌, ◌≤◌, length, true, sym, subst, arith, leb}
+use Rattle.std.proofs.Common.{◌≡◌, length, true, subst, arith, leb}
 use Rattle.std.proofs.lemmas.Bool.{and_from, le-leb}
 use Rattle.s66_facts.specs.Marked.{is_in}
 use Rattle.s66_facts.proofs.Paired.{ArePaired, pair-is, paired-push}
