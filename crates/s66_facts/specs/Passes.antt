@@ -1,4 +1,4 @@
--- Used by contracts within the crate alone: one step of the longest paths to and from the moments of an instruction, by those of the others.
+-- Used by contracts: the times of the moments of an instruction, and how they are found by one step from those of the others.
 use Rattle.std.specs.Prelude.{ℕ, zero, suc, ◌+◌, ◌-◌, ◌^◌, ◌≡◌, Bool, not, if◌then◌else◌, ◌&&◌, ◌==◌, min, List, [], ◌∷◌, get_or, Option, Some, None}
 use Rattle.s66_isa.specs.declared.reg.Reg.{Reg}
 use Rattle.s66_isa.specs.Table.{Row, Write, same_kind, has_reg, memory_pair, numbers}

@@ -1,4 +1,4 @@
--- Used by contracts within the crate alone: which numbers have their times already, in the order in which these can be told.
+-- Used by contracts within the crate alone: which numbers have their times already, each after those on which it waits.
 use Rattle.std.specs.Prelude.{ℕ, ◌≡◌, ◌≤◌, true, List}
 use Rattle.s66_isa.specs.declared.limits.TheConstants.{BLOCK_LIMIT}
 use Rattle.s66_moments.specs.declared.moment.Moment.{Moment}
