@@ -9,3 +9,4 @@ pub mod SoFar
 pub mod FirstKnown
 pub mod Paired
 pub mod PairTaken
+pub mod LoadTaken

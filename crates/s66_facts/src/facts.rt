@@ -1,18 +1,20 @@
 //! A block under a profile, and what is known of it.
 
-ghost use Rattle.std.specs.Prelude.{ℕ, ◌≡◌, ◌≤◌, ◌↔◌, ◌||◌, IsTrue, if◌then◌else◌, length, map};
+ghost use Rattle.std.specs.Prelude.{ℕ, ◌≡◌, ◌≤◌, ◌<◌, ◌↔◌, ◌||◌, IsTrue, if◌then◌else◌, true, [], ◌∷◌, ◌++◌, length, map};
 ghost use Rattle.s66_isa.specs.Table.{row};
 ghost use Rattle.s66_isa.specs.declared.limits.TheConstants.{BLOCK_LIMIT};
+ghost use Rattle.s66_facts.specs.declared.limits.TheConstants.{FACT_LIMIT};
 
 use crate::closure::before_each;
 use crate::limits::FACT_LIMIT;
+use crate::loads::is_load_taken;
 use crate::marks::Marks;
 use crate::pairs::with_pair;
 use crate::rounds::{heads, tails};
 use crate::times::{Times, reaches_both, reaches_through, times_at};
 use arrayvec::ArrayVec;
-use s66_isa::{BLOCK_LIMIT, Instr, Profile, Row, is_same_kind};
-use s66_moments::{KnownArc, Moment};
+use s66_isa::{BLOCK_LIMIT, Instr, Kind, Profile, Row, is_same_kind};
+use s66_moments::{KnownArc, LoadLine, Moment};
 use std::marker::Model;
 
 /// A block under a profile, and what is known of all its legal orders that take less than a time: which number stands before which, and
@@ -50,14 +52,14 @@ fn rows_of(block: &[Instr], profile: &Profile) -> ArrayVec<Row, BLOCK_LIMIT>
 }
 
 impl Facts {
-    ghost use Rattle.s66_model.specs.Timing.{row_at};
+    ghost use Rattle.s66_model.specs.Timing.{row_at, copies};
     ghost use Rattle.s66_moments.specs.Facts.{IsNumber};
     ghost use Rattle.s66_facts.specs.Marked.{before_in};
     ghost use Rattle.s66_facts.specs.Ground.{IsOrdered, known_of};
     ghost use Rattle.s66_facts.specs.Passes.{share_unit, times_at, AreTimes};
     ghost use Rattle.s66_moments.specs.declared.moment.Moment.TheVariants.{Origin, End};
-    ghost use Rattle.s66_moments.specs.Known.{known_first, with_line, arcs_of, span, is_number, is_late_by_parcels, is_late_by_unit, is_pair_taken, is_taken};
-    ghost use Rattle.s66_moments.specs.declared.fact_line.FactLine.TheVariants.{Pair};
+    ghost use Rattle.s66_moments.specs.Known.{known_first, with_line, arcs_of, span, is_number, is_late_by_parcels, is_late_by_unit, is_pair_taken, is_taken, is_arc_up, is_load_taken};
+    ghost use Rattle.s66_moments.specs.declared.fact_line.FactLine.TheVariants.{Pair, Load};
 
     /// What is known of a block under a profile by dependence alone.
     pub fn new(block: &[Instr], profile: &Profile) -> Facts
@@ -132,8 +134,17 @@ impl Facts {
         self.before[n as usize - 1].has(m)
     }
 
+    /// How many units there are of a kind.
+    pub(crate) fn copies(&self, kind: Kind) -> u32
+        ensures value { result ≡ copies self.now.problem kind }
+        ensures at_least { 1 ≤ result }
+        ensures at_most { result ≤ 100 }
+    {
+        self.profile.copies(kind)
+    }
+
     /// Whether the block has a number.
-    fn is_number(&self, n: u8) -> bool
+    pub(crate) fn is_number(&self, n: u8) -> bool
         ensures value { result ≡ is_number self.now.problem n }
         ensures number { IsTrue result ↔ IsNumber self.now.problem n }
     {
@@ -178,6 +189,37 @@ impl Facts {
         }
         self.before = with_pair(self.before.as_slice(), m, n);
         true
+    }
+
+    /// Takes a load line in if it is a fact of all legal orders, by what is known, and returns whether it is: its instructions need units
+    /// of one kind, begin their use of them late enough after its first moment, and have to be over before its last one, so this one
+    /// comes its wait later at least. If it isn't, nothing changes. It takes the time of the longest paths from a moment and to another.
+    pub fn take_load(&mut self, line: &LoadLine) -> bool
+        requires room { length self.old.loads < FACT_LIMIT }
+        ensures taken { result ≡ is_load_taken self.old.problem (known_of self.old) line.now }
+        ensures problem { self.new.problem ≡ self.old.problem }
+        ensures known { known_of self.new ≡ (if result then with_line (known_of self.old) (Load line.now) else known_of self.old) }
+    {
+        if !is_load_taken(self, line) {
+            return false;
+        }
+        self.add_load(&line.from, line.wait, &line.to);
+        true
+    }
+
+    /// One arc of a load more, which leads up.
+    fn add_load(&mut self, from: &Moment, wait: u32, to: &Moment)
+        requires room { length self.old.loads < FACT_LIMIT }
+        requires up { is_arc_up self.old.problem (before_in self.old.marks) from.now to.now ≡ true }
+        ensures problem { self.new.problem ≡ self.old.problem }
+        ensures marks { self.new.marks ≡ self.old.marks }
+        ensures loads { self.new.loads ≡ self.old.loads ++ record { from = from.now; wait = wait; to = to.now } ∷ [] }
+    {
+        self.loads.push(KnownArc {
+            from: *from,
+            wait,
+            to: *to,
+        });
     }
 
     /// The arcs of loads.

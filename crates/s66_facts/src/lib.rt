@@ -6,6 +6,7 @@ mod closure;
 mod facts;
 mod heads;
 mod limits;
+mod loads;
 mod marks;
 mod pairs;
 mod rounds;

@@ -1,0 +1,12 @@
+use Rattle.std.proofs.Common.{◌+◌, ◌*◌, ◌^◌, ◌≡◌, ◌≤◌, true, map, drop}
+use Rattle.s66_isa.specs.Lists.{every, weigh}
+use Rattle.s66_moments.specs.FactLines.{Use}
+use Rattle.s66_moments.specs.Known.{is_number, use_of}
+use Rattle.s66_facts.proofs.loads.amounts.Given as goal
+
+abbrev pub invariant-loop-n : goal.invariant-loop-n
+invariant-loop-n l = record {
+  sum : l.sum + weigh (λ (u : Use). u.amount) (map (use_of l.facts.problem) (drop l.n-index l.numbers)) ≡ weigh (λ (u : Use). u.amount) (map (use_of l.facts.problem) l.numbers);
+  at_most : l.sum ≤ l.n-index * 2 ^ 32;
+  numbers : every (is_number l.facts.problem) (drop l.n-index l.numbers) ≡ true;
+}

@@ -1,0 +1,11 @@
+use Rattle.std.proofs.Common.{◌≡◌, true, drop}
+use Rattle.s66_isa.specs.Lists.{every}
+use Rattle.s66_moments.specs.Known.{is_number, is_used}
+use Rattle.s66_facts.specs.Ground.{ground_arcs}
+use Rattle.s66_facts.proofs.loads.are_used.Given as goal
+
+abbrev pub invariant-loop-n : goal.invariant-loop-n
+invariant-loop-n l = record {
+  numbers : every (is_number l.facts.problem) (drop l.n-index l.numbers) ≡ true;
+  used : every (is_used l.facts.problem (ground_arcs l.facts) l.line l.kind l.time) (drop l.n-index l.numbers) ≡ every (is_used l.facts.problem (ground_arcs l.facts) l.line l.kind l.time) l.numbers;
+}
