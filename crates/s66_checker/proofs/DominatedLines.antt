@@ -8,13 +8,13 @@ use Rattle.s66_model.specs.Timing.{Problem}
 use Rattle.s66_model.specs.LegalOrder.{IsBeginning, IsIncomplete}
 use Rattle.s66_model.specs.Digits.{HaveDigits}
 use Rattle.s66_model.specs.Dominance.{IsSameSet}
-use Rattle.s66_model.specs.NodeNames.{node_named}
-use Rattle.s66_model.specs.DominatedLeaves.{Ending, Bounding, Dominated, IsEarlier, may_be_named, DominatesByRule, EndingShows}
+use Rattle.s66_model.specs.NodeNames.{node_at}
+use Rattle.s66_model.specs.DominatedLeaves.{Ending, Bounding, Dominated, Next, Turned, AtLine, IsEarlier, may_be_named, DominatesByRule, MayBeDominated, EndingShows}
 use Rattle.s66_model.specs.Tree.{AtTerminal}
-use Rattle.s66_cert.specs.Document.{Document}
+use Rattle.s66_cert.specs.Document.{Document, is_factual}
 use Rattle.s66_checker.specs.declared.verdict.Reason.TheVariants as fault
 use Rattle.s66_checker.specs.Dominating.{dominates_by}
-use Rattle.s66_checker.specs.Verdict.{problem_of, is_complete, is_earlier, is_early_enough, is_name, line_fault}
+use Rattle.s66_checker.specs.Verdict.{problem_of, is_complete, is_earlier, is_early_enough, is_name, dominated_fault, line_fault}
 use Rattle.s66_checker.proofs.Faultless.{passed, goes_on-Decides, is_incomplete-Decides, leaf-shows}
 use Rattle.s66_checker.proofs.AheadOf.{same_set-Decides}
 use Rattle.s66_checker.proofs.DominanceTests.{written-Decides, clamped-Decides, document-digits}
@@ -79,9 +79,8 @@ name-parts : (d : Document) (at name : List ℕ) →
 name-parts d at name =
     Decides-and _ _ (Decides-and _ _ (Decides-and _ _ ((λ h. h), λ h. h) ((λ h. h), λ h. h)) (goes_on-Decides (problem_of d).block [] name)) (same_set-Decides name at)
 
-pub ending-shows : (d : Document) (at : List ℕ) (ending : Ending) → IsBeginning (problem_of d).block at → (line_fault d at (AtTerminal ending) ≡ None) ↔ EndingShows d.rule (problem_of d) d.bound [] d.tree at ending
-ending-shows d at (Bounding leaf) begins = leaf-shows (problem_of d) d.bound at leaf begins
-ending-shows d at (Dominated name) begins =
+pub dominated-shows : (d : Document) (at name : List ℕ) → IsBeginning (problem_of d).block at → (dominated_fault d at name ≡ None) ↔ MayBeDominated d.rule (problem_of d) [] d.tree at name
+dominated-shows d at name begins =
     let b : Problem = problem_of d in
     let complete : Bool = is_complete b at in
     let named : Bool = is_name d at name in
@@ -105,3 +104,11 @@ ending-shows d at (Dominated name) begins =
             second.1 (not_from_true named (parts.1 (((may, side), begin), same)), third.1 (not_from_true dominates is, refl)),
           )),
     )
+
+-- without fact lines no other ending may come
+pub ending-shows : (d : Document) (at : List ℕ) (ending : Ending) → is_factual (AtTerminal ending) ≡ false → IsBeginning (problem_of d).block at → (line_fault d at (AtTerminal ending) ≡ None) ↔ EndingShows d.rule (problem_of d) d.bound [] d.tree at ending
+ending-shows d at (Bounding leaf) may begins = leaf-shows (problem_of d) d.bound at leaf begins
+ending-shows d at (Dominated name) may begins = dominated-shows d at name begins
+ending-shows d at (Next number) may begins = absurd (true≢false may)
+ending-shows d at (Turned first second) may begins = absurd (true≢false may)
+ending-shows d at (AtLine line) may begins = absurd (true≢false may)

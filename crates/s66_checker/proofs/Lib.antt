@@ -21,3 +21,8 @@ pub mod UnitsNoLater
 pub mod TwoPrefixes
 pub mod DominanceTests
 pub mod DominatedLines
+pub mod TreeClaims
+pub mod LineNodes
+pub mod LineClaims
+pub mod TakenLines
+pub mod KnownTails

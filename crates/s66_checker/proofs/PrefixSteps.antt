@@ -43,6 +43,20 @@ prefix-start block instrs profile rows all placed ns xs some few same known need
       timed = rw (no_number, no_point) refl;
     })
 
+-- THE NEXT POINT
+
+-- only the row matters, and the profile
+point-under : (block : List Instr) (profile : Profile) (s : List Point) (n : ℕ) (r : Row) → point (with_profile profile) s n r ≡ point (record { block = block; profile = profile }) s n r
+unfolding point Rattle.s66_model.specs.Timing.start_of Rattle.s66_model.specs.Timing.issue_of
+point-under block profile s n r = refl
+
+pub point-next : (block : List Instr) (profile : Profile) (rows : List Row) (all : List Marks) (placed : Marks) (ns : List ℕ) (xs : List Point) (n : ℕ) (r : Row) (p : Point) → IsPrefix block profile rows all placed ns xs →
+    r ≡ row_at (record { block = block; profile = profile }) n → p ≡ point (with_profile profile) (reverse xs) n r →
+    p ≡ point_of (record { block = block; profile = profile }) (points_of (record { block = block; profile = profile }) ns) n
+point-next block profile rows all placed ns xs n r p is e2 e3 =
+    let b : Problem = record { block = block; profile = profile } in
+    e3 ∙ point-under block profile (reverse xs) n r ∙ ap (λ s. point b s n r) is.timed ∙ ap (λ (j : Row). point b (points_of b ns) n j) e2
+
 -- A PUSH
 
 pub room-left : (block : List Instr) (profile : Profile) (rows : List Row) (all : List Marks) (placed : Marks) (ns : List ℕ) (xs : List Point) (n : ℕ) → IsPrefix block profile rows all placed ns xs → is_ready block ns n ≡ true →
@@ -50,11 +64,6 @@ pub room-left : (block : List Instr) (profile : Profile) (rows : List Row) (all 
 room-left block profile rows all placed ns xs n is ready =
     let more : length ns < BLOCK_LIMIT = omega (arith, beginning-few block (ns ++ n ∷ []) (step-begins block ns n is.begins ready), length-append ns (n ∷ []), is.few) in
     (omega (arith, more, prefix-length block profile rows all placed ns xs is), more)
-
--- only the row matters, and the profile
-point-under : (block : List Instr) (profile : Profile) (s : List Point) (n : ℕ) (r : Row) → point (with_profile profile) s n r ≡ point (record { block = block; profile = profile }) s n r
-unfolding point Rattle.s66_model.specs.Timing.start_of Rattle.s66_model.specs.Timing.issue_of
-point-under block profile s n r = refl
 
 marked-push : (placed more : Marks) (ns : List ℕ) (n : ℕ) → ((m : ℕ) → 1 ≤ m → is_marked more m ≡ (m == n || is_marked placed m)) → ((m : ℕ) → 1 ≤ m → m ≤ BLOCK_LIMIT → is_marked placed m ≡ has m ns) →
     (m : ℕ) → 1 ≤ m → m ≤ BLOCK_LIMIT → is_marked more m ≡ has m (ns ++ n ∷ [])
@@ -64,16 +73,12 @@ marked-push placed more ns n with marked m low high =
       | inr apart ↦ with m low ∙ rw (ne_eqb m n apart) (marked m low high) ∙ sym (has_push-other m n ns apart)
     ]
 
-pub prefix-push : (block : List Instr) (profile : Profile) (rows : List Row) (all : List Marks) (placed : Marks) (ns : List ℕ) (xs : List Point) (n : ℕ) (more : Marks) (r : Row) (p : Point) (ms : List ℕ) (ys : List Point) →
-    IsPrefix block profile rows all placed ns xs → ((m : ℕ) → 1 ≤ m → is_marked more m ≡ (m == n || is_marked placed m)) → is_ready block ns n ≡ true → r ≡ row_at (record { block = block; profile = profile }) n → p ≡ point (with_profile profile) (reverse xs) n r →
+pub prefix-push : (block : List Instr) (profile : Profile) (rows : List Row) (all : List Marks) (placed : Marks) (ns : List ℕ) (xs : List Point) (n : ℕ) (more : Marks) (p : Point) (ms : List ℕ) (ys : List Point) →
+    IsPrefix block profile rows all placed ns xs → ((m : ℕ) → 1 ≤ m → is_marked more m ≡ (m == n || is_marked placed m)) → is_ready block ns n ≡ true → p ≡ point_of (record { block = block; profile = profile }) (points_of (record { block = block; profile = profile }) ns) n →
     ms ≡ ns ++ n ∷ [] → ys ≡ xs ++ p ∷ [] → IsPrefix block profile rows all more ms ys
-prefix-push block profile rows all placed ns xs n more r p ms ys is with ready e2 e3 e4 e5 =
+prefix-push block profile rows all placed ns xs n more p ms ys is with ready made e4 e5 =
     let (low, high, new, met) = ready-parts block ns n ready in
     let b : Problem = record { block = block; profile = profile } in
-    let made : p ≡ point_of b (points_of b ns) n =
-    e3 ∙ point-under block profile (reverse xs) n r ∙ ap (λ s. point b s n r) is.timed
-    ∙ ap (λ (j : Row). point b (points_of b ns) n j) e2
-    in
     record {
       some = is.some;
       few = is.few;

@@ -12,13 +12,13 @@ use Rattle.s66_model.proofs.Later.{replaced, dropped, split-first}
 use Rattle.s66_model.proofs.Remaining.{ready-among}
 use Rattle.s66_cert.specs.Document.{Document}
 use Rattle.s66_cert.specs.DocumentParts.{Parts, AreWhole, document_of}
-use Rattle.s66_cert.specs.declared.limits.TheConstants.{SPLIT_LIMIT}
+use Rattle.s66_cert.specs.declared.limits.TheConstants.{SPLIT_LIMIT, FACT_LIMIT}
 use Rattle.s66_isa.specs.declared.limits.TheConstants.{BLOCK_LIMIT}
 use Rattle.s66_checker.specs.Checked.{Checked}
 use Rattle.s66_checker.specs.declared.verdict.Verdict.TheVariants.{Yes, No}
 use Rattle.s66_checker.specs.declared.verdict.Reason.{Reason}
 use Rattle.s66_line.specs.InstructionText.{instr_in_text}
-use Rattle.s66_checker.specs.Verdict.{problem_of, line_fault, lines_verdict, tree_line_number, tree_placed}
+use Rattle.s66_checker.specs.Verdict.{problem_of, facts_of, line_fault, lines_verdict, tree_line_number}
 use Rattle.s66_checker.specs.Walk.{coming, coming_after, HasReady}
 use Rattle.s66_checker.proofs.Faultless.{split-shows}
 use Rattle.s66_checker.proofs.Placed.{placed, none-placed, tree-placed, few-lines}
@@ -101,22 +101,22 @@ none-left d number time bound vertices prefixes same equal none =
 
 -- THE FIRST LINE
 
-module _ (p : Parts) (whole : AreWhole p) (start : Checked) (at : start ≡ record { problem = problem_of (document_of p); numbers = [] }) (count : ℕ) (counted : count ≡ length start.problem.block) (lines : List (Vertex Ending)) (all : lines ≡ p.vertices) where
+module _ (p : Parts) (whole : AreWhole p) (start : Checked) (at : start ≡ record { problem = problem_of (document_of p); numbers = [] }) (count facts : ℕ) (counted : count ≡ length start.problem.block) (held : facts ≡ length (facts_of (document_of p))) (lines : List (Vertex Ending)) (all : lines ≡ p.vertices) where
   d : Document
   d = document_of p
 
-  at-line : count + 7 ≡ tree_line_number d
+  at-line : count + 7 + facts ≡ tree_line_number d
   unfolding d
   at-line =
-      omega (arith, counted, ap (λ (c : Checked). length c.problem.block) at, length-map p.block instr_in_text)
+      omega (arith, counted, held, ap (λ (c : Checked). length c.problem.block) at, length-map p.block instr_in_text)
 
-  pub walk-begins : lines_verdict (document_of p) (count + 7) (placed lines (coming (problem_of (document_of p)).block true start.numbers)) ≡ lines_verdict (document_of p) (tree_line_number (document_of p)) (tree_placed [] (document_of p).tree)
+  pub walk-begins : lines_verdict (document_of p) (count + 7 + facts) (placed lines (coming (problem_of (document_of p)).block true start.numbers)) ≡ lines_verdict (document_of p) (tree_line_number (document_of p)) (tree_placed [] (document_of p).tree)
   unfolding d
   walk-begins =
       rw (at-line, ap (λ (c : Checked). c.numbers) at, all ∙ sym whole.preorder)
       (ap (lines_verdict d (tree_line_number d)) (tree-placed BLOCK_LIMIT d.tree whole.document.tree))
 
-  pub walk-ends : count + 7 + length lines ≤ BLOCK_LIMIT + 8 + SPLIT_LIMIT * BLOCK_LIMIT
+  pub walk-ends : facts ≤ FACT_LIMIT → count + 7 + facts + length lines ≤ BLOCK_LIMIT + 8 + SPLIT_LIMIT * BLOCK_LIMIT + FACT_LIMIT
   unfolding d
-  walk-ends =
-      omega (arith, at-line, whole.document.block.1, few-lines BLOCK_LIMIT d.tree whole.document.tree, whole.document.splits, ap (λ (ks : List (Vertex Ending)). length ks) (all ∙ sym whole.preorder))
+  walk-ends few =
+      omega (arith, at-line, held, few, whole.document.block.1, few-lines BLOCK_LIMIT d.tree whole.document.tree, whole.document.splits, ap (λ (ks : List (Vertex Ending)). length ks) (all ∙ sym whole.preorder))

@@ -1,13 +1,19 @@
 -- Used by examples alone: worked documents with a part changed.
-use Rattle.std.specs.Prelude.{ℕ, List, [], ◌∷◌, codes}
+use Rattle.std.specs.Prelude.{ℕ, List, [], ◌∷◌, Some, None, codes}
 use Rattle.s66_isa.specs.Profiles.{profile_of}
 use Rattle.s66_isa.specs.Table.{instr}
 use Rattle.s66_model.specs.Timing.{Problem}
 use Rattle.s66_model.specs.declared.rule.Rule.{Rule}
+use Rattle.s66_model.specs.declared.rule.Rule.TheVariants.{ClampedStanding}
 use Rattle.s66_model.specs.Leaves.{Leaf, Whole, Chain, Parcels}
 use Rattle.s66_model.specs.Tree.{Tree, Alone, Parted, Siblings, NoMore, Unsplit, Split}
-use Rattle.s66_model.specs.DominatedLeaves.{Ending, Bounding, Dominated}
-use Rattle.s66_model.specs.Examples.{late_reader_tree, increments_load}
+use Rattle.s66_model.specs.DominatedLeaves.{Ending, Bounding, Dominated, Next, Turned}
+use Rattle.s66_model.specs.Examples.{late_reader_tree, increments_tree, increments_load}
+use Rattle.s66_moments.specs.declared.moment.Stage.TheVariants.{Issue}
+use Rattle.s66_moments.specs.declared.moment.Moment.TheVariants.{At, End}
+use Rattle.s66_moments.specs.declared.fact_line.FactLine.{FactLine}
+use Rattle.s66_moments.specs.declared.fact_line.FactLine.TheVariants.{Pair}
+use Rattle.s66_moments.specs.Examples.{load_fact}
 use Rattle.s66_cert.specs.Document.{Document}
 use Rattle.s66_cert.specs.Examples.{standard_numbers, one_load, three_multiplies, after_one, late_reader}
 
@@ -114,3 +120,53 @@ four_increments rule = record {
       (Split (3 ∷ 4 ∷ []) (Unsplit (Dominated (1 ∷ 3 ∷ 2 ∷ [])) (Unsplit increments_load NoMore)) (Unsplit increments_load (Unsplit increments_load NoMore)))
       (Unsplit increments_load (Unsplit increments_load NoMore))));
 }
+
+-- WITH FACT LINES, which follow line 6 and a line for each instruction
+
+-- of this block, by an order that takes this time
+abbrev pub with_facts : List (List ℕ) → List ℕ → ℕ → ℕ → List FactLine → Tree Ending → Document
+with_facts block numbers time bound facts tree = record {
+  rule = ClampedStanding;
+  facts = Some facts;
+  profile = standard_numbers;
+  block = block;
+  time = time;
+  bound = bound;
+  numbers = numbers;
+  tree = tree;
+}
+
+-- one Add unit for all three
+abbrev pub three_sums : List FactLine → Tree Ending → Document
+three_sums facts tree =
+    with_facts (codes "FX2 X3+X3" ∷ codes "FX5 X2+X2" ∷ codes "FX4 X3+X1" ∷ []) (1 ∷ 2 ∷ 3 ∷ []) 15 15 facts tree
+
+-- the slower of its two orders
+abbrev pub two_sums : ℕ → Document
+two_sums bound =
+    with_facts (codes "BX5 X2*X5" ∷ codes "FX2 X4+X4" ∷ codes "FX5 X1+X4" ∷ []) (1 ∷ 3 ∷ 2 ∷ []) 13 bound (Pair 3 2 ∷ []) (Alone (Next 1))
+
+-- what comes after 1, and after 2
+abbrev pub first_of_two : List FactLine → Siblings Ending → Document
+first_of_two facts siblings =
+    with_facts (codes "BX2 X4*X3" ∷ codes "IX1 X3+X1" ∷ codes "FX2 X1*X4" ∷ []) (1 ∷ 2 ∷ 3 ∷ []) 15 15 facts (Parted (1 ∷ 2 ∷ []) siblings)
+
+-- after the line that the first stands before the second
+abbrev pub after_pair : Ending → Ending → Document
+after_pair first second = first_of_two (Pair 1 2 ∷ []) (Unsplit first (Unsplit second NoMore))
+
+-- at 1 2 3
+abbrev pub at_the_end : Ending → Document
+at_the_end ending =
+    first_of_two (Pair 1 2 ∷ []) (Split (2 ∷ []) (Split (3 ∷ []) (Unsplit ending NoMore) NoMore) (Unsplit (Turned 1 2) NoMore))
+
+-- two Booleans between the first and the last
+abbrev pub booleans_between : Document
+booleans_between =
+    with_facts (codes "BX1 X2*X3" ∷ codes "BX4 X1*X1" ∷ codes "BX5 X1*X1" ∷ codes "FX6 X4+X5" ∷ []) (1 ∷ 2 ∷ 3 ∷ 4 ∷ []) 16 16
+    (load_fact (At 1 Issue) End 4 16 (2 ∷ 3 ∷ []) ∷ []) (Alone (Next 1))
+
+-- 1 2, on line 12, and 2 1, on line 15
+abbrev pub increments_named : Ending → Ending → Document
+increments_named first second =
+    with_facts (codes "SB0 B1" ∷ codes "SB0 B1" ∷ codes "SB0 B1" ∷ []) (1 ∷ 2 ∷ 3 ∷ []) 8 7 [] (increments_tree first second)

@@ -1,5 +1,5 @@
 -- Used by contracts within the crate alone: what is kept of the beginning of an order.
-use Rattle.std.specs.Prelude.{ℕ, ◌+◌, ◌*◌, ◌≡◌, ◌≤◌, ◌<◌, List, [], length, get_or, map, reverse}
+use Rattle.std.specs.Prelude.{ℕ, ◌+◌, ◌*◌, ◌≡◌, ◌≤◌, ◌<◌, false, Option, None, Some, List, [], length, get_or, map, reverse}
 use Rattle.s66_isa.specs.declared.instr.Instr.{Instr}
 use Rattle.s66_isa.specs.declared.profile.Profile.{Profile}
 use Rattle.s66_isa.specs.Lists.{has}
@@ -8,6 +8,10 @@ use Rattle.s66_model.specs.Timing.{Problem, Point, points_of}
 use Rattle.s66_model.specs.Dependence.{depends}
 use Rattle.s66_model.specs.LegalOrder.{IsBeginning}
 use Rattle.s66_isa.specs.declared.limits.TheConstants.{BLOCK_LIMIT}
+use Rattle.s66_model.specs.Tree.{Vertex}
+use Rattle.s66_model.specs.DominatedLeaves.{Ending}
+use Rattle.s66_cert.specs.Document.{Document}
+use Rattle.s66_checker.specs.Verdict.{is_name_at, node_on}
 use Rattle.s66_checker.specs.Marked.{is_marked}
 use Rattle.s66_checker.specs.declared.marks.Marks.{Marks}
 
@@ -40,3 +44,8 @@ pub record IsPrefix (block : List Instr) (profile : Profile) (rows : List Row) (
   pub needed : AreNeeds block all
   pub marked : (m : ℕ) → 1 ≤ m → m ≤ BLOCK_LIMIT → is_marked placed m ≡ has m numbers
   pub timed : reverse points ≡ points_of (record { block = block; profile = profile }) numbers
+
+-- the vertex of a line of the document, with its prefix; none only if no prefix may name it
+abbrev pub IsNodeOn : Document → ℕ → Option (Vertex Ending) → List ℕ → Type 0
+IsNodeOn d line None name = (at : List ℕ) → is_name_at d at (node_on d line) ≡ false
+IsNodeOn d line (Some vertex) name = node_on d line ≡ Some (name, vertex)

@@ -8,3 +8,4 @@ pub mod Examples
 pub mod KeptPrefix
 pub mod PastWords
 pub mod Marked
+pub mod KeptKnown

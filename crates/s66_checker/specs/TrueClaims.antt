@@ -1,14 +1,42 @@
 -- To be believed: when what a document claims is true.
-use Rattle.std.specs.Prelude.{◌≡◌, ◌≤◌, []}
+use Rattle.std.specs.Prelude.{ℕ, ◌≡◌, ◌≤◌, List, [], Option, None, Some, map}
+use Rattle.s66_model.specs.declared.rule.Rule.TheVariants.{ClampedStanding}
 use Rattle.s66_model.specs.Timing.{total_of}
 use Rattle.s66_model.specs.LegalOrder.{IsLegal}
-use Rattle.s66_model.specs.DominatedLeaves.{ShowsBy}
+use Rattle.s66_model.specs.Tree.{Tree, Vertex}
+use Rattle.s66_model.specs.Stated.{tree_seen}
+use Rattle.s66_model.specs.DominatedLeaves.{Ending, Bounding, Dominated, Next, Turned, AtLine, ShowsBy}
+use Rattle.s66_moments.specs.declared.fact_line.FactLine.{FactLine}
+use Rattle.s66_moments.specs.Known.{line_of}
+use Rattle.s66_moments.specs.LineTrees.{LineEnding, AtLeaf, AtLines, DominatedBy, ShowsByLines}
 use Rattle.s66_cert.specs.Document.{Document}
-use Rattle.s66_checker.specs.Verdict.{problem_of}
+use Rattle.s66_checker.specs.Verdict.{problem_of, node_on, name_of}
 
--- under its own profile its order is legal and takes its time, its bound isn't above the time, and its tree shows the bound by its rule
+-- WITH FACT LINES
+
+-- what closes a prefix: a leaf that bounds, the facts alone, or a node that dominates it
+abbrev pub line_ending : Document → Ending → LineEnding
+line_ending d (Bounding leaf) = AtLeaf leaf
+line_ending d (Dominated name) = DominatedBy name
+line_ending d (Next number) = AtLines []
+line_ending d (Turned first second) = AtLines []
+line_ending d (AtLine line) = DominatedBy (name_of (node_on d line))
+
+abbrev pub line_tree : Document → Tree LineEnding
+line_tree d = tree_seen (λ at. line_ending d) [] d.tree
+
+-- WHAT IS CLAIMED
+
+-- Its tree shows the bound: without fact lines by its rule. With them each line is founded on those before it, for orders that take less
+-- than the bound, and the tree shows the bound by all.
+abbrev pub IsShown : Document → Option (List FactLine) → Type 0
+IsShown d None = ShowsBy d.rule (problem_of d) d.bound [] d.tree
+IsShown d (Some lines) =
+    ShowsByLines ClampedStanding (problem_of d) d.bound (map (line_of (problem_of d)) lines) [] (line_tree d)
+
+-- under its own profile its order is legal and takes its time, its bound isn't above the time, and its tree shows it
 pub record IsTrueClaim (d : Document) : Type 0 where
   pub legal : IsLegal (problem_of d).block d.numbers
   pub time : total_of (problem_of d) d.numbers ≡ d.time
   pub bound : d.bound ≤ d.time
-  pub tree : ShowsBy d.rule (problem_of d) d.bound [] d.tree
+  pub tree : IsShown d d.facts

@@ -1,5 +1,5 @@
 -- To be believed: the verdict on a document: yes, or its first fault.
-use Rattle.std.specs.Prelude.{ℕ, suc, ◌+◌, ◌==◌, ◌&&◌, ◌||◌, if◌then◌else◌, Bool, true, false, not, List, [], ◌∷◌, ◌++◌, Option, None, Some, length, map, nat_lt}
+use Rattle.std.specs.Prelude.{ℕ, suc, ◌+◌, ◌-◌, ◌==◌, ◌&&◌, ◌||◌, if◌then◌else◌, Bool, true, false, not, List, [], ◌∷◌, ◌++◌, Option, None, Some, length, map, nat_le, nat_lt, slice_get, unwrap_or}
 use Rattle.std.specs.Str.{bytes_eq}
 use Rattle.s66_isa.specs.declared.instr.Instr.{Instr}
 use Rattle.s66_isa.specs.Profiles.{profile_of}
@@ -9,10 +9,13 @@ use Rattle.s66_model.specs.declared.rule.Rule.TheVariants.{NoneNamed, WrittenEar
 use Rattle.s66_model.specs.Timing.{Problem, total_of}
 use Rattle.s66_model.specs.LegalOrder.{is_remaining, ready}
 use Rattle.s66_model.specs.Leaves.{Leaf, Whole, Chain, Load, Parcels, value, is_linked}
-use Rattle.s66_model.specs.Tree.{Tree, Alone, Parted, Siblings, NoMore, Unsplit, Split, Vertex, AtTerminal, AtSplit}
-use Rattle.s66_model.specs.NodeNames.{node_named}
-use Rattle.s66_model.specs.DominatedLeaves.{Ending, Bounding, Dominated, may_be_named}
-use Rattle.s66_cert.specs.Document.{Document}
+use Rattle.s66_model.specs.Tree.{Vertex, AtTerminal, AtSplit}
+use Rattle.s66_model.specs.NodeNames.{node_at}
+use Rattle.s66_model.specs.DominatedLeaves.{Ending, Bounding, Dominated, Next, Turned, AtLine, is_standing, may_be_named}
+use Rattle.s66_moments.specs.declared.fact_line.FactLine.{FactLine}
+use Rattle.s66_moments.specs.declared.fact_line.FactLine.TheVariants as line
+use Rattle.s66_moments.specs.Known.{Known, known_first, with_line, known_after, is_taken, next_value, is_turned}
+use Rattle.s66_cert.specs.Document.{Document, tree_placed}
 use Rattle.s66_checker.specs.declared.verdict.Verdict.{Verdict}
 use Rattle.s66_checker.specs.declared.verdict.Verdict.TheVariants.{Yes, No}
 use Rattle.s66_checker.specs.declared.verdict.Reason.{Reason}
@@ -29,18 +32,37 @@ problem_of d = record { block = map instr_in_text d.block; profile = profile_of 
 abbrev pub is_legal_order : List Instr → List ℕ → Bool
 is_legal_order block order = is_beginning block order && length order == length block
 
--- THE LINES OF ITS TREE in preorder, each with its prefix
+-- ITS FACT LINES, which a document of version 4 may have
 
-abbrev pub siblings_placed : List ℕ → List ℕ → Siblings Ending → List (List ℕ × Vertex Ending)
-siblings_placed prefix [] siblings = []
-siblings_placed prefix (n ∷ ns) NoMore = []
-siblings_placed prefix (n ∷ ns) (Unsplit ending siblings) = (prefix ++ n ∷ [], AtTerminal ending) ∷ siblings_placed prefix ns siblings
-siblings_placed prefix (n ∷ ns) (Split numbers sub siblings) =
-    (prefix ++ n ∷ [], AtSplit numbers) ∷ (siblings_placed (prefix ++ n ∷ []) numbers sub ++ siblings_placed prefix ns siblings)
+abbrev pub facts_of : Document → List FactLine
+facts_of d = unwrap_or d.facts []
 
-abbrev pub tree_placed : List ℕ → Tree Ending → List (List ℕ × Vertex Ending)
-tree_placed prefix (Alone ending) = (prefix, AtTerminal ending) ∷ []
-tree_placed prefix (Parted numbers siblings) = (prefix, AtSplit numbers) ∷ siblings_placed prefix numbers siblings
+-- what is known after all of them
+abbrev pub known_of : Document → Known
+known_of d = known_after (known_first (problem_of d)) (facts_of d)
+
+-- THE NUMBERS OF ITS LINES, from 1: a header, PROFILE, BLOCK, the instructions, TIME, BOUND, ORDER, the fact lines, and then the tree
+
+abbrev pub time_line_number : Document → ℕ
+time_line_number d = 4 + length d.block
+
+abbrev pub bound_line_number : Document → ℕ
+bound_line_number d = 5 + length d.block
+
+abbrev pub order_line_number : Document → ℕ
+order_line_number d = 6 + length d.block
+
+abbrev pub fact_line_number : Document → ℕ
+fact_line_number d = 7 + length d.block
+
+abbrev pub tree_line_number : Document → ℕ
+tree_line_number d = 7 + length d.block + length (facts_of d)
+
+-- THE LINES OF ITS TREE
+
+-- the one of this number in the document, if it is one of the tree
+abbrev pub node_on : Document → ℕ → Option (List ℕ × Vertex Ending)
+node_on d line = if nat_lt line (tree_line_number d) then None else slice_get (tree_placed [] d.tree) (line - tree_line_number d)
 
 -- FAULTS OF A LEAF
 
@@ -103,6 +125,37 @@ dominated_fault d at name =
     else (if not (dominates_by d.rule (problem_of d) name at) then Some fault.Dominance
     else None))
 
+-- if it names a line: the node there is no dominated leaf, and its prefix a beginning over the same set
+abbrev pub is_name_at : Document → List ℕ → Option (List ℕ × Vertex Ending) → Bool
+is_name_at d at None = false
+is_name_at d at (Some node) = is_standing (Some node.1) && is_beginning (problem_of d).block node.0 && is_same_set node.0 at
+
+abbrev pub name_of : Option (List ℕ × Vertex Ending) → List ℕ
+name_of None = []
+name_of (Some node) = node.0
+
+abbrev pub at_line_fault : Document → List ℕ → ℕ → Option Reason
+at_line_fault d at line =
+    if is_complete (problem_of d) at then Some fault.Place
+    else (if not (is_name_at d at (node_on d line)) then Some fault.Name
+    else (if not (dominates_by ClampedStanding (problem_of d) (name_of (node_on d line)) at) then Some fault.Dominance
+    else None))
+
+-- FAULTS OF A LEAF BY FACTS, all that is known after the last fact line
+
+-- n remains, and takes the bound at least if it comes next
+abbrev pub next_fault : Document → List ℕ → ℕ → Option Reason
+next_fault d at n =
+    if is_complete (problem_of d) at then Some fault.Place
+    else (if not (is_remaining (problem_of d).block at n && nat_le d.bound (next_value (problem_of d) (known_of d) at n)) then Some fault.Event
+    else None)
+
+abbrev pub turned_fault : Document → List ℕ → ℕ → ℕ → Option Reason
+turned_fault d at m n =
+    if is_complete (problem_of d) at then Some fault.Place
+    else (if not (is_turned (problem_of d) (known_of d) at m n) then Some fault.Pair
+    else None)
+
 -- FAULTS OF A LINE
 
 -- a split's children are exactly the ready numbers, rising
@@ -110,35 +163,49 @@ abbrev pub line_fault : Document → List ℕ → Vertex Ending → Option Reaso
 line_fault d at (AtSplit numbers) = if bytes_eq numbers (ready (problem_of d).block at) then None else Some fault.Children
 line_fault d at (AtTerminal (Bounding leaf)) = leaf_fault (problem_of d) d.bound at leaf
 line_fault d at (AtTerminal (Dominated name)) = dominated_fault d at name
+line_fault d at (AtTerminal (Next number)) = next_fault d at number
+line_fault d at (AtTerminal (Turned first second)) = turned_fault d at first second
+line_fault d at (AtTerminal (AtLine line)) = at_line_fault d at line
 
--- THE VERDICT, with the number of the line, from 1
+-- THE VERDICT, with the number of the line
 
 abbrev pub unless : ℕ → Option Reason → Verdict → Verdict
 unless line None later = later
 unless line (Some reason) later = No line reason
 
--- of these lines, the first of which has this number
+-- of these lines of the tree, the first of which has this number
 abbrev pub lines_verdict : Document → ℕ → List (List ℕ × Vertex Ending) → Verdict
 lines_verdict d line [] = Yes d.time d.bound
 lines_verdict d line (at ∷ later) = unless line (line_fault d at.0 at.1) (lines_verdict d (suc line) later)
 
--- a header, PROFILE, BLOCK, the instructions, TIME, BOUND, ORDER, and then the tree
-abbrev pub time_line_number : Document → ℕ
-time_line_number d = 4 + length d.block
+-- a pair is taken if it is forced; a load isn't taken yet
+abbrev pub is_fact_taken : Problem → ℕ → Known → FactLine → Bool
+is_fact_taken b bound known (line.Pair m n) = is_taken b bound known (line.Pair m n)
+is_fact_taken b bound known (line.Load load) = false
 
-abbrev pub bound_line_number : Document → ℕ
-bound_line_number d = 5 + length d.block
+-- all of these, one after the other
+abbrev pub are_facts_taken : Problem → ℕ → Known → List FactLine → Bool
+are_facts_taken b bound known [] = true
+are_facts_taken b bound known (fact ∷ facts) =
+    is_fact_taken b bound known fact && are_facts_taken b bound (with_line known fact) facts
 
-abbrev pub order_line_number : Document → ℕ
-order_line_number d = 6 + length d.block
+-- of these fact lines, by what is known before them, and then of what comes later
+abbrev pub facts_verdict : Document → ℕ → Known → List FactLine → Verdict → Verdict
+facts_verdict d line known [] later = later
+facts_verdict d line known (fact ∷ facts) later =
+    if is_fact_taken (problem_of d) d.bound known fact then facts_verdict d (suc line) (with_line known fact) facts later
+    else No line fault.Fact
 
-abbrev pub tree_line_number : Document → ℕ
-tree_line_number d = 7 + length d.block
+-- the fact lines one by one, and then the tree line by line
+abbrev pub proof_verdict : Document → Verdict
+proof_verdict d =
+    facts_verdict d (fact_line_number d) (known_first (problem_of d)) (facts_of d)
+    (lines_verdict d (tree_line_number d) (tree_placed [] d.tree))
 
--- first the order, the time and the bound, and then the tree line by line
+-- first the order, the time and the bound, and then what shows it
 abbrev pub verdict : Document → Verdict
 verdict d =
     if not (is_legal_order (problem_of d).block d.numbers) then No (order_line_number d) fault.Order
     else (if not (total_of (problem_of d) d.numbers == d.time) then No (time_line_number d) fault.Time
     else (if nat_lt d.time d.bound then No (bound_line_number d) fault.Bound
-    else lines_verdict d (tree_line_number d) (tree_placed [] d.tree)))
+    else proof_verdict d))

@@ -5,10 +5,11 @@ ghost use Rattle.s66_model.specs.Timing.{total_of};
 ghost use Rattle.s66_model.specs.BestAndBound.{IsBound};
 ghost use Rattle.s66_cert.specs.DocumentParts.{document_of};
 ghost use Rattle.s66_line.specs.InstructionText.{instr_in_text};
-ghost use Rattle.s66_checker.specs.Verdict.{is_legal_order, problem_of, verdict};
+ghost use Rattle.s66_checker.specs.Verdict.{is_legal_order, problem_of, proof_verdict, verdict};
 ghost use Rattle.s66_checker.specs.TrueClaims.{IsTrueClaim};
 ghost use Rattle.s66_checker.specs.declared.verdict.Verdict.TheVariants.{Yes};
 
+use crate::known::Known;
 use crate::prefix::Prefix;
 use crate::verdict::{Reason, Verdict};
 use crate::walk::tree_verdict;
@@ -56,10 +57,35 @@ fn legal_total(prefix: &mut Prefix, order: &[u8]) -> Option<u32>
     }
 }
 
-/// The verdict on a document, timed by its own profile. It is yes, with the document's time and bound, exactly when what the
-/// document claims is true; no legal order then takes less than the bound. Else it is the first fault: that of the order, of the
-/// time, of the bound, or of a line of the tree. It allocates nothing, and rests on no other timing and no other test of dependence
-/// than its own.
+/// The verdict on the fact lines of a document of this block under this profile, and then on its tree. One prefix is that before the
+/// first instruction, and the other may be anywhere.
+fn proof_verdict(
+    document: &Document,
+    profile: &Profile,
+    block: &[Instr],
+    prefix: Prefix,
+    named: Prefix,
+) -> Verdict
+    requires block { record { block = block.now; profile = profile.now } ≡ problem_of (document_of document.now) }
+    requires some { 1 ≤ length block.now }
+    requires few { length block.now ≤ BLOCK_LIMIT }
+    requires start { prefix ≡ record { problem = problem_of (document_of document.now); numbers = [] } }
+    requires same { named.problem ≡ problem_of (document_of document.now) }
+    ensures { result ≡ proof_verdict (document_of document.now) }
+{
+    match Known::after(document, block, profile) {
+        Err(line) => Verdict::No {
+            line,
+            reason: Reason::Fact,
+        },
+        Ok(known) => tree_verdict(document, &known, prefix, named),
+    }
+}
+
+/// The verdict on a document, timed by its own profile. If it is yes, with the document's time and bound, what the document claims is
+/// true; in versions 1 to 3 it is yes exactly then. No legal order then takes less than the bound. Else it is the first fault: that
+/// of the order, of the time, of the bound, of a fact line, or of a line of the tree. It allocates nothing, and rests on no other
+/// timing and no other test of dependence than its own.
 ///
 /// Each pair of the block's instructions is looked at once. Beside that a line of the tree takes a time linear in the
 /// block's length, on the average over all lines. For a dominated leaf its node is found by a jump for each earlier sibling
@@ -71,7 +97,8 @@ pub fn verify(document: &Document) -> Verdict
 {
     let block = instructions_of(document.block());
     let count = block.len() as u32;
-    let mut prefix = Prefix::new(block.as_slice(), &profile_of(document));
+    let profile = profile_of(document);
+    let mut prefix = Prefix::new(block.as_slice(), &profile);
     let Some(total) = legal_total(&mut prefix, document.order()) else {
         return Verdict::No {
             line: count + 6,
@@ -90,5 +117,11 @@ pub fn verify(document: &Document) -> Verdict
             reason: Reason::Bound,
         };
     }
-    tree_verdict(document, prefix.start_again(), prefix)
+    proof_verdict(
+        document,
+        &profile,
+        block.as_slice(),
+        prefix.start_again(),
+        prefix,
+    )
 }

@@ -7,14 +7,15 @@ ghost use Rattle.s66_model.specs.declared.rule.Rule.TheVariants.{NoneNamed, Writ
 ghost use Rattle.s66_model.specs.Examples.{standard_problem, late_reader, three_increments, packing_gap, two_gaps, booleans_and_sets, late_result, later_gap, fourth_bounding, fourth_split, increments_tree, increments_load};
 ghost use Rattle.s66_model.specs.Leaves.{Whole, Chain, Load, Parcels};
 ghost use Rattle.s66_model.specs.Tree.{Alone, Parted, NoMore, Unsplit, Split};
-ghost use Rattle.s66_model.specs.DominatedLeaves.{Bounding, Dominated};
+ghost use Rattle.s66_model.specs.DominatedLeaves.{Bounding, Dominated, Next, Turned, AtLine};
+ghost use Rattle.s66_moments.specs.declared.fact_line.FactLine.TheVariants.{Pair};
 ghost use Rattle.s66_cert.specs.Examples as examples;
 ghost use Rattle.s66_cert.specs.Examples.{after_one, with_times, with_order, with_chain, with_tree, with_name};
 ghost use Rattle.s66_checker.specs.declared.verdict.Verdict.TheVariants.{Yes, No};
 ghost use Rattle.s66_checker.specs.declared.verdict.Reason.TheVariants as fault;
 ghost use Rattle.s66_checker.specs.Verdict.{verdict};
 ghost use Rattle.s66_checker.specs.Dominating.{dominates_by};
-ghost use Rattle.s66_checker.specs.Examples.{refused_order, slow_one_load, multiplies_at_once, load_and_multiplies, multiplies_split, second_line, third_line, last_leaf, late_naming, late_order, late_misplaced, increments, four_increments};
+ghost use Rattle.s66_checker.specs.Examples.{refused_order, slow_one_load, multiplies_at_once, load_and_multiplies, multiplies_split, second_line, third_line, last_leaf, late_naming, late_order, late_misplaced, increments, four_increments, three_sums, two_sums, first_of_two, after_pair, at_the_end, booleans_between, increments_named};
 
 /// Verdicts on the worked documents: a leaf of each kind, and whole orders alone.
 pub fn verdict_examples()
@@ -99,6 +100,46 @@ pub fn dominated_examples()
     ensures each_by_the_other { verdict (increments ClampedStanding (increments_tree (Dominated (2 ∷ 1 ∷ [])) (Dominated (1 ∷ 2 ∷ [])))) ≡ No 12 fault.Name }
     ensures dominated_is_named { verdict (four_increments WrittenEarlier) ≡ Yes 9 9 }
     ensures dominated_is_not_named { verdict (four_increments ClampedStanding) ≡ No 22 fault.Name }
+{}
+
+/// Verdicts on documents with fact lines, each of which is checked by those before it.
+pub fn fact_examples()
+    ensures each_by_those_before_it { verdict (three_sums (Pair 1 3 ∷ Pair 2 3 ∷ []) (Alone (Next 1))) ≡ Yes 15 15 }
+    ensures by_a_later_line { verdict (three_sums (Pair 2 3 ∷ Pair 1 3 ∷ []) (Alone (Next 1))) ≡ No 10 fault.Fact }
+    ensures tree_after_two_lines { verdict (three_sums (Pair 1 3 ∷ Pair 2 3 ∷ []) (Alone (Bounding Parcels))) ≡ No 12 fault.Value }
+    ensures bound_below_the_time { verdict (two_sums 11) ≡ Yes 13 11 }
+    ensures not_for_the_time { verdict (two_sums 13) ≡ No 10 fault.Fact }
+    ensures bound_above_the_time { verdict (two_sums 14) ≡ No 8 fault.Bound }
+    ensures ring { verdict (first_of_two (Pair 1 2 ∷ Pair 2 1 ∷ []) (Unsplit (Next 2) (Unsplit (Turned 1 2) NoMore))) ≡ No 11 fault.Fact }
+    ensures load_is_not_taken { verdict booleans_between ≡ No 11 fault.Fact }
+{}
+
+/// Verdicts on leaves by facts.
+pub fn fact_leaf_examples()
+    ensures next_and_turned { verdict (after_pair (Next 2) (Turned 1 2)) ≡ Yes 15 15 }
+    ensures next_below_the_bound { verdict (after_pair (Next 3) (Turned 1 2)) ≡ No 12 fault.Event }
+    ensures next_is_placed { verdict (after_pair (Next 1) (Turned 1 2)) ≡ No 12 fault.Event }
+    ensures next_is_no_number { verdict (after_pair (Next 4) (Turned 1 2)) ≡ No 12 fault.Event }
+    ensures next_without_the_last_line { verdict (three_sums (Pair 1 3 ∷ []) (Alone (Next 1))) ≡ No 11 fault.Event }
+    ensures turned_at_the_first { verdict (after_pair (Turned 1 2) (Turned 1 2)) ≡ No 12 fault.Pair }
+    ensures turned_the_other_way { verdict (after_pair (Next 2) (Turned 2 1)) ≡ No 13 fault.Pair }
+    ensures turned_without_a_line { verdict (first_of_two [] (Unsplit (Next 2) (Unsplit (Turned 1 2) NoMore))) ≡ No 12 fault.Pair }
+    ensures next_at_a_whole_order { verdict (at_the_end (Next 3)) ≡ No 14 fault.Place }
+    ensures turned_at_a_whole_order { verdict (at_the_end (Turned 1 2)) ≡ No 14 fault.Place }
+    ensures line_at_a_whole_order { verdict (at_the_end (AtLine 11)) ≡ No 14 fault.Place }
+    ensures whole_order { verdict (at_the_end (Bounding Whole)) ≡ Yes 15 15 }
+{}
+
+/// Verdicts on dominated leaves that name the line of a node.
+pub fn line_name_examples()
+    ensures line_behind { verdict (increments_named (AtLine 15) increments_load) ≡ Yes 8 7 }
+    ensures line_before { verdict (increments_named increments_load (AtLine 12)) ≡ Yes 8 7 }
+    ensures line_after_it { verdict (increments_named (AtLine 16) increments_load) ≡ No 12 fault.Name }
+    ensures line_before_it { verdict (increments_named (AtLine 14) increments_load) ≡ No 12 fault.Name }
+    ensures itself { verdict (increments_named (AtLine 12) increments_load) ≡ No 12 fault.Name }
+    ensures each_by_the_other { verdict (increments_named (AtLine 15) (AtLine 12)) ≡ No 12 fault.Name }
+    ensures no_line_of_the_tree { verdict (increments_named (AtLine 9) increments_load) ≡ No 12 fault.Name }
+    ensures no_line { verdict (increments_named (AtLine 18) increments_load) ≡ No 12 fault.Name }
 {}
 
 /// Which beginnings dominate which, by the tests.

@@ -7,31 +7,38 @@ ghost use Rattle.s66_model.specs.LegalOrder.{ready};
 ghost use Rattle.s66_model.specs.Leaves.{Whole, Chain, Load, Parcels};
 ghost use Rattle.s66_checker.specs.declared.verdict.Reason.TheVariants as fault;
 ghost use Rattle.s66_cert.specs.DocumentParts.{document_of};
-ghost use Rattle.s66_checker.specs.Verdict.{problem_of, is_complete, leaf_fault, dominated_fault};
+ghost use Rattle.s66_checker.specs.KeptKnown.{KnowsAll};
+ghost use Rattle.s66_checker.specs.Verdict.{problem_of, is_complete, leaf_fault, dominated_fault, at_line_fault, next_fault, turned_fault};
 
+use crate::known::Known;
 use crate::leaf::{chain_value, load, parcels, ready};
-use crate::name::is_name;
+use crate::name::{is_name, is_name_at};
 use crate::prefix::Prefix;
 use crate::verdict::Reason;
 use s66_cert::{Document, TreeLine};
 use s66_isa::Kind;
+use s66_model::Rule;
 
 impl Prefix {
     ghost use Rattle.std.specs.Prelude.{◌≡◌};
     ghost use Rattle.s66_tree.specs.Lines.{vertex_of};
     ghost use Rattle.s66_cert.specs.DocumentParts.{document_of};
+    ghost use Rattle.s66_checker.specs.KeptKnown.{KnowsAll};
     ghost use Rattle.s66_checker.specs.Verdict.{problem_of, line_fault};
 
     /// What is wrong with a line of a document's tree at the prefix, if anything is. A leaf's value has to reach the bound, and
-    /// the node that a dominated leaf names has to dominate. The other prefix goes there.
+    /// the node that a dominated leaf names has to dominate; a leaf by facts has to be right by what is known after all fact lines.
+    /// The other prefix goes to the node.
     pub(crate) fn fault(
         &self,
         named: &mut Prefix,
         document: &Document,
+        known: &Known,
         line: TreeLine<'_>,
     ) -> Option<Reason>
         requires problem { self.now.problem ≡ problem_of (document_of document.now) }
         requires same { named.old.problem ≡ self.now.problem }
+        requires known { KnowsAll (document_of document.now) known.now }
         ensures value { result ≡ line_fault (document_of document.now) self.now.numbers (vertex_of line.entry) }
         ensures same { named.new.problem ≡ named.old.problem }
     {
@@ -43,6 +50,9 @@ impl Prefix {
             TreeLine::Load(kind) => load_fault(self, bound, kind),
             TreeLine::Parcels => parcels_fault(self, bound),
             TreeLine::Dominated(name) => dominated_fault(self, named, document, name),
+            TreeLine::AtLine(line) => at_line_fault(self, named, document, line),
+            TreeLine::Next(n) => next_fault(self, document, known, n),
+            TreeLine::Turned(first, second) => turned_fault(self, document, known, first, second),
         }
     }
 }
@@ -145,5 +155,68 @@ fn dominated_fault(
         None
     } else {
         Some(Reason::Dominance)
+    }
+}
+
+/// The fault of a dominated leaf that names the line of a node. The other prefix goes there.
+fn at_line_fault(
+    prefix: &Prefix,
+    named: &mut Prefix,
+    document: &Document,
+    line: u32,
+) -> Option<Reason>
+    requires problem { prefix.now.problem ≡ problem_of (document_of document.now) }
+    requires same { named.old.problem ≡ prefix.now.problem }
+    ensures value { result ≡ at_line_fault (document_of document.now) prefix.now.numbers line }
+    ensures same { named.new.problem ≡ named.old.problem }
+{
+    if is_complete(prefix) {
+        return Some(Reason::Place);
+    }
+    if !is_name_at(prefix, named, document, line) {
+        return Some(Reason::Name);
+    }
+    if named.dominates(prefix, Rule::ClampedStanding) {
+        None
+    } else {
+        Some(Reason::Dominance)
+    }
+}
+
+/// The fault of a leaf that says that an instruction is too late if it comes next.
+fn next_fault(prefix: &Prefix, document: &Document, known: &Known, n: u8) -> Option<Reason>
+    requires problem { prefix.now.problem ≡ problem_of (document_of document.now) }
+    requires known { KnowsAll (document_of document.now) known.now }
+    ensures { result ≡ next_fault (document_of document.now) prefix.now.numbers n }
+{
+    if is_complete(prefix) {
+        return Some(Reason::Place);
+    }
+    if known.is_too_late(prefix, document.bound(), n) {
+        None
+    } else {
+        Some(Reason::Event)
+    }
+}
+
+/// The fault of a leaf that says that the second instruction is placed, and not the first, which stands before it.
+fn turned_fault(
+    prefix: &Prefix,
+    document: &Document,
+    known: &Known,
+    first: u8,
+    second: u8,
+) -> Option<Reason>
+    requires problem { prefix.now.problem ≡ problem_of (document_of document.now) }
+    requires known { KnowsAll (document_of document.now) known.now }
+    ensures { result ≡ turned_fault (document_of document.now) prefix.now.numbers first second }
+{
+    if is_complete(prefix) {
+        return Some(Reason::Place);
+    }
+    if known.is_turned(prefix, first, second) {
+        None
+    } else {
+        Some(Reason::Pair)
     }
 }

@@ -1,6 +1,6 @@
 //! What a verdict and the test of dominance say, each the contract of a function that does nothing.
 
-ghost use Rattle.std.specs.Prelude.{ℕ, List, ◌≡◌, ◌↔◌, true, false};
+ghost use Rattle.std.specs.Prelude.{ℕ, List, ◌≡◌, ◌↔◌, true, false, None};
 ghost use Rattle.s66_model.specs.declared.rule.Rule.TheVariants.{NoneNamed, WrittenEarlier, ClampedStanding};
 ghost use Rattle.s66_model.specs.Timing.{Problem};
 ghost use Rattle.s66_model.specs.Digits.{HaveDigits};
@@ -12,11 +12,11 @@ ghost use Rattle.s66_checker.specs.Verdict.{verdict, problem_of};
 ghost use Rattle.s66_checker.specs.Dominating.{dominates_by};
 ghost use Rattle.s66_checker.specs.TrueClaims.{IsTrueClaim};
 
-/// The verdict on a document is yes, with its time and its bound, exactly when what it claims is true. No legal order then takes
-/// less than the bound.
+/// If the verdict on a document is yes, with its time and its bound, what it claims is true; without fact lines it is yes exactly
+/// then. No legal order then takes less than the bound.
 pub fn yes_law()
     ensures stated { (limit : ℕ) (d : Document) (time bound : ℕ) → IsDocument limit d → verdict d ≡ Yes time bound → (time ≡ d.time) × (bound ≡ d.bound) × IsTrueClaim d }
-    ensures yes { (limit : ℕ) (d : Document) → IsDocument limit d → IsTrueClaim d → verdict d ≡ Yes d.time d.bound }
+    ensures yes { (limit : ℕ) (d : Document) → IsDocument limit d → d.facts ≡ None → IsTrueClaim d → verdict d ≡ Yes d.time d.bound }
     ensures bound { (d : Document) → IsTrueClaim d → IsBound (problem_of d) d.bound }
 {}
 

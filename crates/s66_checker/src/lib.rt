@@ -1,20 +1,21 @@
 //! The verdict on a certificate, from its document alone: under the document's profile a legal order, its time and a bound
 //! that no order beats, or the first fault.
 //!
-//! It goes through the order, and then through the tree of the bound line by line. A split has to go on with all instructions
-//! that are ready there. A leaf has to have a value that reaches the bound, by one of the four rules of the model, or to name a
-//! node of the tree that dominates it. Such a node is an earlier one (version 2), or is no dominated leaf itself (version 3), so
-//! that no two rest on one another.
+//! It goes through the order, then through the fact lines of a document of version 4, and then through the tree of the bound line
+//! by line. A fact line has to be shown by what is known before it; that of a load isn't taken yet. A split has to go on with all instructions that are ready
+//! there. A leaf has to have a value that reaches the bound, by one of the four rules of the model, or to name a node of the tree
+//! that dominates it. Such a node is an earlier one (version 2), or is no dominated leaf itself (versions 3 and 4), so that no two
+//! rest on one another. In version 4 a leaf may also be closed by what is known after all fact lines.
 //!
 //! It shares nothing with the search that made the certificate: no clock, no marks, no sets of dependences, no bounds, no ledger.
 //! So a mistake there, or in what is proved of it, doesn't come back here as a yes. It uses the table of instructions
-//! (`s66_isa`), the definitions of the model (`s66_model`), and documents, their trees and their texts (`s66_cert`, `s66_tree`,
-//! `s66_line`). It allocates nothing.
+//! (`s66_isa`), the definitions of the model (`s66_model`), what fact lines give of a block (`s66_moments`, `s66_facts`), and
+//! documents, their trees and their texts (`s66_cert`, `s66_tree`, `s66_line`). It allocates nothing.
 //!
 //! What each instruction depends on is tested pair by pair, and stored in a word (`needs`, `marks`). One prefix is pushed and
 //! popped along the tree (`prefix`, `walk`), with its points and what they leave for the next instruction (`past`, `words`,
 //! `timing`). Another goes to the nodes that are named (`name`). What both leave decides whether it dominates (`dominance`,
-//! `falling`).
+//! `falling`), and what is known after the fact lines whether a leaf is right by facts (`known`).
 //!
 //! A block takes time for each of its pairs once. A line of the tree takes a time linear in the block's length, on the average
 //! over all lines, whatever the profile. A node that is named is found by a jump for each earlier sibling on the way.
@@ -25,6 +26,7 @@ mod dominance;
 mod examples;
 mod falling;
 mod fault;
+mod known;
 mod laws;
 mod leaf;
 mod links;
@@ -42,8 +44,8 @@ mod words;
 
 pub use check::verify;
 pub use examples::{
-    dominated_examples, dominating_examples, fault_examples, leaf_examples, profile_examples,
-    split_examples, verdict_examples,
+    dominated_examples, dominating_examples, fact_examples, fact_leaf_examples, fault_examples,
+    leaf_examples, line_name_examples, profile_examples, split_examples, verdict_examples,
 };
 pub use laws::{dominating_law, yes_law};
 pub use verdict::{Reason, Verdict};

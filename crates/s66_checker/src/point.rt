@@ -1,11 +1,11 @@
 ghost use Rattle.std.specs.Prelude.{◌≡◌, ◌+◌, if◌then◌else◌};
 ghost use Rattle.s66_isa.specs.Table.{memory_pair};
-ghost use Rattle.s66_model.specs.Timing.{busy_at, end_of};
+ghost use Rattle.s66_model.specs.Timing.{busy_at, done_at, end_of};
 ghost use Rattle.s66_model.specs.Leaves.{rest_busy};
 
 use crate::result::{KeptResult, last_time};
 use arrayvec::ArrayVec;
-use s66_isa::{Kind, Memory, Reg, Row, is_memory_conflict, is_same_kind};
+use s66_isa::{Kind, Memory, Reg, Row, is_memory_conflict, is_same_kind, is_same_register};
 use std::marker::Model;
 
 /// An instruction at its place in an order: its number, its row, its parcel from 0, and its times in minor cycles.
@@ -72,6 +72,19 @@ impl KeptPoint {
         ensures { result.now ≡ self.now.results }
     {
         self.results.as_slice()
+    }
+
+    /// When its result in a register is done, 0 if it has none.
+    pub fn done_at(&self, register: Reg) -> u32
+        ensures { result ≡ done_at self.now register }
+    {
+        let mut last = 0u32;
+        for done in self.results.as_slice() {
+            if is_same_register(done.reg, register) {
+                last = last.max(done.time);
+            }
+        }
+        last
     }
 
     /// When its unit is free.

@@ -49,10 +49,12 @@ fn rows_of(block: &[Instr], profile: &Profile) -> ArrayVec<Row, BLOCK_LIMIT>
 }
 
 impl Prefix {
-    ghost use Rattle.std.specs.Prelude.{ℕ, ◌++◌, ◌<◌, ◌≢◌, [], ◌∷◌, true, false, IfSome, IfNone, IsTrue, get_or, reverse, take};
-    ghost use Rattle.s66_model.specs.Timing.{copies, points_of, row_at, total_of};
+    ghost use Rattle.std.specs.Prelude.{ℕ, ◌++◌, ◌<◌, ◌≢◌, ◌&&◌, [], ◌∷◌, true, false, IfSome, IfNone, IsTrue, get_or, reverse, take};
+    ghost use Rattle.s66_model.specs.Timing.{copies, point_of, points_of, row_at, total_of};
     ghost use Rattle.s66_model.specs.LegalOrder.{IsBeginning, is_remaining, is_ready, needs_met};
     ghost use Rattle.s66_model.specs.Dependence.{depends};
+    ghost use Rattle.s66_isa.specs.Lists.{has};
+    ghost use Rattle.s66_moments.specs.Known.{is_number};
     ghost use Rattle.s66_checker.specs.KeptPrefix.{AreTimed};
     ghost use Rattle.s66_checker.specs.Marked.{is_marked};
     ghost use Rattle.s66_checker.specs.Dominating.{is_beginning, is_same_set, dominates_by};
@@ -117,6 +119,13 @@ impl Prefix {
         self.profile.copies(kind)
     }
 
+    /// Whether it is a number of the block that is placed.
+    pub(crate) fn has(&self, n: u8) -> bool
+        ensures { result ≡ (is_number self.now.problem n && has n self.now.numbers) }
+    {
+        1 <= n && n as usize <= self.block.len() && self.placed.has(n)
+    }
+
     /// The numbers in order, from 1.
     pub(crate) fn numbers(&self) -> &[u8]
         ensures value { result.now ≡ self.now.numbers }
@@ -179,13 +188,22 @@ impl Prefix {
         self.is_remaining(n) && self.needs_met(n)
     }
 
-    /// Places a number that is ready. The time for it grows with what is placed only if its kind has three or more copies.
+    /// The instruction of a number with its times as if it came next. The time for it grows with what is placed only if its kind
+    /// has three or more copies.
+    pub(crate) fn next_point(&self, n: u8) -> KeptPoint
+        requires { (1 ≤ n) × (n ≤ length self.now.problem.block) }
+        ensures value { result ≡ point_of self.now.problem (points_of self.now.problem self.now.numbers) n }
+        ensures few { length self.now.problem.block ≤ BLOCK_LIMIT }
+    {
+        next_point(&self.past, &self.profile, n, self.row(n).duplicate())
+    }
+
+    /// Places a number that is ready.
     pub(crate) fn push(&mut self, n: u8)
         requires { is_ready self.old.problem.block self.old.numbers n ≡ true }
         ensures { self.new ≡ record self.old { numbers = self.old.numbers ++ n ∷ [] } }
     {
-        let row = self.row(n).duplicate();
-        let point = next_point(&self.past, &self.profile, n, row);
+        let point = self.next_point(n);
         self.past.push(point);
         self.numbers.push(n);
         self.placed = self.placed.with(n);

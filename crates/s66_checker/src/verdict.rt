@@ -28,10 +28,16 @@ pub enum Reason {
     /// `BOUND` is above `TIME`.
     Bound,
     /// The name of a dominated leaf is none that it may have. It may be that of a node of the tree over the same set of numbers:
-    /// an earlier one in version 2, and none that is dominated itself in version 3.
+    /// an earlier one in version 2, and none that is dominated itself in versions 3 and 4.
     Name,
     /// The node that a dominated leaf names doesn't dominate.
     Dominance,
+    /// A fact line isn't shown by what is known before it.
+    Fact,
+    /// An instruction that doesn't remain, or isn't too late for the bound if it comes next.
+    Event,
+    /// The first instruction is placed, or the second isn't, or the first isn't known to stand before it.
+    Pair,
 }
 
 impl Reason {
@@ -49,6 +55,9 @@ impl Reason {
             Reason::Bound => 8,
             Reason::Name => 9,
             Reason::Dominance => 10,
+            Reason::Fact => 11,
+            Reason::Event => 12,
+            Reason::Pair => 13,
         }
     }
 }

@@ -2,9 +2,12 @@ ghost use Rattle.std.specs.Prelude.{◌≡◌, []};
 ghost use Rattle.s66_model.specs.Later.{IsNextReady, later};
 ghost use Rattle.s66_tree.specs.Lines.{vertex_of};
 ghost use Rattle.s66_cert.specs.DocumentParts.{document_of};
-ghost use Rattle.s66_checker.specs.Verdict.{problem_of, tree_placed, tree_line_number, lines_verdict};
+ghost use Rattle.s66_checker.specs.KeptKnown.{KnowsAll};
+ghost use Rattle.s66_cert.specs.Document.{tree_placed};
+ghost use Rattle.s66_checker.specs.Verdict.{problem_of, tree_line_number, lines_verdict};
 ghost use Rattle.s66_checker.specs.Walk.{coming, coming_after, HasReady};
 
+use crate::known::{Known, fact_lines};
 use crate::prefix::Prefix;
 use crate::verdict::Verdict;
 use s66_cert::{Document, TreeLine};
@@ -56,15 +59,21 @@ fn go_on(prefix: &mut Prefix, line: TreeLine<'_>) -> bool
 
 /// The verdict on the lines of a document's tree, from the empty prefix of its block on. The other prefix may be anywhere, and
 /// goes to the nodes that are named.
-pub(crate) fn tree_verdict(document: &Document, mut prefix: Prefix, mut named: Prefix) -> Verdict
+pub(crate) fn tree_verdict(
+    document: &Document,
+    known: &Known,
+    mut prefix: Prefix,
+    mut named: Prefix,
+) -> Verdict
     requires start { prefix ≡ record { problem = problem_of (document_of document.now); numbers = [] } }
     requires same { named.problem ≡ problem_of (document_of document.now) }
+    requires known { KnowsAll (document_of document.now) known.now }
     ensures { result ≡ lines_verdict (document_of document.now) (tree_line_number (document_of document.now)) (tree_placed [] (document_of document.now).tree) }
 {
     let mut lines = document.tree();
-    let mut number = u32::from(prefix.count()) + 7;
+    let mut number = u32::from(prefix.count()) + 7 + fact_lines(document).len() as u32;
     while let Some(line) = lines.next() {
-        if let Some(reason) = prefix.fault(&mut named, document, line) {
+        if let Some(reason) = prefix.fault(&mut named, document, known, line) {
             return Verdict::No {
                 line: number,
                 reason,

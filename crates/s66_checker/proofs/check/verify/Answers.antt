@@ -1,22 +1,21 @@
 use Rattle.std.proofs.Common.{◌≡◌, ◌≤◌, [], sym, subst, ◌∙◌, arith}
 use Rattle.s66_isa.specs.declared.limits.TheConstants.{BLOCK_LIMIT}
-use Rattle.s66_model.proofs.DominatedTrees.{shown-below}
 use Rattle.s66_model.specs.Timing.{total_of}
 use Rattle.s66_cert.specs.Document.{Document}
 use Rattle.s66_cert.specs.DocumentParts.{document_of}
 use Rattle.s66_checker.specs.Verdict.{problem_of, verdict}
-use Rattle.s66_checker.proofs.GrantedClaims.{verdict-yes}
+use Rattle.s66_checker.proofs.GrantedClaims.{verdict-claims, claim-bound}
 use Rattle.s66_checker.proofs.check.verify.Goals as goal
 
 pub returns-clause-claim : goal.returns-clause-claim
 returns-clause-claim c = λ time bound h.
     let d : Document = document_of c.args.document.now in
-    let e : c.tree_verdict.result ≡ verdict d = grind arith in
-    ((verdict-yes BLOCK_LIMIT d time bound c.block.ensures.whole.document.tree).0 (sym e ∙ h)).2
+    let e : c.proof_verdict.result ≡ verdict d = grind arith in
+    (verdict-claims BLOCK_LIMIT d time bound c.block.ensures.whole.document (sym e ∙ h)).2
 
 pub returns-clause-bound : goal.returns-clause-bound
 returns-clause-bound c = λ time bound h order legal.
     let d : Document = document_of c.args.document.now in
-    let e : c.tree_verdict.result ≡ verdict d = grind arith in
-    let said = (verdict-yes BLOCK_LIMIT d time bound c.block.ensures.whole.document.tree).0 (sym e ∙ h) in
-    subst (λ low. low ≤ total_of (problem_of d) order) (sym said.1) (shown-below d.rule (problem_of d) d.bound [] order d.tree said.2.tree legal)
+    let e : c.proof_verdict.result ≡ verdict d = grind arith in
+    let said = verdict-claims BLOCK_LIMIT d time bound c.block.ensures.whole.document (sym e ∙ h) in
+    subst (λ low. low ≤ total_of (problem_of d) order) (sym said.1) (claim-bound d said.2 order legal)

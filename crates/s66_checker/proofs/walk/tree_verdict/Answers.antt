@@ -1,6 +1,7 @@
 use Rattle.std.proofs.Common.{◌∙◌, ◌+◌, [], length, refl, sym, ap, arith, inl, inr, true, false, List}
 use Rattle.s66_model.specs.Tree.{Vertex}
 use Rattle.s66_model.specs.DominatedLeaves.{Ending}
+use Rattle.s66_moments.specs.declared.fact_line.FactLine.{FactLine}
 use Rattle.s66_tree.specs.Lines.{vertex_of}
 use Rattle.s66_cert.specs.DocumentParts.{document_of}
 use Rattle.s66_checker.specs.Checked.{Checked}
@@ -13,11 +14,13 @@ use Rattle.s66_checker.proofs.walk.tree_verdict.Goals.{in-Some+in_default-fault+
 pub loop-line-init : goal.loop-line-init
 loop-line-init c =
     let p = c.args.document.now in
+    let facts = length c.fact_lines.result.now in
+    let held = ap (λ (fs : List FactLine). length fs) c.fact_lines.ensures.value in
     record {
       problem = ap (λ (x : Checked). x.problem) c.requires.start;
       same = c.requires.same;
-      rest = walk-begins p c.tree-lines.ensures.whole c.args.prefix c.requires.start c.from-number.result (c.from-number.ensures ∙ c.count.ensures.value) c.tree-lines.result c.tree-lines.ensures.value;
-      few = walk-ends p c.tree-lines.ensures.whole c.args.prefix c.requires.start c.from-number.result (c.from-number.ensures ∙ c.count.ensures.value) c.tree-lines.result c.tree-lines.ensures.value;
+      rest = walk-begins p c.tree-lines.ensures.whole c.args.prefix c.requires.start c.from.result facts (c.from.ensures ∙ c.count.ensures.value) held c.tree-lines.result c.tree-lines.ensures.value;
+      few = walk-ends p c.tree-lines.ensures.whole c.args.prefix c.requires.start c.from.result facts (c.from.ensures ∙ c.count.ensures.value) held c.tree-lines.result c.tree-lines.ensures.value c.fact_lines.ensures.few;
     }
 
 pub returns-in-Some-fault : goal.returns-in-Some-fault

@@ -1,0 +1,15 @@
+use Rattle.std.proofs.Common.{◌∙◌, [], sym}
+use Rattle.s66_cert.specs.DocumentParts.{document_of}
+use Rattle.s66_cert.specs.Document.{tree_placed}
+use Rattle.s66_checker.specs.Verdict.{problem_of, facts_of, tree_line_number, fact_line_number, lines_verdict}
+use Rattle.s66_moments.specs.Known.{known_first}
+use Rattle.s66_checker.proofs.TakenLines.{facts-taken}
+use Rattle.s66_checker.proofs.check.proof_verdict.Goals as goal
+
+pub returns-in-Err : goal.returns-in-Err
+returns-in-Err c = let d = document_of c.args.document.now in sym (c.in-Err.ensures.untaken (lines_verdict d (tree_line_number d) (tree_placed [] d.tree)))
+
+pub returns-in-Ok : goal.returns-in-Ok
+returns-in-Ok c =
+    let d = document_of c.args.document.now in
+    c.tree_verdict.ensures ∙ sym (facts-taken d (facts_of d) (fact_line_number d) (known_first (problem_of d)) (lines_verdict d (tree_line_number d) (tree_placed [] d.tree)) c.in-Ok.ensures.taken)

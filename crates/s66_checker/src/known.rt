@@ -1,0 +1,173 @@
+//! What is known after the fact lines of a document, by which further leaves close a prefix.
+
+ghost use Rattle.std.specs.Prelude.{◌≡◌, ◌≤◌, IsTrue, IfSome, IfNone, length};
+ghost use Rattle.s66_cert.specs.DocumentParts.{document_of};
+ghost use Rattle.s66_cert.specs.declared.limits.TheConstants.{FACT_LIMIT};
+ghost use Rattle.s66_moments.specs.Known.{known_first, with_line};
+ghost use Rattle.s66_facts.specs.Ground.{known_of as known_in};
+ghost use Rattle.s66_checker.specs.Verdict.{problem_of, facts_of, is_fact_taken};
+ghost use Rattle.s66_checker.specs.KeptKnown.{KnowsAll, AreTaken, IsUntaken, is_reached, is_result_late, is_point_late};
+
+use crate::point::KeptPoint;
+use crate::prefix::Prefix;
+use s66_cert::{Document, FactLine};
+use s66_facts::{Facts, Times};
+use s66_isa::{BLOCK_LIMIT, Instr, Profile, Write};
+use std::marker::Model;
+
+/// The fact lines of a document; none in versions 1 to 3.
+pub(crate) fn fact_lines(document: &Document) -> &[FactLine]
+    ensures value { result.now ≡ facts_of (document_of document.now) }
+    ensures few { length result.now ≤ FACT_LIMIT }
+{
+    match document.facts() {
+        None => &[],
+        Some(lines) => lines,
+    }
+}
+
+/// Takes a fact line in if it is shown by what is known, and returns whether it is. If it isn't, nothing changes. A load isn't taken yet.
+fn take(facts: &mut Facts, bound: u32, line: &FactLine) -> bool
+    ensures value { result ≡ is_fact_taken facts.old.problem bound (known_in facts.old) line.now }
+    ensures problem { facts.new.problem ≡ facts.old.problem }
+    ensures taken { IsTrue result → known_in facts.new ≡ with_line (known_in facts.old) line.now }
+{
+    match line {
+        FactLine::Pair(first, second) => facts.take_pair(bound, *first, *second),
+        FactLine::Load(_) => false,
+    }
+}
+
+/// Takes the fact lines of a document one after the other, and stops at the first that isn't shown by what is known before it. Returns
+/// its number in the document, if there is one.
+fn first_untaken(document: &Document, facts: &mut Facts) -> Option<u32>
+    requires problem { facts.old.problem ≡ problem_of (document_of document.now) }
+    requires first { known_in facts.old ≡ known_first facts.old.problem }
+    ensures untaken { IfSome result (λ line. IsUntaken (document_of document.now) line) }
+    ensures taken { IfNone result (AreTaken (document_of document.now)) }
+    ensures known { IfNone result (KnowsAll (document_of document.now) facts.new) }
+{
+    let bound = document.bound();
+    let mut number = document.block().len() as u32 + 7;
+    let lines = fact_lines(document);
+    for line in lines {
+        if !take(facts, bound, line) {
+            return Some(number);
+        }
+        number += 1;
+    }
+    None
+}
+
+/// Whether a time and the longest path from there reach a bound; all in minor cycles.
+fn is_reached(bound: u32, time: u32, path: Option<u64>) -> bool
+    ensures { result ≡ is_reached bound time path }
+{
+    match path {
+        None => false,
+        Some(path) => u64::from(bound.saturating_sub(time)) <= path,
+    }
+}
+
+/// Whether a result of an instruction does.
+fn is_result_late(bound: u32, point: &KeptPoint, writes: &[Write], tails: &Times) -> bool
+    requires { length writes.now ≤ 2 }
+    ensures { result ≡ is_result_late bound point.now tails.now writes.now }
+{
+    match writes {
+        [] => false,
+        [one] => is_reached(bound, point.done_at(one.reg), tails.first),
+        [one, two, ..] => {
+            is_reached(bound, point.done_at(one.reg), tails.first)
+                || is_reached(bound, point.done_at(two.reg), tails.second)
+        }
+    }
+}
+
+/// Whether some moment of an instruction does.
+fn is_point_late(bound: u32, point: &KeptPoint, writes: &[Write], tails: &Times) -> bool
+    requires { length writes.now ≤ 2 }
+    ensures { result ≡ is_point_late bound point.now tails.now writes.now }
+{
+    is_reached(bound, point.issue, tails.issue)
+        || is_reached(bound, point.start, tails.start)
+        || is_reached(bound, point.free, tails.free)
+        || is_result_late(bound, point, writes, tails)
+}
+
+/// What is known of a block after fact lines, with the longest path from each moment to the end.
+#[derive(Debug, Drop)]
+pub(crate) struct Known {
+    facts: Facts,
+    /// Those of number n are at n - 1.
+    tails: [Times; BLOCK_LIMIT],
+}
+
+impl Model for Known {
+    ghost use Rattle.std.specs.Prelude.{◌≡◌};
+    ghost use Rattle.s66_facts.specs.Ground.{Ground};
+    ghost use Rattle.s66_checker.specs.KeptKnown.{HasTails, AreTails};
+
+    ghost Value = { Ground };
+
+    ghost view = { λ k. k.facts };
+
+    ghost invariant = { λ k. HasTails k.facts × AreTails k.facts k.tails };
+}
+
+impl Known {
+    ghost use Rattle.std.specs.Prelude.{◌≡◌, ◌≤◌, ◌&&◌, IfOk, IfErr, OnOk, nat_le, length, true};
+    ghost use Rattle.s66_isa.specs.declared.limits.TheConstants.{BLOCK_LIMIT};
+    ghost use Rattle.s66_model.specs.LegalOrder.{is_remaining};
+    ghost use Rattle.s66_moments.specs.Known.{next_value, is_turned};
+
+    /// What is known after the fact lines of a document of this block under this profile. If one of them isn't shown by what is known
+    /// before it, the number of the first such line in the document.
+    pub(crate) fn after(
+        document: &Document,
+        block: &[Instr],
+        profile: &Profile,
+    ) -> Result<Known, u32>
+        requires problem { record { block = block.now; profile = profile.now } ≡ problem_of (document_of document.now) }
+        requires some { 1 ≤ length block.now }
+        requires few { length block.now ≤ BLOCK_LIMIT }
+        ensures untaken { IfErr result (λ line. IsUntaken (document_of document.now) line) }
+        ensures taken { OnOk result (AreTaken (document_of document.now)) }
+        ensures known { IfOk result (λ k. KnowsAll (document_of document.now) k) }
+    {
+        let mut facts = Facts::new(block, profile);
+        if let Some(line) = first_untaken(document, &mut facts) {
+            return Err(line);
+        }
+        let tails = facts.tails();
+        Ok(Known { facts, tails })
+    }
+
+    /// Whether an instruction that remains takes a bound at least if it comes next: one of its moments, with the longest path from
+    /// there to the end.
+    fn is_late(&self, prefix: &Prefix, bound: u32, n: u8) -> bool
+        requires problem { prefix.now.problem ≡ self.now.problem }
+        requires number { is_remaining prefix.now.problem.block prefix.now.numbers n ≡ true }
+        ensures { result ≡ nat_le bound (next_value self.now.problem (known_in self.now) prefix.now.numbers n) }
+    {
+        let point = prefix.next_point(n);
+        let writes = prefix.row(n).writes.as_slice();
+        is_point_late(bound, &point, writes, &self.tails[n as usize - 1])
+    }
+
+    /// Whether an instruction remains after a prefix, and takes a bound at least if it comes next.
+    pub(crate) fn is_too_late(&self, prefix: &Prefix, bound: u32, n: u8) -> bool
+        requires { prefix.now.problem ≡ self.now.problem }
+        ensures { result ≡ (is_remaining prefix.now.problem.block prefix.now.numbers n && nat_le bound (next_value self.now.problem (known_in self.now) prefix.now.numbers n)) }
+    {
+        prefix.is_remaining(n) && self.is_late(prefix, bound, n)
+    }
+
+    /// Whether a prefix has the second number and not the first, which is known to stand before it.
+    pub(crate) fn is_turned(&self, prefix: &Prefix, first: u8, second: u8) -> bool
+        requires { prefix.now.problem ≡ self.now.problem }
+        ensures { result ≡ is_turned self.now.problem (known_in self.now) prefix.now.numbers first second }
+    {
+        prefix.is_remaining(first) && prefix.has(second) && self.facts.is_before(first, second)
+    }
+}
