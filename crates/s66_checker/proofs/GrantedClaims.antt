@@ -1,5 +1,5 @@
 -- If the verdict is yes the claim is true, and without fact lines exactly then.
-use Rattle.std.proofs.Common.{ℕ, suc, ◌≡◌, ◌↔◌, ◌≤◌, ◌∙◌, Bool, true, false, cond, not, ◌||◌, List, [], ◌∷◌, Option, None, Some, refl, sym, ap, subst, inl, inr, map, unwrap_or}
+use Rattle.std.proofs.Common.{ℕ, suc, ◌≡◌, ◌↔◌, ◌≤◌, ◌∙◌, Bool, true, false, cond, not, List, [], ◌∷◌, Option, None, Some, refl, sym, ap, subst, inl, inr, map, unwrap_or}
 use Rattle.std.proofs.lemmas.Bool.{eqb-true, eq-eqb, ltb-false, le-ltb, not-false, not_from_true, or_parts}
 use Rattle.std.specs.Prelude.{nat_lt, ◌==◌}
 use Rattle.s66_isa.specs.Lists.{Among, some_of}
@@ -7,7 +7,7 @@ use Rattle.s66_model.specs.Timing.{Problem, total_of}
 use Rattle.s66_model.specs.LegalOrder.{IsLegal, IsBeginning}
 use Rattle.s66_model.specs.declared.rule.Rule.TheVariants.{ClampedStanding}
 use Rattle.s66_model.specs.BestAndBound.{IsBound}
-use Rattle.s66_model.specs.Tree.{Vertex, AtTerminal, TreeHolds, flat}
+use Rattle.s66_model.specs.Tree.{Vertex, AtTerminal, flat}
 use Rattle.s66_model.specs.DominatedLeaves.{Ending, EndingShows}
 use Rattle.s66_model.proofs.DominatedTrees.{shown-below}
 use Rattle.s66_moments.specs.declared.fact_line.FactLine.{FactLine}

@@ -1,13 +1,13 @@
 -- A tree whose lines have no fault, after fact lines that are taken, shows the bound by them.
-use Rattle.std.proofs.Common.{ℕ, ◌≤◌, ◌≡◌, ◌↔◌, Bool, true, false, true≢false, cond, not, ◌&&◌, List, [], ◌∷◌, Option, None, Some, leb, refl, sym, ap, ◌∙◌, subst, map}
+use Rattle.std.proofs.Common.{ℕ, ◌≤◌, ◌≡◌, Bool, true, true≢false, cond, not, ◌&&◌, List, [], Option, None, Some, leb, refl, sym, ap, ◌∙◌, subst, map}
 use Rattle.std.proofs.lemmas.Bool.{leb-true, not-false, not_from_false, and_parts}
 use Rattle.s66_model.specs.declared.rule.Rule.{Rule}
 use Rattle.s66_model.specs.declared.rule.Rule.TheVariants.{ClampedStanding}
 use Rattle.s66_model.specs.Timing.{Problem}
 use Rattle.s66_model.specs.LegalOrder.{IsBeginning, is_remaining}
-use Rattle.s66_model.specs.Tree.{Vertex, AtTerminal, AtSplit, TreeHolds}
+use Rattle.s66_model.specs.Tree.{Vertex, AtTerminal, TreeHolds}
 use Rattle.s66_model.specs.NodeNames.{node_at}
-use Rattle.s66_model.specs.DominatedLeaves.{Ending, Bounding, Dominated, Next, Turned, AtLine, is_standing, may_be_named, DominatesByRule, EndingShows}
+use Rattle.s66_model.specs.DominatedLeaves.{Ending, Bounding, Dominated, Next, Turned, AtLine, is_standing, may_be_named, DominatesByRule}
 use Rattle.s66_model.proofs.TreesHold.{tree-weaken, seen-holds}
 use Rattle.s66_moments.specs.declared.fact_line.FactLine.{FactLine}
 use Rattle.s66_moments.specs.Facts.{Fact}
@@ -16,7 +16,6 @@ use Rattle.s66_moments.specs.Known.{Known, line_of, known_first, known_after, ar
 use Rattle.s66_moments.specs.LineTrees.{LineEnding, is_closed, LineEndingShows, ShowsByLines}
 use Rattle.s66_moments.proofs.KnownLines.{IsSound, after-sound, next-too_late, turned-too_late}
 use Rattle.s66_cert.specs.Document.{Document}
-use Rattle.s66_checker.specs.declared.verdict.Reason.{Reason}
 use Rattle.s66_checker.specs.declared.verdict.Reason.TheVariants as fault
 use Rattle.s66_checker.specs.Dominating.{is_beginning, is_same_set, dominates_by}
 use Rattle.s66_checker.specs.Verdict.{problem_of, known_of, node_on, is_complete, is_name_at, name_of, at_line_fault, next_fault, turned_fault, line_fault}

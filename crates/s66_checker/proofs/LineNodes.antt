@@ -1,12 +1,12 @@
 -- The node of each line of a tree that splits into the ready numbers has its prefix as its name, and may be named in the tree of line endings if it may be in this one.
-use Rattle.std.proofs.Common.{ℕ, zero, suc, ◌<◌, ◌+◌, ◌-◌, ◌≤◌, ◌≡◌, ◌≢◌, ◌⊎◌, Bool, true, false, ◌&&◌, eqb, ltb, ne_eqb, eq-eqb, length, List, [], ◌∷◌, ◌++◌, Option, None, Some, slice_get, filter, refl, sym, ap, ◌∙◌, subst, inl, inr, arith, append_assoc}
+use Rattle.std.proofs.Common.{ℕ, zero, suc, ◌<◌, ◌+◌, ◌-◌, ◌≤◌, ◌≡◌, ◌≢◌, Bool, true, false, ◌&&◌, eqb, ltb, ne_eqb, eq-eqb, length, List, [], ◌∷◌, ◌++◌, Option, None, Some, slice_get, filter, refl, sym, ap, ◌∙◌, subst, inl, inr, arith, append_assoc}
 use Rattle.std.proofs.lemmas.Bool.{cases_Bool, lt-ltb, le-ltb}
 use Rattle.s66_isa.specs.Lists.{Among, rising}
 use Rattle.s66_isa.proofs.Lists.{among-rising}
 use Rattle.s66_isa.specs.declared.instr.Instr.{Instr}
 use Rattle.s66_isa.specs.Table.{numbers}
 use Rattle.s66_model.specs.LegalOrder.{is_ready, ready}
-use Rattle.s66_model.specs.Tree.{Tree, Alone, Parted, Siblings, NoMore, Unsplit, Split, Vertex, AtTerminal, AtSplit, SiblingsHold, TreeHolds}
+use Rattle.s66_model.specs.Tree.{Tree, Alone, Parted, Siblings, NoMore, Unsplit, Split, Vertex, SiblingsHold, TreeHolds}
 use Rattle.s66_model.specs.NodeNames.{terminal_at, sibling_at, node_at}
 use Rattle.s66_model.specs.DominatedLeaves.{Ending, Bounding, Dominated, Next, Turned, AtLine, is_standing}
 use Rattle.s66_model.specs.Stated.{siblings_seen, tree_seen}

@@ -1,9 +1,9 @@
 -- The lines of a tree are without fault exactly when each split has the ready numbers and each ending shows what it has to.
-use Rattle.std.proofs.Common.{ℕ, ◌≡◌, ◌↔◌, ◌⊎◌, true, List, [], ◌∷◌, ◌++◌, None, refl, inl, inr, subst}
+use Rattle.std.proofs.Common.{ℕ, ◌≡◌, ◌↔◌, true, List, [], ◌∷◌, ◌++◌, None, refl, inl, inr, subst}
 use Rattle.s66_isa.specs.Lists.{Among}
 use Rattle.s66_model.specs.Timing.{Problem}
 use Rattle.s66_model.specs.LegalOrder.{is_ready, ready, IsBeginning}
-use Rattle.s66_model.specs.Tree.{Tree, Alone, Parted, Siblings, NoMore, Unsplit, Split, Vertex, AtTerminal, AtSplit, flat_siblings, flat, SiblingsHold, TreeHolds}
+use Rattle.s66_model.specs.Tree.{Tree, Alone, Parted, Siblings, NoMore, Unsplit, Split, Vertex, AtTerminal, flat_siblings, flat, SiblingsHold, TreeHolds}
 use Rattle.s66_model.specs.DominatedLeaves.{Ending}
 use Rattle.s66_model.proofs.Remaining.{ready-among, step-begins}
 use Rattle.s66_cert.specs.Document.{Document, SiblingsFit, TreeFits, siblings_placed, tree_placed}

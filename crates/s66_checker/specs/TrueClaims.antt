@@ -1,9 +1,9 @@
 -- To be believed: when what a document claims is true.
-use Rattle.std.specs.Prelude.{ℕ, ◌≡◌, ◌≤◌, List, [], Option, None, Some, map}
+use Rattle.std.specs.Prelude.{◌≡◌, ◌≤◌, List, [], Option, None, Some, map}
 use Rattle.s66_model.specs.declared.rule.Rule.TheVariants.{ClampedStanding}
 use Rattle.s66_model.specs.Timing.{total_of}
 use Rattle.s66_model.specs.LegalOrder.{IsLegal}
-use Rattle.s66_model.specs.Tree.{Tree, Vertex}
+use Rattle.s66_model.specs.Tree.{Tree}
 use Rattle.s66_model.specs.Stated.{tree_seen}
 use Rattle.s66_model.specs.DominatedLeaves.{Ending, Bounding, Dominated, Next, Turned, AtLine, ShowsBy}
 use Rattle.s66_moments.specs.declared.fact_line.FactLine.{FactLine}

@@ -1,6 +1,6 @@
-use Rattle.std.proofs.Common.{◌≡◌, ◌∙◌, true, List, leb, refl, ap, sym, subst}
-use Rattle.s66_isa.specs.Table.{Row, Write}
-use Rattle.s66_model.specs.Timing.{Problem, Point, row_at, point_of, points_of}
+use Rattle.std.proofs.Common.{◌≡◌, ◌∙◌, true, leb, refl, ap, sym, subst}
+use Rattle.s66_isa.specs.Table.{Row}
+use Rattle.s66_model.specs.Timing.{Problem, row_at, point_of, points_of}
 use Rattle.s66_model.specs.LegalOrder.{is_remaining}
 use Rattle.s66_moments.specs.Known.{next_value}
 use Rattle.s66_facts.specs.Ground.{Ground, known_of as known_in}
