@@ -1,5 +1,5 @@
 -- The document of an answer is a document, whose tree its lines determine.
-use Rattle.std.proofs.Common.{ℕ, zero, suc, ◌+◌, ◌≤◌, ◌≡◌, Bool, true, false, not, if◌then◌else◌, List, [], ◌∷◌, ◌++◌, length, refl, sym, ap, arith, inl, inr, subst, ◌∙◌, map}
+use Rattle.std.proofs.Common.{ℕ, zero, suc, ◌+◌, ◌≤◌, ◌≡◌, Bool, true, false, not, if◌then◌else◌, List, [], ◌∷◌, ◌++◌, length, refl, sym, ap, arith, inl, inr, subst, ◌∙◌, None, map}
 use Rattle.std.proofs.lemmas.Bool.{and_parts, ltb-true}
 use Rattle.std.proofs.lemmas.List.{length-append, length-map}
 use Rattle.std.proofs.lemmas.List.Elements.{All-head, All-tail}
@@ -7,7 +7,7 @@ use Rattle.std.proofs.lemmas.List.Filters.{length-filter_both}
 use Rattle.std.specs.Prelude.{All, nat_lt}
 use Rattle.s66_isa.specs.declared.instr.Instr.{Instr}
 use Rattle.s66_isa.specs.declared.profile.Profile.{Profile}
-use Rattle.s66_isa.specs.Lists.{Among, rising}
+use Rattle.s66_isa.specs.Lists.{Among, rising, some_of}
 use Rattle.s66_isa.specs.Table.{entries, numbers}
 use Rattle.s66_isa.proofs.Lists.{least-le}
 use Rattle.s66_isa.proofs.Profiles.{entries-in-range}
@@ -21,7 +21,7 @@ use Rattle.s66_model.specs.Dominance.{Clamp, DominatesBy, clamp_at, no_clamp}
 use Rattle.s66_model.specs.declared.rule.Rule.{Rule}
 use Rattle.s66_model.specs.declared.rule.Rule.TheVariants.{NoneNamed, WrittenEarlier, ClampedStanding}
 use Rattle.s66_model.specs.Tree.{Tree, Alone, Parted, Siblings, NoMore, Unsplit, Split, SiblingsHold, TreeHolds, Vertex, AtTerminal, AtSplit, flat, flat_siblings, splits, tree_values}
-use Rattle.s66_model.specs.DominatedLeaves.{Ending, Bounding, Dominated, DominatesByRule, EndingShows, MayBeDominated, ShowsBy}
+use Rattle.s66_model.specs.DominatedLeaves.{Ending, Bounding, Dominated, Next, Turned, AtLine, DominatesByRule, EndingShows, MayBeDominated, ShowsBy}
 use Rattle.s66_model.proofs.AnswerBound.{answer-shown}
 use Rattle.s66_model.proofs.Beginnings.{beginning-front, length-rising}
 use Rattle.s66_model.proofs.Dominating.{length-same}
@@ -32,7 +32,7 @@ use Rattle.s66_model.proofs.LegalOrders.{legal-order, ready-parts}
 use Rattle.s66_model.proofs.Remaining.{among-ready, legal-parts, ready-among, remaining-parts, rest-first, step-begins}
 use Rattle.s66_cert.specs.declared.limits.TheConstants.{SPLIT_LIMIT, TIME_LIMIT}
 use Rattle.s66_tree.specs.Lines.{has_dominated_line}
-use Rattle.s66_cert.specs.Document.{AreIn, AreInstructions, AreNumbers, IsDocument, IsLeafLine, SiblingsFit, TreeFits, has_dominated, names_nodes}
+use Rattle.s66_cert.specs.Document.{AreIn, AreInstructions, AreNumbers, IsDocument, IsLeafLine, SiblingsFit, TreeFits, is_factual, has_dominated, has_factual, names_nodes}
 use Rattle.s66_cert.specs.DocumentParts.{Parts, AreWhole, document_of, tree_of_lines}
 use Rattle.s66_program.specs.ProvedAnswers.{IsSpelled}
 use Rattle.s66_program.specs.ProveText.{document_under, rule_of, texts_of}
@@ -131,6 +131,9 @@ module _ (b : Problem) (few : length b.block ≤ BLOCK_LIMIT) where
     ending-line : (prefix : List ℕ) (n : ℕ) (ending : Ending) → IsBeginning b.block (prefix ++ n ∷ []) → MayEnd rule b tree (prefix ++ n ∷ []) ending → IsLeafLine BLOCK_LIMIT ending
     ending-line prefix n (Bounding leaf) begins is = floor-line (prefix ++ n ∷ []) leaf begins is
     ending-line prefix n (Dominated name) begins is = dominated-line rule (prefix ++ n ∷ []) name is.0 (omega (arith, length-append prefix (n ∷ [])))
+    ending-line prefix n (Next number) begins is = absurd is
+    ending-line prefix n (Turned first second) begins is = absurd is
+    ending-line prefix n (AtLine line) begins is = absurd is
 
     siblings-fit : (siblings : Siblings Ending) (prefix ns : List ℕ) → SiblingsHold b.block (MayEnd rule b tree) prefix ns siblings → IsBeginning b.block prefix → AreReady b prefix ns → SiblingsFit BLOCK_LIMIT ns siblings
     siblings-fit NoMore prefix [] h begins are = tt
@@ -158,6 +161,9 @@ module _ (b : Problem) (few : length b.block ≤ BLOCK_LIMIT) where
   tree-fits : (rule : Rule) (tree : Tree Ending) → TreeHolds b.block (MayEnd rule b tree) [] tree → TreeFits BLOCK_LIMIT tree
   tree-fits rule (Alone (Bounding leaf)) h = floor-line [] leaf tt h
   tree-fits rule (Alone (Dominated name)) h = absurd (root-bounding rule name h)
+  tree-fits rule (Alone (Next number)) h = absurd h
+  tree-fits rule (Alone (Turned first second)) h = absurd h
+  tree-fits rule (Alone (AtLine line)) h = absurd h
   tree-fits rule (Parted numbers siblings) h =
       (subst (λ ms. AreNumbers BLOCK_LIMIT ms) (sym h.1) (ready-numbers b.block few [] tt h.0), siblings-fit rule (Parted numbers siblings) siblings [] numbers h.2 tt (split-ready b [] numbers h.1))
 
@@ -167,30 +173,36 @@ dominated-parts : (vertices more : List (Vertex Ending)) → has_dominated_line 
 dominated-parts [] more h = (refl, h)
 dominated-parts (AtTerminal (Bounding leaf) ∷ vertices) more h = dominated-parts vertices more h
 dominated-parts (AtTerminal (Dominated name) ∷ vertices) more h = absurd (cc)
+dominated-parts (AtTerminal (Next number) ∷ vertices) more h = dominated-parts vertices more h
+dominated-parts (AtTerminal (Turned first second) ∷ vertices) more h = dominated-parts vertices more h
+dominated-parts (AtTerminal (AtLine line) ∷ vertices) more h = dominated-parts vertices more h
 dominated-parts (AtSplit numbers ∷ vertices) more h = dominated-parts vertices more h
 
 dominated-neither : (vertices more : List (Vertex Ending)) → has_dominated_line vertices ≡ false → has_dominated_line more ≡ false → has_dominated_line (vertices ++ more) ≡ false
 dominated-neither [] more h none = none
 dominated-neither (AtTerminal (Bounding leaf) ∷ vertices) more h none = dominated-neither vertices more h none
 dominated-neither (AtTerminal (Dominated name) ∷ vertices) more h none = absurd (cc)
+dominated-neither (AtTerminal (Next number) ∷ vertices) more h none = dominated-neither vertices more h none
+dominated-neither (AtTerminal (Turned first second) ∷ vertices) more h none = dominated-neither vertices more h none
+dominated-neither (AtTerminal (AtLine line) ∷ vertices) more h none = dominated-neither vertices more h none
 dominated-neither (AtSplit numbers ∷ vertices) more h none = dominated-neither vertices more h none
 
 -- what holds at the terminals if none is dominated
-module _ (block : List Instr) (Q R : List ℕ → Ending → Type 0) (each : (at : List ℕ) (leaf : Leaf) → Q at (Bounding leaf) → R at (Bounding leaf)) where
+module _ (block : List Instr) (Q R : List ℕ → Ending → Type 0) (each : (at : List ℕ) (ending : Ending) → has_dominated_line (AtTerminal ending ∷ []) ≡ false → Q at ending → R at ending) where
   siblings-bounding : (siblings : Siblings Ending) (prefix ns : List ℕ) → has_dominated_line (flat_siblings siblings) ≡ false → SiblingsHold block Q prefix ns siblings → SiblingsHold block R prefix ns siblings
   siblings-bounding NoMore prefix [] none h = tt
   siblings-bounding NoMore prefix (n ∷ ns) none h = absurd h
-  siblings-bounding (Unsplit (Bounding leaf) siblings) prefix [] none h = absurd h
-  siblings-bounding (Unsplit (Bounding leaf) siblings) prefix (n ∷ ns) none h = (each (prefix ++ n ∷ []) leaf h.0, siblings-bounding siblings prefix ns none h.1)
-  siblings-bounding (Unsplit (Dominated name) siblings) prefix ns none h = absurd (cc)
+  siblings-bounding (Unsplit ending siblings) prefix [] none h = absurd h
+  siblings-bounding (Unsplit ending siblings) prefix (n ∷ ns) none h =
+      let parts = dominated-parts (AtTerminal ending ∷ []) (flat_siblings siblings) none in
+      (each (prefix ++ n ∷ []) ending parts.0 h.0, siblings-bounding siblings prefix ns parts.1 h.1)
   siblings-bounding (Split numbers sub siblings) prefix [] none h = absurd h
   siblings-bounding (Split numbers sub siblings) prefix (n ∷ ns) none h =
       let parts = dominated-parts (flat_siblings sub) (flat_siblings siblings) none in
       (h.0, h.1, siblings-bounding sub (prefix ++ n ∷ []) numbers parts.0 h.2, siblings-bounding siblings prefix ns parts.1 h.3)
 
   tree-bounding : (tree : Tree Ending) → has_dominated tree ≡ false → TreeHolds block Q [] tree → TreeHolds block R [] tree
-  tree-bounding (Alone (Bounding leaf)) none h = each [] leaf h
-  tree-bounding (Alone (Dominated name)) none h = absurd (cc)
+  tree-bounding (Alone ending) none h = each [] ending none h
   tree-bounding (Parted numbers siblings) none h = (h.0, h.1, siblings-bounding siblings [] numbers none h.2)
 
 -- by the rule that names none, none is dominated
@@ -200,6 +212,9 @@ module _ (b : Problem) (tree : Tree Ending) where
   siblings-none (Unsplit ending siblings) prefix [] h = absurd h
   siblings-none (Unsplit (Bounding leaf) siblings) prefix (n ∷ ns) h = siblings-none siblings prefix ns h.1
   siblings-none (Unsplit (Dominated name) siblings) prefix (n ∷ ns) h = absurd h.0.0
+  siblings-none (Unsplit (Next number) siblings) prefix (n ∷ ns) h = absurd h.0
+  siblings-none (Unsplit (Turned first second) siblings) prefix (n ∷ ns) h = absurd h.0
+  siblings-none (Unsplit (AtLine line) siblings) prefix (n ∷ ns) h = absurd h.0
   siblings-none (Split numbers sub siblings) prefix [] h = absurd h
   siblings-none (Split numbers sub siblings) prefix (n ∷ ns) h =
       dominated-neither (flat_siblings sub) (flat_siblings siblings) (siblings-none sub (prefix ++ n ∷ []) numbers h.2) (siblings-none siblings prefix ns h.3)
@@ -207,7 +222,41 @@ module _ (b : Problem) (tree : Tree Ending) where
 none-dominated : (b : Problem) (tree : Tree Ending) → TreeHolds b.block (MayEnd NoneNamed b tree) [] tree → has_dominated tree ≡ false
 none-dominated b (Alone (Bounding leaf)) h = refl
 none-dominated b (Alone (Dominated name)) h = absurd h.0
+none-dominated b (Alone (Next number)) h = absurd h
+none-dominated b (Alone (Turned first second)) h = absurd h
+none-dominated b (Alone (AtLine line)) h = absurd h
 none-dominated b (Parted numbers siblings) h = siblings-none b (Parted numbers siblings) siblings [] numbers h.2
+
+-- no leaf is of the kinds that come with fact lines
+factual-neither : (vertices more : List (Vertex Ending)) → some_of is_factual vertices ≡ false → some_of is_factual more ≡ false → some_of is_factual (vertices ++ more) ≡ false
+factual-neither [] more h none = none
+factual-neither (AtTerminal (Bounding leaf) ∷ vertices) more h none = factual-neither vertices more h none
+factual-neither (AtTerminal (Dominated name) ∷ vertices) more h none = factual-neither vertices more h none
+factual-neither (AtTerminal (Next number) ∷ vertices) more h none = absurd (cc)
+factual-neither (AtTerminal (Turned first second) ∷ vertices) more h none = absurd (cc)
+factual-neither (AtTerminal (AtLine line) ∷ vertices) more h none = absurd (cc)
+factual-neither (AtSplit numbers ∷ vertices) more h none = factual-neither vertices more h none
+
+module _ (rule : Rule) (b : Problem) (tree : Tree Ending) where
+  siblings-plain : (siblings : Siblings Ending) (prefix ns : List ℕ) → SiblingsHold b.block (MayEnd rule b tree) prefix ns siblings → some_of is_factual (flat_siblings siblings) ≡ false
+  siblings-plain NoMore prefix ns h = refl
+  siblings-plain (Unsplit ending siblings) prefix [] h = absurd h
+  siblings-plain (Unsplit (Bounding leaf) siblings) prefix (n ∷ ns) h = siblings-plain siblings prefix ns h.1
+  siblings-plain (Unsplit (Dominated name) siblings) prefix (n ∷ ns) h = siblings-plain siblings prefix ns h.1
+  siblings-plain (Unsplit (Next number) siblings) prefix (n ∷ ns) h = absurd h.0
+  siblings-plain (Unsplit (Turned first second) siblings) prefix (n ∷ ns) h = absurd h.0
+  siblings-plain (Unsplit (AtLine line) siblings) prefix (n ∷ ns) h = absurd h.0
+  siblings-plain (Split numbers sub siblings) prefix [] h = absurd h
+  siblings-plain (Split numbers sub siblings) prefix (n ∷ ns) h =
+      factual-neither (flat_siblings sub) (flat_siblings siblings) (siblings-plain sub (prefix ++ n ∷ []) numbers h.2) (siblings-plain siblings prefix ns h.3)
+
+none-factual : (rule : Rule) (b : Problem) (tree : Tree Ending) → TreeHolds b.block (MayEnd rule b tree) [] tree → has_factual tree ≡ false
+none-factual rule b (Alone (Bounding leaf)) h = refl
+none-factual rule b (Alone (Dominated name)) h = refl
+none-factual rule b (Alone (Next number)) h = absurd h
+none-factual rule b (Alone (Turned first second)) h = absurd h
+none-factual rule b (Alone (AtLine line)) h = absurd h
+none-factual rule b (Parted numbers siblings) h = siblings-plain rule b (Parted numbers siblings) siblings [] numbers h.2
 
 -- the rule of a document names nodes if a leaf is dominated
 rule-names : (rule : Rule) (b : Problem) (tree : Tree Ending) (dominated : Bool) → has_dominated tree ≡ dominated → TreeHolds b.block (MayEnd rule b tree) [] tree →
@@ -221,11 +270,20 @@ rule-names ClampedStanding b tree true is h = refl
 pub answer-lines : (rule : Rule) (b : Problem) (budget : ℕ) (a : Answer) → IsAnswer rule b budget a → tree_of_lines (flat a.tree) ≡ a.tree
 answer-lines rule b budget a is = read-flat (Bounding Whole) a.tree (tree-match b.block (MayEnd rule b a.tree) a.tree [] is.tree)
 
+-- a leaf that isn't dominated shows the same by each rule
+same-shown : (rule : Rule) (b : Problem) (low : ℕ) (tree : Tree Ending) (at : List ℕ) (ending : Ending) → has_dominated_line (AtTerminal ending ∷ []) ≡ false → EndingShows rule b low [] tree at ending →
+    EndingShows NoneNamed b low [] tree at ending
+same-shown rule b low tree at (Bounding leaf) none h = h
+same-shown rule b low tree at (Dominated name) none h = absurd (cc)
+same-shown rule b low tree at (Next number) none h = h
+same-shown rule b low tree at (Turned first second) none h = h
+same-shown rule b low tree at (AtLine line) none h = h
+
 -- by which the tree shows its bound
 shows-by : (rule : Rule) (b : Problem) (low : ℕ) (tree : Tree Ending) (dominated : Bool) → has_dominated tree ≡ dominated → ShowsBy rule b low [] tree →
     ShowsBy (if dominated then rule else NoneNamed) b low [] tree
 shows-by rule b low tree true is h = h
-shows-by rule b low tree false is h = tree-bounding b.block (EndingShows rule b low [] tree) (EndingShows NoneNamed b low [] tree) (λ at leaf shows. shows) tree is h
+shows-by rule b low tree false is h = tree-bounding b.block (EndingShows rule b low [] tree) (EndingShows NoneNamed b low [] tree) (same-shown rule b low tree) tree is h
 
 pub answer-shows : (rule : Rule) (b : Problem) (budget : ℕ) (a : Answer) → IsAnswer rule b budget a → ShowsBy (rule_of rule a.tree) b a.bound [] a.tree
 answer-shows rule b budget a is = shows-by rule b a.bound a.tree (has_dominated a.tree) refl (answer-shown floor-stands rule b budget a is)
@@ -259,14 +317,15 @@ answer-document rule p block budget a is splits some few spelled =
       numbers = order-numbers b.block few a.order some is.legal;
       tree = tree-fits b few rule a.tree is.tree;
       splits = omega (arith, is.splits, splits);
-      rule = rule-names rule b a.tree (has_dominated a.tree) refl is.tree;
+      facts = tt;
+      leaves = (rule-names rule b a.tree (has_dominated a.tree) refl is.tree, none-factual rule b a.tree is.tree);
     }
 
 -- PARTS
 
 abbrev pub parts_under : Rule → Profile → Block → Answer → Parts
 parts_under rule p block a =
-    record { rule = rule_of rule a.tree; profile = entries p; block = texts_of block; time = a.time; bound = a.bound; numbers = a.order; vertices = flat a.tree }
+    record { rule = rule_of rule a.tree; facts = None; profile = entries p; block = texts_of block; time = a.time; bound = a.bound; numbers = a.order; vertices = flat a.tree }
 
 pub parts-document : (rule : Rule) (p : Profile) (block : Block) (budget : ℕ) (a : Answer) → IsAnswer rule (record { block = instrs_of block; profile = p }) budget a →
     document_of (parts_under rule p block a) ≡ document_under rule p block a
@@ -281,9 +340,10 @@ parts-whole rule p block budget a is splits some few spelled =
       preorder = ap (λ (tree : Tree Ending). flat tree) (answer-lines rule (record { block = instrs_of block; profile = p }) budget a is);
     }
 
-pub same-parts : (v w : Parts) → v.rule ≡ w.rule → v.profile ≡ w.profile → v.block ≡ w.block → v.time ≡ w.time → v.bound ≡ w.bound → v.numbers ≡ w.numbers → v.vertices ≡ w.vertices → v ≡ w
-same-parts v w rule profile block time bound numbers vertices =
+pub same-parts : (v w : Parts) → v.rule ≡ w.rule → v.facts ≡ w.facts → v.profile ≡ w.profile → v.block ≡ w.block → v.time ≡ w.time → v.bound ≡ w.bound → v.numbers ≡ w.numbers → v.vertices ≡ w.vertices → v ≡ w
+same-parts v w rule facts profile block time bound numbers vertices =
     ap (λ x. record v { rule = x }) rule
+    ∙ ap (λ x. record w { facts = x; profile = v.profile; block = v.block; time = v.time; bound = v.bound; numbers = v.numbers; vertices = v.vertices }) facts
     ∙ ap (λ x. record w { profile = x; block = v.block; time = v.time; bound = v.bound; numbers = v.numbers; vertices = v.vertices }) profile
     ∙ ap (λ x. record w { block = x; time = v.time; bound = v.bound; numbers = v.numbers; vertices = v.vertices }) block
     ∙ ap (λ x. record w { time = x; bound = v.bound; numbers = v.numbers; vertices = v.vertices }) time ∙ ap (λ x. record w { bound = x; numbers = v.numbers; vertices = v.vertices }) bound

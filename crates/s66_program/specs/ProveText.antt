@@ -1,5 +1,5 @@
 -- To be believed: what `prove` writes for a source, and how it ends: for each block the document of an answer of a search of its orders, of which there may be several.
-use Rattle.std.specs.Prelude.{ℕ, ◌≡◌, if◌then◌else◌, List, [], ◌∷◌, Ok, map}
+use Rattle.std.specs.Prelude.{ℕ, ◌≡◌, if◌then◌else◌, None, List, [], ◌∷◌, Ok, map}
 use Rattle.s66_isa.specs.declared.profile.Profile.{Profile}
 use Rattle.s66_isa.specs.Table.{entries, numbers}
 use Rattle.s66_line.specs.Block.{instrs_of, text_of, Block}
@@ -25,7 +25,7 @@ rule_of rule tree = if has_dominated tree then rule else NoneNamed
 -- what an answer, whose dominated leaves are by this rule, claims of a block under a profile
 abbrev pub document_under : Rule → Profile → Block → Answer → Document
 document_under rule p block a =
-    record { rule = rule_of rule a.tree; profile = entries p; block = texts_of block; time = a.time; bound = a.bound; numbers = a.order; tree = a.tree }
+    record { rule = rule_of rule a.tree; facts = None; profile = entries p; block = texts_of block; time = a.time; bound = a.bound; numbers = a.order; tree = a.tree }
 
 abbrev pub all_documents : Rule → Profile → List Block → List Answer → List Document
 all_documents rule p (block ∷ blocks) (a ∷ answers) = document_under rule p block a ∷ all_documents rule p blocks answers

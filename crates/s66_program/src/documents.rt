@@ -60,6 +60,7 @@ pub fn document_of(
     let tree = answer.tree(alloc, block)?;
     Ok(Document::new(Claim {
         rule: rule_of(answer.rule(), &tree),
+        facts: None,
         profile: ArrayVec::from(profile.entries()),
         block: texts_of(alloc, block)?,
         time: answer.time(),

@@ -1,4 +1,4 @@
-use Rattle.std.proofs.Common.{◌≡◌, ◌∙◌, if◌then◌else◌, ap, ap₂, sym, subst, arith, rules}
+use Rattle.std.proofs.Common.{None, refl, ◌≡◌, ◌∙◌, if◌then◌else◌, ap, ap₂, sym, subst, arith, rules}
 use Rattle.s66_dep.specs.Ordered.{Ordered}
 use Rattle.s66_line.specs.Block.{instrs_of}
 use Rattle.s66_model.specs.declared.rule.Rule.TheVariants.{NoneNamed}
@@ -15,6 +15,7 @@ use Rattle.s66_program.proofs.documents.document_of.Goals.{After-bound}
 abbrev claimed : After-bound → Parts
 claimed c = record {
   rule = c.rule_of.result;
+  facts = None;
   profile = c.from.result.items;
   block = c.in_ok-texts_of.field-0.items;
   time = c.time.result;
@@ -28,7 +29,7 @@ own c = parts_under c.args.answer.now.rule c.args.profile.now c.args.block.now (
 
 same : (c : After-bound) → claimed c ≡ own c
 same c =
-    same-parts (claimed c) (own c) (c.rule_of.ensures ∙ ap₂ (λ rule vertices. if has_dominated_line vertices then rule else NoneNamed) c.rule.ensures c.in_ok-tree.ensures) (search rules) (c.in_ok-texts_of.ensures.texts) c.time.ensures.value c.bound.ensures.value
+    same-parts (claimed c) (own c) (c.rule_of.ensures ∙ ap₂ (λ rule vertices. if has_dominated_line vertices then rule else NoneNamed) c.rule.ensures c.in_ok-tree.ensures) refl (search rules) (c.in_ok-texts_of.ensures.texts) c.time.ensures.value c.bound.ensures.value
     (c.in-Ok.ensures.0 ∙ c.numbers.ensures.value ∙ ap (λ (o : Ordered). o.numbers) c.order.ensures) c.in_ok-tree.ensures
 
 is : (c : After-bound) → IsAnswer c.args.answer.now.rule (record { block = instrs_of c.args.block.now; profile = c.args.profile.now }) c.args.answer.now.budget (answer_of c.args.answer.now)
