@@ -64,4 +64,4 @@ pub verdict-of_answer : (rule : Rule) (p : Profile) (block : Block) (budget : â„
 verdict-of_answer rule p block budget a (some, few, spelled) within is =
     let d : Document = document_under rule p block a in
     let document : IsDocument BLOCK_LIMIT d = answer-document rule p block budget a is (omega (arith, is.within, within)) some few spelled in
-    (verdict-yes BLOCK_LIMIT d a.time a.bound document.tree).1 (refl, refl, true-claim rule p block budget a spelled is)
+    (verdict-yes BLOCK_LIMIT d a.time a.bound document refl).1 (refl, refl, true-claim rule p block budget a spelled is)

@@ -1,5 +1,5 @@
 use crate::commands::{check_output, run};
-use crate::documents::{ONE_LOAD, THREE_MULTIPLIES};
+use crate::documents::{FORCED_PAIRS, LINES_NAMED, ONE_LOAD, THREE_MULTIPLIES};
 use s66_cert::CertError;
 use s66_program::{Command, Fault, Status};
 use std::alloc::AllocError;
@@ -71,6 +71,27 @@ const ALTERED_MULTIPLIES: &[(&str, &str, &str)] = &[
     ),
 ];
 
+/// The same of forced pairs.
+const ALTERED_PAIRS: &[(&str, &str, &str)] = &[
+    ("F 1 3", "F 3 1", "DOCUMENT 1 NO LINE 12 REASON 11\n"),
+    ("F 2 1\n", "", "DOCUMENT 1 NO LINE 15 REASON 13\n"),
+    ("F 1 3\n", "", "DOCUMENT 1 NO LINE 18 REASON 13\n"),
+    ("\nE 3", "\nE 5", "DOCUMENT 1 NO LINE 18 REASON 12\n"),
+    ("\nE 3", "\nE 1", "DOCUMENT 1 NO LINE 18 REASON 12\n"),
+    ("R 2 1", "R 1 2", "DOCUMENT 1 NO LINE 16 REASON 13\n"),
+    ("R 1 3", "R 2 3", "DOCUMENT 1 NO LINE 19 REASON 13\n"),
+    ("BOUND 11", "BOUND 12", "DOCUMENT 1 NO LINE 10 REASON 8\n"),
+];
+
+/// The same of lines that are named.
+const ALTERED_NAMES: &[(&str, &str, &str)] = &[
+    ("N 12", "N 11", "DOCUMENT 1 NO LINE 15 REASON 9\n"),
+    ("N 12", "N 15", "DOCUMENT 1 NO LINE 15 REASON 9\n"),
+    ("N 12", "N 9", "DOCUMENT 1 NO LINE 15 REASON 9\n"),
+    ("N 12", "N 20", "DOCUMENT 1 NO LINE 15 REASON 9\n"),
+    ("N 16", "N 18", "DOCUMENT 1 NO LINE 19 REASON 9\n"),
+];
+
 /// Checks that altered documents are denied.
 pub(crate) fn check_denied<R: AllocGlobal + Abort + Threads + Wait + Sync>(
     rt: &R,
@@ -88,6 +109,16 @@ pub(crate) fn check_denied<R: AllocGlobal + Abort + Threads + Wait + Sync>(
 fn denies_altered_documents(rt: HostRuntime) -> Result<(), Fail> {
     check_denied(&rt, ONE_LOAD, ALTERED_LOADS)?;
     check_denied(&rt, THREE_MULTIPLIES, ALTERED_MULTIPLIES)
+}
+
+#[test]
+fn denies_altered_facts(rt: HostRuntime) -> Result<(), Fail> {
+    let yes = "DOCUMENT 1 YES TIME 11 BOUND 11\n";
+    check_output(&rt, Command::Check, FORCED_PAIRS, Status::Done, yes);
+    let yes = "DOCUMENT 1 YES TIME 8 BOUND 7\n";
+    check_output(&rt, Command::Check, LINES_NAMED, Status::Done, yes);
+    check_denied(&rt, FORCED_PAIRS, ALTERED_PAIRS)?;
+    check_denied(&rt, LINES_NAMED, ALTERED_NAMES)
 }
 
 /// What `check` says of three multiplies and one load.

@@ -1,15 +1,14 @@
-use Rattle.std.proofs.Common.{◌≡◌, Bool, true, false, true≢false, [], List, ◌∷◌, refl, sym, subst, inl, inr, if◌then◌else◌}
+use Rattle.std.proofs.Common.{◌≡◌, Bool, true, false, true≢false, List, ◌∷◌, refl, sym, subst, inl, inr, if◌then◌else◌}
 use Rattle.s66_isa.specs.Lists.{Among}
 use Rattle.s66_isa.proofs.Lists.{every-each}
 use Rattle.s66_isa.specs.declared.limits.TheConstants.{BLOCK_LIMIT}
-use Rattle.s66_model.proofs.DominatedTrees.{shown-below}
 use Rattle.s66_cert.specs.declared.limits.TheConstants.{SPLIT_LIMIT}
 use Rattle.s66_cert.specs.Document.{Document, AreDocumentsWithin, IsDocumentWithin}
 use Rattle.s66_checker.specs.declared.verdict.Verdict.{Verdict}
 use Rattle.s66_checker.specs.declared.verdict.Verdict.TheVariants.{Yes, No}
 use Rattle.s66_checker.specs.TrueClaims.{IsTrueClaim}
-use Rattle.s66_checker.specs.Verdict.{verdict, problem_of}
-use Rattle.s66_checker.proofs.GrantedClaims.{verdict-yes}
+use Rattle.s66_checker.specs.Verdict.{verdict}
+use Rattle.s66_checker.proofs.GrantedClaims.{verdict-claims, claim-bound}
 use Rattle.s66_program.specs.declared.outcome.Status.TheVariants.{Done, Denied}
 use Rattle.s66_program.specs.CheckText.{is_yes}
 use Rattle.s66_program.proofs.laws.done_law.Goals as goal
@@ -20,7 +19,7 @@ of-them (e ∷ ds) d are (inl same) = subst (IsDocumentWithin BLOCK_LIMIT SPLIT_
 of-them (e ∷ ds) d are (inr later) = of-them ds d are.1 later
 
 yes-claims : (d : Document) (v : Verdict) → v ≡ verdict d → IsDocumentWithin BLOCK_LIMIT SPLIT_LIMIT d → is_yes v ≡ true → IsTrueClaim d
-yes-claims d (Yes time bound) is document granted = ((verdict-yes BLOCK_LIMIT d time bound document.tree).0 (sym is)).2
+yes-claims d (Yes time bound) is document granted = (verdict-claims BLOCK_LIMIT d time bound document (sym is)).2
 yes-claims d (No line reason) is document granted = absurd (true≢false (sym granted))
 
 done-all : (all : Bool) → Done ≡ (if all then Done else Denied) → all ≡ true
@@ -34,5 +33,5 @@ returns c = λ input text (ds, read, is, ends). (
   λ d among.
       let granted = every-each (λ e. is_yes (verdict e)) d ds (done-all _ ends) among in
       let claim : IsTrueClaim d = yes-claims d (verdict d) refl (of-them ds d read.0 among) granted in
-      (claim, λ order legal. shown-below d.rule (problem_of d) d.bound [] order d.tree claim.tree legal),
+      (claim, claim-bound d claim),
 )
