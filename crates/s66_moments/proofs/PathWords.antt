@@ -119,10 +119,10 @@ module _ (b : Problem) (arcs : Network) (rises : IsRising b arcs) (own : HasOwnA
         let (v, at, le) = own n e f w (and_from (is_remaining b.block [] n) (has_stage (row_at b n) e) stays first) (and_from (is_remaining b.block [] n) (has_stage (row_at b n) f) stays second) is in
         omega (arith, le, tail-step b arcs rises (At n e) (At n f) v at)
 
-    issue-tail : follows n Start ≤ follows n Issue
+    pub issue-tail : follows n Start ≤ follows n Issue
     issue-tail = omega (arith, own-step Issue Start 0 refl refl refl)
 
-    done-tail : (x : Reg) → writes (row_at b n) x ≡ true → latency_to (row_at b n) x + follows n (Done x) ≤ follows n Start
+    pub done-tail : (x : Reg) → writes (row_at b n) x ≡ true → latency_to (row_at b n) x + follows n (Done x) ≤ follows n Start
     done-tail x is = own-step Start (Done x) (latency_to (row_at b n) x) refl is refl
 
     hold-tail : (row_at b n).hold + 1 + follows n Free ≤ follows n Start

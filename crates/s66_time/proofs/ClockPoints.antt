@@ -1,8 +1,8 @@
 -- The point of the next instruction by the words of a clock.
-use Rattle.std.proofs.Common.{ℕ, zero, suc, ◌+◌, ◌-◌, ◌≤◌, ◌<◌, ◌≡◌, ◌≢◌, Bool, false, true≢false, cond, ◌||◌, max, min, List, [], ◌∷◌, ◌++◌, length, take, drop, set, get_or, map, refl, sym, ap, arith, inl, inr, ltb, eqb, ◌∙◌, subst, length-take, length-drop, replicate}
+use Rattle.std.proofs.Common.{ℕ, zero, suc, ◌+◌, ◌-◌, ◌≤◌, ◌<◌, ◌≡◌, ◌≢◌, Bool, false, true≢false, cond, ◌||◌, max, min, List, [], ◌∷◌, ◌++◌, length, take, drop, set, get_or, map, refl, sym, ap, arith, inl, inr, leb, ltb, eqb, ◌∙◌, subst, length-take, length-drop, replicate}
 use Rattle.std.proofs.lemmas.List.{take_more, map_push, drop-set-lt, drop-set-add, take-set-le, get_or-drop, get_or-take, length-set, set-set, set-get_or}
 use Rattle.std.proofs.Math.Seq.{take-set-lt}
-use Rattle.std.proofs.lemmas.Bool.{cond-true, cond-false, lt-ltb, and_left, cases_Bool, eq-eqb, le-ltb}
+use Rattle.std.proofs.lemmas.Bool.{cond-true, cond-false, lt-ltb, and_left, cases_Bool, eq-eqb, le-ltb, le-leb, lt-leb}
 use Rattle.s66_isa.specs.Table.{Reg, Write, Row, memory_pair, touches, stores, copies_of, kind_number, same_kind}
 use Rattle.s66_isa.specs.declared.instr.Kind.{Kind}
 use Rattle.s66_isa.specs.declared.instr.Kind.TheVariants.{Boolean, Shift, Add, LongAdd, Multiply, Divide, Increment}
@@ -63,7 +63,7 @@ units-length p kind words size =
 pub unit-at : (p : Profile) (kind : Kind) (words : List ℕ) (i : ℕ) → i < copies_of p kind → get_or (units_of p kind words) i 0 ≡ get_or words (first_unit kind + i) 0
 unit-at p kind words i lt = get_or-take (copies_of p kind) (drop (first_unit kind) words) i 0 lt ∙ get_or-drop (first_unit kind) words i 0
 
-soonest-word : (p : Profile) (kind : Kind) (words : List ℕ) (place : ℕ) → IsSoonest p kind words place → get_or (units_of p kind words) (place - first_unit kind) 0 ≡ get_or words place 0
+pub soonest-word : (p : Profile) (kind : Kind) (words : List ℕ) (place : ℕ) → IsSoonest p kind words place → get_or (units_of p kind words) (place - first_unit kind) 0 ≡ get_or words place 0
 soonest-word p kind words place is =
     let e : first_unit kind + (place - first_unit kind) ≡ place = omega (arith, is.own) in
     unit-at p kind words (place - first_unit kind) is.copy ∙ ap (λ k. get_or words k 0) e
@@ -79,6 +79,27 @@ soonest-least p kind words place size is =
     }
 
 -- a unit is free from the time on that the soonest word says
+pub unit-free : (p : Profile) (s : List Point) (w : Words) (kind : Kind) (place t : ℕ) → IsWords p s w → IsSoonest p kind w.units.words place → leb (get_or w.units.words place 0) t ≡ ltb (tally (busy_at kind t) s) (copies_of p kind)
+unit-free p s w kind place t is soon =
+    let c = copies_of p kind in
+    let xs = units_of p kind w.units.words in
+    let busy : ℕ → ℕ = λ u. tally (busy_at kind u) s in
+    let len : length xs ≡ c = units-length p kind w.units.words is.size in
+    let least = soonest-least p kind w.units.words place is.size soon in
+    let word = soonest-word p kind w.units.words place soon in
+    let m = get_or w.units.words place 0 in
+    elim (cases_le m t) [
+      | inl le ↦ le-leb m t le ∙ sym (lt-ltb (busy t) c (count-free c xs busy (place - first_unit kind) t len (is.units kind) least (omega (arith, word, le))))
+      | inr lt ↦
+          let full : c ≤ busy t =
+          elim (cases_le c (busy t)) [
+            | inl le ↦ le
+            | inr few ↦ absurd (omega (arith, lt, word, count-least c xs busy (place - first_unit kind) t len (is.units kind) least few))
+          ]
+          in
+          lt-leb m t lt ∙ sym (le-ltb (busy t) c full)
+    ]
+
 pub issue-words : (p : Profile) (s : List Point) (w : Words) (r : Row) (place slot written : ℕ) → IsWords p s w → IsSoonest p r.kind w.units.words place →
     slot ≡ slot_of s r.parcels → written ≡ greatest (λ (v : Write). done_of s v.reg) r.writes →
     max slot (max (get_or w.units.words place 0) written) ≡ issue_of (under p) s r
@@ -217,10 +238,10 @@ next-small (p ∷ s) turn = omega (arith, turn.starts, turn.parcels)
 pub follows-small : (p : Profile) (w : Words) → AreWordsInTurn p w → (w.progress.next ≤ TOTAL_LIMIT + 2) × (w.progress.parcel ≤ TOTAL_LIMIT + 2)
 follows-small p w (s, is, turn) = (omega (arith, is.next, next-small s turn, turn.early), omega (arith, is.parcel, next-small s turn, turn.early, turn.parcel))
 
-pub slot-words : (p : Profile) (s : List Point) (w : Words) (r : Row) → IsWords p s w → w.progress.next + (fits_at w.progress.parcel r.parcels - w.progress.parcel) ≡ slot_of s r.parcels
-slot-words p s w r is =
-    ap (λ n. n + (fits_at w.progress.parcel r.parcels - w.progress.parcel)) is.next
-    ∙ ap (λ q. next s + (fits_at q r.parcels - q)) is.parcel ∙ sym (slot-is s r.parcels)
+pub slot-words : (p : Profile) (s : List Point) (w : Words) (len : ℕ) → IsWords p s w → w.progress.next + (fits_at w.progress.parcel len - w.progress.parcel) ≡ slot_of s len
+slot-words p s w len is =
+    ap (λ n. n + (fits_at w.progress.parcel len - w.progress.parcel)) is.next
+    ∙ ap (λ q. next s + (fits_at q len - q)) is.parcel ∙ sym (slot-is s len)
 
 pub start-early : (p : Profile) (s : List Point) (r : Row) (issue start : ℕ) → InTurn s → issue ≡ issue_of (under p) s r → start ≡ start_of (under p) s r → (issue ≤ TOTAL_LIMIT + 3) × (start ≤ TOTAL_LIMIT + 3)
 start-early p s r issue start turn e1 e2 =

@@ -27,7 +27,7 @@ use Rattle.s66_time.proofs.RowsOfBlock.{row-kind}
 
 -- EARLY
 
-waits-le : (s : List Point) (test : Point → Bool) → InTurn s → greatest (λ (p : Point). cond (test p) (p.start + 1) 0) s ≤ total s
+pub waits-le : (s : List Point) (test : Point → Bool) → InTurn s → greatest (λ (p : Point). cond (test p) (p.start + 1) 0) s ≤ total s
 waits-le s test turn =
     omega (arith, turn.starts, greatest-le-greatest (λ (p : Point). cond (test p) (p.start + 1) 0) (λ (p : Point). max p.issue p.start + 1) (λ p. cond_both (test p) (p.start + 1) 0 (λ k. k ≤ max p.issue p.start + 1) (λ _. omega arith) (λ _. omega arith)) s)
 

@@ -10,7 +10,7 @@ use crate::steps::Steps;
 use crate::words::Words;
 use arrayvec::ArrayVec;
 use s66_dep::Set;
-use s66_isa::{BLOCK_LIMIT, Kind, Profile, Reg, Registers, Row, kind_number};
+use s66_isa::{BLOCK_LIMIT, Kind, Memory, Profile, Reg, Registers, Row, kind_number};
 use s66_line::Block;
 use std::marker::Model;
 
@@ -46,7 +46,7 @@ impl<'a> Model for Clock<'a> {
 }
 
 /// The rows of a block's instructions.
-fn rows_of(block: &Block<'_>, profile: &Profile) -> ArrayVec<Row, BLOCK_LIMIT>
+pub fn rows_of(block: &Block<'_>, profile: &Profile) -> ArrayVec<Row, BLOCK_LIMIT>
     ensures rows { result.items ≡ map (row profile.now) (instrs_of block.now) }
     ensures digits { HaveDigits (instrs_of block.now) }
 {
@@ -62,15 +62,15 @@ fn rows_of(block: &Block<'_>, profile: &Profile) -> ArrayVec<Row, BLOCK_LIMIT>
 }
 
 impl<'a> Clock<'a> {
-    ghost use Rattle.std.specs.Prelude.{ℕ, ◌≡◌, ◌+◌, ◌-◌, ◌*◌, ◌<◌, ◌≤◌, ◌++◌, [], ◌∷◌, true, length, take, nat_lt};
-    ghost use Rattle.s66_isa.specs.Lists.{weigh, has};
-    ghost use Rattle.s66_isa.specs.Table.{Reg as RegOf, copies_of, kind_of, instr_at, has_reg};
+    ghost use Rattle.std.specs.Prelude.{ℕ, ◌≡◌, ◌+◌, ◌-◌, ◌*◌, ◌<◌, ◌≤◌, ◌++◌, [], ◌∷◌, true, length, take, nat_le, nat_lt, if◌then◌else◌};
+    ghost use Rattle.s66_isa.specs.Lists.{weigh, has, tally, greatest};
+    ghost use Rattle.s66_isa.specs.Table.{Reg as RegOf, copies_of, kind_of, instr_at, has_reg, memory_pair};
     ghost use Rattle.s66_isa.specs.Registers.{registers_in};
     ghost use Rattle.s66_dep.specs.Members.{numbers_in};
     ghost use Rattle.s66_line.specs.Block.{instrs_of};
     ghost use Rattle.s66_isa.specs.declared.limits.TheConstants.{BLOCK_LIMIT};
     ghost use Rattle.s66_model.specs.LegalOrder.{is_ready, IsBeginning};
-    ghost use Rattle.s66_model.specs.Timing.{Point, next, total, done_of};
+    ghost use Rattle.s66_model.specs.Timing.{Point, next, total, slot_of, busy_at, done_of, readers_wait};
     ghost use Rattle.s66_model.specs.Leaves.{rest_busy, work_of};
     ghost use Rattle.s66_time.specs.Marks.{IsMarkOf};
     ghost use Rattle.s66_time.specs.Ticking.{points, problem_of};
@@ -170,6 +170,14 @@ impl<'a> Clock<'a> {
         self.words.progress.next
     }
 
+    /// The first minor cycle in which an instruction of so many parcels can issue, a `NO` before it included; 0 before the first push.
+    pub fn slot(&self, parcels: u32) -> u32
+        ensures value { result ≡ slot_of (points self.now) parcels }
+        ensures at_most { result ≤ TOTAL_LIMIT + 1 }
+    {
+        self.words.slot(parcels)
+    }
+
     /// The minor cycle in which all units are free and all results done; 0 before the first push.
     pub fn total(&self) -> u32
         ensures value { result ≡ total (points self.now) }
@@ -190,6 +198,30 @@ impl<'a> Clock<'a> {
         ensures { (r : RegOf) → r.digit ≤ 7 → has_reg r (registers_in result) ≡ nat_lt time (done_of (points self.now) r) }
     {
         self.words.done.after(time)
+    }
+
+    /// One minor cycle after the last start of a register's readers; 0 if there are none.
+    pub fn readers_of(&self, register: Reg) -> u32
+        ensures value { result ≡ readers_wait (points self.now) register }
+        ensures at_most { result ≤ TOTAL_LIMIT }
+    {
+        self.words.read.at(register)
+    }
+
+    /// The registers whose word `readers_of` is after a time.
+    pub fn late_readers(&self, time: u32) -> Registers
+        ensures { (r : RegOf) → r.digit ≤ 7 → has_reg r (registers_in result) ≡ nat_lt time (readers_wait (points self.now) r) }
+    {
+        self.words.read.after(time)
+    }
+
+    /// The minor cycle from which on memory lets an instruction start that references it so: one after the last start of an earlier
+    /// reference, if either of the two is a store; 0 if there is none.
+    pub fn memory_wait(&self, memory: Memory) -> u32
+        ensures value { result ≡ greatest (λ (p : Point). if memory_pair p.row.memory memory then p.start + 1 else 0) (points self.now) }
+        ensures at_most { result ≤ TOTAL_LIMIT }
+    {
+        self.words.memory_wait(memory)
     }
 
     /// For how long the pushed instructions of a kind take a unit, summed: each for its hold and one.
@@ -219,5 +251,14 @@ impl<'a> Clock<'a> {
         self.words
             .units
             .rest(&self.profile, kind, self.words.progress.next)
+    }
+
+    /// The minor cycle from which on a unit of a kind is free; the time is that of their number.
+    pub fn soonest_free(&self, kind: Kind) -> u32
+        ensures value { (t : ℕ) → nat_le result t ≡ nat_lt (tally (busy_at kind t) (points self.now)) (copies_of self.now.profile kind) }
+        ensures at_most { result ≤ TOTAL_LIMIT }
+    {
+        let place = self.words.units.soonest(self.copies.at(kind), kind);
+        self.words.units.words[place]
     }
 }

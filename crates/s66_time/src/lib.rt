@@ -19,7 +19,7 @@ mod timed;
 mod units;
 mod words;
 
-pub use clock::Clock;
+pub use clock::{Clock, rows_of};
 pub use dominance::{dominates, dominates_clamped};
 pub use limits::{LOOK_LIMIT, TOTAL_LIMIT};
 pub use mark::Mark;

@@ -57,7 +57,7 @@ impl Words {
     }
 
     /// The first slot of an instruction of `parcels` parcels.
-    fn slot(&self, parcels: u32) -> u32
+    pub fn slot(&self, parcels: u32) -> u32
         requires parcel { self.now.progress.parcel ≤ TOTAL_LIMIT + 2 }
         requires next { self.now.progress.next ≤ TOTAL_LIMIT + 2 }
         ensures { result ≡ self.now.progress.next + (fits_at self.now.progress.parcel parcels - self.now.progress.parcel) }
@@ -66,7 +66,7 @@ impl Words {
     }
 
     /// From when on a reference to memory of this kind may start.
-    fn memory_wait(&self, memory: Memory) -> u32
+    pub fn memory_wait(&self, memory: Memory) -> u32
         ensures { result ≡ wait_of memory self.now.progress.refs self.now.progress.stores }
     {
         match memory {

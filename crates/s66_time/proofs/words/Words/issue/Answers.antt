@@ -18,5 +18,5 @@ returns c = λ s is.
     let r = c.args.row.now in
     c.max-2.ensures ∙ ap (max c.slot-slot.result) c.max.ensures
     ∙ issue-words c.args.profile.now s w r c.args.unit c.slot-slot.result c.greatest_written-written.result is c.requires.soonest
-    (c.slot-slot.ensures ∙ ap (λ (x : Row). w.progress.next + (fits_at w.progress.parcel x.parcels - w.progress.parcel)) c.row.view_is ∙ slot-words c.args.profile.now s w r is)
+    (c.slot-slot.ensures ∙ ap (λ (x : Row). w.progress.next + (fits_at w.progress.parcel x.parcels - w.progress.parcel)) c.row.view_is ∙ slot-words c.args.profile.now s w r.parcels is)
     (c.greatest_written-written.ensures (done_of s) is.done ∙ ap (greatest (λ (v : Write). done_of s v.reg)) c.as_slice.ensures.value ∙ ap (λ (x : Row). greatest (λ (v : Write). done_of s v.reg) x.writes) c.row.view_is)
