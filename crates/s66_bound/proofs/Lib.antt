@@ -6,7 +6,6 @@ pub mod FirstGreatest
 pub mod WorkTables
 pub mod WrittenRegisters
 pub mod LongestWalks
-pub mod RemainingSets
 pub mod RemainingSums
 pub mod ValueBounds
 pub mod LeastWords

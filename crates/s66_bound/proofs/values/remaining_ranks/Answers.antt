@@ -2,7 +2,7 @@ use Rattle.s66_isa.proofs.Lists.{has-among}
 use Rattle.s66_dep.specs.Members.{numbers_in}
 use Rattle.s66_time.specs.Ticking.{problem_of}
 use Rattle.s66_bound.proofs.RankOrder.{ranks-left}
-use Rattle.s66_bound.proofs.RemainingSets.{remaining-within}
+use Rattle.s66_dep.proofs.RemainingSets.{remaining-within}
 use Rattle.s66_bound.proofs.values.remaining_ranks.Goals as goal
 
 pub ranks_of-requires : goal.ranks_of-requires

@@ -1,7 +1,6 @@
-use Rattle.std.proofs.Common.{ap, arith, sym, ◌∙◌, ◌+◌, ◌≡◌}
+use Rattle.std.proofs.Common.{ap, arith, ◌∙◌, ◌+◌, ◌≡◌}
 use Rattle.s66_isa.specs.Lists.{weigh}
 use Rattle.s66_isa.specs.Table.{copies_of}
-use Rattle.s66_isa.specs.declared.profile.Profile.{Profile}
 use Rattle.s66_line.specs.Block.{instrs_of}
 use Rattle.s66_model.specs.Timing.{Problem, points_of, next}
 use Rattle.s66_model.specs.Leaves.{rest_busy}

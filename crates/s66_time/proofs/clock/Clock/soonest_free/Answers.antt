@@ -1,4 +1,4 @@
-use Rattle.std.proofs.Common.{◌≤◌, ap, arith, subst, leb, ltb, ◌≡◌, get_or, ◌-◌, refl}
+use Rattle.std.proofs.Common.{arith, subst, leb, ltb, ◌≡◌, get_or, ◌-◌}
 use Rattle.s66_isa.specs.Lists.{tally}
 use Rattle.s66_isa.specs.Table.{copies_of}
 use Rattle.s66_line.specs.Block.{instrs_of}

@@ -1,4 +1,4 @@
-use Rattle.std.proofs.Common.{◌≡◌, ◌≤◌, max, take, length, if◌then◌else◌}
+use Rattle.std.proofs.Common.{◌≡◌, ◌≤◌, max, take, if◌then◌else◌}
 use Rattle.s66_isa.specs.Table.{Reg, has_reg}
 use Rattle.s66_isa.specs.Registers.{word_of}
 use Rattle.s66_time.specs.Places.{put_back}

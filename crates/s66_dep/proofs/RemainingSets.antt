@@ -13,7 +13,6 @@ use Rattle.s66_model.proofs.Remaining.{remaining-parts, remaining-among}
 use Rattle.s66_dep.specs.declared.set.Set.{Set}
 use Rattle.s66_dep.specs.Members.{numbers_in}
 use Rattle.s66_dep.proofs.Sets.{within, within-from, within-parts, filter-within, numbers_in-filter}
-use Rattle.s66_bound.specs.TableWords.{AreThose}
 
 -- ALL BUT THE PUSHED ONES
 
@@ -56,7 +55,7 @@ within-both first second k m = each (leb 1 m) (ltb m k) (first m) (second m)
     each true false x y = refl
     each false b x y = refl
 
-pub both-are : (b : Problem) (prefix : List ℕ) (test : ℕ → Bool) (rest those both : Set) → length b.block ≤ BLOCK_LIMIT → numbers_in rest ≡ remaining b.block prefix → AreThose b test those →
+pub both-are : (b : Problem) (prefix : List ℕ) (test : ℕ → Bool) (rest those both : Set) → length b.block ≤ BLOCK_LIMIT → numbers_in rest ≡ remaining b.block prefix → numbers_in those ≡ filter test (numbers b.block) →
     ((m : ℕ) → has m (numbers_in both) ≡ (has m (numbers_in rest) && has m (numbers_in those))) → numbers_in both ≡ filter test (remaining b.block prefix)
 both-are b prefix test rest those both few is_rest are is_both =
     let stays : ℕ → Bool = is_remaining b.block prefix in

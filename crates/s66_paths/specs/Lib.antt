@@ -1,0 +1,2 @@
+pub mod PathTails
+pub mod Classes

@@ -1,0 +1,111 @@
+ghost use Rattle.std.specs.Prelude.{◌≡◌, ◌&&◌, not};
+ghost use Rattle.s66_isa.specs.Lists.{some_of};
+ghost use Rattle.s66_isa.specs.Table.{same_reg, touches, stores, Write as WriteOf};
+ghost use Rattle.s66_paths.specs.Classes.{in_class, uses, is_first, is_second};
+
+use s66_isa::{Kind, Memory, Reg, Row, Write, has_register, is_same_kind, is_same_register};
+
+/// What an instruction does with a register.
+#[derive(Clone, Copy, Debug)]
+pub enum Role {
+    Writes,
+    Reads,
+    /// Its first result is in it.
+    WritesFirst,
+    /// Its second result is in it.
+    WritesSecond,
+}
+
+/// Instructions that wait for one word of a clock.
+#[derive(Clone, Copy, Debug)]
+pub enum Class {
+    /// Those of two parcels, for their slot.
+    Long,
+    /// For a unit of a kind.
+    Takes(Kind),
+    /// For earlier stores.
+    Loads,
+    /// For all earlier references to memory.
+    Stores,
+    /// For the results in a register, or its readers.
+    Uses(Role, Reg),
+}
+
+/// Whether one of the results is in the register.
+fn is_written(writes: &[Write], register: Reg) -> bool
+    ensures { result ≡ some_of (λ (w : WriteOf). same_reg w.reg register) writes.now }
+{
+    for write in writes {
+        if is_same_register(write.reg, register) {
+            return true;
+        }
+    }
+    false
+}
+
+/// Whether the first result is in the register.
+fn is_first(writes: &[Write], register: Reg) -> bool
+    ensures { result ≡ is_first register writes.now }
+{
+    if writes.is_empty() {
+        return false;
+    }
+    let first = writes[0];
+    is_same_register(first.reg, register)
+}
+
+/// Whether the second result is in the register.
+fn is_second(writes: &[Write], register: Reg) -> bool
+    ensures { result ≡ is_second register writes.now }
+{
+    if writes.len() < 2 {
+        return false;
+    }
+    let second = writes[1];
+    is_same_register(second.reg, register)
+}
+
+/// Whether an instruction has a role with a register.
+fn uses(row: &Row, role: Role, register: Reg) -> bool
+    ensures { result ≡ uses role register row.now }
+{
+    match role {
+        Role::Writes => is_written(row.writes.as_slice(), register),
+        Role::Reads => has_register(row.reads.as_slice(), register),
+        Role::WritesFirst => is_first(row.writes.as_slice(), register),
+        Role::WritesSecond => is_second(row.writes.as_slice(), register),
+    }
+}
+
+/// Whether an instruction is in a class.
+pub fn is_in(row: &Row, class: &Class) -> bool
+    ensures { result ≡ in_class class.now row.now }
+{
+    match *class {
+        Class::Long => row.parcels == 2,
+        Class::Takes(kind) => is_same_kind(row.kind, kind),
+        Class::Loads => is_load(row.memory),
+        Class::Stores => is_store(row.memory),
+        Class::Uses(role, register) => uses(row, role, register),
+    }
+}
+
+/// Whether it fetches from memory.
+fn is_load(memory: Memory) -> bool
+    ensures { result ≡ (touches memory && not (stores memory)) }
+{
+    match memory {
+        Memory::None | Memory::Store => false,
+        Memory::Load => true,
+    }
+}
+
+/// Whether it stores.
+fn is_store(memory: Memory) -> bool
+    ensures { result ≡ stores memory }
+{
+    match memory {
+        Memory::None | Memory::Load => false,
+        Memory::Store => true,
+    }
+}

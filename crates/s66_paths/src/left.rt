@@ -1,0 +1,10 @@
+use s66_dep::Set;
+
+/// What remains after a beginning, by rank: a caller keeps it from push to push.
+#[derive(Clone, Copy, Debug)]
+pub struct Left {
+    /// The ranks by what follows the issue.
+    pub(crate) by_issue: Set,
+    /// The ranks by what follows the start.
+    pub(crate) by_start: Set,
+}
