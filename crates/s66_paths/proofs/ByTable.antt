@@ -15,7 +15,7 @@ use Rattle.s66_moments.proofs.PathWords.{path-words, issue-tail, done-tail}
 use Rattle.s66_moments.proofs.Tails.{written}
 use Rattle.s66_paths.specs.declared.tails.Tails.{Tails}
 use Rattle.s66_paths.specs.PathTails.{IsTails, Paths, IsNetworkOf}
-use Rattle.s66_paths.specs.Classes.{result_words, tails_of, value_at, IsFalling, AreFalling}
+use Rattle.s66_paths.specs.Classes.{result_words, tails_of, value_at, IsFalling}
 
 -- VALUES
 
@@ -58,6 +58,3 @@ module _ (p : Paths) (arcs : Network) (net : IsNetworkOf p arcs) (n : ℕ) (low 
     first = λ w ws here. omega (arith, (net.tails n low high).first w ws here, result-tail w (subst (Among w) (sym here) (inl refl)));
     second = λ v w ws here. omega (arith, (net.tails n low high).second v w ws here, result-tail w (subst (Among w) (sym here) (inr (inl refl))));
   }
-
-pub all-fall : (p : Paths) (arcs : Network) → IsNetworkOf p arcs → AreFalling p.problem p.tails
-all-fall p arcs net n low high = falls p arcs net n low high

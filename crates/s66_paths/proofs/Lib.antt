@@ -5,3 +5,4 @@ pub mod ByWords
 pub mod Raised
 pub mod LeftRanks
 pub mod TableSets
+pub mod CutTails

@@ -1,5 +1,5 @@
 -- Used by contracts within the crate alone: instructions that wait for one word of a clock, and the greatest of that word with what follows at one of them.
-use Rattle.std.specs.Prelude.{ℕ, ◌+◌, ◌-◌, ◌≡◌, ◌≤◌, ◌==◌, Bool, false, if◌then◌else◌, not, ◌&&◌, max, List, [], ◌∷◌, length, map, get_or}
+use Rattle.std.specs.Prelude.{ℕ, ◌+◌, ◌-◌, ◌≡◌, ◌≤◌, ◌==◌, Bool, false, if◌then◌else◌, not, ◌&&◌, max, min, List, [], ◌∷◌, length, map, get_or}
 use Rattle.std.specs.List.{filter}
 use Rattle.s66_isa.specs.declared.instr.Kind.{Kind}
 use Rattle.s66_isa.specs.declared.instr.Memory.{Memory}
@@ -125,6 +125,17 @@ pub record IsFalling (r : Row) (t : Tails) : Type 0 where
 
 abbrev pub AreFalling : Problem → List Tails → Type 0
 AreFalling b tails = (n : ℕ) → 1 ≤ n → n ≤ length b.block → IsFalling (row_at b n) (tails_of tails n)
+
+-- no more than the limit, and none more than that of the issue
+abbrev pub cut : Tails → Tails
+cut t =
+    record {
+      issue = min t.issue TAIL_LIMIT;
+      start = min t.start (min t.issue TAIL_LIMIT);
+      first = min t.first (min t.issue TAIL_LIMIT);
+      second = min t.second (min t.issue TAIL_LIMIT);
+      free = t.free;
+    }
 
 -- the ranks of a class
 abbrev pub AreOfClass : Problem → (ℕ → ℕ) → Class → Set → Type 0

@@ -1,6 +1,6 @@
 use crate::left::Left;
 use crate::tables::PathTables;
-use crate::tails::Tails;
+use crate::tails::{Tails, cut_all};
 use crate::values::greatest_value;
 use crate::words::value_by;
 use s66_dep::Set;
@@ -40,23 +40,22 @@ impl<'a> PathBounds<'a> {
     ghost use Rattle.s66_paths.specs.PathTails.{AreSmall, Paths, IsNetworkOf};
     ghost use Rattle.s66_paths.specs.Classes.{value_at, IsLeft};
 
-    /// Of a block under a profile, by what follows the stages of each number, n at place n - 1, in a network: in time quadratic in the
-    /// block's length.
+    /// Of a block under a profile, by what follows the stages of each number, n at place n - 1, in some network: in time quadratic in
+    /// the block's length.
     pub fn new(
         block: &'a Block<'a>,
         profile: &Profile,
         tails: &[Tails; BLOCK_LIMIT],
     ) -> PathBounds<'a>
-        requires small { AreSmall tails.now }
-        requires tails { (arcs : Network) × IsNetworkOf (record { problem = record { block = instrs_of block.now; profile = profile.now }; tails = tails.now }) arcs }
-        ensures { result ≡ record { problem = record { block = instrs_of block.now; profile = profile.now }; tails = tails.now } }
+        ensures problem { result.problem ≡ record { block = instrs_of block.now; profile = profile.now } }
+        ensures network { (arcs : Network) → AreSmall tails.now → IsNetworkOf (record { problem = record { block = instrs_of block.now; profile = profile.now }; tails = tails.now }) arcs → IsNetworkOf result arcs }
     {
         prove!(block.count() <= BLOCK_LIMIT);
         let rows = rows_of(block, profile);
         PathBounds {
             block,
             profile: *profile,
-            tables: PathTables::of(rows.as_slice(), tails),
+            tables: PathTables::of(rows.as_slice(), &cut_all(tails)),
         }
     }
 

@@ -1,5 +1,9 @@
-ghost use Rattle.std.specs.Prelude.{◌≡◌};
-ghost use Rattle.s66_paths.specs.Classes.{part_of};
+ghost use Rattle.std.specs.Prelude.{ℕ, ◌≡◌, get_or};
+ghost use Rattle.s66_paths.specs.PathTails.{no_tails};
+ghost use Rattle.s66_paths.specs.Classes.{part_of, cut};
+
+use crate::limits::TAIL_LIMIT;
+use s66_isa::BLOCK_LIMIT;
 
 /// What follows the stages of an instruction: by how many minor cycles the end comes later at least than each.
 #[derive(Clone, Copy, Debug, Default)]
@@ -37,4 +41,29 @@ impl Tails {
             Part::Second => self.second,
         }
     }
+
+    /// The same, cut where it is more than the limit, or more than what follows the issue, as it is in no network.
+    fn cut(&self) -> Tails
+        ensures { result ≡ cut self.now }
+    {
+        let issue = self.issue.min(TAIL_LIMIT);
+        Tails {
+            issue,
+            start: self.start.min(issue),
+            first: self.first.min(issue),
+            second: self.second.min(issue),
+            free: self.free,
+        }
+    }
+}
+
+/// What follows the stages of all numbers, each cut.
+pub fn cut_all(tails: &[Tails; BLOCK_LIMIT]) -> [Tails; BLOCK_LIMIT]
+    ensures { (i : ℕ) → get_or result i no_tails ≡ cut (get_or tails.now i no_tails) }
+{
+    let mut those = [Tails::default(); BLOCK_LIMIT];
+    for place in 0..BLOCK_LIMIT {
+        those[place] = tails[place].cut();
+    }
+    those
 }
