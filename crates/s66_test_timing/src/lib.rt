@@ -16,6 +16,10 @@ mod marks;
 #[cfg(test)]
 mod orders;
 #[cfg(test)]
+mod paths;
+#[cfg(test)]
 mod plain_clock;
+#[cfg(test)]
+mod plain_paths;
 #[cfg(test)]
 mod walk;

@@ -33,7 +33,9 @@ pub fn push_ready(clock: &mut Clock, n: u8) -> bool
 }
 
 /// Takes back the last push, and returns whether there was one.
-pub fn undo_last(clock: &mut Clock) -> bool {
+pub fn undo_last(clock: &mut Clock) -> bool
+    ensures { problem_of clock.new ≡ problem_of clock.old }
+{
     let is_pushed = clock.pushed().count() > 0;
     if is_pushed {
         clock.undo();
