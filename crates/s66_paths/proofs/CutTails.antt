@@ -1,10 +1,10 @@
 -- Tails that are cut fall, and those of a network aren't cut.
-use Rattle.std.proofs.Common.{ℕ, ◌-◌, ◌≤◌, ◌≡◌, List, length, get_or, sym, subst, arith}
+use Rattle.std.proofs.Common.{ℕ, ◌-◌, ◌≡◌, List, get_or, sym, subst, arith}
 use Rattle.s66_isa.specs.Table.{Row}
 use Rattle.s66_model.specs.Timing.{Problem, row_at}
 use Rattle.s66_moments.specs.Networks.{Network}
 use Rattle.s66_paths.specs.declared.tails.Tails.{Tails}
-use Rattle.s66_paths.specs.PathTails.{no_tails, IsTails, IsSmall, AreSmall, Paths, IsNetworkOf}
+use Rattle.s66_paths.specs.PathTails.{no_tails, IsTails, IsSmall, AreSmall, IsNetworkOf}
 use Rattle.s66_paths.specs.Classes.{cut, tails_of, IsFalling, AreFalling}
 use Rattle.s66_paths.proofs.ByTable.{falls}
 
