@@ -4,7 +4,8 @@
     tools/certificate.py < CERTIFICATES
 
 It is written from docs/FORMATS.md and docs/DEFINITIONS.md alone, and believes nothing that a document says, of whatever
-version. Under the document's own profile it times the order, tests that it is legal, and goes through the tree line by line.
+version. Under the document's own profile it times the order, tests that it is legal, and goes through the fact lines and the
+tree line by line.
 YES says that the order takes TIME and that no legal order takes less than BOUND; NO gives the first fault, its line and its
 reason. Status 0: each verdict is YES. 5: some verdict is NO. 3: the text is no text of documents, and is refused as a whole.
 It holds one document at a time. For a block of 24 instructions it goes through some 10,000 lines of a tree a second.
@@ -12,13 +13,18 @@ It holds one document at a time. For a block of 24 instructions it goes through 
 import re
 import sys
 from collections import namedtuple
-from functools import lru_cache
+from functools import cached_property, lru_cache
 
 MOST = 128  # instructions of a block, and numbers of a list
 MOST_SPLITS = 1_000_000  # of a document
 MOST_TIME = 100_000  # minor cycles
 MOST_BYTES = 199  # of an instruction
-VERSIONS = {f"S66 CERTIFICATE {version}": version for version in (1, 2, 3)}
+MOST_FACTS = 4096  # fact lines of a document
+MOST_LINES = 200_000_000  # of a document
+VERSIONS = {f"S66 CERTIFICATE {version}": version for version in (1, 2, 3, 4)}
+# The tree lines with numbers: which a version has, the greatest number, and how many there are at least and at most.
+NUMBERED = {1: ["S", "C"], 2: ["S", "C", "D"], 3: ["S", "C", "D"], 4: ["S", "C", "E", "R", "N"]}
+SHAPES = {**dict.fromkeys("SCD", (MOST, 1, MOST)), "E": (MOST, 1, 1), "R": (MOST, 2, 2), "N": (MOST_LINES, 1, 1)}
 
 TIMES = "boolean shift normalise add longadd multiply divide population increment load".split()
 UNITS = "BOOLEAN SHIFT ADD LONGADD MULTIPLY DIVIDE INCREMENT".split()
@@ -26,6 +32,7 @@ UNITS = "BOOLEAN SHIFT ADD LONGADD MULTIPLY DIVIDE INCREMENT".split()
 # The reasons.
 NOT_LEGAL, NOT_THE_TIME, NOT_THE_READY, NO_CHAIN, BELOW_BOUND, NOT_HERE = 1, 2, 3, 4, 5, 6
 ABOVE_TIME, NOT_TO_BE_NAMED, NOT_DOMINATED = 8, 9, 10
+NO_FACT, NOT_TOO_LATE, NOT_TURNED = 11, 12, 13
 
 # What the text of an instruction spells: its unit, which of a profile's times the unit works, its parcels, the registers
 # that it reads, the results that the unit holds, the result that is fetched from memory, and whether it loads or stores. B0
@@ -88,10 +95,21 @@ def instruction_of(text):
     return None
 
 
-# What a document has: its profile is a number of each name, its block the instructions, its tree the lines in preorder.
-Document = namedtuple("Document", "version profile block time bound order tree")
-# A line of a tree: its kind, the numbers or the unit that it names, and of an S line the first line of each tree after it.
-TreeLine = namedtuple("TreeLine", "kind names children")
+# A moment is a stage and the number of an instruction. The stages are issue, start, the register of a result for when that is
+# done, and free.
+ORIGIN, END = ("origin", 0), ("end", 0)
+ANCHORS = {stage[0].upper() + str(n): (stage, n) for stage in ("issue", "start") for n in range(1, MOST + 1)}
+FROM, TO = {"0": ORIGIN, **ANCHORS}, {"END": END, **ANCHORS}
+# Fact lines: that one instruction stands before another, and what loads the units of a kind between two moments.
+Pair = namedtuple("Pair", "first second")
+Load = namedtuple("Load", "begin end after wait numbers")
+
+# What a document has: its profile is a number of each name, its block the instructions, its tree the lines in preorder, each
+# with the number of the line.
+Document = namedtuple("Document", "version profile block time bound order facts tree")
+# A line of a tree: its kind, the numbers or the unit that it names, of an S line the first line of each tree after it, and its
+# way from the tree's first line: the last number of its prefix and the way before that; that of the first line is nothing.
+TreeLine = namedtuple("TreeLine", "kind names children way")
 
 
 class Refused(Exception):
@@ -117,7 +135,7 @@ class Reader:
 
     def numbers(self, line, word, least, most, shortest=1, longest=1):
         """The numbers of a line, which are this many and within these limits, after a word."""
-        are_numbers = re.fullmatch(word + "( (0|[1-9][0-9]{0,5}))+", line)
+        are_numbers = re.fullmatch(word + "( (0|[1-9][0-9]{0,9}))+", line)
         numbers = [int(field) for field in line.split(" ")[1:]] if are_numbers else []
         if not shortest <= len(numbers) <= longest or not all(least <= n <= most for n in numbers):
             self.fail()
@@ -127,25 +145,39 @@ class Reader:
         line = self.line()
         return line.startswith("I ") and instruction_of(line[2:]) or self.fail()
 
-    def tree_line(self, with_numbers):
-        """A line of a tree; the kinds that numbers follow are given."""
+    def load(self, line):
+        word, begin, end, *rest = line.split(" ") if line.count(" ") > 2 else self.fail()
+        after, wait, *numbers = self.numbers(" ".join([word, *rest]), "A", 0, MOST_TIME, 3, 2 + MOST)
+        if begin not in FROM or end not in TO or not all(1 <= n <= MOST for n in numbers):
+            self.fail()
+        return Load(FROM[begin], TO[end], after, wait, numbers)
+
+    def facts(self):
+        facts = []
+        while self.ahead[:1] in (b"F", b"A") and len(facts) < MOST_FACTS:
+            line = self.line()
+            facts.append(self.load(line) if line[0] == "A" else Pair(*self.numbers(line, "F", 1, MOST, 2, 2)))
+        return facts
+
+    def tree_line(self, version, way):
         line = self.line()
         kind, _, rest = line.partition(" ")
-        if kind in with_numbers:
-            return TreeLine(kind, self.numbers(line, kind, 1, MOST, 1, MOST), [])
+        if kind in NUMBERED[version]:
+            return TreeLine(kind, self.numbers(line, kind, 1, *SHAPES[kind]), [], way)
         if line in ("T", "P") or kind == "U" and rest in UNITS:
-            return TreeLine(kind, rest, [])
+            return TreeLine(kind, rest, [], way)
         return self.fail()
 
-    def tree(self, with_numbers):
+    def tree(self, version):
         """The lines of a tree. At first one tree is to come, and after an S line as many as it has numbers."""
-        lines, splits, to_come = [], 0, [[]]  # for each tree to come, to which children it belongs
+        lines, splits, to_come = [], 0, [([], None)]  # for each tree to come, to which children it belongs, and its way
         while to_come:
-            line = self.tree_line(with_numbers)
+            children, way = to_come.pop()
+            line = self.tree_line(version, way)
             lines.append(line)
-            to_come.pop().append(line)
+            children.append(line)
             if line.kind == "S":
-                to_come += [line.children] * len(line.names)
+                to_come += [(line.children, (n, way)) for n in reversed(line.names)]
                 splits += 1
             if splits > MOST_SPLITS:
                 raise Refused("TOO MANY NODES")
@@ -160,10 +192,11 @@ class Reader:
         [time] = self.numbers(self.line(), "TIME", 0, MOST_TIME)
         [bound] = self.numbers(self.line(), "BOUND", 0, MOST_TIME)
         order = self.numbers(self.line(), "ORDER", 1, MOST, 1, MOST)
-        tree = self.tree(["S", "C"] if version == 1 else ["S", "C", "D"])
-        if self.line() != "END" or any(line.kind == "D" for line in tree) != (version > 1):
+        facts = self.facts() if version == 4 else []
+        tree = dict(enumerate(self.tree(version), 7 + instructions + len(facts)))
+        if self.line() != "END" or any(line.kind == "D" for line in tree.values()) != (version in (2, 3)):
             self.fail()
-        return Document(version, dict(zip(names, numbers)), block, time, bound, order, tree)
+        return Document(version, dict(zip(names, numbers)), block, time, bound, order, facts, tree)
 
 
 # An instruction of an order: its number and itself, the parcel in which it begins, when it issues and starts, when each of
@@ -263,6 +296,11 @@ class Problem:
         """The least time at which another instruction can issue, fillers left out."""
         return prefix[-1].issue + prefix[-1].own.parcels if prefix else 0
 
+    def is_only_unit(self, a, b):
+        """Whether both need the only unit of their kind."""
+        unit = self.block[a].unit
+        return unit == self.block[b].unit and self.profile[unit] == 1
+
     def link(self, a, b):
         """How long b waits from the start of a; 0 if it waits for nothing of it."""
         results = [latency for x, latency in self.latencies[a].items() if x in self.touched[b]]
@@ -319,8 +357,138 @@ class Problem:
         is_slower = version == 2 and self.total(node) > self.total(prefix)
         if apart % 4 or is_slower or self.next_issue(node) > slot:
             return False
-        clamp = slot if version == 3 else 0  # nothing that follows can issue before
+        clamp = slot if version > 2 else 0  # nothing that follows can issue before
         return all(time <= max(waits[what], clamp) for what, time in self.waits(node).items())
+
+
+class Known:
+    """What is known of all legal orders that take less than a bound: which instruction stands before which, and arcs, that is,
+    how much later one moment comes at least than another.
+    """
+
+    def __init__(self, problem, bound):
+        self.problem, self.bound, self.arcs = problem, bound, {ORIGIN: {END: 0}, END: {}}
+        self.before = {n: set() for n in problem.block}  # what stands before each
+        for n in problem.block:
+            self.add_own_arcs(n)
+        for n, needs in problem.needs.items():
+            for m in needs:
+                self.add_pair(m, n)
+
+    def add_arc(self, begin, end, wait):
+        self.arcs[begin][end] = max(wait, self.arcs[begin].get(end, 0))
+
+    def add_own_arcs(self, n):
+        """Those of one instruction."""
+        self.arcs.update((moment, {}) for moment in self.moments(n))
+        self.arcs[ORIGIN].update(dict.fromkeys(self.moments(n), 0))
+        self.add_arc(("issue", n), ("start", n), 0)
+        self.add_arc(("start", n), ("free", n), self.problem.holds[n] + 1)
+        self.add_arc(("free", n), END, 0)
+        for x, latency in self.problem.latencies[n].items():
+            self.add_arc(("start", n), (x, n), latency)
+            self.add_arc((x, n), END, 0)
+            if x in self.problem.block[n].held:
+                self.add_arc((x, n), ("free", n), 1)
+
+    def add_later_arcs(self, m, n):
+        """Those of an instruction and one that stands after it."""
+        one, other = self.problem.block[m], self.problem.block[n]
+        self.add_arc(("issue", m), ("issue", n), one.parcels)
+        if self.problem.is_only_unit(m, n):
+            self.add_arc(("free", m), ("issue", n), 0)
+        if meet_in_memory(one, other):
+            self.add_arc(("start", m), ("start", n), 1)
+        for x in self.problem.latencies[m].keys() & self.problem.latencies[n]:
+            self.add_arc((x, m), ("issue", n), 0)
+        for x in self.problem.latencies[m].keys() & other.reads:
+            self.add_arc((x, m), ("start", n), 0)
+        for x in self.problem.latencies[n].keys() & one.reads:
+            self.add_arc(("start", m), (x, n), 1)
+
+    def add_pair(self, m, n):
+        """The first stands before the second, and what stands before the first before what stands after the second."""
+        for k in [k for k in self.before if k == n or n in self.before[k]]:
+            for j in {m, *self.before[m]} - self.before[k]:
+                self.before[k].add(j)
+                self.add_later_arcs(j, k)
+
+    def moments(self, n):
+        """Of one instruction, each after those from which an arc leads to it."""
+        return [(stage, n) for stage in ("issue", "start", *self.problem.latencies[n], "free")]
+
+    def all_moments(self):
+        """Of all instructions, in such an order too."""
+        numbers = sorted(self.before, key=lambda n: len(self.before[n]))
+        return [ORIGIN, *(moment for n in numbers for moment in self.moments(n)), END]
+
+    def paths_from(self, begin):
+        """The longest path from one moment to each other to which some path leads."""
+        paths = {begin: 0}
+        for moment in self.all_moments():
+            for later, wait in self.arcs[moment].items() if moment in paths else ():
+                paths[later] = max(paths[moment] + wait, paths.get(later, 0))
+        return paths
+
+    def paths_to(self, end):
+        """The longest path to one moment from each other from which some path leads there."""
+        paths = {end: 0}
+        for moment in reversed(self.all_moments()):
+            for later, wait in self.arcs[moment].items():
+                if later in paths:
+                    paths[moment] = max(wait + paths[later], paths.get(moment, 0))
+        return paths
+
+    def is_forced(self, y, x):
+        """Whether an order takes the bound at least in which x stands before y."""
+        if x == y or not {x, y} <= self.before.keys() or x in self.before[y]:
+            return False
+        heads, tail = self.paths_from(ORIGIN), self.paths_to(END)["issue", y]
+        by_parcels = heads["issue", x] + self.problem.block[x].parcels + tail
+        by_unit = heads["free", x] + tail if self.problem.is_only_unit(x, y) else 0
+        return max(by_parcels, by_unit) >= self.bound
+
+    def leads_up(self, begin, end):
+        """Whether both moments are there, and an arc from the one to the other makes no ring."""
+        is_up = begin == ORIGIN or end == END or begin[1] in self.before.get(end[1], ())
+        return is_up and begin in self.arcs and end in self.arcs
+
+    def is_loaded(self, load):
+        """Whether units of one kind are in use between two moments as a load line says."""
+        block, numbers = self.problem.block, load.numbers
+        if numbers != [n for n in block if n in numbers] or not self.leads_up(load.begin, load.end):
+            return False
+        uses, units = {n: self.problem.holds[n] + 1 for n in numbers}, {block[n].unit for n in numbers}
+        time = -(-sum(uses.values()) // self.problem.profile[block[numbers[0]].unit])  # rounded up
+        heads, tails = self.paths_from(load.begin), self.paths_to(load.end)
+
+        def is_between(moment, use):
+            """Whether a use from this moment on is late enough, and leaves enough to the end."""
+            is_there = heads.get(moment, -1) >= load.after and moment in tails
+            return is_there and use + load.wait <= load.after + time + tails[moment]
+
+        is_used = [is_between(("issue", n), use) or is_between(("start", n), use) for n, use in uses.items()]
+        return len(units) == 1 and all(is_used)
+
+    def add_fact(self, fact):
+        """Whether a fact line is right; what it says is then known."""
+        if isinstance(fact, Pair) and self.is_forced(*fact):
+            self.add_pair(*fact)
+        elif isinstance(fact, Load) and self.is_loaded(fact):
+            self.add_arc(fact.begin, fact.end, fact.wait)
+        else:
+            return False
+        return True
+
+    @cached_property
+    def tails(self):
+        return self.paths_to(END)
+
+    def next_value(self, prefix, n):
+        """The greatest of the moments of an instruction, if it comes next, each with the longest path to the end."""
+        point = self.problem.followed_by(prefix, n)[-1]
+        times = {"issue": point.issue, "start": point.start, **point.done, "free": point.free}
+        return max(time + self.tails[stage, n] for stage, time in times.items())
 
 
 def node_at(line, name):
@@ -332,24 +500,45 @@ def node_at(line, name):
     return line
 
 
-def name_fault(problem, document, prefix, name):
-    """What is wrong with the name in a dominated leaf, or nothing."""
-    numbers, line = [point.number for point in prefix], node_at(document.tree[0], name)
-    may_be_named = line and (name < numbers if document.version == 2 else line.kind != "D")
+def name_of(line):
+    """The numbers that lead to a line from a tree's first line."""
+    name, way = [], line.way
+    while way:
+        n, way = way
+        name.append(n)
+    return name[::-1]
+
+
+def domination_fault(problem, document, prefix, leaf):
+    """What is wrong with a dominated leaf, or nothing."""
+    if leaf.kind == "D":
+        line = node_at(next(iter(document.tree.values())), leaf.names)
+    else:
+        line = document.tree.get(leaf.names[0])
+    name, numbers = line and name_of(line), [point.number for point in prefix]
+    may_be_named = line and (name < numbers if document.version == 2 else line.kind != leaf.kind)
     node = may_be_named and sorted(name) == sorted(numbers) and problem.beginning(tuple(name))
     if not node:
         return NOT_TO_BE_NAMED
     return None if problem.dominates(document.version, node, prefix) else NOT_DOMINATED
 
 
-def line_fault(problem, document, prefix, line):
+def line_fault(known, document, prefix, line):
     """What is wrong with a line of a tree at its prefix, or nothing."""
+    problem = known.problem
+    remaining = problem.remaining(prefix)
     if line.kind == "S":
         return NOT_THE_READY if line.names != problem.ready(prefix) else None
-    if (line.kind == "T") == bool(problem.remaining(prefix)):
+    if (line.kind == "T") == bool(remaining):
         return NOT_HERE
-    if line.kind == "D":
-        return name_fault(problem, document, prefix, line.names)
+    if line.kind in ("D", "N"):
+        return domination_fault(problem, document, prefix, line)
+    if line.kind == "E":
+        [n] = line.names
+        return None if n in remaining and known.next_value(prefix, n) >= document.bound else NOT_TOO_LATE
+    if line.kind == "R":
+        y, x = line.names
+        return None if y in remaining and x not in remaining and y in known.before.get(x, ()) else NOT_TURNED
     value = problem.value(prefix, line)
     if value is None:
         return NO_CHAIN
@@ -358,18 +547,22 @@ def line_fault(problem, document, prefix, line):
 
 def faults(document):
     """The line and the reason of each fault, the first of which is printed: what comes after it relies on it."""
-    problem, tree_line = Problem(document.profile, document.block), 7 + len(document.block)
+    problem, order_line = Problem(document.profile, document.block), 6 + len(document.block)
     order = problem.beginning(tuple(document.order))
     if not order or problem.remaining(order):
-        yield tree_line - 1, NOT_LEGAL
+        yield order_line, NOT_LEGAL
     if problem.total(order) != document.time:
-        yield tree_line - 3, NOT_THE_TIME
+        yield order_line - 2, NOT_THE_TIME
     if document.bound > document.time:
-        yield tree_line - 2, ABOVE_TIME
+        yield order_line - 1, ABOVE_TIME
+    known = Known(problem, document.bound)
+    for number, fact in enumerate(document.facts, order_line + 1):
+        if not known.add_fact(fact):
+            yield number, NO_FACT
     to_come = [()]  # the prefixes of the trees that are still to come, the next one last
-    for number, line in enumerate(document.tree, tree_line):
+    for number, line in document.tree.items():
         prefix = to_come.pop()
-        reason = line_fault(problem, document, prefix, line)
+        reason = line_fault(known, document, prefix, line)
         if reason:
             yield number, reason
         if line.kind == "S":
