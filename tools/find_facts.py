@@ -1,0 +1,190 @@
+#!/usr/bin/env python3
+"""Finds a certificate of version 4 for a small block: fact lines, and the tree that they leave. For tests, and unverified.
+
+    tools/find_facts.py [--profile TEXT] [--bound N] [--splits N] < SOURCE
+
+The lines of SOURCE are the instructions of one block, without location fields. Without a bound all legal orders are timed, and
+the document shows that none takes less than the best one. With a bound it claims the source order with its time, and the
+bound. Status 1: some order takes less, or the tree has more than N splits, 10,000 unless given.
+"""
+import argparse
+import itertools
+import json
+import sys
+
+import certificate
+from certificate import FROM, TO, Known, Load, Pair, Problem
+
+PROFILE = dict(zip(certificate.TIMES + certificate.UNITS, [3, 3, 4, 4, 3, 10, 29, 8, 3, 8, 1, 1, 1, 1, 2, 1, 2]))
+ANCHOR_TEXTS = {moment: text for text, moment in {**FROM, **TO}.items()}
+
+
+def profile_of(text):
+    """The profile of a text as `--profile` takes it, which is right."""
+    given = json.loads(text)
+    return {name: given.get(name if name in certificate.TIMES else "units_" + name.lower(), PROFILE[name]) for name in PROFILE}
+
+
+def instruction_text(line):
+    """The text of an instruction in a certificate; the line has no location field, and a remark only after an operand."""
+    return " ".join(line.upper().split()[:2])
+
+
+def legal_orders(problem, prefix=()):
+    """All legal orders that begin so."""
+    if not problem.remaining(prefix):
+        yield prefix
+    for n in problem.ready(prefix):
+        yield from legal_orders(problem, problem.followed_by(prefix, n))
+
+
+class TooManySplits(Exception):
+    """A tree has more splits than it may."""
+
+
+class Finder:
+    """Looks for fact lines and a tree that show a bound. A line of the tree is its kind and what it names; an N line names the
+    place of a line of the tree.
+    """
+
+    def __init__(self, problem, bound, splits=10_000, leaves="RUPEN"):
+        self.problem, self.bound, self.splits, self.leaves = problem, bound, splits, leaves
+        self.known, self.facts = Known(problem, bound), []
+
+    def add(self, fact):
+        """Whether a fact is right; it is then known, and kept."""
+        is_right = self.known.add_fact(fact)
+        self.facts += [fact] if is_right else []
+        return is_right
+
+    def pairs(self):
+        """The pairs of which it isn't known which stands first."""
+        pairs = itertools.permutations(self.problem.block, 2)
+        return [Pair(y, x) for y, x in pairs if y not in self.known.before[x] and x not in self.known.before[y]]
+
+    def anchors(self):
+        """The moments between which a load may be."""
+        moments = [[m for m in anchors.values() if m in self.known.arcs] for anchors in (FROM, TO)]
+        return [(begin, end) for begin, end in itertools.product(*moments) if self.known.leads_up(begin, end)]
+
+    def load_between(self, begin, end, unit):
+        """The load of a kind of unit that says most between two moments, or nothing if the longest path says as much."""
+        heads, tails = self.known.paths_from(begin), self.known.paths_to(end)
+        uses, ways = {}, []  # a way: a number, how long after the first moment its use begins, and before the last one it ends
+        for n in [n for n, own in self.problem.block.items() if own.unit == unit]:
+            uses[n] = self.problem.holds[n] + 1
+            for moment in (("issue", n), ("start", n)):
+                if moment in heads and moment in tails:
+                    ways.append((n, heads[moment], tails[moment] - uses[n]))
+        loads, copies = [], self.problem.profile[unit]
+        for after, left in itertools.product({after for _, after, _ in ways}, {left for _, _, left in ways}):
+            numbers = sorted({n for n, head, tail in ways if head >= after and tail >= left})
+            wait = after + left - (-sum(uses[n] for n in numbers) // copies)
+            if len(numbers) > copies and wait > heads.get(end, 0):
+                loads.append(Load(begin, end, after, wait, numbers))
+        return max(loads, key=lambda load: (load.wait, -len(load.numbers)), default=None)
+
+    def find_facts(self, has_loads=True):
+        """Adds facts until there are no more."""
+        is_more = True
+        while is_more:
+            is_more = any([self.add(pair) for pair in self.pairs()])
+            for begin, end in self.anchors() if has_loads else []:
+                for unit in {own.unit for own in self.problem.block.values()}:
+                    load = self.load_between(begin, end, unit)
+                    is_more |= bool(load) and self.add(load)
+
+    def leaf(self, prefix, closed):
+        """A leaf for a prefix that isn't complete, or nothing; closed are the nodes of its numbers that it may name."""
+        numbers = [point.number for point in prefix]
+        remaining = self.problem.remaining(prefix)
+        turned = [("R", y, x) for x in numbers for y in remaining if y in self.known.before[x]]
+        loaded = [("U", unit) for unit in certificate.UNITS if self.problem.load(prefix, unit) >= self.bound]
+        parcels = [("P",)] if self.problem.parcels(prefix) >= self.bound else []
+        late = [("E", n) for n in remaining if self.known.next_value(prefix, n) >= self.bound]
+        named = [("N", place) for node, place in closed if self.problem.dominates(4, node, prefix)]
+        kinds = {"R": turned, "U": loaded, "P": parcels, "E": late, "N": named}
+        return next((leaf for kind in self.leaves for leaf in kinds[kind]), None)
+
+    def find_tree(self):
+        """The lines of the tree, or nothing if some order takes less than the bound."""
+        lines, closed, to_come, splits = [], {}, [()], 0
+        while to_come:
+            prefix = to_come.pop()
+            alike = closed.setdefault(frozenset(point.number for point in prefix), [])
+            ready = self.problem.ready(prefix)
+            if not ready and self.problem.total(prefix) < self.bound:
+                return None
+            leaf = self.leaf(prefix, alike) if ready else ("T",)
+            if not leaf or leaf[0] != "N":
+                alike.append((prefix, len(lines)))
+            lines.append(leaf or ("S", *ready))
+            to_come += [] if leaf else [self.problem.followed_by(prefix, n) for n in reversed(ready)]
+            splits += not leaf
+            if splits > self.splits:
+                raise TooManySplits
+        return lines
+
+    def prune(self):
+        """Leaves out the facts without which the tree grows no larger; the lines of the tree."""
+        tree = self.find_tree()
+        for fact in list(reversed(self.facts)) if tree else []:
+            fewer = Finder(self.problem, self.bound, self.splits, self.leaves)
+            if all([fewer.add(other) for other in self.facts if other is not fact]):
+                smaller = fewer.find_tree()
+                if smaller and len(smaller) <= len(tree):
+                    tree, self.facts, self.known = smaller, fewer.facts, fewer.known
+        return tree
+
+
+def fact_text(fact):
+    if isinstance(fact, Pair):
+        return f"F {fact.first} {fact.second}"
+    words = [ANCHOR_TEXTS[fact.begin], ANCHOR_TEXTS[fact.end], fact.after, fact.wait, *fact.numbers]
+    return " ".join(["A", *map(str, words)])
+
+
+def proof(finder, tree, begin):
+    """The lines of the facts that were found and of a tree, of which the first has this number in the document."""
+    begin += len(finder.facts)
+    lines = [("N", line[1] + begin) if line[0] == "N" else line for line in tree]
+    return [fact_text(fact) for fact in finder.facts] + [" ".join(map(str, line)) for line in lines]
+
+
+def document(texts, order, finder, tree):
+    """The lines of a document that claims an order with its time, and the bound of what was found."""
+    problem = finder.problem
+    head = ["S66 CERTIFICATE 4", " ".join(["PROFILE", *map(str, problem.profile.values())]), f"BLOCK {len(texts)}"]
+    head += [f"I {text}" for text in texts] + [f"TIME {problem.total(order)}", f"BOUND {finder.bound}"]
+    head.append(" ".join(["ORDER", *(str(point.number) for point in order)]))
+    return head + proof(finder, tree, len(head) + 1) + ["END"]
+
+
+def main():
+    parser = argparse.ArgumentParser(description=__doc__.split("\n")[0])
+    parser.add_argument("--profile", type=profile_of, default=PROFILE)
+    parser.add_argument("--bound", type=int)
+    parser.add_argument("--splits", type=int, default=10_000)
+    asked = parser.parse_args()
+    texts = [instruction_text(line) for line in sys.stdin if line.strip()]
+    block = [certificate.instruction_of(text) for text in texts]
+    if not all(block):
+        sys.exit(f"no instruction: {texts[block.index(None)]}")
+    problem = Problem(asked.profile, block)
+    order = problem.beginning(tuple(problem.block))
+    if asked.bound is None:
+        order = min(legal_orders(problem), key=problem.total)
+    finder = Finder(problem, problem.total(order) if asked.bound is None else asked.bound, asked.splits)
+    finder.find_facts()
+    try:
+        tree = finder.prune()
+    except TooManySplits:
+        tree = None
+    if not tree:
+        return 1
+    print("\n".join(document(texts, order, finder, tree)))
+    return 0
+
+
+if __name__ == "__main__":
+    sys.exit(main())

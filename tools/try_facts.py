@@ -1,0 +1,183 @@
+#!/usr/bin/env python3
+"""Tries the rules of fact lines and of certificates of version 4 on random small blocks, against all their legal orders.
+
+    tools/try_facts.py [--blocks N] [--seed N]
+
+It tries N blocks of 3 to 7 instructions, 300 unless given, half of them under a random profile. Of each, all legal orders are
+timed. tools/certificate.py has to say YES to the document that tools/find_facts.py finds for the best time. For a greater bound
+there must be no tree, and no YES to that document with the greater bound and damages. And what fact lines say for a greater
+bound, found ones and random ones, has to be so in each order that takes less: pairs, the longest path between any two
+moments, and the values of E lines at its prefixes. Each fault is printed with its block. The same seed makes the same blocks.
+"""
+import argparse
+import collections
+import io
+import itertools
+import random
+import re
+import sys
+
+import certificate
+from certificate import END, ORIGIN, Load, Pair, Problem
+from compare_certificates import CONSTANTS, INSTRUCTIONS
+from find_facts import PROFILE, Finder, document, legal_orders
+
+FEW = """
+FXi Xj*Xk|FXi Xj/Xk|FXi Xj+Xk|IXi Xj+Xk|BXi Xj+Xk|BXi Xj|LXi Bj,Xk|NXi Bj,Xk|SAi Aj+Bk|SAi Bj+Bk|SXi Xj+Bk|SBi Bj+Bk|SXi Bj+K
+""".strip().split("|")
+MOST_ORDERS = 1000  # of a block
+
+
+def verdict(lines):
+    """What the checker says of a document, or why it is refused."""
+    text = "".join(line + "\n" for line in lines)
+    try:
+        return certificate.verdict_of(certificate.Reader(io.BytesIO(text.encode())).document())
+    except certificate.Refused as refused:
+        return str(refused)
+
+
+def times_of(order, total):
+    """The time of each moment of an order, of which this is the total."""
+    times = {ORIGIN: 0, END: total}
+    for point in order:
+        stages = {"issue": point.issue, "start": point.start, **point.done, "free": point.free}
+        times.update(((stage, point.number), time) for stage, time in stages.items())
+    return times
+
+
+class Trial:
+    """A random block, with all its orders."""
+
+    def __init__(self, chance):
+        self.any = chance
+        while True:
+            some = chance.choice([FEW, chance.sample(FEW, 3), chance.sample(FEW, 2), INSTRUCTIONS])
+            self.texts = [self.instruction(some, chance.choice([2, 3, 4, 8])) for _ in range(chance.randint(3, 7))]
+            numbers = {True: [1, 1, 2, 3], False: [1, 2, 3, 5, 8, 20]}  # of copies, and of minor cycles
+            profile = {name: chance.choice(numbers[name in certificate.UNITS]) for name in PROFILE}
+            block = [certificate.instruction_of(text) for text in self.texts]
+            self.problem = Problem(chance.choice([PROFILE, profile]), block)
+            self.orders = list(itertools.islice(legal_orders(self.problem), MOST_ORDERS + 1))
+            if len(self.orders) <= MOST_ORDERS:
+                break
+        self.orders.sort(key=self.problem.total)
+        self.best = self.problem.total(self.orders[0])
+
+    def instruction(self, templates, registers):
+        template = self.any.choice(templates).replace("K", self.any.choice(CONSTANTS[:3]))
+        return re.sub("[ijk]", lambda _: str(self.any.randrange(registers)), template)
+
+    def fact(self, finder):
+        """A random fact line. A load says as much as the checker takes."""
+        if self.any.random() < 0.2:
+            return Pair(*self.any.choices(list(self.problem.block), k=2))
+        begin, end = self.any.choice(finder.anchors())
+        unit = self.any.choice([own.unit for own in self.problem.block.values()])
+        alike = [n for n, own in self.problem.block.items() if own.unit == unit or self.any.random() < 0.1]
+        numbers = sorted(self.any.sample(alike, self.any.randint(1, len(alike))))
+        least = min(finder.known.paths_from(begin).get(("issue", n), 0) for n in numbers)
+        load = Load(begin, end, max(0, least + self.any.choice([0, 0, 0, 1, 2, -1])), 0, numbers)
+        for step in (128, 64, 32, 16, 8, 4, 2, 1):
+            longer = load._replace(wait=load.wait + step)
+            load = longer if finder.known.is_loaded(longer) else load
+        return load
+
+    def facts_for(self, bound):
+        """A finder with facts for a bound, found ones and random ones."""
+        finder = Finder(self.problem, bound, leaves="".join(self.any.sample("RUPEN", 5)))
+        if self.any.random() < 0.5:
+            finder.find_facts(self.any.random() < 0.7)
+        for _ in range(self.any.choice([0, 5, 20])):
+            finder.add(self.fact(finder))
+        if self.any.random() < 0.5:
+            finder.find_facts(self.any.random() < 0.7)
+        return finder
+
+    def wrong_facts(self, finder):
+        """What is known for a bound, and isn't so in an order that takes less."""
+        known, paths = finder.known, {begin: finder.known.paths_from(begin) for begin in finder.known.arcs}
+        for order in self.orders:
+            times, numbers = times_of(order, self.problem.total(order)), [point.number for point in order]
+            if times[END] >= finder.bound:
+                return
+            wrong = [(m, n) for n in numbers for m in known.before[n] if numbers.index(m) > numbers.index(n)]
+            wrong += [(e, f) for e in paths for f, wait in paths[e].items() if times[f] - times[e] < wait]
+            for length in range(len(order)):
+                remaining = numbers[length:]
+                wrong += [("E", n) for n in remaining if known.next_value(order[:length], n) > times[END]]
+            if wrong:
+                yield f"{wrong[0]} isn't so in {numbers}, which takes {times[END]}, for the bound {finder.bound}"
+
+    def damaged(self, lines):
+        """A document with some numbers changed, and with its lines after the order in some other order."""
+        lines = list(lines)
+        begin = next(place for place, line in enumerate(lines) if line.startswith("ORDER")) + 1
+        for _ in range(self.any.randint(1, 4)):
+            places = [place for place in range(begin, len(lines)) if re.search(r" \d", lines[place])]
+            place = self.any.choice(places or [begin])
+            numbers = list(re.finditer(r"\d+", lines[place]))
+            if numbers:
+                chosen = self.any.choice(numbers)
+                changed = max(1, int(chosen[0]) + self.any.choice([-2, -1, 1, 2, 3]))
+                lines[place] = lines[place][: chosen.start()] + str(changed) + lines[place][chosen.end() :]
+            elif self.any.random() < 0.3:
+                lines.insert(begin, lines[place])
+        return lines
+
+    def wrong_documents(self, counts):
+        """What the checker says of documents that it shouldn't."""
+        finder = self.facts_for(self.best)
+        tree = finder.prune() if self.any.random() < 0.3 else finder.find_tree()
+        lines = document(self.texts, self.orders[0], finder, tree)
+        counts["blocks with fact lines"] += bool(finder.facts)
+        counts.update("fact lines " + type(fact).__name__ for fact in finder.facts)
+        counts.update("tree lines " + line[0] for line in tree)
+        if verdict(lines) != f"YES TIME {self.best} BOUND {self.best}":
+            yield "\n".join(["no yes to", *lines, verdict(lines)])
+        for more in (1, 2, 5):
+            finder = self.facts_for(self.best + more)
+            if finder.find_tree():
+                yield f"a tree for the bound {finder.bound}"
+            yield from self.wrong_facts(finder)
+            counts.update("for greater bounds " + type(fact).__name__ for fact in finder.facts)
+        yield from self.wrong_claims(lines, counts)
+
+    def wrong_claims(self, lines, counts):
+        """Yes to a document with a greater bound, and the time of an order that takes as long."""
+        slower = [order for order in self.orders if self.problem.total(order) > self.best]
+        for _ in range(20 if slower else 0):
+            order = self.any.choice(slower)
+            time = self.problem.total(order)
+            claims = {"TIME": time, "BOUND": self.any.randint(self.best + 1, min(time, self.best + 3))}
+            claims["ORDER"] = " ".join(str(point.number) for point in order)
+            words = [line.split(" ")[0] for line in lines]
+            claimed = [f"{word} {claims[word]}" if word in claims else line for word, line in zip(words, lines)]
+            told = verdict(self.damaged(claimed))
+            counts["claims of greater bounds"] += 1
+            counts["such claims, " + re.sub(r"LINE \d+|TIME .*", "", told).strip()] += 1
+            if told.startswith("YES"):
+                yield "\n".join(["yes to", *claimed])
+
+
+def main():
+    parser = argparse.ArgumentParser(description=__doc__.split("\n")[0])
+    parser.add_argument("--blocks", type=int, default=300)
+    parser.add_argument("--seed", type=int, default=6600)
+    asked = parser.parse_args()
+    chance, counts, failed = random.Random(asked.seed), collections.Counter(), 0
+    for _ in range(asked.blocks):
+        trial = Trial(chance)
+        counts["orders"] += len(trial.orders)
+        wrong = list(trial.wrong_documents(counts))
+        failed += bool(wrong)
+        for told in wrong:
+            profile = list(trial.problem.profile.values())
+            print("\n".join(["of the block", *trial.texts, f"under {profile}, best {trial.best}:", told]))
+    told = ", ".join(f"{what} {count}" for what, count in sorted(counts.items()))
+    print(f"{asked.blocks - failed} passed, {failed} failed ({told})")
+    return 1 if failed else 0
+
+
+if __name__ == "__main__":
+    sys.exit(main())
