@@ -5,10 +5,10 @@
 
 PROGRAM is the built program. It makes N texts, 2000 unless given. They begin with documents that `s66 prove` writes of
 random blocks of 2 to 9 instructions, some under a random profile. Many get dominated leaves in place of some of their trees,
-right or wrong, so they have all versions, and most of the others a few damages. Both programs have to write the same bytes,
-with the same status and the same first line of standard error. Each difference is printed with its text, and at the end how
-often each refusal came, and each verdict by version. The status is 1 if there is a difference. The same seed makes the same
-texts.
+right or wrong, or fact lines and a tree that tools/find_facts.py finds, so they have all versions, and most of the others a
+few damages. Both programs have to write the same bytes, with the same status and the same first line of standard error. Each
+difference is printed with its text, and at the end how often each refusal came, and each verdict by version. The status is 1
+if there is a difference. The same seed makes the same texts.
 """
 import argparse
 import collections
@@ -18,6 +18,9 @@ import random
 import re
 import subprocess
 import sys
+
+import find_facts
+from certificate import Problem, instruction_of
 
 CERTIFICATE = os.path.join(os.path.dirname(os.path.abspath(__file__)), "certificate.py")
 
@@ -33,6 +36,8 @@ WRONG = "SXi Aj+Ak|SXi Xj-Bk|SXi A.N|IXi Xj*Xk|BXi Xj/Xk|SXi -Aj|SXi K-Bj|CXi -X
 LONG = ["SXi " + "N" * 195, "SXi " + "N" * 196]
 CONSTANTS = ["1", "100B", "2*N", "TABLE", "=5", "N.B", "N/2", "X2*X3", "1+N"]
 NUMBERS = ["0", "1", "2", "3", "9", "10", "100", "101", "128", "129", "100000", "100001", "01", "-1", ""]
+ANCHORS = "I1 I2 I3 S1 S2 S3 I9 S128".split()
+WRONG_ANCHORS = ["0", "END", "I0", "I129", "S01", "I", "B1", "1", ""]
 UNITS = ["BOOLEAN", "SHIFT", "ADD", "LONGADD", "MULTIPLY", "DIVIDE", "INCREMENT", "BRANCH"]
 KEYS = ["boolean", "shift", "normalise", "add", "longadd", "multiply", "divide", "population", "increment", "load"]
 
@@ -146,19 +151,61 @@ class Maker:
                 break
         return many, block
 
+    def with_facts(self, lines, profile):
+        """A document of version 4 with the claims of this one, if its tree is small; else the same document."""
+        begin = next(place for place, line in enumerate(lines) if line.startswith("ORDER")) + 1
+        block = [instruction_of(line[2:]) for line in lines[:begin] if line.startswith("I ")]
+        finder = find_facts.Finder(
+            Problem(find_facts.profile_of(profile), block),
+            int(lines[begin - 2].split(" ")[1]),
+            splits=self.any.choice([20, 200]),
+            leaves="".join(self.any.sample("RUPEN", 5)),
+        )
+        if self.any.random() < 0.8:
+            finder.find_facts(has_loads=self.any.random() < 0.7)
+        try:
+            found = find_facts.proof(finder, finder.prune() if self.any.random() < 0.3 else finder.find_tree(), begin + 1)
+        except find_facts.TooManySplits:
+            return lines
+        return ["S66 CERTIFICATE 4", *lines[1:begin], *found, "END"]
+
+    def fact_documents(self):
+        """A document of version 4, many times, right or with a wrong line, with the source and the profile of its block."""
+        for _ in range(12):
+            lines, block = self.document()
+            many = [self.with_facts(lines, block[1]) for _ in range(8)]
+            if all(one[0] != lines[0] for one in many):
+                break
+        for one in many:
+            if self.any.random() < 0.7:
+                self.any.choice([self.change_fact, self.change_leaf])(one)
+        return many, block
+
+    def fact(self, count):
+        """A fact line: right or wrong at its place."""
+        numbers = [str(self.any.randint(1, count)) for _ in range(2)]
+        if self.any.random() < 0.4:
+            return " ".join(["F", *numbers])
+        anchors = [self.any.choice(["0", *ANCHORS]), self.any.choice(["END", *ANCHORS])]
+        amounts = [self.any.choice("00134"), self.any.choice(["0", "1", "2", "5", "8", "12"])]
+        return " ".join(["A", *anchors, *amounts, *(sorted(set(numbers)) if self.any.random() < 0.9 else numbers)])
+
     def leaf(self, count, kinds="CCCUUUPPT"):
         """A leaf: right or wrong at its place."""
         kind = self.any.choice(kinds)
+        if kind in "ERN":
+            few = [self.any.randint(*((8, 40) if kind == "N" else (1, count))) for _ in range(2 if kind == "R" else 1)]
+            return " ".join([kind, *map(str, few)])
         if kind in "CD":
             some = self.any.sample(range(1, count + 1), self.any.randint(1, min(3, count)))
             return " ".join([kind, *map(str, sorted(some) if self.any.random() < 0.9 else some)])
         return f"U {self.any.choice(UNITS[:7])}" if kind == "U" else kind
 
     def change_version(self, lines):
-        lines[0] = f"S66 CERTIFICATE {self.any.choice([1, 2, 2, 3, 3, 4])}"
+        lines[0] = f"S66 CERTIFICATE {self.any.choice([1, 2, 2, 3, 3, 4, 4, 5])}"
 
     def change_number(self, lines):
-        place = self.place(lines, r"[A-Z0-9]+ \d")
+        place = self.place(lines, r"[A-Z0-9]+ (\d|[IS]\d+ )")
         numbers = list(re.finditer(r"\d+", lines[place]))
         if numbers:
             chosen = self.any.choice(numbers)
@@ -166,7 +213,7 @@ class Maker:
             changed = self.any.choice(near * 10 + NUMBERS)
             lines[place] = lines[place][: chosen.start()] + changed + lines[place][chosen.end() :]
 
-    def exchange_numbers(self, lines, pattern="(ORDER|S|C|D) .* "):
+    def exchange_numbers(self, lines, pattern="(ORDER|S|C|D|F|A|R) .* "):
         place = self.place(lines, pattern)
         fields = lines[place].split(" ")
         places = range(len(fields))[1 if self.any.random() < 0.9 else 0 :] or [0]  # seldom the word
@@ -178,7 +225,7 @@ class Maker:
         self.exchange_numbers(lines, "D .* ")
 
     def change_length(self, lines):
-        place = self.place(lines, "(ORDER|S|C|D|PROFILE) ")
+        place = self.place(lines, "(ORDER|S|C|D|F|A|E|R|N|PROFILE) ")
         fields = lines[place].split(" ")
         at = self.any.randrange(len(fields))
         lines[place] = " ".join(fields[:at] + self.any.choice([[], [fields[at]] * 2]) + fields[at + 1 :])
@@ -196,8 +243,27 @@ class Maker:
         lines.insert(place, lines[place])
 
     def change_leaf(self, lines):
-        kinds = "CCCUUUPPT" if lines[0].endswith("1") else "CCUUPTDDD"
-        lines[self.place(lines, "[CUPTD]( |$)")] = self.leaf(9, kinds)
+        kinds = {"1": "CCCUUUPPT", "4": "CUPTEEERRRNNN"}.get(lines[0][-1:], "CCUUPTDDD")
+        lines[self.place(lines, "[CUPTDERN]( |$)")] = self.leaf(5, kinds)
+
+    def change_fact(self, lines):
+        """Adds, drops or changes a fact line, or exchanges two."""
+        place, other = self.place(lines, "[FA] |ORDER"), self.place(lines, "[FA] |ORDER")
+        change = self.any.randrange(4) if re.match("[FA] ", lines[place]) else 0
+        if change == 0:
+            lines.insert(place + 1, self.fact(5))
+        elif change == 1:
+            del lines[place]
+        elif change == 2:
+            lines[place] = self.fact(5)
+        else:
+            lines[place], lines[other] = lines[other], lines[place]
+
+    def change_anchor(self, lines):
+        place = self.place(lines, "A ")
+        fields = lines[place].split(" ")
+        fields[min(self.any.choice([1, 2]), len(fields) - 1)] = self.any.choice(ANCHORS + WRONG_ANCHORS)
+        lines[place] = " ".join(fields)
 
     def change_instruction(self, lines):
         lines[self.place(lines, "I ")] = "I " + self.instruction(INSTRUCTIONS + WRONG + LONG)
@@ -219,7 +285,7 @@ class Maker:
                 lines[place] = f"BOUND {self.any.randint(max(0, min(least, written)), written)}"
             elif line.startswith("ORDER "):
                 lines[place] = " ".join(["ORDER", *(str(n) for n in range(1, len(block) + 1))])
-            elif line.split(" ")[0] in ("C", "U", "P") and self.any.random() < 0.5:
+            elif line.split(" ")[0] in ("C", "U", "P", "E") and self.any.random() < 0.5:
                 lines[place] = self.leaf(len(block))
 
     def damaged(self, lines, block):
@@ -228,6 +294,7 @@ class Maker:
             self.weaken(lines, self.time_of(*block))
         often = [self.change_number, self.exchange_numbers, self.exchange_in_name] * 2
         often += [self.change_leaf] * 4 + [self.change_instruction] * 2
+        often += ([self.change_fact] * 3 + [self.change_anchor]) * 2 if lines[0].endswith("4") else []
         seldom = [self.change_length, self.exchange_lines, self.drop_line, self.double_line]
         seldom += [self.change_byte, self.change_version]
         for damage in self.any.choices(often + seldom, k=self.any.choice([0, 0, 1, 1, 1, 2])):
@@ -236,15 +303,16 @@ class Maker:
 
     def text(self):
         """One document or a few, right or damaged, and seldom cut off."""
-        if self.any.random() < 0.3:
-            documents = self.dominated_documents()[0]
+        kind = self.any.random()
+        if kind < 0.35:
+            documents = self.dominated_documents()[0] if kind < 0.2 else self.fact_documents()[0]
         else:
             documents = []
             for _ in range(self.any.choice([1, 1, 1, 2, 3])):
                 lines, block = self.document()
-                if self.any.random() < 0.6:
-                    many, block = self.dominated_documents()
-                    lines = self.any.choice(many)
+                if self.any.random() < 0.7:
+                    many, block = self.any.choice([self.dominated_documents, self.fact_documents])()
+                    lines = list(self.any.choice(many))
                 documents.append(self.damaged(lines, block))
         text = "".join(line + "\n" for lines in documents for line in lines)
         return text[: self.any.randint(0, len(text))] if self.any.random() < 0.05 else text
