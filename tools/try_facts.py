@@ -4,10 +4,11 @@
     tools/try_facts.py [--blocks N] [--seed N]
 
 It tries N blocks of 3 to 7 instructions, 300 unless given, half of them under a random profile. Of each, all legal orders are
-timed. tools/certificate.py has to say YES to the document that tools/find_facts.py finds for the best time. For a greater bound
-there must be no tree, and no YES to that document with the greater bound and damages. And what fact lines say for a greater
-bound, found ones and random ones, has to be so in each order that takes less: pairs, the longest path between any two
-moments, and the values of E lines at its prefixes. Each fault is printed with its block. The same seed makes the same blocks.
+timed. tools/certificate.py has to say YES to the document that tools/find_facts.py finds for the best time. For a greater
+bound there must be no tree, and no YES to that document with the greater bound and damages. And what fact lines say for a
+greater bound, found ones and random ones, has to be so in each order that takes less: pairs, the longest path between any
+two moments, and the values of E lines at its prefixes. Each fault is printed with its block. The same seed makes the same
+blocks.
 """
 import argparse
 import collections
