@@ -462,13 +462,12 @@ class Known:
         time = -(-sum(uses.values()) // self.problem.profile[block[numbers[0]].unit])  # rounded up
         heads, tails = self.paths_from(load.begin), self.paths_to(load.end)
 
-        def is_between(moment, use):
-            """Whether a use from this moment on is late enough, and leaves enough to the end."""
-            is_there = heads.get(moment, -1) >= load.after and moment in tails
-            return is_there and use + load.wait <= load.after + time + tails[moment]
+        def is_between(n, use):
+            """Whether a use from an issue or a start on is late enough, and leaves enough to the end."""
+            moments = [m for m in (("issue", n), ("start", n)) if heads.get(m, -1) >= load.after and m in tails]
+            return any(use + load.wait <= load.after + time + tails[m] for m in moments)
 
-        is_used = [is_between(("issue", n), use) or is_between(("start", n), use) for n, use in uses.items()]
-        return len(units) == 1 and all(is_used)
+        return len(units) == 1 and all(is_between(n, use) for n, use in uses.items())
 
     def add_fact(self, fact):
         """Whether a fact line is right; what it says is then known."""
