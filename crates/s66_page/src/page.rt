@@ -34,7 +34,7 @@ fn push_entry(
     ensures text { OnOk result (out.new.items ≡ out.old.items ++ entry part timer.old number block.now found.now) }
 {
     let source = timer.time(block, &Order::source(block));
-    let best = timer.time(block, found.order);
+    let best = timer.time(block, &found.order);
     match part {
         Part::Row => push_index_row(out, number, block, &source, &best, found.bound),
         Part::Orders => push_block(out, number, block, &source, &best, found.bound),

@@ -14,11 +14,12 @@ table{border-collapse:collapse}
 th,td{font:12px/16px monospace;text-align:left;padding:0 8px 0 0}
 th{white-space:pre}
 .index td,.index th{text-align:right;padding-right:16px}
-.order th{position:sticky;left:0;z-index:1;background:Canvas;max-width:44vw;overflow:hidden}
+.order th{position:sticky;left:0;z-index:1;background:Canvas;max-width:44vw;overflow:hidden;padding-left:6px}
 .ruler{position:sticky;top:0;z-index:2;background:Canvas}
 svg{display:block;width:var(--w,3em);height:16px;font-size:10px;overflow:visible}
 .order svg{background:repeating-linear-gradient(90deg,#8888 0 1px,#0000 1px 10em)}
-p svg{display:inline-block;margin-left:2em;vertical-align:middle}
+p span{display:inline-block;margin-right:16px}
+p svg{display:inline-block;vertical-align:middle}
 text{fill:CanvasText}
 rect{y:2px;height:12px}
 .FIRST{y:6px;height:4px;fill:var(--first)}
@@ -35,19 +36,20 @@ tspan.SECOND{fill:var(--word)}
 .taken{fill:CanvasText;opacity:.18}
 .unit text{fill:#000}
 pre{font:12px/15px monospace;margin:4px 0;max-height:60px;overflow:auto;display:flex;flex-direction:column-reverse}
-.path th{font-weight:bold}
+.path th{font-weight:bold;box-shadow:inset 3px 0 CanvasText}
+.path~tr:not(.path):has(~.path) th{box-shadow:inset 1px 0 CanvasText}
 .path rect:not(.FIRST,.SECOND,.THIRD),rect.path{stroke:CanvasText;stroke-width:2px}
-@media(max-width:600px){svg{font-size:8px}.order th{font-size:9px}}
-@media(min-width:1800px){svg{font-size:14px;height:20px}th,td{font-size:16px;line-height:20px}body{font-size:18px}}
+@media(max-width:600px){svg{font-size:8px}.order th{font-size:9px;max-width:52vw;padding-right:2px}h2{font-size:15px}}
+@media(min-width:1800px){svg{font-size:14px;height:20px}th,td{font-size:16px;line-height:20px}body{font-size:18px}pre{font:16px/20px monospace;max-height:80px}}
 @media print{pre{max-height:none}.order th,.ruler{position:static}h2{break-before:page}}
 </style>
 <p id='top'>A row for each instruction, in minor cycles of 100 ns:
-<svg><rect class='FIRST' width='2em'/></svg>it can't issue (FIRST)
-<svg><rect class='SECOND' width='2em'/></svg>it waits for operands (SECOND)
-<svg><rect class='ADD' width='2em'/></svg>it works
-<svg><rect class='THIRD' width='2em'/></svg>its result is held (THIRD)
-<svg><rect class='ADD path' width='2em'/></svg>the end waits for it (PATH)
-<svg><rect class='taken' width='2em'/></svg>a unit is taken
+<span><svg><rect class='FIRST' width='2em'/></svg>it can't issue (FIRST)</span>
+<span><svg><rect class='SECOND' width='2em'/></svg>it waits for operands (SECOND)</span>
+<span><svg><rect class='ADD' width='2em'/></svg>it works</span>
+<span><svg><rect class='THIRD' width='2em'/></svg>its result is held (THIRD)</span>
+<span><svg><rect class='ADD path' width='2em'/></svg>the end waits for it (PATH)</span>
+<span><svg><rect class='taken' width='2em'/></svg>a unit is taken</span>
 </p>
 <table class='index'>
 <tr><th>BLOCK<th>LINE<th>COUNT<th>SOURCE<th>TIME<th>BOUND
