@@ -1,7 +1,7 @@
 -- To be believed: which commands have a text of a profile.
 use Rattle.std.specs.Prelude.{ℕ, List, Option, None, option_map}
 use Rattle.s66_command.specs.declared.command.Command.{Command}
-use Rattle.s66_command.specs.declared.command.Command.TheVariants.{Time, Deps, Chart, Why, Order, Prove, Check, Lint, Sum}
+use Rattle.s66_command.specs.declared.command.Command.TheVariants.{Time, Deps, Chart, Why, Page, Order, Prove, Check, Lint, Sum}
 
 -- the text of a profile that a command has, if any
 abbrev pub profile_text : Command → Option (List ℕ)
@@ -9,6 +9,7 @@ profile_text (Time cut trace profile) = option_map (λ text. text.now) profile
 profile_text (Deps cut) = None
 profile_text (Chart cut profile) = option_map (λ text. text.now) profile
 profile_text (Why cut profile) = option_map (λ text. text.now) profile
+profile_text (Page cut options profile) = option_map (λ text. text.now) profile
 profile_text (Order cut options trace profile) = option_map (λ text. text.now) profile
 profile_text (Prove cut options profile) = option_map (λ text. text.now) profile
 profile_text Check = None

@@ -1,7 +1,7 @@
--- To be believed: the command line, by clap's rules: the subcommands `time`, `deps`, `chart`, `why`, `order`, `prove`, `check`,
--- `lint` and `sum`, and a version. All but `check` and `lint` have the flag `--cut`. `time`, `chart`, `why`, `order`, `prove` and `sum` have
--- the option `--profile`, the last three also `--workers` and `--nodes`, and one at most of the flags `--dominate` and
--- `--dominate-tree`. `time`, `order` and `sum` have the flag `--trace`.
+-- To be believed: the command line, by clap's rules: the subcommands `time`, `deps`, `chart`, `why`, `page`, `order`, `prove`,
+-- `check`, `lint` and `sum`, and a version. All but `check` and `lint` have the flag `--cut`. `time`, `chart`, `why`, `page`, `order`,
+-- `prove` and `sum` have the option `--profile`, the last four also `--workers` and `--nodes`, and one at most of the flags
+-- `--dominate` and `--dominate-tree`. `time`, `order` and `sum` have the flag `--trace`.
 use Rattle.std.specs.Prelude.{◌≡◌, ◌≢◌, ◌⊎◌, ◌≤◌, ◌&&◌, if◌then◌else◌, ℕ, Bool, List, [], false, true, Option, None, Some, codes, option_and_then, pos}
 use Rattle.std.specs.Borrow.{Bor}
 use Rattle.std.specs.Option.{option_map, option_map_or}
@@ -22,7 +22,7 @@ use Rattle.s66_model.specs.declared.rule.Rule.{Rule as LeafRule}
 use Rattle.s66_model.specs.declared.rule.Rule.TheVariants.{NoneNamed, WrittenEarlier, ClampedStanding}
 use Rattle.s66_command.specs.declared.limits.TheConstants.{NODES_DEFAULT, WORKERS_DEFAULT}
 use Rattle.s66_command.specs.declared.command.Command.{Command}
-use Rattle.s66_command.specs.declared.command.Command.TheVariants.{Time, Deps, Chart, Why, Order, Prove, Check, Lint, Sum}
+use Rattle.s66_command.specs.declared.command.Command.TheVariants.{Time, Deps, Chart, Why, Page, Order, Prove, Check, Lint, Sum}
 use Rattle.s66_command.specs.declared.usage.Usage.{Usage}
 use Rattle.s66_command.specs.declared.usage.Usage.TheVariants.{Help, Bad, OutOfMemory}
 
@@ -78,6 +78,9 @@ search_app name =
     let counted = with_rule (with_rule (source_app name) workers_rule) nodes_rule in
     with_rule (with_rule (with_rule counted profile_rule) dominate_rule) dominate_tree_rule
 
+abbrev pub page_app : App
+page_app = search_app (codes "page")
+
 abbrev pub order_app : App
 order_app = with_rule (search_app (codes "order")) trace_rule
 
@@ -97,7 +100,7 @@ abbrev pub s66_app : App
 s66_app =
     let timing = with_subcommand (with_subcommand (new_app (codes "s66")) time_app.top) deps_app.top in
     let drawing = with_subcommand (with_subcommand timing chart_app.top) why_app.top in
-    let searching = with_subcommand (with_subcommand drawing order_app.top) prove_app.top in
+    let searching = with_subcommand (with_subcommand (with_subcommand drawing page_app.top) order_app.top) prove_app.top in
     let a = with_subcommand (with_subcommand (with_subcommand searching check_app.top) lint_app.top) sum_app.top in
     record a { top = record a.top { subcommand_required = true; has_version = true } }
 
@@ -171,6 +174,8 @@ Asks words (Time cut trace profile) =
 Asks words (Deps cut) = AsksFor words (codes "deps") × GivesFlag (codes "cut") words cut
 Asks words (Chart cut profile) = AsksFor words (codes "chart") × GivesFlag (codes "cut") words cut × GivesProfile words profile
 Asks words (Why cut profile) = AsksFor words (codes "why") × GivesFlag (codes "cut") words cut × GivesProfile words profile
+Asks words (Page cut options profile) =
+    AsksFor words (codes "page") × GivesFlag (codes "cut") words cut × GivesSearch words options × GivesProfile words profile
 Asks words (Order cut options trace profile) =
     AsksFor words (codes "order") × GivesFlag (codes "cut") words cut × GivesSearch words options × GivesFlag (codes "trace") words trace
     × GivesProfile words profile

@@ -31,6 +31,15 @@ pub enum Command<'a> {
         /// The text of the profile, if it isn't the standard one.
         profile: Option<&'a str>,
     },
+    /// A page that shows each block of a source, as it was written and in the best order that was found.
+    Page {
+        /// Whether lines that can't be read, and what a macro, a directive or a count covers, are left alone.
+        cut: bool,
+        /// How the orders of each block are searched.
+        options: Options,
+        /// The text of the profile, if it isn't the standard one.
+        profile: Option<&'a str>,
+    },
     /// Each block of a source in the best order that was found.
     Order {
         /// Whether lines that can't be read, and what a macro, a directive or a count covers, are left alone.
@@ -80,6 +89,7 @@ impl<'a> Command<'a> {
             Command::Time { profile, .. }
             | Command::Chart { profile, .. }
             | Command::Why { profile, .. }
+            | Command::Page { profile, .. }
             | Command::Order { profile, .. }
             | Command::Prove { profile, .. }
             | Command::Sum { profile, .. } => profile,

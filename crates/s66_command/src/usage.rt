@@ -2,7 +2,7 @@ ghost use Rattle.std.specs.Prelude.{◌≡◌, IfOk, IfErr, List, map};
 ghost use Rattle.clap.specs.Words.{Text, app_of, found_of, kind_of, new_app};
 ghost use Rattle.clap.specs.declared.error.kind.ErrorKind.TheVariants.{ArgumentConflict};
 ghost use Rattle.s66_command.specs.FoundOptions.{AreNodesFound, AreOptionsFound, AreWorkersFound};
-ghost use Rattle.s66_command.specs.Usage.{Asks, IsArgumentOf, IsCommandOf, IsUsageOf, Refuses, chart_app, check_app, deps_app, flag_rule, lint_app, nodes_rule, order_app, profile_rule, prove_app, rule_unless_both, s66_app, search_app, source_app, sum_app, time_app, why_app, workers_rule};
+ghost use Rattle.s66_command.specs.Usage.{Asks, IsArgumentOf, IsCommandOf, IsUsageOf, Refuses, chart_app, check_app, deps_app, flag_rule, lint_app, nodes_rule, order_app, page_app, profile_rule, prove_app, rule_unless_both, s66_app, search_app, source_app, sum_app, time_app, why_app, workers_rule};
 ghost use Rattle.s66_command.specs.declared.usage.Usage.TheVariants.{OutOfMemory};
 
 use crate::command::Command as Asked;
@@ -89,6 +89,12 @@ const DEPS_ENDING: &str = help_ending!("s66 deps < SOURCE", "the source was refu
 const CHART_ENDING: &str = help_ending!("s66 chart < SOURCE");
 
 const WHY_ENDING: &str = help_ending!("s66 why < SOURCE");
+
+const PAGE_ENDING: &str = help_ending!(
+    "s66 page --dominate-tree < SOURCE > page.html",
+    "the source or the profile was refused",
+    ", 7 some block is only bounded"
+);
 
 const ORDER_ENDING: &str = help_ending!(
     "s66 order --nodes 1000 < SOURCE",
@@ -299,6 +305,19 @@ fn search_command<'a>(
         .arg(flag(alloc, "dominate-tree", DOMINATE_TREE_HELP))
 }
 
+/// The subcommand `page`.
+fn page_command<'a>(alloc: Global) -> Result<Command<'a>, AllocError>
+    ensures { IfOk result (IsCommandOf page_app) }
+{
+    search_command(
+        alloc,
+        "page",
+        "Writes a page for a browser: each block as it was written, and in the best order that was found",
+        "s66 page [OPTIONS] < SOURCE > PAGE",
+        PAGE_ENDING,
+    )
+}
+
 /// The subcommand `order`.
 fn order_command<'a>(alloc: Global) -> Result<Command<'a>, AllocError>
     ensures { IfOk result (IsCommandOf order_app) }
@@ -385,6 +404,7 @@ fn program<'a>(alloc: Global) -> Result<Command<'a>, AllocError>
         .subcommand(deps_command(alloc)?)?
         .subcommand(chart_command(alloc)?)?
         .subcommand(why_command(alloc)?)?
+        .subcommand(page_command(alloc)?)?
         .subcommand(order_command(alloc)?)?
         .subcommand(prove_command(alloc)?)?
         .subcommand(check_command(alloc))?
@@ -500,6 +520,16 @@ pub fn command_of<'a, S: AsStr>(alloc: Global, words: &'a [S]) -> Result<Asked<'
                 options,
                 trace: sum.get_flag("trace"),
                 profile: sum.get_str("profile"),
+            })
+        }
+        Some(("page", page)) => {
+            let Some(options) = options_in(page) else {
+                return Err(both_given(alloc, page_command(alloc)?));
+            };
+            Ok(Asked::Page {
+                cut: page.get_flag("cut"),
+                options,
+                profile: page.get_str("profile"),
             })
         }
         _ => unreachable!(),

@@ -22,7 +22,8 @@ unreachable-requires g c =
             | inr (inr (inr (inr (inr (inr (inl e)))))) ↦ search rules
             | inr (inr (inr (inr (inr (inr (inr (inl e))))))) ↦ search rules
             | inr (inr (inr (inr (inr (inr (inr (inr (inl e)))))))) ↦ search rules
-            | inr (inr (inr (inr (inr (inr (inr (inr (inr none)))))))) ↦ none
+            | inr (inr (inr (inr (inr (inr (inr (inr (inr (inl e))))))))) ↦ search rules
+            | inr (inr (inr (inr (inr (inr (inr (inr (inr (inr none))))))))) ↦ none
           ]
       | in_default-via-in_default w ↦ name-known m words _ is (ap (option_map (λ p. p.0.now)) (sym w.in_default.is) ∙ c.subcommand.ensures.name)
     ]
@@ -171,3 +172,27 @@ returns-in_default-options_in-3-clause-err g c =
     let found = found_of c.in-Some-sum-default.sum.now in
     let here = matched m words found _ is asks.1 refl c.in-Some-sum-default.ensures.rows in
     refused-both c.both_given-in_default-options_in-3.result words asks.0 (both-of words found _ here sum-options c.in_default-options_in-3.ensures) c.both_given-in_default-options_in-3.ensures
+
+pub returns-in-Some-page-default-clause-ok : goal.returns-in-Some-page-default-clause-ok
+returns-in-Some-page-default-clause-ok g c =
+    let words = map g.S.AsStr.text c.args.words.now in
+    let m = c.in-Ok.matches in
+    let is = taken m (app_of c.in_ok-program.field-0) words c.in_ok-program.ensures c.in-Ok.ensures.kinds c.in-Ok.ensures.matches in
+    let asks = asks-for m words c.in-Some-page-default.field-0-0.now (codes "page") is c.in-Some-page-default.ensures.name c.in-Some-page-default.is-page in
+    let found = found_of c.in-Some-page-default.page.now in
+    let here = matched m words found _ is asks.1 refl c.in-Some-page-default.ensures.rows in (
+      asks,
+      flag-of words found c.get_flag-in-Some-page-default.result _ (codes "cut") here ((inl refl, (inr refl, (inr refl, (inr refl, (inr refl, (inr refl, (inr refl, tt))))))), refl) (c.get_flag-in-Some-page-default.ensures.value, c.get_flag-in-Some-page-default.ensures.other),
+      search-of words found c.in-Some-options_in-3.options _ here prove-options c.in-Some-options_in-3.ensures,
+      profile-of words found _ c.get_str-in-Some-page-default.result here c.get_str-in-Some-page-default.ensures,
+    )
+
+pub returns-in_default-options_in-4-clause-err : goal.returns-in_default-options_in-4-clause-err
+returns-in_default-options_in-4-clause-err g c =
+    let words = map g.S.AsStr.text c.args.words.now in
+    let m = c.in-Ok.matches in
+    let is = taken m (app_of c.in_ok-program.field-0) words c.in_ok-program.ensures c.in-Ok.ensures.kinds c.in-Ok.ensures.matches in
+    let asks = asks-for m words c.in-Some-page-default.field-0-0.now (codes "page") is c.in-Some-page-default.ensures.name c.in-Some-page-default.is-page in
+    let found = found_of c.in-Some-page-default.page.now in
+    let here = matched m words found _ is asks.1 refl c.in-Some-page-default.ensures.rows in
+    refused-both c.both_given-in_default-options_in-4.result words asks.0 (both-of words found _ here prove-options c.in_default-options_in-4.ensures) c.both_given-in_default-options_in-4.ensures

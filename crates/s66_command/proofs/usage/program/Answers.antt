@@ -12,8 +12,9 @@ returns c =
     let with-deps = with-subcommand _ _ _ _ _ with-time c.in_ok-deps_command.ensures c.in_ok-subcommand-2.ensures in
     let with-chart = with-subcommand _ _ _ _ _ with-deps c.in_ok-chart_command.ensures c.in_ok-subcommand-3.ensures in
     let with-why = with-subcommand _ _ _ _ _ with-chart c.in_ok-why_command.ensures c.in_ok-subcommand-4.ensures in
-    let with-order = with-subcommand _ _ _ _ _ with-why c.in_ok-order_command.ensures c.in_ok-subcommand-5.ensures in
-    let with-prove = with-subcommand _ _ _ _ _ with-order c.in_ok-prove_command.ensures c.in_ok-subcommand-6.ensures in
-    let with-check = with-subcommand _ _ _ _ _ with-prove c.check_command.ensures c.in_ok-subcommand-7.ensures in
-    let with-lint = with-subcommand _ _ _ _ _ with-check c.lint_command.ensures c.in_ok-subcommand-8.ensures in
-    IfOk-weaker c.subcommand-9.result _ _ (λ r adds. (with-subcommand _ _ _ _ _ with-lint c.in_ok-sum_command.ensures adds).0) c.subcommand-9.ensures
+    let with-page = with-subcommand _ _ _ _ _ with-why c.in_ok-page_command.ensures c.in_ok-subcommand-5.ensures in
+    let with-order = with-subcommand _ _ _ _ _ with-page c.in_ok-order_command.ensures c.in_ok-subcommand-6.ensures in
+    let with-prove = with-subcommand _ _ _ _ _ with-order c.in_ok-prove_command.ensures c.in_ok-subcommand-7.ensures in
+    let with-check = with-subcommand _ _ _ _ _ with-prove c.check_command.ensures c.in_ok-subcommand-8.ensures in
+    let with-lint = with-subcommand _ _ _ _ _ with-check c.lint_command.ensures c.in_ok-subcommand-9.ensures in
+    IfOk-weaker c.subcommand-10.result _ _ (λ r adds. (with-subcommand _ _ _ _ _ with-lint c.in_ok-sum_command.ensures adds).0) c.subcommand-10.ensures
