@@ -2,8 +2,8 @@
 use Rattle.std.proofs.Common.{List}
 use Rattle.s66_model.specs.declared.options.Options.{Options}
 use Rattle.s66_command.specs.declared.command.Command.{Command}
-use Rattle.s66_command.specs.declared.command.Command.TheVariants.{Time, Deps, Chart, Why, Order, Prove, Check, Lint, Sum}
-use Rattle.s66_program.specs.Output.{IsSearchWithin, IsWithinLimits}
+use Rattle.s66_command.specs.declared.command.Command.TheVariants.{Time, Deps, Chart, Why, Page, Order, Prove, Check, Lint, Sum}
+use Rattle.s66_program.specs.Output.{IsSearchWithin, IsWithin}
 use Rattle.s66_command.specs.Usage.{Asks, GivesSearch, Text}
 
 search-within : (words : List Text) (options : Options) → GivesSearch words options → IsSearchWithin options.workers options.nodes
@@ -14,6 +14,7 @@ asked-within words (Time cut trace profile) h = tt
 asked-within words (Deps cut) h = tt
 asked-within words (Chart cut profile) h = tt
 asked-within words (Why cut profile) h = tt
+asked-within words (Page cut options profile) h = search-within words options h.2
 asked-within words (Order cut options trace profile) h = search-within words options h.2
 asked-within words (Prove cut options profile) h = search-within words options h.2
 asked-within words Check h = tt

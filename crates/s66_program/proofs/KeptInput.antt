@@ -6,7 +6,7 @@ use Rattle.s66_line.specs.Block.{Block}
 use Rattle.s66_source.specs.Source.{source_of}
 use Rattle.s66_source.specs.declared.error.SourceError.{SourceError}
 use Rattle.s66_command.specs.declared.command.Command.{Command}
-use Rattle.s66_command.specs.declared.command.Command.TheVariants.{Time, Deps, Chart, Why, Order, Prove, Check, Lint, Sum}
+use Rattle.s66_command.specs.declared.command.Command.TheVariants.{Time, Deps, Chart, Why, Page, Order, Prove, Check, Lint, Sum}
 use Rattle.s66_program.specs.declared.limits.TheConstants.{SOURCE_FRONT}
 use Rattle.s66_program.specs.declared.outcome.Fault.{Fault}
 use Rattle.s66_program.specs.declared.outcome.Fault.TheVariants as fault
@@ -36,6 +36,7 @@ accepted p (Time cut trace profile) input text status reads ((blocks, ok, is), d
 accepted p (Deps cut) input text status reads ((blocks, ok, is), done) = (blocks, ok)
 accepted p (Chart cut profile) input text status reads ((blocks, ok, is), done) = (blocks, ok)
 accepted p (Why cut profile) input text status reads ((blocks, ok, is), done) = (blocks, ok)
+accepted p (Page cut options profile) input text status reads (blocks, ok, is) = (blocks, ok)
 accepted p (Order cut options trace profile) input text status reads (blocks, ok, is) = (blocks, ok)
 accepted p (Prove cut options profile) input text status reads (blocks, ok, is) = (blocks, ok)
 accepted p Check input text status reads is = absurd (cc)
@@ -61,6 +62,7 @@ no-documents (Time cut trace profile) source documents = cc
 no-documents (Deps cut) source documents = cc
 no-documents (Chart cut profile) source documents = cc
 no-documents (Why cut profile) source documents = cc
+no-documents (Page cut options profile) source documents = cc
 no-documents (Order cut options trace profile) source documents = cc
 no-documents (Prove cut options profile) source documents = cc
 no-documents Check source documents = cc

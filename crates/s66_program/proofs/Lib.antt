@@ -5,12 +5,13 @@ pub mod Asked
 pub mod BlockTexts
 pub mod CheckedAnswers
 pub mod Dependences
+pub mod FoundAnswers
 pub mod Fronts
+pub mod InTurn
 pub mod KeptInput
 pub mod OrderedAgain
 pub mod Pieces
 pub mod PlacedAnswers
-pub mod ProvedAnswers
 pub mod RefusedInput
 pub mod SumRows
 pub mod Told

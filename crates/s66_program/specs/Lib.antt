@@ -5,6 +5,7 @@ pub mod DepsText
 pub mod ChartText
 pub mod WhyText
 pub mod OrderText
+pub mod PageText
 pub mod ProveText
 pub mod CheckText
 pub mod LintText
@@ -13,6 +14,7 @@ pub mod SumRows
 pub mod OrderedAgain
 pub mod CheckedAnswers
 pub mod PlacedAnswers
+pub mod FoundAnswers
 pub mod ProvedAnswers
 pub mod Output
 pub mod Device

@@ -9,7 +9,7 @@ use Rattle.s66_source.specs.Source.{source_of}
 use Rattle.s66_model.specs.declared.limits.TheConstants.{WORKERS_LIMIT}
 use Rattle.s66_profile.specs.ProfileText.{profile_in_text}
 use Rattle.s66_command.specs.declared.command.Command.{Command}
-use Rattle.s66_command.specs.declared.command.Command.TheVariants.{Time, Deps, Chart, Why, Order, Prove, Check, Lint, Sum}
+use Rattle.s66_command.specs.declared.command.Command.TheVariants.{Time, Deps, Chart, Why, Page, Order, Prove, Check, Lint, Sum}
 use Rattle.s66_command.specs.Profile.{profile_text}
 use Rattle.s66_program.specs.declared.outcome.Status.{Status}
 use Rattle.s66_program.specs.declared.outcome.Status.TheVariants.{Done}
@@ -20,6 +20,7 @@ use Rattle.s66_program.specs.DepsText.{deps_lines}
 use Rattle.s66_program.specs.ChartText.{chart_lines}
 use Rattle.s66_program.specs.WhyText.{why_lines}
 use Rattle.s66_program.specs.OrderText.{IsOrderOutput}
+use Rattle.s66_program.specs.PageText.{IsPageOutput}
 use Rattle.s66_program.specs.ProveText.{IsProveOutput}
 use Rattle.s66_program.specs.CheckText.{IsCheckOutput}
 use Rattle.s66_program.specs.LintText.{IsLintOutput}
@@ -30,16 +31,17 @@ abbrev pub IsSearchWithin : (workers nodes : ℕ) → Type 0
 IsSearchWithin workers nodes = (1 ≤ workers) × (workers ≤ WORKERS_LIMIT) × (nodes ≤ BUDGET_LIMIT)
 
 -- the numbers of a command are within their limits
-abbrev pub IsWithinLimits : Command → Type 0
-IsWithinLimits (Time cut trace profile) = Unit {0}
-IsWithinLimits (Deps cut) = Unit {0}
-IsWithinLimits (Chart cut profile) = Unit {0}
-IsWithinLimits (Why cut profile) = Unit {0}
-IsWithinLimits (Order cut options trace profile) = IsSearchWithin options.workers options.nodes
-IsWithinLimits (Prove cut options profile) = IsSearchWithin options.workers options.nodes
-IsWithinLimits Check = Unit {0}
-IsWithinLimits Lint = Unit {0}
-IsWithinLimits (Sum cut options trace profile) = IsSearchWithin options.workers options.nodes
+abbrev pub IsWithin : Command → Type 0
+IsWithin (Time cut trace profile) = Unit {0}
+IsWithin (Deps cut) = Unit {0}
+IsWithin (Chart cut profile) = Unit {0}
+IsWithin (Why cut profile) = Unit {0}
+IsWithin (Page cut options profile) = IsSearchWithin options.workers options.nodes
+IsWithin (Order cut options trace profile) = IsSearchWithin options.workers options.nodes
+IsWithin (Prove cut options profile) = IsSearchWithin options.workers options.nodes
+IsWithin Check = Unit {0}
+IsWithin Lint = Unit {0}
+IsWithin (Sum cut options trace profile) = IsSearchWithin options.workers options.nodes
 
 -- PROFILES
 
@@ -78,6 +80,7 @@ is_cut (Time cut trace profile) = cut
 is_cut (Deps cut) = cut
 is_cut (Chart cut profile) = cut
 is_cut (Why cut profile) = cut
+is_cut (Page cut options profile) = cut
 is_cut (Order cut options trace profile) = cut
 is_cut (Prove cut options profile) = cut
 is_cut (Sum cut options trace profile) = cut
@@ -93,6 +96,7 @@ IsOutput p (Time cut trace profile) input text status = IsListing p (listing.Tim
 IsOutput p (Deps cut) input text status = IsListing p listing.Dependences (record { cut = cut; text = input }) text × (status ≡ Done)
 IsOutput p (Chart cut profile) input text status = IsListing p listing.Chart (record { cut = cut; text = input }) text × (status ≡ Done)
 IsOutput p (Why cut profile) input text status = IsListing p listing.Why (record { cut = cut; text = input }) text × (status ≡ Done)
+IsOutput p (Page cut options profile) input text status = IsPageOutput options.rule p options.nodes (record { cut = cut; text = input }) text status
 IsOutput p (Order cut options trace profile) input text status = IsOrderOutput options.rule p options.nodes trace (record { cut = cut; text = input }) text status
 IsOutput p (Prove cut options profile) input text status = IsProveOutput options.rule p options.nodes (record { cut = cut; text = input }) text status
 IsOutput p Check input text status = IsCheckOutput input text status
@@ -105,6 +109,7 @@ reads_source (Time cut trace profile) = true
 reads_source (Deps cut) = true
 reads_source (Chart cut profile) = true
 reads_source (Why cut profile) = true
+reads_source (Page cut options profile) = true
 reads_source (Order cut options trace profile) = true
 reads_source (Prove cut options profile) = true
 reads_source Check = false

@@ -13,6 +13,7 @@ mod observer;
 mod order_text;
 mod outcome;
 mod output;
+mod page_text;
 mod program;
 mod progress;
 mod prove_text;

@@ -60,6 +60,17 @@ pub(crate) fn search_all<R: AllocGlobal + Threads + Wait + Sync, O: Observer>(
     Ok(found)
 }
 
+/// Done if all orders are best.
+pub(crate) fn status_by(all_best: bool) -> Status
+    ensures { result ≡ (if all_best then Done else Bounded) }
+{
+    if all_best {
+        Status::Done
+    } else {
+        Status::Bounded
+    }
+}
+
 /// Done if each order is best.
 pub(crate) fn status_of(found: &[Placed]) -> Status
     ensures { result ≡ (if tell_best found.now then Done else Bounded) }

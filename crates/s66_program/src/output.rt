@@ -10,6 +10,7 @@ use crate::lint_text::lint_output;
 use crate::observer::Observer;
 use crate::order_text::order_output;
 use crate::outcome::{Fault, Output, Status};
+use crate::page_text::page_output;
 use crate::prove_text::prove_output;
 use crate::sum_text::sum_output;
 use crate::time_text::push_time_lines;
@@ -136,6 +137,15 @@ pub fn output_for<R: AllocGlobal + Threads + Wait + Sync, O: Observer>(
                 profile,
                 &listing,
                 &read_source_with(alloc, cut, input)?,
+            )?
+        }
+        Command::Page { cut, options, .. } => {
+            page_output(
+                rt,
+                &read_source_with(alloc, cut, input)?,
+                profile,
+                options,
+                observer,
             )?
         }
         Command::Order {

@@ -7,7 +7,8 @@ ghost use Rattle.s66_program.specs.ProvedAnswers.{AreProved, IsProved};
 
 use crate::documents::document_of;
 use crate::observer::Observer;
-use crate::outcome::{Output, Status};
+use crate::order_text::status_by;
+use crate::outcome::Output;
 use s66_cert::{Document, print};
 use s66_device::OverWrite;
 use s66_isa::Profile;
@@ -69,12 +70,10 @@ fn prove_all<R: AllocGlobal + Threads + Wait + Sync, O: Observer>(
         let best = push_proof(rt, &mut text, block, profile, options)?;
         all_best = all_best && best;
     }
-    let status = if all_best {
-        Status::Done
-    } else {
-        Status::Bounded
-    };
-    Ok(Output { text, status })
+    Ok(Output {
+        text,
+        status: status_by(all_best),
+    })
 }
 
 /// A document for each block of a source, of the answer that a search finds under a profile.

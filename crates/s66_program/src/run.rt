@@ -46,6 +46,7 @@ fn most_kept(command: Command) -> Option<usize>
         | Command::Deps { .. }
         | Command::Chart { .. }
         | Command::Why { .. }
+        | Command::Page { .. }
         | Command::Order { .. }
         | Command::Prove { .. }
         | Command::Sum { .. } => Some(SOURCE_FRONT),

@@ -1,5 +1,6 @@
-use Rattle.s66_program.proofs.ProvedAnswers.{GoesOnAt}
+use Rattle.s66_program.proofs.InTurn.{GoesOnAt, document_part, documents}
 use Rattle.s66_program.proofs.prove_text.prove_all.Given as goal
 
 abbrev pub invariant-loop-done : goal.invariant-loop-done
-invariant-loop-done g l = GoesOnAt l.options.rule l.profile l.options.nodes l.blocks l.done l.text.items l.all_best
+invariant-loop-done g l =
+    GoesOnAt (document_part l.options.rule l.profile) (documents l.options.rule l.profile) l.options.rule l.profile l.options.nodes 0 l.blocks l.done l.text.items l.all_best

@@ -1,0 +1,26 @@
+-- To be believed: what `page` writes for a source, and how it ends: a page that shows each block in its source order and by an answer of a search of its orders.
+use Rattle.std.specs.Prelude.{ℕ, ◌≡◌, List, [], ◌∷◌, Ok}
+use Rattle.s66_isa.specs.declared.profile.Profile.{Profile}
+use Rattle.s66_line.specs.Block.{instrs_of, Block}
+use Rattle.s66_source.specs.LeftAlone.{Reading}
+use Rattle.s66_source.specs.Source.{source_of}
+use Rattle.s66_model.specs.declared.rule.Rule.{Rule}
+use Rattle.s66_model.specs.Answer.{Answer}
+use Rattle.s66_page.specs.Found.{Found}
+use Rattle.s66_page.specs.Page.{page_text}
+use Rattle.s66_program.specs.declared.outcome.Status.{Status}
+use Rattle.s66_program.specs.OrderText.{AreAnswers, status_of}
+
+-- what a page shows of an answer to a block: its order and its bound
+abbrev pub found_by : Block → Answer → Found
+found_by block a = record { order = record { block = instrs_of block; numbers = a.order }; bound = a.bound }
+
+abbrev pub all_found : List Block → List Answer → List Found
+all_found (block ∷ blocks) (a ∷ answers) = found_by block a ∷ all_found blocks answers
+all_found blocks answers = []
+
+-- for some answers, the page of all blocks by them, and their status
+abbrev pub IsPageOutput : Rule → Profile → (nodes : ℕ) (source : Reading) (text : List ℕ) → Status → Type 0
+IsPageOutput rule p nodes source text status =
+    (blocks : List Block) × (source_of source ≡ Ok blocks)
+    × ((answers : List Answer) × AreAnswers rule p nodes blocks answers × (text ≡ page_text p 0 blocks (all_found blocks answers)) × (status ≡ status_of answers))

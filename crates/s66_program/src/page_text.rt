@@ -1,0 +1,90 @@
+ghost use Rattle.std.specs.Prelude.{◌≡◌, IfOk};
+ghost use Rattle.s66_program.specs.FoundAnswers.{AreFound, IsFound};
+ghost use Rattle.s66_program.specs.Output.{IsSearchWithin};
+ghost use Rattle.s66_program.specs.PageText.{IsPageOutput};
+
+use crate::observer::Observer;
+use crate::order_text::status_by;
+use crate::outcome::{Output, Status};
+use s66_isa::Profile;
+use s66_line::Block;
+use s66_model::Options;
+use s66_page::{Found, push_page};
+use s66_pool::{Free, run};
+use s66_source::Source;
+use s66_time::Timer;
+use std::alloc::AllocError;
+use std::sync::Wait;
+use std::thread::Threads;
+
+/// What searches find for all blocks, and how they ended.
+#[derive(Debug, Drop)]
+struct AllFound {
+    found: Vec<Found>,
+    status: Status,
+}
+
+/// Appends what a search of a block's orders under a profile finds. Returns whether its order is best.
+fn push_found<R: AllocGlobal + Threads + Wait + Sync>(
+    rt: &R,
+    found: &mut Vec<Found>,
+    block: &Block,
+    profile: &Profile,
+    options: Options,
+) -> Result<bool, AllocError>
+    requires { IsSearchWithin options.workers options.nodes }
+    ensures { IfOk result (λ best. IsFound options.rule profile.now options.nodes block.now found.old.items found.new.items best) }
+{
+    let answer = run(rt, block, profile, options, &Free)?;
+    found.push(Found {
+        order: answer.order().duplicate(),
+        bound: answer.bound(),
+    })?;
+    Ok(answer.is_best())
+}
+
+/// Searches the orders of each block.
+fn find_all<R: AllocGlobal + Threads + Wait + Sync, O: Observer>(
+    rt: &R,
+    blocks: &[Block],
+    profile: &Profile,
+    options: Options,
+    observer: &mut O,
+) -> Result<AllFound, AllocError>
+    requires { IsSearchWithin options.workers options.nodes }
+    ensures { IfOk result (λ all. AreFound options.rule profile.now options.nodes blocks.now all.found.items all.status) }
+{
+    let mut found = Vec::new(rt.alloc());
+    let mut all_best = true;
+    for (done, block) in blocks.iter().enumerate() {
+        observer.done(done, blocks.len());
+        let best = push_found(rt, &mut found, block, profile, options)?;
+        all_best = all_best && best;
+    }
+    Ok(AllFound {
+        found,
+        status: status_by(all_best),
+    })
+}
+
+/// A page that shows each block of a source as it was written, and in the best order that a search finds under a profile.
+pub fn page_output<R: AllocGlobal + Threads + Wait + Sync, O: Observer>(
+    rt: &R,
+    source: &Source,
+    profile: &Profile,
+    options: Options,
+    observer: &mut O,
+) -> Result<Output, AllocError>
+    requires { IsSearchWithin options.workers options.nodes }
+    ensures { IfOk result (λ output. IsPageOutput options.rule profile.now options.nodes source.now output.text.items output.status) }
+{
+    let blocks = source.blocks();
+    let all = find_all(rt, blocks, profile, options, observer)?;
+    let mut timer = Timer::new(profile);
+    let mut text = Vec::new(rt.alloc());
+    push_page(&mut text, &mut timer, 0, blocks, all.found.as_slice())?;
+    Ok(Output {
+        text,
+        status: all.status,
+    })
+}
