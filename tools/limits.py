@@ -24,7 +24,7 @@ import tempfile
 SEVEN = "".join(f"  FX{i} X7*X7\n" for i in range(7))  # 8,660 splits, all of which any search takes, and one best time: workers start
 SOURCE = f"LOOP   SA1 A1+B1\n  BX6 X1\n  ZR X1,LOOP\n{SEVEN}".encode()
 LONG = b"  SA1 A1+B1\n" * 20000
-SEARCHES = [["order", "--trace"], ["order", "--dominate-tree"], ["prove"], ["sum"]]
+SEARCHES = [["order", "--trace"], ["order", "--dominate-tree"], ["prove"], ["sum"], ["page"]]
 USER = 65_520 + os.getpid() % 14  # one of the numbers that systems leave unused
 UNREAD = (6, b"", b"READ FAILED\n")
 UNWRITTEN = (6, b"", b"WRITE FAILED\n")
@@ -120,10 +120,10 @@ def check_devices(checks, program):
     silent, speaker = os.pipe()
     os.set_blocking(silent, False)
     bad = b"  SA1 *\n"
-    for word in ("time", "chart", "lint", "order", "prove", "sum", "check"):
+    for word in ("time", "chart", "page", "lint", "order", "prove", "sum", "check"):
         for name, file in (("closed", None), ("a folder", folder), ("a pipe that says nothing yet", silent)):
             checks.look(f"{word}: input is {name}", "", with_files(program, [word], b"", {0: file}), UNREAD)
-    for word in ("time", "deps", "chart", "order", "prove", "sum", "--help"):
+    for word in ("time", "deps", "chart", "page", "order", "prove", "sum", "--help"):
         for name, file in (("closed", None), ("full", full), ("a pipe without a reader", before)):
             for given in (SOURCE, LONG) if word == "chart" else (SOURCE,):
                 checks.look(f"{word}: output is {name}", "", with_files(program, [word], given, {1: file}), UNWRITTEN)

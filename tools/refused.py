@@ -49,7 +49,7 @@ ALIKE = "  SB0 B1\n" * 5
 
 def searches():
     """The rows of the subcommands that search."""
-    for words in (["order", "--trace"], ["order", "--trace", "--dominate"], ["order", "--dominate-tree"], ["sum"],
+    for words in (["order", "--trace"], ["order", "--trace", "--dominate"], ["order", "--dominate-tree"], ["sum"], ["page"],
                   ["prove"], ["prove", "--dominate"], ["prove", "--dominate-tree"]):
         yield [*words, "--workers", "1"], SOURCE, {0}
         yield [*words, "--workers", "2"], FIVE, {0}

@@ -3,8 +3,8 @@
 
     tools/test_rows.py PROGRAM
 
-The rows are the tables of s66_test_program: ROWS of each file of src/rows/, BAD of src/rows/profile.rt, REPEATED and ORDERED of
-src/rows.rt. Each row that ends otherwise than it says is printed. The status is 1 if there is one.
+The rows are the tables of s66_test_program: ROWS of each file of src/rows/, BAD of src/rows/profile.rt, ENDS of src/rows/page.rt,
+REPEATED and ORDERED of src/rows.rt. Each row that ends otherwise than it says is printed. The status is 1 if there is one.
 """
 import glob
 import os
@@ -42,7 +42,7 @@ def constants_of(path, known):
 def bad_profiles(table, shared):
     """The rows of a table BAD: what is refused by each subcommand, whatever the source is."""
     for text, told in table:
-        for word in "time", "chart", "why", "order", "prove", "sum":
+        for word in "time", "chart", "why", "page", "order", "prove", "sum":
             for given in shared["ONE_LOAD"], "  SA1 *+2\n":
                 yield text, ["s66", word, "--profile", text], given, 3, told
 
@@ -51,7 +51,7 @@ def rows_of(shared):
     """All rows: name, words, input, status and text."""
     for path in sorted(glob.glob(os.path.join(SOURCES, "rows/*.rt"))):
         tables = constants_of(path, shared)
-        yield from tables["ROWS"]
+        yield from tables.get("ROWS", [])
         yield from bad_profiles(tables.get("BAD", []), shared)
     for name, words, piece, times, status, text in shared["REPEATED"]:
         yield name, words, piece * times, status, text
@@ -78,6 +78,13 @@ def order_fault(program, shared, name, given, begin, end, timed):
     return row_fault(program, name, shared["TIME"], output.decode(), 0, timed)
 
 
+def page_fault(program, name, words, given, status, ends):
+    """What a page ends in otherwise than its row says, or nothing."""
+    seen = run(program, words, given.encode())
+    is_right = (seen[0], seen[2]) == (status, b"") and seen[1].startswith(b"<!DOCTYPE html>\n") and seen[1].endswith(ends.encode())
+    return "" if is_right else f"{name}: {' '.join(words)}: {seen}, and not {(status, ends)}"
+
+
 def main(arguments):
     if len(arguments) != 1 or arguments[0].startswith("-"):
         print(__doc__.strip())
@@ -86,6 +93,7 @@ def main(arguments):
     shared = constants_of(os.path.join(SOURCES, "running.rt"), {})
     shared.update(constants_of(os.path.join(SOURCES, "rows.rt"), shared))
     faults = [row_fault(program, *row) for row in rows_of(shared)]
+    faults += [page_fault(program, *row) for row in constants_of(os.path.join(SOURCES, "rows/page.rt"), shared)["ENDS"]]
     faults += [order_fault(program, shared, *row) for row in shared["ORDERED"]]
     wrong = list(filter(None, faults))
     print("".join(f"wrong: {fault}\n" for fault in wrong), end="")

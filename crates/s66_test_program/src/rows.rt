@@ -9,6 +9,7 @@ mod deps;
 mod left_alone;
 mod lint;
 mod order;
+mod page;
 mod profile;
 mod sum;
 mod time;
@@ -157,7 +158,7 @@ fn runs_rows(rt: HostRuntime) {
 #[test]
 fn refuses_bad_profiles(rt: HostRuntime) {
     for &(text, stated) in profile::BAD {
-        for command in ["time", "chart", "why", "order", "prove", "sum"] {
+        for command in ["time", "chart", "why", "page", "order", "prove", "sum"] {
             let words = ["s66", command, "--profile", text];
             for input in [ONE_LOAD, "  SA1 *+2\n"] {
                 check(&rt, text, &words, input.as_bytes(), 3, stated);
@@ -177,6 +178,19 @@ fn orders_rows(rt: HostRuntime) {
             "{name}: {written:?}"
         );
         check(&rt, name, TIME, written, 0, time);
+    }
+}
+
+#[test]
+fn shows_pages(rt: HostRuntime) {
+    for &(name, words, input, status, ends) in page::ENDS {
+        let ran = run(&rt, words, input.as_bytes());
+        let written = ran.written.as_slice();
+        assert!(rt; ran.status == status && ran.stated.is_empty(), "{name}");
+        assert!(rt;
+            written.starts_with(b"<!DOCTYPE html>\n") && written.ends_with(ends.as_bytes()),
+            "{name}: {written:?}"
+        );
     }
 }
 

@@ -17,6 +17,8 @@ pub(crate) const CHART: &[&str] = &["s66", "chart"];
 
 pub(crate) const WHY: &[&str] = &["s66", "why"];
 
+pub(crate) const PAGE: &[&str] = &["s66", "page", "--workers", "1"];
+
 pub(crate) const CHECK: &[&str] = &["s66", "check"];
 
 pub(crate) const LINT: &[&str] = &["s66", "lint"];

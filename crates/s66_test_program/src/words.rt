@@ -25,6 +25,8 @@ const NO_COMMANDS: &[(&[&str], u8)] = &[
     (&["s66", "deps", "chart"], 2),
     (&["s66", "chart", "--trace"], 2),
     (&["s66", "why", "--trace"], 2),
+    (&["s66", "page", "--trace"], 2),
+    (&["s66", "page", "--dominate", "--dominate-tree"], 2),
     (&["s66", "order", "--workers", "0"], 2),
     (&["s66", "order", "--workers", "17"], 2),
     (&["s66", "order", "--nodes"], 2),
@@ -50,6 +52,7 @@ const NO_COMMANDS: &[(&[&str], u8)] = &[
     (&["s66", "deps", "--help"], 0),
     (&["s66", "chart", "--help"], 0),
     (&["s66", "why", "--help"], 0),
+    (&["s66", "page", "--help"], 0),
     (&["s66", "order", "--help"], 0),
     (&["s66", "prove", "--help"], 0),
     (&["s66", "check", "--help"], 0),
@@ -105,6 +108,18 @@ const COMMANDS: &[(&[&str], Command)] = &[
         Command::Why {
             cut: true,
             profile: Some("{}"),
+        },
+    ),
+    (
+        &["s66", "page", "--cut", "--nodes=7", "--dominate-tree"],
+        Command::Page {
+            cut: true,
+            options: Options {
+                workers: 4,
+                nodes: 7,
+                rule: Rule::ClampedStanding,
+            },
+            profile: None,
         },
     ),
     (
