@@ -1,2 +1,4 @@
 pub mod Chart
 pub mod Runs
+pub mod TextChart
+pub mod Examples

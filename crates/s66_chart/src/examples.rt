@@ -6,6 +6,8 @@ ghost use Rattle.s66_isa.specs.declared.instr.Instr.{Instr};
 ghost use Rattle.s66_isa.specs.Table.{instr};
 ghost use Rattle.s66_model.specs.Examples.{standard_problem, one_load, packing_gap, third_order, held_load};
 ghost use Rattle.s66_chart.specs.Chart.{chart_text};
+ghost use Rattle.s66_chart.specs.Examples.{packing_gap_lines};
+ghost use Rattle.s66_chart.specs.TextChart.{text_chart};
 
 /// Each block in the order in which it is written: an instruction that waits for a load; a `NO`, also after an instruction of two
 /// parcels; a result that waits for readers and holds its unit; a loaded one that waits and holds no unit; and an instruction
@@ -36,4 +38,16 @@ pub fn chart_examples()
         codes "  2 .IWWWWWWWWWWWWWWWWWWWWWWWWWWW===.\n" ++
         codes "  3 ..I=======HHHHHHHHHHHHHHHHHHHH...\n" }
     ensures only_b0 { chart_text (record { problem = standard_problem (instr 0o61 0 0 0 ∷ []); numbers = 1 ∷ [] }) ≡ codes "  1 I==.\n" }
+{}
+
+/// A block of five parcels with its texts: in upper case and without the remark, as wide as the widest; and a ruler to its end.
+#[tactic(auto, unfolding(s66_isa::specs::Table::row, s66_model::specs::Timing::issue_of, s66_model::specs::Timing::start_of, s66_model::specs::Timing::point, crate::specs::Chart::digits))]
+pub fn text_chart_example()
+    ensures { text_chart packing_gap_lines (record { problem = standard_problem packing_gap; numbers = 1 ∷ 2 ∷ 3 ∷ 4 ∷ [] }) ≡
+        codes "               0         10\n" ++
+        codes "BX7 X2       1 I==.........\n" ++
+        codes "LX3 1        2 .I==........\n" ++
+        codes "IX4 X5+X6    3 ..I==.......\n" ++
+        codes "            NO ...I........\n" ++
+        codes "SA1 A1+100   4 ....I=======\n" }
 {}

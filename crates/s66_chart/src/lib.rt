@@ -5,6 +5,8 @@ mod activity;
 mod examples;
 mod picture;
 mod row;
+mod text_chart;
 
-pub use examples::chart_examples;
+pub use examples::{chart_examples, text_chart_example};
 pub use picture::chart;
+pub use text_chart::push_text_chart;

@@ -59,14 +59,14 @@ fn write_instruction<S: Sink>(
 }
 
 /// How many instructions an order has.
-fn count(timed: &Timed) -> usize
+pub fn count(timed: &Timed) -> usize
     ensures { result ≡ length timed.now.numbers }
 {
     timed.order().numbers().len()
 }
 
 /// Whether a `NO` is between the instruction at a position and the next one.
-fn has_filler(timed: &Timed, position: usize) -> bool
+pub fn has_filler(timed: &Timed, position: usize) -> bool
     requires { position < length timed.now.numbers }
     ensures { result ≡ has_filler timed.now position }
 {

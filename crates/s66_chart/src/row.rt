@@ -8,7 +8,7 @@ use crate::activity::{Activity, IDLE, ISSUES, WAITS, WAITS_FOR_READERS, WORKS};
 use s66_time::TOTAL_LIMIT;
 
 /// The places of a name.
-const NAME_ROOM: usize = 3;
+pub const NAME_ROOM: usize = 3;
 
 /// The bytes of a row beside its letters: a name, one blank and a newline.
 pub const ROW_FRAME: usize = NAME_ROOM + 2;
