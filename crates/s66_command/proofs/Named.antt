@@ -1,5 +1,5 @@
 -- Words that clap takes name a subcommand.
-use Rattle.std.proofs.Common.{◌≡◌, ◌⊎◌, inl, inr, ℕ, Bool, cond, true, false, true≢false, ◌||◌, ◌&&◌, List, [], ◌∷◌, ◌++◌, Option, Some, None, refl, sym, ap, ap₂, ◌∙◌, subst, Box, box_value, codes, find, fold, drop, is_some, map, option_and_then, option_map, bytes_eq}
+use Rattle.std.proofs.Common.{◌≡◌, ◌⊎◌, inl, inr, if◌then◌else◌, ℕ, Bool, cond, true, false, true≢false, ◌||◌, ◌&&◌, List, [], ◌∷◌, ◌++◌, Option, Some, None, refl, sym, ap, ap₂, ◌∙◌, subst, Box, box_value, codes, find, fold, drop, is_some, map, option_and_then, option_map, bytes_eq}
 use Rattle.std.specs.Prelude.{unwrap_or}
 use Rattle.std.specs.Borrow.{Bor}
 use Rattle.std.specs.List.{list_all, list_any}
@@ -20,9 +20,9 @@ use Rattle.clap.proofs.WalkLemmas.{both, first_value-rows, one_text-rows}
 use Rattle.s66_model.specs.declared.limits.TheConstants.{BUDGET_LIMIT, WORKERS_LIMIT}
 use Rattle.s66_model.specs.declared.options.Options.{Options}
 use Rattle.s66_model.specs.declared.rule.Rule.{Rule as LeafRule}
-use Rattle.s66_command.specs.declared.limits.TheConstants.{NODES_DEFAULT, WORKERS_DEFAULT}
-use Rattle.s66_command.specs.FoundOptions.{AreOptionsFound, IsFlagFound, IsNumber, IsNumberFound, IsReadAs, IsRuleFound}
-use Rattle.s66_command.specs.Usage.{AsksFor, GivesProfile, GivesSearch, gives_both, has_option, option_text, rule_by, rule_unless_both, s66_app, subcommand_name}
+use Rattle.s66_command.specs.declared.limits.TheConstants.{BLOCK_NUMBER_LIMIT, NODES_DEFAULT, WORKERS_DEFAULT}
+use Rattle.s66_command.specs.FoundOptions.{AreOptionsFound, IsBlockFound, IsFlagFound, IsNumber, IsNumberFound, IsOrderFound, IsReadAs, IsRuleFound}
+use Rattle.s66_command.specs.Usage.{AsksFor, GivesBlock, GivesOrder, GivesProfile, GivesSearch, IsNumberIn, gives_both, has_option, option_text, rule_by, rule_unless_both, s66_app, subcommand_name}
 use Rattle.s66_command.proofs.Faults.{first-none, full, second-none}
 use Rattle.s66_command.proofs.Flags.{HasFlag, flag-is}
 use Rattle.s66_command.proofs.OptionRanges.{HasNumber, number-is}
@@ -297,6 +297,13 @@ number-given words found s id least most default n is options read =
     let there = number-of words found s id least most is options in
     subst (λ text. IsReadAs least most default text n) there.1 (read there.0)
 
+-- the number of a block, as it was read of what was found for its option
+pub block-of : (words : List Text) (found : Found) (block : Option ℕ) (s : Shape) → IsMatched found words s → HasNumber (codes "block") 1 BLOCK_NUMBER_LIMIT s.rules → IsBlockFound found block →
+    GivesBlock words block
+block-of words found block s is options read =
+    let there = number-of words found s (codes "block") 1 BLOCK_NUMBER_LIMIT is options in
+    subst (λ text. IsNumberIn 1 BLOCK_NUMBER_LIMIT text block) there.1 (read there.0)
+
 -- THE OPTIONS OF A SEARCH
 
 -- the options have the numbers of a search and both flags
@@ -311,6 +318,22 @@ rules_at name = option_map_or (λ (s : Shape). s.rules) (subcommand_at name) []
 
 pub order-options : HasSearchOptions (rules_at (codes "order"))
 order-options = (
+  (inr refl, (inl refl, (inr refl, (inr refl, (inr refl, (inr refl, (inr refl, (inr refl, tt)))))))),
+  (inr refl, (inr refl, (inl refl, (inr refl, (inr refl, (inr refl, (inr refl, (inr refl, tt)))))))),
+  ((inr refl, (inr refl, (inr refl, (inr refl, (inl refl, (inr refl, (inr refl, (inr refl, tt)))))))), refl),
+  ((inr refl, (inr refl, (inr refl, (inr refl, (inr refl, (inl refl, (inr refl, (inr refl, tt)))))))), refl),
+)
+
+pub why-options : HasSearchOptions (rules_at (codes "why"))
+why-options = (
+  (inr refl, (inl refl, (inr refl, (inr refl, (inr refl, (inr refl, (inr refl, (inr refl, (inr refl, tt))))))))),
+  (inr refl, (inr refl, (inl refl, (inr refl, (inr refl, (inr refl, (inr refl, (inr refl, (inr refl, tt))))))))),
+  ((inr refl, (inr refl, (inr refl, (inr refl, (inl refl, (inr refl, (inr refl, (inr refl, (inr refl, tt))))))))), refl),
+  ((inr refl, (inr refl, (inr refl, (inr refl, (inr refl, (inl refl, (inr refl, (inr refl, (inr refl, tt))))))))), refl),
+)
+
+pub page-options : HasSearchOptions (rules_at (codes "page"))
+page-options = (
   (inr refl, (inl refl, (inr refl, (inr refl, (inr refl, (inr refl, (inr refl, (inr refl, tt)))))))),
   (inr refl, (inr refl, (inl refl, (inr refl, (inr refl, (inr refl, (inr refl, (inr refl, tt)))))))),
   ((inr refl, (inr refl, (inr refl, (inr refl, (inl refl, (inr refl, (inr refl, (inr refl, tt)))))))), refl),
@@ -360,3 +383,13 @@ both-given false any is = absurd (true≢false (ap is_some (sym is)))
 pub both-of : (words : List Text) (found : Found) (s : Shape) → IsMatched found words s → HasSearchOptions s.rules → AreOptionsFound found None → gives_both words ≡ true
 both-of words found s is has read =
     both-given (has_option (codes "dominate") words) (has_option (codes "dominate-tree") words) (rule-given words found None s is has read)
+
+-- the best order is asked for, with these options, or it isn't
+pub order-of : (words : List Text) (found : Found) (options : Options) (order : Option Options) (s : Shape) → IsMatched found words s → HasFlagOf (codes "order") s.rules → GivesSearch words options →
+    IsOrderFound found options order → GivesOrder words order
+order-of words found options order s is has gives (given, read, by) =
+    subst (GivesOrder words) (sym by) (order-by given (flag-of words found given s (codes "order") is has read))
+  where
+    order-by : (given : Bool) → given ≡ has_option (codes "order") words → GivesOrder words (if given then Some options else None)
+    order-by true same = (sym same, gives)
+    order-by false same = sym same

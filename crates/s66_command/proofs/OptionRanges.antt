@@ -22,7 +22,7 @@ use Rattle.clap.specs.declared.parser.matches.ValueSource.TheVariants.{CommandLi
 use Rattle.clap.proofs.CallerReads.{signed_reads}
 use Rattle.clap.proofs.ValueTestLemmas.{accepts-Accepts}
 use Rattle.s66_command.specs.FoundOptions.{IsNumber, IsReadAs}
-use Rattle.s66_command.specs.Usage.{number_rule}
+use Rattle.s66_command.specs.Usage.{IsNumberIn, number_rule}
 use Rattle.s66_command.proofs.Faults.{first-none, full, second-none}
 
 module _ (id : Text) (least most : ℕ) where
@@ -159,6 +159,18 @@ module _ (id : Text) (least most : ℕ) where
         let found = signed_reads E gives k least most v r reads parses fits within in
         subst (λ (o : Option ℕ). IsReadAs least most default (Some (without_minus v)) (unwrap_or o default)) (sym found.1)
         ((parses (without_minus v) (Ok found.0) (subst (ReadsOne gives (without_minus v)) found.1 reads)).1, found.2, found.3)
+
+    given-text : (v : Text) (r : Option ℕ) → IsSignedIn (pos least) (pos most) v → ReadsOne gives (without_minus v) r → IsNumberIn least most (Some (without_minus v)) r
+    given-text v r within reads =
+        let found = signed_reads E gives k least most v r reads parses fits within in
+        subst (IsNumberIn least most (Some (without_minus v))) (sym found.1)
+        (ap (λ n. Some n) (parses (without_minus v) (Ok found.0) (subst (ReadsOne gives (without_minus v)) found.1 reads)).1, (found.2, found.3))
+
+    -- the number of the option, if it is given
+    pub number-or_none : (text : Option Text) (r : Option ℕ) → (text ≡ None → r ≡ None) → ((t : Text) → text ≡ Some t → ReadsOne gives t r) → IsNumber least most text → IsNumberIn least most text r
+    number-or_none None r none some is = subst (IsNumberIn least most None) (sym (none refl)) (refl, tt)
+    number-or_none (Some text) r none some is =
+        subst (λ t. IsNumberIn least most (Some t) r) (sym is.1) (given-text is.0 r is.2 (subst (λ t. ReadsOne gives t r) is.1 (some text refl)))
 
     read-option : (default : ℕ) (text : Option Text) (r : Option ℕ) → IsNumber least most text → least ≤ default → default ≤ most → (text ≡ None → r ≡ None) →
         ((t : Text) → text ≡ Some t → ReadsOne gives t r) → IsReadAs least most default text (unwrap_or r default)

@@ -1,15 +1,14 @@
 -- Used by contracts within the crate alone: the options of a search, as clap found them among the words of a subcommand.
-use Rattle.std.specs.Prelude.{◌≡◌, ◌≤◌, ℕ, Bool, true, false, Option, None, Some, codes, pos}
+use Rattle.std.specs.Prelude.{◌≡◌, ◌≤◌, if◌then◌else◌, ℕ, Bool, true, false, Option, None, Some, codes, pos}
 use Rattle.std.specs.Option.{option_map_or}
-use Rattle.std.specs.Str.Parse.{digits_value, without_leading_plus}
 use Rattle.clap.specs.Values.{IsSignedIn}
 use Rattle.clap.specs.Words.{Text, one_text, without_minus}
 use Rattle.clap.specs.declared.parser.matches.Found.{Found}
 use Rattle.s66_model.specs.declared.limits.TheConstants.{BUDGET_LIMIT, WORKERS_LIMIT}
 use Rattle.s66_model.specs.declared.options.Options.{Options}
 use Rattle.s66_model.specs.declared.rule.Rule.{Rule as LeafRule}
-use Rattle.s66_command.specs.declared.limits.TheConstants.{NODES_DEFAULT, WORKERS_DEFAULT}
-use Rattle.s66_command.specs.Usage.{rule_unless_both}
+use Rattle.s66_command.specs.declared.limits.TheConstants.{BLOCK_NUMBER_LIMIT, NODES_DEFAULT, WORKERS_DEFAULT}
+use Rattle.s66_command.specs.Usage.{IsNumberIn, number_in, rule_unless_both}
 
 -- the text, if there is one, is a number from the least to the most
 abbrev pub IsNumber : (least most : ℕ) → Option Text → Type 0
@@ -19,7 +18,7 @@ IsNumber least most (Some text) = (v : Text) × (text ≡ without_minus v) × Is
 -- the number of the text, or the default if there is none, is within the limits
 abbrev pub IsReadAs : (least most default : ℕ) → Option Text → ℕ → Type 0
 IsReadAs least most default text n =
-    (n ≡ option_map_or (λ t. digits_value 10 (without_leading_plus t)) text default) × (least ≤ n) × (n ≤ most)
+    (n ≡ option_map_or number_in text default) × (least ≤ n) × (n ≤ most)
 
 -- a number as it is read of what was found for its option, if that is a number within the limits
 abbrev pub IsNumberFound : Found → Text → (least most default : ℕ) → ℕ → Type 0
@@ -30,6 +29,11 @@ AreWorkersFound found workers = IsNumberFound found (codes "workers") 1 WORKERS_
 
 abbrev pub AreNodesFound : Found → ℕ → Type 0
 AreNodesFound found nodes = IsNumberFound found (codes "nodes") 0 BUDGET_LIMIT NODES_DEFAULT nodes
+
+-- the number of a block as it is read of what was found for its option
+abbrev pub IsBlockFound : Found → Option ℕ → Type 0
+IsBlockFound found block =
+    IsNumber 1 BLOCK_NUMBER_LIMIT (one_text found (codes "block")) → IsNumberIn 1 BLOCK_NUMBER_LIMIT (one_text found (codes "block")) block
 
 -- a flag as it is read of what was found for it
 abbrev pub IsFlagFound : Found → Text → Bool → Type 0
@@ -45,3 +49,8 @@ IsRuleFound found rule =
 abbrev pub AreOptionsFound : Found → Option Options → Type 0
 AreOptionsFound found (Some options) = AreWorkersFound found options.workers × AreNodesFound found options.nodes × IsRuleFound found (Some options.rule)
 AreOptionsFound found None = IsRuleFound found None
+
+-- the options, if the flag was found
+abbrev pub IsOrderFound : Found → Options → Option Options → Type 0
+IsOrderFound found options order =
+    (given : Bool) × IsFlagFound found (codes "order") given × (order ≡ (if given then Some options else None))

@@ -5,11 +5,11 @@ use Rattle.s66_command.specs.declared.command.Command.TheVariants.{Time, Deps, C
 
 -- the text of a profile that a command has, if any
 abbrev pub profile_text : Command → Option (List ℕ)
-profile_text (Time cut trace profile) = option_map (λ text. text.now) profile
-profile_text (Deps cut) = None
-profile_text (Chart cut profile) = option_map (λ text. text.now) profile
-profile_text (Why cut profile) = option_map (λ text. text.now) profile
-profile_text (Page cut options profile) = option_map (λ text. text.now) profile
+profile_text (Time cut trace block profile) = option_map (λ text. text.now) profile
+profile_text (Deps cut block) = None
+profile_text (Chart cut text block profile) = option_map (λ text. text.now) profile
+profile_text (Why cut order block profile) = option_map (λ text. text.now) profile
+profile_text (Page cut options block profile) = option_map (λ text. text.now) profile
 profile_text (Order cut options trace profile) = option_map (λ text. text.now) profile
 profile_text (Prove cut options profile) = option_map (λ text. text.now) profile
 profile_text Check = None

@@ -1,8 +1,9 @@
 -- To be believed: the command line, by clap's rules: the subcommands `time`, `deps`, `chart`, `why`, `page`, `order`, `prove`,
 -- `check`, `lint` and `sum`, and a version. All but `check` and `lint` have the flag `--cut`. `time`, `chart`, `why`, `page`, `order`,
 -- `prove` and `sum` have the option `--profile`, the last four also `--workers` and `--nodes`, and one at most of the flags
--- `--dominate` and `--dominate-tree`. `time`, `order` and `sum` have the flag `--trace`.
-use Rattle.std.specs.Prelude.{◌≡◌, ◌≢◌, ◌⊎◌, ◌≤◌, ◌&&◌, if◌then◌else◌, ℕ, Bool, List, [], false, true, Option, None, Some, codes, option_and_then, pos}
+-- `--dominate` and `--dominate-tree`. `time`, `order` and `sum` have the flag `--trace`, `chart` has `--text` and `why` has `--order`,
+-- and with that `why` has the options of a search. `time`, `deps`, `chart`, `why` and `page` have the option `--block`.
+use Rattle.std.specs.Prelude.{◌≡◌, ◌≢◌, ◌⊎◌, ◌≤◌, ◌&&◌, if◌then◌else◌, IfSome, ℕ, Bool, List, [], false, true, Option, None, Some, codes, option_and_then, pos}
 use Rattle.std.specs.Borrow.{Bor}
 use Rattle.std.specs.Option.{option_map, option_map_or}
 use Rattle.std.specs.Str.Parse.{digits_value, without_leading_plus}
@@ -20,7 +21,7 @@ use Rattle.s66_model.specs.declared.limits.TheConstants.{BUDGET_LIMIT, WORKERS_L
 use Rattle.s66_model.specs.declared.options.Options.{Options}
 use Rattle.s66_model.specs.declared.rule.Rule.{Rule as LeafRule}
 use Rattle.s66_model.specs.declared.rule.Rule.TheVariants.{NoneNamed, WrittenEarlier, ClampedStanding}
-use Rattle.s66_command.specs.declared.limits.TheConstants.{NODES_DEFAULT, WORKERS_DEFAULT}
+use Rattle.s66_command.specs.declared.limits.TheConstants.{BLOCK_NUMBER_LIMIT, NODES_DEFAULT, WORKERS_DEFAULT}
 use Rattle.s66_command.specs.declared.command.Command.{Command}
 use Rattle.s66_command.specs.declared.command.Command.TheVariants.{Time, Deps, Chart, Why, Page, Order, Prove, Check, Lint, Sum}
 use Rattle.s66_command.specs.declared.usage.Usage.{Usage}
@@ -35,6 +36,12 @@ cut_rule = flag_rule (codes "cut")
 
 abbrev pub trace_rule : Rule
 trace_rule = flag_rule (codes "trace")
+
+abbrev pub text_rule : Rule
+text_rule = flag_rule (codes "text")
+
+abbrev pub order_rule : Rule
+order_rule = flag_rule (codes "order")
 
 abbrev pub dominate_rule : Rule
 dominate_rule = flag_rule (codes "dominate")
@@ -52,6 +59,9 @@ workers_rule = number_rule (codes "workers") 1 WORKERS_LIMIT
 abbrev pub nodes_rule : Rule
 nodes_rule = number_rule (codes "nodes") 0 BUDGET_LIMIT
 
+abbrev pub block_rule : Rule
+block_rule = number_rule (codes "block") 1 BLOCK_NUMBER_LIMIT
+
 -- its value is any text
 abbrev pub profile_rule : Rule
 profile_rule = record (new_rule (codes "profile")) { long = Some (codes "profile"); value_names = 1 }
@@ -61,16 +71,13 @@ abbrev pub source_app : Text → App
 source_app name = with_rule (new_app name) cut_rule
 
 abbrev pub time_app : App
-time_app = with_rule (with_rule (source_app (codes "time")) profile_rule) trace_rule
+time_app = with_rule (with_rule (with_rule (source_app (codes "time")) profile_rule) trace_rule) block_rule
 
 abbrev pub deps_app : App
-deps_app = source_app (codes "deps")
+deps_app = with_rule (source_app (codes "deps")) block_rule
 
 abbrev pub chart_app : App
-chart_app = with_rule (source_app (codes "chart")) profile_rule
-
-abbrev pub why_app : App
-why_app = with_rule (source_app (codes "why")) profile_rule
+chart_app = with_rule (with_rule (with_rule (source_app (codes "chart")) profile_rule) text_rule) block_rule
 
 -- a subcommand that searches, and may leave out what is dominated
 abbrev pub search_app : Text → App
@@ -78,8 +85,11 @@ search_app name =
     let counted = with_rule (with_rule (source_app name) workers_rule) nodes_rule in
     with_rule (with_rule (with_rule counted profile_rule) dominate_rule) dominate_tree_rule
 
+abbrev pub why_app : App
+why_app = with_rule (with_rule (search_app (codes "why")) order_rule) block_rule
+
 abbrev pub page_app : App
-page_app = search_app (codes "page")
+page_app = with_rule (search_app (codes "page")) block_rule
 
 abbrev pub order_app : App
 order_app = with_rule (search_app (codes "order")) trace_rule
@@ -128,9 +138,13 @@ option_text id words = option_and_then (λ s. one_of id s.1) (subcommand_of s66_
 abbrev pub plain_text : Text → List Text → Option Text
 plain_text id words = option_and_then (λ s. first_of id s.1) (subcommand_of s66_app words)
 
+-- the number that a text is
+abbrev pub number_in : Text → ℕ
+number_in text = digits_value 10 (without_leading_plus text)
+
 -- the number that the words give the subcommand for this option, or else the default
 abbrev pub option_number : Text → ℕ → List Text → ℕ
-option_number id default words = option_map_or (λ text. digits_value 10 (without_leading_plus text)) (option_text id words) default
+option_number id default words = option_map_or number_in (option_text id words) default
 
 -- the words, of which the first is the program's name, have no fault and name the subcommand
 abbrev pub AsksFor : List Text → Text → Type 0
@@ -159,6 +173,19 @@ GivesSearch words options =
     × (options.nodes ≡ option_number (codes "nodes") NODES_DEFAULT words) × (options.nodes ≤ BUDGET_LIMIT)
     × (options.rule ≡ rule_given words) × (gives_both words ≡ false)
 
+-- they ask for the best order, and give these options for its search, or don't ask for it
+abbrev pub GivesOrder : List Text → Option Options → Type 0
+GivesOrder words None = has_option (codes "order") words ≡ false
+GivesOrder words (Some options) = (has_option (codes "order") words ≡ true) × GivesSearch words options
+
+-- a number of a text, if there is one, is from the least to the most
+abbrev pub IsNumberIn : (least most : ℕ) → Option Text → Option ℕ → Type 0
+IsNumberIn least most text number = (number ≡ option_map number_in text) × IfSome number (λ n. (least ≤ n) × (n ≤ most))
+
+-- they give it the number of a block, or none
+abbrev pub GivesBlock : List Text → Option ℕ → Type 0
+GivesBlock words block = IsNumberIn 1 BLOCK_NUMBER_LIMIT (option_text (codes "block") words) block
+
 -- they give it this text for its profile, if any
 abbrev pub GivesProfile : List Text → Option (Bor Text) → Type 0
 GivesProfile words profile = option_map (λ text. text.now) profile ≡ plain_text (codes "profile") words
@@ -169,13 +196,18 @@ GivesFlag name words flag = flag ≡ has_option name words
 
 -- they ask for the command
 abbrev pub Asks : List Text → Command → Type 0
-Asks words (Time cut trace profile) =
-    AsksFor words (codes "time") × GivesFlag (codes "cut") words cut × GivesFlag (codes "trace") words trace × GivesProfile words profile
-Asks words (Deps cut) = AsksFor words (codes "deps") × GivesFlag (codes "cut") words cut
-Asks words (Chart cut profile) = AsksFor words (codes "chart") × GivesFlag (codes "cut") words cut × GivesProfile words profile
-Asks words (Why cut profile) = AsksFor words (codes "why") × GivesFlag (codes "cut") words cut × GivesProfile words profile
-Asks words (Page cut options profile) =
-    AsksFor words (codes "page") × GivesFlag (codes "cut") words cut × GivesSearch words options × GivesProfile words profile
+Asks words (Time cut trace block profile) =
+    AsksFor words (codes "time") × GivesFlag (codes "cut") words cut × GivesFlag (codes "trace") words trace × GivesBlock words block
+    × GivesProfile words profile
+Asks words (Deps cut block) = AsksFor words (codes "deps") × GivesFlag (codes "cut") words cut × GivesBlock words block
+Asks words (Chart cut text block profile) =
+    AsksFor words (codes "chart") × GivesFlag (codes "cut") words cut × GivesFlag (codes "text") words text × GivesBlock words block
+    × GivesProfile words profile
+Asks words (Why cut order block profile) =
+    AsksFor words (codes "why") × GivesFlag (codes "cut") words cut × GivesOrder words order × GivesBlock words block × GivesProfile words profile
+Asks words (Page cut options block profile) =
+    AsksFor words (codes "page") × GivesFlag (codes "cut") words cut × GivesSearch words options × GivesBlock words block
+    × GivesProfile words profile
 Asks words (Order cut options trace profile) =
     AsksFor words (codes "order") × GivesFlag (codes "cut") words cut × GivesSearch words options × GivesFlag (codes "trace") words trace
     × GivesProfile words profile

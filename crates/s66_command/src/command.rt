@@ -9,6 +9,8 @@ pub enum Command<'a> {
         cut: bool,
         /// Whether the times of each instruction are printed.
         trace: bool,
+        /// The number of the only block that is printed, from 1; None if all are.
+        block: Option<u32>,
         /// The text of the profile, if it isn't the standard one.
         profile: Option<&'a str>,
     },
@@ -16,18 +18,28 @@ pub enum Command<'a> {
     Deps {
         /// Whether lines that can't be read, and what a macro, a directive or a count covers, are left alone.
         cut: bool,
+        /// The number of the only block that is printed, from 1; None if all are.
+        block: Option<u32>,
     },
     /// A chart of each block of a source, as it was written.
     Chart {
         /// Whether lines that can't be read, and what a macro, a directive or a count covers, are left alone.
         cut: bool,
+        /// Whether each row comes after the text of its instruction, below a ruler.
+        text: bool,
+        /// The number of the only block that is printed, from 1; None if all are.
+        block: Option<u32>,
         /// The text of the profile, if it isn't the standard one.
         profile: Option<&'a str>,
     },
-    /// Why the instructions of each block of a source wait, as it was written.
+    /// Why the instructions of each block of a source wait.
     Why {
         /// Whether lines that can't be read, and what a macro, a directive or a count covers, are left alone.
         cut: bool,
+        /// How the best order of each block is searched, if that is the one that is explained and not the source order.
+        order: Option<Options>,
+        /// The number of the only block that is printed, from 1; None if all are.
+        block: Option<u32>,
         /// The text of the profile, if it isn't the standard one.
         profile: Option<&'a str>,
     },
@@ -37,6 +49,8 @@ pub enum Command<'a> {
         cut: bool,
         /// How the orders of each block are searched.
         options: Options,
+        /// The number of the only block that is printed, from 1; None if all are.
+        block: Option<u32>,
         /// The text of the profile, if it isn't the standard one.
         profile: Option<&'a str>,
     },

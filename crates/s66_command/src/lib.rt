@@ -6,5 +6,5 @@ mod limits;
 mod usage;
 
 pub use command::Command;
-pub use limits::{NODES_DEFAULT, WORKERS_DEFAULT};
+pub use limits::{BLOCK_NUMBER_LIMIT, NODES_DEFAULT, WORKERS_DEFAULT};
 pub use usage::{Usage, VERSION, command_of};

@@ -1,12 +1,12 @@
 ghost use Rattle.std.specs.Prelude.{◌≡◌, IfOk, IfErr, List, map};
 ghost use Rattle.clap.specs.Words.{Text, app_of, found_of, kind_of, new_app};
 ghost use Rattle.clap.specs.declared.error.kind.ErrorKind.TheVariants.{ArgumentConflict};
-ghost use Rattle.s66_command.specs.FoundOptions.{AreNodesFound, AreOptionsFound, AreWorkersFound};
-ghost use Rattle.s66_command.specs.Usage.{Asks, IsArgumentOf, IsCommandOf, IsUsageOf, Refuses, chart_app, check_app, deps_app, flag_rule, lint_app, nodes_rule, order_app, page_app, profile_rule, prove_app, rule_unless_both, s66_app, search_app, source_app, sum_app, time_app, why_app, workers_rule};
+ghost use Rattle.s66_command.specs.FoundOptions.{AreNodesFound, AreOptionsFound, AreWorkersFound, IsBlockFound, IsOrderFound};
+ghost use Rattle.s66_command.specs.Usage.{Asks, IsArgumentOf, IsCommandOf, IsUsageOf, Refuses, block_rule, chart_app, check_app, deps_app, flag_rule, lint_app, nodes_rule, order_app, page_app, profile_rule, prove_app, rule_unless_both, s66_app, search_app, source_app, sum_app, time_app, why_app, workers_rule};
 ghost use Rattle.s66_command.specs.declared.usage.Usage.TheVariants.{OutOfMemory};
 
 use crate::command::Command as Asked;
-use crate::limits::{NODES_DEFAULT, WORKERS_DEFAULT};
+use crate::limits::{BLOCK_NUMBER_LIMIT, NODES_DEFAULT, WORKERS_DEFAULT};
 use clap::error::ErrorKind;
 use clap::{Arg, ArgAction, ArgMatches, Command, Error, value_parser};
 use s66_isa::PROFILE_LIMIT;
@@ -86,9 +86,13 @@ const TIME_ENDING: &str = help_ending!("s66 time --trace < SOURCE");
 
 const DEPS_ENDING: &str = help_ending!("s66 deps < SOURCE", "the source was refused", "");
 
-const CHART_ENDING: &str = help_ending!("s66 chart < SOURCE");
+const CHART_ENDING: &str = help_ending!("s66 chart --text < SOURCE");
 
-const WHY_ENDING: &str = help_ending!("s66 why < SOURCE");
+const WHY_ENDING: &str = help_ending!(
+    "s66 why --block 2 < SOURCE",
+    "the source or the profile was refused",
+    ", 7 with --order: some block is only bounded"
+);
 
 const PAGE_ENDING: &str = help_ending!(
     "s66 page --dominate-tree < SOURCE > page.html",
@@ -147,6 +151,14 @@ const DOMINATE_HELP: &str = "Leaves out beginnings of orders that an earlier one
 const DOMINATE_TREE_HELP: &str =
     "Leaves out beginnings of orders that any other one dominates: proves far more blocks best";
 
+const TEXT_HELP: &str =
+    "Puts the text of each instruction before its row, and a ruler above the rows";
+
+const ORDER_HELP: &str =
+    "Explains the best order that was found, and not the source's; the options of a search are for this";
+
+const BLOCK_HELP: &str = "Prints only the block of this number, 1 to 20000";
+
 /// A flag by its name.
 fn flag<'a>(alloc: Global, name: &'a str, help: &'a str) -> Arg<'a>
     ensures { IsArgumentOf (flag_rule name.entry.now) result }
@@ -167,6 +179,8 @@ const _: () = prove!(WORKERS_DEFAULT == 4);
 const _: () = prove!(BUDGET_LIMIT == 1_000_000);
 
 const _: () = prove!(NODES_DEFAULT == 100_000);
+
+const _: () = prove!(BLOCK_NUMBER_LIMIT == 20_000);
 
 /// The option `--workers`.
 fn workers_option<'a>(alloc: Global) -> Arg<'a>
@@ -189,6 +203,17 @@ fn nodes_option<'a>(alloc: Global) -> Arg<'a>
         .help("The most splits of a block's search, 0 to 1000000 [default: 100000]")
         .long_help(NODES_HELP)
         .value_parser(value_parser!(u32).range(..=i64::from(BUDGET_LIMIT)))
+}
+
+/// The option `--block`.
+fn block_option<'a>(alloc: Global) -> Arg<'a>
+    ensures { IsArgumentOf block_rule result }
+{
+    Arg::new(alloc, "block")
+        .long("block")
+        .value_name("N")
+        .help(BLOCK_HELP)
+        .value_parser(value_parser!(u32).range(1..=i64::from(BLOCK_NUMBER_LIMIT)))
 }
 
 /// The option `--profile`.
@@ -243,7 +268,8 @@ fn time_command<'a>(alloc: Global) -> Result<Command<'a>, AllocError>
         TIME_ENDING,
     )?
     .arg(profile_option(alloc))?
-    .arg(flag(alloc, "trace", "Prints the times of each instruction"))
+    .arg(flag(alloc, "trace", "Prints the times of each instruction"))?
+    .arg(block_option(alloc))
 }
 
 /// The subcommand `deps`.
@@ -256,7 +282,8 @@ fn deps_command<'a>(alloc: Global) -> Result<Command<'a>, AllocError>
         "Prints on what each instruction of a block depends",
         "s66 deps [OPTIONS] < SOURCE",
         DEPS_ENDING,
-    )
+    )?
+    .arg(block_option(alloc))
 }
 
 /// The subcommand `chart`.
@@ -270,21 +297,9 @@ fn chart_command<'a>(alloc: Global) -> Result<Command<'a>, AllocError>
         "s66 chart [OPTIONS] < SOURCE",
         CHART_ENDING,
     )?
-    .arg(profile_option(alloc))
-}
-
-/// The subcommand `why`.
-fn why_command<'a>(alloc: Global) -> Result<Command<'a>, AllocError>
-    ensures { IfOk result (IsCommandOf why_app) }
-{
-    source_command(
-        alloc,
-        "why",
-        "Prints what each instruction of a block waits for, and for how long",
-        "s66 why [OPTIONS] < SOURCE",
-        WHY_ENDING,
-    )?
-    .arg(profile_option(alloc))
+    .arg(profile_option(alloc))?
+    .arg(flag(alloc, "text", TEXT_HELP))?
+    .arg(block_option(alloc))
 }
 
 /// A subcommand that searches.
@@ -305,6 +320,21 @@ fn search_command<'a>(
         .arg(flag(alloc, "dominate-tree", DOMINATE_TREE_HELP))
 }
 
+/// The subcommand `why`.
+fn why_command<'a>(alloc: Global) -> Result<Command<'a>, AllocError>
+    ensures { IfOk result (IsCommandOf why_app) }
+{
+    search_command(
+        alloc,
+        "why",
+        "Prints what each instruction of a block waits for, and for how long",
+        "s66 why [OPTIONS] < SOURCE",
+        WHY_ENDING,
+    )?
+    .arg(flag(alloc, "order", ORDER_HELP))?
+    .arg(block_option(alloc))
+}
+
 /// The subcommand `page`.
 fn page_command<'a>(alloc: Global) -> Result<Command<'a>, AllocError>
     ensures { IfOk result (IsCommandOf page_app) }
@@ -315,7 +345,8 @@ fn page_command<'a>(alloc: Global) -> Result<Command<'a>, AllocError>
         "Writes a page for a browser: each block as it was written, and in the best order that was found",
         "s66 page [OPTIONS] < SOURCE > PAGE",
         PAGE_ENDING,
-    )
+    )?
+    .arg(block_option(alloc))
 }
 
 /// The subcommand `order`.
@@ -426,6 +457,13 @@ fn nodes_in(matches: &ArgMatches) -> u32
     matches.get_one("nodes").unwrap_or(NODES_DEFAULT)
 }
 
+/// The number of the only block that is printed, by the words of a subcommand that prints blocks.
+fn block_in(matches: &ArgMatches) -> Option<u32>
+    ensures { IsBlockFound (found_of matches.now) result }
+{
+    matches.get_one("block")
+}
+
 /// Which nodes dominated leaves name by the flags `--dominate` and `--dominate-tree`, unless both are given.
 fn rule_of(dominate: bool, dominate_tree: bool) -> Option<Rule>
     ensures { result ≡ rule_unless_both dominate dominate_tree }
@@ -449,6 +487,17 @@ fn options_in(matches: &ArgMatches) -> Option<Options>
         nodes: nodes_in(matches),
         rule,
     })
+}
+
+/// These options, if the flag `--order` is given.
+fn order_in(matches: &ArgMatches, options: Options) -> Option<Options>
+    ensures { IsOrderFound (found_of matches.now) options result }
+{
+    if matches.get_flag("order") {
+        Some(options)
+    } else {
+        None
+    }
 }
 
 /// The mistake of words that give a subcommand both flags.
@@ -475,18 +524,18 @@ pub fn command_of<'a, S: AsStr>(alloc: Global, words: &'a [S]) -> Result<Asked<'
         Some(("time", time)) => Ok(Asked::Time {
             cut: time.get_flag("cut"),
             trace: time.get_flag("trace"),
+            block: block_in(time),
             profile: time.get_str("profile"),
         }),
         Some(("deps", deps)) => Ok(Asked::Deps {
             cut: deps.get_flag("cut"),
+            block: block_in(deps),
         }),
         Some(("chart", chart)) => Ok(Asked::Chart {
             cut: chart.get_flag("cut"),
+            text: chart.get_flag("text"),
+            block: block_in(chart),
             profile: chart.get_str("profile"),
-        }),
-        Some(("why", why)) => Ok(Asked::Why {
-            cut: why.get_flag("cut"),
-            profile: why.get_str("profile"),
         }),
         Some(("order", order)) => {
             let Some(options) = options_in(order) else {
@@ -529,7 +578,19 @@ pub fn command_of<'a, S: AsStr>(alloc: Global, words: &'a [S]) -> Result<Asked<'
             Ok(Asked::Page {
                 cut: page.get_flag("cut"),
                 options,
+                block: block_in(page),
                 profile: page.get_str("profile"),
+            })
+        }
+        Some(("why", why)) => {
+            let Some(options) = options_in(why) else {
+                return Err(both_given(alloc, why_command(alloc)?));
+            };
+            Ok(Asked::Why {
+                cut: why.get_flag("cut"),
+                order: order_in(why, options),
+                block: block_in(why),
+                profile: why.get_str("profile"),
             })
         }
         _ => unreachable!(),

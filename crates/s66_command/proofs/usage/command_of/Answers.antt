@@ -1,6 +1,6 @@
 use Rattle.std.proofs.Common.{rules, ◌∙◌, ap, codes, inl, inr, map, option_map, refl, sym}
 use Rattle.clap.specs.Words.{app_of, found_of}
-use Rattle.s66_command.proofs.Named.{asks-for, both-of, flag-of, matched, name-known, order-options, profile-of, prove-options, search-of, sum-options, taken}
+use Rattle.s66_command.proofs.Named.{asks-for, both-of, flag-of, block-of, matched, name-known, order-of, order-options, page-options, profile-of, prove-options, search-of, sum-options, taken, why-options}
 use Rattle.s66_command.proofs.Refused.{refused, refused-both}
 use Rattle.s66_command.proofs.usage.command_of.Goals as goal
 use Rattle.s66_command.proofs.usage.command_of.Goals.{in_default-via-in-Some+in_default, in_default-via-in_default}
@@ -42,8 +42,9 @@ returns-in-Some-time-default-clause-ok g c =
     let found = found_of c.in-Some-time-default.time.now in
     let here = matched m words found _ is asks.1 refl c.in-Some-time-default.ensures.rows in (
       asks,
-      flag-of words found c.get_flag.result _ (codes "cut") here ((inl refl, (inr refl, (inr refl, (inr refl, tt)))), refl) (c.get_flag.ensures.value, c.get_flag.ensures.other),
-      flag-of words found c.get_flag-in-Some-time-default.result _ (codes "trace") here ((inr refl, (inr refl, (inl refl, (inr refl, tt)))), refl) (c.get_flag-in-Some-time-default.ensures.value, c.get_flag-in-Some-time-default.ensures.other),
+      flag-of words found c.get_flag.result _ (codes "cut") here ((inl refl, (inr refl, (inr refl, (inr refl, (inr refl, tt))))), refl) (c.get_flag.ensures.value, c.get_flag.ensures.other),
+      flag-of words found c.get_flag-in-Some-time-default.result _ (codes "trace") here ((inr refl, (inr refl, (inl refl, (inr refl, (inr refl, tt))))), refl) (c.get_flag-in-Some-time-default.ensures.value, c.get_flag-in-Some-time-default.ensures.other),
+      block-of words found c.block_in.result _ here (inr refl, (inr refl, (inr refl, (inl refl, (inr refl, tt))))) c.block_in.ensures,
       profile-of words found _ c.get_str.result here c.get_str.ensures,
     )
 
@@ -56,7 +57,8 @@ returns-in-Some-deps-default-clause-ok g c =
     let found = found_of c.in-Some-deps-default.deps.now in
     let here = matched m words found _ is asks.1 refl c.in-Some-deps-default.ensures.rows in (
       asks,
-      flag-of words found c.get_flag-in-Some-deps-default.result _ (codes "cut") here ((inl refl, (inr refl, tt)), refl) (c.get_flag-in-Some-deps-default.ensures.value, c.get_flag-in-Some-deps-default.ensures.other),
+      flag-of words found c.get_flag-in-Some-deps-default.result _ (codes "cut") here ((inl refl, (inr refl, (inr refl, tt))), refl) (c.get_flag-in-Some-deps-default.ensures.value, c.get_flag-in-Some-deps-default.ensures.other),
+      block-of words found c.block_in-in-Some-deps-default.result _ here (inr refl, (inl refl, (inr refl, tt))) c.block_in-in-Some-deps-default.ensures,
     )
 
 pub returns-in-Some-chart-default-clause-ok : goal.returns-in-Some-chart-default-clause-ok
@@ -68,21 +70,10 @@ returns-in-Some-chart-default-clause-ok g c =
     let found = found_of c.in-Some-chart-default.chart.now in
     let here = matched m words found _ is asks.1 refl c.in-Some-chart-default.ensures.rows in (
       asks,
-      flag-of words found c.get_flag-in-Some-chart-default.result _ (codes "cut") here ((inl refl, (inr refl, (inr refl, tt))), refl) (c.get_flag-in-Some-chart-default.ensures.value, c.get_flag-in-Some-chart-default.ensures.other),
+      flag-of words found c.get_flag-in-Some-chart-default.result _ (codes "cut") here ((inl refl, (inr refl, (inr refl, (inr refl, (inr refl, tt))))), refl) (c.get_flag-in-Some-chart-default.ensures.value, c.get_flag-in-Some-chart-default.ensures.other),
+      flag-of words found c.get_flag-in-Some-chart-default-2.result _ (codes "text") here ((inr refl, (inr refl, (inl refl, (inr refl, (inr refl, tt))))), refl) (c.get_flag-in-Some-chart-default-2.ensures.value, c.get_flag-in-Some-chart-default-2.ensures.other),
+      block-of words found c.block_in-in-Some-chart-default.result _ here (inr refl, (inr refl, (inr refl, (inl refl, (inr refl, tt))))) c.block_in-in-Some-chart-default.ensures,
       profile-of words found _ c.get_str-in-Some-chart-default.result here c.get_str-in-Some-chart-default.ensures,
-    )
-
-pub returns-in-Some-why-default-clause-ok : goal.returns-in-Some-why-default-clause-ok
-returns-in-Some-why-default-clause-ok g c =
-    let words = map g.S.AsStr.text c.args.words.now in
-    let m = c.in-Ok.matches in
-    let is = taken m (app_of c.in_ok-program.field-0) words c.in_ok-program.ensures c.in-Ok.ensures.kinds c.in-Ok.ensures.matches in
-    let asks = asks-for m words c.in-Some-why-default.field-0-0.now (codes "why") is c.in-Some-why-default.ensures.name c.in-Some-why-default.is-why in
-    let found = found_of c.in-Some-why-default.why.now in
-    let here = matched m words found _ is asks.1 refl c.in-Some-why-default.ensures.rows in (
-      asks,
-      flag-of words found c.get_flag-in-Some-why-default.result _ (codes "cut") here ((inl refl, (inr refl, (inr refl, tt))), refl) (c.get_flag-in-Some-why-default.ensures.value, c.get_flag-in-Some-why-default.ensures.other),
-      profile-of words found _ c.get_str-in-Some-why-default.result here c.get_str-in-Some-why-default.ensures,
     )
 
 pub returns-in-Some-order-default-clause-ok : goal.returns-in-Some-order-default-clause-ok
@@ -182,8 +173,9 @@ returns-in-Some-page-default-clause-ok g c =
     let found = found_of c.in-Some-page-default.page.now in
     let here = matched m words found _ is asks.1 refl c.in-Some-page-default.ensures.rows in (
       asks,
-      flag-of words found c.get_flag-in-Some-page-default.result _ (codes "cut") here ((inl refl, (inr refl, (inr refl, (inr refl, (inr refl, (inr refl, (inr refl, tt))))))), refl) (c.get_flag-in-Some-page-default.ensures.value, c.get_flag-in-Some-page-default.ensures.other),
-      search-of words found c.in-Some-options_in-3.options _ here prove-options c.in-Some-options_in-3.ensures,
+      flag-of words found c.get_flag-in-Some-page-default.result _ (codes "cut") here ((inl refl, (inr refl, (inr refl, (inr refl, (inr refl, (inr refl, (inr refl, (inr refl, tt)))))))), refl) (c.get_flag-in-Some-page-default.ensures.value, c.get_flag-in-Some-page-default.ensures.other),
+      search-of words found c.in-Some-options_in-3.options _ here page-options c.in-Some-options_in-3.ensures,
+      block-of words found c.block_in-in-Some-page-default.result _ here (inr refl, (inr refl, (inr refl, (inr refl, (inr refl, (inr refl, (inl refl, (inr refl, tt)))))))) c.block_in-in-Some-page-default.ensures,
       profile-of words found _ c.get_str-in-Some-page-default.result here c.get_str-in-Some-page-default.ensures,
     )
 
@@ -195,4 +187,29 @@ returns-in_default-options_in-4-clause-err g c =
     let asks = asks-for m words c.in-Some-page-default.field-0-0.now (codes "page") is c.in-Some-page-default.ensures.name c.in-Some-page-default.is-page in
     let found = found_of c.in-Some-page-default.page.now in
     let here = matched m words found _ is asks.1 refl c.in-Some-page-default.ensures.rows in
-    refused-both c.both_given-in_default-options_in-4.result words asks.0 (both-of words found _ here prove-options c.in_default-options_in-4.ensures) c.both_given-in_default-options_in-4.ensures
+    refused-both c.both_given-in_default-options_in-4.result words asks.0 (both-of words found _ here page-options c.in_default-options_in-4.ensures) c.both_given-in_default-options_in-4.ensures
+
+pub returns-in-Some-why-default-clause-ok : goal.returns-in-Some-why-default-clause-ok
+returns-in-Some-why-default-clause-ok g c =
+    let words = map g.S.AsStr.text c.args.words.now in
+    let m = c.in-Ok.matches in
+    let is = taken m (app_of c.in_ok-program.field-0) words c.in_ok-program.ensures c.in-Ok.ensures.kinds c.in-Ok.ensures.matches in
+    let asks = asks-for m words c.in-Some-why-default.field-0-0.now (codes "why") is c.in-Some-why-default.ensures.name c.in-Some-why-default.is-why in
+    let found = found_of c.in-Some-why-default.why.now in
+    let here = matched m words found _ is asks.1 refl c.in-Some-why-default.ensures.rows in (
+      asks,
+      flag-of words found c.get_flag-in-Some-why-default.result _ (codes "cut") here ((inl refl, (inr refl, (inr refl, (inr refl, (inr refl, (inr refl, (inr refl, (inr refl, (inr refl, tt))))))))), refl) (c.get_flag-in-Some-why-default.ensures.value, c.get_flag-in-Some-why-default.ensures.other),
+      order-of words found c.in-Some-options_in-4.options c.order_in.result _ here ((inr refl, (inr refl, (inr refl, (inr refl, (inr refl, (inr refl, (inl refl, (inr refl, (inr refl, tt))))))))), refl) (search-of words found c.in-Some-options_in-4.options _ here why-options c.in-Some-options_in-4.ensures) c.order_in.ensures,
+      block-of words found c.block_in-in-Some-why-default.result _ here (inr refl, (inr refl, (inr refl, (inr refl, (inr refl, (inr refl, (inr refl, (inl refl, (inr refl, tt))))))))) c.block_in-in-Some-why-default.ensures,
+      profile-of words found _ c.get_str-in-Some-why-default.result here c.get_str-in-Some-why-default.ensures,
+    )
+
+pub returns-in_default-options_in-5-clause-err : goal.returns-in_default-options_in-5-clause-err
+returns-in_default-options_in-5-clause-err g c =
+    let words = map g.S.AsStr.text c.args.words.now in
+    let m = c.in-Ok.matches in
+    let is = taken m (app_of c.in_ok-program.field-0) words c.in_ok-program.ensures c.in-Ok.ensures.kinds c.in-Ok.ensures.matches in
+    let asks = asks-for m words c.in-Some-why-default.field-0-0.now (codes "why") is c.in-Some-why-default.ensures.name c.in-Some-why-default.is-why in
+    let found = found_of c.in-Some-why-default.why.now in
+    let here = matched m words found _ is asks.1 refl c.in-Some-why-default.ensures.rows in
+    refused-both c.both_given-in_default-options_in-5.result words asks.0 (both-of words found _ here why-options c.in_default-options_in-5.ensures) c.both_given-in_default-options_in-5.ensures
