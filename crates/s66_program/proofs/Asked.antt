@@ -1,5 +1,5 @@
 -- The numbers of a command that the words ask for are within their limits.
-use Rattle.std.proofs.Common.{List}
+use Rattle.std.proofs.Common.{List, None, Some}
 use Rattle.s66_model.specs.declared.options.Options.{Options}
 use Rattle.s66_command.specs.declared.command.Command.{Command}
 use Rattle.s66_command.specs.declared.command.Command.TheVariants.{Time, Deps, Chart, Why, Page, Order, Prove, Check, Lint, Sum}
@@ -9,12 +9,13 @@ use Rattle.s66_command.specs.Usage.{Asks, GivesSearch, Text}
 search-within : (words : List Text) (options : Options) → GivesSearch words options → IsSearchWithin options.workers options.nodes
 search-within words options h = (h.1, h.2, h.4)
 
-pub asked-within : (words : List Text) (command : Command) → Asks words command → IsWithinLimits command
-asked-within words (Time cut trace profile) h = tt
-asked-within words (Deps cut) h = tt
-asked-within words (Chart cut profile) h = tt
-asked-within words (Why cut profile) h = tt
-asked-within words (Page cut options profile) h = search-within words options h.2
+pub asked-within : (words : List Text) (command : Command) → Asks words command → IsWithin command
+asked-within words (Time cut trace only profile) h = tt
+asked-within words (Deps cut only) h = tt
+asked-within words (Chart cut texts only profile) h = tt
+asked-within words (Why cut None only profile) h = tt
+asked-within words (Why cut (Some options) only profile) h = search-within words options h.2.1
+asked-within words (Page cut options only profile) h = search-within words options h.2
 asked-within words (Order cut options trace profile) h = search-within words options h.2
 asked-within words (Prove cut options profile) h = search-within words options h.2
 asked-within words Check h = tt

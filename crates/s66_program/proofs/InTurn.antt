@@ -12,6 +12,7 @@ use Rattle.s66_page.specs.Found.{Found}
 use Rattle.s66_program.specs.OrderText.{AreAnswers, all_best, problem_of}
 use Rattle.s66_program.specs.PageText.{all_found, found_by}
 use Rattle.s66_program.specs.ProveText.{all_documents, document_under}
+use Rattle.s66_program.specs.WhyText.{answer_lines, lines_of_answers}
 
 -- what a search returns is an answer to the block
 pub searched : (rule : Rule) (profile : Profile) (block : Block) (nodes : ℕ) (found : AnswerOf) → found.rule ≡ rule → found.problem ≡ problem_of profile block → found.budget ≡ nodes →
@@ -71,7 +72,7 @@ module _ {X : Type 0} (part : ℕ → Block → Answer → List X) (whole : ℕ 
       let (answers, are, is, all) = so_far [] true (subst (λ bs. AreMade (n + i) bs [] true) (sym none) empty) in
       (answers, are, sym (append-nil made) ∙ is, sym (and-true best) ∙ all)
 
--- WHAT IS MADE: DOCUMENTS, AND WHAT A PAGE SHOWS
+-- WHAT IS MADE: DOCUMENTS, WHAT A PAGE SHOWS, LINES
 
 abbrev pub document_part : Rule → Profile → ℕ → Block → Answer → List ℕ
 document_part rule p n block a = document_text (document_under rule p block a)

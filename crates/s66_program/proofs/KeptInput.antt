@@ -32,11 +32,12 @@ abbrev pub IsMost : Command → Option ℕ → Type 0
 IsMost command most = IfSome most (λ n. (n ≡ SOURCE_FRONT) × (reads_source command ≡ true))
 
 accepted : (p : Profile) (command : Command) (input text : List ℕ) (status : Status) → reads_source command ≡ true → IsOutput p command input text status → (blocks : List Block) × (source_of (source_in command input) ≡ Ok blocks)
-accepted p (Time cut trace profile) input text status reads ((blocks, ok, is), done) = (blocks, ok)
-accepted p (Deps cut) input text status reads ((blocks, ok, is), done) = (blocks, ok)
-accepted p (Chart cut profile) input text status reads ((blocks, ok, is), done) = (blocks, ok)
-accepted p (Why cut profile) input text status reads ((blocks, ok, is), done) = (blocks, ok)
-accepted p (Page cut options profile) input text status reads (blocks, ok, is) = (blocks, ok)
+accepted p (Time cut trace only profile) input text status reads ((blocks, ok, is), done) = (blocks, ok)
+accepted p (Deps cut only) input text status reads ((blocks, ok, is), done) = (blocks, ok)
+accepted p (Chart cut texts only profile) input text status reads ((blocks, ok, is), done) = (blocks, ok)
+accepted p (Why cut None only profile) input text status reads ((blocks, ok, is), done) = (blocks, ok)
+accepted p (Why cut (Some options) only profile) input text status reads (blocks, ok, is) = (blocks, ok)
+accepted p (Page cut options only profile) input text status reads (blocks, ok, is) = (blocks, ok)
 accepted p (Order cut options trace profile) input text status reads (blocks, ok, is) = (blocks, ok)
 accepted p (Prove cut options profile) input text status reads (blocks, ok, is) = (blocks, ok)
 accepted p Check input text status reads is = absurd (cc)
@@ -58,11 +59,11 @@ whole-output p command most input held text status most-is (rest, is, inr full) 
     absurd (cc)
 
 no-documents : (command : Command) → reads_source command ≡ true → reads_documents command ≡ true → ⊥
-no-documents (Time cut trace profile) source documents = cc
-no-documents (Deps cut) source documents = cc
-no-documents (Chart cut profile) source documents = cc
-no-documents (Why cut profile) source documents = cc
-no-documents (Page cut options profile) source documents = cc
+no-documents (Time cut trace only profile) source documents = cc
+no-documents (Deps cut only) source documents = cc
+no-documents (Chart cut texts only profile) source documents = cc
+no-documents (Why cut order only profile) source documents = cc
+no-documents (Page cut options only profile) source documents = cc
 no-documents (Order cut options trace profile) source documents = cc
 no-documents (Prove cut options profile) source documents = cc
 no-documents Check source documents = cc

@@ -1,4 +1,5 @@
 pub mod AsWritten
+pub mod Shown
 pub mod BlockHead
 pub mod TimeText
 pub mod DepsText
@@ -15,6 +16,7 @@ pub mod OrderedAgain
 pub mod CheckedAnswers
 pub mod PlacedAnswers
 pub mod FoundAnswers
+pub mod Explained
 pub mod ProvedAnswers
 pub mod Output
 pub mod Device

@@ -1,5 +1,5 @@
 -- To be believed: what each command writes for what it reads, and how it ends.
-use Rattle.std.specs.Prelude.{ℕ, ◌+◌, ◌≡◌, ◌≤◌, Bool, true, false, List, [], ◌∷◌, ◌++◌, Option, None, Some, Ok}
+use Rattle.std.specs.Prelude.{ℕ, ◌+◌, ◌≡◌, ◌≤◌, Bool, true, false, List, [], ◌∷◌, ◌++◌, Option, None, Some, Ok, IfSome}
 use Rattle.s66_isa.specs.declared.profile.Profile.{Profile}
 use Rattle.s66_isa.specs.Table.{standard}
 use Rattle.s66_model.specs.declared.limits.TheConstants.{BUDGET_LIMIT}
@@ -7,6 +7,7 @@ use Rattle.s66_line.specs.Block.{Block}
 use Rattle.s66_source.specs.LeftAlone.{Reading}
 use Rattle.s66_source.specs.Source.{source_of}
 use Rattle.s66_model.specs.declared.limits.TheConstants.{WORKERS_LIMIT}
+use Rattle.s66_model.specs.declared.options.Options.{Options}
 use Rattle.s66_profile.specs.ProfileText.{profile_in_text}
 use Rattle.s66_command.specs.declared.command.Command.{Command}
 use Rattle.s66_command.specs.declared.command.Command.TheVariants.{Time, Deps, Chart, Why, Page, Order, Prove, Check, Lint, Sum}
@@ -18,7 +19,8 @@ use Rattle.s66_program.specs.declared.output.Listing.TheVariants as listing
 use Rattle.s66_program.specs.TimeText.{time_lines}
 use Rattle.s66_program.specs.DepsText.{deps_lines}
 use Rattle.s66_program.specs.ChartText.{chart_lines}
-use Rattle.s66_program.specs.WhyText.{why_lines}
+use Rattle.s66_program.specs.Shown.{before, shown}
+use Rattle.s66_program.specs.WhyText.{IsWhyOutput, why_lines}
 use Rattle.s66_program.specs.OrderText.{IsOrderOutput}
 use Rattle.s66_program.specs.PageText.{IsPageOutput}
 use Rattle.s66_program.specs.ProveText.{IsProveOutput}
@@ -32,11 +34,11 @@ IsSearchWithin workers nodes = (1 ≤ workers) × (workers ≤ WORKERS_LIMIT) ×
 
 -- the numbers of a command are within their limits
 abbrev pub IsWithin : Command → Type 0
-IsWithin (Time cut trace profile) = Unit {0}
-IsWithin (Deps cut) = Unit {0}
-IsWithin (Chart cut profile) = Unit {0}
-IsWithin (Why cut profile) = Unit {0}
-IsWithin (Page cut options profile) = IsSearchWithin options.workers options.nodes
+IsWithin (Time cut trace only profile) = Unit {0}
+IsWithin (Deps cut only) = Unit {0}
+IsWithin (Chart cut texts only profile) = Unit {0}
+IsWithin (Why cut order only profile) = IfSome order (λ options. IsSearchWithin options.workers options.nodes)
+IsWithin (Page cut options only profile) = IsSearchWithin options.workers options.nodes
 IsWithin (Order cut options trace profile) = IsSearchWithin options.workers options.nodes
 IsWithin (Prove cut options profile) = IsSearchWithin options.workers options.nodes
 IsWithin Check = Unit {0}
@@ -60,7 +62,7 @@ IsUnder command p = profile_asked (profile_text command) ≡ Some p
 abbrev pub block_lines : Profile → Listing → ℕ → Block → List ℕ
 block_lines p (listing.Times trace) n block = time_lines p trace n block
 block_lines p listing.Dependences n block = deps_lines n block
-block_lines p listing.Chart n block = chart_lines p n block
+block_lines p (listing.Chart texts) n block = chart_lines p texts n block
 block_lines p listing.Why n block = why_lines p n block
 
 -- of these blocks, before which n blocks come
@@ -68,19 +70,24 @@ abbrev pub lines_of_blocks : Profile → Listing → ℕ → List Block → List
 lines_of_blocks p l n [] = []
 lines_of_blocks p l n (block ∷ blocks) = block_lines p l (n + 1) block ++ lines_of_blocks p l (n + 1) blocks
 
--- the listing of the source's blocks
-abbrev pub IsListing : Profile → Listing → Reading → (text : List ℕ) → Type 0
-IsListing p l source text = (blocks : List Block) × (source_of source ≡ Ok blocks) × (text ≡ lines_of_blocks p l 0 blocks)
+-- the listing of the source's blocks that are shown
+abbrev pub IsListing : Profile → Listing → (only : Option ℕ) (source : Reading) (text : List ℕ) → Type 0
+IsListing p l only source text = (blocks : List Block) × (source_of source ≡ Ok blocks) × (text ≡ lines_of_blocks p l (before only) (shown only blocks))
+
+-- what `why` writes of the blocks that are shown: as they were written, or in the best orders that searches with these options find
+abbrev pub IsWaitsOutput : Profile → Option Options → (only : Option ℕ) (source : Reading) (text : List ℕ) → Status → Type 0
+IsWaitsOutput p None only source text status = IsListing p listing.Why only source text × (status ≡ Done)
+IsWaitsOutput p (Some options) only source text status = IsWhyOutput options.rule p options.nodes only source text status
 
 -- COMMANDS
 
 -- whether a command reads with `--cut`
 abbrev pub is_cut : Command → Bool
-is_cut (Time cut trace profile) = cut
-is_cut (Deps cut) = cut
-is_cut (Chart cut profile) = cut
-is_cut (Why cut profile) = cut
-is_cut (Page cut options profile) = cut
+is_cut (Time cut trace only profile) = cut
+is_cut (Deps cut only) = cut
+is_cut (Chart cut texts only profile) = cut
+is_cut (Why cut order only profile) = cut
+is_cut (Page cut options only profile) = cut
 is_cut (Order cut options trace profile) = cut
 is_cut (Prove cut options profile) = cut
 is_cut (Sum cut options trace profile) = cut
@@ -92,11 +99,11 @@ source_in command input = record { cut = is_cut command; text = input }
 
 -- for this input, under a profile, a command writes the text and ends so
 abbrev pub IsOutput : Profile → Command → (input text : List ℕ) → Status → Type 0
-IsOutput p (Time cut trace profile) input text status = IsListing p (listing.Times trace) (record { cut = cut; text = input }) text × (status ≡ Done)
-IsOutput p (Deps cut) input text status = IsListing p listing.Dependences (record { cut = cut; text = input }) text × (status ≡ Done)
-IsOutput p (Chart cut profile) input text status = IsListing p listing.Chart (record { cut = cut; text = input }) text × (status ≡ Done)
-IsOutput p (Why cut profile) input text status = IsListing p listing.Why (record { cut = cut; text = input }) text × (status ≡ Done)
-IsOutput p (Page cut options profile) input text status = IsPageOutput options.rule p options.nodes (record { cut = cut; text = input }) text status
+IsOutput p (Time cut trace only profile) input text status = IsListing p (listing.Times trace) only (record { cut = cut; text = input }) text × (status ≡ Done)
+IsOutput p (Deps cut only) input text status = IsListing p listing.Dependences only (record { cut = cut; text = input }) text × (status ≡ Done)
+IsOutput p (Chart cut texts only profile) input text status = IsListing p (listing.Chart texts) only (record { cut = cut; text = input }) text × (status ≡ Done)
+IsOutput p (Why cut order only profile) input text status = IsWaitsOutput p order only (record { cut = cut; text = input }) text status
+IsOutput p (Page cut options only profile) input text status = IsPageOutput options.rule p options.nodes only (record { cut = cut; text = input }) text status
 IsOutput p (Order cut options trace profile) input text status = IsOrderOutput options.rule p options.nodes trace (record { cut = cut; text = input }) text status
 IsOutput p (Prove cut options profile) input text status = IsProveOutput options.rule p options.nodes (record { cut = cut; text = input }) text status
 IsOutput p Check input text status = IsCheckOutput input text status
@@ -105,11 +112,11 @@ IsOutput p (Sum cut options trace profile) input text status = IsSumOutput optio
 
 -- the command reads a source, and refuses some
 abbrev pub reads_source : Command → Bool
-reads_source (Time cut trace profile) = true
-reads_source (Deps cut) = true
-reads_source (Chart cut profile) = true
-reads_source (Why cut profile) = true
-reads_source (Page cut options profile) = true
+reads_source (Time cut trace only profile) = true
+reads_source (Deps cut only) = true
+reads_source (Chart cut texts only profile) = true
+reads_source (Why cut order only profile) = true
+reads_source (Page cut options only profile) = true
 reads_source (Order cut options trace profile) = true
 reads_source (Prove cut options profile) = true
 reads_source Check = false

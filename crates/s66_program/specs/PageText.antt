@@ -1,5 +1,5 @@
 -- To be believed: what `page` writes for a source, and how it ends: a page that shows each block in its source order and by an answer of a search of its orders.
-use Rattle.std.specs.Prelude.{ℕ, ◌≡◌, List, [], ◌∷◌, Ok}
+use Rattle.std.specs.Prelude.{ℕ, ◌≡◌, List, [], ◌∷◌, Ok, Option}
 use Rattle.s66_isa.specs.declared.profile.Profile.{Profile}
 use Rattle.s66_line.specs.Block.{instrs_of, Block}
 use Rattle.s66_source.specs.LeftAlone.{Reading}
@@ -10,6 +10,7 @@ use Rattle.s66_page.specs.Found.{Found}
 use Rattle.s66_page.specs.Page.{page_text}
 use Rattle.s66_program.specs.declared.outcome.Status.{Status}
 use Rattle.s66_program.specs.OrderText.{AreAnswers, status_of}
+use Rattle.s66_program.specs.Shown.{before, shown}
 
 -- what a page shows of an answer to a block: its order and its bound
 abbrev pub found_by : Block → Answer → Found
@@ -19,8 +20,9 @@ abbrev pub all_found : List Block → List Answer → List Found
 all_found (block ∷ blocks) (a ∷ answers) = found_by block a ∷ all_found blocks answers
 all_found blocks answers = []
 
--- for some answers, the page of all blocks by them, and their status
-abbrev pub IsPageOutput : Rule → Profile → (nodes : ℕ) (source : Reading) (text : List ℕ) → Status → Type 0
-IsPageOutput rule p nodes source text status =
+-- for some answers to the blocks that are shown, the page of these by them, and their status
+abbrev pub IsPageOutput : Rule → Profile → (nodes : ℕ) → (only : Option ℕ) (source : Reading) (text : List ℕ) → Status → Type 0
+IsPageOutput rule p nodes only source text status =
     (blocks : List Block) × (source_of source ≡ Ok blocks)
-    × ((answers : List Answer) × AreAnswers rule p nodes blocks answers × (text ≡ page_text p 0 blocks (all_found blocks answers)) × (status ≡ status_of answers))
+    × ((answers : List Answer) × AreAnswers rule p nodes (shown only blocks) answers
+    × (text ≡ page_text p (before only) (shown only blocks) (all_found (shown only blocks) answers)) × (status ≡ status_of answers))

@@ -1,11 +1,9 @@
 ghost use Rattle.std.specs.Prelude.{◌≡◌, ◌++◌, OnOk};
-ghost use Rattle.s66_line.specs.Block.{instrs_of};
 ghost use Rattle.s66_chart.specs.Chart.{chart_text};
-ghost use Rattle.s66_program.specs.AsWritten.{as_written};
-ghost use Rattle.s66_program.specs.ChartText.{chart_line, chart_lines};
+ghost use Rattle.s66_program.specs.ChartText.{chart_lines, timed_line};
 
 use crate::fields::push_block_head;
-use s66_chart::chart;
+use s66_chart::{chart, push_text_chart};
 use s66_dep::Order;
 use s66_device::{OverWrite, push_field};
 use s66_line::Block;
@@ -13,15 +11,14 @@ use s66_time::{Timed, Timer};
 use std::alloc::{AllocError, Global};
 use std::mem;
 
-/// The line of a block, whose number is from 1, and which is timed as it was written.
-pub(crate) fn push_chart_line(
+/// The line of a block, whose number is from 1, in a timed order.
+pub(crate) fn push_timed_line(
     out: &mut Vec<u8>,
     number: usize,
     block: &Block,
     timed: &Timed,
 ) -> Result<(), AllocError>
-    requires { timed.now ≡ as_written timed.now.problem.profile (instrs_of block.now) }
-    ensures { OnOk result (out.new.items ≡ out.old.items ++ chart_line timed.now.problem.profile number block.now) }
+    ensures { OnOk result (out.new.items ≡ out.old.items ++ timed_line number block.now timed.now) }
 {
     push_block_head(out, number, block)?;
     push_field(out, b" TIME ", timed.total() as usize)?;
@@ -41,18 +38,23 @@ fn push_chart(alloc: Global, out: &mut Vec<u8>, timed: &Timed) -> Result<(), All
     }
 }
 
-/// The lines of a block, whose number is from 1, under the timer's profile.
+/// The lines of a block, whose number is from 1, under the timer's profile: its chart, with its texts or without.
 pub fn push_chart_lines(
     alloc: Global,
     out: &mut Vec<u8>,
     timer: &mut Timer,
+    text: bool,
     number: usize,
     block: &Block,
 ) -> Result<(), AllocError>
     ensures profile { timer.new ≡ timer.old }
-    ensures lines { OnOk result (out.new.items ≡ out.old.items ++ chart_lines timer.old number block.now) }
+    ensures lines { OnOk result (out.new.items ≡ out.old.items ++ chart_lines timer.old text number block.now) }
 {
     let timed = timer.time(block, &Order::source(block));
-    push_chart_line(out, number, block, &timed)?;
-    push_chart(alloc, out, &timed)
+    push_timed_line(out, number, block, &timed)?;
+    if text {
+        push_text_chart(out, block, &timed)
+    } else {
+        push_chart(alloc, out, &timed)
+    }
 }

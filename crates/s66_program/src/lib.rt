@@ -18,6 +18,7 @@ mod program;
 mod progress;
 mod prove_text;
 mod run;
+mod shown;
 mod sum_text;
 mod time_text;
 mod why_text;

@@ -1,6 +1,6 @@
-ghost use Rattle.std.specs.Prelude.{◌≡◌, ◌++◌, OnOk, IfOk, IfErr};
+ghost use Rattle.std.specs.Prelude.{◌≡◌, ◌<◌, ◌^◌, ◌++◌, OnOk, IfOk, IfErr, IfSome};
 ghost use Rattle.s66_program.specs.declared.outcome.Status.TheVariants.{Done};
-ghost use Rattle.s66_program.specs.Output.{IsListing, IsOutput, IsWithinLimits, block_lines, lines_of_blocks};
+ghost use Rattle.s66_program.specs.Output.{IsListing, IsOutput, IsSearchWithin, IsWaitsOutput, IsWithin, block_lines, lines_of_blocks};
 ghost use Rattle.s66_program.specs.Run.{IsRefusal};
 
 use crate::chart_text::push_chart_lines;
@@ -12,12 +12,14 @@ use crate::order_text::order_output;
 use crate::outcome::{Fault, Output, Status};
 use crate::page_text::page_output;
 use crate::prove_text::prove_output;
+use crate::shown::{blocks_before, shown};
 use crate::sum_text::sum_output;
 use crate::time_text::push_time_lines;
-use crate::why_text::push_why_lines;
+use crate::why_text::{push_why_lines, why_output};
 use s66_command::Command;
 use s66_isa::Profile;
 use s66_line::Block;
+use s66_model::Options;
 use s66_source::{Source, read_source_with};
 use s66_time::Timer;
 use std::alloc::{AllocError, Global};
@@ -32,7 +34,10 @@ pub enum Listing {
         trace: bool,
     },
     Dependences,
-    Chart,
+    Chart {
+        /// Whether each row comes after the text of its instruction.
+        text: bool,
+    },
     Why,
 }
 
@@ -51,41 +56,65 @@ fn push_block(
     match listing {
         Listing::Times { trace } => push_time_lines(out, timer, *trace, number, block),
         Listing::Dependences => push_deps_lines(out, number, block),
-        Listing::Chart => push_chart_lines(alloc, out, timer, number, block),
+        Listing::Chart { text } => push_chart_lines(alloc, out, timer, *text, number, block),
         Listing::Why => push_why_lines(out, timer, number, block),
     }
 }
 
-/// The listing of these blocks, all of which one timer times.
+/// The listing of these blocks, before which so many come, and all of which one timer times.
 fn text_of_blocks(
     alloc: Global,
     profile: &Profile,
     listing: &Listing,
+    before: usize,
     blocks: &[Block],
 ) -> Result<Vec<u8>, AllocError>
-    ensures { IfOk result (λ text. text.items ≡ lines_of_blocks profile.now listing.now 0 blocks.now) }
+    requires { before < 2 ^ 32 }
+    ensures { IfOk result (λ text. text.items ≡ lines_of_blocks profile.now listing.now before blocks.now) }
 {
     let mut timer = Timer::new(profile);
     let mut out = Vec::new(alloc);
     for (i, block) in blocks.iter().enumerate() {
-        push_block(alloc, &mut out, &mut timer, listing, i + 1, block)?;
+        let number = before + i + 1;
+        push_block(alloc, &mut out, &mut timer, listing, number, block)?;
     }
     Ok(out)
 }
 
-/// The listing of a source's blocks.
+/// The listing of a source's blocks, or of the only one that is printed.
 fn listing_output(
     alloc: Global,
     profile: &Profile,
     listing: &Listing,
+    only: Option<u32>,
     source: &Source,
 ) -> Result<Output, AllocError>
-    ensures { IfOk result (λ output. IsListing profile.now listing.now source.now output.text.items × (output.status ≡ Done)) }
+    ensures { IfOk result (λ output. IsListing profile.now listing.now only source.now output.text.items × (output.status ≡ Done)) }
 {
+    let blocks = shown(source.blocks(), only);
     Ok(Output {
-        text: text_of_blocks(alloc, profile, listing, source.blocks())?,
+        text: text_of_blocks(alloc, profile, listing, blocks_before(only), blocks)?,
         status: Status::Done,
     })
+}
+
+/// What the instructions of a source's blocks wait for, or of the only one that is printed: as it was written, or in the best order
+/// that a search with these options finds.
+fn waits_output<R: AllocGlobal + Threads + Wait + Sync, O: Observer>(
+    rt: &R,
+    source: &Source,
+    order: Option<Options>,
+    only: Option<u32>,
+    profile: &Profile,
+    observer: &mut O,
+) -> Result<Output, AllocError>
+    requires { IfSome order (λ options. IsSearchWithin options.workers options.nodes) }
+    ensures { IfOk result (λ output. IsWaitsOutput profile.now order only source.now output.text.items output.status) }
+{
+    match order {
+        None => listing_output(rt.alloc(), profile, &Listing::Why, only, source),
+        Some(options) => why_output(rt, source, only, profile, options, observer),
+    }
 }
 
 /// What a command writes for an input under a profile, or why the input was refused; no other fault than `Source`, `Document` and
@@ -103,51 +132,72 @@ pub fn output_for<R: AllocGlobal + Threads + Wait + Sync, O: Observer>(
 {
     let alloc = rt.alloc();
     let output = match command {
-        Command::Time { cut, trace, .. } => {
+        Command::Time {
+            cut,
+            trace,
+            block,
+            ..
+        } => {
             let listing = Listing::Times { trace };
             listing_output(
                 alloc,
                 profile,
                 &listing,
+                block,
                 &read_source_with(alloc, cut, input)?,
             )?
         }
-        Command::Deps { cut } => {
+        Command::Deps { cut, block } => {
             let listing = Listing::Dependences;
             listing_output(
                 alloc,
                 profile,
                 &listing,
+                block,
                 &read_source_with(alloc, cut, input)?,
             )?
         }
-        Command::Chart { cut, .. } => {
-            let listing = Listing::Chart;
+        Command::Chart {
+            cut,
+            text,
+            block,
+            ..
+        } => {
+            let listing = Listing::Chart { text };
             listing_output(
                 alloc,
                 profile,
                 &listing,
+                block,
                 &read_source_with(alloc, cut, input)?,
             )?
         }
-        Command::Why { cut, .. } => {
-            let listing = Listing::Why;
-            listing_output(
-                alloc,
-                profile,
-                &listing,
-                &read_source_with(alloc, cut, input)?,
-            )?
-        }
-        Command::Page { cut, options, .. } => {
-            page_output(
-                rt,
-                &read_source_with(alloc, cut, input)?,
-                profile,
-                options,
-                observer,
-            )?
-        }
+        Command::Why {
+            cut,
+            order,
+            block,
+            ..
+        } => waits_output(
+            rt,
+            &read_source_with(alloc, cut, input)?,
+            order,
+            block,
+            profile,
+            observer,
+        )?,
+        Command::Page {
+            cut,
+            options,
+            block,
+            ..
+        } => page_output(
+            rt,
+            &read_source_with(alloc, cut, input)?,
+            block,
+            profile,
+            options,
+            observer,
+        )?,
         Command::Order {
             cut,
             options,

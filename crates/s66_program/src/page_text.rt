@@ -6,6 +6,7 @@ ghost use Rattle.s66_program.specs.PageText.{IsPageOutput};
 use crate::observer::Observer;
 use crate::order_text::status_by;
 use crate::outcome::{Output, Status};
+use crate::shown::{blocks_before, shown};
 use s66_isa::Profile;
 use s66_line::Block;
 use s66_model::Options;
@@ -67,22 +68,30 @@ fn find_all<R: AllocGlobal + Threads + Wait + Sync, O: Observer>(
     })
 }
 
-/// A page that shows each block of a source as it was written, and in the best order that a search finds under a profile.
+/// A page that shows each block of a source, or the only one that is printed, as it was written and in the best order that a search
+/// finds under a profile.
 pub fn page_output<R: AllocGlobal + Threads + Wait + Sync, O: Observer>(
     rt: &R,
     source: &Source,
+    only: Option<u32>,
     profile: &Profile,
     options: Options,
     observer: &mut O,
 ) -> Result<Output, AllocError>
     requires { IsSearchWithin options.workers options.nodes }
-    ensures { IfOk result (λ output. IsPageOutput options.rule profile.now options.nodes source.now output.text.items output.status) }
+    ensures { IfOk result (λ output. IsPageOutput options.rule profile.now options.nodes only source.now output.text.items output.status) }
 {
-    let blocks = source.blocks();
+    let blocks = shown(source.blocks(), only);
     let all = find_all(rt, blocks, profile, options, observer)?;
     let mut timer = Timer::new(profile);
     let mut text = Vec::new(rt.alloc());
-    push_page(&mut text, &mut timer, 0, blocks, all.found.as_slice())?;
+    push_page(
+        &mut text,
+        &mut timer,
+        blocks_before(only),
+        blocks,
+        all.found.as_slice(),
+    )?;
     Ok(Output {
         text,
         status: all.status,

@@ -1,14 +1,39 @@
-ghost use Rattle.std.specs.Prelude.{◌≡◌, ◌++◌, OnOk};
-ghost use Rattle.s66_program.specs.WhyText.{why_lines};
+ghost use Rattle.std.specs.Prelude.{◌≡◌, ◌<◌, ◌^◌, ◌++◌, IfOk, OnOk};
+ghost use Rattle.s66_program.specs.Explained.{AreExplained, IsExplained};
+ghost use Rattle.s66_program.specs.Output.{IsSearchWithin};
+ghost use Rattle.s66_program.specs.WhyText.{IsWhyOutput, waits_lines, why_lines};
 
-use crate::chart_text::push_chart_line;
+use crate::chart_text::push_timed_line;
+use crate::observer::Observer;
+use crate::order_text::status_by;
+use crate::outcome::Output;
+use crate::shown::{blocks_before, shown};
 use s66_dep::Order;
+use s66_isa::Profile;
 use s66_line::Block;
-use s66_time::Timer;
+use s66_model::Options;
+use s66_pool::{Free, run};
+use s66_source::Source;
+use s66_time::{Timed, Timer};
 use s66_why::push_why;
 use std::alloc::AllocError;
+use std::sync::Wait;
+use std::thread::Threads;
 
-/// The lines of a block, whose number is from 1, under the timer's profile.
+/// The lines of a block, whose number is from 1, in a timed order.
+fn push_waits(
+    out: &mut Vec<u8>,
+    number: usize,
+    block: &Block,
+    timed: &Timed,
+) -> Result<(), AllocError>
+    ensures { OnOk result (out.new.items ≡ out.old.items ++ waits_lines number block.now timed.now) }
+{
+    push_timed_line(out, number, block, timed)?;
+    push_why(out, timed)
+}
+
+/// The lines of a block, whose number is from 1, as it was written, under the timer's profile.
 pub fn push_why_lines(
     out: &mut Vec<u8>,
     timer: &mut Timer,
@@ -19,6 +44,72 @@ pub fn push_why_lines(
     ensures lines { OnOk result (out.new.items ≡ out.old.items ++ why_lines timer.old number block.now) }
 {
     let timed = timer.time(block, &Order::source(block));
-    push_chart_line(out, number, block, &timed)?;
-    push_why(out, &timed)
+    push_waits(out, number, block, &timed)
+}
+
+/// The lines of a block, whose number is from 1, in the order that a search finds under the timer's profile. Returns whether that
+/// is best.
+fn push_answer<R: AllocGlobal + Threads + Wait + Sync>(
+    rt: &R,
+    out: &mut Vec<u8>,
+    timer: &mut Timer,
+    number: usize,
+    block: &Block,
+    profile: &Profile,
+    options: Options,
+) -> Result<bool, AllocError>
+    requires search { IsSearchWithin options.workers options.nodes }
+    requires profile { timer.old ≡ profile.now }
+    ensures profile { timer.new ≡ timer.old }
+    ensures lines { IfOk result (λ best. IsExplained options.rule profile.now options.nodes number block.now out.old.items out.new.items best) }
+{
+    let answer = run(rt, block, profile, options, &Free)?;
+    let timed = timer.time(block, answer.order());
+    push_waits(out, number, block, &timed)?;
+    Ok(answer.is_best())
+}
+
+/// The lines of blocks, before which so many come, each in the order that a search finds.
+fn explain_all<R: AllocGlobal + Threads + Wait + Sync, O: Observer>(
+    rt: &R,
+    before: usize,
+    blocks: &[Block],
+    profile: &Profile,
+    options: Options,
+    observer: &mut O,
+) -> Result<Output, AllocError>
+    requires search { IsSearchWithin options.workers options.nodes }
+    requires before { before < 2 ^ 32 }
+    ensures { IfOk result (λ output. AreExplained options.rule profile.now options.nodes before blocks.now output.text.items output.status) }
+{
+    let mut timer = Timer::new(profile);
+    let mut text = Vec::new(rt.alloc());
+    let mut all_best = true;
+    for (done, block) in blocks.iter().enumerate() {
+        observer.done(done, blocks.len());
+        let number = before + done + 1;
+        let best = push_answer(rt, &mut text, &mut timer, number, block, profile, options)?;
+        all_best = all_best && best;
+    }
+    Ok(Output {
+        text,
+        status: status_by(all_best),
+    })
+}
+
+/// What the instructions of a source's blocks wait for, or of the only one that is printed, each in the best order that a search
+/// finds under a profile. Numbers are those of the source.
+pub fn why_output<R: AllocGlobal + Threads + Wait + Sync, O: Observer>(
+    rt: &R,
+    source: &Source,
+    only: Option<u32>,
+    profile: &Profile,
+    options: Options,
+    observer: &mut O,
+) -> Result<Output, AllocError>
+    requires { IsSearchWithin options.workers options.nodes }
+    ensures { IfOk result (λ output. IsWhyOutput options.rule profile.now options.nodes only source.now output.text.items output.status) }
+{
+    let blocks = shown(source.blocks(), only);
+    explain_all(rt, blocks_before(only), blocks, profile, options, observer)
 }

@@ -1,28 +1,38 @@
-use Rattle.std.proofs.Common.{◌++◌, ◌∙◌, ap, ap₂, subst, sym}
+use Rattle.std.proofs.Common.{List, ◌≡◌, ◌++◌, ◌∙◌, ap, ap₂, subst, sym}
+use Rattle.s66_line.specs.Block.{Block}
+use Rattle.s66_model.specs.Answer.{Answer}
 use Rattle.s66_page.specs.Found.{AreOf}
 use Rattle.s66_page.specs.Page.{page_text}
+use Rattle.s66_program.specs.OrderText.{AreAnswers, status_of}
+use Rattle.s66_program.specs.PageText.{all_found}
+use Rattle.s66_program.specs.Shown.{before}
 use Rattle.s66_program.proofs.FoundAnswers.{found-of}
 use Rattle.s66_program.proofs.page_text.page_output.Goals as goal
 
 pub push_page-requires-clause-found : goal.push_page-requires-clause-found
 push_page-requires-clause-found g c =
-    let blocks = c.blocks-blocks.result.now in
+    let blocks = c.shown-blocks.result.now in
     let options = c.args.options in
     let (answers, are, is, ends) = c.in_ok-all.ensures in
     subst (AreOf blocks) (sym (c.as_slice.ensures.value ∙ is)) (found-of options.rule c.args.profile.now options.nodes blocks answers are)
 
 pub returns : goal.returns
 returns g c =
-    let blocks = c.blocks-blocks.result.now in
+    let p = c.args.profile.now in
+    let options = c.args.options in
+    let only = c.args.only in
+    let blocks = c.shown-blocks.result.now in
+    let n = c.blocks_before.result in
     let found = c.as_slice.result.now in
-    let (answers, are, is, ends) = c.in_ok-all.ensures in (
-      blocks,
-      c.blocks-blocks.ensures,
-      (
-        answers,
-        are,
-        c.in_ok-push_page.ensures.text ∙ ap (λ xs. xs ++ page_text c.new-timer.result 0 blocks found) c.new-text.ensures.items
-            ∙ ap₂ (λ p fs. page_text p 0 blocks fs) c.new-timer.ensures (c.as_slice.ensures.value ∙ is),
-        ends,
-      ),
+    let page = c.push_page.new.out.items in
+    let (answers, are, is, ends) = c.in_ok-all.ensures in
+    let text : page ≡ page_text p (before only) blocks (all_found blocks answers) =
+    c.in_ok-push_page.ensures.text ∙ ap (λ xs. xs ++ page_text c.new-timer.result n blocks found) c.new-text.ensures.items
+    ∙ ap₂ (λ q fs. page_text q n blocks fs) c.new-timer.ensures (c.as_slice.ensures.value ∙ is) ∙ ap (λ k. page_text p k blocks (all_found blocks answers)) c.blocks_before.ensures.value
+    in (
+      c.blocks-2.result.now,
+      c.blocks-2.ensures,
+      subst
+          (λ (bs : List Block). (given : List Answer) × AreAnswers options.rule p options.nodes bs given × (page ≡ page_text p (before only) bs (all_found bs given)) × (c.in_ok-all.all.status ≡ status_of given))
+          c.shown-blocks.ensures (answers, are, text, ends),
     )
