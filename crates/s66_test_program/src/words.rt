@@ -25,6 +25,16 @@ const NO_COMMANDS: &[(&[&str], u8)] = &[
     (&["s66", "deps", "chart"], 2),
     (&["s66", "chart", "--trace"], 2),
     (&["s66", "why", "--trace"], 2),
+    (&["s66", "why", "--text"], 2),
+    (&["s66", "why", "--dominate", "--dominate-tree"], 2),
+    (&["s66", "chart", "--order"], 2),
+    (&["s66", "chart", "--block"], 2),
+    (&["s66", "chart", "--block", "0"], 2),
+    (&["s66", "deps", "--block", "20001"], 2),
+    (&["s66", "time", "--block", "1", "--block", "2"], 2),
+    (&["s66", "time", "--block", "-1"], 2),
+    (&["s66", "order", "--block", "1"], 2),
+    (&["s66", "sum", "--block", "1"], 2),
     (&["s66", "page", "--trace"], 2),
     (&["s66", "page", "--dominate", "--dominate-tree"], 2),
     (&["s66", "order", "--workers", "0"], 2),
@@ -67,6 +77,7 @@ const COMMANDS: &[(&[&str], Command)] = &[
         Command::Time {
             cut: false,
             trace: false,
+            block: None,
             profile: None,
         },
     ),
@@ -75,6 +86,7 @@ const COMMANDS: &[(&[&str], Command)] = &[
         Command::Time {
             cut: false,
             trace: true,
+            block: None,
             profile: None,
         },
     ),
@@ -83,16 +95,30 @@ const COMMANDS: &[(&[&str], Command)] = &[
         Command::Time {
             cut: false,
             trace: false,
+            block: None,
             profile: Some("{\"boolean\":5}"),
         },
     ),
-    (&["s66", "deps"], Command::Deps { cut: false }),
-    (&["s66", "deps", "--cut"], Command::Deps { cut: true }),
+    (
+        &["s66", "deps"],
+        Command::Deps {
+            cut: false,
+            block: None,
+        },
+    ),
+    (
+        &["s66", "deps", "--cut"],
+        Command::Deps {
+            cut: true,
+            block: None,
+        },
+    ),
     (
         &["s66", "time", "--cut"],
         Command::Time {
             cut: true,
             trace: false,
+            block: None,
             profile: None,
         },
     ),
@@ -100,6 +126,8 @@ const COMMANDS: &[(&[&str], Command)] = &[
         &["s66", "chart", "--profile={}", "--cut"],
         Command::Chart {
             cut: true,
+            text: false,
+            block: None,
             profile: Some("{}"),
         },
     ),
@@ -107,7 +135,77 @@ const COMMANDS: &[(&[&str], Command)] = &[
         &["s66", "why", "--cut", "--profile={}"],
         Command::Why {
             cut: true,
+            order: None,
+            block: None,
             profile: Some("{}"),
+        },
+    ),
+    (
+        &["s66", "time", "--block", "20000"],
+        Command::Time {
+            cut: false,
+            trace: false,
+            block: Some(20_000),
+            profile: None,
+        },
+    ),
+    (
+        &["s66", "deps", "--block=+7", "--cut"],
+        Command::Deps {
+            cut: true,
+            block: Some(7),
+        },
+    ),
+    (
+        &["s66", "chart", "--block", "1", "--text"],
+        Command::Chart {
+            cut: false,
+            text: true,
+            block: Some(1),
+            profile: None,
+        },
+    ),
+    (
+        &[
+            "s66",
+            "why",
+            "--nodes",
+            "9",
+            "--order",
+            "--block=2",
+            "--dominate",
+        ],
+        Command::Why {
+            cut: false,
+            order: Some(Options {
+                workers: 4,
+                nodes: 9,
+                rule: Rule::WrittenEarlier,
+            }),
+            block: Some(2),
+            profile: None,
+        },
+    ),
+    (
+        &["s66", "why", "--nodes", "9"],
+        Command::Why {
+            cut: false,
+            order: None,
+            block: None,
+            profile: None,
+        },
+    ),
+    (
+        &["s66", "page", "--block", "3"],
+        Command::Page {
+            cut: false,
+            options: Options {
+                workers: 4,
+                nodes: 100_000,
+                rule: Rule::NoneNamed,
+            },
+            block: Some(3),
+            profile: None,
         },
     ),
     (
@@ -119,6 +217,7 @@ const COMMANDS: &[(&[&str], Command)] = &[
                 nodes: 7,
                 rule: Rule::ClampedStanding,
             },
+            block: None,
             profile: None,
         },
     ),
@@ -165,6 +264,8 @@ const COMMANDS: &[(&[&str], Command)] = &[
         &["s66", "chart"],
         Command::Chart {
             cut: false,
+            text: false,
+            block: None,
             profile: None,
         },
     ),
@@ -172,6 +273,8 @@ const COMMANDS: &[(&[&str], Command)] = &[
         &["s66", "chart", "--profile="],
         Command::Chart {
             cut: false,
+            text: false,
+            block: None,
             profile: Some(""),
         },
     ),
@@ -365,7 +468,15 @@ fn reads_words(rt: HostRuntime) -> Result<(), Fail> {
 fn runs_a_command(rt: HostRuntime) {
     let mut reader = OverRead::new(b"  BX1 X2+X3\n".as_slice());
     let mut writer = OverWrite::new(Vec::new(rt.alloc()));
-    let result = run_command(&rt, Command::Deps { cut: false }, &mut reader, &mut writer);
+    let result = run_command(
+        &rt,
+        Command::Deps {
+            cut: false,
+            block: None,
+        },
+        &mut reader,
+        &mut writer,
+    );
     assert!(rt; result == Ok(Status::Done));
     let written = writer.into_inner();
     assert!(rt; written.as_slice() == b"BLOCK 1 LINE 1 COUNT 1 DEPENDENCES 0\n".as_slice());

@@ -1,4 +1,4 @@
-use crate::rows::{ONE_LOAD, PACKING_GAP, Row, STORE_THEN_LOAD, THIRD_ORDER};
+use crate::rows::{ONE_LOAD, PACKING_GAP, Row, STORE_THEN_LOAD, THIRD_ORDER, THREE_MULTIPLIES};
 use crate::running::WHY;
 
 /// A linear interpolation, from its entry on the second line.
@@ -62,6 +62,48 @@ pub(crate) const ROWS: &[Row] = &[
         ONE_LOAD,
         0,
         "BLOCK 1 LINE 1 TIME 12\n  2 SECOND 1 TO 8 REGISTER X1 BY 1\nPATH 1 2\nLOST FIRST 0 SECOND 7 THIRD 0\n",
+    ),
+    (
+        "one load, why, the best order",
+        &["s66", "why", "--order", "--workers", "1"],
+        ONE_LOAD,
+        0,
+        "BLOCK 1 LINE 1 TIME 12\n  2 FIRST 2 TO 5 UNIT BOOLEAN BY 3\n  2 SECOND 5 TO 8 REGISTER X1 BY 1\nPATH 1 2\nLOST FIRST 3 SECOND 3 THIRD 0\n",
+    ),
+    (
+        "three multiplies, why, one split short",
+        &["s66", "why", "--order", "--workers", "1", "--nodes", "9"],
+        THREE_MULTIPLIES,
+        7,
+        "BLOCK 1 LINE 1 TIME 22\n  3 FIRST 2 TO 11 UNIT MULTIPLY BY 1\nPATH 1 3\nLOST FIRST 9 SECOND 0 THIRD 0\n",
+    ),
+    (
+        "the second block, why, the best order",
+        &["s66", "why", "--block", "2", "--order", "--workers", "1"],
+        "  FX1 X2*X3\n  FX4 X5*X6\n  FX0 X7*X7\n  EQ B1,B2,L\n  SA1 A1+B1\n  BX6 X1\n  BX7 X2\n",
+        0,
+        "BLOCK 2 LINE 5 TIME 12\n  2 FIRST 2 TO 5 UNIT BOOLEAN BY 3\n  2 SECOND 5 TO 8 REGISTER X1 BY 1\nPATH 1 2\nLOST FIRST 3 SECOND 3 THIRD 0\n",
+    ),
+    (
+        "the second block, why",
+        &["s66", "why", "--block", "2"],
+        "  BX1 X2\n  EQ B1,B2,L\n  FX1 X2+X3\n",
+        0,
+        "BLOCK 2 LINE 3 TIME 5\nPATH 1\nLOST FIRST 0 SECOND 0 THIRD 0\n",
+    ),
+    (
+        "no third block, why",
+        &["s66", "why", "--block", "3", "--order"],
+        "  BX1 X2\n  EQ B1,B2,L\n  FX1 X2+X3\n",
+        0,
+        "",
+    ),
+    (
+        "a bad line outside the block, why",
+        &["s66", "why", "--block", "1"],
+        "  BX1 X2\n  EQ B1,B2,L\n  SA1 *+2\n",
+        3,
+        "LINE 3 BAD OPERAND\ns66 lint lists all such lines\n",
     ),
     (
         "two blocks, why",

@@ -84,7 +84,7 @@ pub(crate) const ROWS: &[Row] = &[
         &["a/b", "deps", "--help"],
         "",
         0,
-        "Prints on what each instruction of a block depends\n\nUsage: s66 deps [OPTIONS] < SOURCE\n\nOptions:\n      --cut   Leaves alone, rather than refuses, lines that can't be read, and code that directives, macros or counts cover\n  -h, --help  Print help\n\nExample: s66 deps < SOURCE\n\nStatus: 0 done, 2 usage, 3 the source was refused, 4 out of memory, 6 a read or write failed\n",
+        "Prints on what each instruction of a block depends\n\nUsage: s66 deps [OPTIONS] < SOURCE\n\nOptions:\n      --cut        Leaves alone, rather than refuses, lines that can't be read, and code that directives, macros or counts cover\n      --block <N>  Prints only the block of this number, 1 to 20000\n  -h, --help       Print help\n\nExample: s66 deps < SOURCE\n\nStatus: 0 done, 2 usage, 3 the source was refused, 4 out of memory, 6 a read or write failed\n",
     ),
     (
         "help of order",
