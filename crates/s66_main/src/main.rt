@@ -32,7 +32,10 @@ fn touch_deep_stack(rt: &HostRuntime) {
 /// Whether the words ask for a search or a check, whose calls go deepest.
 fn goes_deep(words: &[String]) -> bool {
     match words {
-        [_, subcommand, ..] => matches!(subcommand.as_str(), "order" | "sum" | "prove" | "check"),
+        [_, subcommand, ..] => matches!(
+            subcommand.as_str(),
+            "order" | "why" | "page" | "sum" | "prove" | "check"
+        ),
         _ => false,
     }
 }
