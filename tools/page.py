@@ -1,0 +1,342 @@
+#!/usr/bin/env python3
+"""Opens pages of the built program in headless Chromium, and compares what they show with what its other subcommands print.
+
+    tools/page.py PROGRAM [FOLDER]
+
+Pages are made of the sources of examples/, of random sources, and of sources that are meant to break out of their text. Each is
+opened at a phone's width, at that of a desk and at a projector's, dark and light. It must have no error, no script and no request but
+for itself, and no row or heading may lie over another. Its bars must begin and end where `time --trace` and `why` say of the source
+order, and `time --trace` of what `order` prints and `why --order` of the best one, and its list must say what `sum` says. Each wrong thing is told, and the last line counts the pages. The
+status is 1 if something is wrong.
+
+With FOLDER a picture of each page of an example is written there, for each width, dark and light. Chromium is Debian's; if it is
+missing, `apt-get install chromium` is run, which has to be allowed.
+"""
+import base64
+import glob
+import json
+import os
+import random
+import re
+import shutil
+import subprocess
+import sys
+import tempfile
+
+ROOT = os.path.dirname(os.path.dirname(os.path.abspath(__file__)))
+WIDTHS = {"phone": 390, "desk": 1280, "projector": 1920}
+SCHEMES = "light", "dark"
+SEARCH = ["--workers", "1", "--dominate-tree"]
+HEIGHT = 900
+HIGHEST = 12_000  # the most lines of dots of a picture
+WAIT = re.compile(r" *(\d+) (FIRST|SECOND|THIRD) (\d+) TO (\d+) (REGISTER (\w\d)|UNIT (\w+)|MEMORY) BY (\d+)")
+TRACE = re.compile(r"I (\d+) PARCEL \d+ ISSUE (\d+) START (\d+) DONE (\d+) FREE (\d+)")
+INSTRUCTION = re.compile(rb"(?![*])\S*[ +-] *((?:[A-Z]X[0-7]|S[AB][0-7])\b.*)")
+SUM = re.compile(r"BLOCK (\d+) LINE (\d+) COUNT (\d+) SOURCE (\d+) TIME (\d+) (BEST|AT LEAST \d+)")
+
+HOSTILE = {
+    "script": b"  SA1 A1+B1  <script>document.title='no'</script>\n  BX6 X1  <img src=x onerror=alert(1)>\n",
+    "ends": b"  SA1 A1+B1  </style></table></svg></title>\n  BX6 X1  --> ]]> <!--\n",
+    "quotes": b"  SA1 A1+B1  '\"><a href='https://example.com'>\n  BX6 X1  \" onload=\"alert(1)\n",
+    "references": b"  SA1 A1+B1  &lt; &amp;lt; &#60;b&#62; &copy\n  BX6 X1  &\n",
+    "bytes": b"  SA1 A1+B1  \x00\x01\x7f\x80\x9f\xa0\xe9\xff\n  BX6 X1  \xe2\x80\xae\xf0\x9f\x98\x80\t\x1b[31m\n",
+    "label": b"<B>'&\"   SA1 A1+B1\n<I>   BX6 X1\n",
+    "long": b"  SA1 A1+B1" + b" " + b"<" * 180 + b"\n" + b"  BX6 X1\n",
+    "nothing": b"",
+    "no block": b"* <script>\n  END\n",
+}
+
+# What a page shows: its headings, the rows of its list, and of each order the rows with their bars, in dots and as they are written.
+LOOK = """(() => {
+  const place = e => { const r = e.getBoundingClientRect(); return [r.left, r.top + scrollY, r.right, r.bottom + scrollY] };
+  const bar = e => ({class: e.getAttribute('class'), x: e.getAttribute('x'), width: e.getAttribute('width'),
+    title: e.querySelector('title').textContent, place: place(e)});
+  const row = e => ({class: e.className, head: e.querySelector('th').textContent, place: place(e), start: place(e.querySelector('svg'))[0],
+    em: parseFloat(getComputedStyle(e.querySelector('svg')).fontSize), words: [...e.querySelectorAll('tspan')].map(t => t.textContent),
+    bars: [...e.querySelectorAll('rect')].map(bar)});
+  const order = e => ({place: place(e), rows: [...e.querySelectorAll('tr')].map(row)});
+  return {
+    title: document.title,
+    elements: [...new Set([...document.querySelectorAll('*')].map(e => e.localName))].sort(),
+    attributes: [...new Set([...document.querySelectorAll('*')].flatMap(e => e.getAttributeNames()))].sort(),
+    list: [...document.querySelectorAll('.index tr')].slice(1).map(e => [...e.querySelectorAll('td')].map(t => t.textContent.trim())),
+    links: [...document.querySelectorAll('.index a')].every(a => document.getElementById(a.getAttribute('href').slice(1))),
+    blocks: [...document.querySelectorAll('h2')].map(e => e.textContent),
+    pieces: [...document.querySelectorAll('body > *')].map(e => [e.localName, ...place(e)]),
+    orders: [...document.querySelectorAll('table.order')].map(order),
+    why: [...document.querySelectorAll('pre')].map(e => e.textContent),
+    height: document.documentElement.scrollHeight,
+  };
+})()"""
+
+ELEMENTS = set("a body h2 h3 head html meta p pre rect span style svg table tbody td text th title tr tspan".split())
+ATTRIBUTES = set("charset class content dx height href id lang name style width x y".split())
+
+
+def chromium():
+    """The browser, which is installed if it is missing."""
+    if not shutil.which("chromium"):
+        print("chromium is missing: apt-get install chromium", file=sys.stderr)
+        subprocess.run(["apt-get", "install", "-y", "-q", "chromium"], check=True, stdout=subprocess.DEVNULL)
+    return shutil.which("chromium")
+
+
+class Browser:
+    """Chromium, driven by the DevTools protocol over two pipes."""
+
+    def __init__(self):
+        self.folder = tempfile.mkdtemp()
+        words = [chromium(), "--headless=new", "--remote-debugging-pipe", "--no-sandbox", "--disable-gpu", "--hide-scrollbars",
+                 "--disable-background-networking", "--no-first-run", f"--user-data-dir={self.folder}"]
+        to_read, self.out = os.pipe()
+        self.input, to_write = os.pipe()
+
+        def place():
+            """The browser reads from 3 and writes to 4."""
+            low, high = os.dup(to_read), os.dup(to_write)
+            os.dup2(low, 3)
+            os.dup2(high, 4)
+            os.set_inheritable(3, True)
+            os.set_inheritable(4, True)
+
+        self.process = subprocess.Popen(words, preexec_fn=place, close_fds=False, stdin=subprocess.DEVNULL,
+                                        stdout=subprocess.DEVNULL, stderr=subprocess.DEVNULL)
+        os.close(to_read)
+        os.close(to_write)
+        self.held, self.count, self.events, self.session = b"", 0, [], None
+        target = self.call("Target.createTarget", url="about:blank")["targetId"]
+        self.session = self.call("Target.attachToTarget", targetId=target, flatten=True)["sessionId"]
+        for domain in "Page", "Network", "Log", "Runtime":
+            self.call(domain + ".enable")
+
+    def message(self):
+        """The next message."""
+        while b"\0" not in self.held:
+            more = os.read(self.input, 1 << 20)
+            if not more:
+                raise EOFError("the browser ended")
+            self.held += more
+        text, self.held = self.held.split(b"\0", 1)
+        return json.loads(text)
+
+    def call(self, method, **given):
+        """The result of a call; events that come meanwhile are kept."""
+        self.count += 1
+        call = {"id": self.count, "method": method, "params": given}
+        if self.session:
+            call["sessionId"] = self.session
+        os.write(self.out, json.dumps(call).encode() + b"\0")
+        while True:
+            message = self.message()
+            if message.get("id") == self.count:
+                if "error" in message:
+                    raise RuntimeError(f"{method}: {message['error']}")
+                return message["result"]
+            self.events.append(message)
+
+    def open(self, path, width, scheme):
+        """Opens a file at a width, dark or light. Returns what it shows, and the events until it was loaded."""
+        self.call("Emulation.setDeviceMetricsOverride", width=width, height=HEIGHT, deviceScaleFactor=1, mobile=False)
+        self.call("Emulation.setEmulatedMedia", features=[{"name": "prefers-color-scheme", "value": scheme}])
+        self.events = []
+        self.call("Page.navigate", url="file://" + path)
+        while not any(event.get("method") == "Page.loadEventFired" for event in self.events):
+            self.events.append(self.message())
+        shown = self.call("Runtime.evaluate", expression=LOOK, returnByValue=True)
+        if "exceptionDetails" in shown:
+            raise RuntimeError(shown["exceptionDetails"])
+        return shown["result"]["value"], self.events
+
+    def picture(self, path, width, height):
+        """Writes what is open as a PNG."""
+        clip = {"x": 0, "y": 0, "width": width, "height": min(height, HIGHEST), "scale": 1}
+        shot = self.call("Page.captureScreenshot", format="png", clip=clip, captureBeyondViewport=True)
+        with open(path, "wb") as file:
+            file.write(base64.b64decode(shot["data"]))
+
+    def close(self):
+        self.process.terminate()
+        self.process.wait()
+        shutil.rmtree(self.folder, ignore_errors=True)
+
+
+def run(program, words, given):
+    """What the program writes; all that it is given is a source, so that its status is 0 or 7."""
+    done = subprocess.run([program, *words], input=given, stdout=subprocess.PIPE, stderr=subprocess.PIPE)
+    if done.returncode not in (0, 7):
+        raise RuntimeError(f"{' '.join(words)}: status {done.returncode}, {done.stderr}")
+    return done.stdout
+
+
+def by_blocks(text):
+    """The lines below each line of a block."""
+    blocks = []
+    for line in text.decode().splitlines():
+        if line.startswith("BLOCK "):
+            blocks.append([])
+        else:
+            blocks[-1].append(line)
+    return blocks
+
+
+def orders_of(program, given):
+    """The rows of the list of blocks; and of each block its source order, and the best one if it is shown: whether it is that of the
+    source, its time, and what `time --trace` and `why` say of it."""
+    orders = []
+    ordered = run(program, ["order", *SEARCH], given)
+    rows = [SUM.fullmatch(line) for line in run(program, ["sum", *SEARCH], given).decode().splitlines()[:-1]]
+    rows.sort(key=lambda row: int(row[1]))
+    texts = [(by_blocks(run(program, ["time", "--trace"], text)), by_blocks(run(program, words, given)))
+             for text, words in ((given, ["why"]), (ordered, ["why", "--order", *SEARCH]))]
+    for index, row in enumerate(rows):
+        for time, (traces, whys) in zip((row[4], row[5]), texts[: 2 if int(row[5]) < int(row[4]) else 1]):
+            orders.append((whys is texts[0][1], int(time), [TRACE.fullmatch(line) for line in traces[index]], whys[index]))
+    return [list(row.groups()) for row in rows], orders
+
+
+def cause(found):
+    """What a line of `why` says in words."""
+    if found[6]:
+        return f"{found[6]} still to {'be read by' if found[2] == 'THIRD' else 'come from'} {found[8]}"
+    return f"{found[7]} taken by {found[8]}" if found[7] else f"memory used by {found[8]}"
+
+
+def order_faults(order, time, trace, why):
+    """What an order shows otherwise than `time --trace` and `why` say."""
+    rows = [row for row in order["rows"] if row["class"] in ("", "path")]
+    numbers = [int(row["head"][:3]) for row in rows]
+    if len(rows) != len(trace):
+        return [f"{len(rows)} rows for {len(trace)} instructions"]
+    faults = []
+    waits = [WAIT.match(line) for line in why if WAIT.match(line)]
+    for place, (row, number, at) in enumerate(zip(rows, numbers, trace), 1):
+        mine = [wait for wait in waits if int(wait[1]) == number]
+        wanted = [(wait[2], int(wait[3]), int(wait[4])) for wait in mine]
+        seen = [(bar["class"], *span(bar)) for bar in row["bars"]]
+        if seen[:-1] != wanted:
+            faults.append(f"row {place}: waits {seen[:-1]}, not {wanted}")
+        if row["words"] != [cause(wait) for wait in mine]:
+            faults.append(f"row {place}: words {row['words']}")
+        times = f"ISSUE {at[2]} START {at[3]} DONE {at[4]} FREE {at[5]}"
+        if row["bars"][-1]["title"] != times or seen[-1][1] != int(at[3]) or seen[-1][2] > int(at[4]):
+            faults.append(f"row {place}: {row['bars'][-1]['title']}, {seen[-1]}, not {times}")
+    path = " ".join(str(number) for number, row in zip(numbers, rows) if row["class"] == "path")
+    if f"PATH {path}" not in why:
+        faults.append(f"path {path}")
+    for row in order["rows"]:
+        faults += [f"{row['head'].strip()}: {bar} isn't where it says" for bar in row["bars"] if is_apart(row, bar)]
+        faults += [f"{row['head'].strip()}: {bar} is after the end {time}" for bar in row["bars"] if span(bar)[1] > time]
+    return faults
+
+
+def span(bar):
+    """The minor cycles of a bar, from and to."""
+    start = int(bar["x"].removesuffix("em"))
+    return start, start + int(bar["width"].removesuffix("em"))
+
+
+def is_apart(row, bar):
+    """Whether a bar is drawn elsewhere than on its minor cycles."""
+    begin, end = (row["start"] + cycle * row["em"] for cycle in span(bar))
+    return abs(bar["place"][0] - begin) > 0.6 or abs(bar["place"][2] - end) > 0.6
+
+
+def overlaps(places):
+    """Which of these lie over the next one."""
+    return [index for index, (one, other) in enumerate(zip(places, places[1:])) if one[3] > other[1] + 0.6]
+
+
+def faults_of(shown, events, path, rows, orders):
+    """What is wrong with a page that was opened."""
+    faults = []
+    asked = [event["params"]["request"]["url"] for event in events if event.get("method") == "Network.requestWillBeSent"]
+    if asked != ["file://" + path]:
+        faults.append(f"requests {asked}")
+    faults += [json.dumps(event["params"])[:200] for event in events
+               if event.get("method") in ("Log.entryAdded", "Runtime.exceptionThrown", "Runtime.consoleAPICalled")]
+    if shown["title"] != "s66" or not set(shown["elements"]) <= ELEMENTS or not set(shown["attributes"]) <= ATTRIBUTES:
+        faults.append(f"title {shown['title']}, elements {shown['elements']}, attributes {shown['attributes']}")
+    if shown["list"] != rows or not shown["links"]:
+        faults.append(f"list {shown['list']}, not {rows}")
+    if len(shown["blocks"]) != len(rows) or len(shown["orders"]) != len(orders):
+        return faults + [f"{len(shown['blocks'])} blocks and {len(shown['orders'])} orders, not {len(rows)} and {len(orders)}"]
+    if overlaps([piece[1:] for piece in shown["pieces"]]):
+        faults.append("a piece of the page lies over the next one")
+    for number, (order, (_, time, trace, why)) in enumerate(zip(shown["orders"], orders), 1):
+        faults += [f"order {number}: {fault}" for fault in order_faults(order, time, trace, why)]
+        faults += [f"order {number}: row {row} lies over the next one" for row in overlaps([row["place"] for row in order["rows"]])]
+    return faults
+
+
+def text_faults(shown, orders, given):
+    """Rows of source orders that have another text than their lines, a character for each byte."""
+    texts = [found[1] for found in map(INSTRUCTION.match, given.split(b"\n")) if found]
+    wanted = ["".join(chr(byte) if byte == 9 or 32 <= byte < 127 or byte >= 160 else "\ufffd" for byte in text) for text in texts]
+    written = [order for order, (is_source, *_) in zip(shown["orders"], orders) if is_source]
+    rows = [row["head"][5:] for order in written for row in order["rows"] if row["class"] in ("", "path")]
+    return [f"text {row!r}, not {text!r}" for row, text in zip(rows, wanted) if row != text] + (
+        [] if len(rows) == len(wanted) else [f"{len(rows)} texts, not {len(wanted)}"])
+
+
+def random_source(seed):
+    """Some blocks of random instructions, with remarks."""
+    pick = random.Random(seed)
+    lines = []
+    for _ in range(pick.randint(1, 4)):
+        for _ in range(pick.randint(1, 24)):
+            i, j, k = (pick.randint(0, 7) for _ in range(3))
+            lines.append(pick.choice([f"SA{i} A{j}+B{k}", f"SX{i} X{j}+B{k}", f"BX{i} X{j}*X{k}", f"FX{i} X{j}+X{k}", f"FX{i} X{j}*X{k}",
+                                      f"IX{i} X{j}-X{k}", f"LX{i} 12", f"NX{i} B{j},X{k}", f"FX{i} X{j}/X{k}", f"SB{i} {j}{k}"]))
+        lines.append("PS")
+    return "".join(f"  {line}   {'<&>'[: pick.randint(0, 3)]}\n" for line in lines).encode()
+
+
+def pages(program):
+    """Sources by name, and whether pictures are taken of their pages."""
+    for path in sorted(glob.glob(os.path.join(ROOT, "examples/*.compass"))):
+        with open(path, "rb") as file:
+            yield os.path.basename(path).removesuffix(".compass"), file.read(), True
+    for name, source in HOSTILE.items():
+        yield name, source, False
+    for seed in range(8):
+        yield f"random {seed}", random_source(seed), False
+
+
+def check_page(browser, program, name, given, pictures):
+    """What is wrong with the page of a source, at all widths. Pictures are written to this folder, if any."""
+    faults = []
+    rows, orders = orders_of(program, given)
+    with tempfile.NamedTemporaryFile(suffix=".html") as file:
+        file.write(run(program, ["page", *SEARCH], given))
+        file.flush()
+        for width in WIDTHS:
+            for scheme in SCHEMES:
+                shown, events = browser.open(file.name, WIDTHS[width], scheme)
+                found = faults_of(shown, events, file.name, rows, orders) + text_faults(shown, orders, given)
+                faults += [f"{name}, {width}, {scheme}: {fault}" for fault in found]
+                if pictures:
+                    browser.picture(os.path.join(pictures, f"{name}-{width}-{scheme}.png"), WIDTHS[width], shown["height"])
+    return faults
+
+
+def main():
+    program = os.path.abspath(sys.argv[1])
+    folder = sys.argv[2] if len(sys.argv) > 2 else None
+    if folder:
+        os.makedirs(folder, exist_ok=True)
+    browser = Browser()
+    right = wrong = 0
+    try:
+        for name, given, is_pictured in pages(program):
+            faults = check_page(browser, program, name, given, folder if is_pictured else None)
+            for fault in faults:
+                print(fault)
+            right, wrong = right + (not faults), wrong + bool(faults)
+    finally:
+        browser.close()
+    print(f"{right} passed, {wrong} failed")
+    sys.exit(1 if wrong else 0)
+
+
+if __name__ == "__main__":
+    main()
