@@ -126,6 +126,7 @@ impl<'a> Walk<'a> {
     }
 
     /// Goes back by the last number, in constant time.
+    #[inline(always)]
     pub fn undo(&mut self)
         requires { 0 < length self.old.numbers }
         ensures { self.new ≡ record self.old { numbers = front self.old.numbers } }
