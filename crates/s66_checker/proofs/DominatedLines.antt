@@ -8,7 +8,7 @@ use Rattle.s66_model.specs.Timing.{Problem}
 use Rattle.s66_model.specs.LegalOrder.{IsBeginning, IsIncomplete}
 use Rattle.s66_model.specs.Digits.{HaveDigits}
 use Rattle.s66_model.specs.Dominance.{IsSameSet}
-use Rattle.s66_model.specs.NodeNames.{node_at}
+use Rattle.s66_model.specs.NodeNames.{node_named}
 use Rattle.s66_model.specs.DominatedLeaves.{Ending, Bounding, Dominated, Next, Turned, AtLine, IsEarlier, may_be_named, DominatesByRule, MayBeDominated, EndingShows}
 use Rattle.s66_model.specs.Tree.{AtTerminal}
 use Rattle.s66_cert.specs.Document.{Document, is_factual}

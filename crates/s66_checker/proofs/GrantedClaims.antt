@@ -11,7 +11,7 @@ use Rattle.s66_model.specs.Tree.{Vertex, AtTerminal, flat}
 use Rattle.s66_model.specs.DominatedLeaves.{Ending, EndingShows}
 use Rattle.s66_model.proofs.DominatedTrees.{shown-below}
 use Rattle.s66_moments.specs.declared.fact_line.FactLine.{FactLine}
-use Rattle.s66_moments.specs.Known.{line_of, known_first}
+use Rattle.s66_moments.specs.Known.{line_of, known_first, are_taken}
 use Rattle.s66_moments.proofs.ClosedTrees.{lines-below}
 use Rattle.s66_cert.specs.Document.{Document, IsDocument, AreFacts, HasItsLeaves, is_factual, tree_placed}
 use Rattle.s66_checker.specs.declared.verdict.Verdict.{Verdict}
@@ -19,11 +19,11 @@ use Rattle.s66_checker.specs.declared.verdict.Verdict.TheVariants.{Yes, No}
 use Rattle.s66_checker.specs.declared.verdict.Reason.{Reason}
 use Rattle.s66_checker.specs.declared.verdict.Reason.TheVariants as fault
 use Rattle.s66_checker.specs.TrueClaims.{line_tree, IsShown, IsTrueClaim}
-use Rattle.s66_checker.specs.Verdict.{problem_of, facts_of, is_legal_order, line_fault, unless, lines_verdict, are_facts_taken, facts_verdict, time_line_number, bound_line_number, order_line_number, fact_line_number, tree_line_number, verdict}
+use Rattle.s66_checker.specs.Verdict.{problem_of, facts_of, is_legal_order, line_fault, unless, lines_verdict, facts_verdict, time_line_number, bound_line_number, order_line_number, fact_line_number, tree_line_number, verdict}
 use Rattle.s66_checker.proofs.Faultless.{passed, is_legal_order-Decides}
 use Rattle.s66_checker.proofs.DominatedLines.{ending-shows}
 use Rattle.s66_checker.proofs.TreeClaims.{Pass, tree-shows}
-use Rattle.s66_checker.proofs.TakenLines.{facts-yes, facts-sound}
+use Rattle.s66_checker.proofs.TakenLines.{facts-yes}
 use Rattle.s66_checker.proofs.LineClaims.{shown-by_lines}
 
 unless-yes : (line : ℕ) (found : Option Reason) (later : Verdict) (time bound : ℕ) → (unless line found later ≡ Yes time bound) ↔ ((found ≡ None) × (later ≡ Yes time bound))
@@ -42,7 +42,7 @@ record IsGranted (d : Document) : Type 0 where
   order : IsLegal (problem_of d).block d.numbers
   total : total_of (problem_of d) d.numbers ≡ d.time
   within : d.bound ≤ d.time
-  facts : are_facts_taken (problem_of d) d.bound (known_first (problem_of d)) (facts_of d) ≡ true
+  facts : are_taken (problem_of d) d.bound (known_first (problem_of d)) (facts_of d) ≡ true
   lines : Pass d (tree_placed [] d.tree)
 
 granted : (d : Document) (time bound : ℕ) → (verdict d ≡ Yes time bound) ↔ ((time ≡ d.time) × (bound ≡ d.bound) × IsGranted d)
@@ -128,7 +128,7 @@ lines-shown : (limit : ℕ) (d : Document) (lines : List FactLine) → IsDocumen
 lines-shown limit d lines is some at =
     let b : Problem = problem_of d in
     let facts : AreFacts limit d.rule (Some lines) = subst (AreFacts limit d.rule) some is.facts in
-    let taken = facts-sound b d.bound (known_first b) lines (subst (λ f. are_facts_taken b d.bound (known_first b) (unwrap_or f []) ≡ true) some at.facts) in
+    let taken = subst (λ f. are_taken b d.bound (known_first b) (unwrap_or f []) ≡ true) some at.facts in
     shown-by_lines d lines some facts.0 taken
     ((tree-shows d (λ ending. Unit {0}) (λ at ending. IsBeginning b.block at × (line_fault d at (AtTerminal ending) ≡ None)) (λ at ending may begins. ((λ h. (begins, h)), λ h. h.1)) limit d.tree is.tree (λ ending among. tt)).0 at.lines)
 

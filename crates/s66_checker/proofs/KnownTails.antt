@@ -24,7 +24,6 @@ use Rattle.s66_moments.proofs.KnownLines.{after-sound, span-tail}
 use Rattle.s66_cert.specs.Document.{Document}
 use Rattle.s66_facts.specs.Ground.{Ground, known_of as known_in}
 use Rattle.s66_checker.specs.Verdict.{problem_of, facts_of, known_of}
-use Rattle.s66_checker.proofs.TakenLines.{facts-sound}
 use Rattle.s66_checker.specs.KeptKnown.{KnowsAll, AreTaken, HasTails, AreTails, is_reached, is_result_late, is_point_late}
 
 abbrev TailsAre : Problem → Known → Type 0
@@ -34,7 +33,7 @@ TailsAre b known =
 pub has-tails : (d : Document) (g : Ground) → KnowsAll d g → AreTaken d → HasTails g
 has-tails d g knows taken =
     let b : Problem = problem_of d in
-    let all : TailsAre b (known_of d) = span-tail b (facts_after [] (map (line_of b) (facts_of d))) (known_of d) (after-sound b d.bound (facts_of d) (facts-sound b d.bound (known_first b) (facts_of d) taken)).1 in
+    let all : TailsAre b (known_of d) = span-tail b (facts_after [] (map (line_of b) (facts_of d))) (known_of d) (after-sound b d.bound (facts_of d) taken).1 in
     subst (λ (p : Problem). TailsAre p (known_in g)) (sym knows.problem) (subst (λ (k : Known). TailsAre b k) (sym knows.known) all)
 
 -- A BOUND IS REACHED

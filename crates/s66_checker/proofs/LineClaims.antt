@@ -6,7 +6,7 @@ use Rattle.s66_model.specs.declared.rule.Rule.TheVariants.{ClampedStanding}
 use Rattle.s66_model.specs.Timing.{Problem}
 use Rattle.s66_model.specs.LegalOrder.{IsBeginning, is_remaining}
 use Rattle.s66_model.specs.Tree.{Vertex, AtTerminal, TreeHolds}
-use Rattle.s66_model.specs.NodeNames.{node_at}
+use Rattle.s66_model.specs.NodeNames.{node_named}
 use Rattle.s66_model.specs.DominatedLeaves.{Ending, Bounding, Dominated, Next, Turned, AtLine, is_standing, may_be_named, DominatesByRule}
 use Rattle.s66_model.proofs.TreesHold.{tree-weaken, seen-holds}
 use Rattle.s66_moments.specs.declared.fact_line.FactLine.{FactLine}
@@ -63,13 +63,13 @@ module _ (d : Document) (lines : List FactLine) (some : d.facts ≡ Some lines) 
   -- DOMINATED LEAVES
 
   abbrev May : List ℕ → Type 0
-  May name = is_closed (node_at [] (line_tree d) name) ≡ true
+  May name = is_closed (node_named [] (line_tree d) name) ≡ true
 
   dominated-line : (at name : List ℕ) → IsBeginning b.block at → line_fault d at (AtTerminal (Dominated name)) ≡ None → Shows at (line_ending d (Dominated name))
   dominated-line at name begins h =
       let (dominates, may) = (dominated-shows d at name begins).0 h in (
         subst (λ (r : Rule). DominatesByRule r b name at) rule dominates,
-        closed-node d name ∙ subst (λ (r : Rule). may_be_named r (node_at [] d.tree name) ≡ true) rule may,
+        closed-node d name ∙ subst (λ (r : Rule). may_be_named r (node_named [] d.tree name) ≡ true) rule may,
       )
 
   -- by the node of a line

@@ -7,7 +7,7 @@ use Rattle.s66_isa.specs.declared.instr.Instr.{Instr}
 use Rattle.s66_isa.specs.Table.{numbers}
 use Rattle.s66_model.specs.LegalOrder.{is_ready, ready}
 use Rattle.s66_model.specs.Tree.{Tree, Alone, Parted, Siblings, NoMore, Unsplit, Split, Vertex, SiblingsHold, TreeHolds}
-use Rattle.s66_model.specs.NodeNames.{terminal_at, sibling_at, node_at}
+use Rattle.s66_model.specs.NodeNames.{terminal_at, sibling_at, node_named}
 use Rattle.s66_model.specs.DominatedLeaves.{Ending, Bounding, Dominated, Next, Turned, AtLine, is_standing}
 use Rattle.s66_model.specs.Stated.{siblings_seen, tree_seen}
 use Rattle.s66_model.proofs.Remaining.{filter-among}
@@ -52,10 +52,10 @@ module _ (d : Document) where
         | inr is ↦ rw is (closed-siblings siblings prefix ns (k ∷ path))
       ]
 
-  pub closed-node : (name : List ℕ) → is_closed (node_at [] (line_tree d) name) ≡ is_standing (node_at [] d.tree name)
+  pub closed-node : (name : List ℕ) → is_closed (node_named [] (line_tree d) name) ≡ is_standing (node_named [] d.tree name)
   closed-node name = by d.tree
     where
-      by : (tree : Tree Ending) → is_closed (node_at [] (tree_seen seen [] tree) name) ≡ is_standing (node_at [] tree name)
+      by : (tree : Tree Ending) → is_closed (node_named [] (tree_seen seen [] tree) name) ≡ is_standing (node_named [] tree name)
       by (Alone ending) = closed-terminal ending [] name
       by (Parted numbers siblings) = closed-siblings siblings [] numbers name
 
@@ -118,7 +118,7 @@ module _ (block : List Instr) (Q : List ℕ → Ending → Type 0) where
             behind prefix ns m siblings (Split numbers sub siblings) at rise (λ n path other. rw other refl) (siblings-below siblings prefix ns at holds.3 rise.1 later)
       ]
 
-  placed-node : (tree : Tree Ending) (at : List ℕ × Vertex Ending) → TreeHolds block Q [] tree → Among at (tree_placed [] tree) → node_at [] tree at.0 ≡ Some at.1
+  placed-node : (tree : Tree Ending) (at : List ℕ × Vertex Ending) → TreeHolds block Q [] tree → Among at (tree_placed [] tree) → node_named [] tree at.0 ≡ Some at.1
   placed-node (Alone ending) at holds (inl here) = rw (ap (λ (x : List ℕ × Vertex Ending). x.0) here) (ap (λ (x : List ℕ × Vertex Ending). Some x.1) (sym here))
   placed-node (Alone ending) at holds (inr none) = absurd none
   placed-node (Parted numbers siblings) at holds (inl here) = rw (ap (λ (x : List ℕ × Vertex Ending). x.0) here) (ap (λ (x : List ℕ × Vertex Ending). Some x.1) (sym here))
@@ -127,7 +127,7 @@ module _ (block : List Instr) (Q : List ℕ → Ending → Type 0) where
       rw is found
 
   -- the line of a number in the document
-  pub node-found : (d : Document) (line : ℕ) (at : List ℕ × Vertex Ending) → TreeHolds block Q [] d.tree → node_on d line ≡ Some at → node_at [] d.tree at.0 ≡ Some at.1
+  pub node-found : (d : Document) (line : ℕ) (at : List ℕ × Vertex Ending) → TreeHolds block Q [] d.tree → node_on d line ≡ Some at → node_named [] d.tree at.0 ≡ Some at.1
   node-found d line at holds is =
       elim (cases_Bool (ltb line (tree_line_number d))) [
         | inl before ↦ absurd (none-some at (sym (rw before refl) ∙ is))

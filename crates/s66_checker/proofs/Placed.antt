@@ -3,8 +3,7 @@ use Rattle.std.proofs.Common.{ℕ, ◌+◌, ◌*◌, ◌≤◌, ◌≡◌, List,
 use Rattle.s66_model.specs.Later.{children}
 use Rattle.s66_model.specs.Tree.{Tree, Alone, Parted, Siblings, NoMore, Unsplit, Split, Vertex, AtTerminal, AtSplit, sibling_splits, splits, flat_siblings, flat}
 use Rattle.s66_model.specs.DominatedLeaves.{Ending}
-use Rattle.s66_cert.specs.Document.{SiblingsFit, TreeFits}
-use Rattle.s66_checker.specs.Verdict.{siblings_placed, tree_placed}
+use Rattle.s66_cert.specs.Document.{SiblingsFit, TreeFits, siblings_placed, tree_placed}
 
 -- a split puts its children in front of the prefixes that are still to come
 abbrev pub placed : List (Vertex Ending) → List (List ℕ) → List (List ℕ × Vertex Ending)

@@ -3,48 +3,39 @@ use Rattle.std.proofs.Common.{ℕ, suc, ◌≡◌, ◌↔◌, true, false, true�
 use Rattle.std.proofs.lemmas.Bool.{cases_Bool, and_parts, and_from}
 use Rattle.s66_model.specs.Timing.{Problem}
 use Rattle.s66_moments.specs.declared.fact_line.FactLine.{FactLine}
-use Rattle.s66_moments.specs.declared.fact_line.FactLine.TheVariants as line
 use Rattle.s66_moments.specs.Known.{Known, is_taken, with_line, are_taken, known_after}
 use Rattle.s66_cert.specs.Document.{Document}
 use Rattle.s66_checker.specs.declared.verdict.Verdict.{Verdict}
 use Rattle.s66_checker.specs.declared.verdict.Verdict.TheVariants.{Yes, No}
 use Rattle.s66_checker.specs.declared.verdict.Reason.TheVariants as fault
-use Rattle.s66_checker.specs.Verdict.{problem_of, is_fact_taken, are_facts_taken, facts_verdict}
+use Rattle.s66_checker.specs.Verdict.{problem_of, facts_verdict}
 
 pub facts-yes : (d : Document) (facts : List FactLine) (line : ℕ) (known : Known) (later : Verdict) (time bound : ℕ) →
-    (facts_verdict d line known facts later ≡ Yes time bound) ↔ ((are_facts_taken (problem_of d) d.bound known facts ≡ true) × (later ≡ Yes time bound))
+    (facts_verdict d line known facts later ≡ Yes time bound) ↔ ((are_taken (problem_of d) d.bound known facts ≡ true) × (later ≡ Yes time bound))
 facts-yes d [] line known later time bound = ((λ h. (refl, h)), λ h. h.1)
 facts-yes d (fact ∷ facts) line known later time bound =
-    elim (cases_Bool (is_fact_taken (problem_of d) d.bound known fact)) [
+    elim (cases_Bool (is_taken (problem_of d) d.bound known fact)) [
       | inl is ↦ rw is (facts-yes d facts (suc line) (with_line known fact) later time bound)
       | inr not ↦ rw not ((λ h. absurd (cc)), λ h. absurd (true≢false (sym h.0)))
     ]
 
-pub facts-taken : (d : Document) (facts : List FactLine) (line : ℕ) (known : Known) (later : Verdict) → are_facts_taken (problem_of d) d.bound known facts ≡ true → facts_verdict d line known facts later ≡ later
+pub facts-taken : (d : Document) (facts : List FactLine) (line : ℕ) (known : Known) (later : Verdict) → are_taken (problem_of d) d.bound known facts ≡ true → facts_verdict d line known facts later ≡ later
 facts-taken d [] line known later taken = refl
 facts-taken d (fact ∷ facts) line known later taken =
-    let (here, past) = and_parts (is_fact_taken (problem_of d) d.bound known fact) (are_facts_taken (problem_of d) d.bound (with_line known fact) facts) taken in
+    let (here, past) = and_parts (is_taken (problem_of d) d.bound known fact) (are_taken (problem_of d) d.bound (with_line known fact) facts) taken in
     rw here (facts-taken d facts (suc line) (with_line known fact) later past)
 
 -- a line that isn't taken is the first fault, and else the next lines decide
 module _ (d : Document) (fact : FactLine) (facts rest : List FactLine) (cut : rest ≡ fact ∷ facts) (line : ℕ) (known : Known) (later : Verdict) where
-  pub fact-refused : is_fact_taken (problem_of d) d.bound known fact ≡ false → facts_verdict d line known rest later ≡ No line fault.Fact
+  pub fact-refused : is_taken (problem_of d) d.bound known fact ≡ false → facts_verdict d line known rest later ≡ No line fault.Fact
   fact-refused not = rw (cut, not) refl
 
-  module _ (is : is_fact_taken (problem_of d) d.bound known fact ≡ true) where
+  module _ (is : is_taken (problem_of d) d.bound known fact ≡ true) where
     pub fact-passed : facts_verdict d (suc line) (with_line known fact) facts later ≡ facts_verdict d line known rest later
     fact-passed = rw (cut, is) refl
 
-    pub taken-next : are_facts_taken (problem_of d) d.bound (with_line known fact) facts ≡ are_facts_taken (problem_of d) d.bound known rest
+    pub taken-next : are_taken (problem_of d) d.bound (with_line known fact) facts ≡ are_taken (problem_of d) d.bound known rest
     taken-next = rw (cut, is) refl
 
     pub known-next : known_after (with_line known fact) facts ≡ known_after known rest
     known-next = rw cut refl
-
--- what is taken is shown by what is known before it
-pub facts-sound : (b : Problem) (bound : ℕ) (known : Known) (facts : List FactLine) → are_facts_taken b bound known facts ≡ true → are_taken b bound known facts ≡ true
-facts-sound b bound known [] taken = refl
-facts-sound b bound known (line.Pair m n ∷ facts) taken =
-    let (here, past) = and_parts (is_taken b bound known (line.Pair m n)) (are_facts_taken b bound (with_line known (line.Pair m n)) facts) taken in
-    and_from (is_taken b bound known (line.Pair m n)) (are_taken b bound (with_line known (line.Pair m n)) facts) here (facts-sound b bound (with_line known (line.Pair m n)) facts past)
-facts-sound b bound known (line.Load load ∷ facts) taken = absurd (true≢false (sym taken))

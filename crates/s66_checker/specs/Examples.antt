@@ -95,6 +95,7 @@ late_misplaced rule = record (late_reader rule) {
 abbrev pub increments : Rule → Tree Ending → Document
 increments rule tree = record {
   rule = rule;
+  facts = None;
   profile = standard_numbers;
   block = codes "SB0 B1" ∷ codes "SB0 B1" ∷ codes "SB0 B1" ∷ [];
   time = 8;
@@ -107,6 +108,7 @@ increments rule tree = record {
 abbrev pub four_increments : Rule → Document
 four_increments rule = record {
   rule = rule;
+  facts = None;
   profile = standard_numbers;
   block = codes "SB0 B1" ∷ codes "SB0 B1" ∷ codes "SB0 B1" ∷ codes "SB0 B1" ∷ [];
   time = 9;
@@ -160,11 +162,11 @@ abbrev pub at_the_end : Ending → Document
 at_the_end ending =
     first_of_two (Pair 1 2 ∷ []) (Split (2 ∷ []) (Split (3 ∷ []) (Unsplit ending NoMore) NoMore) (Unsplit (Turned 1 2) NoMore))
 
--- two Booleans between the first and the last
-abbrev pub booleans_between : Document
-booleans_between =
+-- two Booleans between the first and the last, which begin so much after the issue of the first
+abbrev pub booleans_between : ℕ → ℕ → Document
+booleans_between after wait =
     with_facts (codes "BX1 X2*X3" ∷ codes "BX4 X1*X1" ∷ codes "BX5 X1*X1" ∷ codes "FX6 X4+X5" ∷ []) (1 ∷ 2 ∷ 3 ∷ 4 ∷ []) 16 16
-    (load_fact (At 1 Issue) End 4 16 (2 ∷ 3 ∷ []) ∷ []) (Alone (Next 1))
+    (load_fact (At 1 Issue) End after wait (2 ∷ 3 ∷ []) ∷ []) (Alone (Next 1))
 
 -- 1 2, on line 12, and 2 1, on line 15
 abbrev pub increments_named : Ending → Ending → Document

@@ -7,7 +7,7 @@ use Rattle.s66_moments.specs.declared.moment.Moment.TheVariants.{End}
 use Rattle.s66_moments.specs.Facts.{IsNumber}
 use Rattle.s66_moments.specs.Moments.{is_moment}
 use Rattle.s66_moments.specs.Networks.{tail}
-use Rattle.s66_moments.specs.Known.{span, arcs_of, known_first}
+use Rattle.s66_moments.specs.Known.{span, arcs_of, known_first, are_taken}
 use Rattle.s66_cert.specs.Document.{Document}
 use Rattle.s66_facts.specs.declared.times.Times.{Times}
 use Rattle.s66_facts.specs.Passes.{AreTimes, times_at}
@@ -15,7 +15,7 @@ use Rattle.s66_facts.specs.Ground.{Ground, known_of as known_in}
 use Rattle.s66_checker.specs.declared.verdict.Verdict.{Verdict}
 use Rattle.s66_checker.specs.declared.verdict.Verdict.TheVariants.{No}
 use Rattle.s66_checker.specs.declared.verdict.Reason.TheVariants as fault
-use Rattle.s66_checker.specs.Verdict.{problem_of, facts_of, known_of, fact_line_number, are_facts_taken, facts_verdict}
+use Rattle.s66_checker.specs.Verdict.{problem_of, facts_of, known_of, fact_line_number, facts_verdict}
 
 -- all that is known of its block after its fact lines
 pub record KnowsAll (d : Document) (g : Ground) : Type 0 where
@@ -24,7 +24,7 @@ pub record KnowsAll (d : Document) (g : Ground) : Type 0 where
 
 -- each of its fact lines is taken
 abbrev pub AreTaken : Document → Type 0
-AreTaken d = are_facts_taken (problem_of d) d.bound (known_first (problem_of d)) (facts_of d) ≡ true
+AreTaken d = are_taken (problem_of d) d.bound (known_first (problem_of d)) (facts_of d) ≡ true
 
 -- the line of this number is the first that isn't
 abbrev pub IsUntaken : Document → ℕ → Type 0

@@ -10,10 +10,9 @@ use Rattle.s66_model.specs.Timing.{Problem, total_of}
 use Rattle.s66_model.specs.LegalOrder.{is_remaining, ready}
 use Rattle.s66_model.specs.Leaves.{Leaf, Whole, Chain, Load, Parcels, value, is_linked}
 use Rattle.s66_model.specs.Tree.{Vertex, AtTerminal, AtSplit}
-use Rattle.s66_model.specs.NodeNames.{node_at}
+use Rattle.s66_model.specs.NodeNames.{node_named}
 use Rattle.s66_model.specs.DominatedLeaves.{Ending, Bounding, Dominated, Next, Turned, AtLine, is_standing, may_be_named}
 use Rattle.s66_moments.specs.declared.fact_line.FactLine.{FactLine}
-use Rattle.s66_moments.specs.declared.fact_line.FactLine.TheVariants as line
 use Rattle.s66_moments.specs.Known.{Known, known_first, with_line, known_after, is_taken, next_value, is_turned}
 use Rattle.s66_cert.specs.Document.{Document, tree_placed}
 use Rattle.s66_checker.specs.declared.verdict.Verdict.{Verdict}
@@ -178,22 +177,11 @@ abbrev pub lines_verdict : Document → ℕ → List (List ℕ × Vertex Ending)
 lines_verdict d line [] = Yes d.time d.bound
 lines_verdict d line (at ∷ later) = unless line (line_fault d at.0 at.1) (lines_verdict d (suc line) later)
 
--- a pair is taken if it is forced; a load isn't taken yet
-abbrev pub is_fact_taken : Problem → ℕ → Known → FactLine → Bool
-is_fact_taken b bound known (line.Pair m n) = is_taken b bound known (line.Pair m n)
-is_fact_taken b bound known (line.Load load) = false
-
--- all of these, one after the other
-abbrev pub are_facts_taken : Problem → ℕ → Known → List FactLine → Bool
-are_facts_taken b bound known [] = true
-are_facts_taken b bound known (fact ∷ facts) =
-    is_fact_taken b bound known fact && are_facts_taken b bound (with_line known fact) facts
-
 -- of these fact lines, by what is known before them, and then of what comes later
 abbrev pub facts_verdict : Document → ℕ → Known → List FactLine → Verdict → Verdict
 facts_verdict d line known [] later = later
 facts_verdict d line known (fact ∷ facts) later =
-    if is_fact_taken (problem_of d) d.bound known fact then facts_verdict d (suc line) (with_line known fact) facts later
+    if is_taken (problem_of d) d.bound known fact then facts_verdict d (suc line) (with_line known fact) facts later
     else No line fault.Fact
 
 -- the fact lines one by one, and then the tree line by line

@@ -111,7 +111,9 @@ pub fn fact_examples()
     ensures not_for_the_time { verdict (two_sums 13) ≡ No 10 fault.Fact }
     ensures bound_above_the_time { verdict (two_sums 14) ≡ No 8 fault.Bound }
     ensures ring { verdict (first_of_two (Pair 1 2 ∷ Pair 2 1 ∷ []) (Unsplit (Next 2) (Unsplit (Turned 1 2) NoMore))) ≡ No 11 fault.Fact }
-    ensures load_is_not_taken { verdict booleans_between ≡ No 11 fault.Fact }
+    ensures by_a_load { verdict (booleans_between 4 16) ≡ Yes 16 16 }
+    ensures load_too_long { verdict (booleans_between 4 17) ≡ No 11 fault.Fact }
+    ensures load_too_late { verdict (booleans_between 5 16) ≡ No 11 fault.Fact }
 {}
 
 /// Verdicts on leaves by facts.

@@ -1,11 +1,11 @@
 //! What is known after the fact lines of a document, by which further leaves close a prefix.
 
-ghost use Rattle.std.specs.Prelude.{◌≡◌, ◌≤◌, IsTrue, IfSome, IfNone, length};
+ghost use Rattle.std.specs.Prelude.{◌≡◌, ◌≤◌, ◌<◌, ◌+◌, IsTrue, IfSome, IfNone, length};
 ghost use Rattle.s66_cert.specs.DocumentParts.{document_of};
 ghost use Rattle.s66_cert.specs.declared.limits.TheConstants.{FACT_LIMIT};
-ghost use Rattle.s66_moments.specs.Known.{known_first, with_line};
+ghost use Rattle.s66_moments.specs.Known.{known_first, with_line, is_taken};
 ghost use Rattle.s66_facts.specs.Ground.{known_of as known_in};
-ghost use Rattle.s66_checker.specs.Verdict.{problem_of, facts_of, is_fact_taken};
+ghost use Rattle.s66_checker.specs.Verdict.{problem_of, facts_of};
 ghost use Rattle.s66_checker.specs.KeptKnown.{KnowsAll, AreTaken, IsUntaken, is_reached, is_result_late, is_point_late};
 
 use crate::point::KeptPoint;
@@ -26,15 +26,17 @@ pub(crate) fn fact_lines(document: &Document) -> &[FactLine]
     }
 }
 
-/// Takes a fact line in if it is shown by what is known, and returns whether it is. If it isn't, nothing changes. A load isn't taken yet.
+/// Takes a fact line in if it is shown by what is known, and returns whether it is. If it isn't, nothing changes.
 fn take(facts: &mut Facts, bound: u32, line: &FactLine) -> bool
-    ensures value { result ≡ is_fact_taken facts.old.problem bound (known_in facts.old) line.now }
+    requires room { length (known_in facts.old).loads < FACT_LIMIT }
+    ensures value { result ≡ is_taken facts.old.problem bound (known_in facts.old) line.now }
     ensures problem { facts.new.problem ≡ facts.old.problem }
     ensures taken { IsTrue result → known_in facts.new ≡ with_line (known_in facts.old) line.now }
+    ensures one_more { length (known_in facts.new).loads ≤ length (known_in facts.old).loads + 1 }
 {
     match line {
         FactLine::Pair(first, second) => facts.take_pair(bound, *first, *second),
-        FactLine::Load(_) => false,
+        FactLine::Load(load) => facts.take_load(load),
     }
 }
 
