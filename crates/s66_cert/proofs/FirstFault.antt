@@ -5,9 +5,10 @@ use Rattle.std.specs.Prelude.{Result, Ok, Err}
 use Rattle.s66_isa.specs.declared.limits.TheConstants.{BLOCK_LIMIT}
 use Rattle.s66_model.specs.Tree.{AtTerminal, AtSplit}
 use Rattle.s66_cert.specs.Document.{Document, IsTextWithin}
-use Rattle.s66_cert.specs.Faults.{IsLine, HaveNoNewline, with_newlines, BeginsWithin, Begins, HasLine, IsBadLine, IsSplitTooMany, IsCut, IsFault}
+use Rattle.s66_cert.specs.Faults.{IsLine, HaveNoNewline, BeginsWithin, Begins, HasLine, IsBadLine, IsSplitTooMany, IsCut, IsFault}
 use Rattle.s66_cert.specs.Lines.{DocumentLine, Header, Profile, Block, Instruction, Time, Bound, Order, OfFact, OfTree, End, line_read}
 use Rattle.s66_cert.specs.Reading.{DocumentState, first_state, place_of_tree, with_vertex, is_leaf_of, takes_fact, wants_dominated, step_at, step_if, step, and_then, steps, ended, is_header, read_within, whole_lines, last_bytes}
+use Rattle.s66_line.specs.Fields.{with_newlines}
 use Rattle.s66_cert.specs.declared.limits.TheConstants.{SPLIT_LIMIT}
 use Rattle.s66_cert.specs.declared.error.CertError.{CertError}
 use Rattle.s66_cert.specs.declared.error.CertError.TheVariants.{BadLine, Truncated, TooManyNodes, OutOfMemory}

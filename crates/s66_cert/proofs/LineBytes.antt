@@ -18,7 +18,8 @@ use Rattle.s66_moments.specs.declared.moment.Moment.TheVariants as moment
 use Rattle.s66_moments.specs.declared.fact_line.FactLine.{FactLine}
 use Rattle.s66_moments.specs.declared.fact_line.FactLine.TheVariants as fact
 use Rattle.s66_moments.specs.Known.{IsMomentWithin}
-use Rattle.s66_cert.specs.Document.{Document, IsDocumentWithin, AreDocumentsWithin, AreIn, AreInstructions, AreFactLines, AreFacts, SiblingsFit, TreeFits, kind_name, moment_text, version}
+use Rattle.s66_cert.specs.Document.{Document, IsDocumentWithin, AreDocumentsWithin, AreIn, AreInstructions, AreFactLines, AreFacts, SiblingsFit, TreeFits, moment_text, version}
+use Rattle.s66_isa.specs.KindNames.{kind_name}
 use Rattle.s66_cert.specs.Faults.{IsLine, HaveNoNewline}
 use Rattle.s66_cert.specs.Lines.{DocumentLine, Header, Profile, Block, Instruction, Time, Bound, Order, OfFact, OfTree, End, line_bytes, IsLineInRange}
 use Rattle.s66_cert.proofs.DocumentLines.{documents_lines, document_lines, open_lines, instructions_of, fact_lines_of, facts_of, vertices_of}

@@ -22,7 +22,8 @@ use Rattle.s66_moments.specs.declared.moment.Moment.TheVariants.{Origin, At}
 use Rattle.s66_moments.specs.declared.moment.Moment.TheVariants as moment
 use Rattle.s66_moments.specs.declared.fact_line.FactLine.TheVariants as fact
 use Rattle.s66_moments.specs.Known.{is_front, is_back, IsMomentWithin}
-use Rattle.s66_cert.specs.Document.{AreIn, AreNumbers, kind_name, moment_text, version}
+use Rattle.s66_cert.specs.Document.{AreIn, AreNumbers, moment_text, version}
+use Rattle.s66_isa.specs.KindNames.{kind_name}
 use Rattle.s66_isa.specs.declared.limits.TheConstants.{PROFILE_LENGTH, PROFILE_LIMIT}
 use Rattle.s66_cert.specs.declared.limits.TheConstants.{TIME_LIMIT, LINE_LIMIT}
 use Rattle.s66_cert.specs.Lines.{DocumentLine, Header, Profile, Block, Instruction, Time, Bound, Order, OfFact, OfTree, End, line_bytes, IsLineInRange, first_word, after_first_word, word_in, rest_in, words_in, numbers_in, number_in, if_count, block_numbers, two_numbers, pair_with, one_number, stage_in, front_in, back_in, load_with, load_after, load_in, is_instruction_text, instruction_in, kind_in, alone, header_in, line_with, line_read}

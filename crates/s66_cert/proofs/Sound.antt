@@ -14,8 +14,9 @@ use Rattle.s66_model.specs.DominatedLeaves.{Ending, Bounding}
 use Rattle.s66_line.specs.InstructionText.{IsInstruction}
 use Rattle.s66_moments.specs.declared.fact_line.FactLine.{FactLine}
 use Rattle.s66_cert.specs.Document.{Document, IsDocumentWithin, AreDocumentsWithin, AreNumbers, AreInstructions, IsFactLine, AreFactLines, AreFacts, HasItsLeaves, IsLeafLine, SiblingsFit, TreeFits, IsTextWithin, documents_text}
-use Rattle.s66_cert.specs.Faults.{with_newlines, IsOpenWithin}
+use Rattle.s66_cert.specs.Faults.{IsOpenWithin}
 use Rattle.s66_cert.specs.Lines.{DocumentLine, Header, Profile, Block, Instruction, Time, Bound, Order, OfFact, OfTree, End, line_bytes, IsLineInRange, line_read}
+use Rattle.s66_line.specs.Fields.{with_newlines}
 use Rattle.s66_cert.specs.DocumentParts.{Parts, document_of, tree_of_lines}
 use Rattle.s66_model.specs.Preorder.{forest, first_tree, first_siblings, later_siblings}
 use Rattle.s66_cert.specs.Reading.{nothing, headed, first_facts, DocumentState, first_state, place_of_instruction, place_of_tree, with_vertex, is_leaf_of, has_room, takes_fact, with_fact, fact_step, wants_dominated, vertex_step, step_at, step_if, step, and_then, steps, ended, is_header, read_within, whole_lines, last_bytes}

@@ -10,8 +10,9 @@ use Rattle.s66_model.specs.DominatedLeaves.{Ending, Bounding, Dominated, Next, T
 use Rattle.s66_moments.specs.declared.fact_line.FactLine.{FactLine}
 use Rattle.s66_moments.specs.declared.fact_line.FactLine.TheVariants as fact
 use Rattle.s66_cert.specs.Document.{Document, tree_lines, leaf_line, instructions_text, moment_text, fact_line, fact_lines, facts_text, version, text_before_end, document_text, documents_text}
-use Rattle.s66_cert.specs.Faults.{IsLine, HaveNoNewline, with_newlines}
+use Rattle.s66_cert.specs.Faults.{IsLine, HaveNoNewline}
 use Rattle.s66_cert.specs.Lines.{DocumentLine, End, line_bytes, fact_bytes, leaf_bytes}
+use Rattle.s66_line.specs.Fields.{with_newlines}
 use Rattle.s66_cert.specs.Reading.{whole_lines, last_bytes}
 use Rattle.s66_cert.proofs.DocumentLines.{open_lines, document_lines, documents_lines, instructions_of, fact_lines_of, facts_of, vertices_of}
 

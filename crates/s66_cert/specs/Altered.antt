@@ -3,7 +3,7 @@ use Rattle.std.specs.Prelude.{ℕ, ◌-◌, ◌+◌, Bool, true, false, List, []
 use Rattle.s66_isa.specs.Lists.{every, after_blanks}
 use Rattle.s66_cert.specs.Document.{Document}
 use Rattle.s66_cert.specs.Examples.{three_multiplies_text, late_reader_text, by_facts_with, by_facts_text}
-use Rattle.s66_cert.specs.Faults.{with_newlines}
+use Rattle.s66_line.specs.Fields.{with_newlines}
 use Rattle.s66_cert.specs.Reading.{whole_lines, read_of}
 use Rattle.s66_cert.specs.declared.error.CertError.{CertError}
 use Rattle.s66_cert.specs.declared.error.CertError.TheVariants.{BadLine, Truncated, TooManyNodes, OutOfMemory}

@@ -45,7 +45,7 @@ tree_at vertices place = tree_of_lines (drop place vertices)
 abbrev pub IsChildAt : List (Vertex Ending) → ℕ → ℕ → Option ℕ → Type 0
 IsChildAt vertices place number None = (path : List ℕ) → node_named [] (tree_at vertices place) (number ∷ path) ≡ None
 IsChildAt vertices place number (Some sibling) =
-    (sibling < length vertices) × ((path : List ℕ) → node_at [] (tree_at vertices place) (number ∷ path) ≡ node_at [] (tree_at vertices sibling) path)
+    (sibling < length vertices) × ((path : List ℕ) → node_named [] (tree_at vertices place) (number ∷ path) ≡ node_named [] (tree_at vertices sibling) path)
 
 -- WHICH LINE STANDS AT A PLACE
 

@@ -4,14 +4,14 @@ ghost use Rattle.s66_isa.specs.declared.limits.TheConstants.{BLOCK_LIMIT};
 ghost use Rattle.s66_line.specs.declared.limits.TheConstants.{TEXT_LIMIT};
 ghost use Rattle.s66_model.specs.Tree.{AtTerminal, Vertex};
 ghost use Rattle.s66_moments.specs.declared.fact_line.FactLine.TheVariants as fact;
-ghost use Rattle.s66_cert.specs.Document.{kind_name, moment_text, instructions_text, fact_lines, tree_lines};
+ghost use Rattle.s66_cert.specs.Document.{moment_text, instructions_text, fact_lines, tree_lines};
 ghost use Rattle.s66_cert.specs.Pages.{Printed};
 ghost use Rattle.s66_tree.specs.Lines.{vertex_of, IsShort};
 
 use arrayvec::ArrayVec;
 use itoa::Buffer;
 use s66_device::{Sink, WriteError, write_all};
-use s66_isa::{BLOCK_LIMIT, Kind};
+use s66_isa::{BLOCK_LIMIT, kind_name};
 use s66_moments::{FactLine, LoadLine, Moment, Stage};
 use s66_tree::TreeLine;
 use std::marker::Model;

@@ -9,7 +9,7 @@ use Rattle.s66_model.specs.Leaves.{Leaf}
 use Rattle.s66_model.specs.Tree.{Siblings, NoMore, Unsplit, Split, Tree, Alone, Parted, Vertex, AtTerminal, AtSplit, SiblingsHold, TreeHolds, LeafShows, Shows}
 use Rattle.s66_model.specs.Dominance.{IsNoWorse, clamp_at}
 use Rattle.s66_model.specs.DominatedLeaves.{Ending, Bounding, Dominated, Next, Turned, AtLine, IsEarlier, may_be_named, DominatesByRule, EndingShows, ShowsBy, siblings_bounding, tree_bounding}
-use Rattle.s66_model.specs.NodeNames.{node_at, is_node}
+use Rattle.s66_model.specs.NodeNames.{node_named, is_node}
 use Rattle.s66_model.proofs.LegalOrders.{GoesOn-join, order-legal, legal-order}
 use Rattle.s66_model.proofs.Remaining.{legal-parts}
 use Rattle.s66_model.proofs.Trees.{leaf-sound}
@@ -151,7 +151,7 @@ may-name ClampedStanding (Some (AtTerminal (AtLine line))) = refl
 module _ (rule : Rule) (b : Problem) (low : ℕ) (prefix : List ℕ) (tree : Tree Ending) where
   ending-says : (at : List ℕ) (ending : Ending) → EndingShows rule b low prefix tree at ending → IsShut b low at ⊎ IsNamed bounds rule b prefix tree at
   ending-says at (Bounding leaf) h = inl (leaf-shuts b low at leaf h)
-  ending-says at (Dominated name) h = inr (name, h.0, sym (may-name rule (node_at prefix tree name)) ∙ h.1)
+  ending-says at (Dominated name) h = inr (name, h.0, sym (may-name rule (node_named prefix tree name)) ∙ h.1)
   ending-says at (Next number) h = absurd h
   ending-says at (Turned first second) h = absurd h
   ending-says at (AtLine line) h = absurd h

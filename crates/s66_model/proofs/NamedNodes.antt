@@ -8,7 +8,7 @@ use Rattle.s66_model.specs.declared.rule.Rule.TheVariants.{NoneNamed, WrittenEar
 use Rattle.s66_model.specs.Timing.{Problem}
 use Rattle.s66_model.specs.LegalOrder.{ready, GoesOn, IsBeginning}
 use Rattle.s66_model.specs.Tree.{Siblings, NoMore, Unsplit, Split, Tree, Alone, Parted, Vertex, AtTerminal, AtSplit}
-use Rattle.s66_model.specs.NodeNames.{terminal_at, sibling_at, node_at}
+use Rattle.s66_model.specs.NodeNames.{terminal_at, sibling_at, node_named}
 use Rattle.s66_model.specs.DominatedLeaves.{Ending, Bounding, Dominated, Next, Turned, AtLine, may_be_named}
 use Rattle.s66_model.specs.Ledger.{Ledger, Node, State, Open, Out, Cut, Closed, may_name, HasNamed}
 use Rattle.s66_model.specs.NodeTable.{stands_at, IsTable}

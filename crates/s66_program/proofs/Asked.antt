@@ -3,13 +3,13 @@ use Rattle.std.proofs.Common.{List, None, Some}
 use Rattle.s66_model.specs.declared.options.Options.{Options}
 use Rattle.s66_command.specs.declared.command.Command.{Command}
 use Rattle.s66_command.specs.declared.command.Command.TheVariants.{Time, Deps, Chart, Why, Page, Order, Prove, Check, Lint, Sum}
-use Rattle.s66_program.specs.Output.{IsSearchWithin, IsWithin}
+use Rattle.s66_program.specs.Output.{IsSearchWithin, IsWithinLimits}
 use Rattle.s66_command.specs.Usage.{Asks, GivesSearch, Text}
 
 search-within : (words : List Text) (options : Options) → GivesSearch words options → IsSearchWithin options.workers options.nodes
 search-within words options h = (h.1, h.2, h.4)
 
-pub asked-within : (words : List Text) (command : Command) → Asks words command → IsWithin command
+pub asked-within : (words : List Text) (command : Command) → Asks words command → IsWithinLimits command
 asked-within words (Time cut trace only profile) h = tt
 asked-within words (Deps cut only) h = tt
 asked-within words (Chart cut texts only profile) h = tt

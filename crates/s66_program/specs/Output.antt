@@ -33,17 +33,17 @@ abbrev pub IsSearchWithin : (workers nodes : ℕ) → Type 0
 IsSearchWithin workers nodes = (1 ≤ workers) × (workers ≤ WORKERS_LIMIT) × (nodes ≤ BUDGET_LIMIT)
 
 -- the numbers of a command are within their limits
-abbrev pub IsWithin : Command → Type 0
-IsWithin (Time cut trace only profile) = Unit {0}
-IsWithin (Deps cut only) = Unit {0}
-IsWithin (Chart cut texts only profile) = Unit {0}
-IsWithin (Why cut order only profile) = IfSome order (λ options. IsSearchWithin options.workers options.nodes)
-IsWithin (Page cut options only profile) = IsSearchWithin options.workers options.nodes
-IsWithin (Order cut options trace profile) = IsSearchWithin options.workers options.nodes
-IsWithin (Prove cut options profile) = IsSearchWithin options.workers options.nodes
-IsWithin Check = Unit {0}
-IsWithin Lint = Unit {0}
-IsWithin (Sum cut options trace profile) = IsSearchWithin options.workers options.nodes
+abbrev pub IsWithinLimits : Command → Type 0
+IsWithinLimits (Time cut trace only profile) = Unit {0}
+IsWithinLimits (Deps cut only) = Unit {0}
+IsWithinLimits (Chart cut texts only profile) = Unit {0}
+IsWithinLimits (Why cut order only profile) = IfSome order (λ options. IsSearchWithin options.workers options.nodes)
+IsWithinLimits (Page cut options only profile) = IsSearchWithin options.workers options.nodes
+IsWithinLimits (Order cut options trace profile) = IsSearchWithin options.workers options.nodes
+IsWithinLimits (Prove cut options profile) = IsSearchWithin options.workers options.nodes
+IsWithinLimits Check = Unit {0}
+IsWithinLimits Lint = Unit {0}
+IsWithinLimits (Sum cut options trace profile) = IsSearchWithin options.workers options.nodes
 
 -- PROFILES
 

@@ -1,6 +1,6 @@
 ghost use Rattle.std.specs.Prelude.{◌≡◌, ◌<◌, ◌^◌, ◌++◌, OnOk, IfOk, IfErr, IfSome};
 ghost use Rattle.s66_program.specs.declared.outcome.Status.TheVariants.{Done};
-ghost use Rattle.s66_program.specs.Output.{IsListing, IsOutput, IsSearchWithin, IsWaitsOutput, IsWithin, block_lines, lines_of_blocks};
+ghost use Rattle.s66_program.specs.Output.{IsListing, IsOutput, IsSearchWithin, IsWaitsOutput, IsWithinLimits, block_lines, lines_of_blocks};
 ghost use Rattle.s66_program.specs.Run.{IsRefusal};
 
 use crate::chart_text::push_chart_lines;

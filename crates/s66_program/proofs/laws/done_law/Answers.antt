@@ -1,4 +1,4 @@
-use Rattle.std.proofs.Common.{◌≡◌, Bool, true, false, true≢false, List, ◌∷◌, refl, sym, subst, inl, inr, if◌then◌else◌}
+use Rattle.std.proofs.Common.{◌≡◌, Bool, true, false, true≢false, [], List, ◌∷◌, refl, sym, subst, inl, inr, if◌then◌else◌}
 use Rattle.s66_isa.specs.Lists.{Among}
 use Rattle.s66_isa.proofs.Lists.{every-each}
 use Rattle.s66_isa.specs.declared.limits.TheConstants.{BLOCK_LIMIT}

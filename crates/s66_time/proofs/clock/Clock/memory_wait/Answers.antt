@@ -3,7 +3,8 @@ use Rattle.s66_isa.specs.Lists.{greatest}
 use Rattle.s66_isa.specs.Table.{memory_pair}
 use Rattle.s66_line.specs.Block.{instrs_of}
 use Rattle.s66_model.specs.Timing.{Problem, Point, points_of}
-use Rattle.s66_time.specs.ClockWords.{wait_of, refs_wait}
+use Rattle.s66_model.specs.Dominance.{references_wait}
+use Rattle.s66_time.specs.ClockWords.{wait_of}
 use Rattle.s66_time.specs.Ticking.{points, numbers_of}
 use Rattle.s66_time.proofs.ClockPoints.{memory-is}
 use Rattle.s66_time.proofs.Clocks.{clock-words, clock-turn}
@@ -18,7 +19,7 @@ returns-clause-value c =
     let words = clock-words b c.self.inside.words ks c.self.invariant.clock in
     c.memory_wait.ensures
     ∙ ap (λ x. wait_of c.args.memory x c.self.inside.words.progress.stores) words.refs
-    ∙ ap (λ x. wait_of c.args.memory (refs_wait s) x) words.stores
+    ∙ ap (λ x. wait_of c.args.memory (references_wait s) x) words.stores
     ∙ sym (memory-is c.args.memory s)
     ∙ ap (λ t. greatest (λ (p : Point). cond (memory_pair p.row.memory c.args.memory) (p.start + 1) 0) (points t)) c.self.view_is
 
@@ -33,7 +34,7 @@ returns-clause-at_most c =
       arith,
       c.memory_wait.ensures,
       ap (λ x. wait_of c.args.memory x c.self.inside.words.progress.stores) words.refs,
-      ap (λ x. wait_of c.args.memory (refs_wait s) x) words.stores,
+      ap (λ x. wait_of c.args.memory (references_wait s) x) words.stores,
       memory-is c.args.memory s,
       waits-le s (λ (p : Point). memory_pair p.row.memory c.args.memory) turn,
       turn.early,
