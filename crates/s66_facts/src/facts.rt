@@ -80,7 +80,8 @@ impl Facts {
     }
 
     /// The longest paths from the moments of all instructions to the end, by what is known; those of number n are at n - 1. It takes
-    /// time quadratic in the block's length, and linear in the loads for each number.
+    /// time quadratic in the block's length, cubic at most if many numbers are known to stand before what is written before them, and
+    /// linear in the loads for each number.
     pub fn tails(&self) -> [Times; BLOCK_LIMIT]
         ensures { (n : ℕ) → IsNumber self.now.problem n → AreTimes self.now.problem (λ m. span self.now.problem (arcs_of self.now.problem (known_of self.now)) m End) n (times_at result n) }
     {

@@ -142,8 +142,8 @@ fn tell_tails(facts: &Facts, to: &Moment, times: &mut [Times; BLOCK_LIMIT], done
     marked
 }
 
-/// The longest paths from a moment to those of all numbers. It takes time quadratic in the block's length, and linear in the loads for
-/// each number.
+/// The longest paths from a moment to those of all numbers. It takes time quadratic in the block's length, cubic at most if many numbers
+/// are known to stand before what is written before them, and linear in the loads for each number.
 pub(crate) fn heads(facts: &Facts, from: &Moment) -> [Times; BLOCK_LIMIT]
     requires few { length facts.now.problem.block ≤ BLOCK_LIMIT }
     requires ordered { IsOrdered facts.now }
