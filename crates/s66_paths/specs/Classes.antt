@@ -1,4 +1,4 @@
--- Used by contracts within the crate alone: instructions that wait for one word of a clock, and the greatest of that word with what follows at one of them.
+-- Used by contracts: instructions that wait for one word of a clock, and the greatest of that word with what follows at one of them.
 use Rattle.std.specs.Prelude.{ℕ, ◌+◌, ◌-◌, ◌≡◌, ◌≤◌, ◌==◌, Bool, false, if◌then◌else◌, not, ◌&&◌, max, min, List, [], ◌∷◌, length, map, get_or}
 use Rattle.std.specs.List.{filter}
 use Rattle.s66_isa.specs.declared.instr.Kind.{Kind}
