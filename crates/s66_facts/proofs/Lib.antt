@@ -10,3 +10,5 @@ pub mod FirstKnown
 pub mod Paired
 pub mod PairTaken
 pub mod LoadTaken
+pub mod SameTimes
+pub mod Settled

@@ -1,8 +1,8 @@
 -- What is marked, by the bits of its word.
-use Rattle.std.proofs.Common.{ℕ, ◌+◌, ◌-◌, ◌*◌, ◌%◌, ◌^◌, ◌≤◌, ◌<◌, ◌≡◌, ◌↔◌, true, ◌||◌, ◌==◌, IsTrue, bit_and, bit_or, eqb-true, eq-eqb, ne_eqb, refl, sym, ap, ◌∙◌, inl, inr, arith}
-use Rattle.std.specs.Int.{w128, bit_at}
+use Rattle.std.proofs.Common.{ℕ, ◌+◌, ◌-◌, ◌*◌, ◌%◌, ◌^◌, ◌≤◌, ◌<◌, ◌≡◌, ◌↔◌, true, ◌||◌, ◌&&◌, not, ◌==◌, IsTrue, bit_and, bit_or, eqb-true, eq-eqb, ne_eqb, refl, sym, ap, ◌∙◌, inl, inr, arith}
+use Rattle.std.specs.Int.{w128, bit_at, bit_not}
 use Rattle.std.proofs.lemmas.Bool.{cases_eq, cases_lt}
-use Rattle.std.proofs.lemmas.Nat.Bits.{bit_at-lt, bit_at_and, bit_at_above, bit_at_or, bit_at_set_same, bit_at_set_other, same_from_bits}
+use Rattle.std.proofs.lemmas.Nat.Bits.{bit_at-lt, bit_at_and, bit_at_not, bit_at_above, bit_at_or, bit_at_set_same, bit_at_set_other, same_from_bits}
 use Rattle.s66_isa.specs.declared.limits.TheConstants.{BLOCK_LIMIT}
 use Rattle.s66_facts.specs.Marked.{is_marked}
 use Rattle.s66_facts.specs.declared.marks.Marks.{Marks}
@@ -44,3 +44,8 @@ marks-within own other fits =
 
 pub marked-both : (own other : Marks) (m : ℕ) → is_marked (record { bits = bit_or own.bits other.bits }) m ≡ (is_marked own m || is_marked other m)
 marked-both own other m = grind (arith, bit_at_or own.bits other.bits (m - 1), bit_at-lt own.bits (m - 1), bit_at-lt other.bits (m - 1))
+
+pub marked-but : (own other : Marks) (m : ℕ) → other.bits < 2 ^ 128 → 1 ≤ m → m ≤ BLOCK_LIMIT → is_marked (record { bits = bit_and own.bits (bit_not w128 other.bits) }) m ≡ (is_marked own m && not (is_marked other m))
+marked-but own other m fits low high =
+    let place : m - 1 < 128 = omega (arith, low, high) in
+    grind (arith, bit_at_and own.bits (bit_not w128 other.bits) (m - 1), bit_at_not w128 other.bits (m - 1) fits place, bit_at-lt own.bits (m - 1), bit_at-lt other.bits (m - 1))

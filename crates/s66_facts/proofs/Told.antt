@@ -16,13 +16,13 @@ use Rattle.s66_facts.specs.Rounds.{AreHeads, AreTails, IsReady, IsReadyBack}
 use Rattle.s66_facts.proofs.HeadLaw.{heads-are}
 use Rattle.s66_facts.proofs.TailLaw.{tails-are}
 
-set-same : (times : List Times) (n : ℕ) (t : Times) → 1 ≤ n → n ≤ length times → times_at (set times (n - 1) t) n ≡ t
+pub set-same : (times : List Times) (n : ℕ) (t : Times) → 1 ≤ n → n ≤ length times → times_at (set times (n - 1) t) n ≡ t
 set-same times zero t low high = absurd (omega (arith, low))
 set-same times (suc j) t low high =
     let e : suc j - 1 ≡ j = omega arith in
     ap (λ i. get_or (set times i t) j no_times) e ∙ get_or-set_same times j t no_times (omega (arith, high))
 
-set-other : (times : List Times) (n k : ℕ) (t : Times) → 1 ≤ n → 1 ≤ k → k ≢ n → times_at (set times (n - 1) t) k ≡ times_at times k
+pub set-other : (times : List Times) (n k : ℕ) (t : Times) → 1 ≤ n → 1 ≤ k → k ≢ n → times_at (set times (n - 1) t) k ≡ times_at times k
 set-other times n zero t low one differ = absurd (omega (arith, one))
 set-other times n (suc i) t low one differ = get_or-set_other times (n - 1) i t no_times (λ e. differ (omega (arith, e, low)))
 
@@ -65,7 +65,7 @@ module _ (g : Ground) (ordered : IsOrdered g) (times : List Times) (done new : M
 -- BY PLACES
 
 module _ (g : Ground) (ordered : IsOrdered g) where
-  abbrev place : ℕ → ℕ
+  abbrev pub place : ℕ → ℕ
   place = place_by g.problem (before_in g.marks)
 
   pub place-less : (m n : ℕ) → IsNumber g.problem m → IsNumber g.problem n → before_in g.marks m n ≡ true → place m < place n

@@ -2,3 +2,4 @@ pub mod Marked
 pub mod Ground
 pub mod Passes
 pub mod Rounds
+pub mod Settled

@@ -1,4 +1,4 @@
--- Used by contracts within the crate alone: which numbers have their times already, each after those on which it waits.
+-- Used by contracts within the crate alone: the times of all numbers, and which numbers have theirs already, each after those on which it waits.
 use Rattle.std.specs.Prelude.{ℕ, ◌≡◌, ◌≤◌, true, List}
 use Rattle.s66_isa.specs.declared.limits.TheConstants.{BLOCK_LIMIT}
 use Rattle.s66_moments.specs.declared.moment.Moment.{Moment}
@@ -9,6 +9,16 @@ use Rattle.s66_facts.specs.declared.times.Times.{Times}
 use Rattle.s66_facts.specs.Marked.{is_marked, before_in}
 use Rattle.s66_facts.specs.Ground.{Ground, ground_arcs}
 use Rattle.s66_facts.specs.Passes.{times_at, AreTimes}
+
+-- the longest paths from a moment to those of each number
+abbrev pub AreAllHeads : Ground → Moment → List Times → Type 0
+AreAllHeads g e times =
+    (n : ℕ) → IsNumber g.problem n → AreTimes g.problem (λ m. span g.problem (ground_arcs g) e m) n (times_at times n)
+
+-- and from those to a moment
+abbrev pub AreAllTails : Ground → Moment → List Times → Type 0
+AreAllTails g f times =
+    (n : ℕ) → IsNumber g.problem n → AreTimes g.problem (λ m. span g.problem (ground_arcs g) m f) n (times_at times n)
 
 -- the longest paths from a moment to those of each number that is marked
 abbrev pub AreHeads : Ground → Moment → List Times → Marks → Type 0

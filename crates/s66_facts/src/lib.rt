@@ -2,8 +2,10 @@
 //! Nothing here schedules or allocates.
 #![tactic(auto, unfolding(s66_isa::specs::Table::row))]
 
+mod again;
 mod closure;
 mod facts;
+mod graph;
 mod heads;
 mod limits;
 mod loads;
@@ -16,4 +18,4 @@ mod times;
 pub use facts::Facts;
 pub use limits::FACT_LIMIT;
 pub use marks::Marks;
-pub use times::Times;
+pub use times::{Times, times_at};

@@ -1,61 +1,61 @@
 //! Whether a load line is a fact, by what is known.
 
-ghost use Rattle.std.specs.Prelude.{◌+◌, ◌*◌, ◌^◌, ◌≡◌, ◌≤◌, ◌<◌, ◌&&◌, true, Some, length, map};
+ghost use Rattle.std.specs.Prelude.{◌+◌, ◌*◌, ◌^◌, ◌≡◌, ◌≤◌, ◌<◌, ◌&&◌, true, Some, length, map, nat_lt};
 ghost use Rattle.s66_isa.specs.declared.limits.TheConstants.{BLOCK_LIMIT};
 ghost use Rattle.s66_isa.specs.Lists.{every, weigh};
 ghost use Rattle.s66_model.specs.Timing.{row_at};
 ghost use Rattle.s66_moments.specs.Facts.{IsNumber};
 ghost use Rattle.s66_moments.specs.Moments.{is_moment};
 ghost use Rattle.s66_moments.specs.FactLines.{Use, use_time};
-ghost use Rattle.s66_moments.specs.Known.{is_front, is_back, is_number, use_of, kind_of_load, plus, span, reaches, are_rising, leads_up, is_used, are_used, is_arc_up, is_load_taken};
+ghost use Rattle.s66_moments.specs.Known.{is_front, is_back, is_number, use_of, kind_of_load, plus, span, reaches, are_rising, leads_up, is_used, are_used, is_arc_up};
 ghost use Rattle.s66_facts.specs.Marked.{before_in};
-ghost use Rattle.s66_facts.specs.Ground.{ground_arcs, known_of};
+ghost use Rattle.s66_facts.specs.Ground.{ground_arcs};
 ghost use Rattle.s66_facts.specs.Passes.{AreTimes};
+ghost use Rattle.s66_facts.specs.Rounds.{AreAllHeads, AreAllTails};
 
-use crate::facts::Facts;
-use crate::rounds::{heads, tails};
+use crate::graph::Graph;
 use crate::times::{Times, times_at};
-use s66_isa::{Kind, is_same_kind};
+use s66_isa::{BLOCK_LIMIT, Kind, is_same_kind};
 use s66_moments::{LoadLine, Moment, Stage};
 
 /// Whether a load may come after a moment: it is the origin, or an issue or a start of an instruction of the block.
-fn is_front(facts: &Facts, moment: &Moment) -> bool
-    ensures { result ≡ (is_front moment.now && is_moment facts.now.problem moment.now) }
+fn is_front(graph: &Graph, moment: &Moment) -> bool
+    ensures { result ≡ (is_front moment.now && is_moment graph.now.problem moment.now) }
 {
     match moment {
         Moment::Origin => true,
-        Moment::At(n, Stage::Issue | Stage::Start) => facts.is_number(*n),
+        Moment::At(n, Stage::Issue | Stage::Start) => graph.is_number(*n),
         Moment::At(_, Stage::Done(_) | Stage::Free) | Moment::End => false,
     }
 }
 
 /// Whether it may come before a moment: it is an issue or a start of an instruction of the block, or the end.
-fn is_back(facts: &Facts, moment: &Moment) -> bool
-    ensures { result ≡ (is_back moment.now && is_moment facts.now.problem moment.now) }
+fn is_back(graph: &Graph, moment: &Moment) -> bool
+    ensures { result ≡ (is_back moment.now && is_moment graph.now.problem moment.now) }
 {
     match moment {
-        Moment::At(n, Stage::Issue | Stage::Start) => facts.is_number(*n),
+        Moment::At(n, Stage::Issue | Stage::Start) => graph.is_number(*n),
         Moment::Origin | Moment::At(_, Stage::Done(_) | Stage::Free) => false,
         Moment::End => true,
     }
 }
 
 /// Whether a number is known to stand before another, both of the block.
-fn stands_before(facts: &Facts, m: u8, n: u8) -> bool
-    ensures { result ≡ before_in facts.now.marks m n }
+fn stands_before(graph: &Graph, m: u8, n: u8) -> bool
+    ensures { result ≡ before_in graph.now.marks m n }
 {
     // its clauses say how many marks there are
-    let _count = facts.count();
-    facts.is_number(m) && facts.is_number(n) && facts.is_before(m, n)
+    let _count = graph.count();
+    graph.is_number(m) && graph.is_number(n) && graph.is_before(m, n)
 }
 
 /// Whether the number of the first moment stands before that of the second; so it is if one of them has none.
-fn leads_up(facts: &Facts, from: &Moment, to: &Moment) -> bool
-    ensures { result ≡ leads_up (before_in facts.now.marks) from.now to.now }
+fn leads_up(graph: &Graph, from: &Moment, to: &Moment) -> bool
+    ensures { result ≡ leads_up (before_in graph.now.marks) from.now to.now }
 {
     match from {
         Moment::At(m, _) => match to {
-            Moment::At(n, _) => stands_before(facts, *m, *n),
+            Moment::At(n, _) => stands_before(graph, *m, *n),
             Moment::Origin | Moment::End => true,
         },
         Moment::Origin | Moment::End => true,
@@ -63,18 +63,18 @@ fn leads_up(facts: &Facts, from: &Moment, to: &Moment) -> bool
 }
 
 /// Whether a load may lead from one of these moments to the other.
-fn is_arc_up(facts: &Facts, from: &Moment, to: &Moment) -> bool
-    ensures { result ≡ is_arc_up facts.now.problem (before_in facts.now.marks) from.now to.now }
+fn is_arc_up(graph: &Graph, from: &Moment, to: &Moment) -> bool
+    ensures { result ≡ is_arc_up graph.now.problem (before_in graph.now.marks) from.now to.now }
 {
-    is_front(facts, from) && is_back(facts, to) && leads_up(facts, from, to)
+    is_front(graph, from) && is_back(graph, to) && leads_up(graph, from, to)
 }
 
 /// Whether the block has each of these numbers.
-fn are_numbers(facts: &Facts, numbers: &[u8]) -> bool
-    ensures { result ≡ every (is_number facts.now.problem) numbers.now }
+fn are_numbers(graph: &Graph, numbers: &[u8]) -> bool
+    ensures { result ≡ every (is_number graph.now.problem) numbers.now }
 {
     for n in numbers {
-        if !facts.is_number(*n) {
+        if !graph.is_number(*n) {
             return false;
         }
     }
@@ -94,37 +94,37 @@ fn are_rising(numbers: &[u8]) -> bool
 }
 
 /// How many minor cycles a number has its unit: it works, and is free one later.
-fn amount(facts: &Facts, n: u8) -> u64
-    requires { IsNumber facts.now.problem n }
-    ensures value { result ≡ (row_at facts.now.problem n).hold + 1 }
+fn amount(graph: &Graph, n: u8) -> u64
+    requires { IsNumber graph.now.problem n }
+    ensures value { result ≡ (row_at graph.now.problem n).hold + 1 }
     ensures at_most { result ≤ 2 ^ 32 }
 {
-    facts.row(n).hold as u64 + 1
+    graph.row(n).hold as u64 + 1
 }
 
 /// The amounts of all of them.
-fn amounts(facts: &Facts, numbers: &[u8]) -> u64
+fn amounts(graph: &Graph, numbers: &[u8]) -> u64
     requires few { length numbers.now ≤ BLOCK_LIMIT }
-    requires numbers { every (is_number facts.now.problem) numbers.now ≡ true }
-    ensures value { result ≡ weigh (λ (u : Use). u.amount) (map (use_of facts.now.problem) numbers.now) }
+    requires numbers { every (is_number graph.now.problem) numbers.now ≡ true }
+    ensures value { result ≡ weigh (λ (u : Use). u.amount) (map (use_of graph.now.problem) numbers.now) }
     ensures at_most { result ≤ length numbers.now * 2 ^ 32 }
 {
     let mut sum = 0u64;
     for n in numbers {
-        sum += amount(facts, *n);
+        sum += amount(graph, *n);
     }
     sum
 }
 
 /// How long the units of a kind have work, if the amounts are divided among them: rounded up.
-fn use_time(facts: &Facts, kind: Kind, numbers: &[u8]) -> u64
+fn use_time(graph: &Graph, kind: Kind, numbers: &[u8]) -> u64
     requires few { length numbers.now ≤ BLOCK_LIMIT }
-    requires numbers { every (is_number facts.now.problem) numbers.now ≡ true }
-    ensures value { result ≡ use_time facts.now.problem kind (map (use_of facts.now.problem) numbers.now) }
+    requires numbers { every (is_number graph.now.problem) numbers.now ≡ true }
+    ensures value { result ≡ use_time graph.now.problem kind (map (use_of graph.now.problem) numbers.now) }
     ensures at_most { result ≤ 2 ^ 40 }
 {
-    let copies = facts.copies(kind) as u64;
-    (amounts(facts, numbers) + (copies - 1)) / copies
+    let copies = graph.copies(kind) as u64;
+    (amounts(graph, numbers) + (copies - 1)) / copies
 }
 
 /// Whether there is a path, and it takes so long at least.
@@ -166,7 +166,7 @@ fn is_used_from(
 
 /// Whether the unit of a number is of the kind, and is used from its issue or from its start on.
 fn is_used(
-    facts: &Facts,
+    graph: &Graph,
     line: &LoadLine,
     kind: Kind,
     time: u64,
@@ -174,51 +174,53 @@ fn is_used(
     head: &Times,
     tail: &Times,
 ) -> bool
-    requires number { IsNumber facts.now.problem n }
+    requires number { IsNumber graph.now.problem n }
     requires time { time ≤ 2 ^ 40 }
-    requires head { AreTimes facts.now.problem (λ m. span facts.now.problem (ground_arcs facts.now) line.now.from m) n head.now }
-    requires tail { AreTimes facts.now.problem (λ m. span facts.now.problem (ground_arcs facts.now) m line.now.to) n tail.now }
-    ensures { result ≡ is_used facts.now.problem (ground_arcs facts.now) line.now kind time n }
+    requires head { AreTimes graph.now.problem (λ m. span graph.now.problem (ground_arcs graph.now) line.now.from m) n head.now }
+    requires tail { AreTimes graph.now.problem (λ m. span graph.now.problem (ground_arcs graph.now) m line.now.to) n tail.now }
+    ensures { result ≡ is_used graph.now.problem (ground_arcs graph.now) line.now kind time n }
 {
-    let amount = amount(facts, n);
-    is_same_kind(facts.row(n).kind, kind)
+    let amount = amount(graph, n);
+    is_same_kind(graph.row(n).kind, kind)
         && (is_used_from(line, amount, time, head.issue, tail.issue)
             || is_used_from(line, amount, time, head.start, tail.start))
 }
 
 /// Whether each number of a line is of the block, and so used.
-fn are_used(facts: &Facts, line: &LoadLine) -> bool
-    requires from { is_front line.now.from ≡ true }
-    requires to { is_back line.now.to ≡ true }
+pub(crate) fn are_used(
+    graph: &Graph,
+    line: &LoadLine,
+    heads: &[Times; BLOCK_LIMIT],
+    tails: &[Times; BLOCK_LIMIT],
+) -> bool
     requires some { 0 < length line.now.numbers.items }
-    ensures { result ≡ are_used facts.now.problem (ground_arcs facts.now) line.now (kind_of_load facts.now.problem line.now.numbers.items) }
+    requires heads { AreAllHeads graph.now line.now.from heads.now }
+    requires tails { AreAllTails graph.now line.now.to tails.now }
+    ensures { result ≡ are_used graph.now.problem (ground_arcs graph.now) line.now (kind_of_load graph.now.problem line.now.numbers.items) }
 {
-    // its clauses say that the block is short, and that nothing forms a ring
-    let _count = facts.count();
+    // its clauses say that the block is short
+    let _count = graph.count();
     let numbers = line.numbers.as_slice();
-    if !are_numbers(facts, numbers) {
+    if !are_numbers(graph, numbers) {
         return false;
     }
-    let kind = facts.row(numbers[0]).kind;
-    let time = use_time(facts, kind, numbers);
-    let heads = heads(facts, &line.from);
-    let tails = tails(facts, &line.to);
+    let kind = graph.row(numbers[0]).kind;
+    let time = use_time(graph, kind, numbers);
     for n in numbers {
-        let head = times_at(&heads, *n);
-        let tail = times_at(&tails, *n);
-        if !is_used(facts, line, kind, time, *n, &head, &tail) {
+        let head = times_at(heads, *n);
+        let tail = times_at(tails, *n);
+        if !is_used(graph, line, kind, time, *n, &head, &tail) {
             return false;
         }
     }
     true
 }
 
-/// Whether a load line is a fact of all legal orders, by what is known.
-pub(crate) fn is_load_taken(facts: &Facts, line: &LoadLine) -> bool
-    ensures { result ≡ is_load_taken facts.now.problem (known_of facts.now) line.now }
+/// Whether a load line leads up between moments that it may have, and has some numbers, each once.
+pub(crate) fn is_load_line(graph: &Graph, line: &LoadLine) -> bool
+    ensures { result ≡ (is_arc_up graph.now.problem (before_in graph.now.marks) line.now.from line.now.to && nat_lt 0 (length line.now.numbers.items) && are_rising line.now.numbers.items) }
 {
-    is_arc_up(facts, &line.from, &line.to)
+    is_arc_up(graph, &line.from, &line.to)
         && !line.numbers.is_empty()
         && are_rising(line.numbers.as_slice())
-        && are_used(facts, line)
 }

@@ -1,4 +1,4 @@
-ghost use Rattle.std.specs.Prelude.{ℕ, ◌≡◌, ◌≤◌, ◌==◌, ◌||◌, ◌↔◌, IsTrue, true, false};
+ghost use Rattle.std.specs.Prelude.{ℕ, ◌≡◌, ◌≤◌, ◌==◌, ◌||◌, ◌&&◌, not, ◌↔◌, IsTrue, true, false};
 ghost use Rattle.s66_isa.specs.declared.limits.TheConstants.{BLOCK_LIMIT};
 ghost use Rattle.s66_facts.specs.Marked.{is_marked};
 
@@ -38,6 +38,15 @@ impl Marks {
     {
         Marks {
             bits: self.bits | other.bits,
+        }
+    }
+
+    /// The same, without all that are marked there.
+    pub fn without_all(self, other: Marks) -> Marks
+        ensures { (m : ℕ) → 1 ≤ m → m ≤ BLOCK_LIMIT → is_marked result m ≡ (is_marked self m && not (is_marked other m)) }
+    {
+        Marks {
+            bits: self.bits & !other.bits,
         }
     }
 

@@ -4,7 +4,7 @@ ghost use Rattle.std.specs.Prelude.{◌≡◌};
 ghost use Rattle.s66_moments.specs.Facts.{IsNumber};
 ghost use Rattle.s66_facts.specs.Passes.{start_before, done_before, before_one, before_all, by_loads_from, tail_done, tail_results, tail_start, tail_issue, tails_of};
 
-use crate::facts::Facts;
+use crate::graph::Graph;
 use crate::times::{
     Times, add, is_fetched, is_written, later, latest_read, latest_result, same_moment,
     time_at_moment, times_at, when, zero_if_same,
@@ -13,23 +13,23 @@ use s66_isa::{BLOCK_LIMIT, Reg, has_register, is_memory_conflict};
 use s66_moments::{KnownArc, Moment, Stage};
 
 /// The start of n before m.
-fn start_before(facts: &Facts, n: u8, m: u8, time: &Times) -> Option<u64>
-    requires n { IsNumber facts.now.problem n }
-    requires m { IsNumber facts.now.problem m }
-    ensures { result ≡ start_before facts.now.problem n m time.now }
+fn start_before(graph: &Graph, n: u8, m: u8, time: &Times) -> Option<u64>
+    requires n { IsNumber graph.now.problem n }
+    requires m { IsNumber graph.now.problem m }
+    ensures { result ≡ start_before graph.now.problem n m time.now }
 {
-    let is_pair = is_memory_conflict(facts.row(n).memory, facts.row(m).memory);
+    let is_pair = is_memory_conflict(graph.row(n).memory, graph.row(m).memory);
     let memory = when(is_pair, add(time.start, 1));
-    let results = latest_read(facts.row(n), time, facts.row(m));
+    let results = latest_read(graph.row(n), time, graph.row(m));
     later(memory, add(results, 1))
 }
 
 /// A result in a register before m, which may write or read it.
-fn done_before(facts: &Facts, m: u8, time: &Times, register: Reg) -> Option<u64>
-    requires m { IsNumber facts.now.problem m }
-    ensures { result ≡ done_before facts.now.problem m time.now register }
+fn done_before(graph: &Graph, m: u8, time: &Times, register: Reg) -> Option<u64>
+    requires m { IsNumber graph.now.problem m }
+    ensures { result ≡ done_before graph.now.problem m time.now register }
 {
-    let row = facts.row(m);
+    let row = graph.row(m);
     later(
         when(is_written(row.writes.as_slice(), register), time.issue),
         when(has_register(row.reads.as_slice(), register), time.start),
@@ -37,38 +37,38 @@ fn done_before(facts: &Facts, m: u8, time: &Times, register: Reg) -> Option<u64>
 }
 
 /// The moments of n before m.
-fn before_one(facts: &Facts, times: &[Times; BLOCK_LIMIT], n: u8, m: u8) -> Times
-    requires n { IsNumber facts.now.problem n }
-    requires m { IsNumber facts.now.problem m }
-    ensures { result ≡ before_one facts.now.problem times.now n m }
+fn before_one(graph: &Graph, times: &[Times; BLOCK_LIMIT], n: u8, m: u8) -> Times
+    requires n { IsNumber graph.now.problem n }
+    requires m { IsNumber graph.now.problem m }
+    ensures { result ≡ before_one graph.now.problem times.now n m }
 {
     let time = times_at(times, m);
-    let (first, second) = match facts.row(n).writes.as_slice() {
+    let (first, second) = match graph.row(n).writes.as_slice() {
         [] => (None, None),
-        [one] => (done_before(facts, m, &time, one.reg), None),
+        [one] => (done_before(graph, m, &time, one.reg), None),
         [one, two, ..] => (
-            done_before(facts, m, &time, one.reg),
-            done_before(facts, m, &time, two.reg),
+            done_before(graph, m, &time, one.reg),
+            done_before(graph, m, &time, two.reg),
         ),
     };
     Times {
-        issue: add(time.issue, facts.row(n).parcels),
-        start: start_before(facts, n, m, &time),
-        free: when(facts.share_unit(n, m), time.issue),
+        issue: add(time.issue, graph.row(n).parcels),
+        start: start_before(graph, n, m, &time),
+        free: when(graph.share_unit(n, m), time.issue),
         first,
         second,
     }
 }
 
 /// The moments of n before all that stands after it.
-fn before_all(facts: &Facts, times: &[Times; BLOCK_LIMIT], n: u8) -> Times
-    requires { IsNumber facts.now.problem n }
-    ensures { result ≡ before_all facts.now times.now n }
+fn before_all(graph: &Graph, times: &[Times; BLOCK_LIMIT], n: u8) -> Times
+    requires { IsNumber graph.now.problem n }
+    ensures { result ≡ before_all graph.now times.now n }
 {
     let mut latest = Times::none();
-    for position in 0..facts.count() {
-        if facts.is_before(n, position + 1) {
-            latest = latest.later(&before_one(facts, times, n, position + 1));
+    for position in 0..graph.count() {
+        if graph.is_before(n, position + 1) {
+            latest = latest.later(&before_one(graph, times, n, position + 1));
         }
     }
     latest
@@ -94,34 +94,34 @@ fn by_loads_from(
 
 /// From a result of n in a register, by what waits for it, and by the free of its unit if that holds it.
 fn tail_done(
-    facts: &Facts,
+    graph: &Graph,
     to: &Moment,
     n: u8,
     free: Option<u64>,
     waiting: Option<u64>,
     register: Reg,
 ) -> Option<u64>
-    requires { IsNumber facts.now.problem n }
-    ensures { result ≡ tail_done facts.now.problem to.now n free waiting register }
+    requires { IsNumber graph.now.problem n }
+    ensures { result ≡ tail_done graph.now.problem to.now n free waiting register }
 {
     let by_unit = when(
-        !is_fetched(facts.row(n).writes.as_slice(), register),
+        !is_fetched(graph.row(n).writes.as_slice(), register),
         add(free, 1),
     );
     later(zero_if_same(to, &Moment::End), later(by_unit, waiting))
 }
 
 /// From its free, and from its results in the order of its row.
-fn tail_results(facts: &Facts, to: &Moment, n: u8, before: &Times, free: Option<u64>) -> Times
-    requires { IsNumber facts.now.problem n }
-    ensures { result ≡ tail_results facts.now.problem to.now n before.now free }
+fn tail_results(graph: &Graph, to: &Moment, n: u8, before: &Times, free: Option<u64>) -> Times
+    requires { IsNumber graph.now.problem n }
+    ensures { result ≡ tail_results graph.now.problem to.now n before.now free }
 {
-    let (first, second) = match facts.row(n).writes.as_slice() {
+    let (first, second) = match graph.row(n).writes.as_slice() {
         [] => (None, None),
-        [one] => (tail_done(facts, to, n, free, before.first, one.reg), None),
+        [one] => (tail_done(graph, to, n, free, before.first, one.reg), None),
         [one, two, ..] => (
-            tail_done(facts, to, n, free, before.first, one.reg),
-            tail_done(facts, to, n, free, before.second, two.reg),
+            tail_done(graph, to, n, free, before.first, one.reg),
+            tail_done(graph, to, n, free, before.second, two.reg),
         ),
     };
     Times {
@@ -135,20 +135,20 @@ fn tail_results(facts: &Facts, to: &Moment, n: u8, before: &Times, free: Option<
 
 /// From its start, by its free and its results too.
 fn tail_start(
-    facts: &Facts,
+    graph: &Graph,
     to: &Moment,
     times: &[Times; BLOCK_LIMIT],
     n: u8,
     before: &Times,
     time: &Times,
 ) -> Option<u64>
-    requires { IsNumber facts.now.problem n }
-    ensures { result ≡ tail_start facts.now to.now times.now n before.now time.now }
+    requires { IsNumber graph.now.problem n }
+    ensures { result ≡ tail_start graph.now to.now times.now n before.now time.now }
 {
     let from = Moment::At(n, Stage::Start);
-    let row = facts.row(n);
+    let row = graph.row(n);
     let by_unit = add(time.free, row.hold + 1);
-    let by_loads = by_loads_from(facts.loads(), times, to, &from);
+    let by_loads = by_loads_from(graph.loads(), times, to, &from);
     later(
         later(zero_if_same(&from, to), by_unit),
         later(latest_result(row, time), later(before.start, by_loads)),
@@ -157,17 +157,17 @@ fn tail_start(
 
 /// From its issue, by its start too.
 fn tail_issue(
-    facts: &Facts,
+    graph: &Graph,
     to: &Moment,
     times: &[Times; BLOCK_LIMIT],
     n: u8,
     before: &Times,
     start: Option<u64>,
 ) -> Option<u64>
-    ensures { result ≡ tail_issue facts.now.loads to.now times.now n before.now start }
+    ensures { result ≡ tail_issue graph.now.loads to.now times.now n before.now start }
 {
     let from = Moment::At(n, Stage::Issue);
-    let by_loads = by_loads_from(facts.loads(), times, to, &from);
+    let by_loads = by_loads_from(graph.loads(), times, to, &from);
     later(
         later(zero_if_same(&from, to), start),
         later(before.issue, by_loads),
@@ -175,15 +175,15 @@ fn tail_issue(
 }
 
 /// From all its moments, by the times of what stands after it.
-pub(crate) fn tails_of(facts: &Facts, to: &Moment, times: &[Times; BLOCK_LIMIT], n: u8) -> Times
-    requires { IsNumber facts.now.problem n }
-    ensures { result ≡ tails_of facts.now to.now times.now n }
+pub(crate) fn tails_of(graph: &Graph, to: &Moment, times: &[Times; BLOCK_LIMIT], n: u8) -> Times
+    requires { IsNumber graph.now.problem n }
+    ensures { result ≡ tails_of graph.now to.now times.now n }
 {
-    let before = before_all(facts, times, n);
+    let before = before_all(graph, times, n);
     let free = later(zero_if_same(to, &Moment::End), before.free);
-    let time = tail_results(facts, to, n, &before, free);
-    let start = tail_start(facts, to, times, n, &before, &time);
-    let issue = tail_issue(facts, to, times, n, &before, start);
+    let time = tail_results(graph, to, n, &before, free);
+    let start = tail_start(graph, to, times, n, &before, &time);
+    let issue = tail_issue(graph, to, times, n, &before, start);
     Times {
         issue,
         start,

@@ -12,7 +12,7 @@ use s66_isa::{BLOCK_LIMIT, Reg, Row, Write, has_register, is_same_register};
 use s66_moments::{Moment, Stage};
 
 /// How long the longest path is that leads to each moment of an instruction, or from there; `None` if none does.
-#[derive(Clone, Copy, Debug, Drop)]
+#[derive(Clone, Copy, Debug, Drop, PartialEq, Eq)]
 pub struct Times {
     pub issue: Option<u64>,
     pub start: Option<u64>,
@@ -24,7 +24,7 @@ pub struct Times {
 }
 
 impl Times {
-    ghost use Rattle.std.specs.Prelude.{◌≡◌};
+    ghost use Rattle.std.specs.Prelude.{◌≡◌, ◌↔◌, IsTrue};
     ghost use Rattle.s66_facts.specs.Passes.{no_times, later_times};
 
     /// The later of two at each moment.
@@ -38,6 +38,13 @@ impl Times {
             first: later(self.first, other.first),
             second: later(self.second, other.second),
         }
+    }
+
+    /// Whether they are the same at each moment.
+    pub(crate) fn is_same(&self, other: &Times) -> bool
+        ensures { IsTrue result ↔ (self.now ≡ other.now) }
+    {
+        *self == *other
     }
 
     /// No path leads anywhere.
@@ -136,8 +143,8 @@ pub(crate) fn zero_if_same(a: &Moment, b: &Moment) -> Option<u64>
     when(same_moment(a, b), Some(0))
 }
 
-/// Those of a number.
-pub(crate) fn times_at(times: &[Times; BLOCK_LIMIT], n: u8) -> Times
+/// Those of a number, which are at n - 1; no path if there are none.
+pub fn times_at(times: &[Times; BLOCK_LIMIT], n: u8) -> Times
     ensures { result ≡ times_at times.now n }
 {
     if n == 0 || n as usize > BLOCK_LIMIT {

@@ -9,7 +9,7 @@ use Rattle.s66_facts.proofs.heads.after_all.Goals as goal
 
 pub loop-position-preserved : goal.loop-position-preserved
 loop-position-preserved c =
-    let g = c.args.facts.now in
+    let g = c.args.graph.now in
     let n = c.args.n in
     let position = c.loop-position.position in
     let test : ℕ → Bool = λ m. before_in g.marks m n in
@@ -28,6 +28,6 @@ loop-position-preserved c =
 
 pub returns : goal.returns
 returns c =
-    let g = c.args.facts.now in
+    let g = c.args.graph.now in
     let n = c.args.n in
     gathered-all (λ m. before_in g.marks m n) (after_one g.problem c.args.times.now n) (after_all g c.args.times.now n) c.loop-position.latest (length g.problem.block) c.loop-position.position (omega (arith, c.loop-position-test.false, c.count-position-end.ensures.value)) c.loop-position.invariant

@@ -6,5 +6,5 @@ use Rattle.s66_facts.proofs.heads.after_all.Given as goal
 
 abbrev pub invariant-loop-position : goal.invariant-loop-position
 invariant-loop-position l =
-    later_times l.latest (gathered (λ m. before_in l.facts.marks m l.n) (after_one l.facts.problem l.times l.n) (rising (length l.facts.problem.block - l.position) (l.position + 1)))
-    ≡ after_all l.facts l.times l.n
+    later_times l.latest (gathered (λ m. before_in l.graph.marks m l.n) (after_one l.graph.problem l.times l.n) (rising (length l.graph.problem.block - l.position) (l.position + 1)))
+    ≡ after_all l.graph l.times l.n

@@ -6,7 +6,7 @@ use Rattle.s66_facts.proofs.loads.amounts.Given as goal
 
 abbrev pub invariant-loop-n : goal.invariant-loop-n
 invariant-loop-n l = record {
-  sum : l.sum + weigh (λ (u : Use). u.amount) (map (use_of l.facts.problem) (drop l.n-index l.numbers)) ≡ weigh (λ (u : Use). u.amount) (map (use_of l.facts.problem) l.numbers);
+  sum : l.sum + weigh (λ (u : Use). u.amount) (map (use_of l.graph.problem) (drop l.n-index l.numbers)) ≡ weigh (λ (u : Use). u.amount) (map (use_of l.graph.problem) l.numbers);
   at_most : l.sum ≤ l.n-index * 2 ^ 32;
-  numbers : every (is_number l.facts.problem) (drop l.n-index l.numbers) ≡ true;
+  numbers : every (is_number l.graph.problem) (drop l.n-index l.numbers) ≡ true;
 }

@@ -4,4 +4,4 @@ use Rattle.s66_moments.specs.Known.{is_number}
 use Rattle.s66_facts.proofs.loads.are_numbers.Given as goal
 
 abbrev pub invariant-loop-n : goal.invariant-loop-n
-invariant-loop-n l = every (is_number l.facts.problem) (drop l.n-index l.numbers) ≡ every (is_number l.facts.problem) l.numbers
+invariant-loop-n l = every (is_number l.graph.problem) (drop l.n-index l.numbers) ≡ every (is_number l.graph.problem) l.numbers

@@ -6,6 +6,6 @@ use Rattle.s66_facts.proofs.loads.are_used.Given as goal
 
 abbrev pub invariant-loop-n : goal.invariant-loop-n
 invariant-loop-n l = record {
-  numbers : every (is_number l.facts.problem) (drop l.n-index l.numbers) ≡ true;
-  used : every (is_used l.facts.problem (ground_arcs l.facts) l.line l.kind l.time) (drop l.n-index l.numbers) ≡ every (is_used l.facts.problem (ground_arcs l.facts) l.line l.kind l.time) l.numbers;
+  numbers : every (is_number l.graph.problem) (drop l.n-index l.numbers) ≡ true;
+  used : every (is_used l.graph.problem (ground_arcs l.graph) l.line l.kind l.time) (drop l.n-index l.numbers) ≡ every (is_used l.graph.problem (ground_arcs l.graph) l.line l.kind l.time) l.numbers;
 }

@@ -7,6 +7,6 @@ use Rattle.s66_facts.proofs.rounds.tails.Given as goal
 
 abbrev pub invariant-loop-round : goal.invariant-loop-round
 invariant-loop-round l = record {
-  right : AreTails l.facts l.to l.times l.done;
-  ready : (n : ℕ) → IsNumber l.facts.problem n → length l.facts.problem.block < place_by l.facts.problem (before_in l.facts.marks) n + l._round → is_marked l.done n ≡ true;
+  right : AreTails l.graph l.to l.times l.done;
+  ready : (n : ℕ) → IsNumber l.graph.problem n → length l.graph.problem.block < place_by l.graph.problem (before_in l.graph.marks) n + l._round → is_marked l.done n ≡ true;
 }

@@ -8,7 +8,7 @@ pub loop-position-preserved : goal.loop-position-preserved
 loop-position-preserved c =
     let told = c.tell_tail-marked.ensures in
     let old = c.loop-position.invariant in
-    let g = c.args.facts.now in
+    let g = c.args.graph.now in
     let position = c.loop-position.position in
     record {
       right = λ are. told.right (old.right are);

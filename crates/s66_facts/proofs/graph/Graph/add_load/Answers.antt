@@ -4,7 +4,7 @@ use Rattle.s66_moments.specs.Known.{is_arc_up}
 use Rattle.s66_facts.specs.Marked.{before_in}
 use Rattle.s66_facts.specs.Ground.{Ground, IsOrdered}
 use Rattle.s66_facts.proofs.LoadTaken.{load-ordered}
-use Rattle.s66_facts.proofs.facts.Facts.add_load.Goals as goal
+use Rattle.s66_facts.proofs.graph.Graph.add_load.Goals as goal
 
 pub invariant_of-self : goal.invariant_of-self
 invariant_of-self c =

@@ -8,7 +8,7 @@ use Rattle.s66_moments.specs.declared.fact_line.KnownArc.{KnownArc}
 use Rattle.s66_facts.specs.Marked.{IsClosedUpTo}
 use Rattle.s66_facts.specs.Ground.{IsOrdered, known_of}
 use Rattle.s66_facts.proofs.FirstKnown.{first-known, first-ordered}
-use Rattle.s66_facts.proofs.facts.Facts.new.Goals as goal
+use Rattle.s66_facts.proofs.graph.Graph.new.Goals as goal
 
 pub invariant_of-result : goal.invariant_of-result
 invariant_of-result c =

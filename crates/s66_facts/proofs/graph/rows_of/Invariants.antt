@@ -1,6 +1,6 @@
 use Rattle.std.proofs.Common.{◌≡◌, map, take, length}
 use Rattle.s66_isa.specs.Table.{row}
-use Rattle.s66_facts.proofs.facts.rows_of.Given as goal
+use Rattle.s66_facts.proofs.graph.rows_of.Given as goal
 
 abbrev pub invariant-loop-instr : goal.invariant-loop-instr
 invariant-loop-instr l = record {

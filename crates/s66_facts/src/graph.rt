@@ -1,0 +1,193 @@
+//! A block under a profile, and what is known of it: which number stands before which, and arcs of loads.
+
+ghost use Rattle.std.specs.Prelude.{ℕ, ◌≡◌, ◌≢◌, ◌≤◌, ◌<◌, ◌↔◌, IsTrue, true, false, [], ◌∷◌, ◌++◌, length, map};
+ghost use Rattle.s66_isa.specs.Table.{row};
+ghost use Rattle.s66_isa.specs.declared.limits.TheConstants.{BLOCK_LIMIT};
+ghost use Rattle.s66_facts.specs.declared.limits.TheConstants.{FACT_LIMIT};
+
+use crate::closure::before_each;
+use crate::limits::FACT_LIMIT;
+use crate::marks::Marks;
+use crate::pairs::with_pair;
+use arrayvec::ArrayVec;
+use s66_isa::{BLOCK_LIMIT, Instr, Kind, Profile, Row, is_same_kind};
+use s66_moments::{KnownArc, Moment};
+use std::marker::Model;
+
+/// A block under a profile, and what is known of it.
+#[derive(Debug, Drop)]
+pub(crate) struct Graph {
+    block: ArrayVec<Instr, BLOCK_LIMIT>,
+    profile: Profile,
+    rows: ArrayVec<Row, BLOCK_LIMIT>,
+    /// Of each number those that stand before it.
+    before: ArrayVec<Marks, BLOCK_LIMIT>,
+    loads: ArrayVec<KnownArc, FACT_LIMIT>,
+}
+
+impl Model for Graph {
+    ghost use Rattle.s66_facts.specs.Ground.{Ground, IsKept};
+
+    ghost Value = { Ground };
+
+    ghost view = { λ g. record { problem = record { block = g.block.items; profile = g.profile }; marks = g.before.items; loads = g.loads.items } };
+
+    ghost invariant = { λ g. IsKept g.block.items g.profile g.rows.items g.before.items g.loads.items };
+}
+
+/// The rows of a block's instructions under a profile.
+fn rows_of(block: &[Instr], profile: &Profile) -> ArrayVec<Row, BLOCK_LIMIT>
+    requires { length block.now ≤ BLOCK_LIMIT }
+    ensures { result.items ≡ map (row profile.now) block.now }
+{
+    let mut rows = ArrayVec::new();
+    for instr in block {
+        rows.push(Row::of(instr, profile));
+    }
+    rows
+}
+
+impl Graph {
+    ghost use Rattle.s66_model.specs.Timing.{row_at, copies};
+    ghost use Rattle.s66_moments.specs.Facts.{IsNumber};
+    ghost use Rattle.s66_facts.specs.Marked.{is_marked, before_in};
+    ghost use Rattle.s66_facts.specs.Ground.{IsOrdered, known_of};
+    ghost use Rattle.s66_facts.specs.Passes.{share_unit};
+    ghost use Rattle.s66_moments.specs.Known.{known_first, with_line, is_number, is_arc_up};
+    ghost use Rattle.s66_moments.specs.declared.fact_line.FactLine.TheVariants.{Pair};
+
+    /// What is known of a block under a profile by dependence alone.
+    pub(crate) fn new(block: &[Instr], profile: &Profile) -> Graph
+        requires { length block.now ≤ BLOCK_LIMIT }
+        ensures problem { result.problem ≡ record { block = block.now; profile = profile.now } }
+        ensures known { known_of result ≡ known_first result.problem }
+    {
+        let Ok(copy) = ArrayVec::try_from(block) else {
+            unreachable!()
+        };
+        Graph {
+            block: copy,
+            profile: *profile,
+            rows: rows_of(block, profile),
+            before: before_each(block),
+            loads: ArrayVec::new(),
+        }
+    }
+
+    /// The same, in time linear in the block's length and in the loads.
+    pub(crate) fn duplicate(&self) -> Graph
+        ensures { result ≡ self.now }
+    {
+        let Ok(block) = ArrayVec::try_from(self.block.as_slice()) else {
+            unreachable!()
+        };
+        let Ok(before) = ArrayVec::try_from(self.before.as_slice()) else {
+            unreachable!()
+        };
+        let Ok(loads) = ArrayVec::try_from(self.loads.as_slice()) else {
+            unreachable!()
+        };
+        Graph {
+            block,
+            profile: self.profile,
+            rows: rows_of(self.block.as_slice(), &self.profile),
+            before,
+            loads,
+        }
+    }
+
+    /// How many instructions the block has.
+    pub(crate) fn count(&self) -> u8
+        ensures value { result ≡ length self.now.problem.block }
+        ensures few { result ≤ BLOCK_LIMIT }
+        ensures ordered { IsOrdered self.now }
+    {
+        self.block.len() as u8
+    }
+
+    /// The row of the instruction of a number.
+    pub(crate) fn row(&self, n: u8) -> &Row
+        requires { IsNumber self.now.problem n }
+        ensures { result.now ≡ row_at self.now.problem n }
+    {
+        &self.rows.as_slice()[n as usize - 1]
+    }
+
+    /// Whether two numbers need the only unit of their kind.
+    pub(crate) fn share_unit(&self, m: u8, n: u8) -> bool
+        requires m { IsNumber self.now.problem m }
+        requires n { IsNumber self.now.problem n }
+        ensures { result ≡ share_unit self.now.problem m n }
+    {
+        let kind = self.row(n).kind;
+        is_same_kind(self.row(m).kind, kind) && self.profile.copies(kind) == 1
+    }
+
+    /// Whether m is known to stand before n.
+    pub(crate) fn is_before(&self, m: u8, n: u8) -> bool
+        requires m { IsNumber self.now.problem m }
+        requires n { IsNumber self.now.problem n }
+        ensures { result ≡ before_in self.now.marks m n }
+    {
+        self.before[n as usize - 1].has(m)
+    }
+
+    /// The numbers that stand before n.
+    pub(crate) fn before(&self, n: u8) -> Marks
+        requires { IsNumber self.now.problem n }
+        ensures { (m : ℕ) → IsNumber self.now.problem m → is_marked result m ≡ before_in self.now.marks m n }
+    {
+        self.before[n as usize - 1]
+    }
+
+    /// How many units there are of a kind.
+    pub(crate) fn copies(&self, kind: Kind) -> u32
+        ensures value { result ≡ copies self.now.problem kind }
+        ensures at_least { 1 ≤ result }
+        ensures at_most { result ≤ 100 }
+    {
+        self.profile.copies(kind)
+    }
+
+    /// Whether the block has a number.
+    pub(crate) fn is_number(&self, n: u8) -> bool
+        ensures value { result ≡ is_number self.now.problem n }
+        ensures number { IsTrue result ↔ IsNumber self.now.problem n }
+    {
+        1 <= n && n <= self.count()
+    }
+
+    /// One pair more, which isn't turned.
+    pub(crate) fn add_pair(&mut self, m: u8, n: u8)
+        requires m { IsNumber self.old.problem m }
+        requires n { IsNumber self.old.problem n }
+        requires differ { m ≢ n }
+        requires turned { before_in self.old.marks n m ≡ false }
+        ensures problem { self.new.problem ≡ self.old.problem }
+        ensures known { known_of self.new ≡ with_line (known_of self.old) (Pair m n) }
+    {
+        self.before = with_pair(self.before.as_slice(), m, n);
+    }
+
+    /// One arc of a load more, which leads up.
+    pub(crate) fn add_load(&mut self, from: &Moment, wait: u32, to: &Moment)
+        requires room { length self.old.loads < FACT_LIMIT }
+        requires up { is_arc_up self.old.problem (before_in self.old.marks) from.now to.now ≡ true }
+        ensures problem { self.new.problem ≡ self.old.problem }
+        ensures marks { self.new.marks ≡ self.old.marks }
+        ensures loads { self.new.loads ≡ self.old.loads ++ record { from = from.now; wait = wait; to = to.now } ∷ [] }
+    {
+        self.loads.push(KnownArc {
+            from: *from,
+            wait,
+            to: *to,
+        });
+    }
+
+    /// The arcs of loads.
+    pub(crate) fn loads(&self) -> &[KnownArc]
+        ensures { result.now ≡ self.now.loads }
+    {
+        self.loads.as_slice()
+    }
+}
