@@ -1,0 +1,94 @@
+//! What the instructions of a block need.
+
+ghost use Rattle.std.specs.Prelude.{◌≤◌, length};
+ghost use Rattle.s66_isa.specs.declared.limits.TheConstants.{BLOCK_LIMIT};
+
+use arrayvec::ArrayVec;
+use s66_dep::Set;
+use s66_isa::{BLOCK_LIMIT, Instr, KIND_COUNT, KINDS, Kind, Profile, Row, kind_number};
+
+/// The rows of a block, and its units.
+#[derive(Debug, Drop)]
+pub struct Ground {
+    rows: ArrayVec<Row, BLOCK_LIMIT>,
+    /// How many units there are of each kind, by its number.
+    copies: [u32; KIND_COUNT],
+    /// The numbers that need one of each kind.
+    users: [Set; KIND_COUNT],
+}
+
+/// The rows of a block's instructions.
+fn rows_of(block: &[Instr], profile: &Profile) -> ArrayVec<Row, BLOCK_LIMIT> {
+    let mut rows: ArrayVec<Row, BLOCK_LIMIT> = ArrayVec::new();
+    for instr in block {
+        if !rows.is_full() {
+            rows.push(Row::of(instr, profile));
+        }
+    }
+    rows
+}
+
+/// The numbers that need a unit of each kind.
+fn users_of(rows: &[Row]) -> [Set; KIND_COUNT]
+    requires { length rows.now ≤ BLOCK_LIMIT }
+{
+    let mut users = [Set::empty(); KIND_COUNT];
+    for position in 0..rows.len() {
+        let row = &rows[position];
+        let kind = kind_number(row.kind);
+        users[kind] = users[kind].with((position + 1) as u8);
+    }
+    users
+}
+
+/// How many units there are of each kind.
+fn copies_of(profile: &Profile) -> [u32; KIND_COUNT] {
+    let mut copies = [1; KIND_COUNT];
+    for index in 0..KIND_COUNT {
+        copies[index] = profile.copies(KINDS[index]);
+    }
+    copies
+}
+
+impl Ground {
+    /// Of a block under a profile, which has at most `BLOCK_LIMIT` instructions.
+    pub fn of(block: &[Instr], profile: &Profile) -> Ground {
+        let rows = rows_of(block, profile);
+        let users = users_of(rows.as_slice());
+        Ground {
+            rows,
+            copies: copies_of(profile),
+            users,
+        }
+    }
+
+    /// The same.
+    pub fn duplicate(&self) -> Ground {
+        let mut rows: ArrayVec<Row, BLOCK_LIMIT> = ArrayVec::new();
+        for row in self.rows.as_slice() {
+            if !rows.is_full() {
+                rows.push(row.duplicate());
+            }
+        }
+        Ground {
+            rows,
+            copies: self.copies,
+            users: self.users,
+        }
+    }
+
+    /// The rows; that of number n is at n - 1.
+    pub fn rows(&self) -> &[Row] {
+        self.rows.as_slice()
+    }
+
+    /// How many units there are of a kind.
+    pub fn copies(&self, kind: Kind) -> u32 {
+        self.copies[kind_number(kind)]
+    }
+
+    /// The numbers that need one.
+    pub fn users(&self, kind: Kind) -> Set {
+        self.users[kind_number(kind)]
+    }
+}

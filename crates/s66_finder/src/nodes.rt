@@ -1,0 +1,58 @@
+//! What longest paths go through: the origin, the stages of each instruction, and the end.
+
+use s66_isa::BLOCK_LIMIT;
+
+/// How many there are: five of each number, and two in the places of number 0.
+pub const NODE_COUNT: usize = 5 * (BLOCK_LIMIT + 1);
+
+/// The origin.
+pub const ORIGIN: usize = 0;
+
+/// The end.
+pub const END: usize = 1;
+
+/// How long the longest path is to each of them or from it; `None` if there is none.
+pub type Times = [Option<u32>; NODE_COUNT];
+
+/// The issue of a number.
+pub fn issue(n: u8) -> usize {
+    5 * n as usize
+}
+
+/// Its start.
+pub fn start(n: u8) -> usize {
+    5 * n as usize + 1
+}
+
+/// Its first result, in the order of its row.
+pub fn first(n: u8) -> usize {
+    5 * n as usize + 2
+}
+
+/// Its second.
+pub fn second(n: u8) -> usize {
+    5 * n as usize + 3
+}
+
+/// The free of its unit.
+pub fn free(n: u8) -> usize {
+    5 * n as usize + 4
+}
+
+/// How long the path is at a place.
+pub fn time_at(times: &[Option<u32>], place: usize) -> Option<u32> {
+    match times.get(place) {
+        None => None,
+        Some(time) => *time,
+    }
+}
+
+/// There is a path so long at a place.
+pub fn raise(times: &mut [Option<u32>], place: usize, time: u32) {
+    if place < times.len() {
+        times[place] = match times[place] {
+            None => Some(time),
+            Some(own) => Some(own.max(time)),
+        };
+    }
+}

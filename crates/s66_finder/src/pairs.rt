@@ -1,0 +1,129 @@
+//! Which pairs are forced in all orders that take less than a bound.
+
+use crate::ground::Ground;
+use crate::known::{Known, set_of, turned};
+use crate::network::Network;
+use crate::nodes::{END, ORIGIN, Times, free, issue, time_at};
+use s66_dep::Set;
+use s66_isa::{BLOCK_LIMIT, Row, is_same_kind};
+
+/// The numbers that have to stand after each, and before each; what is of n is at n - 1.
+#[derive(Debug, Drop)]
+pub struct Forced {
+    after: [Set; BLOCK_LIMIT],
+    before: [Set; BLOCK_LIMIT],
+}
+
+/// What pairs are forced by.
+#[derive(Debug, Drop)]
+struct Looks<'a> {
+    ground: &'a Ground,
+    known: &'a Known,
+    heads: Times,
+    tails: Times,
+    bound: u32,
+}
+
+/// The row of a number.
+fn row_of(rows: &[Row], n: u8) -> Option<&Row> {
+    if n == 0 {
+        None
+    } else {
+        rows.get(n as usize - 1)
+    }
+}
+
+/// Whether two paths, one after the other, take so long at least.
+fn reaches(bound: u32, head: Option<u32>, wait: u32, tail: Option<u32>) -> bool {
+    match (head, tail) {
+        (Some(head), Some(tail)) => bound <= head.saturating_add(wait).saturating_add(tail),
+        _ => false,
+    }
+}
+
+impl<'a> Looks<'a> {
+    /// Whether m would come too late if n stood before it: by parcels, or by the only unit of their kind.
+    fn is_late(&self, m: u8, n: u8) -> bool {
+        let rows = self.ground.rows();
+        let (Some(row), Some(other)) = (row_of(rows, n), row_of(rows, m)) else {
+            return false;
+        };
+        let tail = time_at(&self.tails, issue(m));
+        let is_shared = is_same_kind(row.kind, other.kind) && self.ground.copies(row.kind) == 1;
+        reaches(
+            self.bound,
+            time_at(&self.heads, issue(n)),
+            row.parcels,
+            tail,
+        ) || is_shared && reaches(self.bound, time_at(&self.heads, free(n)), 0, tail)
+    }
+
+    /// The numbers that stand after m, or have to.
+    fn after(&self, m: u8) -> Set {
+        let mut those = self.known.after(m);
+        for position in 0..BLOCK_LIMIT {
+            let n = (position + 1) as u8;
+            if n != m && !self.known.before(m).has(n) && self.is_late(m, n) {
+                those = those.with(n);
+            }
+        }
+        those
+    }
+
+    /// The same of each number.
+    fn after_each(&self) -> [Set; BLOCK_LIMIT] {
+        let mut after = [Set::empty(); BLOCK_LIMIT];
+        for position in 0..BLOCK_LIMIT {
+            after[position] = self.after((position + 1) as u8);
+        }
+        after
+    }
+}
+
+impl Forced {
+    /// By what is known, for a bound.
+    pub fn of(ground: &Ground, known: &Known, network: &Network, bound: u32) -> Forced {
+        let looks = Looks {
+            ground,
+            known,
+            heads: network.heads(ORIGIN),
+            tails: network.tails(END),
+            bound,
+        };
+        let after = looks.after_each();
+        Forced {
+            after,
+            before: turned(&after),
+        }
+    }
+
+    /// Two numbers of which each has to stand before the other, if there are such.
+    pub fn ring(&self) -> Option<(u8, u8)> {
+        for position in 0..BLOCK_LIMIT {
+            let both = self.after[position].both(&self.before[position]);
+            if let [n, ..] = both.numbers().as_slice() {
+                return Some(((position + 1) as u8, *n));
+            }
+        }
+        None
+    }
+
+    /// The numbers that have to stand after m, which isn't known.
+    pub fn after(&self, known: &Known, m: u8) -> Set {
+        set_of(&self.after, m).without(&known.after(m))
+    }
+
+    /// Those of them that don't follow from what others have to.
+    pub fn right_after(&self, known: &Known, m: u8) -> Set {
+        let mut those = Set::empty();
+        let all = set_of(&self.after, m);
+        let new = self.after(known, m);
+        for position in 0..BLOCK_LIMIT {
+            let n = (position + 1) as u8;
+            if new.has(n) && all.both(&set_of(&self.before, n)).count() == 0 {
+                those = those.with(n);
+            }
+        }
+        those
+    }
+}
