@@ -13,6 +13,7 @@ use s66_ledger::{Answer, Ledger};
 use s66_line::Block;
 use s66_model::{Options, Rule};
 use s66_node::{Marks, Priority, Walk, schedule_below};
+use s66_time::Timed;
 use std::alloc::AllocError;
 use std::sync::Wait;
 use std::thread::Threads;
@@ -81,12 +82,18 @@ fn search_by_workers<'a, R: AllocGlobal + Threads + Wait + Sync, G: Gate + Sync>
     Ok(ledger)
 }
 
-/// Searches the orders of a block. The first `FIRST_SPLITS` splits are the calling thread's, so that a short search starts no
-/// thread, and has one result whatever the number of workers. What is left then several workers search, each in a thread of its own
-/// if one can be made, and else one after the other; a single worker is the calling thread. However their steps fall, it returns
-/// an answer for `options.nodes` splits.
-///
-/// `Err` is out of memory in the caller's own part.
+/// Offers an order as worker 1, if there is one. One of another block or profile is left alone.
+fn offer_first(ledger: &mut Ledger<'_>, first: Option<&Timed>) -> Result<(), AllocError>
+    requires { 1 ≤ ledger.old.workers }
+    ensures { OnOk result (IsSameSearch ledger.old ledger.new) }
+{
+    if let Some(timed) = first {
+        ledger.offer(1, timed.duplicate())?;
+    }
+    Ok(())
+}
+
+/// Searches the orders of a block, as `run_from` does without an order to begin with.
 pub fn run<R: AllocGlobal + Threads + Wait + Sync, G: Gate + Sync>(
     rt: &R,
     block: &Block,
@@ -100,10 +107,34 @@ pub fn run<R: AllocGlobal + Threads + Wait + Sync, G: Gate + Sync>(
     ensures problem { IfOk result (λ a. a.problem ≡ record { block = instrs_of block.now; profile = profile.now }) }
     ensures budget { IfOk result (λ a. a.budget ≡ options.nodes) }
 {
+    run_from(rt, block, profile, options, None, gate)
+}
+
+/// Searches the orders of a block, and begins with the best of two list schedules and the order that is given, if one is. The first
+/// `FIRST_SPLITS` splits are the calling thread's, so that a short search starts no thread, and has one result whatever the number
+/// of workers. What is left then several workers search, each in a thread of its own if one can be made, and else one after the
+/// other; a single worker is the calling thread. However their steps fall, it returns an answer for `options.nodes` splits.
+///
+/// `Err` is out of memory in the caller's own part.
+pub fn run_from<R: AllocGlobal + Threads + Wait + Sync, G: Gate + Sync>(
+    rt: &R,
+    block: &Block,
+    profile: &Profile,
+    options: Options,
+    first: Option<&Timed>,
+    gate: &G,
+) -> Result<Answer, AllocError>
+    requires workers { (1 ≤ options.workers) × (options.workers ≤ WORKERS_LIMIT) }
+    requires nodes { options.nodes ≤ BUDGET_LIMIT }
+    ensures rule { IfOk result (λ a. a.rule ≡ options.rule) }
+    ensures problem { IfOk result (λ a. a.problem ≡ record { block = instrs_of block.now; profile = profile.now }) }
+    ensures budget { IfOk result (λ a. a.budget ≡ options.nodes) }
+{
     let alloc = rt.alloc();
     let mut walk = Walk::new(block, profile);
     let mut ledger = Ledger::of_walk(alloc, &walk, options.rule, options.nodes, options.workers)?;
     offer_schedules(&mut ledger, &mut walk)?;
+    offer_first(&mut ledger, first)?;
     let mut marks = Marks::new(alloc, block, profile);
     search_alone(alloc, &mut ledger, &mut walk, &mut marks, FIRST_SPLITS);
     let rule = options.rule;
