@@ -1,5 +1,5 @@
 -- Words that clap takes name a subcommand.
-use Rattle.std.proofs.Common.{◌≡◌, ◌⊎◌, inl, inr, if◌then◌else◌, ℕ, Bool, cond, true, false, true≢false, ◌||◌, ◌&&◌, List, [], ◌∷◌, ◌++◌, Option, Some, None, refl, sym, ap, ap₂, ◌∙◌, subst, Box, box_value, codes, find, fold, drop, is_some, map, option_and_then, option_map, bytes_eq}
+use Rattle.std.proofs.Common.{◌≡◌, ◌⊎◌, inl, inr, if◌then◌else◌, ℕ, Bool, cond, true, false, true≢false, ◌||◌, List, [], ◌∷◌, ◌++◌, Option, Some, None, refl, sym, ap, ap₂, ◌∙◌, subst, Box, box_value, codes, find, fold, drop, is_some, map, option_and_then, option_map, bytes_eq}
 use Rattle.std.specs.Prelude.{unwrap_or}
 use Rattle.std.specs.Borrow.{Bor}
 use Rattle.std.specs.List.{list_all, list_any}
@@ -18,11 +18,11 @@ use Rattle.clap.specs.Faults.{check_fault, defaults_fault, entered_fault, fault_
 use Rattle.clap.proofs.SimpleLemmas.{is_nil}
 use Rattle.clap.proofs.WalkLemmas.{both, first_value-rows, one_text-rows}
 use Rattle.s66_model.specs.declared.limits.TheConstants.{BUDGET_LIMIT, WORKERS_LIMIT}
-use Rattle.s66_model.specs.declared.options.Options.{Options}
 use Rattle.s66_model.specs.declared.rule.Rule.{Rule as LeafRule}
 use Rattle.s66_command.specs.declared.limits.TheConstants.{BLOCK_NUMBER_LIMIT, NODES_DEFAULT, WORKERS_DEFAULT}
-use Rattle.s66_command.specs.FoundOptions.{AreOptionsFound, IsBlockFound, IsFlagFound, IsNumber, IsNumberFound, IsOrderFound, IsReadAs, IsRuleFound}
-use Rattle.s66_command.specs.Usage.{AsksFor, GivesBlock, GivesOrder, GivesProfile, GivesSearch, IsNumberIn, gives_both, has_option, option_text, rule_by, rule_unless_both, s66_app, subcommand_name}
+use Rattle.s66_command.specs.declared.strategy.Strategy.{Strategy}
+use Rattle.s66_command.specs.FoundOptions.{IsBlockFound, IsFlagFound, IsNumber, IsNumberFound, IsOrderFound, IsReadAs, IsRuleFound, IsStrategyFound}
+use Rattle.s66_command.specs.Usage.{AsksFor, GivesBlock, GivesOrder, GivesProfile, GivesSearch, IsNumberIn, gives_two, has_option, option_text, rule_given, rule_unless_two, s66_app, subcommand_name}
 use Rattle.s66_command.proofs.Faults.{first-none, full, second-none}
 use Rattle.s66_command.proofs.Flags.{HasFlag, flag-is}
 use Rattle.s66_command.proofs.OptionRanges.{HasNumber, number-is}
@@ -306,11 +306,11 @@ block-of words found block s is options read =
 
 -- THE OPTIONS OF A SEARCH
 
--- the options have the numbers of a search and both flags
+-- the options have the numbers of a search and the three flags
 abbrev pub HasSearchOptions : List Rule → Type 0
 HasSearchOptions rules =
     HasNumber (codes "workers") 1 WORKERS_LIMIT rules × HasNumber (codes "nodes") 0 BUDGET_LIMIT rules
-    × HasFlagOf (codes "dominate") rules × HasFlagOf (codes "dominate-tree") rules
+    × HasFlagOf (codes "dominate") rules × HasFlagOf (codes "dominate-tree") rules × HasFlagOf (codes "deep") rules
 
 -- the options of the subcommand of that name
 abbrev rules_at : Text → List Rule
@@ -318,78 +318,83 @@ rules_at name = option_map_or (λ (s : Shape). s.rules) (subcommand_at name) []
 
 pub order-options : HasSearchOptions (rules_at (codes "order"))
 order-options = (
-  (inr refl, (inl refl, (inr refl, (inr refl, (inr refl, (inr refl, (inr refl, (inr refl, tt)))))))),
-  (inr refl, (inr refl, (inl refl, (inr refl, (inr refl, (inr refl, (inr refl, (inr refl, tt)))))))),
-  ((inr refl, (inr refl, (inr refl, (inr refl, (inl refl, (inr refl, (inr refl, (inr refl, tt)))))))), refl),
-  ((inr refl, (inr refl, (inr refl, (inr refl, (inr refl, (inl refl, (inr refl, (inr refl, tt)))))))), refl),
-)
-
-pub why-options : HasSearchOptions (rules_at (codes "why"))
-why-options = (
   (inr refl, (inl refl, (inr refl, (inr refl, (inr refl, (inr refl, (inr refl, (inr refl, (inr refl, tt))))))))),
   (inr refl, (inr refl, (inl refl, (inr refl, (inr refl, (inr refl, (inr refl, (inr refl, (inr refl, tt))))))))),
   ((inr refl, (inr refl, (inr refl, (inr refl, (inl refl, (inr refl, (inr refl, (inr refl, (inr refl, tt))))))))), refl),
   ((inr refl, (inr refl, (inr refl, (inr refl, (inr refl, (inl refl, (inr refl, (inr refl, (inr refl, tt))))))))), refl),
+  ((inr refl, (inr refl, (inr refl, (inr refl, (inr refl, (inr refl, (inl refl, (inr refl, (inr refl, tt))))))))), refl),
+)
+
+pub why-options : HasSearchOptions (rules_at (codes "why"))
+why-options = (
+  (inr refl, (inl refl, (inr refl, (inr refl, (inr refl, (inr refl, (inr refl, (inr refl, (inr refl, (inr refl, tt)))))))))),
+  (inr refl, (inr refl, (inl refl, (inr refl, (inr refl, (inr refl, (inr refl, (inr refl, (inr refl, (inr refl, tt)))))))))),
+  ((inr refl, (inr refl, (inr refl, (inr refl, (inl refl, (inr refl, (inr refl, (inr refl, (inr refl, (inr refl, tt)))))))))), refl),
+  ((inr refl, (inr refl, (inr refl, (inr refl, (inr refl, (inl refl, (inr refl, (inr refl, (inr refl, (inr refl, tt)))))))))), refl),
+  ((inr refl, (inr refl, (inr refl, (inr refl, (inr refl, (inr refl, (inl refl, (inr refl, (inr refl, (inr refl, tt)))))))))), refl),
 )
 
 pub page-options : HasSearchOptions (rules_at (codes "page"))
 page-options = (
-  (inr refl, (inl refl, (inr refl, (inr refl, (inr refl, (inr refl, (inr refl, (inr refl, tt)))))))),
-  (inr refl, (inr refl, (inl refl, (inr refl, (inr refl, (inr refl, (inr refl, (inr refl, tt)))))))),
-  ((inr refl, (inr refl, (inr refl, (inr refl, (inl refl, (inr refl, (inr refl, (inr refl, tt)))))))), refl),
-  ((inr refl, (inr refl, (inr refl, (inr refl, (inr refl, (inl refl, (inr refl, (inr refl, tt)))))))), refl),
+  (inr refl, (inl refl, (inr refl, (inr refl, (inr refl, (inr refl, (inr refl, (inr refl, (inr refl, tt))))))))),
+  (inr refl, (inr refl, (inl refl, (inr refl, (inr refl, (inr refl, (inr refl, (inr refl, (inr refl, tt))))))))),
+  ((inr refl, (inr refl, (inr refl, (inr refl, (inl refl, (inr refl, (inr refl, (inr refl, (inr refl, tt))))))))), refl),
+  ((inr refl, (inr refl, (inr refl, (inr refl, (inr refl, (inl refl, (inr refl, (inr refl, (inr refl, tt))))))))), refl),
+  ((inr refl, (inr refl, (inr refl, (inr refl, (inr refl, (inr refl, (inl refl, (inr refl, (inr refl, tt))))))))), refl),
 )
 
 pub prove-options : HasSearchOptions (rules_at (codes "prove"))
 prove-options = (
-  (inr refl, (inl refl, (inr refl, (inr refl, (inr refl, (inr refl, (inr refl, tt))))))),
-  (inr refl, (inr refl, (inl refl, (inr refl, (inr refl, (inr refl, (inr refl, tt))))))),
-  ((inr refl, (inr refl, (inr refl, (inr refl, (inl refl, (inr refl, (inr refl, tt))))))), refl),
-  ((inr refl, (inr refl, (inr refl, (inr refl, (inr refl, (inl refl, (inr refl, tt))))))), refl),
-)
-
-pub sum-options : HasSearchOptions (rules_at (codes "sum"))
-sum-options = (
   (inr refl, (inl refl, (inr refl, (inr refl, (inr refl, (inr refl, (inr refl, (inr refl, tt)))))))),
   (inr refl, (inr refl, (inl refl, (inr refl, (inr refl, (inr refl, (inr refl, (inr refl, tt)))))))),
   ((inr refl, (inr refl, (inr refl, (inr refl, (inl refl, (inr refl, (inr refl, (inr refl, tt)))))))), refl),
   ((inr refl, (inr refl, (inr refl, (inr refl, (inr refl, (inl refl, (inr refl, (inr refl, tt)))))))), refl),
+  ((inr refl, (inr refl, (inr refl, (inr refl, (inr refl, (inr refl, (inl refl, (inr refl, tt)))))))), refl),
+)
+
+pub sum-options : HasSearchOptions (rules_at (codes "sum"))
+sum-options = (
+  (inr refl, (inl refl, (inr refl, (inr refl, (inr refl, (inr refl, (inr refl, (inr refl, (inr refl, tt))))))))),
+  (inr refl, (inr refl, (inl refl, (inr refl, (inr refl, (inr refl, (inr refl, (inr refl, (inr refl, tt))))))))),
+  ((inr refl, (inr refl, (inr refl, (inr refl, (inl refl, (inr refl, (inr refl, (inr refl, (inr refl, tt))))))))), refl),
+  ((inr refl, (inr refl, (inr refl, (inr refl, (inr refl, (inl refl, (inr refl, (inr refl, (inr refl, tt))))))))), refl),
+  ((inr refl, (inr refl, (inr refl, (inr refl, (inr refl, (inr refl, (inl refl, (inr refl, (inr refl, tt))))))))), refl),
 )
 
 -- the rule is what the words give
 rule-given : (words : List Text) (found : Found) (rule : Option LeafRule) (s : Shape) → IsMatched found words s → HasSearchOptions s.rules → IsRuleFound found rule →
-    rule ≡ rule_unless_both (has_option (codes "dominate") words) (has_option (codes "dominate-tree") words)
-rule-given words found rule s is (workers, nodes, has, has-tree) (dominate, any, read, any-read, by) =
-    by ∙ ap₂ rule_unless_both (flag-of words found dominate s (codes "dominate") is has read) (flag-of words found any s (codes "dominate-tree") is has-tree any-read)
+    rule ≡ (if gives_two words then None else Some (rule_given words))
+rule-given words found rule s is (workers, nodes, has, has-tree, has-deep) (dominate, any, deep, read, any-read, deep-read, by) =
+    let same = flag-of words found dominate s (codes "dominate") is has read in
+    let same-any = flag-of words found any s (codes "dominate-tree") is has-tree any-read in
+    let same-deep = flag-of words found deep s (codes "deep") is has-deep deep-read in
+    by ∙ ap (λ b. rule_unless_two b any deep) same ∙ ap₂ (rule_unless_two (has_option (codes "dominate") words)) same-any same-deep
 
-one-given : (dominate any : Bool) (rule : LeafRule) → Some rule ≡ rule_unless_both dominate any → (rule ≡ rule_by dominate any) × ((dominate && any) ≡ false)
-one-given true true rule is = absurd (true≢false (ap is_some is))
-one-given true false rule is = (ap (λ o. unwrap_or o rule) is, refl)
-one-given false any rule is = (ap (λ o. unwrap_or o rule) is, refl)
+one-given : (two : Bool) (rule by : LeafRule) → Some rule ≡ (if two then None else Some by) → (rule ≡ by) × (two ≡ false)
+one-given true rule by is = absurd (true≢false (ap is_some is))
+one-given false rule by is = (ap (λ o. unwrap_or o rule) is, refl)
 
-pub search-of : (words : List Text) (found : Found) (options : Options) (s : Shape) → IsMatched found words s → HasSearchOptions s.rules →
-    AreOptionsFound found (Some options) → GivesSearch words options
-search-of words found options s is has read =
-    let by = number-given words found s (codes "workers") 1 WORKERS_LIMIT WORKERS_DEFAULT options.workers is has.0 read.0 in
-    let up-to = number-given words found s (codes "nodes") 0 BUDGET_LIMIT NODES_DEFAULT options.nodes is has.1 read.1 in
-    let (same, one) = one-given (has_option (codes "dominate") words) (has_option (codes "dominate-tree") words) options.rule (rule-given words found (Some options.rule) s is has read.2) in
-    (by.0, by.1, by.2, up-to.0, up-to.2, same, one)
+pub search-of : (words : List Text) (found : Found) (strategy : Strategy) (s : Shape) → IsMatched found words s → HasSearchOptions s.rules →
+    IsStrategyFound found (Some strategy) → GivesSearch words strategy
+search-of words found strategy s is has (workers, nodes, rule, deep) =
+    let by = number-given words found s (codes "workers") 1 WORKERS_LIMIT WORKERS_DEFAULT strategy.search.workers is has.0 workers in
+    let up-to = number-given words found s (codes "nodes") 0 BUDGET_LIMIT NODES_DEFAULT strategy.search.nodes is has.1 nodes in
+    let (same, one) = one-given (gives_two words) strategy.search.rule (rule_given words) (rule-given words found (Some strategy.search.rule) s is has rule) in
+    ((by.0, by.1, by.2, up-to.0, up-to.2, same, one), flag-of words found strategy.deep s (codes "deep") is has.4 deep)
 
-both-given : (dominate any : Bool) → None ≡ rule_unless_both dominate any → (dominate && any) ≡ true
-both-given true true is = refl
-both-given true false is = absurd (true≢false (ap is_some (sym is)))
-both-given false any is = absurd (true≢false (ap is_some (sym is)))
+two-given : (two : Bool) (by : LeafRule) → None ≡ (if two then None else Some by) → two ≡ true
+two-given true by is = refl
+two-given false by is = absurd (true≢false (ap is_some (sym is)))
 
-pub both-of : (words : List Text) (found : Found) (s : Shape) → IsMatched found words s → HasSearchOptions s.rules → AreOptionsFound found None → gives_both words ≡ true
-both-of words found s is has read =
-    both-given (has_option (codes "dominate") words) (has_option (codes "dominate-tree") words) (rule-given words found None s is has read)
+pub two-of : (words : List Text) (found : Found) (s : Shape) → IsMatched found words s → HasSearchOptions s.rules → IsStrategyFound found None → gives_two words ≡ true
+two-of words found s is has read = two-given (gives_two words) (rule_given words) (rule-given words found None s is has read)
 
--- the best order is asked for, with these options, or it isn't
-pub order-of : (words : List Text) (found : Found) (options : Options) (order : Option Options) (s : Shape) → IsMatched found words s → HasFlagOf (codes "order") s.rules → GivesSearch words options →
-    IsOrderFound found options order → GivesOrder words order
-order-of words found options order s is has gives (given, read, by) =
+-- the best order is asked for, with this strategy, or it isn't
+pub order-of : (words : List Text) (found : Found) (strategy : Strategy) (order : Option Strategy) (s : Shape) → IsMatched found words s → HasFlagOf (codes "order") s.rules →
+    GivesSearch words strategy → IsOrderFound found strategy order → GivesOrder words order
+order-of words found strategy order s is has gives (given, read, by) =
     subst (GivesOrder words) (sym by) (order-by given (flag-of words found given s (codes "order") is has read))
   where
-    order-by : (given : Bool) → given ≡ has_option (codes "order") words → GivesOrder words (if given then Some options else None)
+    order-by : (given : Bool) → given ≡ has_option (codes "order") words → GivesOrder words (if given then Some strategy else None)
     order-by true same = (sym same, gives)
     order-by false same = sym same

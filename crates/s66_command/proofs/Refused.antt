@@ -3,7 +3,7 @@ use Rattle.std.proofs.Common.{◌≡◌, inl, inr, true, refl, subst, List, []}
 use Rattle.clap.specs.Words.{App, HasKind, Text, fault_of, is_simple_and_free, kind_of}
 use Rattle.clap.specs.declared.error.Error.{Error}
 use Rattle.clap.specs.declared.error.kind.ErrorKind.TheVariants.{ArgumentConflict}
-use Rattle.s66_command.specs.Usage.{IsUsageOf, Refuses, gives_both, s66_app}
+use Rattle.s66_command.specs.Usage.{IsUsageOf, Refuses, gives_two, s66_app}
 use Rattle.s66_command.specs.declared.usage.Usage.{Usage}
 use Rattle.s66_command.specs.declared.usage.Usage.TheVariants.{Bad, Help, OutOfMemory}
 
@@ -20,8 +20,8 @@ pub refused : (usage : Usage) (e : Error) (a : App) (words : List Text) → a �
 refused usage e a words is kinds given =
     refused-by usage e words (subst (λ (b : App). is_simple_and_free b ≡ true → HasKind (fault_of b words) e) is kinds refl) given
 
-pub refused-both : (usage : Usage) (words : List Text) → fault_of s66_app words ≡ [] → gives_both words ≡ true → IsUsageOf ArgumentConflict usage → Refuses words usage
-refused-both (Help text) words none both (inl help) = cc
-refused-both (Help text) words none both (inr version) = cc
-refused-both (Bad text) words none both is = inr (none, both)
-refused-both OutOfMemory words none both is = tt
+pub refused-two : (usage : Usage) (words : List Text) → fault_of s66_app words ≡ [] → gives_two words ≡ true → IsUsageOf ArgumentConflict usage → Refuses words usage
+refused-two (Help text) words none two (inl help) = cc
+refused-two (Help text) words none two (inr version) = cc
+refused-two (Bad text) words none two is = inr (none, two)
+refused-two OutOfMemory words none two is = tt

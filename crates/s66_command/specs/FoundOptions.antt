@@ -5,10 +5,10 @@ use Rattle.clap.specs.Values.{IsSignedIn}
 use Rattle.clap.specs.Words.{Text, one_text, without_minus}
 use Rattle.clap.specs.declared.parser.matches.Found.{Found}
 use Rattle.s66_model.specs.declared.limits.TheConstants.{BUDGET_LIMIT, WORKERS_LIMIT}
-use Rattle.s66_model.specs.declared.options.Options.{Options}
 use Rattle.s66_model.specs.declared.rule.Rule.{Rule as LeafRule}
 use Rattle.s66_command.specs.declared.limits.TheConstants.{BLOCK_NUMBER_LIMIT, NODES_DEFAULT, WORKERS_DEFAULT}
-use Rattle.s66_command.specs.Usage.{IsNumberIn, number_in, rule_unless_both}
+use Rattle.s66_command.specs.declared.strategy.Strategy.{Strategy}
+use Rattle.s66_command.specs.Usage.{IsNumberIn, number_in, rule_unless_two}
 
 -- the text, if there is one, is a number from the least to the most
 abbrev pub IsNumber : (least most : ℕ) → Option Text → Type 0
@@ -39,18 +39,21 @@ IsBlockFound found block =
 abbrev pub IsFlagFound : Found → Text → Bool → Type 0
 IsFlagFound found id flag = (one_text found id ≡ Some (codes "true") → flag ≡ true) × (one_text found id ≡ Some (codes "false") → flag ≡ false)
 
--- the rule by the two flags, unless both were found
+-- the rule by the three flags, unless two of them were found
 abbrev pub IsRuleFound : Found → Option LeafRule → Type 0
 IsRuleFound found rule =
-    (dominate : Bool) × (dominate_tree : Bool) × IsFlagFound found (codes "dominate") dominate × IsFlagFound found (codes "dominate-tree") dominate_tree
-    × (rule ≡ rule_unless_both dominate dominate_tree)
+    (dominate : Bool) × (dominate_tree : Bool) × (deep : Bool)
+    × IsFlagFound found (codes "dominate") dominate × IsFlagFound found (codes "dominate-tree") dominate_tree × IsFlagFound found (codes "deep") deep
+    × (rule ≡ rule_unless_two dominate dominate_tree deep)
 
--- the options of a search, unless both flags were found
-abbrev pub AreOptionsFound : Found → Option Options → Type 0
-AreOptionsFound found (Some options) = AreWorkersFound found options.workers × AreNodesFound found options.nodes × IsRuleFound found (Some options.rule)
-AreOptionsFound found None = IsRuleFound found None
+-- how to look for the best order, unless two of the flags were found
+abbrev pub IsStrategyFound : Found → Option Strategy → Type 0
+IsStrategyFound found (Some strategy) =
+    AreWorkersFound found strategy.search.workers × AreNodesFound found strategy.search.nodes × IsRuleFound found (Some strategy.search.rule)
+    × IsFlagFound found (codes "deep") strategy.deep
+IsStrategyFound found None = IsRuleFound found None
 
--- the options, if the flag was found
-abbrev pub IsOrderFound : Found → Options → Option Options → Type 0
-IsOrderFound found options order =
-    (given : Bool) × IsFlagFound found (codes "order") given × (order ≡ (if given then Some options else None))
+-- the strategy, if the flag was found
+abbrev pub IsOrderFound : Found → Strategy → Option Strategy → Type 0
+IsOrderFound found strategy order =
+    (given : Bool) × IsFlagFound found (codes "order") given × (order ≡ (if given then Some strategy else None))

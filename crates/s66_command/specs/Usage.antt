@@ -1,9 +1,9 @@
 -- To be believed: the command line, by clap's rules: the subcommands `time`, `deps`, `chart`, `why`, `page`, `order`, `prove`,
 -- `check`, `lint` and `sum`, and a version. All but `check` and `lint` have the flag `--cut`. `time`, `chart`, `why`, `page`, `order`,
 -- `prove` and `sum` have the option `--profile`, the last four also `--workers` and `--nodes`, and one at most of the flags
--- `--dominate` and `--dominate-tree`. `time`, `order` and `sum` have the flag `--trace`, `chart` has `--text` and `why` has `--order`,
+-- `--dominate`, `--dominate-tree` and `--deep`. `time`, `order` and `sum` have the flag `--trace`, `chart` has `--text` and `why` has `--order`,
 -- and with that `why` has the options of a search. `time`, `deps`, `chart`, `why` and `page` have the option `--block`.
-use Rattle.std.specs.Prelude.{◌≡◌, ◌≢◌, ◌⊎◌, ◌≤◌, ◌&&◌, if◌then◌else◌, IfSome, ℕ, Bool, List, [], false, true, Option, None, Some, codes, option_and_then, pos}
+use Rattle.std.specs.Prelude.{◌≡◌, ◌≢◌, ◌⊎◌, ◌≤◌, ◌&&◌, ◌||◌, if◌then◌else◌, IfSome, ℕ, Bool, List, [], false, true, Option, None, Some, codes, option_and_then, pos}
 use Rattle.std.specs.Borrow.{Bor}
 use Rattle.std.specs.Option.{option_map, option_map_or}
 use Rattle.std.specs.Str.Parse.{digits_value, without_leading_plus}
@@ -24,6 +24,7 @@ use Rattle.s66_model.specs.declared.rule.Rule.TheVariants.{NoneNamed, WrittenEar
 use Rattle.s66_command.specs.declared.limits.TheConstants.{BLOCK_NUMBER_LIMIT, NODES_DEFAULT, WORKERS_DEFAULT}
 use Rattle.s66_command.specs.declared.command.Command.{Command}
 use Rattle.s66_command.specs.declared.command.Command.TheVariants.{Time, Deps, Chart, Why, Page, Order, Prove, Check, Lint, Sum}
+use Rattle.s66_command.specs.declared.strategy.Strategy.{Strategy}
 use Rattle.s66_command.specs.declared.usage.Usage.{Usage}
 use Rattle.s66_command.specs.declared.usage.Usage.TheVariants.{Help, Bad, OutOfMemory}
 
@@ -48,6 +49,9 @@ dominate_rule = flag_rule (codes "dominate")
 
 abbrev pub dominate_tree_rule : Rule
 dominate_tree_rule = flag_rule (codes "dominate-tree")
+
+abbrev pub deep_rule : Rule
+deep_rule = flag_rule (codes "deep")
 
 -- an option whose value is a number from the least to the most
 abbrev pub number_rule : Text → ℕ → ℕ → Rule
@@ -79,11 +83,11 @@ deps_app = with_rule (source_app (codes "deps")) block_rule
 abbrev pub chart_app : App
 chart_app = with_rule (with_rule (with_rule (source_app (codes "chart")) profile_rule) text_rule) block_rule
 
--- a subcommand that searches, and may leave out what is dominated
+-- a subcommand that searches, and may leave out what is dominated or look for facts first
 abbrev pub search_app : Text → App
 search_app name =
     let counted = with_rule (with_rule (source_app name) workers_rule) nodes_rule in
-    with_rule (with_rule (with_rule counted profile_rule) dominate_rule) dominate_tree_rule
+    with_rule (with_rule (with_rule (with_rule counted profile_rule) dominate_rule) dominate_tree_rule) deep_rule
 
 abbrev pub why_app : App
 why_app = with_rule (with_rule (search_app (codes "why")) order_rule) block_rule
@@ -150,33 +154,45 @@ option_number id default words = option_map_or number_in (option_text id words) 
 abbrev pub AsksFor : List Text → Text → Type 0
 AsksFor words name = (fault_of s66_app words ≡ []) × (subcommand_name words ≡ Some name)
 
--- which nodes dominated leaves name by the flags `--dominate` and `--dominate-tree`
-abbrev pub rule_by : (dominate dominate_tree : Bool) → LeafRule
-rule_by dominate dominate_tree = if dominate_tree then ClampedStanding else (if dominate then WrittenEarlier else NoneNamed)
+-- which nodes dominated leaves name by the flags `--dominate`, `--dominate-tree` and `--deep`
+abbrev pub rule_by : (dominate dominate_tree deep : Bool) → LeafRule
+rule_by dominate dominate_tree deep = if dominate_tree || deep then ClampedStanding else (if dominate then WrittenEarlier else NoneNamed)
+
+-- two of three hold, or all
+abbrev pub are_two : (first second third : Bool) → Bool
+are_two first second third = (first && second) || ((first && third) || (second && third))
 
 -- by one of them at most
-abbrev pub rule_unless_both : (dominate dominate_tree : Bool) → Option LeafRule
-rule_unless_both dominate dominate_tree = if dominate && dominate_tree then None else Some (rule_by dominate dominate_tree)
+abbrev pub rule_unless_two : (dominate dominate_tree deep : Bool) → Option LeafRule
+rule_unless_two dominate dominate_tree deep = if are_two dominate dominate_tree deep then None else Some (rule_by dominate dominate_tree deep)
 
 -- by the words
 abbrev pub rule_given : List Text → LeafRule
-rule_given words = rule_by (has_option (codes "dominate") words) (has_option (codes "dominate-tree") words)
+rule_given words = rule_by (has_option (codes "dominate") words) (has_option (codes "dominate-tree") words) (has_option (codes "deep") words)
 
--- the words give both flags
-abbrev pub gives_both : List Text → Bool
-gives_both words = has_option (codes "dominate") words && has_option (codes "dominate-tree") words
+-- the words give two of the flags, or all
+abbrev pub gives_two : List Text → Bool
+gives_two words = are_two (has_option (codes "dominate") words) (has_option (codes "dominate-tree") words) (has_option (codes "deep") words)
+
+-- they give the subcommand the flag of this name, or don't
+abbrev pub GivesFlag : (name : Text) → List Text → Bool → Type 0
+GivesFlag name words flag = flag ≡ has_option name words
 
 -- they give a search these options: numbers within their limits, and a rule by one flag at most
-abbrev pub GivesSearch : List Text → Options → Type 0
-GivesSearch words options =
+abbrev pub GivesOptions : List Text → Options → Type 0
+GivesOptions words options =
     (options.workers ≡ option_number (codes "workers") WORKERS_DEFAULT words) × (1 ≤ options.workers) × (options.workers ≤ WORKERS_LIMIT)
     × (options.nodes ≡ option_number (codes "nodes") NODES_DEFAULT words) × (options.nodes ≤ BUDGET_LIMIT)
-    × (options.rule ≡ rule_given words) × (gives_both words ≡ false)
+    × (options.rule ≡ rule_given words) × (gives_two words ≡ false)
 
--- they ask for the best order, and give these options for its search, or don't ask for it
-abbrev pub GivesOrder : List Text → Option Options → Type 0
+-- they say how to look for the best order: by these options of a search, and with facts first by the flag `--deep`
+abbrev pub GivesSearch : List Text → Strategy → Type 0
+GivesSearch words strategy = GivesOptions words strategy.search × GivesFlag (codes "deep") words strategy.deep
+
+-- they ask for the best order, and say how to look for it, or don't ask for it
+abbrev pub GivesOrder : List Text → Option Strategy → Type 0
 GivesOrder words None = has_option (codes "order") words ≡ false
-GivesOrder words (Some options) = (has_option (codes "order") words ≡ true) × GivesSearch words options
+GivesOrder words (Some strategy) = (has_option (codes "order") words ≡ true) × GivesSearch words strategy
 
 -- a number of a text, if there is one, is from the least to the most
 abbrev pub IsNumberIn : (least most : ℕ) → Option Text → Option ℕ → Type 0
@@ -190,10 +206,6 @@ GivesBlock words block = IsNumberIn 1 BLOCK_NUMBER_LIMIT (option_text (codes "bl
 abbrev pub GivesProfile : List Text → Option (Bor Text) → Type 0
 GivesProfile words profile = option_map (λ text. text.now) profile ≡ plain_text (codes "profile") words
 
--- they give it the flag of this name, or don't
-abbrev pub GivesFlag : (name : Text) → List Text → Bool → Type 0
-GivesFlag name words flag = flag ≡ has_option name words
-
 -- they ask for the command
 abbrev pub Asks : List Text → Command → Type 0
 Asks words (Time cut trace block profile) =
@@ -205,18 +217,18 @@ Asks words (Chart cut text block profile) =
     × GivesProfile words profile
 Asks words (Why cut order block profile) =
     AsksFor words (codes "why") × GivesFlag (codes "cut") words cut × GivesOrder words order × GivesBlock words block × GivesProfile words profile
-Asks words (Page cut options block profile) =
-    AsksFor words (codes "page") × GivesFlag (codes "cut") words cut × GivesSearch words options × GivesBlock words block
+Asks words (Page cut strategy block profile) =
+    AsksFor words (codes "page") × GivesFlag (codes "cut") words cut × GivesSearch words strategy × GivesBlock words block
     × GivesProfile words profile
-Asks words (Order cut options trace profile) =
-    AsksFor words (codes "order") × GivesFlag (codes "cut") words cut × GivesSearch words options × GivesFlag (codes "trace") words trace
+Asks words (Order cut strategy trace profile) =
+    AsksFor words (codes "order") × GivesFlag (codes "cut") words cut × GivesSearch words strategy × GivesFlag (codes "trace") words trace
     × GivesProfile words profile
-Asks words (Prove cut options profile) =
-    AsksFor words (codes "prove") × GivesFlag (codes "cut") words cut × GivesSearch words options × GivesProfile words profile
+Asks words (Prove cut strategy profile) =
+    AsksFor words (codes "prove") × GivesFlag (codes "cut") words cut × GivesSearch words strategy × GivesProfile words profile
 Asks words Check = AsksFor words (codes "check")
 Asks words Lint = AsksFor words (codes "lint")
-Asks words (Sum cut options trace profile) =
-    AsksFor words (codes "sum") × GivesFlag (codes "cut") words cut × GivesSearch words options × GivesFlag (codes "trace") words trace
+Asks words (Sum cut strategy trace profile) =
+    AsksFor words (codes "sum") × GivesFlag (codes "cut") words cut × GivesSearch words strategy × GivesFlag (codes "trace") words trace
     × GivesProfile words profile
 
 -- a kind of error that is no mistake
@@ -233,7 +245,7 @@ IsUsageOf k OutOfMemory = Unit {0}
 abbrev pub Refuses : List Text → Usage → Type 0
 Refuses words (Help text) = (k : ErrorKind) × IsAmong k (fault_of s66_app words) × IsHelp k
 Refuses words (Bad text) =
-    ((k : ErrorKind) × IsAmong k (fault_of s66_app words) × (IsHelp k → ⊥)) ⊎ ((fault_of s66_app words ≡ []) × (gives_both words ≡ true))
+    ((k : ErrorKind) × IsAmong k (fault_of s66_app words) × (IsHelp k → ⊥)) ⊎ ((fault_of s66_app words ≡ []) × (gives_two words ≡ true))
 Refuses words OutOfMemory = Unit {0}
 
 abbrev pub usage_code : Usage → ℕ

@@ -1,4 +1,4 @@
-use s66_model::Options;
+use crate::strategy::Strategy;
 
 /// What the program is asked for.
 #[derive(Clone, Copy, Debug, PartialEq, Eq)]
@@ -36,8 +36,8 @@ pub enum Command<'a> {
     Why {
         /// Whether lines that can't be read, and what a macro, a directive or a count covers, are left alone.
         cut: bool,
-        /// How the best order of each block is searched, if that is the one that is explained and not the source order.
-        order: Option<Options>,
+        /// How the best order of each block is looked for, if that is the one that is explained and not the source order.
+        order: Option<Strategy>,
         /// The number of the only block that is printed, from 1; None if all are.
         block: Option<u32>,
         /// The text of the profile, if it isn't the standard one.
@@ -47,8 +47,8 @@ pub enum Command<'a> {
     Page {
         /// Whether lines that can't be read, and what a macro, a directive or a count covers, are left alone.
         cut: bool,
-        /// How the orders of each block are searched.
-        options: Options,
+        /// How the best order of each block is looked for.
+        strategy: Strategy,
         /// The number of the only block that is printed, from 1; None if all are.
         block: Option<u32>,
         /// The text of the profile, if it isn't the standard one.
@@ -58,8 +58,8 @@ pub enum Command<'a> {
     Order {
         /// Whether lines that can't be read, and what a macro, a directive or a count covers, are left alone.
         cut: bool,
-        /// How the orders of each block are searched.
-        options: Options,
+        /// How the best order of each block is looked for.
+        strategy: Strategy,
         /// Whether the number of splits is printed.
         trace: bool,
         /// The text of the profile, if it isn't the standard one.
@@ -69,8 +69,8 @@ pub enum Command<'a> {
     Prove {
         /// Whether lines that can't be read, and what a macro, a directive or a count covers, are left alone.
         cut: bool,
-        /// How the orders of each block are searched.
-        options: Options,
+        /// How the best order of each block is looked for.
+        strategy: Strategy,
         /// The text of the profile, if it isn't the standard one.
         profile: Option<&'a str>,
     },
@@ -80,8 +80,8 @@ pub enum Command<'a> {
     Sum {
         /// Whether lines that can't be read, and what a macro, a directive or a count covers, are left alone.
         cut: bool,
-        /// How the orders of each block are searched.
-        options: Options,
+        /// How the best order of each block is looked for.
+        strategy: Strategy,
         /// Whether the numbers of splits are printed.
         trace: bool,
         /// The text of the profile, if it isn't the standard one.

@@ -1,12 +1,13 @@
 ghost use Rattle.std.specs.Prelude.{◌≡◌, IfOk, IfErr, List, map};
 ghost use Rattle.clap.specs.Words.{Text, app_of, found_of, kind_of, new_app};
 ghost use Rattle.clap.specs.declared.error.kind.ErrorKind.TheVariants.{ArgumentConflict};
-ghost use Rattle.s66_command.specs.FoundOptions.{AreNodesFound, AreOptionsFound, AreWorkersFound, IsBlockFound, IsOrderFound};
-ghost use Rattle.s66_command.specs.Usage.{Asks, IsArgumentOf, IsCommandOf, IsUsageOf, Refuses, block_rule, chart_app, check_app, deps_app, flag_rule, lint_app, nodes_rule, order_app, page_app, profile_rule, prove_app, rule_unless_both, s66_app, search_app, source_app, sum_app, time_app, why_app, workers_rule};
+ghost use Rattle.s66_command.specs.FoundOptions.{AreNodesFound, AreWorkersFound, IsBlockFound, IsOrderFound, IsStrategyFound};
+ghost use Rattle.s66_command.specs.Usage.{Asks, IsArgumentOf, IsCommandOf, IsUsageOf, Refuses, block_rule, chart_app, check_app, deps_app, flag_rule, lint_app, nodes_rule, order_app, page_app, profile_rule, prove_app, rule_unless_two, s66_app, search_app, source_app, sum_app, time_app, why_app, workers_rule};
 ghost use Rattle.s66_command.specs.declared.usage.Usage.TheVariants.{OutOfMemory};
 
 use crate::command::Command as Asked;
 use crate::limits::{BLOCK_NUMBER_LIMIT, NODES_DEFAULT, WORKERS_DEFAULT};
+use crate::strategy::Strategy;
 use clap::error::ErrorKind;
 use clap::{Arg, ArgAction, ArgMatches, Command, Error, value_parser};
 use s66_isa::PROFILE_LIMIT;
@@ -150,6 +151,9 @@ const DOMINATE_HELP: &str = "Leaves out beginnings of orders that an earlier one
 
 const DOMINATE_TREE_HELP: &str =
     "Leaves out beginnings of orders that any other one dominates: proves far more blocks best";
+
+const DEEP_HELP: &str =
+    "Before the search, looks for facts by which no order is faster; searches as with --dominate-tree";
 
 const TEXT_HELP: &str =
     "Puts the text of each instruction before its row, and a ruler above the rows";
@@ -317,7 +321,8 @@ fn search_command<'a>(
         .arg(nodes_option(alloc))?
         .arg(profile_option(alloc))?
         .arg(flag(alloc, "dominate", DOMINATE_HELP))?
-        .arg(flag(alloc, "dominate-tree", DOMINATE_TREE_HELP))
+        .arg(flag(alloc, "dominate-tree", DOMINATE_TREE_HELP))?
+        .arg(flag(alloc, "deep", DEEP_HELP))
 }
 
 /// The subcommand `why`.
@@ -464,47 +469,57 @@ fn block_in(matches: &ArgMatches) -> Option<u32>
     matches.get_one("block")
 }
 
-/// Which nodes dominated leaves name by the flags `--dominate` and `--dominate-tree`, unless both are given.
-fn rule_of(dominate: bool, dominate_tree: bool) -> Option<Rule>
-    ensures { result ≡ rule_unless_both dominate dominate_tree }
+/// Which nodes dominated leaves name by the flags `--dominate`, `--dominate-tree` and `--deep`, unless two of them are given.
+fn rule_of(dominate: bool, dominate_tree: bool, deep: bool) -> Option<Rule>
+    ensures { result ≡ rule_unless_two dominate dominate_tree deep }
 {
-    match (dominate, dominate_tree) {
-        (false, false) => Some(Rule::NoneNamed),
-        (true, false) => Some(Rule::WrittenEarlier),
-        (false, true) => Some(Rule::ClampedStanding),
-        (true, true) => None,
+    match (dominate, dominate_tree, deep) {
+        (false, false, false) => Some(Rule::NoneNamed),
+        (true, false, false) => Some(Rule::WrittenEarlier),
+        (false, true, false) | (false, false, true) => Some(Rule::ClampedStanding),
+        _ => None,
     }
 }
 
-/// How a subcommand that searches is to search by its words, unless they give both flags.
-fn options_in(matches: &ArgMatches) -> Option<Options>
-    ensures { AreOptionsFound (found_of matches.now) result }
+/// How a subcommand that searches is to look for the best order by its words, unless they give two of these flags.
+fn strategy_in(matches: &ArgMatches) -> Option<Strategy>
+    ensures { IsStrategyFound (found_of matches.now) result }
 {
     let dominate = matches.get_flag("dominate");
-    let rule = rule_of(dominate, matches.get_flag("dominate-tree"))?;
-    Some(Options {
+    let dominate_tree = matches.get_flag("dominate-tree");
+    let deep = matches.get_flag("deep");
+    let rule = rule_of(dominate, dominate_tree, deep)?;
+    let search = Options {
         workers: workers_in(matches),
         nodes: nodes_in(matches),
         rule,
-    })
+    };
+    Some(Strategy { search, deep })
 }
 
-/// These options, if the flag `--order` is given.
-fn order_in(matches: &ArgMatches, options: Options) -> Option<Options>
-    ensures { IsOrderFound (found_of matches.now) options result }
+/// This strategy, if the flag `--order` is given.
+fn order_in(matches: &ArgMatches, strategy: Strategy) -> Option<Strategy>
+    ensures { IsOrderFound (found_of matches.now) strategy result }
 {
     if matches.get_flag("order") {
-        Some(options)
+        Some(strategy)
     } else {
         None
     }
 }
 
-/// The mistake of words that give a subcommand both flags.
-fn both_given(alloc: Global, mut command: Command<'_>) -> Usage
+/// The mistake of words that give a subcommand two of the flags `--dominate`, `--dominate-tree` and `--deep`, or all three.
+fn two_given(alloc: Global, matches: &ArgMatches, mut command: Command<'_>) -> Usage
     ensures { IsUsageOf ArgumentConflict result }
 {
-    let message = "the argument '--dominate' cannot be used with '--dominate-tree'";
+    let dominate = matches.get_flag("dominate");
+    let dominate_tree = matches.get_flag("dominate-tree");
+    let message = match (dominate, dominate_tree, matches.get_flag("deep")) {
+        (true, true, false) => "the argument '--dominate' cannot be used with '--dominate-tree'",
+        (true, false, true) => "the argument '--dominate' cannot be used with '--deep'",
+        (false, true, true) => "the argument '--dominate-tree' cannot be used with '--deep'",
+        _ => "the argument '--dominate' cannot be used with:\n  --dominate-tree\n  --deep",
+    };
     match command.error(ErrorKind::ArgumentConflict, message) {
         Ok(error) => usage_of(alloc, &error),
         Err(AllocError) => Usage::OutOfMemory,
@@ -538,57 +553,57 @@ pub fn command_of<'a, S: AsStr>(alloc: Global, words: &'a [S]) -> Result<Asked<'
             profile: chart.get_str("profile"),
         }),
         Some(("order", order)) => {
-            let Some(options) = options_in(order) else {
-                return Err(both_given(alloc, order_command(alloc)?));
+            let Some(strategy) = strategy_in(order) else {
+                return Err(two_given(alloc, order, order_command(alloc)?));
             };
             Ok(Asked::Order {
                 cut: order.get_flag("cut"),
-                options,
+                strategy,
                 trace: order.get_flag("trace"),
                 profile: order.get_str("profile"),
             })
         }
         Some(("prove", prove)) => {
-            let Some(options) = options_in(prove) else {
-                return Err(both_given(alloc, prove_command(alloc)?));
+            let Some(strategy) = strategy_in(prove) else {
+                return Err(two_given(alloc, prove, prove_command(alloc)?));
             };
             Ok(Asked::Prove {
                 cut: prove.get_flag("cut"),
-                options,
+                strategy,
                 profile: prove.get_str("profile"),
             })
         }
         Some(("check", _)) => Ok(Asked::Check),
         Some(("lint", _)) => Ok(Asked::Lint),
         Some(("sum", sum)) => {
-            let Some(options) = options_in(sum) else {
-                return Err(both_given(alloc, sum_command(alloc)?));
+            let Some(strategy) = strategy_in(sum) else {
+                return Err(two_given(alloc, sum, sum_command(alloc)?));
             };
             Ok(Asked::Sum {
                 cut: sum.get_flag("cut"),
-                options,
+                strategy,
                 trace: sum.get_flag("trace"),
                 profile: sum.get_str("profile"),
             })
         }
         Some(("page", page)) => {
-            let Some(options) = options_in(page) else {
-                return Err(both_given(alloc, page_command(alloc)?));
+            let Some(strategy) = strategy_in(page) else {
+                return Err(two_given(alloc, page, page_command(alloc)?));
             };
             Ok(Asked::Page {
                 cut: page.get_flag("cut"),
-                options,
+                strategy,
                 block: block_in(page),
                 profile: page.get_str("profile"),
             })
         }
         Some(("why", why)) => {
-            let Some(options) = options_in(why) else {
-                return Err(both_given(alloc, why_command(alloc)?));
+            let Some(strategy) = strategy_in(why) else {
+                return Err(two_given(alloc, why, why_command(alloc)?));
             };
             Ok(Asked::Why {
                 cut: why.get_flag("cut"),
-                order: order_in(why, options),
+                order: order_in(why, strategy),
                 block: block_in(why),
                 profile: why.get_str("profile"),
             })

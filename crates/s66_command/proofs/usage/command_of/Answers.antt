@@ -1,7 +1,7 @@
 use Rattle.std.proofs.Common.{rules, ◌∙◌, ap, codes, inl, inr, map, option_map, refl, sym}
 use Rattle.clap.specs.Words.{app_of, found_of}
-use Rattle.s66_command.proofs.Named.{asks-for, both-of, flag-of, block-of, matched, name-known, order-of, order-options, page-options, profile-of, prove-options, search-of, sum-options, taken, why-options}
-use Rattle.s66_command.proofs.Refused.{refused, refused-both}
+use Rattle.s66_command.proofs.Named.{asks-for, flag-of, block-of, matched, name-known, order-of, order-options, page-options, profile-of, prove-options, search-of, sum-options, taken, two-of, why-options}
+use Rattle.s66_command.proofs.Refused.{refused, refused-two}
 use Rattle.s66_command.proofs.usage.command_of.Goals as goal
 use Rattle.s66_command.proofs.usage.command_of.Goals.{in_default-via-in-Some+in_default, in_default-via-in_default}
 
@@ -85,21 +85,21 @@ returns-in-Some-order-default-clause-ok g c =
     let found = found_of c.in-Some-order-default.order.now in
     let here = matched m words found _ is asks.1 refl c.in-Some-order-default.ensures.rows in (
       asks,
-      flag-of words found c.get_flag-in-Some-order-default.result _ (codes "cut") here ((inl refl, (inr refl, (inr refl, (inr refl, (inr refl, (inr refl, (inr refl, (inr refl, tt)))))))), refl) (c.get_flag-in-Some-order-default.ensures.value, c.get_flag-in-Some-order-default.ensures.other),
-      search-of words found c.in-Some.options _ here order-options c.in-Some.ensures,
-      flag-of words found c.get_flag-in-Some-order-default-2.result _ (codes "trace") here ((inr refl, (inr refl, (inr refl, (inr refl, (inr refl, (inr refl, (inl refl, (inr refl, tt)))))))), refl) (c.get_flag-in-Some-order-default-2.ensures.value, c.get_flag-in-Some-order-default-2.ensures.other),
+      flag-of words found c.get_flag-in-Some-order-default.result _ (codes "cut") here ((inl refl, (inr refl, (inr refl, (inr refl, (inr refl, (inr refl, (inr refl, (inr refl, (inr refl, tt))))))))), refl) (c.get_flag-in-Some-order-default.ensures.value, c.get_flag-in-Some-order-default.ensures.other),
+      search-of words found c.in-Some.strategy _ here order-options c.in-Some.ensures,
+      flag-of words found c.get_flag-in-Some-order-default-2.result _ (codes "trace") here ((inr refl, (inr refl, (inr refl, (inr refl, (inr refl, (inr refl, (inr refl, (inl refl, (inr refl, tt))))))))), refl) (c.get_flag-in-Some-order-default-2.ensures.value, c.get_flag-in-Some-order-default-2.ensures.other),
       profile-of words found _ c.get_str-in-Some-order-default.result here c.get_str-in-Some-order-default.ensures,
     )
 
-pub returns-in_default-options_in-clause-err : goal.returns-in_default-options_in-clause-err
-returns-in_default-options_in-clause-err g c =
+pub returns-in_default-strategy_in-clause-err : goal.returns-in_default-strategy_in-clause-err
+returns-in_default-strategy_in-clause-err g c =
     let words = map g.S.AsStr.text c.args.words.now in
     let m = c.in-Ok.matches in
     let is = taken m (app_of c.in_ok-program.field-0) words c.in_ok-program.ensures c.in-Ok.ensures.kinds c.in-Ok.ensures.matches in
     let asks = asks-for m words c.in-Some-order-default.field-0-0.now (codes "order") is c.in-Some-order-default.ensures.name c.in-Some-order-default.is-order in
     let found = found_of c.in-Some-order-default.order.now in
     let here = matched m words found _ is asks.1 refl c.in-Some-order-default.ensures.rows in
-    refused-both c.both_given.result words asks.0 (both-of words found _ here order-options c.in_default-options_in.ensures) c.both_given.ensures
+    refused-two c.two_given.result words asks.0 (two-of words found _ here order-options c.in_default-strategy_in.ensures) c.two_given.ensures
 
 pub returns-in-Some-prove-default-clause-ok : goal.returns-in-Some-prove-default-clause-ok
 returns-in-Some-prove-default-clause-ok g c =
@@ -110,20 +110,20 @@ returns-in-Some-prove-default-clause-ok g c =
     let found = found_of c.in-Some-prove-default.prove.now in
     let here = matched m words found _ is asks.1 refl c.in-Some-prove-default.ensures.rows in (
       asks,
-      flag-of words found c.get_flag-in-Some-prove-default.result _ (codes "cut") here ((inl refl, (inr refl, (inr refl, (inr refl, (inr refl, (inr refl, (inr refl, tt))))))), refl) (c.get_flag-in-Some-prove-default.ensures.value, c.get_flag-in-Some-prove-default.ensures.other),
-      search-of words found c.in-Some-options_in.options _ here prove-options c.in-Some-options_in.ensures,
+      flag-of words found c.get_flag-in-Some-prove-default.result _ (codes "cut") here ((inl refl, (inr refl, (inr refl, (inr refl, (inr refl, (inr refl, (inr refl, (inr refl, tt)))))))), refl) (c.get_flag-in-Some-prove-default.ensures.value, c.get_flag-in-Some-prove-default.ensures.other),
+      search-of words found c.in-Some-strategy_in.strategy _ here prove-options c.in-Some-strategy_in.ensures,
       profile-of words found _ c.get_str-in-Some-prove-default.result here c.get_str-in-Some-prove-default.ensures,
     )
 
-pub returns-in_default-options_in-2-clause-err : goal.returns-in_default-options_in-2-clause-err
-returns-in_default-options_in-2-clause-err g c =
+pub returns-in_default-strategy_in-2-clause-err : goal.returns-in_default-strategy_in-2-clause-err
+returns-in_default-strategy_in-2-clause-err g c =
     let words = map g.S.AsStr.text c.args.words.now in
     let m = c.in-Ok.matches in
     let is = taken m (app_of c.in_ok-program.field-0) words c.in_ok-program.ensures c.in-Ok.ensures.kinds c.in-Ok.ensures.matches in
     let asks = asks-for m words c.in-Some-prove-default.field-0-0.now (codes "prove") is c.in-Some-prove-default.ensures.name c.in-Some-prove-default.is-prove in
     let found = found_of c.in-Some-prove-default.prove.now in
     let here = matched m words found _ is asks.1 refl c.in-Some-prove-default.ensures.rows in
-    refused-both c.both_given-in_default-options_in-2.result words asks.0 (both-of words found _ here prove-options c.in_default-options_in-2.ensures) c.both_given-in_default-options_in-2.ensures
+    refused-two c.two_given-in_default-strategy_in-2.result words asks.0 (two-of words found _ here prove-options c.in_default-strategy_in-2.ensures) c.two_given-in_default-strategy_in-2.ensures
 
 pub returns-in-Some-check-default-clause-ok : goal.returns-in-Some-check-default-clause-ok
 returns-in-Some-check-default-clause-ok g c =
@@ -148,21 +148,21 @@ returns-in-Some-sum-default-clause-ok g c =
     let found = found_of c.in-Some-sum-default.sum.now in
     let here = matched m words found _ is asks.1 refl c.in-Some-sum-default.ensures.rows in (
       asks,
-      flag-of words found c.get_flag-in-Some-sum-default.result _ (codes "cut") here ((inl refl, (inr refl, (inr refl, (inr refl, (inr refl, (inr refl, (inr refl, (inr refl, tt)))))))), refl) (c.get_flag-in-Some-sum-default.ensures.value, c.get_flag-in-Some-sum-default.ensures.other),
-      search-of words found c.in-Some-options_in-2.options _ here sum-options c.in-Some-options_in-2.ensures,
-      flag-of words found c.get_flag-in-Some-sum-default-2.result _ (codes "trace") here ((inr refl, (inr refl, (inr refl, (inr refl, (inr refl, (inr refl, (inl refl, (inr refl, tt)))))))), refl) (c.get_flag-in-Some-sum-default-2.ensures.value, c.get_flag-in-Some-sum-default-2.ensures.other),
+      flag-of words found c.get_flag-in-Some-sum-default.result _ (codes "cut") here ((inl refl, (inr refl, (inr refl, (inr refl, (inr refl, (inr refl, (inr refl, (inr refl, (inr refl, tt))))))))), refl) (c.get_flag-in-Some-sum-default.ensures.value, c.get_flag-in-Some-sum-default.ensures.other),
+      search-of words found c.in-Some-strategy_in-2.strategy _ here sum-options c.in-Some-strategy_in-2.ensures,
+      flag-of words found c.get_flag-in-Some-sum-default-2.result _ (codes "trace") here ((inr refl, (inr refl, (inr refl, (inr refl, (inr refl, (inr refl, (inr refl, (inl refl, (inr refl, tt))))))))), refl) (c.get_flag-in-Some-sum-default-2.ensures.value, c.get_flag-in-Some-sum-default-2.ensures.other),
       profile-of words found _ c.get_str-in-Some-sum-default.result here c.get_str-in-Some-sum-default.ensures,
     )
 
-pub returns-in_default-options_in-3-clause-err : goal.returns-in_default-options_in-3-clause-err
-returns-in_default-options_in-3-clause-err g c =
+pub returns-in_default-strategy_in-3-clause-err : goal.returns-in_default-strategy_in-3-clause-err
+returns-in_default-strategy_in-3-clause-err g c =
     let words = map g.S.AsStr.text c.args.words.now in
     let m = c.in-Ok.matches in
     let is = taken m (app_of c.in_ok-program.field-0) words c.in_ok-program.ensures c.in-Ok.ensures.kinds c.in-Ok.ensures.matches in
     let asks = asks-for m words c.in-Some-sum-default.field-0-0.now (codes "sum") is c.in-Some-sum-default.ensures.name c.in-Some-sum-default.is-sum in
     let found = found_of c.in-Some-sum-default.sum.now in
     let here = matched m words found _ is asks.1 refl c.in-Some-sum-default.ensures.rows in
-    refused-both c.both_given-in_default-options_in-3.result words asks.0 (both-of words found _ here sum-options c.in_default-options_in-3.ensures) c.both_given-in_default-options_in-3.ensures
+    refused-two c.two_given-in_default-strategy_in-3.result words asks.0 (two-of words found _ here sum-options c.in_default-strategy_in-3.ensures) c.two_given-in_default-strategy_in-3.ensures
 
 pub returns-in-Some-page-default-clause-ok : goal.returns-in-Some-page-default-clause-ok
 returns-in-Some-page-default-clause-ok g c =
@@ -173,21 +173,21 @@ returns-in-Some-page-default-clause-ok g c =
     let found = found_of c.in-Some-page-default.page.now in
     let here = matched m words found _ is asks.1 refl c.in-Some-page-default.ensures.rows in (
       asks,
-      flag-of words found c.get_flag-in-Some-page-default.result _ (codes "cut") here ((inl refl, (inr refl, (inr refl, (inr refl, (inr refl, (inr refl, (inr refl, (inr refl, tt)))))))), refl) (c.get_flag-in-Some-page-default.ensures.value, c.get_flag-in-Some-page-default.ensures.other),
-      search-of words found c.in-Some-options_in-3.options _ here page-options c.in-Some-options_in-3.ensures,
-      block-of words found c.block_in-in-Some-page-default.result _ here (inr refl, (inr refl, (inr refl, (inr refl, (inr refl, (inr refl, (inl refl, (inr refl, tt)))))))) c.block_in-in-Some-page-default.ensures,
+      flag-of words found c.get_flag-in-Some-page-default.result _ (codes "cut") here ((inl refl, (inr refl, (inr refl, (inr refl, (inr refl, (inr refl, (inr refl, (inr refl, (inr refl, tt))))))))), refl) (c.get_flag-in-Some-page-default.ensures.value, c.get_flag-in-Some-page-default.ensures.other),
+      search-of words found c.in-Some-strategy_in-3.strategy _ here page-options c.in-Some-strategy_in-3.ensures,
+      block-of words found c.block_in-in-Some-page-default.result _ here (inr refl, (inr refl, (inr refl, (inr refl, (inr refl, (inr refl, (inr refl, (inl refl, (inr refl, tt))))))))) c.block_in-in-Some-page-default.ensures,
       profile-of words found _ c.get_str-in-Some-page-default.result here c.get_str-in-Some-page-default.ensures,
     )
 
-pub returns-in_default-options_in-4-clause-err : goal.returns-in_default-options_in-4-clause-err
-returns-in_default-options_in-4-clause-err g c =
+pub returns-in_default-strategy_in-4-clause-err : goal.returns-in_default-strategy_in-4-clause-err
+returns-in_default-strategy_in-4-clause-err g c =
     let words = map g.S.AsStr.text c.args.words.now in
     let m = c.in-Ok.matches in
     let is = taken m (app_of c.in_ok-program.field-0) words c.in_ok-program.ensures c.in-Ok.ensures.kinds c.in-Ok.ensures.matches in
     let asks = asks-for m words c.in-Some-page-default.field-0-0.now (codes "page") is c.in-Some-page-default.ensures.name c.in-Some-page-default.is-page in
     let found = found_of c.in-Some-page-default.page.now in
     let here = matched m words found _ is asks.1 refl c.in-Some-page-default.ensures.rows in
-    refused-both c.both_given-in_default-options_in-4.result words asks.0 (both-of words found _ here page-options c.in_default-options_in-4.ensures) c.both_given-in_default-options_in-4.ensures
+    refused-two c.two_given-in_default-strategy_in-4.result words asks.0 (two-of words found _ here page-options c.in_default-strategy_in-4.ensures) c.two_given-in_default-strategy_in-4.ensures
 
 pub returns-in-Some-why-default-clause-ok : goal.returns-in-Some-why-default-clause-ok
 returns-in-Some-why-default-clause-ok g c =
@@ -198,18 +198,18 @@ returns-in-Some-why-default-clause-ok g c =
     let found = found_of c.in-Some-why-default.why.now in
     let here = matched m words found _ is asks.1 refl c.in-Some-why-default.ensures.rows in (
       asks,
-      flag-of words found c.get_flag-in-Some-why-default.result _ (codes "cut") here ((inl refl, (inr refl, (inr refl, (inr refl, (inr refl, (inr refl, (inr refl, (inr refl, (inr refl, tt))))))))), refl) (c.get_flag-in-Some-why-default.ensures.value, c.get_flag-in-Some-why-default.ensures.other),
-      order-of words found c.in-Some-options_in-4.options c.order_in.result _ here ((inr refl, (inr refl, (inr refl, (inr refl, (inr refl, (inr refl, (inl refl, (inr refl, (inr refl, tt))))))))), refl) (search-of words found c.in-Some-options_in-4.options _ here why-options c.in-Some-options_in-4.ensures) c.order_in.ensures,
-      block-of words found c.block_in-in-Some-why-default.result _ here (inr refl, (inr refl, (inr refl, (inr refl, (inr refl, (inr refl, (inr refl, (inl refl, (inr refl, tt))))))))) c.block_in-in-Some-why-default.ensures,
+      flag-of words found c.get_flag-in-Some-why-default.result _ (codes "cut") here ((inl refl, (inr refl, (inr refl, (inr refl, (inr refl, (inr refl, (inr refl, (inr refl, (inr refl, (inr refl, tt)))))))))), refl) (c.get_flag-in-Some-why-default.ensures.value, c.get_flag-in-Some-why-default.ensures.other),
+      order-of words found c.in-Some-strategy_in-4.strategy c.order_in.result _ here ((inr refl, (inr refl, (inr refl, (inr refl, (inr refl, (inr refl, (inr refl, (inl refl, (inr refl, (inr refl, tt)))))))))), refl) (search-of words found c.in-Some-strategy_in-4.strategy _ here why-options c.in-Some-strategy_in-4.ensures) c.order_in.ensures,
+      block-of words found c.block_in-in-Some-why-default.result _ here (inr refl, (inr refl, (inr refl, (inr refl, (inr refl, (inr refl, (inr refl, (inr refl, (inl refl, (inr refl, tt)))))))))) c.block_in-in-Some-why-default.ensures,
       profile-of words found _ c.get_str-in-Some-why-default.result here c.get_str-in-Some-why-default.ensures,
     )
 
-pub returns-in_default-options_in-5-clause-err : goal.returns-in_default-options_in-5-clause-err
-returns-in_default-options_in-5-clause-err g c =
+pub returns-in_default-strategy_in-5-clause-err : goal.returns-in_default-strategy_in-5-clause-err
+returns-in_default-strategy_in-5-clause-err g c =
     let words = map g.S.AsStr.text c.args.words.now in
     let m = c.in-Ok.matches in
     let is = taken m (app_of c.in_ok-program.field-0) words c.in_ok-program.ensures c.in-Ok.ensures.kinds c.in-Ok.ensures.matches in
     let asks = asks-for m words c.in-Some-why-default.field-0-0.now (codes "why") is c.in-Some-why-default.ensures.name c.in-Some-why-default.is-why in
     let found = found_of c.in-Some-why-default.why.now in
     let here = matched m words found _ is asks.1 refl c.in-Some-why-default.ensures.rows in
-    refused-both c.both_given-in_default-options_in-5.result words asks.0 (both-of words found _ here why-options c.in_default-options_in-5.ensures) c.both_given-in_default-options_in-5.ensures
+    refused-two c.two_given-in_default-strategy_in-5.result words asks.0 (two-of words found _ here why-options c.in_default-strategy_in-5.ensures) c.two_given-in_default-strategy_in-5.ensures

@@ -1,0 +1,10 @@
+use s66_model::Options;
+
+/// How the best order of a block is looked for.
+#[derive(Clone, Copy, Debug, PartialEq, Eq)]
+pub struct Strategy {
+    /// How its orders are searched.
+    pub search: Options,
+    /// Whether facts that all faster orders have in common are looked for first.
+    pub deep: bool,
+}
