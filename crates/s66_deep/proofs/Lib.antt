@@ -1,0 +1,2 @@
+pub mod FittingLines
+pub mod WholeTrees

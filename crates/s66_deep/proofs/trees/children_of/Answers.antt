@@ -1,0 +1,6 @@
+use Rattle.std.proofs.Common.{◌∙◌, refl, sym}
+use Rattle.s66_deep.proofs.FittingLines.{numbers-fit}
+use Rattle.s66_deep.proofs.trees.children_of.Goals as goal
+
+pub returns-in-Split-clause-allowed : goal.returns-in-Split-clause-allowed
+returns-in-Split-clause-allowed c = rw c.in-Split.is (numbers-fit c.in-Split.numbers.now (sym c.are_numbers.ensures ∙ c.if-are_numbers.true), refl)

@@ -1,0 +1,10 @@
+//! What is found of a block before its orders are searched: a good order, and fact lines by which a certificate shows a bound. Whether
+//! they are right is for a checker to say.
+#![tactic(auto)]
+
+mod look;
+mod orders;
+mod ranges;
+mod trees;
+
+pub use look::{Looked, look_at};
