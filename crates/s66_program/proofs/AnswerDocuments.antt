@@ -34,8 +34,10 @@ use Rattle.s66_cert.specs.declared.limits.TheConstants.{SPLIT_LIMIT, TIME_LIMIT}
 use Rattle.s66_tree.specs.Lines.{has_dominated_line}
 use Rattle.s66_cert.specs.Document.{AreIn, AreInstructions, AreNumbers, IsDocument, IsLeafLine, SiblingsFit, TreeFits, is_factual, has_dominated, has_factual, names_nodes}
 use Rattle.s66_cert.specs.DocumentParts.{Parts, AreWhole, document_of, tree_of_lines}
+use Rattle.s66_program.specs.declared.documents.Shows.{Shows}
 use Rattle.s66_program.specs.ProvedAnswers.{IsSpelled}
-use Rattle.s66_program.specs.ProveText.{document_under, rule_of, texts_of}
+use Rattle.s66_program.specs.Stored.{IsFit, parts_by}
+use Rattle.s66_program.specs.Answers.{document_under, rule_of, searched, texts_of}
 
 -- RANGES
 
@@ -285,7 +287,7 @@ shows-by : (rule : Rule) (b : Problem) (low : ℕ) (tree : Tree Ending) (dominat
 shows-by rule b low tree true is h = h
 shows-by rule b low tree false is h = tree-bounding b.block (EndingShows rule b low [] tree) (EndingShows NoneNamed b low [] tree) (same-shown rule b low tree) tree is h
 
-pub answer-shows : (rule : Rule) (b : Problem) (budget : ℕ) (a : Answer) → IsAnswer rule b budget a → ShowsBy (rule_of rule a.tree) b a.bound [] a.tree
+pub answer-shows : (rule : Rule) (b : Problem) (budget : ℕ) (a : Answer) → IsAnswer rule b budget a → ShowsBy (rule_of rule None a.tree) b a.bound [] a.tree
 answer-shows rule b budget a is = shows-by rule b a.bound a.tree (has_dominated a.tree) refl (answer-shown floor-stands rule b budget a is)
 
 -- TEXTS
@@ -303,9 +305,9 @@ length-texts block = length-map (numbers (instrs_of block)) (text_of block) ∙ 
 pub bound-within : (rule : Rule) (b : Problem) (budget : ℕ) (a : Answer) → IsAnswer rule b budget a → a.bound ≤ a.time
 bound-within rule b budget a is = omega (arith, is.bound, least-le (λ v. v) a.time (a.time ∷ tree_values (ending_values b) [] a.tree) (inl refl))
 
-pub answer-document : (rule : Rule) (p : Profile) (block : Block) (budget : ℕ) (a : Answer) → IsAnswer rule (record { block = instrs_of block; profile = p }) budget a → a.splits ≤ SPLIT_LIMIT →
-    1 ≤ length (instrs_of block) → length (instrs_of block) ≤ BLOCK_LIMIT → IsSpelled block → IsDocument BLOCK_LIMIT (document_under rule p block a)
-answer-document rule p block budget a is splits some few spelled =
+pub search-document : (rule : Rule) (p : Profile) (block : Block) (budget : ℕ) (a : Answer) → IsAnswer rule (record { block = instrs_of block; profile = p }) budget a → a.splits ≤ SPLIT_LIMIT →
+    1 ≤ length (instrs_of block) → length (instrs_of block) ≤ BLOCK_LIMIT → IsSpelled block → IsDocument BLOCK_LIMIT (document_under rule p block (searched a))
+search-document rule p block budget a is splits some few spelled =
     let b : Problem = record { block = instrs_of block; profile = p } in
     let in-range = entries-in-range p in
     let time : a.time ≤ TIME_LIMIT = omega (arith, is.time, total-le b a.order, (legal-order b.block a.order is.legal).1, few) in
@@ -325,18 +327,18 @@ answer-document rule p block budget a is splits some few spelled =
 
 abbrev pub parts_under : Rule → Profile → Block → Answer → Parts
 parts_under rule p block a =
-    record { rule = rule_of rule a.tree; facts = None; profile = entries p; block = texts_of block; time = a.time; bound = a.bound; numbers = a.order; vertices = flat a.tree }
+    record { rule = rule_of rule None a.tree; facts = None; profile = entries p; block = texts_of block; time = a.time; bound = a.bound; numbers = a.order; vertices = flat a.tree }
 
 pub parts-document : (rule : Rule) (p : Profile) (block : Block) (budget : ℕ) (a : Answer) → IsAnswer rule (record { block = instrs_of block; profile = p }) budget a →
-    document_of (parts_under rule p block a) ≡ document_under rule p block a
+    document_of (parts_under rule p block a) ≡ document_under rule p block (searched a)
 parts-document rule p block budget a is =
-    ap (λ tree. record (document_under rule p block a) { tree = tree }) (answer-lines rule (record { block = instrs_of block; profile = p }) budget a is)
+    ap (λ tree. record (document_under rule p block (searched a)) { tree = tree }) (answer-lines rule (record { block = instrs_of block; profile = p }) budget a is)
 
 pub parts-whole : (rule : Rule) (p : Profile) (block : Block) (budget : ℕ) (a : Answer) → IsAnswer rule (record { block = instrs_of block; profile = p }) budget a → a.splits ≤ SPLIT_LIMIT →
     1 ≤ length (instrs_of block) → length (instrs_of block) ≤ BLOCK_LIMIT → IsSpelled block → AreWhole (parts_under rule p block a)
 parts-whole rule p block budget a is splits some few spelled =
     record {
-      document = subst (IsDocument BLOCK_LIMIT) (sym (parts-document rule p block budget a is)) (answer-document rule p block budget a is splits some few spelled);
+      document = subst (IsDocument BLOCK_LIMIT) (sym (parts-document rule p block budget a is)) (search-document rule p block budget a is splits some few spelled);
       preorder = ap (λ (tree : Tree Ending). flat tree) (answer-lines rule (record { block = instrs_of block; profile = p }) budget a is);
     }
 
@@ -348,3 +350,24 @@ same-parts v w rule facts profile block time bound numbers vertices =
     ∙ ap (λ x. record w { block = x; time = v.time; bound = v.bound; numbers = v.numbers; vertices = v.vertices }) block
     ∙ ap (λ x. record w { time = x; bound = v.bound; numbers = v.numbers; vertices = v.vertices }) time ∙ ap (λ x. record w { bound = x; numbers = v.numbers; vertices = v.vertices }) bound
     ∙ ap (λ x. record w { numbers = x; vertices = v.vertices }) numbers ∙ ap (λ x. record w { vertices = x }) vertices
+
+-- WITH FACT LINES
+
+pub shown-whole : (p : Profile) (block : Block) (order : List ℕ) (time : ℕ) (l : Shows) → IsLegal (instrs_of block) order → time ≤ TIME_LIMIT → IsFit l → 1 ≤ length (instrs_of block) → length (instrs_of block) ≤ BLOCK_LIMIT → IsSpelled block →
+    AreWhole (parts_by p block order time l)
+shown-whole p block order time l legal within fit some few spelled =
+    let in-range = entries-in-range p in
+    record {
+      document = record {
+        profile = (in-range.0, all-in 1 PROFILE_LIMIT (entries p) in-range.1);
+        block = (omega (arith, length-texts block, some), omega (arith, length-texts block, few), texts-instructions block (length (instrs_of block)) 1 (omega arith) (omega arith) spelled);
+        time = within;
+        bound = fit.bound;
+        numbers = order-numbers (instrs_of block) few order some legal;
+        tree = fit.tree.fits;
+        splits = fit.tree.few;
+        facts = (refl, fit.few, fit.lines);
+        leaves = fit.tree.plain;
+      };
+      preorder = fit.tree.whole;
+    }

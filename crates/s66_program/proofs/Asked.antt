@@ -1,23 +1,23 @@
 -- The numbers of a command that the words ask for are within their limits.
 use Rattle.std.proofs.Common.{List, None, Some}
-use Rattle.s66_model.specs.declared.options.Options.{Options}
+use Rattle.s66_command.specs.declared.strategy.Strategy.{Strategy}
 use Rattle.s66_command.specs.declared.command.Command.{Command}
 use Rattle.s66_command.specs.declared.command.Command.TheVariants.{Time, Deps, Chart, Why, Page, Order, Prove, Check, Lint, Sum}
 use Rattle.s66_program.specs.Output.{IsSearchWithin, IsWithinLimits}
 use Rattle.s66_command.specs.Usage.{Asks, GivesSearch, Text}
 
-search-within : (words : List Text) (options : Options) → GivesSearch words options → IsSearchWithin options.workers options.nodes
-search-within words options h = (h.1, h.2, h.4)
+search-within : (words : List Text) (strategy : Strategy) → GivesSearch words strategy → IsSearchWithin strategy.search.workers strategy.search.nodes
+search-within words strategy h = (h.0.1, h.0.2, h.0.4)
 
 pub asked-within : (words : List Text) (command : Command) → Asks words command → IsWithinLimits command
 asked-within words (Time cut trace only profile) h = tt
 asked-within words (Deps cut only) h = tt
 asked-within words (Chart cut texts only profile) h = tt
 asked-within words (Why cut None only profile) h = tt
-asked-within words (Why cut (Some options) only profile) h = search-within words options h.2.1
-asked-within words (Page cut options only profile) h = search-within words options h.2
-asked-within words (Order cut options trace profile) h = search-within words options h.2
-asked-within words (Prove cut options profile) h = search-within words options h.2
+asked-within words (Why cut (Some strategy) only profile) h = search-within words strategy h.2.1
+asked-within words (Page cut strategy only profile) h = search-within words strategy h.2
+asked-within words (Order cut strategy trace profile) h = search-within words strategy h.2
+asked-within words (Prove cut strategy profile) h = search-within words strategy h.2
 asked-within words Check h = tt
 asked-within words Lint h = tt
-asked-within words (Sum cut options trace profile) h = search-within words options h.2
+asked-within words (Sum cut strategy trace profile) h = search-within words strategy h.2

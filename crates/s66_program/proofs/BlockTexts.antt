@@ -6,7 +6,7 @@ use Rattle.s66_isa.specs.Table.{instr_at}
 use Rattle.s66_line.specs.Block.{instrs_of, text_of, Block}
 use Rattle.s66_line.specs.InstructionText.{IsTextOf}
 use Rattle.s66_program.specs.ProvedAnswers.{IsSpelledTo}
-use Rattle.s66_program.specs.ProveText.{texts_of}
+use Rattle.s66_program.specs.Answers.{texts_of}
 use Rattle.s66_program.proofs.Dependences.{rising-next}
 
 pub spelled-more : (block : Block) (k : ℕ) → IsSpelledTo block k → IsTextOf (text_of block (k + 1)) (instr_at (instrs_of block) (k + 1)) → IsSpelledTo block (k + 1)

@@ -3,23 +3,13 @@ use Rattle.std.proofs.Common.{ℕ, ◌+◌, ◌≡◌, ◌≤◌, ◌<◌, ◌==
 use Rattle.std.proofs.lemmas.List.{append-nil, at_drop_all, drop_more}
 use Rattle.s66_isa.specs.declared.profile.Profile.{Profile}
 use Rattle.s66_line.specs.Block.{Block}
-use Rattle.s66_model.specs.declared.rule.Rule.{Rule}
-use Rattle.s66_model.specs.Answer.{Answer, IsAnswer}
-use Rattle.s66_model.specs.Timing.{Problem}
-use Rattle.s66_ledger.specs.Answers.{AnswerOf, answer_of}
+use Rattle.s66_command.specs.declared.strategy.Strategy.{Strategy}
 use Rattle.s66_cert.specs.Document.{document_text, documents_text}
 use Rattle.s66_page.specs.Found.{Found}
-use Rattle.s66_program.specs.OrderText.{AreAnswers, all_best, problem_of}
+use Rattle.s66_program.specs.Answers.{Answer, AreAnswers, IsAnswer, document_under}
+use Rattle.s66_program.specs.OrderText.{all_best}
 use Rattle.s66_program.specs.PageText.{all_found, found_by}
-use Rattle.s66_program.specs.ProveText.{all_documents, document_under}
-use Rattle.s66_program.specs.WhyText.{answer_lines, lines_of_answers}
-
--- what a search returns is an answer to the block
-pub searched : (rule : Rule) (profile : Profile) (block : Block) (nodes : ℕ) (found : AnswerOf) → found.rule ≡ rule → found.problem ≡ problem_of profile block → found.budget ≡ nodes →
-    IsAnswer found.rule found.problem found.budget (answer_of found) → IsAnswer rule (problem_of profile block) nodes (answer_of found)
-searched rule profile block nodes found by of for is =
-    subst (λ (b : Problem). IsAnswer rule b nodes (answer_of found)) of
-    (subst (λ n. IsAnswer rule found.problem n (answer_of found)) for (subst (λ (r : Rule). IsAnswer r found.problem found.budget (answer_of found)) by is))
+use Rattle.s66_program.specs.ProveText.{all_documents}
 
 and-assoc : (a b c : Bool) → ((a && b) && c) ≡ (a && (b && c))
 and-assoc true b c = refl
@@ -30,14 +20,14 @@ and-true true = refl
 and-true false = refl
 
 -- of an answer to the n-th block a part is made, and of those to all blocks, before which n come, the whole
-module _ {X : Type 0} (part : ℕ → Block → Answer → List X) (whole : ℕ → List Block → List Answer → List X) (rule : Rule) (profile : Profile) (nodes : ℕ) where
+module _ {X : Type 0} (part : ℕ → Block → Answer → List X) (whole : ℕ → List Block → List Answer → List X) (strategy : Strategy) (profile : Profile) where
   -- the part of an answer was appended, which is best or not
   abbrev pub IsMade : ℕ → Block → (old new : List X) → Bool → Type 0
-  IsMade n block old new best = (a : Answer) × IsAnswer rule (problem_of profile block) nodes a × (new ≡ old ++ part n block a) × (best ≡ (a.bound == a.time))
+  IsMade n block old new best = (a : Answer) × IsAnswer strategy profile block a × (new ≡ old ++ part n block a) × (best ≡ (a.bound == a.time))
 
   -- the whole of some answers, which are all best or not
   abbrev pub AreMade : ℕ → List Block → List X → Bool → Type 0
-  AreMade n blocks made best = (answers : List Answer) × AreAnswers rule profile nodes blocks answers × (made ≡ whole n blocks answers) × (best ≡ all_best answers)
+  AreMade n blocks made best = (answers : List Answer) × AreAnswers strategy profile blocks answers × (made ≡ whole n blocks answers) × (best ≡ all_best answers)
 
   -- it is made of the blocks before a place, and whatever is made of the others may follow it
   abbrev pub GoesOnAt : ℕ → List Block → ℕ → List X → Bool → Type 0
@@ -74,11 +64,11 @@ module _ {X : Type 0} (part : ℕ → Block → Answer → List X) (whole : ℕ 
 
 -- WHAT IS MADE: DOCUMENTS, WHAT A PAGE SHOWS, LINES
 
-abbrev pub document_part : Rule → Profile → ℕ → Block → Answer → List ℕ
-document_part rule p n block a = document_text (document_under rule p block a)
+abbrev pub document_part : Strategy → Profile → ℕ → Block → Answer → List ℕ
+document_part strategy p n block a = document_text (document_under strategy.search.rule p block a)
 
-abbrev pub documents : Rule → Profile → ℕ → List Block → List Answer → List ℕ
-documents rule p n blocks answers = documents_text (all_documents rule p blocks answers)
+abbrev pub documents : Strategy → Profile → ℕ → List Block → List Answer → List ℕ
+documents strategy p n blocks answers = documents_text (all_documents strategy.search.rule p blocks answers)
 
 abbrev pub found_part : ℕ → Block → Answer → List Found
 found_part n block a = found_by block a ∷ []

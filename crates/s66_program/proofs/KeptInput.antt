@@ -36,13 +36,13 @@ accepted p (Time cut trace only profile) input text status reads ((blocks, ok, i
 accepted p (Deps cut only) input text status reads ((blocks, ok, is), done) = (blocks, ok)
 accepted p (Chart cut texts only profile) input text status reads ((blocks, ok, is), done) = (blocks, ok)
 accepted p (Why cut None only profile) input text status reads ((blocks, ok, is), done) = (blocks, ok)
-accepted p (Why cut (Some options) only profile) input text status reads (blocks, ok, is) = (blocks, ok)
-accepted p (Page cut options only profile) input text status reads (blocks, ok, is) = (blocks, ok)
-accepted p (Order cut options trace profile) input text status reads (blocks, ok, is) = (blocks, ok)
-accepted p (Prove cut options profile) input text status reads (blocks, ok, is) = (blocks, ok)
+accepted p (Why cut (Some strategy) only profile) input text status reads (blocks, ok, is) = (blocks, ok)
+accepted p (Page cut strategy only profile) input text status reads (blocks, ok, is) = (blocks, ok)
+accepted p (Order cut strategy trace profile) input text status reads (blocks, ok, is) = (blocks, ok)
+accepted p (Prove cut strategy profile) input text status reads (blocks, ok, is) = (blocks, ok)
 accepted p Check input text status reads is = absurd (cc)
 accepted p Lint input text status reads is = absurd (cc)
-accepted p (Sum cut options trace profile) input text status reads (blocks, ok, is) = (blocks, ok)
+accepted p (Sum cut strategy trace profile) input text status reads (blocks, ok, is) = (blocks, ok)
 
 -- a full front is refused, and so is the input, for the same
 full-refused : (command : Command) (most : Option ℕ) (held rest : List ℕ) → IsMost command most → IsFull most held →
@@ -63,12 +63,12 @@ no-documents (Time cut trace only profile) source documents = cc
 no-documents (Deps cut only) source documents = cc
 no-documents (Chart cut texts only profile) source documents = cc
 no-documents (Why cut order only profile) source documents = cc
-no-documents (Page cut options only profile) source documents = cc
-no-documents (Order cut options trace profile) source documents = cc
-no-documents (Prove cut options profile) source documents = cc
+no-documents (Page cut strategy only profile) source documents = cc
+no-documents (Order cut strategy trace profile) source documents = cc
+no-documents (Prove cut strategy profile) source documents = cc
 no-documents Check source documents = cc
 no-documents Lint source documents = cc
-no-documents (Sum cut options trace profile) source documents = cc
+no-documents (Sum cut strategy trace profile) source documents = cc
 
 refused-for : (command : Command) (input held : List ℕ) (f : Fault) → reads_source command ≡ true → source_of (source_in command input) ≡ source_of (source_in command held) → IsRefusal command held f → IsRefusal command input f
 refused-for command input held (fault.Source e) reads same (is, other, refused) = (is, other, same ∙ refused)

@@ -1,8 +1,10 @@
 pub mod Calls
 pub mod AnswerDocuments
 pub mod AnswerVerdicts
+pub mod Answered
 pub mod Asked
 pub mod BlockTexts
+pub mod ByFacts
 pub mod CheckedAnswers
 pub mod Dependences
 pub mod FoundAnswers

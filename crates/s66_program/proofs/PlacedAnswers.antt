@@ -9,38 +9,39 @@ use Rattle.s66_line.specs.Block.{instrs_of, Entry, Block}
 use Rattle.s66_source.specs.Printed.{Placed, ArePlaced, printed}
 use Rattle.s66_source.specs.LeftAlone.{Reading}
 use Rattle.s66_source.specs.Source.{blocks_of, classed_lines, refusal, source_of, unless_refused}
-use Rattle.s66_model.specs.declared.rule.Rule.{Rule}
-use Rattle.s66_model.specs.Answer.{Answer}
+use Rattle.s66_command.specs.declared.strategy.Strategy.{Strategy}
 use Rattle.s66_model.specs.LegalOrder.{GoesOn, IsLegal}
 use Rattle.s66_model.proofs.LegalOrders.{legal-order, ready-parts}
+use Rattle.s66_program.specs.Answers.{Answer, AreAnswers}
 use Rattle.s66_program.specs.declared.outcome.Status.{Status}
 use Rattle.s66_program.specs.declared.outcome.Status.TheVariants.{Done, Bounded}
-use Rattle.s66_program.specs.OrderText.{AreAnswers, IsOrderOutput, all_best, all_placed}
+use Rattle.s66_program.specs.OrderText.{IsOrderOutput, all_best, all_placed}
+use Rattle.s66_program.proofs.Answered.{answer-legal}
 use Rattle.s66_program.specs.PlacedAnswers.{AreAllPlaced, IsPlacedAnswer, tell_best}
 
 -- ONE BLOCK AFTER THE OTHER
 
-placed-more : (rule : Rule) (profile : Profile) (nodes : ℕ) (trace : Bool) (block : Block) (blocks : List Block) (p : Placed) (ps : List Placed) → IsPlacedAnswer rule profile nodes trace block p → AreAllPlaced rule profile nodes trace blocks ps →
-    AreAllPlaced rule profile nodes trace (block ∷ blocks) (p ∷ ps)
-placed-more rule profile nodes trace block blocks p ps (a, is, same) (answers, are, all) = (a ∷ answers, (is, are), ap₂ (λ x xs. x ∷ xs) same all)
+placed-more : (strategy : Strategy) (profile : Profile) (trace : Bool) (block : Block) (blocks : List Block) (p : Placed) (ps : List Placed) → IsPlacedAnswer strategy profile trace block p → AreAllPlaced strategy profile trace blocks ps →
+    AreAllPlaced strategy profile trace (block ∷ blocks) (p ∷ ps)
+placed-more strategy profile trace block blocks p ps (a, is, same) (answers, are, all) = (a ∷ answers, (is, are), ap₂ (λ x xs. x ∷ xs) same all)
 
 -- these are placed, and whatever answers the blocks from a place on may follow them
-abbrev pub GoesOnAt : Rule → Profile → ℕ → Bool → List Block → ℕ → List Placed → Type 0
-GoesOnAt rule profile nodes trace blocks i ps = (rest : List Placed) → AreAllPlaced rule profile nodes trace (drop i blocks) rest → AreAllPlaced rule profile nodes trace blocks (ps ++ rest)
+abbrev pub GoesOnAt : Strategy → Profile → Bool → List Block → ℕ → List Placed → Type 0
+GoesOnAt strategy profile trace blocks i ps = (rest : List Placed) → AreAllPlaced strategy profile trace (drop i blocks) rest → AreAllPlaced strategy profile trace blocks (ps ++ rest)
 
-pub goes-on : (rule : Rule) (profile : Profile) (nodes : ℕ) (trace : Bool) (blocks : List Block) (i : ℕ) (block : Block) (ps new : List Placed) (p : Placed) → i < length blocks → block ≡ slice_index_or blocks i block →
-    IsPlacedAnswer rule profile nodes trace block p → new ≡ ps ++ p ∷ [] → GoesOnAt rule profile nodes trace blocks i ps → GoesOnAt rule profile nodes trace blocks (i + 1) new
-goes-on rule profile nodes trace blocks i block ps new p within at is pushed so_far = λ rest are.
+pub goes-on : (strategy : Strategy) (profile : Profile) (trace : Bool) (blocks : List Block) (i : ℕ) (block : Block) (ps new : List Placed) (p : Placed) → i < length blocks → block ≡ slice_index_or blocks i block →
+    IsPlacedAnswer strategy profile trace block p → new ≡ ps ++ p ∷ [] → GoesOnAt strategy profile trace blocks i ps → GoesOnAt strategy profile trace blocks (i + 1) new
+goes-on strategy profile trace blocks i block ps new p within at is pushed so_far = λ rest are.
     let left : block ∷ drop (i + 1) blocks ≡ drop i blocks = ap (λ b. b ∷ drop (i + 1) blocks) at ∙ sym (drop_more blocks i block within) in
-    let there = subst (λ bs. AreAllPlaced rule profile nodes trace bs (p ∷ rest)) left (placed-more rule profile nodes trace block (drop (i + 1) blocks) p rest is are) in
+    let there = subst (λ bs. AreAllPlaced strategy profile trace bs (p ∷ rest)) left (placed-more strategy profile trace block (drop (i + 1) blocks) p rest is are) in
     let joined : new ++ rest ≡ ps ++ p ∷ rest = ap (λ xs. xs ++ rest) pushed ∙ append_assoc ps (p ∷ []) rest in
-    subst (AreAllPlaced rule profile nodes trace blocks) (sym joined) (so_far (p ∷ rest) there)
+    subst (AreAllPlaced strategy profile trace blocks) (sym joined) (so_far (p ∷ rest) there)
 
-pub placed-all : (rule : Rule) (profile : Profile) (nodes : ℕ) (trace : Bool) (blocks : List Block) (i : ℕ) (ps : List Placed) → length blocks ≤ i → GoesOnAt rule profile nodes trace blocks i ps → AreAllPlaced rule profile nodes trace blocks ps
-placed-all rule profile nodes trace blocks i ps past so_far =
+pub placed-all : (strategy : Strategy) (profile : Profile) (trace : Bool) (blocks : List Block) (i : ℕ) (ps : List Placed) → length blocks ≤ i → GoesOnAt strategy profile trace blocks i ps → AreAllPlaced strategy profile trace blocks ps
+placed-all strategy profile trace blocks i ps past so_far =
     let none : drop i blocks ≡ [] = at_drop_all (λ bs. bs) blocks i past in
-    let empty : AreAllPlaced rule profile nodes trace [] [] = ([], tt, refl) in
-    subst (AreAllPlaced rule profile nodes trace blocks) (append-nil ps) (so_far [] (subst (λ bs. AreAllPlaced rule profile nodes trace bs []) (sym none) empty))
+    let empty : AreAllPlaced strategy profile trace [] [] = ([], tt, refl) in
+    subst (AreAllPlaced strategy profile trace blocks) (append-nil ps) (so_far [] (subst (λ bs. AreAllPlaced strategy profile trace bs []) (sym none) empty))
 
 -- NUMBERS OF THE BLOCK
 
@@ -55,33 +56,33 @@ legal-within : (block : Block) (order : List ℕ) → IsLegal (instrs_of block) 
 legal-within block order legal n among =
     subst (λ k. (1 ≤ n) × (n ≤ k)) (length-map block.entries (λ (e : Entry). e.instr)) (number-within (instrs_of block) [] order (legal-order (instrs_of block) order legal).0 n among)
 
-pub all-within : (rule : Rule) (profile : Profile) (nodes : ℕ) (trace : Bool) (blocks : List Block) (answers : List Answer) → AreAnswers rule profile nodes blocks answers → ArePlaced blocks (all_placed profile trace blocks answers)
-all-within rule profile nodes trace [] [] are = tt
-all-within rule profile nodes trace [] (a ∷ answers) are = absurd are
-all-within rule profile nodes trace (block ∷ blocks) [] are = absurd are
-all-within rule profile nodes trace (block ∷ blocks) (a ∷ answers) are = (legal-within block a.order are.0.legal, all-within rule profile nodes trace blocks answers are.1)
+pub all-within : (strategy : Strategy) (profile : Profile) (trace : Bool) (blocks : List Block) (answers : List Answer) → AreAnswers strategy profile blocks answers → ArePlaced blocks (all_placed profile trace blocks answers)
+all-within strategy profile trace [] [] are = tt
+all-within strategy profile trace [] (a ∷ answers) are = absurd are
+all-within strategy profile trace (block ∷ blocks) [] are = absurd are
+all-within strategy profile trace (block ∷ blocks) (a ∷ answers) are = (legal-within block a.order (answer-legal strategy profile block a are.0), all-within strategy profile trace blocks answers are.1)
 
 -- a source that was read has these blocks
 pub read-blocks : (e : Option SourceError) (made blocks : List Block) → unless_refused e made ≡ Ok blocks → blocks ≡ made
 read-blocks None made blocks h = cc
 read-blocks (Some e) made blocks h = cc
 
-pub placed-within : (rule : Rule) (profile : Profile) (nodes : ℕ) (trace : Bool) (source : Reading) (blocks : List Block) (ps : List Placed) → source_of source ≡ Ok blocks → AreAllPlaced rule profile nodes trace blocks ps →
+pub placed-within : (strategy : Strategy) (profile : Profile) (trace : Bool) (source : Reading) (blocks : List Block) (ps : List Placed) → source_of source ≡ Ok blocks → AreAllPlaced strategy profile trace blocks ps →
     ArePlaced (blocks_of (classed_lines source)) ps
-placed-within rule profile nodes trace source blocks ps read (answers, are, same) =
-    let all = subst (ArePlaced blocks) (sym same) (all-within rule profile nodes trace blocks answers are) in
+placed-within strategy profile trace source blocks ps read (answers, are, same) =
+    let all = subst (ArePlaced blocks) (sym same) (all-within strategy profile trace blocks answers are) in
     subst (λ bs. ArePlaced bs ps) (read-blocks (refusal (classed_lines source)) (blocks_of (classed_lines source)) blocks read) all
 
 -- WHETHER ALL ARE BEST
 
-pub best-stated : (rule : Rule) (profile : Profile) (nodes : ℕ) (trace : Bool) (blocks : List Block) (answers : List Answer) → AreAnswers rule profile nodes blocks answers → tell_best (all_placed profile trace blocks answers) ≡ all_best answers
-best-stated rule profile nodes trace [] [] are = refl
-best-stated rule profile nodes trace [] (a ∷ answers) are = absurd are
-best-stated rule profile nodes trace (block ∷ blocks) [] are = absurd are
-best-stated rule profile nodes trace (block ∷ blocks) (a ∷ answers) are = ap (λ r. (a.bound == a.time) && r) (best-stated rule profile nodes trace blocks answers are.1)
+pub best-stated : (strategy : Strategy) (profile : Profile) (trace : Bool) (blocks : List Block) (answers : List Answer) → AreAnswers strategy profile blocks answers → tell_best (all_placed profile trace blocks answers) ≡ all_best answers
+best-stated strategy profile trace [] [] are = refl
+best-stated strategy profile trace [] (a ∷ answers) are = absurd are
+best-stated strategy profile trace (block ∷ blocks) [] are = absurd are
+best-stated strategy profile trace (block ∷ blocks) (a ∷ answers) are = ap (λ r. (a.bound == a.time) && r) (best-stated strategy profile trace blocks answers are.1)
 
-pub order-output : (rule : Rule) (profile : Profile) (nodes : ℕ) (trace : Bool) (source : Reading) (text : List ℕ) (status : Status) (blocks : List Block) (ps : List Placed) → source_of source ≡ Ok blocks → AreAllPlaced rule profile nodes trace blocks ps →
-    text ≡ printed source ps → status ≡ (if tell_best ps then Done else Bounded) → IsOrderOutput rule profile nodes trace source text status
-order-output rule profile nodes trace source text status blocks ps read (answers, are, same) is ends =
-    let best : tell_best ps ≡ all_best answers = ap tell_best same ∙ best-stated rule profile nodes trace blocks answers are in
+pub order-output : (strategy : Strategy) (profile : Profile) (trace : Bool) (source : Reading) (text : List ℕ) (status : Status) (blocks : List Block) (ps : List Placed) → source_of source ≡ Ok blocks → AreAllPlaced strategy profile trace blocks ps →
+    text ≡ printed source ps → status ≡ (if tell_best ps then Done else Bounded) → IsOrderOutput strategy profile trace source text status
+order-output strategy profile trace source text status blocks ps read (answers, are, same) is ends =
+    let best : tell_best ps ≡ all_best answers = ap tell_best same ∙ best-stated strategy profile trace blocks answers are in
     (blocks, read, (answers, are, is ∙ ap (printed source) same, ends ∙ ap (λ b. if b then Done else Bounded) best))

@@ -2,18 +2,18 @@
 use Rattle.std.specs.Prelude.{ℕ, ◌≡◌, ◌==◌, Bool, List, ◌++◌}
 use Rattle.s66_isa.specs.declared.profile.Profile.{Profile}
 use Rattle.s66_line.specs.Block.{Block}
-use Rattle.s66_model.specs.declared.rule.Rule.{Rule}
-use Rattle.s66_model.specs.Answer.{Answer, IsAnswer}
+use Rattle.s66_command.specs.declared.strategy.Strategy.{Strategy}
+use Rattle.s66_program.specs.Answers.{Answer, AreAnswers, IsAnswer}
 use Rattle.s66_program.specs.declared.outcome.Status.{Status}
-use Rattle.s66_program.specs.OrderText.{AreAnswers, problem_of, status_of}
+use Rattle.s66_program.specs.OrderText.{status_of}
 use Rattle.s66_program.specs.WhyText.{answer_lines, lines_of_answers}
 
 -- the lines of an answer to the n-th block were appended, and the answer is best or not
-abbrev pub IsExplained : Rule → Profile → ℕ → ℕ → Block → (old new : List ℕ) → Bool → Type 0
-IsExplained rule p nodes n block old new best =
-    (a : Answer) × IsAnswer rule (problem_of p block) nodes a × (new ≡ old ++ answer_lines p n block a) × (best ≡ (a.bound == a.time))
+abbrev pub IsExplained : Strategy → Profile → ℕ → Block → (old new : List ℕ) → Bool → Type 0
+IsExplained strategy p n block old new best =
+    (a : Answer) × IsAnswer strategy p block a × (new ≡ old ++ answer_lines p n block a) × (best ≡ (a.bound == a.time))
 
 -- the text is the lines of answers to the blocks, before which n come, and the status is theirs
-abbrev pub AreExplained : Rule → Profile → ℕ → ℕ → List Block → (text : List ℕ) → Status → Type 0
-AreExplained rule p nodes n blocks text status =
-    (answers : List Answer) × AreAnswers rule p nodes blocks answers × (text ≡ lines_of_answers p n blocks answers) × (status ≡ status_of answers)
+abbrev pub AreExplained : Strategy → Profile → ℕ → List Block → (text : List ℕ) → Status → Type 0
+AreExplained strategy p n blocks text status =
+    (answers : List Answer) × AreAnswers strategy p blocks answers × (text ≡ lines_of_answers p n blocks answers) × (status ≡ status_of answers)

@@ -5,6 +5,8 @@ pub mod TimeText
 pub mod DepsText
 pub mod ChartText
 pub mod WhyText
+pub mod Answers
+pub mod Stored
 pub mod OrderText
 pub mod PageText
 pub mod ProveText

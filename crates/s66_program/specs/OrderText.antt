@@ -1,28 +1,18 @@
--- To be believed: what `order` writes for a source, and how it ends: for each block an answer of a search of its orders, of which there may be several.
+-- To be believed: what `order` writes for a source, and how it ends: for each block an answer, of which there may be several.
 use Rattle.std.specs.Prelude.{ℕ, ◌≡◌, ◌==◌, if◌then◌else◌, Bool, List, [], ◌∷◌, Some, None, Ok}
 use Rattle.s66_isa.specs.Lists.{every}
 use Rattle.s66_isa.specs.declared.profile.Profile.{Profile}
-use Rattle.s66_line.specs.Block.{instrs_of, Block}
+use Rattle.s66_line.specs.Block.{Block}
 use Rattle.s66_source.specs.Printed.{Placed, printed}
 use Rattle.s66_source.specs.LeftAlone.{Reading}
 use Rattle.s66_source.specs.Source.{source_of}
-use Rattle.s66_model.specs.declared.rule.Rule.{Rule}
-use Rattle.s66_model.specs.Answer.{Answer, IsAnswer, source_time}
-use Rattle.s66_model.specs.Timing.{Problem}
+use Rattle.s66_model.specs.Answer.{source_time}
+use Rattle.s66_command.specs.declared.strategy.Strategy.{Strategy}
+use Rattle.s66_program.specs.Answers.{Answer, AreAnswers, problem_of}
 use Rattle.s66_program.specs.declared.outcome.Status.{Status}
 use Rattle.s66_program.specs.declared.outcome.Status.TheVariants.{Done, Bounded}
 
 -- ANSWERS
-
--- a block's orders under a profile
-abbrev pub problem_of : Profile → Block → Problem
-problem_of p block = record { block = instrs_of block; profile = p }
-
--- an answer for each block, of a search of at most this many splits
-abbrev pub AreAnswers : Rule → Profile → ℕ → List Block → List Answer → Type 0
-AreAnswers rule p nodes [] [] = Unit {0}
-AreAnswers rule p nodes (block ∷ blocks) (a ∷ answers) = IsAnswer rule (problem_of p block) nodes a × AreAnswers rule p nodes blocks answers
-AreAnswers rule p nodes blocks answers = ⊥
 
 -- each is best: its time is its bound
 abbrev pub all_best : List Answer → Bool
@@ -44,7 +34,7 @@ all_placed p trace (block ∷ blocks) (a ∷ answers) = placed_by p trace block 
 all_placed p trace blocks answers = []
 
 -- for some answers, the source printed in their orders, and their status
-abbrev pub IsOrderOutput : Rule → Profile → (nodes : ℕ) (trace : Bool) (source : Reading) (text : List ℕ) → Status → Type 0
-IsOrderOutput rule p nodes trace source text status =
+abbrev pub IsOrderOutput : Strategy → Profile → (trace : Bool) (source : Reading) (text : List ℕ) → Status → Type 0
+IsOrderOutput strategy p trace source text status =
     (blocks : List Block) × (source_of source ≡ Ok blocks)
-    × ((answers : List Answer) × AreAnswers rule p nodes blocks answers × (text ≡ printed source (all_placed p trace blocks answers)) × (status ≡ status_of answers))
+    × ((answers : List Answer) × AreAnswers strategy p blocks answers × (text ≡ printed source (all_placed p trace blocks answers)) × (status ≡ status_of answers))

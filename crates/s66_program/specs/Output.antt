@@ -7,7 +7,7 @@ use Rattle.s66_line.specs.Block.{Block}
 use Rattle.s66_source.specs.LeftAlone.{Reading}
 use Rattle.s66_source.specs.Source.{source_of}
 use Rattle.s66_model.specs.declared.limits.TheConstants.{WORKERS_LIMIT}
-use Rattle.s66_model.specs.declared.options.Options.{Options}
+use Rattle.s66_command.specs.declared.strategy.Strategy.{Strategy}
 use Rattle.s66_profile.specs.ProfileText.{profile_in_text}
 use Rattle.s66_command.specs.declared.command.Command.{Command}
 use Rattle.s66_command.specs.declared.command.Command.TheVariants.{Time, Deps, Chart, Why, Page, Order, Prove, Check, Lint, Sum}
@@ -37,13 +37,13 @@ abbrev pub IsWithinLimits : Command → Type 0
 IsWithinLimits (Time cut trace only profile) = Unit {0}
 IsWithinLimits (Deps cut only) = Unit {0}
 IsWithinLimits (Chart cut texts only profile) = Unit {0}
-IsWithinLimits (Why cut order only profile) = IfSome order (λ options. IsSearchWithin options.workers options.nodes)
-IsWithinLimits (Page cut options only profile) = IsSearchWithin options.workers options.nodes
-IsWithinLimits (Order cut options trace profile) = IsSearchWithin options.workers options.nodes
-IsWithinLimits (Prove cut options profile) = IsSearchWithin options.workers options.nodes
+IsWithinLimits (Why cut order only profile) = IfSome order (λ strategy. IsSearchWithin strategy.search.workers strategy.search.nodes)
+IsWithinLimits (Page cut strategy only profile) = IsSearchWithin strategy.search.workers strategy.search.nodes
+IsWithinLimits (Order cut strategy trace profile) = IsSearchWithin strategy.search.workers strategy.search.nodes
+IsWithinLimits (Prove cut strategy profile) = IsSearchWithin strategy.search.workers strategy.search.nodes
 IsWithinLimits Check = Unit {0}
 IsWithinLimits Lint = Unit {0}
-IsWithinLimits (Sum cut options trace profile) = IsSearchWithin options.workers options.nodes
+IsWithinLimits (Sum cut strategy trace profile) = IsSearchWithin strategy.search.workers strategy.search.nodes
 
 -- PROFILES
 
@@ -74,10 +74,10 @@ lines_of_blocks p l n (block ∷ blocks) = block_lines p l (n + 1) block ++ line
 abbrev pub IsListing : Profile → Listing → (only : Option ℕ) (source : Reading) (text : List ℕ) → Type 0
 IsListing p l only source text = (blocks : List Block) × (source_of source ≡ Ok blocks) × (text ≡ lines_of_blocks p l (before only) (shown only blocks))
 
--- what `why` writes of the blocks that are shown: as they were written, or in the best orders that searches with these options find
-abbrev pub IsWaitsOutput : Profile → Option Options → (only : Option ℕ) (source : Reading) (text : List ℕ) → Status → Type 0
+-- what `why` writes of the blocks that are shown: as they were written, or in the best orders that are found so
+abbrev pub IsWaitsOutput : Profile → Option Strategy → (only : Option ℕ) (source : Reading) (text : List ℕ) → Status → Type 0
 IsWaitsOutput p None only source text status = IsListing p listing.Why only source text × (status ≡ Done)
-IsWaitsOutput p (Some options) only source text status = IsWhyOutput options.rule p options.nodes only source text status
+IsWaitsOutput p (Some strategy) only source text status = IsWhyOutput strategy p only source text status
 
 -- COMMANDS
 
@@ -87,10 +87,10 @@ is_cut (Time cut trace only profile) = cut
 is_cut (Deps cut only) = cut
 is_cut (Chart cut texts only profile) = cut
 is_cut (Why cut order only profile) = cut
-is_cut (Page cut options only profile) = cut
-is_cut (Order cut options trace profile) = cut
-is_cut (Prove cut options profile) = cut
-is_cut (Sum cut options trace profile) = cut
+is_cut (Page cut strategy only profile) = cut
+is_cut (Order cut strategy trace profile) = cut
+is_cut (Prove cut strategy profile) = cut
+is_cut (Sum cut strategy trace profile) = cut
 is_cut command = false
 
 -- an input, as a command reads it
@@ -103,12 +103,12 @@ IsOutput p (Time cut trace only profile) input text status = IsListing p (listin
 IsOutput p (Deps cut only) input text status = IsListing p listing.Dependences only (record { cut = cut; text = input }) text × (status ≡ Done)
 IsOutput p (Chart cut texts only profile) input text status = IsListing p (listing.Chart texts) only (record { cut = cut; text = input }) text × (status ≡ Done)
 IsOutput p (Why cut order only profile) input text status = IsWaitsOutput p order only (record { cut = cut; text = input }) text status
-IsOutput p (Page cut options only profile) input text status = IsPageOutput options.rule p options.nodes only (record { cut = cut; text = input }) text status
-IsOutput p (Order cut options trace profile) input text status = IsOrderOutput options.rule p options.nodes trace (record { cut = cut; text = input }) text status
-IsOutput p (Prove cut options profile) input text status = IsProveOutput options.rule p options.nodes (record { cut = cut; text = input }) text status
+IsOutput p (Page cut strategy only profile) input text status = IsPageOutput strategy p only (record { cut = cut; text = input }) text status
+IsOutput p (Order cut strategy trace profile) input text status = IsOrderOutput strategy p trace (record { cut = cut; text = input }) text status
+IsOutput p (Prove cut strategy profile) input text status = IsProveOutput strategy p (record { cut = cut; text = input }) text status
 IsOutput p Check input text status = IsCheckOutput input text status
 IsOutput p Lint input text status = IsLintOutput input text status
-IsOutput p (Sum cut options trace profile) input text status = IsSumOutput options.rule p options.nodes trace (record { cut = cut; text = input }) text status
+IsOutput p (Sum cut strategy trace profile) input text status = IsSumOutput strategy p trace (record { cut = cut; text = input }) text status
 
 -- the command reads a source, and refuses some
 abbrev pub reads_source : Command → Bool
@@ -116,12 +116,12 @@ reads_source (Time cut trace only profile) = true
 reads_source (Deps cut only) = true
 reads_source (Chart cut texts only profile) = true
 reads_source (Why cut order only profile) = true
-reads_source (Page cut options only profile) = true
-reads_source (Order cut options trace profile) = true
-reads_source (Prove cut options profile) = true
+reads_source (Page cut strategy only profile) = true
+reads_source (Order cut strategy trace profile) = true
+reads_source (Prove cut strategy profile) = true
 reads_source Check = false
 reads_source Lint = false
-reads_source (Sum cut options trace profile) = true
+reads_source (Sum cut strategy trace profile) = true
 
 -- the command reads documents, and refuses some
 abbrev pub reads_documents : Command → Bool

@@ -4,12 +4,12 @@ use Rattle.s66_isa.specs.declared.profile.Profile.{Profile}
 use Rattle.s66_line.specs.Block.{instrs_of, Block}
 use Rattle.s66_source.specs.LeftAlone.{Reading}
 use Rattle.s66_source.specs.Source.{source_of}
-use Rattle.s66_model.specs.declared.rule.Rule.{Rule}
-use Rattle.s66_model.specs.Answer.{Answer}
+use Rattle.s66_command.specs.declared.strategy.Strategy.{Strategy}
 use Rattle.s66_page.specs.Found.{Found}
 use Rattle.s66_page.specs.Page.{page_text}
+use Rattle.s66_program.specs.Answers.{Answer, AreAnswers}
 use Rattle.s66_program.specs.declared.outcome.Status.{Status}
-use Rattle.s66_program.specs.OrderText.{AreAnswers, status_of}
+use Rattle.s66_program.specs.OrderText.{status_of}
 use Rattle.s66_program.specs.Shown.{before, shown}
 
 -- what a page shows of an answer to a block: its order and its bound
@@ -21,8 +21,8 @@ all_found (block ∷ blocks) (a ∷ answers) = found_by block a ∷ all_found bl
 all_found blocks answers = []
 
 -- for some answers to the blocks that are shown, the page of these by them, and their status
-abbrev pub IsPageOutput : Rule → Profile → (nodes : ℕ) → (only : Option ℕ) (source : Reading) (text : List ℕ) → Status → Type 0
-IsPageOutput rule p nodes only source text status =
+abbrev pub IsPageOutput : Strategy → Profile → (only : Option ℕ) (source : Reading) (text : List ℕ) → Status → Type 0
+IsPageOutput strategy p only source text status =
     (blocks : List Block) × (source_of source ≡ Ok blocks)
-    × ((answers : List Answer) × AreAnswers rule p nodes (shown only blocks) answers
+    × ((answers : List Answer) × AreAnswers strategy p (shown only blocks) answers
     × (text ≡ page_text p (before only) (shown only blocks) (all_found (shown only blocks) answers)) × (status ≡ status_of answers))

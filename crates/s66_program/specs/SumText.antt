@@ -7,9 +7,9 @@ use Rattle.s66_line.specs.Block.{instrs_of, line_of, Block}
 use Rattle.s66_source.specs.Printed.{Placed}
 use Rattle.s66_source.specs.LeftAlone.{Reading}
 use Rattle.s66_source.specs.Source.{source_of}
-use Rattle.s66_model.specs.declared.rule.Rule.{Rule}
-use Rattle.s66_model.specs.Answer.{Answer}
-use Rattle.s66_program.specs.OrderText.{AreAnswers, all_placed, status_of}
+use Rattle.s66_command.specs.declared.strategy.Strategy.{Strategy}
+use Rattle.s66_program.specs.Answers.{Answer, AreAnswers}
+use Rattle.s66_program.specs.OrderText.{all_placed, status_of}
 use Rattle.s66_program.specs.declared.outcome.Status.{Status}
 use Rattle.s66_program.specs.declared.sum_text.Row.{Row}
 
@@ -90,8 +90,8 @@ IsSumText trace rows text =
     (ordered : List Row) × IsPermutation rows ordered × AreInOrder ordered × (text ≡ row_lines ordered ++ total_line trace rows)
 
 -- for some answers, the rows of what `order` would print, and their status
-abbrev pub IsSumOutput : Rule → Profile → (nodes : ℕ) (trace : Bool) (source : Reading) (text : List ℕ) → Status → Type 0
-IsSumOutput rule p nodes trace source text status =
+abbrev pub IsSumOutput : Strategy → Profile → (trace : Bool) (source : Reading) (text : List ℕ) → Status → Type 0
+IsSumOutput strategy p trace source text status =
     (blocks : List Block) × (source_of source ≡ Ok blocks)
-    × ((answers : List Answer) × AreAnswers rule p nodes blocks answers × IsSumText trace (rows_of 0 blocks (all_placed p trace blocks answers)) text
+    × ((answers : List Answer) × AreAnswers strategy p blocks answers × IsSumText trace (rows_of 0 blocks (all_placed p trace blocks answers)) text
     × (status ≡ status_of answers))

@@ -4,14 +4,14 @@ use Rattle.s66_isa.specs.declared.profile.Profile.{Profile}
 use Rattle.s66_line.specs.Block.{instrs_of, Block}
 use Rattle.s66_source.specs.LeftAlone.{Reading}
 use Rattle.s66_source.specs.Source.{source_of}
-use Rattle.s66_model.specs.declared.rule.Rule.{Rule}
-use Rattle.s66_model.specs.Answer.{Answer}
+use Rattle.s66_command.specs.declared.strategy.Strategy.{Strategy}
 use Rattle.s66_time.specs.TimedOrder.{TimedOrder}
 use Rattle.s66_why.specs.Why.{why_text}
+use Rattle.s66_program.specs.Answers.{Answer, AreAnswers, problem_of}
 use Rattle.s66_program.specs.declared.outcome.Status.{Status}
 use Rattle.s66_program.specs.AsWritten.{as_written}
 use Rattle.s66_program.specs.ChartText.{timed_line}
-use Rattle.s66_program.specs.OrderText.{AreAnswers, problem_of, status_of}
+use Rattle.s66_program.specs.OrderText.{status_of}
 use Rattle.s66_program.specs.Shown.{before, shown}
 
 -- of the n-th block, from 1, in an order
@@ -32,8 +32,8 @@ lines_of_answers p n (block ∷ blocks) (a ∷ answers) = answer_lines p (n + 1)
 lines_of_answers p n blocks answers = []
 
 -- for some answers to the blocks that are shown, their lines and their status
-abbrev pub IsWhyOutput : Rule → Profile → (nodes : ℕ) → (only : Option ℕ) (source : Reading) (text : List ℕ) → Status → Type 0
-IsWhyOutput rule p nodes only source text status =
+abbrev pub IsWhyOutput : Strategy → Profile → (only : Option ℕ) (source : Reading) (text : List ℕ) → Status → Type 0
+IsWhyOutput strategy p only source text status =
     (blocks : List Block) × (source_of source ≡ Ok blocks)
-    × ((answers : List Answer) × AreAnswers rule p nodes (shown only blocks) answers
+    × ((answers : List Answer) × AreAnswers strategy p (shown only blocks) answers
     × (text ≡ lines_of_answers p (before only) (shown only blocks) answers) × (status ≡ status_of answers))

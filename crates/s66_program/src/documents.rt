@@ -1,14 +1,18 @@
-ghost use Rattle.std.specs.Prelude.{◌≡◌, if◌then◌else◌, IfOk};
+ghost use Rattle.std.specs.Prelude.{◌≡◌, ◌≤◌, if◌then◌else◌, IfOk, IsTrue};
+ghost use Rattle.s66_cert.specs.declared.limits.TheConstants.{TIME_LIMIT};
 ghost use Rattle.s66_line.specs.Block.{instrs_of};
 ghost use Rattle.s66_ledger.specs.Answers.{answer_of};
 ghost use Rattle.s66_model.specs.declared.rule.Rule.TheVariants.{NoneNamed};
 ghost use Rattle.s66_tree.specs.Lines.{has_dominated_line};
 ghost use Rattle.s66_cert.specs.DocumentParts.{document_of};
-ghost use Rattle.s66_program.specs.ProveText.{document_under, texts_of};
+ghost use Rattle.s66_program.specs.Answers.{document_under, searched, texts_of};
+ghost use Rattle.s66_program.specs.Stored.{IsAccepted, IsFit, parts_by};
 ghost use Rattle.s66_program.specs.ProvedAnswers.{IsSpelled};
 
 use arrayvec::ArrayVec;
-use s66_cert::{Claim, Document, InstructionText, Tree};
+use s66_cert::{Claim, Document, FactLine, InstructionText, Tree};
+use s66_checker::{Verdict, verify};
+use s66_dep::Order;
 use s66_isa::{BLOCK_LIMIT, Profile};
 use s66_ledger::Answer;
 use s66_line::Block;
@@ -49,7 +53,7 @@ pub fn document_of(
     answer: &Answer,
 ) -> Result<Document, AllocError>
     requires { answer.now.problem ≡ record { block = instrs_of block.now; profile = profile.now } }
-    ensures { IfOk result (λ document. document_of document ≡ document_under answer.now.rule profile.now block.now (answer_of answer.now)) }
+    ensures { IfOk result (λ document. document_of document ≡ document_under answer.now.rule profile.now block.now (searched (answer_of answer.now))) }
 {
     let Ok(order) = ArrayVec::try_from(answer.order().numbers()) else {
         unreachable!()
@@ -68,4 +72,54 @@ pub fn document_of(
         order,
         tree,
     }))
+}
+
+/// What fact lines and a tree are to show: that no order takes less than a bound.
+#[derive(Debug, Drop)]
+pub struct Shows {
+    /// In minor cycles.
+    pub bound: u32,
+    pub lines: Vec<FactLine>,
+    pub tree: Tree,
+}
+
+/// The document of an order of this block under this profile, with what it takes, and of a bound that fact lines and a tree are to show. `Err` is
+/// out of memory.
+pub fn document_by(
+    alloc: Global,
+    block: &Block,
+    profile: &Profile,
+    order: &Order,
+    time: u32,
+    shows: Shows,
+) -> Result<Document, AllocError>
+    requires order { order.now.block ≡ instrs_of block.now }
+    requires time { time ≤ TIME_LIMIT }
+    requires fit { IsFit shows }
+    ensures { IfOk result (λ document. document ≡ parts_by profile.now block.now order.now.numbers time shows) }
+{
+    let Ok(numbers) = ArrayVec::try_from(order.numbers()) else {
+        unreachable!()
+    };
+    // so the texts are a block's
+    prove!(block.count() <= BLOCK_LIMIT);
+    Ok(Document::new(Claim {
+        rule: Rule::ClampedStanding,
+        profile: ArrayVec::from(profile.entries()),
+        block: texts_of(alloc, block)?,
+        time,
+        bound: shows.bound,
+        order: numbers,
+        tree: shows.tree,
+        facts: Some(shows.lines),
+    }))
+}
+
+/// Whether the checker accepts a document.
+pub fn is_accepted(document: &Document) -> bool
+    ensures { IsTrue result → IsAccepted document.now }
+{
+    // so it is a document
+    let _whole = document.order();
+    matches!(verify(document), Verdict::Yes { .. })
 }

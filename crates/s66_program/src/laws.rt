@@ -1,19 +1,19 @@
 //! What becomes of the output of `order` and `prove` that is read again: contracts of functions that do nothing.
 
-ghost use Rattle.std.specs.Prelude.{ℕ, Bool, false, List, [], ◌∷◌, ◌++◌, length, map, Ok, Err, ◌≡◌, ◌≤◌, codes};
+ghost use Rattle.std.specs.Prelude.{ℕ, Bool, false, List, [], ◌∷◌, ◌++◌, length, map, Ok, Err, ◌≡◌, ◌≤◌, ◌<◌, codes};
 ghost use Rattle.s66_isa.specs.declared.profile.Profile.{Profile};
 ghost use Rattle.s66_isa.specs.Lists.{Among};
 ghost use Rattle.s66_isa.specs.Table.{standard};
 ghost use Rattle.s66_source.specs.LeftAlone.{Reading, plain};
 ghost use Rattle.s66_source.specs.Printed.{printed};
-ghost use Rattle.s66_line.specs.Block.{Block};
+ghost use Rattle.s66_line.specs.Block.{Block, instrs_of};
 ghost use Rattle.s66_source.specs.Source.{source_of};
 ghost use Rattle.s66_source.specs.declared.error.SourceError.{SourceError};
 ghost use Rattle.s66_isa.specs.declared.limits.TheConstants.{BLOCK_LIMIT};
-ghost use Rattle.s66_model.specs.declared.rule.Rule.{Rule};
+ghost use Rattle.s66_command.specs.declared.strategy.Strategy.{Strategy};
 ghost use Rattle.s66_model.specs.declared.rule.Rule.TheVariants.{NoneNamed};
-ghost use Rattle.s66_model.specs.Answer.{Answer, IsAnswer};
 ghost use Rattle.s66_model.specs.BestAndBound.{IsBound};
+ghost use Rattle.s66_model.specs.LegalOrder.{IsLegal};
 ghost use Rattle.s66_model.specs.Timing.{Problem, total_of};
 ghost use Rattle.s66_model.specs.declared.limits.TheConstants.{BUDGET_LIMIT};
 ghost use Rattle.s66_cert.specs.Document.{Document, IsDocument, IsText};
@@ -29,9 +29,10 @@ ghost use Rattle.s66_program.specs.declared.outcome.Status.TheVariants.{Done, De
 ghost use Rattle.s66_program.specs.CheckText.{IsCheckOutput, verdict_lines, verdicts_status};
 ghost use Rattle.s66_program.specs.CheckedAnswers.{AreYesLines, yes_lines};
 ghost use Rattle.s66_program.specs.Examples.{blocks_in, one_load_answer, one_load_ordered, one_load_source};
-ghost use Rattle.s66_program.specs.OrderText.{IsOrderOutput, all_placed, problem_of};
+ghost use Rattle.s66_program.specs.Answers.{Answer, IsAnswer, document_under, problem_of};
+ghost use Rattle.s66_program.specs.OrderText.{IsOrderOutput, all_placed};
 ghost use Rattle.s66_program.specs.OrderedAgain.{TakePrintedTimes, written_time};
-ghost use Rattle.s66_program.specs.ProveText.{IsProveOutput, all_documents, document_under};
+ghost use Rattle.s66_program.specs.ProveText.{IsProveOutput, all_documents};
 
 /// A text of at least `SOURCE_FRONT` bytes is refused as a source, for the same whatever follows.
 pub fn front_law()
@@ -46,22 +47,31 @@ pub fn total_limit_law()
 /// If what `order` wrote for a source is accepted again, each of its blocks takes as written, under the same profile, the time
 /// that was printed of it.
 pub fn ordered_again_law()
-    ensures { (rule : Rule) (p : Profile) (nodes : ℕ) (trace : Bool) (source : Reading) (text : List ℕ) (status : Status) (again : List Block) → IsOrderOutput rule p nodes trace source text status → source_of (record { cut = source.cut; text = text }) ≡ Ok again → TakePrintedTimes rule p nodes trace source text again }
+    ensures { (strategy : Strategy) (p : Profile) (trace : Bool) (source : Reading) (text : List ℕ) (status : Status) (again : List Block) → IsOrderOutput strategy p trace source text status → source_of (record { cut = source.cut; text = text }) ≡ Ok again → TakePrintedTimes strategy p trace source text again }
 {}
 
-/// What a search answers of a block of an accepted source, under any profile, makes a document of the block's own problem. The
-/// verdict on it is yes, with the answer's time and bound.
+/// What is answered for a block of an accepted source, under any profile: a legal order with its exact total, and a bound of the totals of
+/// all legal orders. If the bound is below the total, a search spent all its splits.
+pub fn answered_law()
+    ensures legal { (strategy : Strategy) (p : Profile) (block : Block) (a : Answer) → IsAnswer strategy p block a → IsLegal (instrs_of block) a.order }
+    ensures time { (strategy : Strategy) (p : Profile) (block : Block) (a : Answer) → IsAnswer strategy p block a → a.time ≡ total_of (problem_of p block) a.order }
+    ensures bound { (strategy : Strategy) (p : Profile) (source : Reading) (blocks : List Block) (block : Block) (a : Answer) → source_of source ≡ Ok blocks → Among block blocks → strategy.search.nodes ≤ BUDGET_LIMIT → IsAnswer strategy p block a → IsBound (problem_of p block) a.bound }
+    ensures spent { (strategy : Strategy) (p : Profile) (block : Block) (a : Answer) → IsAnswer strategy p block a → a.bound < a.time → a.splits ≡ strategy.search.nodes }
+{}
+
+/// What is answered for a block of an accepted source, under any profile, makes a document of the block's own problem. The verdict on
+/// it is yes, with the answer's time and bound.
 pub fn proved_law()
-    ensures same { (rule : Rule) (p : Profile) (source : Reading) (blocks : List Block) (block : Block) (a : Answer) → source_of source ≡ Ok blocks → Among block blocks → checker.problem_of (document_under rule p block a) ≡ problem_of p block }
-    ensures document { (rule : Rule) (p : Profile) (source : Reading) (blocks : List Block) (block : Block) (budget : ℕ) (a : Answer) → source_of source ≡ Ok blocks → Among block blocks → budget ≤ BUDGET_LIMIT → IsAnswer rule (problem_of p block) budget a → IsDocument BLOCK_LIMIT (document_under rule p block a) }
-    ensures yes { (rule : Rule) (p : Profile) (source : Reading) (blocks : List Block) (block : Block) (budget : ℕ) (a : Answer) → source_of source ≡ Ok blocks → Among block blocks → budget ≤ BUDGET_LIMIT → IsAnswer rule (problem_of p block) budget a → verdict (document_under rule p block a) ≡ Yes a.time a.bound }
+    ensures same { (strategy : Strategy) (p : Profile) (source : Reading) (blocks : List Block) (block : Block) (a : Answer) → source_of source ≡ Ok blocks → Among block blocks → checker.problem_of (document_under strategy.search.rule p block a) ≡ problem_of p block }
+    ensures document { (strategy : Strategy) (p : Profile) (source : Reading) (blocks : List Block) (block : Block) (a : Answer) → source_of source ≡ Ok blocks → Among block blocks → strategy.search.nodes ≤ BUDGET_LIMIT → IsAnswer strategy p block a → IsDocument BLOCK_LIMIT (document_under strategy.search.rule p block a) }
+    ensures yes { (strategy : Strategy) (p : Profile) (source : Reading) (blocks : List Block) (block : Block) (a : Answer) → source_of source ≡ Ok blocks → Among block blocks → strategy.search.nodes ≤ BUDGET_LIMIT → IsAnswer strategy p block a → verdict (document_under strategy.search.rule p block a) ≡ Yes a.time a.bound }
 {}
 
 /// What `prove` wrote for a source, under any profile, is a text of documents. For each of them `check` writes YES, with the
 /// answer's time and bound; it writes nothing else, and is done.
 pub fn checked_law()
-    ensures yes { (rule : Rule) (p : Profile) (nodes : ℕ) (source : Reading) (text : List ℕ) (status : Status) → nodes ≤ BUDGET_LIMIT → IsProveOutput rule p nodes source text status → (lines : List ℕ) × AreYesLines rule p nodes source text lines × IsCheckOutput text lines Done }
-    ensures alone { (rule : Rule) (p : Profile) (nodes : ℕ) (source : Reading) (text lines : List ℕ) (status checked : Status) → nodes ≤ BUDGET_LIMIT → IsProveOutput rule p nodes source text status → IsCheckOutput text lines checked → AreYesLines rule p nodes source text lines × (checked ≡ Done) }
+    ensures yes { (strategy : Strategy) (p : Profile) (source : Reading) (text : List ℕ) (status : Status) → strategy.search.nodes ≤ BUDGET_LIMIT → IsProveOutput strategy p source text status → (lines : List ℕ) × AreYesLines strategy p source text lines × IsCheckOutput text lines Done }
+    ensures alone { (strategy : Strategy) (p : Profile) (source : Reading) (text lines : List ℕ) (status checked : Status) → strategy.search.nodes ≤ BUDGET_LIMIT → IsProveOutput strategy p source text status → IsCheckOutput text lines checked → AreYesLines strategy p source text lines × (checked ≡ Done) }
 {}
 
 /// If `check` is done, each document of its input claims what is true: under its own profile its order is legal and takes its

@@ -1,6 +1,7 @@
 //! The program but for its process: what is read for a command, and what is written.
 #![tactic(auto)]
 
+mod answers;
 mod chart_text;
 mod check_text;
 mod deps_text;
@@ -34,4 +35,6 @@ pub use outcome::{Fault, Status};
 pub use program::{refuse_words, run_program};
 pub use progress::Progress;
 pub use run::{run_command, run_observed};
-pub use s66_command::{Command, NODES_DEFAULT, Usage, VERSION, WORKERS_DEFAULT, command_of};
+pub use s66_command::{
+    Command, NODES_DEFAULT, Strategy, Usage, VERSION, WORKERS_DEFAULT, command_of,
+};

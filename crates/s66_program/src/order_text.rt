@@ -4,13 +4,13 @@ ghost use Rattle.s66_program.specs.OrderText.{IsOrderOutput};
 ghost use Rattle.s66_program.specs.Output.{IsSearchWithin};
 ghost use Rattle.s66_program.specs.PlacedAnswers.{AreAllPlaced, IsPlacedAnswer, tell_best};
 
+use crate::answers::answer_to;
 use crate::observer::Observer;
 use crate::outcome::{Output, Status};
 use arrayvec::ArrayVec;
+use s66_command::Strategy;
 use s66_isa::Profile;
 use s66_line::Block;
-use s66_model::Options;
-use s66_pool::{Free, run};
 use s66_source::{Placed, Source, print_source};
 use std::alloc::AllocError;
 use std::sync::Wait;
@@ -21,13 +21,13 @@ fn search<R: AllocGlobal + Threads + Wait + Sync>(
     rt: &R,
     block: &Block,
     profile: &Profile,
-    options: Options,
+    strategy: Strategy,
     trace: bool,
 ) -> Result<Placed, AllocError>
-    requires { IsSearchWithin options.workers options.nodes }
-    ensures { IfOk result (λ found. IsPlacedAnswer options.rule profile.now options.nodes trace block.now found) }
+    requires { IsSearchWithin strategy.search.workers strategy.search.nodes }
+    ensures { IfOk result (λ found. IsPlacedAnswer strategy profile.now trace block.now found) }
 {
-    let answer = run(rt, block, profile, options, &Free)?;
+    let answer = answer_to(rt, block, profile, strategy)?;
     let Ok(order) = ArrayVec::try_from(answer.order().numbers()) else {
         unreachable!()
     };
@@ -45,17 +45,17 @@ pub(crate) fn search_all<R: AllocGlobal + Threads + Wait + Sync, O: Observer>(
     rt: &R,
     blocks: &[Block],
     profile: &Profile,
-    options: Options,
+    strategy: Strategy,
     trace: bool,
     observer: &mut O,
 ) -> Result<Vec<Placed>, AllocError>
-    requires { IsSearchWithin options.workers options.nodes }
-    ensures { IfOk result (λ found. AreAllPlaced options.rule profile.now options.nodes trace blocks.now found.items) }
+    requires { IsSearchWithin strategy.search.workers strategy.search.nodes }
+    ensures { IfOk result (λ found. AreAllPlaced strategy profile.now trace blocks.now found.items) }
 {
     let mut found = Vec::new(rt.alloc());
     for block in blocks {
         observer.done(found.len(), blocks.len());
-        found.push(search(rt, block, profile, options, trace)?)?;
+        found.push(search(rt, block, profile, strategy, trace)?)?;
     }
     Ok(found)
 }
@@ -88,15 +88,15 @@ pub fn order_output<R: AllocGlobal + Threads + Wait + Sync, O: Observer>(
     rt: &R,
     source: &Source,
     profile: &Profile,
-    options: Options,
+    strategy: Strategy,
     trace: bool,
     observer: &mut O,
 ) -> Result<Output, AllocError>
-    requires { IsSearchWithin options.workers options.nodes }
-    ensures { IfOk result (λ output. IsOrderOutput options.rule profile.now options.nodes trace source.now output.text.items output.status) }
+    requires { IsSearchWithin strategy.search.workers strategy.search.nodes }
+    ensures { IfOk result (λ output. IsOrderOutput strategy profile.now trace source.now output.text.items output.status) }
 {
     let alloc = rt.alloc();
-    let found = search_all(rt, source.blocks(), profile, options, trace, observer)?;
+    let found = search_all(rt, source.blocks(), profile, strategy, trace, observer)?;
     Ok(Output {
         text: print_source(alloc, source, found.as_slice())?,
         status: status_of(found.as_slice()),

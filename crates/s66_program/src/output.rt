@@ -16,10 +16,9 @@ use crate::shown::{blocks_before, shown};
 use crate::sum_text::sum_output;
 use crate::time_text::push_time_lines;
 use crate::why_text::{push_why_lines, why_output};
-use s66_command::Command;
+use s66_command::{Command, Strategy};
 use s66_isa::Profile;
 use s66_line::Block;
-use s66_model::Options;
 use s66_source::{Source, read_source_with};
 use s66_time::Timer;
 use std::alloc::{AllocError, Global};
@@ -99,21 +98,21 @@ fn listing_output(
 }
 
 /// What the instructions of a source's blocks wait for, or of the only one that is printed: as it was written, or in the best order
-/// that a search with these options finds.
+/// that is found so.
 fn waits_output<R: AllocGlobal + Threads + Wait + Sync, O: Observer>(
     rt: &R,
     source: &Source,
-    order: Option<Options>,
+    order: Option<Strategy>,
     only: Option<u32>,
     profile: &Profile,
     observer: &mut O,
 ) -> Result<Output, AllocError>
-    requires { IfSome order (λ options. IsSearchWithin options.workers options.nodes) }
+    requires { IfSome order (λ strategy. IsSearchWithin strategy.search.workers strategy.search.nodes) }
     ensures { IfOk result (λ output. IsWaitsOutput profile.now order only source.now output.text.items output.status) }
 {
     match order {
         None => listing_output(rt.alloc(), profile, &Listing::Why, only, source),
-        Some(options) => why_output(rt, source, only, profile, options, observer),
+        Some(strategy) => why_output(rt, source, only, profile, strategy, observer),
     }
 }
 
@@ -187,7 +186,7 @@ pub fn output_for<R: AllocGlobal + Threads + Wait + Sync, O: Observer>(
         )?,
         Command::Page {
             cut,
-            options,
+            strategy,
             block,
             ..
         } => page_output(
@@ -195,28 +194,28 @@ pub fn output_for<R: AllocGlobal + Threads + Wait + Sync, O: Observer>(
             &read_source_with(alloc, cut, input)?,
             block,
             profile,
-            options,
+            strategy,
             observer,
         )?,
         Command::Order {
             cut,
-            options,
+            strategy,
             trace,
             ..
         } => order_output(
             rt,
             &read_source_with(alloc, cut, input)?,
             profile,
-            options,
+            strategy,
             trace,
             observer,
         )?,
-        Command::Prove { cut, options, .. } => {
+        Command::Prove { cut, strategy, .. } => {
             prove_output(
                 rt,
                 &read_source_with(alloc, cut, input)?,
                 profile,
-                options,
+                strategy,
                 observer,
             )?
         }
@@ -224,14 +223,14 @@ pub fn output_for<R: AllocGlobal + Threads + Wait + Sync, O: Observer>(
         Command::Lint => lint_output(alloc, input)?,
         Command::Sum {
             cut,
-            options,
+            strategy,
             trace,
             ..
         } => sum_output(
             rt,
             &read_source_with(alloc, cut, input)?,
             profile,
-            options,
+            strategy,
             trace,
             observer,
         )?,

@@ -3,15 +3,15 @@ ghost use Rattle.s66_program.specs.FoundAnswers.{AreFound, IsFound};
 ghost use Rattle.s66_program.specs.Output.{IsSearchWithin};
 ghost use Rattle.s66_program.specs.PageText.{IsPageOutput};
 
+use crate::answers::answer_to;
 use crate::observer::Observer;
 use crate::order_text::status_by;
 use crate::outcome::{Output, Status};
 use crate::shown::{blocks_before, shown};
+use s66_command::Strategy;
 use s66_isa::Profile;
 use s66_line::Block;
-use s66_model::Options;
 use s66_page::{Found, push_page};
-use s66_pool::{Free, run};
 use s66_source::Source;
 use s66_time::Timer;
 use std::alloc::AllocError;
@@ -31,12 +31,12 @@ fn push_found<R: AllocGlobal + Threads + Wait + Sync>(
     found: &mut Vec<Found>,
     block: &Block,
     profile: &Profile,
-    options: Options,
+    strategy: Strategy,
 ) -> Result<bool, AllocError>
-    requires { IsSearchWithin options.workers options.nodes }
-    ensures { IfOk result (λ best. IsFound options.rule profile.now options.nodes block.now found.old.items found.new.items best) }
+    requires { IsSearchWithin strategy.search.workers strategy.search.nodes }
+    ensures { IfOk result (λ best. IsFound strategy profile.now block.now found.old.items found.new.items best) }
 {
-    let answer = run(rt, block, profile, options, &Free)?;
+    let answer = answer_to(rt, block, profile, strategy)?;
     found.push(Found {
         order: answer.order().duplicate(),
         bound: answer.bound(),
@@ -49,17 +49,17 @@ fn find_all<R: AllocGlobal + Threads + Wait + Sync, O: Observer>(
     rt: &R,
     blocks: &[Block],
     profile: &Profile,
-    options: Options,
+    strategy: Strategy,
     observer: &mut O,
 ) -> Result<AllFound, AllocError>
-    requires { IsSearchWithin options.workers options.nodes }
-    ensures { IfOk result (λ all. AreFound options.rule profile.now options.nodes blocks.now all.found.items all.status) }
+    requires { IsSearchWithin strategy.search.workers strategy.search.nodes }
+    ensures { IfOk result (λ all. AreFound strategy profile.now blocks.now all.found.items all.status) }
 {
     let mut found = Vec::new(rt.alloc());
     let mut all_best = true;
     for (done, block) in blocks.iter().enumerate() {
         observer.done(done, blocks.len());
-        let best = push_found(rt, &mut found, block, profile, options)?;
+        let best = push_found(rt, &mut found, block, profile, strategy)?;
         all_best = all_best && best;
     }
     Ok(AllFound {
@@ -75,14 +75,14 @@ pub fn page_output<R: AllocGlobal + Threads + Wait + Sync, O: Observer>(
     source: &Source,
     only: Option<u32>,
     profile: &Profile,
-    options: Options,
+    strategy: Strategy,
     observer: &mut O,
 ) -> Result<Output, AllocError>
-    requires { IsSearchWithin options.workers options.nodes }
-    ensures { IfOk result (λ output. IsPageOutput options.rule profile.now options.nodes only source.now output.text.items output.status) }
+    requires { IsSearchWithin strategy.search.workers strategy.search.nodes }
+    ensures { IfOk result (λ output. IsPageOutput strategy profile.now only source.now output.text.items output.status) }
 {
     let blocks = shown(source.blocks(), only);
-    let all = find_all(rt, blocks, profile, options, observer)?;
+    let all = find_all(rt, blocks, profile, strategy, observer)?;
     let mut timer = Timer::new(profile);
     let mut text = Vec::new(rt.alloc());
     push_page(

@@ -5,16 +5,15 @@ ghost use Rattle.s66_program.specs.Output.{IsSearchWithin};
 ghost use Rattle.s66_program.specs.ProveText.{IsProveOutput};
 ghost use Rattle.s66_program.specs.ProvedAnswers.{AreProved, IsProved};
 
-use crate::documents::document_of;
+use crate::answers::answer_to;
 use crate::observer::Observer;
 use crate::order_text::status_by;
 use crate::outcome::Output;
 use s66_cert::{Document, print};
+use s66_command::Strategy;
 use s66_device::OverWrite;
 use s66_isa::Profile;
 use s66_line::Block;
-use s66_model::Options;
-use s66_pool::{Free, run};
 use s66_source::Source;
 use std::alloc::{AllocError, Global};
 use std::mem;
@@ -40,16 +39,17 @@ fn push_proof<R: AllocGlobal + Threads + Wait + Sync>(
     out: &mut Vec<u8>,
     block: &Block,
     profile: &Profile,
-    options: Options,
+    strategy: Strategy,
 ) -> Result<bool, AllocError>
-    requires { IsSearchWithin options.workers options.nodes }
-    ensures { IfOk result (λ best. IsProved options.rule profile.now options.nodes block.now out.old.items out.new.items best) }
+    requires { IsSearchWithin strategy.search.workers strategy.search.nodes }
+    ensures { IfOk result (λ best. IsProved strategy profile.now block.now out.old.items out.new.items best) }
 {
     let alloc = rt.alloc();
-    let answer = run(rt, block, profile, options, &Free)?;
-    let document = document_of(alloc, block, profile, &answer)?;
+    let answer = answer_to(rt, block, profile, strategy)?;
+    let is_best = answer.is_best();
+    let document = answer.into_document(alloc, block, profile, strategy)?;
     push_document(alloc, out, &document)?;
-    Ok(answer.is_best())
+    Ok(is_best)
 }
 
 /// A document for each block, and how the searches ended.
@@ -57,17 +57,17 @@ fn prove_all<R: AllocGlobal + Threads + Wait + Sync, O: Observer>(
     rt: &R,
     blocks: &[Block],
     profile: &Profile,
-    options: Options,
+    strategy: Strategy,
     observer: &mut O,
 ) -> Result<Output, AllocError>
-    requires { IsSearchWithin options.workers options.nodes }
-    ensures { IfOk result (λ output. AreProved options.rule profile.now options.nodes blocks.now output.text.items output.status) }
+    requires { IsSearchWithin strategy.search.workers strategy.search.nodes }
+    ensures { IfOk result (λ output. AreProved strategy profile.now blocks.now output.text.items output.status) }
 {
     let mut text = Vec::new(rt.alloc());
     let mut all_best = true;
     for (done, block) in blocks.iter().enumerate() {
         observer.done(done, blocks.len());
-        let best = push_proof(rt, &mut text, block, profile, options)?;
+        let best = push_proof(rt, &mut text, block, profile, strategy)?;
         all_best = all_best && best;
     }
     Ok(Output {
@@ -81,11 +81,11 @@ pub fn prove_output<R: AllocGlobal + Threads + Wait + Sync, O: Observer>(
     rt: &R,
     source: &Source,
     profile: &Profile,
-    options: Options,
+    strategy: Strategy,
     observer: &mut O,
 ) -> Result<Output, AllocError>
-    requires { IsSearchWithin options.workers options.nodes }
-    ensures { IfOk result (λ output. IsProveOutput options.rule profile.now options.nodes source.now output.text.items output.status) }
+    requires { IsSearchWithin strategy.search.workers strategy.search.nodes }
+    ensures { IfOk result (λ output. IsProveOutput strategy profile.now source.now output.text.items output.status) }
 {
-    prove_all(rt, source.blocks(), profile, options, observer)
+    prove_all(rt, source.blocks(), profile, strategy, observer)
 }

@@ -3,16 +3,16 @@ ghost use Rattle.s66_program.specs.Explained.{AreExplained, IsExplained};
 ghost use Rattle.s66_program.specs.Output.{IsSearchWithin};
 ghost use Rattle.s66_program.specs.WhyText.{IsWhyOutput, waits_lines, why_lines};
 
+use crate::answers::answer_to;
 use crate::chart_text::push_timed_line;
 use crate::observer::Observer;
 use crate::order_text::status_by;
 use crate::outcome::Output;
 use crate::shown::{blocks_before, shown};
+use s66_command::Strategy;
 use s66_dep::Order;
 use s66_isa::Profile;
 use s66_line::Block;
-use s66_model::Options;
-use s66_pool::{Free, run};
 use s66_source::Source;
 use s66_time::{Timed, Timer};
 use s66_why::push_why;
@@ -56,14 +56,14 @@ fn push_answer<R: AllocGlobal + Threads + Wait + Sync>(
     number: usize,
     block: &Block,
     profile: &Profile,
-    options: Options,
+    strategy: Strategy,
 ) -> Result<bool, AllocError>
-    requires search { IsSearchWithin options.workers options.nodes }
+    requires search { IsSearchWithin strategy.search.workers strategy.search.nodes }
     requires profile { timer.old ≡ profile.now }
     ensures profile { timer.new ≡ timer.old }
-    ensures lines { IfOk result (λ best. IsExplained options.rule profile.now options.nodes number block.now out.old.items out.new.items best) }
+    ensures lines { IfOk result (λ best. IsExplained strategy profile.now number block.now out.old.items out.new.items best) }
 {
-    let answer = run(rt, block, profile, options, &Free)?;
+    let answer = answer_to(rt, block, profile, strategy)?;
     let timed = timer.time(block, answer.order());
     push_waits(out, number, block, &timed)?;
     Ok(answer.is_best())
@@ -75,12 +75,12 @@ fn explain_all<R: AllocGlobal + Threads + Wait + Sync, O: Observer>(
     before: usize,
     blocks: &[Block],
     profile: &Profile,
-    options: Options,
+    strategy: Strategy,
     observer: &mut O,
 ) -> Result<Output, AllocError>
-    requires search { IsSearchWithin options.workers options.nodes }
+    requires search { IsSearchWithin strategy.search.workers strategy.search.nodes }
     requires before { before < 2 ^ 32 }
-    ensures { IfOk result (λ output. AreExplained options.rule profile.now options.nodes before blocks.now output.text.items output.status) }
+    ensures { IfOk result (λ output. AreExplained strategy profile.now before blocks.now output.text.items output.status) }
 {
     let mut timer = Timer::new(profile);
     let mut text = Vec::new(rt.alloc());
@@ -88,7 +88,7 @@ fn explain_all<R: AllocGlobal + Threads + Wait + Sync, O: Observer>(
     for (done, block) in blocks.iter().enumerate() {
         observer.done(done, blocks.len());
         let number = before + done + 1;
-        let best = push_answer(rt, &mut text, &mut timer, number, block, profile, options)?;
+        let best = push_answer(rt, &mut text, &mut timer, number, block, profile, strategy)?;
         all_best = all_best && best;
     }
     Ok(Output {
@@ -104,12 +104,12 @@ pub fn why_output<R: AllocGlobal + Threads + Wait + Sync, O: Observer>(
     source: &Source,
     only: Option<u32>,
     profile: &Profile,
-    options: Options,
+    strategy: Strategy,
     observer: &mut O,
 ) -> Result<Output, AllocError>
-    requires { IsSearchWithin options.workers options.nodes }
-    ensures { IfOk result (λ output. IsWhyOutput options.rule profile.now options.nodes only source.now output.text.items output.status) }
+    requires { IsSearchWithin strategy.search.workers strategy.search.nodes }
+    ensures { IfOk result (λ output. IsWhyOutput strategy profile.now only source.now output.text.items output.status) }
 {
     let blocks = shown(source.blocks(), only);
-    explain_all(rt, blocks_before(only), blocks, profile, options, observer)
+    explain_all(rt, blocks_before(only), blocks, profile, strategy, observer)
 }

@@ -2,11 +2,11 @@ use Rattle.std.proofs.Common.{None, refl, ◌≡◌, ◌∙◌, if◌then◌else
 use Rattle.s66_dep.specs.Ordered.{Ordered}
 use Rattle.s66_line.specs.Block.{instrs_of}
 use Rattle.s66_model.specs.declared.rule.Rule.TheVariants.{NoneNamed}
-use Rattle.s66_model.specs.Answer.{IsAnswer}
 use Rattle.s66_model.specs.Timing.{Problem}
 use Rattle.s66_ledger.specs.Answers.{answer_of}
 use Rattle.s66_tree.specs.Lines.{has_dominated_line}
 use Rattle.s66_cert.specs.DocumentParts.{Parts, AreWhole, document_of}
+use Rattle.s66_model.specs.Answer.{IsAnswer}
 use Rattle.s66_program.proofs.AnswerDocuments.{parts_under, parts-document, parts-whole, same-parts}
 use Rattle.s66_program.proofs.documents.document_of.Goals as goal
 use Rattle.s66_program.proofs.documents.document_of.Goals.{After-bound}

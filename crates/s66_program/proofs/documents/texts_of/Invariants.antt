@@ -2,7 +2,7 @@ use Rattle.std.proofs.Common.{◌≡◌, ◌++◌, ◌+◌, ◌-◌, length, map
 use Rattle.s66_isa.specs.Lists.{rising}
 use Rattle.s66_line.specs.Block.{instrs_of, text_of}
 use Rattle.s66_program.specs.ProvedAnswers.{IsSpelledTo}
-use Rattle.s66_program.specs.ProveText.{texts_of}
+use Rattle.s66_program.specs.Answers.{texts_of}
 use Rattle.s66_program.proofs.documents.texts_of.Given as goal
 
 abbrev pub invariant-loop-position : goal.invariant-loop-position

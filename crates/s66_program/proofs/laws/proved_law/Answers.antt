@@ -1,16 +1,13 @@
 use Rattle.std.proofs.Common.{arith}
-use Rattle.s66_program.proofs.AnswerDocuments.{answer-document}
-use Rattle.s66_program.proofs.AnswerVerdicts.{same-problem, spelled-block, verdict-of_answer}
+use Rattle.s66_program.proofs.AnswerVerdicts.{same-problem, spelled-block}
+use Rattle.s66_program.proofs.Answered.{answer-document, answer-verdict}
 use Rattle.s66_program.proofs.laws.proved_law.Goals as goal
 
 pub returns-clause-same : goal.returns-clause-same
-returns-clause-same c = λ rule p text blocks block a accepted among. same-problem rule p block a (spelled-block text blocks accepted block among).2
+returns-clause-same c = λ strategy p text blocks block a accepted among. same-problem strategy.search.rule p block a (spelled-block text blocks accepted block among).2
 
 pub returns-clause-document : goal.returns-clause-document
-returns-clause-document c = λ rule p text blocks block budget a accepted among within is.
-    let kept = spelled-block text blocks accepted block among in
-    answer-document rule p block budget a is (omega (arith, is.within, within)) kept.0 kept.1 kept.2
+returns-clause-document c = λ strategy p text blocks block a accepted among within is. answer-document strategy p block a (spelled-block text blocks accepted block among) (omega (arith, within)) is
 
 pub returns-clause-yes : goal.returns-clause-yes
-returns-clause-yes c = λ rule p text blocks block budget a accepted among within is.
-    verdict-of_answer rule p block budget a (spelled-block text blocks accepted block among) (omega (arith, within)) is
+returns-clause-yes c = λ strategy p text blocks block a accepted among within is. answer-verdict strategy p block a (spelled-block text blocks accepted block among) (omega (arith, within)) is

@@ -2,4 +2,4 @@ use Rattle.s66_program.proofs.PlacedAnswers.{GoesOnAt}
 use Rattle.s66_program.proofs.order_text.search_all.Given as goal
 
 abbrev pub invariant-loop-block : goal.invariant-loop-block
-invariant-loop-block g l = GoesOnAt l.options.rule l.profile l.options.nodes l.trace l.blocks l.block-index l.found.items
+invariant-loop-block g l = GoesOnAt l.strategy l.profile l.trace l.blocks l.block-index l.found.items

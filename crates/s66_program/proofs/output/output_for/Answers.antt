@@ -17,7 +17,7 @@ returns-clause-ok g c =
           rw (w.output-is, w.in-Why.is) wrote
       | in-Page+in_ok-read_source_with-in-Page+in_ok-output-in-Page w ↦
           let output = w.in_ok-output-in-Page.output in
-          let wrote : IsPageOutput w.in-Page.options.rule c.args.profile.now w.in-Page.options.nodes w.in-Page.block (record { cut = w.in-Page.cut; text = c.args.input.now }) output.text.items output.status = search rules in
+          let wrote : IsPageOutput w.in-Page.strategy c.args.profile.now w.in-Page.block (record { cut = w.in-Page.cut; text = c.args.input.now }) output.text.items output.status = search rules in
           rw (w.output-is, w.in-Page.is) wrote
       | in-Order+in_ok-read_source_with-in-Order+in_ok-output-in-Order w ↦ search rules
       | in-Prove+in_ok-read_source_with-in-Prove+in_ok-output-in-Prove w ↦ search rules
@@ -25,6 +25,6 @@ returns-clause-ok g c =
       | in-Lint+in_ok-output-in-Lint w ↦ search rules
       | in-Sum+in_ok-read_source_with-in-Sum+in_ok-output-in-Sum w ↦
           let output = w.in_ok-output-in-Sum.output in
-          let wrote : IsSumOutput w.in-Sum.options.rule c.args.profile.now w.in-Sum.options.nodes w.in-Sum.trace (record { cut = w.in-Sum.cut; text = c.args.input.now }) output.text.items output.status = search rules in
+          let wrote : IsSumOutput w.in-Sum.strategy c.args.profile.now w.in-Sum.trace (record { cut = w.in-Sum.cut; text = c.args.input.now }) output.text.items output.status = search rules in
           rw (w.output-is, w.in-Sum.is) wrote
     ]

@@ -1,9 +1,9 @@
 use Rattle.std.proofs.Common.{List, ◌≡◌, ◌++◌, ◌∙◌, ap, ap₂, subst, sym}
 use Rattle.s66_line.specs.Block.{Block}
-use Rattle.s66_model.specs.Answer.{Answer}
 use Rattle.s66_page.specs.Found.{AreOf}
 use Rattle.s66_page.specs.Page.{page_text}
-use Rattle.s66_program.specs.OrderText.{AreAnswers, status_of}
+use Rattle.s66_program.specs.Answers.{Answer, AreAnswers}
+use Rattle.s66_program.specs.OrderText.{status_of}
 use Rattle.s66_program.specs.PageText.{all_found}
 use Rattle.s66_program.specs.Shown.{before}
 use Rattle.s66_program.proofs.FoundAnswers.{found-of}
@@ -12,14 +12,14 @@ use Rattle.s66_program.proofs.page_text.page_output.Goals as goal
 pub push_page-requires-clause-found : goal.push_page-requires-clause-found
 push_page-requires-clause-found g c =
     let blocks = c.shown-blocks.result.now in
-    let options = c.args.options in
+    let strategy = c.args.strategy in
     let (answers, are, is, ends) = c.in_ok-all.ensures in
-    subst (AreOf blocks) (sym (c.as_slice.ensures.value ∙ is)) (found-of options.rule c.args.profile.now options.nodes blocks answers are)
+    subst (AreOf blocks) (sym (c.as_slice.ensures.value ∙ is)) (found-of strategy c.args.profile.now blocks answers are)
 
 pub returns : goal.returns
 returns g c =
     let p = c.args.profile.now in
-    let options = c.args.options in
+    let strategy = c.args.strategy in
     let only = c.args.only in
     let blocks = c.shown-blocks.result.now in
     let n = c.blocks_before.result in
@@ -33,6 +33,6 @@ returns g c =
       c.blocks-2.result.now,
       c.blocks-2.ensures,
       subst
-          (λ (bs : List Block). (given : List Answer) × AreAnswers options.rule p options.nodes bs given × (page ≡ page_text p (before only) bs (all_found bs given)) × (c.in_ok-all.all.status ≡ status_of given))
+          (λ (bs : List Block). (given : List Answer) × AreAnswers strategy p bs given × (page ≡ page_text p (before only) bs (all_found bs given)) × (c.in_ok-all.all.status ≡ status_of given))
           c.shown-blocks.ensures (answers, are, text, ends),
     )

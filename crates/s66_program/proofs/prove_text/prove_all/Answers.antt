@@ -6,7 +6,7 @@ use Rattle.s66_program.proofs.prove_text.prove_all.Goals.{then-all_best, else-al
 
 pub loop-done-preserved : goal.loop-done-preserved
 loop-done-preserved g c =
-    let rule = c.args.options.rule in
+    let strategy = c.args.strategy in
     let p = c.args.profile.now in
     let i = c.loop-done.done in
     let both : c.if-all_best.all_best ≡ (c.loop-done.all_best && c.in_ok-best.best) =
@@ -15,15 +15,15 @@ loop-done-preserved g c =
       | else-all_best w ↦ w.all_best-is ∙ w.if-all_best.false ∙ sym (ap (λ b. b && c.in_ok-best.best) w.if-all_best.false)
     ]
     in
-    subst (GoesOnAt (document_part rule p) (documents rule p) rule p c.args.options.nodes 0 c.args.blocks.now (i + 1) c.push_proof.new.out.items) (sym both)
-    (goes-on (document_part rule p) (documents rule p) rule p c.args.options.nodes (λ n b bs a more. refl) 0 c.args.blocks.now i c.index-blocks-done.result c.loop-done.text.items c.push_proof.new.out.items
+    subst (GoesOnAt (document_part strategy p) (documents strategy p) strategy p 0 c.args.blocks.now (i + 1) c.push_proof.new.out.items) (sym both)
+    (goes-on (document_part strategy p) (documents strategy p) strategy p (λ n b bs a more. refl) 0 c.args.blocks.now i c.index-blocks-done.result c.loop-done.text.items c.push_proof.new.out.items
     c.loop-done.all_best c.in_ok-best.best c.loop-done-test.true c.index-blocks-done.is c.in_ok-best.ensures c.loop-done.invariant)
 
 pub returns : goal.returns
 returns g c =
-    let rule = c.args.options.rule in
+    let strategy = c.args.strategy in
     let p = c.args.profile.now in
-    let (answers, are, is, all) = all-made (document_part rule p) (documents rule p) rule p c.args.options.nodes (λ n. refl) 0 c.args.blocks.now c.loop-done.done c.loop-done.text.items c.loop-done.all_best
+    let (answers, are, is, all) = all-made (document_part strategy p) (documents strategy p) strategy p (λ n. refl) 0 c.args.blocks.now c.loop-done.done c.loop-done.text.items c.loop-done.all_best
     c.loop-done-test.false c.loop-done.invariant
     in
     (answers, are, is, c.status_by.ensures ∙ ap (λ b. if b then Done else Bounded) all)

@@ -3,4 +3,4 @@ use Rattle.s66_program.proofs.prove_text.prove_all.Given as goal
 
 abbrev pub invariant-loop-done : goal.invariant-loop-done
 invariant-loop-done g l =
-    GoesOnAt (document_part l.options.rule l.profile) (documents l.options.rule l.profile) l.options.rule l.profile l.options.nodes 0 l.blocks l.done l.text.items l.all_best
+    GoesOnAt (document_part l.strategy l.profile) (documents l.strategy l.profile) l.strategy l.profile 0 l.blocks l.done l.text.items l.all_best

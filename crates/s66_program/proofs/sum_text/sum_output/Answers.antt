@@ -12,7 +12,7 @@ use Rattle.s66_program.proofs.sum_text.sum_output.Goals as goal
 pub rows_of-requires : goal.rows_of-requires
 rows_of-requires g c =
     ap (λ (ps : List Placed). length ps) c.as_slice.ensures.value
-    ∙ placed-each c.args.options.rule c.args.profile.now c.args.options.nodes c.args.trace c.blocks-blocks.result.now c.in_ok-found.found.items c.in_ok-found.ensures
+    ∙ placed-each c.args.strategy c.args.profile.now c.args.trace c.blocks-blocks.result.now c.in_ok-found.found.items c.in_ok-found.ensures
 
 pub sum_text-requires : goal.sum_text-requires
 sum_text-requires g c =
@@ -30,5 +30,5 @@ returns g c =
     let ps = c.in_ok-found.found.items in
     let text = c.in_ok-sum_text.field-0.items in
     let same : c.in_ok-rows.rows.items ≡ rows_of 0 blocks ps = c.in_ok-rows.ensures ∙ ap (rows_of 0 blocks) c.as_slice.ensures.value in
-    sum-output c.args.options.rule c.args.profile.now c.args.options.nodes c.args.trace c.args.source.now text c.status_of.result blocks ps c.blocks-blocks.ensures c.in_ok-found.ensures
+    sum-output c.args.strategy c.args.profile.now c.args.trace c.args.source.now text c.status_of.result blocks ps c.blocks-blocks.ensures c.in_ok-found.ensures
     (subst (λ rows. IsSumText c.args.trace rows text) same c.in_ok-sum_text.ensures) (c.status_of.ensures ∙ ap (λ qs. if tell_best qs then Done else Bounded) c.as_slice-2.ensures.value)

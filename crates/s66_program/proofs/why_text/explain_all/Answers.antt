@@ -9,15 +9,14 @@ pub loop-done-init : goal.loop-done-init
 loop-done-init g c =
     let p = c.args.profile.now in
     record {
-      lines = begins (answer_lines p) (lines_of_answers p) c.args.options.rule p c.args.options.nodes c.args.before c.args.blocks.now _ c.new-text.ensures.items;
+      lines = begins (answer_lines p) (lines_of_answers p) c.args.strategy p c.args.before c.args.blocks.now _ c.new-text.ensures.items;
       profile = c.new-timer.ensures;
     }
 
 pub loop-done-preserved : goal.loop-done-preserved
 loop-done-preserved g c =
-    let rule = c.args.options.rule in
+    let strategy = c.args.strategy in
     let p = c.args.profile.now in
-    let nodes = c.args.options.nodes in
     let n = c.args.before in
     let blocks = c.args.blocks.now in
     let part = answer_lines p in
@@ -31,19 +30,19 @@ loop-done-preserved g c =
     ]
     in
     record {
-      lines = subst (GoesOnAt part whole rule p nodes n blocks (i + 1) text) (sym both)
-          (goes-on part whole rule p nodes (λ m b bs a more. refl) n blocks i c.index-blocks-done.result c.loop-done.text.items text c.loop-done.all_best c.in_ok-best.best c.loop-done-test.true
+      lines = subst (GoesOnAt part whole strategy p n blocks (i + 1) text) (sym both)
+          (goes-on part whole strategy p (λ m b bs a more. refl) n blocks i c.index-blocks-done.result c.loop-done.text.items text c.loop-done.all_best c.in_ok-best.best c.loop-done-test.true
           c.index-blocks-done.is c.in_ok-best.ensures.lines c.loop-done.invariant.lines);
       profile = c.in_ok-best.ensures.profile ∙ c.loop-done.invariant.profile;
     }
 
 pub returns : goal.returns
 returns g c =
-    let rule = c.args.options.rule in
+    let strategy = c.args.strategy in
     let p = c.args.profile.now in
     let part = answer_lines p in
     let whole = lines_of_answers p in
-    let (answers, are, is, all) = all-made part whole rule p c.args.options.nodes (λ n. refl) c.args.before c.args.blocks.now c.loop-done.done c.loop-done.text.items c.loop-done.all_best
+    let (answers, are, is, all) = all-made part whole strategy p (λ n. refl) c.args.before c.args.blocks.now c.loop-done.done c.loop-done.text.items c.loop-done.all_best
     c.loop-done-test.false c.loop-done.invariant.lines
     in
     (answers, are, is, c.status_by.ensures ∙ ap (λ b. if b then Done else Bounded) all)

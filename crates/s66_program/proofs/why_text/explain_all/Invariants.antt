@@ -5,6 +5,6 @@ use Rattle.s66_program.proofs.why_text.explain_all.Given as goal
 
 abbrev pub invariant-loop-done : goal.invariant-loop-done
 invariant-loop-done g l = record {
-  lines : GoesOnAt (answer_lines l.profile) (lines_of_answers l.profile) l.options.rule l.profile l.options.nodes l.before l.blocks l.done l.text.items l.all_best;
+  lines : GoesOnAt (answer_lines l.profile) (lines_of_answers l.profile) l.strategy l.profile l.before l.blocks l.done l.text.items l.all_best;
   profile : l.timer ≡ l.profile;
 }

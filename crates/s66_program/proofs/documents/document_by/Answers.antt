@@ -1,0 +1,31 @@
+use Rattle.std.proofs.Common.{Some, ◌≡◌, ◌∙◌, List, arith, refl, rules, subst, sym}
+use Rattle.s66_isa.specs.declared.instr.Instr.{Instr}
+use Rattle.s66_model.specs.LegalOrder.{IsLegal}
+use Rattle.s66_model.specs.declared.rule.Rule.TheVariants.{ClampedStanding}
+use Rattle.s66_cert.specs.DocumentParts.{Parts, AreWhole}
+use Rattle.s66_program.specs.Stored.{parts_by}
+use Rattle.s66_program.proofs.AnswerDocuments.{same-parts, shown-whole}
+use Rattle.s66_program.proofs.documents.document_by.Goals as goal
+
+pub new-requires : goal.new-requires
+new-requires c =
+    let p = c.args.profile.now in
+    let block = c.args.block.now in
+    let order = c.args.order.now.numbers in
+    let shows = c.args.shows in
+    let claimed : Parts = record {
+      rule = ClampedStanding;
+      facts = Some shows.lines.items;
+      profile = c.from.result.items;
+      block = c.in_ok-texts_of.field-0.items;
+      time = c.args.time;
+      bound = shows.bound;
+      numbers = c.in-Ok.numbers.items;
+      vertices = shows.tree;
+    } in
+    let same : claimed ≡ parts_by p block order c.args.time shows =
+    same-parts claimed (parts_by p block order c.args.time shows) refl refl (search rules) c.in_ok-texts_of.ensures.texts refl refl (c.in-Ok.ensures.0 ∙ c.numbers.ensures.value) refl
+    in
+    let legal = subst (λ (instrs : List Instr). IsLegal instrs order) c.requires.order c.numbers.ensures.legal in
+    subst AreWhole (sym same)
+    (shown-whole p block order c.args.time shows legal c.requires.time c.requires.fit (omega (arith, c.count.ensures.value, c.count.ensures.some)) (omega (arith, c.count.ensures.value, c.count.ensures.few)) c.in_ok-texts_of.ensures.spelled)

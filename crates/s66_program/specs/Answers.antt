@@ -1,0 +1,92 @@
+-- To be believed: what is answered for a block: what a search of its orders finds, or with `--deep` what facts show that all orders below a bound have in common.
+use Rattle.std.specs.Prelude.{ℕ, ◌≡◌, ◌≤◌, ◌⊎◌, if◌then◌else◌, true, List, [], ◌∷◌, map, Option, None, Some}
+use Rattle.std.specs.Option.{is_some}
+use Rattle.s66_isa.specs.declared.limits.TheConstants.{BLOCK_LIMIT}
+use Rattle.s66_isa.specs.declared.profile.Profile.{Profile}
+use Rattle.s66_isa.specs.Table.{entries, numbers}
+use Rattle.s66_line.specs.Block.{instrs_of, text_of, Block}
+use Rattle.s66_model.specs.declared.options.Options.{Options}
+use Rattle.s66_model.specs.declared.rule.Rule.{Rule}
+use Rattle.s66_model.specs.declared.rule.Rule.TheVariants.{NoneNamed, ClampedStanding}
+use Rattle.s66_model.specs.Answer as search
+use Rattle.s66_model.specs.Answer.{source_time}
+use Rattle.s66_model.specs.DominatedLeaves.{Ending}
+use Rattle.s66_model.specs.LegalOrder.{IsLegal}
+use Rattle.s66_model.specs.Timing.{Problem, total_of}
+use Rattle.s66_model.specs.Tree.{Tree, splits}
+use Rattle.s66_moments.specs.declared.fact_line.FactLine.{FactLine}
+use Rattle.s66_cert.specs.Document.{Document, IsDocument, has_dominated}
+use Rattle.s66_checker.specs.declared.verdict.Verdict.TheVariants.{Yes}
+use Rattle.s66_checker.specs.Verdict.{verdict}
+use Rattle.s66_command.specs.declared.strategy.Strategy.{Strategy}
+
+-- an order, what it takes, what every order takes at least, how often a search split, and what shows the bound: fact lines, if there
+-- are any, and a tree
+pub record Answer : Type 0 where
+  pub order : List ℕ
+  pub time : ℕ
+  pub bound : ℕ
+  pub splits : ℕ
+  pub facts : Option (List FactLine)
+  pub tree : Tree Ending
+
+-- a block's orders under a profile
+abbrev pub problem_of : Profile → Block → Problem
+problem_of p block = record { block = instrs_of block; profile = p }
+
+-- CERTIFICATES
+
+-- the text of each instruction of a block
+abbrev pub texts_of : Block → List (List ℕ)
+texts_of block = map (text_of block) (numbers (instrs_of block))
+
+-- a document needs the rule by which leaves are dominated if one is, or if it has fact lines
+abbrev pub rule_of : Rule → Option (List FactLine) → Tree Ending → Rule
+rule_of rule None tree = if has_dominated tree then rule else NoneNamed
+rule_of rule (Some lines) tree = ClampedStanding
+
+-- what an answer, whose dominated leaves are by this rule, claims of a block under a profile
+abbrev pub document_under : Rule → Profile → Block → Answer → Document
+document_under rule p block a =
+    record { rule = rule_of rule a.facts a.tree; facts = a.facts; profile = entries p; block = texts_of block; time = a.time; bound = a.bound; numbers = a.order; tree = a.tree }
+
+-- BY A SEARCH
+
+-- what is found, without fact lines
+abbrev pub searched : search.Answer → Answer
+searched found = record { order = found.order; time = found.time; bound = found.bound; splits = found.splits; facts = None; tree = found.tree }
+
+abbrev pub IsSearched : Options → Problem → Answer → Type 0
+IsSearched options b a = (found : search.Answer) × search.IsAnswer options.rule b options.nodes found × (a ≡ searched found)
+
+-- BY FACTS
+
+-- it is best, and its tree has no more splits than a search may have, or it is no worse than what a search found
+abbrev pub IsEnough : Options → Problem → Answer → Type 0
+IsEnough options b a =
+    ((a.bound ≡ a.time) × (a.splits ≡ splits a.tree) × (a.splits ≤ options.nodes))
+    ⊎ ((found : search.Answer) × search.IsAnswer options.rule b options.nodes found × (a.time ≤ found.time) × (found.bound ≤ a.bound) × (a.splits ≡ found.splits))
+
+pub record IsShown (options : Options) (p : Profile) (block : Block) (a : Answer) : Type 0 where
+  -- a legal order with its total
+  pub legal : IsLegal (instrs_of block) a.order
+  pub time : a.time ≡ total_of (problem_of p block) a.order
+  -- a certificate with fact lines, which passes the checker
+  pub facts : is_some a.facts ≡ true
+  pub document : IsDocument BLOCK_LIMIT (document_under options.rule p block a)
+  pub yes : verdict (document_under options.rule p block a) ≡ Yes a.time a.bound
+  -- the order takes at most the source order's total, and is the source order if it takes as much
+  pub source : a.time ≤ source_time (problem_of p block)
+  pub first : source_time (problem_of p block) ≡ a.time → a.order ≡ numbers (instrs_of block)
+  pub enough : IsEnough options (problem_of p block) a
+
+-- WHAT IS ANSWERED
+
+abbrev pub IsAnswer : Strategy → Profile → Block → Answer → Type 0
+IsAnswer strategy p block a = IsSearched strategy.search (problem_of p block) a ⊎ ((strategy.deep ≡ true) × IsShown strategy.search p block a)
+
+-- for each block
+abbrev pub AreAnswers : Strategy → Profile → List Block → List Answer → Type 0
+AreAnswers strategy p [] [] = Unit {0}
+AreAnswers strategy p (block ∷ blocks) (a ∷ answers) = IsAnswer strategy p block a × AreAnswers strategy p blocks answers
+AreAnswers strategy p blocks answers = ⊥

@@ -1,0 +1,84 @@
+-- Used by contracts within the crate alone: an answer as code stores it.
+use Rattle.std.specs.Prelude.{ℕ, ◌≡◌, ◌≤◌, List, Some, length}
+use Rattle.s66_isa.specs.declared.limits.TheConstants.{BLOCK_LIMIT}
+use Rattle.s66_isa.specs.Table.{entries}
+use Rattle.s66_isa.specs.declared.profile.Profile.{Profile}
+use Rattle.s66_line.specs.Block.{instrs_of, Block}
+use Rattle.s66_model.specs.declared.rule.Rule.TheVariants.{ClampedStanding}
+use Rattle.s66_model.specs.Answer.{source_time}
+use Rattle.s66_deep.specs.Trees.{AreOfTree}
+use Rattle.s66_ledger.specs.Answers.{answer_of}
+use Rattle.s66_cert.specs.declared.limits.TheConstants.{FACT_LIMIT, TIME_LIMIT}
+use Rattle.s66_cert.specs.Document.{AreFactLines, IsDocument}
+use Rattle.s66_cert.specs.DocumentParts.{Parts, document_of}
+use Rattle.s66_checker.specs.declared.verdict.Verdict.TheVariants.{Yes}
+use Rattle.s66_checker.specs.Verdict.{verdict}
+use Rattle.s66_command.specs.declared.strategy.Strategy.{Strategy}
+use Rattle.s66_program.specs.declared.answers.Found.{Found}
+use Rattle.s66_program.specs.declared.answers.Found.TheVariants.{Searched, Shown}
+use Rattle.s66_program.specs.declared.answers.ByFacts.{ByFacts}
+use Rattle.s66_program.specs.declared.answers.Candidate.{Candidate}
+use Rattle.s66_program.specs.declared.documents.Shows.{Shows}
+use Rattle.s66_program.specs.Answers.{Answer, IsAnswer, document_under, problem_of, searched, texts_of}
+
+-- FACT LINES
+
+-- a document may have them, and the tree and the bound
+pub record IsFit (l : Shows) : Type 0 where
+  pub few : length l.lines.items ≤ FACT_LIMIT
+  pub lines : AreFactLines BLOCK_LIMIT l.lines.items
+  pub tree : AreOfTree l.tree
+  pub bound : l.bound ≤ TIME_LIMIT
+
+-- the document of an order that takes this time: with this bound, and with what is to show it
+abbrev pub parts_by : Profile → Block → (order : List ℕ) (time : ℕ) → Shows → Parts
+parts_by p block order time l =
+    record {
+      rule = ClampedStanding;
+      facts = Some l.lines.items;
+      profile = entries p;
+      block = texts_of block;
+      time = time;
+      bound = l.bound;
+      numbers = order;
+      vertices = l.tree;
+    }
+
+-- it passes the checker
+pub record IsAccepted (d : Parts) : Type 0 where
+  pub document : IsDocument BLOCK_LIMIT (document_of d)
+  pub yes : verdict (document_of d) ≡ Yes d.time d.bound
+
+-- ANSWERS
+
+-- what a document claims, after so many splits
+abbrev pub claimed_by : Parts → ℕ → Answer
+claimed_by d splits = record { order = d.numbers; time = d.time; bound = d.bound; splits = splits; facts = d.facts; tree = (document_of d).tree }
+
+abbrev pub claimed : ByFacts → Answer
+claimed s = claimed_by s.document s.splits
+
+abbrev pub answer_in : Found → Answer
+answer_in (Searched found) = searched (answer_of found)
+answer_in (Shown s) = claimed s
+
+-- of this candidate, with a document that passes the checker by these lines
+pub record IsShownBy (p : Profile) (block : Block) (c : Candidate) (l : Shows) (s : ByFacts) : Type 0 where
+  pub document : s.document ≡ parts_by p block c.order.numbers c.time l
+  pub accepted : IsAccepted s.document
+  pub order : s.order ≡ c.order
+  pub source : s.source ≡ c.source
+  pub splits : s.splits ≡ c.splits
+
+-- an answer to the block, with its document and its order
+pub record IsClaimed (strategy : Strategy) (p : Profile) (block : Block) (s : ByFacts) : Type 0 where
+  pub answer : IsAnswer strategy p block (claimed s)
+  pub document : document_of s.document ≡ document_under strategy.search.rule p block (claimed s)
+  pub order : s.order ≡ record { block = instrs_of block; numbers = s.document.numbers }
+  pub source : s.source ≡ source_time (problem_of p block)
+
+-- of this block
+abbrev pub IsFor : Strategy → Profile → Block → Found → Type 0
+IsFor strategy p block (Searched found) =
+    (found.rule ≡ strategy.search.rule) × (found.problem ≡ problem_of p block) × (found.budget ≡ strategy.search.nodes)
+IsFor strategy p block (Shown s) = IsClaimed strategy p block s
