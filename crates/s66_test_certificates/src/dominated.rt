@@ -6,7 +6,7 @@ use crate::documents::{ONE_DOMINATED, THREE_DOMINATED, THREE_MULTIPLIES};
 use crate::verdicts::{altered, check_denied, check_refused};
 use s66_cert::CertError;
 use s66_model::{Options, Rule};
-use s66_program::{Command, Status};
+use s66_program::{Command, Status, Strategy};
 use std::process::Abort;
 use std::sync::Wait;
 use std::test::Fail;
@@ -108,10 +108,13 @@ fn check_left_out<R: AllocGlobal + Abort + Threads + Wait + Sync>(
 {
     let order = Command::Order {
         cut: false,
-        options: Options {
-            workers,
-            nodes: 100,
-            rule,
+        strategy: Strategy {
+            search: Options {
+                workers,
+                nodes: 100,
+                rule,
+            },
+            deep: false,
         },
         trace: true,
         profile: None,
@@ -119,10 +122,13 @@ fn check_left_out<R: AllocGlobal + Abort + Threads + Wait + Sync>(
     check_output(rt, order, THREE_ALIKE, Status::Done, SEVEN_SPLITS);
     let prove = Command::Prove {
         cut: false,
-        options: Options {
-            workers,
-            nodes: 100,
-            rule,
+        strategy: Strategy {
+            search: Options {
+                workers,
+                nodes: 100,
+                rule,
+            },
+            deep: false,
         },
         profile: None,
     };

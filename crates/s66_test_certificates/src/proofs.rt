@@ -1,7 +1,7 @@
 use crate::commands::{check_output, run};
 use crate::documents::{ONE_LOAD, THREE_MULTIPLIES};
 use s66_model::{Options, Rule};
-use s66_program::{Command, Status};
+use s66_program::{Command, Status, Strategy};
 use s66_test_blocks::{MULTIPLIES, SEVEN_MULTIPLIES};
 use std::test::Fail;
 
@@ -31,10 +31,13 @@ const PROOFS: &[(&str, &str)] = &[
 fn proves_worked_rows(rt: HostRuntime) {
     let prove = Command::Prove {
         cut: false,
-        options: Options {
-            workers: 1,
-            nodes: 100_000,
-            rule: Rule::NoneNamed,
+        strategy: Strategy {
+            search: Options {
+                workers: 1,
+                nodes: 100_000,
+                rule: Rule::NoneNamed,
+            },
+            deep: false,
         },
         profile: None,
     };
@@ -59,10 +62,13 @@ fn lines(text: &[u8]) -> u32 {
 fn proves_and_checks_large_trees(rt: HostRuntime) -> Result<(), Fail> {
     let prove = Command::Prove {
         cut: false,
-        options: Options {
-            workers: 16,
-            nodes: 100_000,
-            rule: Rule::NoneNamed,
+        strategy: Strategy {
+            search: Options {
+                workers: 16,
+                nodes: 100_000,
+                rule: Rule::NoneNamed,
+            },
+            deep: false,
         },
         profile: None,
     };
@@ -87,10 +93,13 @@ fn proves_and_checks_large_trees(rt: HostRuntime) -> Result<(), Fail> {
 fn proves_and_checks_a_block_of_128(rt: HostRuntime) -> Result<(), Fail> {
     let prove = Command::Prove {
         cut: false,
-        options: Options {
-            workers: 1,
-            nodes: 0,
-            rule: Rule::NoneNamed,
+        strategy: Strategy {
+            search: Options {
+                workers: 1,
+                nodes: 0,
+                rule: Rule::NoneNamed,
+            },
+            deep: false,
         },
         profile: None,
     };

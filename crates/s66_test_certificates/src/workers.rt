@@ -4,7 +4,7 @@ ghost use Rattle.s66_model.specs.declared.limits.TheConstants.{WORKERS_LIMIT};
 use crate::commands::{check_output, run};
 use crate::documents::THREE_MULTIPLIES;
 use s66_model::{Options, Rule};
-use s66_program::{Command, Status};
+use s66_program::{Command, Status, Strategy};
 use s66_test_blocks::MULTIPLIES;
 use std::process::Abort;
 use std::sync::Wait;
@@ -24,10 +24,13 @@ fn check_order<R: AllocGlobal + Abort + Threads + Wait + Sync>(rt: &R, workers: 
 {
     let order = Command::Order {
         cut: false,
-        options: Options {
-            workers,
-            nodes: 10,
-            rule: Rule::NoneNamed,
+        strategy: Strategy {
+            search: Options {
+                workers,
+                nodes: 10,
+                rule: Rule::NoneNamed,
+            },
+            deep: false,
         },
         trace: true,
         profile: None,
@@ -35,10 +38,13 @@ fn check_order<R: AllocGlobal + Abort + Threads + Wait + Sync>(rt: &R, workers: 
     check_output(rt, order, MULTIPLIES, Status::Done, BEST_ORDER);
     let order = Command::Order {
         cut: false,
-        options: Options {
-            workers,
-            nodes: 9,
-            rule: Rule::NoneNamed,
+        strategy: Strategy {
+            search: Options {
+                workers,
+                nodes: 9,
+                rule: Rule::NoneNamed,
+            },
+            deep: false,
         },
         trace: true,
         profile: None,
@@ -53,20 +59,26 @@ fn check_proof<R: AllocGlobal + Abort + Threads + Wait + Sync>(rt: &R, workers: 
 {
     let prove = Command::Prove {
         cut: false,
-        options: Options {
-            workers,
-            nodes: 10,
-            rule: Rule::NoneNamed,
+        strategy: Strategy {
+            search: Options {
+                workers,
+                nodes: 10,
+                rule: Rule::NoneNamed,
+            },
+            deep: false,
         },
         profile: None,
     };
     check_output(rt, prove, MULTIPLIES, Status::Done, THREE_MULTIPLIES);
     let prove = Command::Prove {
         cut: false,
-        options: Options {
-            workers,
-            nodes: 9,
-            rule: Rule::NoneNamed,
+        strategy: Strategy {
+            search: Options {
+                workers,
+                nodes: 9,
+                rule: Rule::NoneNamed,
+            },
+            deep: false,
         },
         profile: None,
     };

@@ -1,7 +1,7 @@
 use crate::running::run;
 use s66_device::{OverRead, OverWrite};
 use s66_model::{Options, Rule};
-use s66_program::{Command, Status, command_of, run_command};
+use s66_program::{Command, Status, Strategy, command_of, run_command};
 use std::test::Fail;
 
 /// Words, and the status: 0 of help, 2 of words that are no command.
@@ -177,10 +177,13 @@ const COMMANDS: &[(&[&str], Command)] = &[
         ],
         Command::Why {
             cut: false,
-            order: Some(Options {
-                workers: 4,
-                nodes: 9,
-                rule: Rule::WrittenEarlier,
+            order: Some(Strategy {
+                search: Options {
+                    workers: 4,
+                    nodes: 9,
+                    rule: Rule::WrittenEarlier,
+                },
+                deep: false,
             }),
             block: Some(2),
             profile: None,
@@ -199,10 +202,13 @@ const COMMANDS: &[(&[&str], Command)] = &[
         &["s66", "page", "--block", "3"],
         Command::Page {
             cut: false,
-            options: Options {
-                workers: 4,
-                nodes: 100_000,
-                rule: Rule::NoneNamed,
+            strategy: Strategy {
+                search: Options {
+                    workers: 4,
+                    nodes: 100_000,
+                    rule: Rule::NoneNamed,
+                },
+                deep: false,
             },
             block: Some(3),
             profile: None,
@@ -212,12 +218,31 @@ const COMMANDS: &[(&[&str], Command)] = &[
         &["s66", "page", "--cut", "--nodes=7", "--dominate-tree"],
         Command::Page {
             cut: true,
-            options: Options {
-                workers: 4,
-                nodes: 7,
-                rule: Rule::ClampedStanding,
+            strategy: Strategy {
+                search: Options {
+                    workers: 4,
+                    nodes: 7,
+                    rule: Rule::ClampedStanding,
+                },
+                deep: false,
             },
             block: None,
+            profile: None,
+        },
+    ),
+    (
+        &["s66", "sum", "--deep", "--nodes", "9"],
+        Command::Sum {
+            cut: false,
+            strategy: Strategy {
+                search: Options {
+                    workers: 4,
+                    nodes: 9,
+                    rule: Rule::ClampedStanding,
+                },
+                deep: true,
+            },
+            trace: false,
             profile: None,
         },
     ),
@@ -225,10 +250,13 @@ const COMMANDS: &[(&[&str], Command)] = &[
         &["s66", "order", "--trace", "--cut"],
         Command::Order {
             cut: true,
-            options: Options {
-                workers: 4,
-                nodes: 100_000,
-                rule: Rule::NoneNamed,
+            strategy: Strategy {
+                search: Options {
+                    workers: 4,
+                    nodes: 100_000,
+                    rule: Rule::NoneNamed,
+                },
+                deep: false,
             },
             trace: true,
             profile: None,
@@ -238,10 +266,13 @@ const COMMANDS: &[(&[&str], Command)] = &[
         &["s66", "prove", "--cut", "--profile=--cut"],
         Command::Prove {
             cut: true,
-            options: Options {
-                workers: 4,
-                nodes: 100_000,
-                rule: Rule::NoneNamed,
+            strategy: Strategy {
+                search: Options {
+                    workers: 4,
+                    nodes: 100_000,
+                    rule: Rule::NoneNamed,
+                },
+                deep: false,
             },
             profile: Some("--cut"),
         },
@@ -250,10 +281,13 @@ const COMMANDS: &[(&[&str], Command)] = &[
         &["s66", "sum", "--cut", "--workers=2"],
         Command::Sum {
             cut: true,
-            options: Options {
-                workers: 2,
-                nodes: 100_000,
-                rule: Rule::NoneNamed,
+            strategy: Strategy {
+                search: Options {
+                    workers: 2,
+                    nodes: 100_000,
+                    rule: Rule::NoneNamed,
+                },
+                deep: false,
             },
             trace: false,
             profile: None,
@@ -282,10 +316,13 @@ const COMMANDS: &[(&[&str], Command)] = &[
         &["s66", "prove", "--profile", "no profile", "--nodes", "7"],
         Command::Prove {
             cut: false,
-            options: Options {
-                workers: 4,
-                nodes: 7,
-                rule: Rule::NoneNamed,
+            strategy: Strategy {
+                search: Options {
+                    workers: 4,
+                    nodes: 7,
+                    rule: Rule::NoneNamed,
+                },
+                deep: false,
             },
             profile: Some("no profile"),
         },
@@ -294,10 +331,13 @@ const COMMANDS: &[(&[&str], Command)] = &[
         &["s66", "sum", "--workers", "16", "--profile", "{}"],
         Command::Sum {
             cut: false,
-            options: Options {
-                workers: 16,
-                nodes: 100_000,
-                rule: Rule::NoneNamed,
+            strategy: Strategy {
+                search: Options {
+                    workers: 16,
+                    nodes: 100_000,
+                    rule: Rule::NoneNamed,
+                },
+                deep: false,
             },
             trace: false,
             profile: Some("{}"),
@@ -307,10 +347,13 @@ const COMMANDS: &[(&[&str], Command)] = &[
         &["s66", "sum", "--dominate-tree", "--trace", "--nodes=0"],
         Command::Sum {
             cut: false,
-            options: Options {
-                workers: 4,
-                nodes: 0,
-                rule: Rule::ClampedStanding,
+            strategy: Strategy {
+                search: Options {
+                    workers: 4,
+                    nodes: 0,
+                    rule: Rule::ClampedStanding,
+                },
+                deep: false,
             },
             trace: true,
             profile: None,
@@ -320,10 +363,13 @@ const COMMANDS: &[(&[&str], Command)] = &[
         &["s66", "sum", "--dominate"],
         Command::Sum {
             cut: false,
-            options: Options {
-                workers: 4,
-                nodes: 100_000,
-                rule: Rule::WrittenEarlier,
+            strategy: Strategy {
+                search: Options {
+                    workers: 4,
+                    nodes: 100_000,
+                    rule: Rule::WrittenEarlier,
+                },
+                deep: false,
             },
             trace: false,
             profile: None,
@@ -333,10 +379,13 @@ const COMMANDS: &[(&[&str], Command)] = &[
         &["s66", "order", "--trace", "--profile=--trace"],
         Command::Order {
             cut: false,
-            options: Options {
-                workers: 4,
-                nodes: 100_000,
-                rule: Rule::NoneNamed,
+            strategy: Strategy {
+                search: Options {
+                    workers: 4,
+                    nodes: 100_000,
+                    rule: Rule::NoneNamed,
+                },
+                deep: false,
             },
             trace: true,
             profile: Some("--trace"),
@@ -346,10 +395,13 @@ const COMMANDS: &[(&[&str], Command)] = &[
         &["s66", "order"],
         Command::Order {
             cut: false,
-            options: Options {
-                workers: 4,
-                nodes: 100_000,
-                rule: Rule::NoneNamed,
+            strategy: Strategy {
+                search: Options {
+                    workers: 4,
+                    nodes: 100_000,
+                    rule: Rule::NoneNamed,
+                },
+                deep: false,
             },
             trace: false,
             profile: None,
@@ -359,10 +411,13 @@ const COMMANDS: &[(&[&str], Command)] = &[
         &["s66", "order", "--trace"],
         Command::Order {
             cut: false,
-            options: Options {
-                workers: 4,
-                nodes: 100_000,
-                rule: Rule::NoneNamed,
+            strategy: Strategy {
+                search: Options {
+                    workers: 4,
+                    nodes: 100_000,
+                    rule: Rule::NoneNamed,
+                },
+                deep: false,
             },
             trace: true,
             profile: None,
@@ -372,10 +427,13 @@ const COMMANDS: &[(&[&str], Command)] = &[
         &["s66", "order", "--workers", "1", "--nodes", "0"],
         Command::Order {
             cut: false,
-            options: Options {
-                workers: 1,
-                nodes: 0,
-                rule: Rule::NoneNamed,
+            strategy: Strategy {
+                search: Options {
+                    workers: 1,
+                    nodes: 0,
+                    rule: Rule::NoneNamed,
+                },
+                deep: false,
             },
             trace: false,
             profile: None,
@@ -385,10 +443,13 @@ const COMMANDS: &[(&[&str], Command)] = &[
         &["s66", "order", "--nodes=1000000", "--workers=16", "--trace"],
         Command::Order {
             cut: false,
-            options: Options {
-                workers: 16,
-                nodes: 1_000_000,
-                rule: Rule::NoneNamed,
+            strategy: Strategy {
+                search: Options {
+                    workers: 16,
+                    nodes: 1_000_000,
+                    rule: Rule::NoneNamed,
+                },
+                deep: false,
             },
             trace: true,
             profile: None,
@@ -398,10 +459,13 @@ const COMMANDS: &[(&[&str], Command)] = &[
         &["s66", "order", "--dominate"],
         Command::Order {
             cut: false,
-            options: Options {
-                workers: 4,
-                nodes: 100_000,
-                rule: Rule::WrittenEarlier,
+            strategy: Strategy {
+                search: Options {
+                    workers: 4,
+                    nodes: 100_000,
+                    rule: Rule::WrittenEarlier,
+                },
+                deep: false,
             },
             trace: false,
             profile: None,
@@ -411,10 +475,13 @@ const COMMANDS: &[(&[&str], Command)] = &[
         &["s66", "order", "--trace", "--dominate-tree", "--nodes", "8"],
         Command::Order {
             cut: false,
-            options: Options {
-                workers: 4,
-                nodes: 8,
-                rule: Rule::ClampedStanding,
+            strategy: Strategy {
+                search: Options {
+                    workers: 4,
+                    nodes: 8,
+                    rule: Rule::ClampedStanding,
+                },
+                deep: false,
             },
             trace: true,
             profile: None,
@@ -424,10 +491,13 @@ const COMMANDS: &[(&[&str], Command)] = &[
         &["s66", "prove", "--dominate", "--profile=--dominate-tree"],
         Command::Prove {
             cut: false,
-            options: Options {
-                workers: 4,
-                nodes: 100_000,
-                rule: Rule::WrittenEarlier,
+            strategy: Strategy {
+                search: Options {
+                    workers: 4,
+                    nodes: 100_000,
+                    rule: Rule::WrittenEarlier,
+                },
+                deep: false,
             },
             profile: Some("--dominate-tree"),
         },
@@ -436,10 +506,13 @@ const COMMANDS: &[(&[&str], Command)] = &[
         &["s66", "prove", "--dominate-tree"],
         Command::Prove {
             cut: false,
-            options: Options {
-                workers: 4,
-                nodes: 100_000,
-                rule: Rule::ClampedStanding,
+            strategy: Strategy {
+                search: Options {
+                    workers: 4,
+                    nodes: 100_000,
+                    rule: Rule::ClampedStanding,
+                },
+                deep: false,
             },
             profile: None,
         },

@@ -4,6 +4,9 @@ use crate::running::{CHECK, ORDER, ORDER_TRACE};
 const COMMENT: &str =
     "*A COMMENT OF TWO HUNDRED BYTES A COMMENT OF TWO HUNDRED BYTES A COMMENT OF TWO HUNDRED BYTES A COMMENT OF TWO HUNDRED BYTES A COMMENT OF TWO HUNDRED BYTES A COMMENT OF TWO HUNDRED BYTES A COMMENT OF \n";
 
+/// Two divides in the only unit, with what reads or replaces their results: 29 minor cycles each, and every order keeps them so.
+const TWO_DIVIDES: &str = "  FX1 X2/X3\n  FX4 X1+X5\n  FX1 X5/X6\n  FX6 X1*X2\n";
+
 pub(crate) const ROWS: &[Row] = &[
     ("empty input", ORDER, "", 0, ""),
     ("empty input", &["s66", "prove"], "", 0, ""),
@@ -35,6 +38,61 @@ pub(crate) const ROWS: &[Row] = &[
         ONE_LOAD,
         0,
         "* BLOCK 1 COUNT 3 SOURCE 16 TIME 12 BEST\n          SA1 A1+B1\n          BX7 X2\n          BX6 X1\n",
+    ),
+    (
+        "two divides and what waits for them: the search has no split, and facts need none",
+        &[
+            "s66",
+            "order",
+            "--workers",
+            "1",
+            "--deep",
+            "--nodes",
+            "0",
+            "--trace",
+        ],
+        TWO_DIVIDES,
+        0,
+        "* BLOCK 1 COUNT 4 SOURCE 70 TIME 70 BEST\n* SPLITS 0\n          FX1 X2/X3\n          FX4 X1+X5\n          FX1 X5/X6\n          FX6 X1*X2\n",
+    ),
+    (
+        "its certificate, whose only leaf is by the longest paths",
+        &["s66", "prove", "--workers", "1", "--deep", "--nodes", "0"],
+        TWO_DIVIDES,
+        0,
+        "S66 CERTIFICATE 4\nPROFILE 3 3 4 4 3 10 29 8 3 8 1 1 1 1 2 1 2\nBLOCK 4\nI FX1 X2/X3\nI FX4 X1+X5\nI FX1 X5/X6\nI FX6 X1*X2\nTIME 70\nBOUND 70\nORDER 1 2 3 4\nE 1\nEND\n",
+    ),
+    (
+        "the same without facts",
+        &[
+            "s66",
+            "order",
+            "--workers",
+            "1",
+            "--dominate-tree",
+            "--nodes",
+            "0",
+            "--trace",
+        ],
+        TWO_DIVIDES,
+        7,
+        "* BLOCK 1 COUNT 4 SOURCE 70 TIME 70 AT LEAST 69\n* SPLITS 0\n          FX1 X2/X3\n          FX4 X1+X5\n          FX1 X5/X6\n          FX6 X1*X2\n",
+    ),
+    (
+        "three multiplies, of which facts and no split show less than a search",
+        &[
+            "s66",
+            "order",
+            "--workers",
+            "1",
+            "--deep",
+            "--nodes",
+            "0",
+            "--trace",
+        ],
+        THREE_MULTIPLIES,
+        7,
+        "* BLOCK 1 COUNT 3 SOURCE 22 TIME 22 AT LEAST 17\n* SPLITS 0\n          FX1 X2*X3\n          FX4 X5*X6\n          FX0 X7*X7\n",
     ),
     (
         "three multiplies",
