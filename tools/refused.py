@@ -54,6 +54,8 @@ def searches():
         yield [*words, "--workers", "1"], SOURCE, {0}
         yield [*words, "--workers", "2"], FIVE, {0}
     yield ["order", "--workers", "2", "--nodes", "0"], FIVE, {7}
+    yield ["order", "--deep", "--trace", "--workers", "1", "--nodes", "0"], FIVE, {0, 7}
+    yield ["prove", "--deep", "--workers", "1", "--nodes", "20"], FIVE, {0, 7}
     for words in (["order", "--trace", "--workers", "2"], ["order", "--workers", "4"], ["sum", "--workers", "16"]):
         yield [*words, "--nodes", "2100"], SEVEN, {7}
 
