@@ -8,7 +8,7 @@ use s66_device::{Failed, OverRead, Sink};
 use s66_isa::Profile;
 use s66_model::{Options, Rule};
 use s66_pool::{FIRST_SPLITS, Free, run};
-use s66_program::{Command, Fault, document_of, run_command};
+use s66_program::{Command, Fault, Strategy, document_of, run_command};
 use s66_test_blocks::{MULTIPLIES, SEVEN_MULTIPLIES};
 use std::alloc::{AllocError, Global};
 use std::sync::Wait;
@@ -84,7 +84,10 @@ impl Sink for Counts {
 pub fn summed<R: AllocGlobal + Threads + Wait + Sync>(rt: &R) -> Result<Answered, AllocError> {
     let command = Command::Sum {
         cut: false,
-        options: OPTIONS,
+        strategy: Strategy {
+            search: OPTIONS,
+            deep: false,
+        },
         trace: false,
         profile: None,
     };
