@@ -113,7 +113,7 @@ class Row:
         seen, self.counts = runner.run(command, given)
         self.status, self.output, self.told = seen
         # a worker that ends early, or comes later than another, leaves other names for what is dominated
-        self.varies = command[1:2] == ["prove"] and any("dominate" in word for word in command)
+        self.varies = command[1:2] == ["prove"] and any("dominate" in word or word == "--deep" for word in command)
         self.meant = self.meaning(seen)
         self.ample = {"ample": lambda seen: self.meaning(seen) == self.meant}
         if self.status not in statuses:
