@@ -35,7 +35,7 @@ fn timed_below(block: &Block, profile: &Profile, numbers: &[u8], best: u32) -> O
 /// an order, but what is returned is legal and exactly timed, whatever the tails.
 ///
 /// Each of the `width` beginnings of a length costs a push, a floor and an undo for each number that is ready after it, and the
-/// sorting of these; 128 instructions and a width of 64 take some hundredths of a second. `Err` is out of memory.
+/// sorting of these. `Err` is out of memory.
 pub fn beam_below(
     alloc: Global,
     block: &Block,

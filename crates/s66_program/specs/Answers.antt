@@ -1,4 +1,4 @@
--- To be believed: what is answered for a block: what a search of its orders finds, or with `--deep` what facts show that all orders below a bound have in common.
+-- To be believed: what is answered for a block: what a search of its orders finds, or with `--deep` what is shown by facts that all orders below a bound have in common.
 use Rattle.std.specs.Prelude.{ℕ, ◌≡◌, ◌≤◌, ◌⊎◌, if◌then◌else◌, true, List, [], ◌∷◌, map, Option, None, Some}
 use Rattle.std.specs.Option.{is_some}
 use Rattle.s66_isa.specs.declared.limits.TheConstants.{BLOCK_LIMIT}
@@ -20,8 +20,8 @@ use Rattle.s66_checker.specs.declared.verdict.Verdict.TheVariants.{Yes}
 use Rattle.s66_checker.specs.Verdict.{verdict}
 use Rattle.s66_command.specs.declared.strategy.Strategy.{Strategy}
 
--- an order, what it takes, what every order takes at least, how often a search split, and what shows the bound: fact lines, if there
--- are any, and a tree
+-- an order, what it takes, what every order takes at least, how often orders were split to find that, and what shows the bound: fact
+-- lines, if there are any, and a tree
 pub record Answer : Type 0 where
   pub order : List ℕ
   pub time : ℕ

@@ -33,7 +33,7 @@ pub struct ByFacts {
     document: Document,
     /// The total of the source order, in minor cycles.
     source: u32,
-    /// How often a search split, if one was needed.
+    /// How often orders were split: by the document's tree, or by the search that came before it.
     splits: u32,
 }
 
@@ -97,7 +97,7 @@ impl Found {
         }
     }
 
-    /// How often a search split.
+    /// How often orders were split to find it.
     pub fn splits(&self) -> u32
         ensures { result ≡ (answer_in self.now).splits }
     {
@@ -133,7 +133,7 @@ impl Found {
     }
 }
 
-/// An order, what it takes and what the source order takes, in minor cycles, and how often a search split.
+/// An order, what it takes and what the source order takes, in minor cycles, and how often orders were split to find it.
 #[derive(Debug, Drop)]
 struct Candidate {
     order: Order,
