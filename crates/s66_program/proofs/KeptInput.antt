@@ -1,5 +1,5 @@
 -- What is kept of an input decides what becomes of it.
-use Rattle.std.proofs.Common.{◌≡◌, ◌≤◌, ℕ, true, List, [], ◌++◌, length, Option, None, Some, IfSome, Ok, Err, inl, inr, append_assoc, refl, ap, sym, subst, ◌∙◌}
+use Rattle.std.proofs.Common.{◌≡◌, ◌≤◌, ℕ, true, List, [], ◌++◌, length, Option, None, Some, IfSome, Ok, Err, inl, inr, ap, sym, subst, ◌∙◌}
 use Rattle.std.proofs.lemmas.List.{append-nil}
 use Rattle.s66_isa.specs.declared.profile.Profile.{Profile}
 use Rattle.s66_line.specs.Block.{Block}
@@ -8,24 +8,13 @@ use Rattle.s66_source.specs.declared.error.SourceError.{SourceError}
 use Rattle.s66_command.specs.declared.command.Command.{Command}
 use Rattle.s66_command.specs.declared.command.Command.TheVariants.{Time, Deps, Chart, Why, Page, Order, Prove, Check, Lint, Sum}
 use Rattle.s66_program.specs.declared.limits.TheConstants.{SOURCE_FRONT}
-use Rattle.s66_program.specs.declared.outcome.Fault.{Fault}
-use Rattle.s66_program.specs.declared.outcome.Fault.TheVariants as fault
-use Rattle.s66_program.specs.declared.outcome.Status.{Status}
-use Rattle.s66_program.specs.Kept.{IsFull, IsKeptInput, Puts}
+use Rattle.s66_outcome.specs.declared.outcome.Fault.{Fault}
+use Rattle.s66_outcome.specs.declared.outcome.Fault.TheVariants as fault
+use Rattle.s66_outcome.specs.declared.outcome.Status.{Status}
+use Rattle.s66_outcome.specs.Kept.{IsFull, IsKeptInput}
 use Rattle.s66_program.specs.Output.{IsOutput, is_cut, reads_documents, reads_source, source_in}
 use Rattle.s66_program.specs.Run.{IsRefusal}
 use Rattle.s66_program.proofs.Fronts.{front-refused}
-
-pub kept-none : (most : Option ℕ) → IsKeptInput most [] []
-kept-none most = ([], refl, inl refl)
-
-pub kept-more : (most : Option ℕ) (input bytes old new : List ℕ) → IsKeptInput most input old → Puts most bytes old new → IsKeptInput most (input ++ bytes) new
-kept-more most input bytes old new (rest, is, inl none) (inl (room, more)) =
-    let whole : input ≡ old = is ∙ ap (λ r. old ++ r) none ∙ append-nil old in
-    ([], ap (λ l. l ++ bytes) whole ∙ sym more ∙ sym (append-nil new), inl refl)
-kept-more most input bytes old new (rest, is, inr full) (inl (room, more)) = absurd (room full)
-kept-more most input bytes old new (rest, is, which) (inr (full, same)) =
-    (rest ++ bytes, ap (λ l. l ++ bytes) is ∙ append_assoc old rest bytes ∙ ap (λ l. l ++ (rest ++ bytes)) (sym same), inr (subst (IsFull most) (sym same) full))
 
 -- the most that a command needs of a source, and None of another input
 abbrev pub IsMost : Command → Option ℕ → Type 0

@@ -3,10 +3,10 @@ use Rattle.std.specs.Prelude.{ℕ, ◌≡◌, ◌==◌, Bool, List, ◌++◌}
 use Rattle.s66_isa.specs.declared.profile.Profile.{Profile}
 use Rattle.s66_line.specs.Block.{Block}
 use Rattle.s66_command.specs.declared.strategy.Strategy.{Strategy}
-use Rattle.s66_program.specs.Answers.{Answer, AreAnswers, IsAnswer}
-use Rattle.s66_program.specs.declared.outcome.Status.{Status}
-use Rattle.s66_program.specs.OrderText.{status_of}
-use Rattle.s66_program.specs.WhyText.{answer_lines, lines_of_answers}
+use Rattle.s66_text.specs.Answers.{Answer, AreAnswers, IsAnswer}
+use Rattle.s66_outcome.specs.declared.outcome.Status.{Status}
+use Rattle.s66_text.specs.OrderText.{status_of}
+use Rattle.s66_text.specs.WhyText.{answer_lines, lines_of_answers}
 
 -- the lines of an answer to the n-th block were appended, and the answer is best or not
 abbrev pub IsExplained : Strategy → Profile → ℕ → Block → (old new : List ℕ) → Bool → Type 0

@@ -4,10 +4,10 @@ use Rattle.s66_isa.specs.declared.profile.Profile.{Profile}
 use Rattle.s66_line.specs.Block.{Block}
 use Rattle.s66_command.specs.declared.strategy.Strategy.{Strategy}
 use Rattle.s66_page.specs.Found.{Found}
-use Rattle.s66_program.specs.Answers.{Answer, AreAnswers, IsAnswer}
-use Rattle.s66_program.specs.declared.outcome.Status.{Status}
-use Rattle.s66_program.specs.OrderText.{status_of}
-use Rattle.s66_program.specs.PageText.{all_found, found_by}
+use Rattle.s66_text.specs.Answers.{Answer, AreAnswers, IsAnswer}
+use Rattle.s66_outcome.specs.declared.outcome.Status.{Status}
+use Rattle.s66_text.specs.OrderText.{status_of}
+use Rattle.s66_text.specs.PageText.{all_found, found_by}
 
 -- what is found by an answer to the block was appended, and the answer is best or not
 abbrev pub IsFound : Strategy → Profile → Block → (old new : List Found) → Bool → Type 0

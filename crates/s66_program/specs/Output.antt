@@ -1,32 +1,27 @@
 -- To be believed: what each command writes for what it reads, and how it ends.
-use Rattle.std.specs.Prelude.{ℕ, ◌+◌, ◌≡◌, ◌≤◌, Bool, true, false, List, [], ◌∷◌, ◌++◌, Option, None, Some, Ok, IfSome}
+use Rattle.std.specs.Prelude.{ℕ, ◌≡◌, ◌≤◌, Bool, true, false, List, Option, None, Some, IfSome}
 use Rattle.s66_isa.specs.declared.profile.Profile.{Profile}
 use Rattle.s66_isa.specs.Table.{standard}
 use Rattle.s66_model.specs.declared.limits.TheConstants.{BUDGET_LIMIT}
-use Rattle.s66_line.specs.Block.{Block}
 use Rattle.s66_source.specs.LeftAlone.{Reading}
-use Rattle.s66_source.specs.Source.{source_of}
 use Rattle.s66_model.specs.declared.limits.TheConstants.{WORKERS_LIMIT}
 use Rattle.s66_command.specs.declared.strategy.Strategy.{Strategy}
 use Rattle.s66_profile.specs.ProfileText.{profile_in_text}
 use Rattle.s66_command.specs.declared.command.Command.{Command}
 use Rattle.s66_command.specs.declared.command.Command.TheVariants.{Time, Deps, Chart, Why, Page, Order, Prove, Check, Lint, Sum}
 use Rattle.s66_command.specs.Profile.{profile_text}
-use Rattle.s66_program.specs.declared.outcome.Status.{Status}
-use Rattle.s66_program.specs.declared.outcome.Status.TheVariants.{Done}
-use Rattle.s66_program.specs.declared.output.Listing.{Listing}
-use Rattle.s66_program.specs.declared.output.Listing.TheVariants as listing
-use Rattle.s66_program.specs.TimeText.{time_lines}
-use Rattle.s66_program.specs.DepsText.{deps_lines}
-use Rattle.s66_program.specs.ChartText.{chart_lines}
-use Rattle.s66_program.specs.Shown.{before, shown}
-use Rattle.s66_program.specs.WhyText.{IsWhyOutput, why_lines}
-use Rattle.s66_program.specs.OrderText.{IsOrderOutput}
-use Rattle.s66_program.specs.PageText.{IsPageOutput}
-use Rattle.s66_program.specs.ProveText.{IsProveOutput}
-use Rattle.s66_program.specs.CheckText.{IsCheckOutput}
-use Rattle.s66_program.specs.LintText.{IsLintOutput}
-use Rattle.s66_program.specs.SumText.{IsSumOutput}
+use Rattle.s66_outcome.specs.declared.outcome.Status.{Status}
+use Rattle.s66_outcome.specs.declared.outcome.Status.TheVariants.{Done}
+use Rattle.s66_text.specs.declared.listing.Listing.{Listing}
+use Rattle.s66_text.specs.declared.listing.Listing.TheVariants as listing
+use Rattle.s66_text.specs.Listing.{IsListing}
+use Rattle.s66_text.specs.WhyText.{IsWhyOutput}
+use Rattle.s66_text.specs.OrderText.{IsOrderOutput}
+use Rattle.s66_text.specs.PageText.{IsPageOutput}
+use Rattle.s66_text.specs.ProveText.{IsProveOutput}
+use Rattle.s66_text.specs.CheckText.{IsCheckOutput}
+use Rattle.s66_text.specs.LintText.{IsLintOutput}
+use Rattle.s66_text.specs.SumText.{IsSumOutput}
 
 -- how many workers search, and the most splits of a search
 abbrev pub IsSearchWithin : (workers nodes : ℕ) → Type 0
@@ -56,30 +51,12 @@ profile_asked (Some text) = profile_in_text text
 abbrev pub IsUnder : Command → Profile → Type 0
 IsUnder command p = profile_asked (profile_text command) ≡ Some p
 
--- LISTINGS
-
--- what a listing under a profile has of the n-th block, from 1
-abbrev pub block_lines : Profile → Listing → ℕ → Block → List ℕ
-block_lines p (listing.Times trace) n block = time_lines p trace n block
-block_lines p listing.Dependences n block = deps_lines n block
-block_lines p (listing.Chart texts) n block = chart_lines p texts n block
-block_lines p listing.Why n block = why_lines p n block
-
--- of these blocks, before which n blocks come
-abbrev pub lines_of_blocks : Profile → Listing → ℕ → List Block → List ℕ
-lines_of_blocks p l n [] = []
-lines_of_blocks p l n (block ∷ blocks) = block_lines p l (n + 1) block ++ lines_of_blocks p l (n + 1) blocks
-
--- the listing of the source's blocks that are shown
-abbrev pub IsListing : Profile → Listing → (only : Option ℕ) (source : Reading) (text : List ℕ) → Type 0
-IsListing p l only source text = (blocks : List Block) × (source_of source ≡ Ok blocks) × (text ≡ lines_of_blocks p l (before only) (shown only blocks))
+-- COMMANDS
 
 -- what `why` writes of the blocks that are shown: as they were written, or in the best orders that are found so
 abbrev pub IsWaitsOutput : Profile → Option Strategy → (only : Option ℕ) (source : Reading) (text : List ℕ) → Status → Type 0
 IsWaitsOutput p None only source text status = IsListing p listing.Why only source text × (status ≡ Done)
 IsWaitsOutput p (Some strategy) only source text status = IsWhyOutput strategy p only source text status
-
--- COMMANDS
 
 -- whether a command reads with `--cut`
 abbrev pub is_cut : Command → Bool

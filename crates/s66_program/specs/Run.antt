@@ -7,10 +7,10 @@ use Rattle.s66_source.specs.Source.{source_of}
 use Rattle.s66_cert.specs.Faults.{IsFault}
 use Rattle.s66_command.specs.declared.command.Command.{Command}
 use Rattle.s66_command.specs.Profile.{profile_text}
-use Rattle.s66_program.specs.declared.outcome.Fault.{Fault}
-use Rattle.s66_program.specs.declared.outcome.Fault.TheVariants as fault
-use Rattle.s66_program.specs.declared.outcome.Status.{Status}
-use Rattle.s66_program.specs.Device.{ReadFails, ReadsAll, ReadsSome}
+use Rattle.s66_outcome.specs.declared.outcome.Fault.{Fault}
+use Rattle.s66_outcome.specs.declared.outcome.Fault.TheVariants as fault
+use Rattle.s66_outcome.specs.declared.outcome.Status.{Status}
+use Rattle.s66_outcome.specs.Device.{ReadFails, ReadsAll, ReadsSome}
 use Rattle.s66_program.specs.Output.{IsOutput, IsUnder, profile_asked, reads_documents, reads_source, source_in}
 
 -- why a command writes nothing for an input
@@ -53,14 +53,3 @@ abbrev pub IsOutcome : Command → Reader → Reader → Writer → Writer → R
 IsOutcome command reader reader' writer writer' result =
     ((p : Profile) × IsUnder command p × IsOutcomeUnder p command reader reader' writer writer' result)
     ⊎ ((f : Fault) × (result ≡ Err f) × IsProfileFault command f × (reader' ≡ reader) × IsUntouched writer writer')
-
--- USED WITHIN THE CRATE ALONE
-
--- why reading to the end fails
-abbrev pub IsReadFault : Reader → Reader → Fault → Type 0
-IsReadFault old new fault.Read = ReadFails old new
-IsReadFault old new fault.Memory = ReadsSome old new
-IsReadFault old new (fault.Source e) = ⊥
-IsReadFault old new (fault.Document e) = ⊥
-IsReadFault old new fault.Profile = ⊥
-IsReadFault old new fault.Write = ⊥

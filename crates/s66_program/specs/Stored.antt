@@ -19,7 +19,7 @@ use Rattle.s66_program.specs.declared.answers.Found.TheVariants.{Searched, Shown
 use Rattle.s66_program.specs.declared.answers.ByFacts.{ByFacts}
 use Rattle.s66_program.specs.declared.answers.Candidate.{Candidate}
 use Rattle.s66_program.specs.declared.documents.Shows.{Shows}
-use Rattle.s66_program.specs.Answers.{Answer, IsAnswer, document_under, problem_of, searched, texts_of}
+use Rattle.s66_text.specs.Answers.{Answer, IsAnswer, document_under, problem_of, searched, texts_of}
 
 -- FACT LINES
 

@@ -5,7 +5,7 @@ ghost use Rattle.s66_line.specs.Block.{instrs_of};
 ghost use Rattle.s66_cert.specs.declared.limits.TheConstants.{TIME_LIMIT};
 ghost use Rattle.s66_deep.specs.Orders.{IsLooked};
 ghost use Rattle.s66_program.specs.declared.answers.Found.TheVariants.{Searched};
-ghost use Rattle.s66_program.specs.Answers.{problem_of};
+ghost use Rattle.s66_text.specs.Answers.{problem_of};
 ghost use Rattle.s66_program.specs.Output.{IsSearchWithin};
 ghost use Rattle.s66_program.specs.Stored.{IsFit, IsFor, IsShownBy};
 
@@ -53,7 +53,7 @@ impl Found {
     ghost use Rattle.s66_model.specs.Answer.{source_time};
     ghost use Rattle.s66_cert.specs.DocumentParts.{document_of};
     ghost use Rattle.s66_command.specs.declared.strategy.Strategy.{Strategy as StrategyOf};
-    ghost use Rattle.s66_program.specs.Answers.{IsAnswer, document_under, problem_of};
+    ghost use Rattle.s66_text.specs.Answers.{IsAnswer, document_under, problem_of};
     ghost use Rattle.s66_program.specs.Stored.{IsFor, answer_in};
 
     /// The order.

@@ -5,33 +5,19 @@ ghost use Rattle.s66_ledger.specs.Answers.{answer_of};
 ghost use Rattle.s66_model.specs.declared.rule.Rule.TheVariants.{NoneNamed};
 ghost use Rattle.s66_tree.specs.Lines.{has_dominated_line};
 ghost use Rattle.s66_cert.specs.DocumentParts.{document_of};
-ghost use Rattle.s66_program.specs.Answers.{document_under, searched, texts_of};
+ghost use Rattle.s66_text.specs.Answers.{document_under, searched};
 ghost use Rattle.s66_program.specs.Stored.{IsAccepted, IsFit, parts_by};
-ghost use Rattle.s66_program.specs.ProvedAnswers.{IsSpelled};
 
 use arrayvec::ArrayVec;
-use s66_cert::{Claim, Document, FactLine, InstructionText, Tree};
+use s66_cert::{Claim, Document, FactLine, Tree};
 use s66_checker::{Verdict, verify};
 use s66_dep::Order;
 use s66_isa::{BLOCK_LIMIT, Profile};
 use s66_ledger::Answer;
 use s66_line::Block;
 use s66_model::{BUDGET_LIMIT, Rule};
+use s66_text::texts_of;
 use std::alloc::{AllocError, Global};
-
-/// The instructions of a block with their texts.
-fn texts_of(alloc: Global, block: &Block) -> Result<Vec<InstructionText>, AllocError>
-    ensures texts { IfOk result (λ texts. texts.items ≡ texts_of block.now) }
-    ensures spelled { IfOk result (λ texts. IsSpelled block.now) }
-{
-    let mut texts = Vec::new(alloc);
-    for position in 0..block.count() {
-        let bytes = block.text(position + 1);
-        let instr = block.instr(position + 1);
-        texts.push(InstructionText::new(alloc, bytes.as_slice(), instr)?)?;
-    }
-    Ok(texts)
-}
 
 /// The rule of a document with this tree: that of its dominated leaves if it has some, else `NoneNamed`.
 fn rule_of(rule: Rule, tree: &Tree) -> Rule

@@ -2,12 +2,6 @@ use s66_command::BLOCK_NUMBER_LIMIT;
 use s66_line::LINE_BYTES_LIMIT;
 use s66_source::SOURCE_LINES_LIMIT;
 
-/// The most calls that reading an input makes.
-pub const FEED_CALLS: u32 = 16_777_216;
-
-/// How many bytes each of these calls has room for.
-pub const FEED_ROOM: usize = 65_536;
-
 /// A text of this many bytes has at least a line too many, or one that is too long.
 pub const SOURCE_FRONT: usize = (LINE_BYTES_LIMIT + 1) * (SOURCE_LINES_LIMIT as usize + 1);
 

@@ -1,17 +1,16 @@
-ghost use Rattle.std.specs.Prelude.{◌≡◌, if◌then◌else◌, IfOk};
-ghost use Rattle.s66_program.specs.declared.outcome.Status.TheVariants.{Done, Bounded};
-ghost use Rattle.s66_program.specs.OrderText.{IsOrderOutput};
+ghost use Rattle.std.specs.Prelude.{IfOk};
+ghost use Rattle.s66_text.specs.OrderText.{IsOrderOutput};
 ghost use Rattle.s66_program.specs.Output.{IsSearchWithin};
-ghost use Rattle.s66_program.specs.PlacedAnswers.{AreAllPlaced, IsPlacedAnswer, tell_best};
+ghost use Rattle.s66_text.specs.PlacedAnswers.{AreAllPlaced, IsPlacedAnswer};
 
 use crate::answers::answer_to;
-use crate::observer::Observer;
-use crate::outcome::{Output, Status};
 use arrayvec::ArrayVec;
 use s66_command::Strategy;
 use s66_isa::Profile;
 use s66_line::Block;
+use s66_outcome::{Observer, Output};
 use s66_source::{Placed, Source, print_source};
+use s66_text::status_of;
 use std::alloc::AllocError;
 use std::sync::Wait;
 use std::thread::Threads;
@@ -58,29 +57,6 @@ pub(crate) fn search_all<R: AllocGlobal + Threads + Wait + Sync, O: Observer>(
         found.push(search(rt, block, profile, strategy, trace)?)?;
     }
     Ok(found)
-}
-
-/// Done if all orders are best.
-pub(crate) fn status_by(all_best: bool) -> Status
-    ensures { result ≡ (if all_best then Done else Bounded) }
-{
-    if all_best {
-        Status::Done
-    } else {
-        Status::Bounded
-    }
-}
-
-/// Done if each order is best.
-pub(crate) fn status_of(found: &[Placed]) -> Status
-    ensures { result ≡ (if tell_best found.now then Done else Bounded) }
-{
-    for answer in found {
-        if answer.bound != answer.time {
-            return Status::Bounded;
-        }
-    }
-    Status::Done
 }
 
 /// A source with each block in the best order that a search finds under a profile.

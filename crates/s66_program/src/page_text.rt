@@ -1,18 +1,16 @@
 ghost use Rattle.std.specs.Prelude.{◌≡◌, IfOk};
 ghost use Rattle.s66_program.specs.FoundAnswers.{AreFound, IsFound};
 ghost use Rattle.s66_program.specs.Output.{IsSearchWithin};
-ghost use Rattle.s66_program.specs.PageText.{IsPageOutput};
+ghost use Rattle.s66_text.specs.PageText.{IsPageOutput};
 
 use crate::answers::answer_to;
-use crate::observer::Observer;
-use crate::order_text::status_by;
-use crate::outcome::{Output, Status};
-use crate::shown::{blocks_before, shown};
 use s66_command::Strategy;
 use s66_isa::Profile;
 use s66_line::Block;
+use s66_outcome::{Observer, Output, Status};
 use s66_page::{Found, push_page};
 use s66_source::Source;
+use s66_text::{blocks_before, shown, status_by};
 use s66_time::Timer;
 use std::alloc::AllocError;
 use std::sync::Wait;

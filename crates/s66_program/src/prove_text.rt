@@ -1,37 +1,18 @@
-ghost use Rattle.std.specs.Prelude.{◌≡◌, ◌++◌, IfOk, OnOk};
-ghost use Rattle.s66_cert.specs.Document.{document_text};
-ghost use Rattle.s66_cert.specs.DocumentParts.{document_of};
+ghost use Rattle.std.specs.Prelude.{IfOk};
 ghost use Rattle.s66_program.specs.Output.{IsSearchWithin};
-ghost use Rattle.s66_program.specs.ProveText.{IsProveOutput};
-ghost use Rattle.s66_program.specs.ProvedAnswers.{AreProved, IsProved};
+ghost use Rattle.s66_text.specs.ProveText.{IsProveOutput};
+ghost use Rattle.s66_text.specs.ProvedAnswers.{AreProved, IsProved};
 
 use crate::answers::answer_to;
-use crate::observer::Observer;
-use crate::order_text::status_by;
-use crate::outcome::Output;
-use s66_cert::{Document, print};
 use s66_command::Strategy;
-use s66_device::OverWrite;
 use s66_isa::Profile;
 use s66_line::Block;
+use s66_outcome::{Observer, Output};
 use s66_source::Source;
-use std::alloc::{AllocError, Global};
-use std::mem;
+use s66_text::{push_document, status_by};
+use std::alloc::AllocError;
 use std::sync::Wait;
 use std::thread::Threads;
-
-/// The text of a document.
-fn push_document(alloc: Global, out: &mut Vec<u8>, document: &Document) -> Result<(), AllocError>
-    ensures { OnOk result (out.new.items ≡ out.old.items ++ document_text (document_of document.now)) }
-{
-    let mut page = OverWrite::new(mem::replace(out, Vec::new(alloc)));
-    let printed = print(document, &mut page);
-    *out = page.into_inner();
-    match printed {
-        Ok(()) => Ok(()),
-        Err(_) => Err(AllocError),
-    }
-}
 
 /// The document of an answer that a search of the block's orders under a profile finds, and whether the answer is best.
 fn push_proof<R: AllocGlobal + Threads + Wait + Sync>(

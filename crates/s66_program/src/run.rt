@@ -1,19 +1,16 @@
-ghost use Rattle.std.specs.Prelude.{ℕ, List, true, ◌≡◌, ◌-◌, ◌^◌, ◌<◌, ◌↔◌, length, vec_len, IfOk, IfErr, IfSome, IsTrue, OnOk};
-ghost use Rattle.s66_program.specs.Device.{ReadsAll};
-ghost use Rattle.s66_program.specs.Kept.{IsFull, IsKeptInput, Puts};
+ghost use Rattle.std.specs.Prelude.{true, ◌≡◌, ◌-◌, ◌^◌, ◌<◌, IfOk, IfErr, IfSome};
 ghost use Rattle.s66_program.specs.Output.{IsUnder, IsWithinLimits, reads_source};
 ghost use Rattle.s66_program.specs.declared.limits.TheConstants.{SOURCE_FRONT};
-ghost use Rattle.s66_program.specs.Run.{IsOutcome, IsOutcomeUnder, IsProfileFault, IsReadFault};
+ghost use Rattle.s66_program.specs.Run.{IsOutcome, IsOutcomeUnder, IsProfileFault};
 
-use crate::limits::{FEED_CALLS, FEED_ROOM, SOURCE_FRONT};
-use crate::observer::{Observer, Silent};
-use crate::outcome::{Fault, Status};
+use crate::limits::SOURCE_FRONT;
 use crate::output::output_for;
 use s66_command::Command;
 use s66_device::{Feed, Sink, write_all};
 use s66_isa::Profile;
+use s66_outcome::{Fault, Observer, Silent, Status, read_all};
 use s66_profile::read_profile;
-use std::alloc::{AllocError, Global};
+use std::alloc::Global;
 use std::sync::Wait;
 use std::thread::Threads;
 
@@ -26,13 +23,6 @@ fn profile_of(alloc: Global, command: Command) -> Result<Profile, Fault>
         Some(text) => Ok(read_profile(alloc, text)?),
         None => Ok(Profile::standard()),
     }
-}
-
-/// Room for what a call reads.
-fn room(alloc: Global) -> Result<Vec<u8>, AllocError>
-    ensures { IfOk result (λ buffer. vec_len buffer ≡ FEED_ROOM) }
-{
-    vec![in alloc; 0u8; FEED_ROOM]
 }
 
 /// How many bytes of an input a command needs at most; None if it needs all. A source of more bytes is refused, for a reason that
@@ -51,64 +41,6 @@ fn most_kept(command: Command) -> Option<usize>
         | Command::Prove { .. }
         | Command::Sum { .. } => Some(SOURCE_FRONT),
     }
-}
-
-/// Whether no more need be kept.
-fn is_full(held: &[u8], most: Option<usize>) -> bool
-    ensures { IsTrue result ↔ IsFull most held.now }
-{
-    match most {
-        Some(most) => most <= held.len(),
-        None => false,
-    }
-}
-
-/// Appends bytes to what is kept, unless that is full.
-fn put(held: &mut Vec<u8>, bytes: &[u8], most: Option<usize>) -> Result<(), AllocError>
-    ensures { OnOk result (Puts most bytes.now held.old.items held.new.items) }
-{
-    if is_full(held.as_slice(), most) {
-        return Ok(());
-    }
-    held.extend_from_slice(bytes)
-}
-
-/// Reads to the end, by `FEED_CALLS` calls at most, each with the whole buffer for room, and keeps the input, or a front of it that is
-/// full.
-fn read_through<F: Feed>(
-    alloc: Global,
-    reader: &mut F,
-    buffer: &mut [u8],
-    most: Option<usize>,
-) -> Result<Vec<u8>, Fault>
-    requires calls { (F.seen reader.old).failures < 2 ^ 64 - 1 }
-    requires room { length buffer.old ≡ FEED_ROOM }
-    ensures ok { IfOk result (λ held. (input : List ℕ) × ReadsAll (F.seen reader.old) (F.seen reader.new) input × IsKeptInput most input held.items) }
-    ensures err { IfErr result (IsReadFault (F.seen reader.old) (F.seen reader.new)) }
-{
-    let mut held = Vec::new(alloc);
-    'calls: for _ in 0..FEED_CALLS {
-        match reader.feed(buffer) {
-            Ok(count) => {
-                if count == 0 {
-                    return Ok(held);
-                }
-                put(&mut held, &buffer[..count], most)?;
-            }
-            Err(_) => return Err(Fault::Read),
-        }
-    }
-    Err(Fault::Read)
-}
-
-/// Reads to the end, and keeps what the command needs.
-fn read_all<F: Feed>(alloc: Global, reader: &mut F, most: Option<usize>) -> Result<Vec<u8>, Fault>
-    requires { (F.seen reader.old).failures < 2 ^ 64 - 1 }
-    ensures ok { IfOk result (λ held. (input : List ℕ) × ReadsAll (F.seen reader.old) (F.seen reader.new) input × IsKeptInput most input held.items) }
-    ensures err { IfErr result (IsReadFault (F.seen reader.old) (F.seen reader.new)) }
-{
-    let mut buffer = room(alloc)?;
-    read_through(alloc, reader, &mut buffer, most)
 }
 
 /// Runs a command under a profile: reads to the end, builds all text, and only then writes.

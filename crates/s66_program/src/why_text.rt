@@ -1,51 +1,19 @@
-ghost use Rattle.std.specs.Prelude.{◌≡◌, ◌<◌, ◌^◌, ◌++◌, IfOk, OnOk};
+ghost use Rattle.std.specs.Prelude.{◌≡◌, ◌<◌, ◌^◌, IfOk};
 ghost use Rattle.s66_program.specs.Explained.{AreExplained, IsExplained};
 ghost use Rattle.s66_program.specs.Output.{IsSearchWithin};
-ghost use Rattle.s66_program.specs.WhyText.{IsWhyOutput, waits_lines, why_lines};
+ghost use Rattle.s66_text.specs.WhyText.{IsWhyOutput};
 
 use crate::answers::answer_to;
-use crate::chart_text::push_timed_line;
-use crate::observer::Observer;
-use crate::order_text::status_by;
-use crate::outcome::Output;
-use crate::shown::{blocks_before, shown};
 use s66_command::Strategy;
-use s66_dep::Order;
 use s66_isa::Profile;
 use s66_line::Block;
+use s66_outcome::{Observer, Output};
 use s66_source::Source;
-use s66_time::{Timed, Timer};
-use s66_why::push_why;
+use s66_text::{blocks_before, push_waits, shown, status_by};
+use s66_time::Timer;
 use std::alloc::AllocError;
 use std::sync::Wait;
 use std::thread::Threads;
-
-/// The lines of a block, whose number is from 1, in a timed order.
-fn push_waits(
-    out: &mut Vec<u8>,
-    number: usize,
-    block: &Block,
-    timed: &Timed,
-) -> Result<(), AllocError>
-    ensures { OnOk result (out.new.items ≡ out.old.items ++ waits_lines number block.now timed.now) }
-{
-    push_timed_line(out, number, block, timed)?;
-    push_why(out, timed)
-}
-
-/// The lines of a block, whose number is from 1, as it was written, under the timer's profile.
-pub fn push_why_lines(
-    out: &mut Vec<u8>,
-    timer: &mut Timer,
-    number: usize,
-    block: &Block,
-) -> Result<(), AllocError>
-    ensures profile { timer.new ≡ timer.old }
-    ensures lines { OnOk result (out.new.items ≡ out.old.items ++ why_lines timer.old number block.now) }
-{
-    let timed = timer.time(block, &Order::source(block));
-    push_waits(out, number, block, &timed)
-}
 
 /// The lines of a block, whose number is from 1, in the order that a search finds under the timer's profile. Returns whether that
 /// is best.

@@ -7,7 +7,7 @@ use Rattle.s66_model.specs.Tree.{splits}
 use Rattle.s66_cert.specs.DocumentParts.{Parts, tree_of_lines}
 use Rattle.s66_program.specs.declared.answers.Candidate.{Candidate}
 use Rattle.s66_program.specs.declared.documents.Shows.{Shows}
-use Rattle.s66_program.specs.Answers.{IsEnough, problem_of}
+use Rattle.s66_text.specs.Answers.{IsEnough, problem_of}
 use Rattle.s66_program.specs.Stored.{IsShownBy, claimed}
 use Rattle.s66_program.proofs.ByFacts.{IsCandidate, shown-claimed}
 use Rattle.s66_program.proofs.answers.answer_by.Goals as goal

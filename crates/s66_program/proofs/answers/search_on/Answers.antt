@@ -10,9 +10,9 @@ use Rattle.s66_model.proofs.LegalOrders.{legal-order}
 use Rattle.s66_ledger.specs.Answers.{answer_of}
 use Rattle.s66_cert.specs.DocumentParts.{Parts}
 use Rattle.s66_program.specs.declared.answers.Candidate.{Candidate}
-use Rattle.s66_program.specs.Answers.{IsEnough, problem_of}
+use Rattle.s66_text.specs.Answers.{IsEnough, problem_of}
 use Rattle.s66_program.specs.Stored.{IsShownBy, claimed}
-use Rattle.s66_program.proofs.Answered.{search-answers}
+use Rattle.s66_program.proofs.SearchAnswers.{search-answers}
 use Rattle.s66_program.proofs.ByFacts.{IsCandidate, shown-claimed}
 use Rattle.s66_program.proofs.answers.search_on.Goals as goal
 

@@ -7,7 +7,7 @@ use Rattle.s66_ledger.specs.Answers.{answer_of}
 use Rattle.s66_tree.specs.Lines.{has_dominated_line}
 use Rattle.s66_cert.specs.DocumentParts.{Parts, AreWhole, document_of}
 use Rattle.s66_model.specs.Answer.{IsAnswer}
-use Rattle.s66_program.proofs.AnswerDocuments.{parts_under, parts-document, parts-whole, same-parts}
+use Rattle.s66_text.proofs.AnswerDocuments.{parts_under, parts-document, parts-whole, same-parts}
 use Rattle.s66_program.proofs.documents.document_of.Goals as goal
 use Rattle.s66_program.proofs.documents.document_of.Goals.{After-bound}
 

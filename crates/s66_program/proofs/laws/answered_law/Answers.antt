@@ -1,6 +1,6 @@
 use Rattle.std.proofs.Common.{arith}
-use Rattle.s66_program.proofs.AnswerVerdicts.{spelled-block}
-use Rattle.s66_program.proofs.Answered.{answer-bound, answer-legal, answer-spent, answer-time}
+use Rattle.s66_text.proofs.AnswerVerdicts.{spelled-block}
+use Rattle.s66_text.proofs.Answered.{answer-bound, answer-legal, answer-spent, answer-time}
 use Rattle.s66_program.proofs.laws.answered_law.Goals as goal
 
 pub returns-clause-legal : goal.returns-clause-legal

@@ -1,7 +1,7 @@
 use Rattle.std.proofs.Common.{sym, subst, List, ◌++◌}
 use Rattle.s66_source.specs.Printed.{Placed}
-use Rattle.s66_program.specs.PlacedAnswers.{AreAllPlaced}
-use Rattle.s66_program.proofs.PlacedAnswers.{goes-on, placed-all}
+use Rattle.s66_text.specs.PlacedAnswers.{AreAllPlaced}
+use Rattle.s66_text.proofs.PlacedAnswers.{goes-on, placed-all}
 use Rattle.s66_program.proofs.order_text.search_all.Goals as goal
 
 pub loop-block-init : goal.loop-block-init

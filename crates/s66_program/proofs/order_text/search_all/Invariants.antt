@@ -1,4 +1,4 @@
-use Rattle.s66_program.proofs.PlacedAnswers.{GoesOnAt}
+use Rattle.s66_text.proofs.PlacedAnswers.{GoesOnAt}
 use Rattle.s66_program.proofs.order_text.search_all.Given as goal
 
 abbrev pub invariant-loop-block : goal.invariant-loop-block

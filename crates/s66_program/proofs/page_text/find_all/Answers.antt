@@ -1,6 +1,6 @@
 use Rattle.std.proofs.Common.{◌&&◌, ◌+◌, ◌≡◌, ◌∙◌, ap, if◌then◌else◌, refl, subst, sym}
-use Rattle.s66_program.specs.declared.outcome.Status.TheVariants.{Done, Bounded}
-use Rattle.s66_program.proofs.InTurn.{GoesOnAt, all-made, found_part, founds, goes-on}
+use Rattle.s66_outcome.specs.declared.outcome.Status.TheVariants.{Done, Bounded}
+use Rattle.s66_text.proofs.InTurn.{GoesOnAt, all-made, found_part, founds, goes-on}
 use Rattle.s66_program.proofs.page_text.find_all.Goals as goal
 use Rattle.s66_program.proofs.page_text.find_all.Goals.{then-all_best, else-all_best}
 

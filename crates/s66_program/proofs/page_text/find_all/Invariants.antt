@@ -1,4 +1,4 @@
-use Rattle.s66_program.proofs.InTurn.{GoesOnAt, found_part, founds}
+use Rattle.s66_text.proofs.InTurn.{GoesOnAt, found_part, founds}
 use Rattle.s66_program.proofs.page_text.find_all.Given as goal
 
 abbrev pub invariant-loop-done : goal.invariant-loop-done

@@ -2,11 +2,11 @@ use Rattle.std.proofs.Common.{List, ◌≡◌, ◌++◌, ◌∙◌, ap, ap₂, s
 use Rattle.s66_line.specs.Block.{Block}
 use Rattle.s66_page.specs.Found.{AreOf}
 use Rattle.s66_page.specs.Page.{page_text}
-use Rattle.s66_program.specs.Answers.{Answer, AreAnswers}
-use Rattle.s66_program.specs.OrderText.{status_of}
-use Rattle.s66_program.specs.PageText.{all_found}
-use Rattle.s66_program.specs.Shown.{before}
-use Rattle.s66_program.proofs.FoundAnswers.{found-of}
+use Rattle.s66_text.specs.Answers.{Answer, AreAnswers}
+use Rattle.s66_text.specs.OrderText.{status_of}
+use Rattle.s66_text.specs.PageText.{all_found}
+use Rattle.s66_text.specs.Shown.{before}
+use Rattle.s66_text.proofs.FoundAnswers.{found-of}
 use Rattle.s66_program.proofs.page_text.page_output.Goals as goal
 
 pub push_page-requires-clause-found : goal.push_page-requires-clause-found

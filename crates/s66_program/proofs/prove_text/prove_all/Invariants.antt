@@ -1,4 +1,4 @@
-use Rattle.s66_program.proofs.InTurn.{GoesOnAt, document_part, documents}
+use Rattle.s66_text.proofs.InTurn.{GoesOnAt, document_part, documents}
 use Rattle.s66_program.proofs.prove_text.prove_all.Given as goal
 
 abbrev pub invariant-loop-done : goal.invariant-loop-done

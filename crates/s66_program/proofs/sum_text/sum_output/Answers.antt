@@ -1,12 +1,12 @@
 use Rattle.std.proofs.Common.{◌≡◌, ◌≤◌, ◌∙◌, if◌then◌else◌, List, length, ap, sym, subst}
 use Rattle.s66_source.specs.declared.limits.TheConstants.{SOURCE_LINES_LIMIT}
 use Rattle.s66_source.specs.Printed.{Placed}
-use Rattle.s66_program.specs.declared.outcome.Status.TheVariants.{Done, Bounded}
-use Rattle.s66_program.specs.declared.sum_text.Row.{Row}
-use Rattle.s66_program.specs.PlacedAnswers.{tell_best}
-use Rattle.s66_program.specs.SumRows.{AreNumbered}
-use Rattle.s66_program.specs.SumText.{IsSumText, rows_of}
-use Rattle.s66_program.proofs.SumRows.{few-rows, placed-each, rows-numbered, sum-output}
+use Rattle.s66_outcome.specs.declared.outcome.Status.TheVariants.{Done, Bounded}
+use Rattle.s66_text.specs.declared.sum_rows.Row.{Row}
+use Rattle.s66_text.specs.PlacedAnswers.{tell_best}
+use Rattle.s66_text.specs.SumRows.{AreNumbered}
+use Rattle.s66_text.specs.SumText.{IsSumText, rows_of}
+use Rattle.s66_text.proofs.SumRows.{few-rows, placed-each, rows-numbered, sum-output}
 use Rattle.s66_program.proofs.sum_text.sum_output.Goals as goal
 
 pub rows_of-requires : goal.rows_of-requires

@@ -1,7 +1,7 @@
 use Rattle.std.proofs.Common.{◌&&◌, ◌+◌, ◌≡◌, ◌∙◌, ap, if◌then◌else◌, refl, subst, sym}
-use Rattle.s66_program.specs.declared.outcome.Status.TheVariants.{Done, Bounded}
-use Rattle.s66_program.specs.WhyText.{answer_lines, lines_of_answers}
-use Rattle.s66_program.proofs.InTurn.{GoesOnAt, all-made, begins, goes-on}
+use Rattle.s66_outcome.specs.declared.outcome.Status.TheVariants.{Done, Bounded}
+use Rattle.s66_text.specs.WhyText.{answer_lines, lines_of_answers}
+use Rattle.s66_text.proofs.InTurn.{GoesOnAt, all-made, begins, goes-on}
 use Rattle.s66_program.proofs.why_text.explain_all.Goals as goal
 use Rattle.s66_program.proofs.why_text.explain_all.Goals.{then-all_best, else-all_best}
 

@@ -1,6 +1,6 @@
 use Rattle.std.proofs.Common.{◌≡◌}
-use Rattle.s66_program.specs.WhyText.{answer_lines, lines_of_answers}
-use Rattle.s66_program.proofs.InTurn.{GoesOnAt}
+use Rattle.s66_text.specs.WhyText.{answer_lines, lines_of_answers}
+use Rattle.s66_text.proofs.InTurn.{GoesOnAt}
 use Rattle.s66_program.proofs.why_text.explain_all.Given as goal
 
 abbrev pub invariant-loop-done : goal.invariant-loop-done

@@ -1,9 +1,9 @@
 use Rattle.std.proofs.Common.{List, subst}
 use Rattle.std.proofs.lemmas.Result.{IfOk-weaker}
 use Rattle.s66_line.specs.Block.{Block}
-use Rattle.s66_program.specs.declared.outcome.Output.{Output}
+use Rattle.s66_outcome.specs.declared.outcome.Output.{Output}
 use Rattle.s66_program.specs.Explained.{AreExplained}
-use Rattle.s66_program.specs.Shown.{shown}
+use Rattle.s66_text.specs.Shown.{shown}
 use Rattle.s66_program.proofs.why_text.why_output.Goals as goal
 
 pub returns : goal.returns

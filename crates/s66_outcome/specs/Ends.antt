@@ -1,0 +1,50 @@
+-- To be believed: what is told of how a command ended, or of words that give none, and the status.
+use Rattle.std.specs.Prelude.{◌≡◌, ◌≢◌, ◌⊎◌, ℕ, List, [], ◌++◌, Option, Some, Result, Ok, Err, codes, string_bytes}
+use Rattle.std.specs.declared.io.ErrorKind.{ErrorKind}
+use Rattle.std.specs.declared.io.ErrorKind.TheVariants as kind
+use Rattle.s66_device.specs.Devices.{IsUntouched, WriteFails, Writer, Writes}
+use Rattle.s66_outcome.specs.declared.outcome.Fault.{Fault}
+use Rattle.s66_outcome.specs.declared.outcome.Fault.TheVariants.{Source, Profile, Memory, Write}
+use Rattle.s66_outcome.specs.declared.outcome.Status.{Status}
+use Rattle.s66_command.specs.declared.usage.Usage.{Usage}
+use Rattle.s66_command.specs.declared.usage.Usage.TheVariants.{Help, Bad, OutOfMemory}
+use Rattle.s66_command.specs.Usage.{usage_code}
+use Rattle.s66_profile.specs.Hint.{hint_in_text}
+use Rattle.s66_outcome.specs.Device.{Tells}
+use Rattle.s66_outcome.specs.Outcome.{fault_code, fault_line, status_code}
+
+-- the line of a fault was printed, and the status is the fault's
+abbrev pub EndsAt : Fault → Writer → Writer → ℕ → Type 0
+EndsAt fault errors errors' status = Tells errors errors' (fault_line fault ++ codes "\n") × (status ≡ fault_code fault)
+
+-- what comes after the line of a fault, by the text of the profile that was asked for: how all refused lines are listed, or what is
+-- wrong with the profile
+abbrev pub hint_of : Option (List ℕ) → Fault → List ℕ
+hint_of profile (Source e) = codes "s66 lint lists all such lines\n"
+hint_of (Some text) Profile = hint_in_text text ++ codes "\n"
+hint_of profile fault = []
+
+-- that, or nothing of a profile if memory ran out
+abbrev pub IsHint : Option (List ℕ) → Fault → List ℕ → Type 0
+IsHint profile fault hint = (hint ≡ hint_of profile fault) ⊎ ((fault ≡ Profile) × (hint ≡ []))
+
+-- what the result of a command, which asks for such a profile, leaves of the writer for what goes wrong, and the status
+abbrev pub EndsBy : Option (List ℕ) → Result Status Fault → Writer → Writer → ℕ → Type 0
+EndsBy profile (Ok s) errors errors' status = IsUntouched errors errors' × (status ≡ status_code s)
+EndsBy profile (Err fault) errors errors' status =
+    (hint : List ℕ) × IsHint profile fault hint × Tells errors errors' ((fault_line fault ++ codes "\n") ++ hint) × (status ≡ fault_code fault)
+
+-- help goes to the writer, which may fail, a mistake to the writer for what goes wrong
+abbrev pub ShowsUsage : Usage → Writer → Writer → Writer → Writer → ℕ → Type 0
+ShowsUsage (Help text) writer writer' errors errors' status =
+    (Writes writer writer' (string_bytes text) × IsUntouched errors errors' × (status ≡ usage_code (Help text)))
+    ⊎ (WriteFails writer writer' (string_bytes text) × EndsAt Write errors errors' status)
+ShowsUsage (Bad text) writer writer' errors errors' status =
+    IsUntouched writer writer' × Tells errors errors' (string_bytes text) × (status ≡ usage_code (Bad text))
+ShowsUsage OutOfMemory writer writer' errors errors' status = IsUntouched writer writer' × EndsAt Memory errors errors' status
+
+-- what is done if there are no words: out of memory, or words that are no text
+abbrev pub LacksWords : ErrorKind → Writer → Writer → ℕ → Type 0
+LacksWords k errors errors' status =
+    ((k ≡ kind.OutOfMemory) × EndsAt Memory errors errors' status)
+    ⊎ ((k ≢ kind.OutOfMemory) × Tells errors errors' (codes "error: an argument is not UTF-8\n") × (status ≡ 2))

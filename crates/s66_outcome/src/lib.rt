@@ -1,0 +1,16 @@
+//! How a command reads its input to the end, how it ends, and what it tells of that.
+#![tactic(auto)]
+
+mod limits;
+mod observer;
+mod outcome;
+mod progress;
+mod reading;
+mod telling;
+
+pub use limits::{FEED_CALLS, FEED_ROOM};
+pub use observer::{Observer, Silent};
+pub use outcome::{Fault, Output, Status};
+pub use progress::Progress;
+pub use reading::read_all;
+pub use telling::{refuse_words, show_usage, tell_failure};

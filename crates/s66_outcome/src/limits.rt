@@ -1,0 +1,5 @@
+/// The most calls that reading an input makes.
+pub const FEED_CALLS: u32 = 16_777_216;
+
+/// How many bytes each of these calls has room for.
+pub const FEED_ROOM: usize = 65_536;

@@ -1,0 +1,158 @@
+ghost use Rattle.std.specs.Prelude.{◌≡◌};
+ghost use Rattle.s66_outcome.specs.declared.outcome.Fault.TheVariants.{Memory};
+ghost use Rattle.s66_outcome.specs.Outcome.{document_fault, profile_fault, source_fault};
+
+use arrayvec::ArrayString;
+use s66_cert::CertError;
+use s66_device::{FAULT_ROOM, short_text};
+use s66_profile::ProfileError;
+use s66_source::SourceError;
+use std::alloc::{AllocError, AllocFailed};
+use std::{error, fmt};
+
+/// How a command that wrote all its text ended.
+#[derive(Clone, Copy, Debug, PartialEq, Eq)]
+pub enum Status {
+    Done,
+    /// What the input claims was found wrong.
+    Denied,
+    /// A bound on the work was met before the end.
+    Bounded,
+    /// Something may be wrong with the input, and nothing is refused.
+    Listed,
+}
+
+/// What a command writes, and how it ends.
+#[derive(Debug, Drop)]
+pub struct Output {
+    pub text: Vec<u8>,
+    pub status: Status,
+}
+
+impl Status {
+    ghost use Rattle.std.specs.Prelude.{◌≡◌};
+    ghost use Rattle.s66_outcome.specs.Outcome.{status_code};
+
+    /// The status of the process.
+    pub fn code(&self) -> u8
+        ensures { result ≡ status_code self.now }
+    {
+        match self {
+            Status::Done => 0,
+            Status::Denied => 5,
+            Status::Bounded => 7,
+            Status::Listed => 8,
+        }
+    }
+}
+
+/// Why a command failed. It is displayed as the line that standard error gets.
+#[derive(Clone, Copy, Debug, Drop, PartialEq, Eq)]
+pub enum Fault {
+    /// The source was refused; never for `OutOfMemory`, which is `Memory`.
+    Source(SourceError),
+    /// The documents were refused; never for `OutOfMemory`, which is `Memory`.
+    Document(CertError),
+    /// The text for the profile gives none; never for `OutOfMemory`, which is `Memory`.
+    Profile,
+    /// A growth was refused.
+    Memory,
+    /// The reader failed, or none of 16,777,216 calls with room for 65,536 bytes each gave the end.
+    Read,
+    /// The writer failed.
+    Write,
+}
+
+impl From<AllocError> for Fault {
+    ghost from_gives = { λ _ e. e ≡ Memory };
+
+    fn from(_e: AllocError) -> Fault {
+        Fault::Memory
+    }
+}
+
+impl<T: Drop> From<AllocFailed<T>> for Fault {
+    ghost from_gives = { λ _ e. e ≡ Memory };
+
+    fn from(_e: AllocFailed<T>) -> Fault {
+        Fault::Memory
+    }
+}
+
+impl From<SourceError> for Fault {
+    ghost from_gives = { λ e fault. fault ≡ source_fault e };
+
+    fn from(e: SourceError) -> Fault {
+        match e {
+            SourceError::OutOfMemory => Fault::Memory,
+            refusal => Fault::Source(refusal),
+        }
+    }
+}
+
+impl From<CertError> for Fault {
+    ghost from_gives = { λ e fault. fault ≡ document_fault e };
+
+    fn from(e: CertError) -> Fault {
+        match e {
+            CertError::OutOfMemory => Fault::Memory,
+            refusal => Fault::Document(refusal),
+        }
+    }
+}
+
+impl From<ProfileError> for Fault {
+    ghost from_gives = { λ e fault. fault ≡ profile_fault e };
+
+    fn from(e: ProfileError) -> Fault {
+        match e {
+            ProfileError::BadProfile => Fault::Profile,
+            ProfileError::OutOfMemory => Fault::Memory,
+        }
+    }
+}
+
+impl Fault {
+    ghost use Rattle.std.specs.Prelude.{◌≡◌, ◌<◌, length};
+    ghost use Rattle.s66_device.specs.declared.limits.TheConstants.{FAULT_ROOM};
+    ghost use Rattle.s66_outcome.specs.Outcome.{fault_code, fault_line};
+
+    /// The status of the process.
+    pub fn code(&self) -> u8
+        ensures { result ≡ fault_code self.now }
+    {
+        match self {
+            Fault::Source(_) | Fault::Document(_) | Fault::Profile => 3,
+            Fault::Memory => 4,
+            Fault::Read | Fault::Write => 6,
+        }
+    }
+
+    /// The line that standard error gets, without its newline.
+    pub fn line(&self) -> ArrayString<FAULT_ROOM>
+        ensures text { result.bytes ≡ fault_line self.now }
+        ensures short { length result.bytes < FAULT_ROOM }
+    {
+        match self {
+            Fault::Source(e) => e.line(),
+            Fault::Document(e) => e.line(),
+            Fault::Profile => short_text("BAD PROFILE"),
+            Fault::Memory => SourceError::OutOfMemory.line(),
+            Fault::Read => short_text("READ FAILED"),
+            Fault::Write => short_text("WRITE FAILED"),
+        }
+    }
+}
+
+impl fmt::Display for Fault {
+    ghost use Rattle.std.specs.Prelude.{Some};
+    ghost use Rattle.s66_outcome.specs.Outcome.{fault_line};
+
+    ghost output = { λ fault. Some (fault_line fault) };
+
+    fn fmt<W: fmt::Write>(&self, f: &mut fmt::Formatter<W>) -> fmt::Result {
+        f.write_str(self.line().as_str())
+    }
+}
+
+impl error::Error for Fault {}

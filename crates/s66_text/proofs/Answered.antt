@@ -1,0 +1,61 @@
+-- What is true of every answer, by a search or by facts.
+use Rattle.std.proofs.Common.{◌≡◌, ◌≤◌, ◌<◌, ◌∙◌, arith, inl, inr, refl, sym, subst}
+use Rattle.s66_isa.specs.declared.limits.TheConstants.{BLOCK_LIMIT}
+use Rattle.s66_isa.specs.declared.profile.Profile.{Profile}
+use Rattle.s66_line.specs.Block.{instrs_of, Block}
+use Rattle.s66_model.specs.Answer as search
+use Rattle.s66_model.specs.Timing.{Problem, total_of}
+use Rattle.s66_model.specs.BestAndBound.{IsBound}
+use Rattle.s66_model.specs.LegalOrder.{IsLegal}
+use Rattle.s66_model.specs.declared.rule.Rule.{Rule}
+use Rattle.s66_cert.specs.declared.limits.TheConstants.{SPLIT_LIMIT}
+use Rattle.s66_cert.specs.Document.{IsDocument}
+use Rattle.s66_checker.specs.Verdict as checker
+use Rattle.s66_checker.proofs.GrantedClaims.{claim-bound, verdict-claims}
+use Rattle.s66_checker.specs.declared.verdict.Verdict.TheVariants.{Yes}
+use Rattle.s66_command.specs.declared.strategy.Strategy.{Strategy}
+use Rattle.s66_text.specs.Answers.{Answer, IsAnswer, IsEnough, document_under, problem_of, searched}
+use Rattle.s66_text.specs.ProvedAnswers.{IsSpelledBlock}
+use Rattle.s66_text.proofs.AnswerDocuments.{search-document}
+use Rattle.s66_text.proofs.AnswerVerdicts.{same-problem, verdict-of_search}
+
+-- ITS ORDER
+
+pub answer-legal : (strategy : Strategy) (p : Profile) (block : Block) (a : Answer) → IsAnswer strategy p block a → IsLegal (instrs_of block) a.order
+answer-legal strategy p block a (inl (found, is, same)) = subst (λ (x : Answer). IsLegal (instrs_of block) x.order) (sym same) is.legal
+answer-legal strategy p block a (inr (deep, shown)) = shown.legal
+
+pub answer-time : (strategy : Strategy) (p : Profile) (block : Block) (a : Answer) → IsAnswer strategy p block a → a.time ≡ total_of (problem_of p block) a.order
+answer-time strategy p block a (inl (found, is, same)) = subst (λ (x : Answer). x.time ≡ total_of (problem_of p block) x.order) (sym same) is.time
+answer-time strategy p block a (inr (deep, shown)) = shown.time
+
+-- ITS DOCUMENT
+
+module _ (strategy : Strategy) (p : Profile) (block : Block) (a : Answer) (spelled : IsSpelledBlock block) (within : strategy.search.nodes ≤ SPLIT_LIMIT) where
+  pub answer-document : IsAnswer strategy p block a → IsDocument BLOCK_LIMIT (document_under strategy.search.rule p block a)
+  answer-document (inl (found, is, same)) =
+      subst (λ (x : Answer). IsDocument BLOCK_LIMIT (document_under strategy.search.rule p block x)) (sym same)
+      (search-document strategy.search.rule p block strategy.search.nodes found is (omega (arith, is.within, within)) spelled.0 spelled.1 spelled.2)
+  answer-document (inr (deep, shown)) = shown.document
+
+  pub answer-verdict : IsAnswer strategy p block a → checker.verdict (document_under strategy.search.rule p block a) ≡ Yes a.time a.bound
+  answer-verdict (inl (found, is, same)) =
+      subst (λ (x : Answer). checker.verdict (document_under strategy.search.rule p block x) ≡ Yes x.time x.bound) (sym same)
+      (verdict-of_search strategy.search.rule p block strategy.search.nodes found spelled within is)
+  answer-verdict (inr (deep, shown)) = shown.yes
+
+  pub answer-bound : IsAnswer strategy p block a → IsBound (problem_of p block) a.bound
+  answer-bound is =
+      let d = document_under strategy.search.rule p block a in
+      let claim = (verdict-claims BLOCK_LIMIT d a.time a.bound (answer-document is) (answer-verdict is)).2 in
+      subst (λ (b : Problem). IsBound b a.bound) (same-problem strategy.search.rule p block a spelled.2) (claim-bound d claim)
+
+-- HOW ITS SEARCH ENDED
+
+enough-spent : (strategy : Strategy) (p : Profile) (block : Block) (a : Answer) → IsEnough strategy.search (problem_of p block) a → a.bound < a.time → a.splits ≡ strategy.search.nodes
+enough-spent strategy p block a (inl (best, counted, few)) below = absurd (omega (arith, best, below))
+enough-spent strategy p block a (inr (found, is, time, bound, splits)) below = splits ∙ is.spent (omega (arith, time, bound, below))
+
+pub answer-spent : (strategy : Strategy) (p : Profile) (block : Block) (a : Answer) → IsAnswer strategy p block a → a.bound < a.time → a.splits ≡ strategy.search.nodes
+answer-spent strategy p block a (inl (found, is, same)) below = subst (λ (x : Answer). x.bound < x.time → x.splits ≡ strategy.search.nodes) (sym same) is.spent below
+answer-spent strategy p block a (inr (deep, shown)) below = enough-spent strategy p block a shown.enough below

@@ -1,0 +1,70 @@
+-- The documents of answers to the blocks of a source are a text, in one way, and the verdict on each is yes.
+use Rattle.std.proofs.Common.{ℕ, ◌+◌, ◌≡◌, ◌≤◌, ◌&&◌, ◌∙◌, true, if◌then◌else◌, List, [], ◌∷◌, ◌++◌, refl, sym, ap, ap₂, arith, inl, inr}
+use Rattle.s66_isa.specs.declared.profile.Profile.{Profile}
+use Rattle.s66_isa.specs.Lists.{Among, every}
+use Rattle.s66_isa.specs.declared.limits.TheConstants.{BLOCK_LIMIT}
+use Rattle.s66_line.specs.Block.{Block}
+use Rattle.s66_source.specs.LeftAlone.{Reading}
+use Rattle.s66_command.specs.declared.strategy.Strategy.{Strategy}
+use Rattle.s66_cert.specs.declared.limits.TheConstants.{SPLIT_LIMIT}
+use Rattle.s66_cert.specs.Document.{AreDocumentsWithin, IsText}
+use Rattle.s66_cert.proofs.OneReading.{one-list}
+use Rattle.s66_checker.specs.Verdict.{verdict}
+use Rattle.s66_text.specs.Answers.{Answer, AreAnswers}
+use Rattle.s66_outcome.specs.declared.outcome.Status.{Status}
+use Rattle.s66_outcome.specs.declared.outcome.Status.TheVariants.{Done, Denied}
+use Rattle.s66_text.specs.CheckText.{IsCheckOutput, is_yes, verdict_line, verdict_lines, verdicts_status}
+use Rattle.s66_text.specs.CheckedAnswers.{AreYesLines, yes_lines}
+use Rattle.s66_text.specs.ProvedAnswers.{IsSpelledBlock}
+use Rattle.s66_text.specs.ProveText.{IsProveOutput, all_documents}
+use Rattle.s66_text.proofs.Answered.{answer-document, answer-verdict}
+use Rattle.s66_text.proofs.AnswerVerdicts.{spelled-block}
+
+abbrev AreSpelled : List Block → Type 0
+AreSpelled blocks = (block : Block) → Among block blocks → IsSpelledBlock block
+
+module _ (strategy : Strategy) (p : Profile) (within : strategy.search.nodes ≤ SPLIT_LIMIT) where
+  documents-are : (blocks : List Block) (answers : List Answer) → AreSpelled blocks → AreAnswers strategy p blocks answers → AreDocumentsWithin BLOCK_LIMIT SPLIT_LIMIT (all_documents strategy.search.rule p blocks answers)
+  documents-are [] [] spelled are = tt
+  documents-are [] (a ∷ answers) spelled are = absurd are
+  documents-are (block ∷ blocks) [] spelled are = absurd are
+  documents-are (block ∷ blocks) (a ∷ answers) spelled are =
+      (answer-document strategy p block a (spelled block (inl refl)) within are.0, documents-are blocks answers (λ b among. spelled b (inr among)) are.1)
+
+  lines-are : (n : ℕ) (blocks : List Block) (answers : List Answer) → AreSpelled blocks → AreAnswers strategy p blocks answers → verdict_lines n (all_documents strategy.search.rule p blocks answers) ≡ yes_lines n answers
+  lines-are n [] [] spelled are = refl
+  lines-are n [] (a ∷ answers) spelled are = absurd are
+  lines-are n (block ∷ blocks) [] spelled are = absurd are
+  lines-are n (block ∷ blocks) (a ∷ answers) spelled are =
+      ap₂ (λ v rest. verdict_line (n + 1) v ++ rest) (answer-verdict strategy p block a (spelled block (inl refl)) within are.0)
+      (lines-are (n + 1) blocks answers (λ b among. spelled b (inr among)) are.1)
+
+  all-yes : (blocks : List Block) (answers : List Answer) → AreSpelled blocks → AreAnswers strategy p blocks answers → every (λ d. is_yes (verdict d)) (all_documents strategy.search.rule p blocks answers) ≡ true
+  all-yes [] [] spelled are = refl
+  all-yes [] (a ∷ answers) spelled are = absurd are
+  all-yes (block ∷ blocks) [] spelled are = absurd are
+  all-yes (block ∷ blocks) (a ∷ answers) spelled are =
+      ap₂ (λ v rest. is_yes v && rest) (answer-verdict strategy p block a (spelled block (inl refl)) within are.0) (all-yes blocks answers (λ b among. spelled b (inr among)) are.1)
+
+  module _ (source : Reading) (text : List ℕ) (status : Status) where
+    pub checked-yes : IsProveOutput strategy p source text status → (lines : List ℕ) × AreYesLines strategy p source text lines × IsCheckOutput text lines Done
+    checked-yes (blocks, accepted, (answers, are, is, ends)) =
+        let spelled : AreSpelled blocks = spelled-block source blocks accepted in (
+          yes_lines 0 answers,
+          (blocks, accepted, (answers, are, is, refl)),
+          (
+            all_documents strategy.search.rule p blocks answers,
+            (documents-are blocks answers spelled are, is),
+            sym (lines-are 0 blocks answers spelled are),
+            sym (ap (λ yes. if yes then Done else Denied) (all-yes blocks answers spelled are)),
+          ),
+        )
+
+    pub checked-alone : (lines : List ℕ) (checked : Status) → IsProveOutput strategy p source text status → IsCheckOutput text lines checked → AreYesLines strategy p source text lines × (checked ≡ Done)
+    checked-alone lines checked (blocks, accepted, (answers, are, is, ends)) (ds, read, are-verdicts, so) =
+        let spelled : AreSpelled blocks = spelled-block source blocks accepted in
+        let text-is : IsText BLOCK_LIMIT text (all_documents strategy.search.rule p blocks answers) = (documents-are blocks answers spelled are, is) in
+        let same : ds ≡ all_documents strategy.search.rule p blocks answers = one-list BLOCK_LIMIT BLOCK_LIMIT SPLIT_LIMIT SPLIT_LIMIT text ds (all_documents strategy.search.rule p blocks answers) (omega arith) (omega arith) read text-is in (
+          (blocks, accepted, (answers, are, is, are-verdicts ∙ ap (verdict_lines 0) same ∙ lines-are 0 blocks answers spelled are)),
+          so ∙ ap verdicts_status same ∙ ap (λ yes. if yes then Done else Denied) (all-yes blocks answers spelled are),
+        )

@@ -1,0 +1,14 @@
+-- What is found by answers to blocks is of these blocks.
+use Rattle.std.proofs.Common.{List, [], ◌∷◌, refl}
+use Rattle.s66_isa.specs.declared.profile.Profile.{Profile}
+use Rattle.s66_line.specs.Block.{Block}
+use Rattle.s66_command.specs.declared.strategy.Strategy.{Strategy}
+use Rattle.s66_page.specs.Found.{AreOf}
+use Rattle.s66_text.specs.Answers.{Answer, AreAnswers}
+use Rattle.s66_text.specs.PageText.{all_found}
+
+pub found-of : (strategy : Strategy) (p : Profile) (blocks : List Block) (answers : List Answer) → AreAnswers strategy p blocks answers → AreOf blocks (all_found blocks answers)
+found-of strategy p [] [] are = tt
+found-of strategy p [] (a ∷ answers) are = absurd are
+found-of strategy p (block ∷ blocks) [] are = absurd are
+found-of strategy p (block ∷ blocks) (a ∷ answers) are = (refl, found-of strategy p blocks answers are.1)

@@ -1,0 +1,12 @@
+pub mod AnswerDocuments
+pub mod AnswerVerdicts
+pub mod Answered
+pub mod BlockTexts
+pub mod CheckedAnswers
+pub mod Dependences
+pub mod FoundAnswers
+pub mod InTurn
+pub mod OrderedAgain
+pub mod Pieces
+pub mod PlacedAnswers
+pub mod SumRows

@@ -1,0 +1,97 @@
+-- To be believed: what `sum` writes for a source, and how it ends. There is a row for each block, those first whose orders save
+-- most time, and what all blocks take, for answers of searches as those of `order`. With the trace each line ends with its splits.
+use Rattle.std.specs.Prelude.{ℕ, ◌+◌, ◌-◌, ◌≡◌, ◌≤◌, ◌<◌, ◌⊎◌, ◌==◌, if◌then◌else◌, Bool, List, [], ◌∷◌, ◌++◌, Option, None, Some, Ok, IsPermutation, codes, decimal, length, slice_index_or, unwrap_or}
+use Rattle.s66_isa.specs.Lists.{tally, weigh}
+use Rattle.s66_isa.specs.declared.profile.Profile.{Profile}
+use Rattle.s66_line.specs.Block.{instrs_of, line_of, Block}
+use Rattle.s66_source.specs.Printed.{Placed}
+use Rattle.s66_source.specs.LeftAlone.{Reading}
+use Rattle.s66_source.specs.Source.{source_of}
+use Rattle.s66_command.specs.declared.strategy.Strategy.{Strategy}
+use Rattle.s66_text.specs.Answers.{Answer, AreAnswers}
+use Rattle.s66_text.specs.OrderText.{all_placed, status_of}
+use Rattle.s66_outcome.specs.declared.outcome.Status.{Status}
+use Rattle.s66_text.specs.declared.sum_rows.Row.{Row}
+
+-- ROWS
+
+-- of the n-th block, from 1, as `order` prints it
+abbrev pub row_of : ℕ → Block → Placed → Row
+row_of n block p =
+    record {
+      number = n;
+      line = line_of block 1;
+      count = length (instrs_of block);
+      source = p.source;
+      time = p.time;
+      saved = p.source - p.time;
+      bound = p.bound;
+      splits = p.splits;
+    }
+
+-- of these blocks, before which n come
+abbrev pub rows_of : ℕ → List Block → List Placed → List Row
+rows_of n (block ∷ blocks) (p ∷ ps) = row_of (n + 1) block p ∷ rows_of (n + 1) blocks ps
+rows_of n blocks ps = []
+
+abbrev pub is_best : Row → Bool
+is_best r = r.bound == r.time
+
+-- the first saves more, or as much with a number that is no greater
+abbrev pub MayPrecede : Row → Row → Type 0
+MayPrecede r s = (s.saved < r.saved) ⊎ ((s.saved ≡ r.saved) × (r.number ≤ s.number))
+
+abbrev pub AreInOrder : List Row → Type 0
+AreInOrder rows = (k : ℕ) (d : Row) → k + 1 < length rows → MayPrecede (slice_index_or rows k d) (slice_index_or rows (k + 1) d)
+
+-- THE TEXT
+
+abbrev pub bound_text : Row → List ℕ
+bound_text r = if is_best r then codes " BEST" else (codes " AT LEAST " ++ decimal r.bound)
+
+-- how many splits there are, if that is to be printed
+abbrev pub splits_text : Option ℕ → List ℕ
+splits_text None = []
+splits_text (Some splits) = codes " SPLITS " ++ decimal splits
+
+abbrev pub row_line : Row → List ℕ
+row_line r =
+    codes "BLOCK " ++ decimal r.number ++ codes " LINE " ++ decimal r.line ++ codes " COUNT " ++ decimal r.count ++ codes " SOURCE "
+    ++ decimal r.source ++ codes " TIME " ++ decimal r.time ++ bound_text r ++ splits_text r.splits ++ codes "\n"
+
+abbrev pub row_lines : List Row → List ℕ
+row_lines [] = []
+row_lines (r ∷ rows) = row_line r ++ row_lines rows
+
+-- how many blocks there are, and what they take as written and as ordered
+abbrev pub total_times : (blocks source time : ℕ) → List ℕ
+total_times blocks source time = codes "TOTAL BLOCKS " ++ decimal blocks ++ codes " SOURCE " ++ decimal source ++ codes " TIME " ++ decimal time
+
+-- and how many orders are best, and how many splits there are, if that is to be printed
+abbrev pub total_text : (blocks source time best : ℕ) → Option ℕ → List ℕ
+total_text blocks source time best splits =
+    total_times blocks source time ++ codes " BEST " ++ decimal best ++ splits_text splits ++ codes "\n"
+
+-- the splits of a row
+abbrev pub splits_in : Row → ℕ
+splits_in r = unwrap_or r.splits 0
+
+-- of all rows, with the trace
+abbrev pub all_splits : Bool → List Row → Option ℕ
+all_splits trace rows = if trace then Some (weigh splits_in rows) else None
+
+abbrev pub total_line : (trace : Bool) → List Row → List ℕ
+total_line trace rows =
+    total_text (length rows) (weigh (λ (r : Row). r.source) rows) (weigh (λ (r : Row). r.time) rows) (tally is_best rows) (all_splits trace rows)
+
+-- the rows in their order, and their sums
+abbrev pub IsSumText : (trace : Bool) (rows : List Row) (text : List ℕ) → Type 0
+IsSumText trace rows text =
+    (ordered : List Row) × IsPermutation rows ordered × AreInOrder ordered × (text ≡ row_lines ordered ++ total_line trace rows)
+
+-- for some answers, the rows of what `order` would print, and their status
+abbrev pub IsSumOutput : Strategy → Profile → (trace : Bool) (source : Reading) (text : List ℕ) → Status → Type 0
+IsSumOutput strategy p trace source text status =
+    (blocks : List Block) × (source_of source ≡ Ok blocks)
+    × ((answers : List Answer) × AreAnswers strategy p blocks answers × IsSumText trace (rows_of 0 blocks (all_placed p trace blocks answers)) text
+    × (status ≡ status_of answers))

@@ -1,0 +1,24 @@
+//! What is written of blocks as they are, and of answers, documents and lines that are given.
+#![tactic(auto)]
+
+mod chart_text;
+mod check_text;
+mod deps_text;
+mod document_text;
+mod fields;
+mod lint_text;
+mod listing;
+mod selection;
+mod status;
+mod sum_rows;
+mod time_text;
+mod why_text;
+
+pub use check_text::check_output;
+pub use document_text::{push_document, texts_of};
+pub use lint_text::lint_output;
+pub use listing::{Listing, listing_output};
+pub use selection::{blocks_before, shown};
+pub use status::{status_by, status_of};
+pub use sum_rows::{Row, rows_of, sum_text};
+pub use why_text::push_waits;
