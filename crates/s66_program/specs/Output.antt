@@ -12,7 +12,6 @@ use Rattle.s66_command.specs.declared.command.Command.TheVariants.{Time, Deps, C
 use Rattle.s66_command.specs.Profile.{profile_text}
 use Rattle.s66_outcome.specs.declared.outcome.Status.{Status}
 use Rattle.s66_outcome.specs.declared.outcome.Status.TheVariants.{Done}
-use Rattle.s66_text.specs.declared.listing.Listing.{Listing}
 use Rattle.s66_text.specs.declared.listing.Listing.TheVariants as listing
 use Rattle.s66_text.specs.Listing.{IsListing}
 use Rattle.s66_text.specs.WhyText.{IsWhyOutput}

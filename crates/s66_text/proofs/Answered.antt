@@ -1,5 +1,5 @@
 -- What is true of every answer, by a search or by facts.
-use Rattle.std.proofs.Common.{◌≡◌, ◌≤◌, ◌<◌, ◌∙◌, arith, inl, inr, refl, sym, subst}
+use Rattle.std.proofs.Common.{◌≡◌, ◌≤◌, ◌<◌, ◌∙◌, arith, inl, inr, sym, subst}
 use Rattle.s66_isa.specs.declared.limits.TheConstants.{BLOCK_LIMIT}
 use Rattle.s66_isa.specs.declared.profile.Profile.{Profile}
 use Rattle.s66_line.specs.Block.{instrs_of, Block}
@@ -7,14 +7,13 @@ use Rattle.s66_model.specs.Answer as search
 use Rattle.s66_model.specs.Timing.{Problem, total_of}
 use Rattle.s66_model.specs.BestAndBound.{IsBound}
 use Rattle.s66_model.specs.LegalOrder.{IsLegal}
-use Rattle.s66_model.specs.declared.rule.Rule.{Rule}
 use Rattle.s66_cert.specs.declared.limits.TheConstants.{SPLIT_LIMIT}
 use Rattle.s66_cert.specs.Document.{IsDocument}
 use Rattle.s66_checker.specs.Verdict as checker
 use Rattle.s66_checker.proofs.GrantedClaims.{claim-bound, verdict-claims}
 use Rattle.s66_checker.specs.declared.verdict.Verdict.TheVariants.{Yes}
 use Rattle.s66_command.specs.declared.strategy.Strategy.{Strategy}
-use Rattle.s66_text.specs.Answers.{Answer, IsAnswer, IsEnough, document_under, problem_of, searched}
+use Rattle.s66_text.specs.Answers.{Answer, IsAnswer, IsEnough, document_under, problem_of}
 use Rattle.s66_text.specs.ProvedAnswers.{IsSpelledBlock}
 use Rattle.s66_text.proofs.AnswerDocuments.{search-document}
 use Rattle.s66_text.proofs.AnswerVerdicts.{same-problem, verdict-of_search}

@@ -1,7 +1,7 @@
 use Rattle.std.proofs.Common.{rules}
 use Rattle.s66_program.specs.Output.{IsWaitsOutput}
-use Rattle.s66_program.specs.PageText.{IsPageOutput}
-use Rattle.s66_program.specs.SumText.{IsSumOutput}
+use Rattle.s66_text.specs.PageText.{IsPageOutput}
+use Rattle.s66_text.specs.SumText.{IsSumOutput}
 use Rattle.s66_program.proofs.output.output_for.Goals as goal
 use Rattle.s66_program.proofs.output.output_for.Goals.{in-Time+in_ok-read_source_with-in-Time+in_ok-output-in-Time, in-Deps+in_ok-read_source_with-in-Deps+in_ok-output-in-Deps, in-Chart+in_ok-read_source_with-in-Chart+in_ok-output-in-Chart, in-Why+in_ok-read_source_with-in-Why+in_ok-output-in-Why, in-Page+in_ok-read_source_with-in-Page+in_ok-output-in-Page, in-Order+in_ok-read_source_with-in-Order+in_ok-output-in-Order, in-Prove+in_ok-read_source_with-in-Prove+in_ok-output-in-Prove, in-Check+in_ok-output-in-Check, in-Lint+in_ok-output-in-Lint, in-Sum+in_ok-read_source_with-in-Sum+in_ok-output-in-Sum}
 
