@@ -1,4 +1,4 @@
--- Used by contracts within the crate alone: answers as they are printed.
+-- Used by contracts: answers as they are printed.
 use Rattle.std.specs.Prelude.{◌≡◌, ◌==◌, Bool, List}
 use Rattle.s66_isa.specs.declared.profile.Profile.{Profile}
 use Rattle.s66_isa.specs.Lists.{every}

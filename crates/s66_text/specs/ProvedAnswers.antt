@@ -1,4 +1,4 @@
--- Used by contracts within the crate alone: blocks and the documents of their answers.
+-- Used by contracts: blocks and the documents of their answers.
 use Rattle.std.specs.Prelude.{ℕ, ◌≡◌, ◌≤◌, ◌==◌, Bool, List, ◌++◌, length}
 use Rattle.s66_isa.specs.declared.profile.Profile.{Profile}
 use Rattle.s66_isa.specs.Table.{instr_at}
