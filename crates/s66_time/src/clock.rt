@@ -136,7 +136,16 @@ impl<'a> Clock<'a> {
     pub fn mark(&self) -> Mark
         ensures { IsMarkOf (problem_of self.now) self.now.numbers result }
     {
-        Mark::of(&self.words, &self.profile, &self.copies, &self.shape)
+        let mut mark = Mark::blank();
+        self.set_mark(&mut mark);
+        mark
+    }
+
+    /// Makes of any mark the one that `mark` returns, where it is.
+    pub fn set_mark(&self, mark: &mut Mark)
+        ensures { IsMarkOf (problem_of self.now) self.now.numbers mark.new }
+    {
+        mark.set(&self.words, &self.profile, &self.copies, &self.shape);
     }
 
     /// The block.

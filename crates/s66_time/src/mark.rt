@@ -9,7 +9,7 @@ ghost use Rattle.s66_time.specs.Places.{units_of};
 ghost use Rattle.s66_time.specs.declared.limits.TheConstants.{MARK_LIMIT, READERS_AT, REFERENCES_AT, STORES_AT, UNITS_AT};
 
 use crate::copies::Copies;
-use crate::limits::{READERS_AT, REFERENCES_AT, STORES_AT};
+use crate::limits::{READERS_AT, REFERENCES_AT, STORES_AT, UNITS_AT};
 use crate::mark_shape::MarkShape;
 use crate::mark_words::MarkWords;
 use crate::words::Words;
@@ -26,37 +26,51 @@ pub struct Mark {
     pub(crate) total: u16,
     /// The place of the next parcel in its word of memory.
     pub(crate) place: u8,
-    /// How many words are stored; those after them are 0.
+    /// How many words are stored; those after them count for nothing.
     pub(crate) count: u8,
     pub(crate) words: MarkWords,
     ghost within: { (UNITS_AT ≤ count) × (count ≤ MARK_LIMIT) },
 }
 
 impl Mark {
-    /// The mark of a clock's words, under a profile with these copies.
-    pub(crate) fn of(words: &Words, profile: &Profile, copies: &Copies, shape: &MarkShape) -> Mark
+    /// The mark of nothing yet, to be written by `set`.
+    pub fn blank() -> Mark {
+        Mark {
+            next: 0,
+            total: 0,
+            place: 0,
+            count: UNITS_AT as u8,
+            words: MarkWords::new(),
+        }
+    }
+
+    /// Becomes the mark of a clock's words, under a profile with these copies. It is written where it is, since it is long to copy.
+    pub(crate) fn set(
+        &mut self,
+        words: &Words,
+        profile: &Profile,
+        copies: &Copies,
+        shape: &MarkShape,
+    )
         requires follows { AreWordsInTurn profile.now words.now }
         requires copies { AreCopies profile.now copies.now }
-        ensures progress { (result.next ≡ words.now.progress.next) × (result.total ≡ words.now.progress.total) × (result.place ≡ words.now.progress.parcel % 4) }
-        ensures count { result.count ≡ word_count (kept_in shape.now.kept) }
-        ensures writers { (r : Reg) → r.digit ≤ 7 → get_or result.words.words (index_of r) 0 ≡ word_of words.now.done.words r }
-        ensures readers { (r : Reg) → r.digit ≤ 7 → get_or result.words.words (READERS_AT + index_of r) 0 ≡ word_of words.now.read.words r }
-        ensures memory { (get_or result.words.words REFERENCES_AT 0 ≡ words.now.progress.refs) × (get_or result.words.words STORES_AT 0 ≡ words.now.progress.stores) }
-        ensures units { (kind : Kind) → AreLatest (kept_in shape.now.kept kind) (units_of profile.now kind words.now.units.words) (words_from (first_kept (kept_in shape.now.kept) kind) (kept_in shape.now.kept kind) result.words.words) }
+        ensures progress { (self.new.next ≡ words.now.progress.next) × (self.new.total ≡ words.now.progress.total) × (self.new.place ≡ words.now.progress.parcel % 4) }
+        ensures count { self.new.count ≡ word_count (kept_in shape.now.kept) }
+        ensures writers { (r : Reg) → r.digit ≤ 7 → get_or self.new.words.words (index_of r) 0 ≡ word_of words.now.done.words r }
+        ensures readers { (r : Reg) → r.digit ≤ 7 → get_or self.new.words.words (READERS_AT + index_of r) 0 ≡ word_of words.now.read.words r }
+        ensures memory { (get_or self.new.words.words REFERENCES_AT 0 ≡ words.now.progress.refs) × (get_or self.new.words.words STORES_AT 0 ≡ words.now.progress.stores) }
+        ensures units { (kind : Kind) → AreLatest (kept_in shape.now.kept kind) (units_of profile.now kind words.now.units.words) (words_from (first_kept (kept_in shape.now.kept) kind) (kept_in shape.now.kept kind) self.new.words.words) }
     {
         let progress = words.progress;
-        let mut marked = MarkWords::new();
+        let marked = &mut self.words;
         marked.put_registers(0, &words.done);
         marked.put_registers(READERS_AT, &words.read);
         marked.words[REFERENCES_AT] = progress.refs as u16;
         marked.words[STORES_AT] = progress.stores as u16;
         let count = marked.put_all_units(&words.units, copies, shape);
-        Mark {
-            next: progress.next as u16,
-            total: progress.total as u16,
-            place: (progress.parcel % 4) as u8,
-            count: count as u8,
-            words: marked,
-        }
+        self.next = progress.next as u16;
+        self.total = progress.total as u16;
+        self.place = (progress.parcel % 4) as u8;
+        self.count = count as u8;
     }
 }

@@ -3,9 +3,8 @@ use Rattle.std.proofs.lemmas.List.{get_or-set_same, get_or-set_other, length-set
 use Rattle.s66_time.specs.KeptUnits.{first_kept}
 use Rattle.s66_time.specs.LatestWords.{words_from, kept_in, AreLatest}
 use Rattle.s66_time.specs.Places.{first_unit}
-use Rattle.s66_time.proofs.Back.{zeros}
 use Rattle.s66_time.proofs.MarkedWords.{early-done, early-read, early-refs, early-stores, early-units}
-use Rattle.s66_time.proofs.mark.Mark.of.Goals as goal
+use Rattle.s66_time.proofs.mark.Mark.set.Goals as goal
 
 pub put_registers-requires-clause-early : goal.put_registers-requires-clause-early
 put_registers-requires-clause-early c =
@@ -29,20 +28,10 @@ overflow_cast-marked-2 c =
     let early : c.args.words.now.progress.stores < 65536 = early-stores c.args.profile.now s c.args.words.now is turn in
     search rules
 
-pub put_all_units-count-requires-clause-early : goal.put_all_units-count-requires-clause-early
-put_all_units-count-requires-clause-early c = λ kind i lt.
+pub put_all_units-count-requires : goal.put_all_units-count-requires
+put_all_units-count-requires c = λ kind i lt.
     let (s, is, turn) = c.requires.follows in
     early-units c.args.profile.now s c.args.words.now is turn kind i (omega (arith, lt, c.requires.copies kind))
-
-pub put_all_units-count-requires-clause-zeros : goal.put_all_units-count-requires-clause-zeros
-put_all_units-count-requires-clause-zeros c = λ j le.
-    let words = c.put_registers-2.new.self.words in
-    let refs = c.args.words.now.progress.refs in
-    get_or-set_other (set words 48 refs) 49 j c.args.words.now.progress.stores 0 (λ e. omega (arith, le, e))
-    ∙ get_or-set_other words 48 j refs 0 (λ e. omega (arith, le, e))
-    ∙ c.put_registers-2.ensures.others j (inr (omega (arith, le)))
-    ∙ c.put_registers.ensures.others j (inr (omega (arith, le)))
-    ∙ ap (λ ws. get_or ws j 0) c.new-marked.ensures ∙ zeros 178 j
 
 pub returns-clause-memory : goal.returns-clause-memory
 returns-clause-memory c =

@@ -11,10 +11,10 @@ use Rattle.s66_time.proofs.Clocks.{clock-words, clock-turn}
 use Rattle.s66_time.proofs.KeptUnits.{count-same, first-same}
 use Rattle.s66_time.proofs.LatestWords.{own-at}
 use Rattle.s66_time.proofs.MarkedWords.{latest-free}
-use Rattle.s66_time.proofs.clock.Clock.mark.Goals as goal
+use Rattle.s66_time.proofs.clock.Clock.set_mark.Goals as goal
 
-pub of-requires-clause-follows : goal.of-requires-clause-follows
-of-requires-clause-follows c =
+pub set-requires-clause-follows : goal.set-requires-clause-follows
+set-requires-clause-follows c =
     let b : Problem = record { block = instrs_of c.self.inside.block.now; profile = c.self.inside.profile } in
     let ks = c.self.inside.steps in
     (points_of b (numbers_of ks), clock-words b c.self.inside.words ks c.self.invariant.clock, clock-turn b c.self.inside.words ks c.self.invariant.clock)
@@ -25,7 +25,7 @@ returns c =
     let ks = c.self.inside.steps in
     let s = points_of b (numbers_of ks) in
     let w = c.self.inside.words in
-    let m = c.of.result in
+    let m = c.set.new.self in
     let f : Kind → ℕ = kept_in c.self.inside.shape.kept in
     let same : (kind : Kind) → f kind ≡ kept_of b kind = c.self.invariant.kept in
     let is : IsWords b.profile s w = clock-words b w ks c.self.invariant.clock in
@@ -34,16 +34,16 @@ returns c =
       begins = c.self.invariant.clock.begins;
       few = c.self.invariant.clock.few;
       digits = c.self.invariant.digits;
-      next = c.of.ensures.progress.0 ∙ is.next;
-      total = c.of.ensures.progress.1 ∙ is.total;
-      phase = c.of.ensures.progress.2 ∙ ap (λ n. n % 4) is.parcel;
-      count = c.of.ensures.count ∙ count-same f (kept_of b) same;
-      writers = λ r low. c.of.ensures.writers r low ∙ is.done r low;
-      readers = λ r low. c.of.ensures.readers r low ∙ is.read r low;
-      references = c.of.ensures.memory.0 ∙ is.refs;
-      stores = c.of.ensures.memory.1 ∙ is.stores;
+      next = c.set.ensures.progress.0 ∙ is.next;
+      total = c.set.ensures.progress.1 ∙ is.total;
+      phase = c.set.ensures.progress.2 ∙ ap (λ n. n % 4) is.parcel;
+      count = c.set.ensures.count ∙ count-same f (kept_of b) same;
+      writers = λ r low. c.set.ensures.writers r low ∙ is.done r low;
+      readers = λ r low. c.set.ensures.readers r low ∙ is.read r low;
+      references = c.set.ensures.memory.0 ∙ is.refs;
+      stores = c.set.ensures.memory.1 ∙ is.stores;
       units = λ kind i lt.
           let within : i < f kind = omega (arith, lt, same kind) in
           sym (own-at (first_kept f kind) (f kind) i m.words.words within ∙ ap (λ n. get_or m.words.words (n + i) 0) (first-same f (kept_of b) kind same))
-          ∙ latest-free b.profile s w kind (f kind) (words_from (first_kept f kind) (f kind) m.words.words) is (omega (arith, same kind)) (c.of.ensures.units kind) i within;
+          ∙ latest-free b.profile s w kind (f kind) (words_from (first_kept f kind) (f kind) m.words.words) is (omega (arith, same kind)) (c.set.ensures.units kind) i within;
     })
