@@ -5,6 +5,8 @@ use Rattle.s66_dep.specs.Members.{numbers_in}
 use Rattle.s66_isa.specs.Lists.{has}
 use Rattle.s66_model.specs.Timing.{Problem}
 use Rattle.s66_time.specs.Marks.{IsMarkOf}
+use Rattle.s66_time.specs.declared.mark.Mark.{Mark}
+use Rattle.s66_dep.specs.declared.set.Set.{Set}
 use Rattle.s66_node.specs.declared.marks.Entry.{Entry}
 use Rattle.s66_node.specs.declared.marks.TheConstants.{TABLE_LIMIT}
 
@@ -18,9 +20,12 @@ abbrev pub numbers_of : Entry → List ℕ
 numbers_of e = e.numbers.items
 
 -- the mark is that of the numbers, and the set has just these
-pub record IsEntry (b : Problem) (e : Entry) : Type 0 where
-  pub mark : IsMarkOf b e.numbers.items e.mark
-  pub pushed : (m : ℕ) → has m (numbers_in e.pushed) ≡ has m e.numbers.items
+pub record IsEntryOf (b : Problem) (set : Set) (kept : Mark) (numbers : List ℕ) : Type 0 where
+  pub mark : IsMarkOf b numbers kept
+  pub pushed : (m : ℕ) → has m (numbers_in set) ≡ has m numbers
+
+abbrev pub IsEntry : Problem → Entry → Type 0
+IsEntry b e = IsEntryOf b e.pushed e.mark e.numbers.items
 
 pub record AreEntries (b : Problem) (entries : List Entry) : Type 0 where
   pub few : length entries ≤ TABLE_LIMIT

@@ -5,11 +5,12 @@ ghost use Rattle.s66_model.specs.LegalOrder.{IsIncomplete};
 ghost use Rattle.s66_model.specs.Dominance.{IsSameSet};
 ghost use Rattle.s66_model.specs.DominatedLeaves.{IsEarlier, DominatesByRule};
 ghost use Rattle.s66_time.specs.Marks.{IsMarkOf};
-ghost use Rattle.s66_node.specs.MarkTables.{IsEntry, AreEntries, numbers_of};
+ghost use Rattle.s66_isa.specs.declared.limits.TheConstants.{BLOCK_LIMIT};
+ghost use Rattle.s66_node.specs.MarkTables.{IsEntryOf, AreEntries, numbers_of};
 ghost use Rattle.s66_node.specs.declared.marks.TheConstants.{TABLE_LIMIT};
 
 use crate::chains::{Chains, NONE};
-use crate::name::Place;
+use crate::name::{Name, Place};
 use crate::walk::{Walk, common_length};
 use crate::whole_order::copy_of;
 use arrayvec::ArrayVec;
@@ -19,6 +20,7 @@ use s66_line::Block;
 use s66_model::Rule;
 use s66_time::{Mark, dominates, dominates_clamped};
 use std::alloc::{AllocError, Global};
+use std::boxed::Box;
 use std::marker::Model;
 
 /// The most marks of one set of numbers that are kept to be compared clamped.
@@ -53,6 +55,8 @@ pub struct Marks<'a> {
     unsettled: Vec<u32>,
     /// The indices of the entries, by the hashes of their sets.
     chains: Chains,
+    /// Room for the mark of a prefix that is looked for or kept.
+    room: Mark,
 }
 
 impl<'a> Model for Marks<'a> {
@@ -176,12 +180,24 @@ fn make_place(
     chains.add_place()
 }
 
-/// Puts an entry in the place of that of an index, or after all.
-fn put_entry(entries: &mut Vec<Entry>, index: usize, entry: Entry) -> Result<(), AllocError>
-    requires { index < TABLE_LIMIT }
-    ensures entries { (b : Problem) → IsEntry b entry → AreEntries b entries.old.items → AreEntries b entries.new.items }
-    ensures known { (name : List ℕ) → Among name (map numbers_of entries.new.items) → (name ≡ entry.numbers.items) ⊎ Among name (map numbers_of entries.old.items) }
+/// Puts an entry of this set, with this mark and these numbers, in the place of that of an index, or after all.
+fn put_entry(
+    entries: &mut Vec<Entry>,
+    index: usize,
+    pushed: &Set,
+    mark: &Mark,
+    numbers: &[u8],
+) -> Result<(), AllocError>
+    requires few { length numbers.now ≤ BLOCK_LIMIT }
+    requires within { index < TABLE_LIMIT }
+    ensures entries { (b : Problem) → IsEntryOf b pushed.now mark.now numbers.now → AreEntries b entries.old.items → AreEntries b entries.new.items }
+    ensures known { (name : List ℕ) → Among name (map numbers_of entries.new.items) → (name ≡ numbers.now) ⊎ Among name (map numbers_of entries.old.items) }
 {
+    let entry = Entry {
+        pushed: *pushed,
+        mark: *mark,
+        numbers: copy_of(numbers),
+    };
     if index < entries.len() {
         entries[index] = entry;
     } else {
@@ -230,7 +246,7 @@ impl Entry {
 }
 
 impl<'a> Marks<'a> {
-    ghost use Rattle.std.specs.Prelude.{ℕ, ◌≡◌, ◌⊎◌, ◌++◌, [], ◌∷◌, List, IfSome, IfNone};
+    ghost use Rattle.std.specs.Prelude.{ℕ, ◌≡◌, ◌⊎◌, ◌++◌, [], ◌∷◌, List, IfOk, IfSome, IfNone};
     ghost use Rattle.s66_dep.specs.Members.{numbers_in};
     ghost use Rattle.s66_isa.specs.Lists.{has};
     ghost use Rattle.s66_time.specs.Marks.{IsMarkOf};
@@ -238,7 +254,7 @@ impl<'a> Marks<'a> {
     ghost use Rattle.s66_line.specs.Block.{instrs_of};
     ghost use Rattle.s66_model.specs.LegalOrder.{IsIncomplete};
     ghost use Rattle.s66_model.specs.DominatedLeaves.{DominatesByRule};
-    ghost use Rattle.s66_node.specs.MarkTables.{IsEntry, numbers_of};
+    ghost use Rattle.s66_node.specs.MarkTables.{IsEntry, IsEntryOf, numbers_of};
 
     /// No mark.
     pub fn new(alloc: Global, block: &'a Block<'a>, profile: &Profile) -> Marks<'a>
@@ -264,6 +280,7 @@ impl<'a> Marks<'a> {
             places: Vec::new(alloc),
             unsettled: Vec::new(alloc),
             chains: Chains::new(alloc),
+            room: Mark::blank(),
         }
     }
 
@@ -286,6 +303,25 @@ impl<'a> Marks<'a> {
         ensures few { IfSome result (λ found. length found.0.now ≤ BLOCK_LIMIT) }
     {
         self.find_by(walk, &walk.pushed(), &walk.mark(), rule)
+    }
+
+    /// The name of what `find` finds.
+    pub(crate) fn find_name(
+        &mut self,
+        alloc: Global,
+        walk: &Walk<'_>,
+        rule: Rule,
+    ) -> Result<Option<Box<Name>>, AllocError>
+        requires { self.old.problem ≡ walk.now.problem }
+        ensures same { self.new ≡ self.old }
+        ensures dominates { IfOk result (λ found. IfSome found (λ name. IsIncomplete walk.now.problem.block walk.now.numbers → DominatesByRule rule walk.now.problem name.value.numbers.items walk.now.numbers)) }
+        ensures known { IfOk result (λ found. IfSome found (λ name. Among name.value.numbers.items self.old.names)) }
+    {
+        walk.set_mark(&mut self.room);
+        match self.find_by(walk, &walk.pushed(), &self.room, rule) {
+            Some((numbers, place)) => Ok(Some(Name::new(alloc, numbers, place)?)),
+            None => Ok(None),
+        }
     }
 
     /// What `find` finds, by the set of the prefix's numbers and its mark.
@@ -320,13 +356,19 @@ impl<'a> Marks<'a> {
         None
     }
 
-    /// Keeps an entry and the node that it is, if there is room.
-    fn keep(&mut self, entry: Entry, place: Place) -> Result<(), AllocError>
-        requires { IsEntry self.old.problem entry }
+    /// Keeps an entry of this set, with this mark and these numbers, and the node that it is, if there is room.
+    fn keep(
+        &mut self,
+        pushed: &Set,
+        mark: &Mark,
+        numbers: &[u8],
+        place: Place,
+    ) -> Result<(), AllocError>
+        requires few { length numbers.now ≤ BLOCK_LIMIT }
+        requires entry { IsEntryOf self.old.problem pushed.now mark.now numbers.now }
         ensures same { self.new.problem ≡ self.old.problem }
-        ensures known { (name : List ℕ) → Among name self.new.names → (name ≡ entry.numbers.items) ⊎ Among name self.old.names }
+        ensures known { (name : List ℕ) → Among name self.new.names → (name ≡ numbers.now) ⊎ Among name self.old.names }
     {
-        let hash = entry.pushed.hash();
         let index = match self.chains.reuse() {
             Some(index) => index as usize,
             None => self.entries.len(),
@@ -342,8 +384,8 @@ impl<'a> Marks<'a> {
             index,
             place,
         )?;
-        put_entry(&mut self.entries, index, entry)?;
-        self.chains.put(hash, index as u32);
+        put_entry(&mut self.entries, index, pushed, mark, numbers)?;
+        self.chains.put(pushed.hash(), index as u32);
         Ok(())
     }
 
@@ -354,13 +396,16 @@ impl<'a> Marks<'a> {
         ensures same { self.new.problem ≡ self.old.problem }
         ensures known { (name : List ℕ) → Among name self.new.names → (name ≡ walk.now.numbers) ⊎ Among name self.old.names }
     {
-        let entry = Entry {
-            pushed: walk.pushed(),
-            mark: walk.mark(),
-            numbers: copy_of(walk.numbers()),
-        };
+        walk.set_mark(&mut self.room);
+        let mark = self.room;
         let line = line.min(u32::MAX as usize) as u32;
-        self.put(entry, Place::Line(line), rule);
+        self.put_all_of(
+            &walk.pushed(),
+            &mark,
+            walk.numbers(),
+            Place::Line(line),
+            rule,
+        );
     }
 
     /// Keeps an entry, which is this node, and forgets those beside which it is enough by the rule.
@@ -369,17 +414,33 @@ impl<'a> Marks<'a> {
         ensures same { self.new.problem ≡ self.old.problem }
         ensures known { (name : List ℕ) → Among name self.new.names → (name ≡ entry.numbers.items) ⊎ Among name self.old.names }
     {
+        self.put_all_of(
+            &entry.pushed,
+            &entry.mark,
+            entry.numbers.as_slice(),
+            place,
+            rule,
+        );
+    }
+
+    /// Keeps an entry of this set, with this mark and these numbers, as `put` does.
+    fn put_all_of(&mut self, pushed: &Set, mark: &Mark, numbers: &[u8], place: Place, rule: Rule)
+        requires few { length numbers.now ≤ BLOCK_LIMIT }
+        requires entry { IsEntryOf self.old.problem pushed.now mark.now numbers.now }
+        ensures same { self.new.problem ≡ self.old.problem }
+        ensures known { (name : List ℕ) → Among name self.new.names → (name ≡ numbers.now) ⊎ Among name self.old.names }
+    {
         let stay = remove_dominated(
             &mut self.chains,
             self.entries.as_slice(),
-            &entry.pushed,
-            &entry.mark,
+            pushed,
+            mark,
             rule,
         );
         if rule == Rule::ClampedStanding && stay >= LIST_LIMIT {
             return;
         }
-        let _ = self.keep(entry, place);
+        let _ = self.keep(pushed, mark, numbers, place);
     }
 
     /// Takes the last entry out, with the node that it is. Before the table is empty, `find` may miss entries that are left.

@@ -87,10 +87,7 @@ impl Naming for Marks<'_> {
         walk: &Walk<'_>,
         rule: Rule,
     ) -> Result<Option<Box<Name>>, AllocError> {
-        match self.find(walk, rule) {
-            Some((numbers, place)) => Ok(Some(Name::new(alloc, numbers, place)?)),
-            None => Ok(None),
-        }
+        Marks::find_name(self, alloc, walk, rule)
     }
 
     fn keep_split(&mut self, walk: &Walk<'_>, rule: Rule, line: usize) {

@@ -290,6 +290,13 @@ impl<'a> Walk<'a> {
         self.clock.mark()
     }
 
+    /// Makes of any mark the one that `mark` returns, where it is.
+    pub fn set_mark(&self, mark: &mut Mark)
+        ensures { IsMarkOf self.now.problem self.now.numbers mark.new }
+    {
+        self.clock.set_mark(mark);
+    }
+
     /// The set of the prefix's numbers.
     pub fn pushed(&self) -> Set
         ensures { (m : ℕ) → has m (numbers_in result) ≡ has m self.now.numbers }
