@@ -1,6 +1,7 @@
 use crate::shared_marks::{SharedMarks, Token, name_in};
 use s66_model::Rule;
 use s66_node::{Marks, Name, Naming, Place, State, Walk};
+use s66_time::Mark;
 use std::alloc::{AllocError, Global};
 use std::boxed::Box;
 use std::marker::Model;
@@ -13,6 +14,8 @@ pub(crate) struct Known<'s, 'b, R> {
     own: Marks<'b>,
     settled: &'s SharedMarks<'b>,
     token: Token<'b>,
+    /// Room for the mark of a prefix that is looked for.
+    room: Mark,
 }
 
 impl<'s, 'b, R> Model for Known<'s, 'b, R> {
@@ -39,6 +42,7 @@ impl<'s, 'b, R: Wait> Known<'s, 'b, R> {
             own: Marks::new(alloc, settled.block(), settled.profile()),
             settled,
             token: settled.token(),
+            room: Mark::blank(),
         }
     }
 
@@ -76,14 +80,14 @@ impl<R: Wait> Naming for Known<'_, '_, R> {
         rule: Rule,
     ) -> Result<Option<Box<Name>>, AllocError> {
         let pushed = walk.pushed();
-        let mark = walk.mark();
-        let own = name_in(alloc, &self.own, walk, &pushed, &mark, rule)?;
+        walk.set_mark(&mut self.room);
+        let own = name_in(alloc, &self.own, walk, &pushed, &self.room, rule)?;
         if own.is_some() || rule != Rule::ClampedStanding {
             return Ok(own);
         }
         let token = &mut self.token;
         self.settled
-            .find_name(self.rt, token, alloc, walk, &pushed, &mark, rule)
+            .find_name(self.rt, token, alloc, walk, &pushed, &self.room, rule)
     }
 
     fn keep_split(&mut self, walk: &Walk<'_>, rule: Rule, line: usize) {
