@@ -107,12 +107,16 @@ fn use_time(sum: u32, copies: u32) -> u32 {
     }
 }
 
-/// The best of those that begin so late, or what was better.
-fn best_after(ways: &[Way], copies: u32, after: u32, best: Best) -> Best {
+/// The best of those that begin so late, or what was better. The ways are sorted, and all their uses together take no longer than this.
+fn best_after(ways: &[Way], copies: u32, longest: u32, after: u32, best: Best) -> Best {
     let mut best = best;
     let mut seen = Set::empty();
     let mut sum = 0u32;
     for way in ways {
+        // those that follow have no more left
+        if (after as i64 + longest as i64).saturating_add(way.left) <= best.wait {
+            return best;
+        }
         let n = way.number;
         if way.head >= after && !seen.has(n) && n >= 1 && n as usize <= BLOCK_LIMIT {
             seen = seen.with(n);
@@ -130,29 +134,36 @@ fn best_after(ways: &[Way], copies: u32, after: u32, best: Best) -> Best {
     best
 }
 
-/// Whether some load of these numbers could say more than a wait: no use begins later than it starts, and no more is left than after
-/// its issue.
+/// How long so many units have work by all of these numbers.
+fn time_of_all(rows: &[Row], numbers: Set, copies: u32) -> u32 {
+    let mut sum = 0u32;
+    for n in numbers.numbers().as_slice() {
+        sum = sum.saturating_add(amount_of(rows, *n));
+    }
+    use_time(sum, copies)
+}
+
+/// Whether some load of these numbers, whose uses take so long together, could say more than a wait: no use begins later than it starts,
+/// and no more is left than after its issue.
 fn may_pass(
     rows: &[Row],
     spans: &Spans,
     from: usize,
     to: usize,
     numbers: Set,
-    copies: u32,
+    longest: u32,
     wait: u32,
 ) -> bool {
     let mut latest = 0u32;
     let mut most = i64::MIN;
-    let mut sum = 0u32;
     for n in numbers.numbers().as_slice() {
         let amount = amount_of(rows, *n);
         let head = spans.between(from, at_start(*n)).unwrap_or(0);
         let tail = spans.between(at_issue(*n), to).unwrap_or(0);
         latest = latest.max(head);
         most = most.max(tail as i64 - amount as i64);
-        sum = sum.saturating_add(amount);
     }
-    most.saturating_add(latest as i64 + use_time(sum, copies) as i64) > wait as i64
+    most.saturating_add(latest as i64 + longest as i64) > wait as i64
 }
 
 /// What says most of these numbers between two places, and more than a wait, if something does. It takes time quadratic in how many
@@ -166,7 +177,8 @@ pub fn best_load(
     copies: u32,
     wait: u32,
 ) -> Option<Best> {
-    if !may_pass(rows, spans, from, to, numbers, copies, wait) {
+    let longest = time_of_all(rows, numbers, copies);
+    if !may_pass(rows, spans, from, to, numbers, longest, wait) {
         return None;
     }
     let mut ways = ways_of(rows, spans, from, to, numbers);
@@ -178,7 +190,7 @@ pub fn best_load(
     };
     for way in ways.as_slice() {
         if way.head <= WAIT_LIMIT {
-            best = best_after(ways.as_slice(), copies, way.head, best);
+            best = best_after(ways.as_slice(), copies, longest, way.head, best);
         }
     }
     if best.wait > wait as i64 {
