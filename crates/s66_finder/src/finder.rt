@@ -6,11 +6,12 @@ ghost use Rattle.s66_isa.specs.declared.limits.TheConstants.{BLOCK_LIMIT};
 use crate::ground::Ground;
 use crate::known::Known;
 use crate::limits::{PASSES_LIMIT, ROUNDS_LIMIT, WAIT_LIMIT};
-use crate::lines::copies_of;
+use crate::lines::{copies_of, copy_of_line};
+use crate::needed::needed_of;
 use crate::network::Network;
 use crate::pairs::Forced;
 use crate::spans::{FROM_ORIGIN, Spans, TO_END, at_issue};
-use crate::taken::Taken;
+use crate::taken::{Taken, word};
 use crate::ways::{Best, best_load, users_in};
 use s66_dep::Set;
 use s66_facts::{Facts, Times};
@@ -57,14 +58,6 @@ fn back_place(n: u8) -> usize {
     match n {
         0 => TO_END,
         _ => at_issue(n),
-    }
-}
-
-/// How long a path is, at most 2^32 - 1; 0 if there is none.
-fn word(time: Option<u64>) -> u32 {
-    match time {
-        None => 0,
-        Some(time) => time.min(u32::MAX as u64) as u32,
     }
 }
 
@@ -123,15 +116,7 @@ impl Finder {
     /// The number whose issue is followed by the longest path to the end, and how long that is: all orders take so long at least, if they
     /// take less than the bounds for which lines were taken.
     pub fn root(&self) -> (u8, u32) {
-        let tails = self.taken.facts().tails();
-        let mut longest = (0, 0);
-        for position in 0..BLOCK_LIMIT {
-            let time = word(tails[position].issue);
-            if time > longest.1 {
-                longest = ((position + 1) as u8, time);
-            }
-        }
-        longest
+        self.taken.root()
     }
 
     /// What follows the stages of each number; that of n is at n - 1.
@@ -167,6 +152,38 @@ impl Finder {
             taken: self.taken.duplicate(),
             lines: copies_of(self.alloc, self.lines.as_slice())?,
         })
+    }
+
+    /// The same with some of its lines, in their order, after which a path from an issue to the end still takes the bound, if one does:
+    /// as few as are found. Its lines are to hold for the bound.
+    ///
+    /// It takes the time of some `TAKES_LIMIT` load lines that are taken in. `Err` is out of memory.
+    pub fn needed(&self, bound: u32) -> Result<Finder, AllocError> {
+        if self.root().1 < bound {
+            return self.duplicate();
+        }
+        let lines = self.lines.as_slice();
+        let places = needed_of(self.alloc, self.ground.first_known(), lines, bound)?;
+        let mut other = self.without_lines();
+        for place in places.as_slice() {
+            if let Some(line) = lines.get(*place) {
+                other.take(bound, copy_of_line(line))?;
+            }
+        }
+        if other.root().1 < bound {
+            return self.duplicate();
+        }
+        Ok(other)
+    }
+
+    /// A finder of the block that knows only what follows by dependence.
+    fn without_lines(&self) -> Finder {
+        Finder {
+            alloc: self.alloc,
+            ground: self.ground.duplicate(),
+            taken: self.ground.first_known(),
+            lines: Vec::new(self.alloc),
+        }
     }
 
     /// The arcs by what is known.

@@ -3,18 +3,32 @@
 ghost use Rattle.std.specs.Prelude.{◌≤◌, length};
 ghost use Rattle.s66_isa.specs.declared.limits.TheConstants.{BLOCK_LIMIT};
 
+use crate::taken::Taken;
 use arrayvec::ArrayVec;
 use s66_dep::Set;
 use s66_isa::{BLOCK_LIMIT, Instr, KIND_COUNT, KINDS, Kind, Profile, Row, kind_number};
 
-/// The rows of a block, and its units.
+/// A block under a profile, its rows, and its units.
 #[derive(Debug, Drop)]
 pub struct Ground {
+    block: ArrayVec<Instr, BLOCK_LIMIT>,
+    profile: Profile,
     rows: ArrayVec<Row, BLOCK_LIMIT>,
     /// How many units there are of each kind, by its number.
     copies: [u32; KIND_COUNT],
     /// The numbers that need one of each kind.
     users: [Set; KIND_COUNT],
+}
+
+/// The same instructions.
+fn copy_of(block: &[Instr]) -> ArrayVec<Instr, BLOCK_LIMIT> {
+    let mut copy = ArrayVec::new();
+    for instr in block {
+        if !copy.is_full() {
+            copy.push(*instr);
+        }
+    }
+    copy
 }
 
 /// The rows of a block's instructions.
@@ -56,6 +70,8 @@ impl Ground {
         let rows = rows_of(block, profile);
         let users = users_of(rows.as_slice());
         Ground {
+            block: copy_of(block),
+            profile: *profile,
             rows,
             copies: copies_of(profile),
             users,
@@ -71,10 +87,17 @@ impl Ground {
             }
         }
         Ground {
+            block: copy_of(self.block.as_slice()),
+            profile: self.profile,
             rows,
             copies: self.copies,
             users: self.users,
         }
+    }
+
+    /// What is known of the block by dependence alone.
+    pub fn first_known(&self) -> Taken {
+        Taken::new(self.block.as_slice(), &self.profile)
     }
 
     /// The rows; that of number n is at n - 1.

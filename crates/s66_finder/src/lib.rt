@@ -7,6 +7,7 @@ mod ground;
 mod known;
 mod limits;
 mod lines;
+mod needed;
 mod network;
 mod nodes;
 mod pairs;
@@ -15,4 +16,4 @@ mod taken;
 mod ways;
 
 pub use finder::Finder;
-pub use limits::{PASSES_LIMIT, ROUNDS_LIMIT, WAIT_LIMIT};
+pub use limits::{PASSES_LIMIT, ROUNDS_LIMIT, TAKES_LIMIT, WAIT_LIMIT};

@@ -6,3 +6,6 @@ pub const PASSES_LIMIT: u8 = 16;
 
 /// The longest wait of a load line, and the latest first use, in minor cycles.
 pub const WAIT_LIMIT: u32 = 65_535;
+
+/// How many lines are taken in, some more than once, to find out which are needed.
+pub const TAKES_LIMIT: u32 = 2_000;

@@ -21,14 +21,19 @@ fn copy_of(load: &LoadLine) -> LoadLine {
     }
 }
 
+/// The same line.
+pub fn copy_of_line(line: &FactLine) -> FactLine {
+    match line {
+        FactLine::Pair(m, n) => FactLine::Pair(*m, *n),
+        FactLine::Load(load) => FactLine::Load(copy_of(load)),
+    }
+}
+
 /// The same lines.
 pub fn copies_of(alloc: Global, lines: &[FactLine]) -> Result<Vec<FactLine>, AllocError> {
     let mut copies = Vec::new(alloc);
     for line in lines {
-        copies.push(match line {
-            FactLine::Pair(m, n) => FactLine::Pair(*m, *n),
-            FactLine::Load(load) => FactLine::Load(copy_of(load)),
-        })?;
+        copies.push(copy_of_line(line))?;
     }
     Ok(copies)
 }

@@ -6,7 +6,7 @@ ghost use Rattle.s66_facts.specs.declared.limits.TheConstants.{FACT_LIMIT};
 ghost use Rattle.s66_facts.specs.Ground.{known_of};
 
 use s66_facts::{FACT_LIMIT, Facts};
-use s66_isa::{Instr, Profile};
+use s66_isa::{BLOCK_LIMIT, Instr, Profile};
 use s66_moments::FactLine;
 
 /// What is known, and how many lines were taken, of which some are load lines.
@@ -15,6 +15,14 @@ pub struct Taken {
     facts: Facts,
     lines: usize,
     ghost room: { length (known_of facts).loads ≤ lines },
+}
+
+/// How long a path is, at most 2^32 - 1; 0 if there is none.
+pub fn word(time: Option<u64>) -> u32 {
+    match time {
+        None => 0,
+        Some(time) => time.min(u32::MAX as u64) as u32,
+    }
 }
 
 /// Takes a line in if it is right, and returns whether it is.
@@ -45,6 +53,19 @@ impl Taken {
         &self.facts
     }
 
+    /// The number whose issue is followed by the longest path to the end, and how long that is; 0 and 0 if there is no path.
+    pub fn root(&self) -> (u8, u32) {
+        let tails = self.facts.tails();
+        let mut longest = (0, 0);
+        for position in 0..BLOCK_LIMIT {
+            let time = word(tails[position].issue);
+            if time > longest.1 {
+                longest = ((position + 1) as u8, time);
+            }
+        }
+        longest
+    }
+
     /// Whether the block has both numbers, and m is known to stand before n.
     pub fn is_before(&self, m: u8, n: u8) -> bool {
         let count = self.facts.count();
@@ -61,6 +82,14 @@ impl Taken {
             self.lines += 1;
         }
         is_taken
+    }
+
+    /// The same, but for a pair that is known.
+    pub fn take_new(&mut self, bound: u32, line: &FactLine) -> bool {
+        match line {
+            FactLine::Pair(m, n) if self.is_before(*m, *n) => false,
+            _ => self.take(bound, line),
+        }
     }
 
     /// The same.
