@@ -3,11 +3,11 @@ ghost use Rattle.s66_line.specs.Block.{instrs_of};
 ghost use Rattle.s66_model.specs.Timing.{total_of};
 
 use crate::depth::{Kept, next_depth};
-use crate::probe::Probe;
 use s66_dep::Order;
 use s66_isa::{BLOCK_LIMIT, Profile};
 use s66_line::Block;
 use s66_paths::Tails;
+use s66_prefix::Prefix;
 use s66_time::{Timed, time_of};
 use std::alloc::{AllocError, Global};
 
@@ -47,11 +47,11 @@ pub fn beam_below(
     ensures problem { IfOk result (λ found. IfSome found (λ timed. timed.problem ≡ record { block = instrs_of block.now; profile = profile.now })) }
     ensures below { IfOk result (λ found. IfSome found (λ timed. total_of timed.problem timed.numbers < best)) }
 {
-    let mut probe = Probe::new(block, profile, tails);
+    let mut prefix = Prefix::new(block, profile, tails);
     let mut kept = Vec::new(alloc);
     kept.push(Kept::empty())?;
     for _ in 0..block.count() {
-        kept = next_depth(alloc, &mut probe, kept.as_slice(), width, best)?;
+        kept = next_depth(alloc, &mut prefix, kept.as_slice(), width, best)?;
     }
     match kept.first() {
         Some(one) => Ok(timed_below(block, profile, one.numbers.as_slice(), best)),

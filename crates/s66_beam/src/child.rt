@@ -1,13 +1,5 @@
+use crate::merit::Merit;
 use s66_dep::Set;
-
-/// How promising a beginning is: less is better, and what comes first decides first.
-#[derive(Clone, Copy, Debug, PartialEq, Eq, PartialOrd, Ord)]
-pub struct Merit {
-    /// In minor cycles; by tails that are right, no completion takes less.
-    pub floor: u32,
-    /// The next slot, with a share for how late units and results are.
-    pub reach: u32,
-}
 
 /// A beginning that goes on from one that is kept by a number.
 #[derive(Clone, Copy, Debug)]

@@ -1,10 +1,11 @@
 //! One step of the search: from the beginnings of one length that are kept to those that are one number longer.
 
-use crate::child::{Child, Merit, Rank};
-use crate::probe::Probe;
+use crate::child::{Child, Rank};
+use crate::merit::Merit;
 use arrayvec::ArrayVec;
 use s66_dep::Set;
 use s66_isa::BLOCK_LIMIT;
+use s66_prefix::Prefix;
 use s66_time::{Mark, dominates_clamped};
 use std::alloc::{AllocError, Global};
 
@@ -53,20 +54,20 @@ impl Kept {
     }
 }
 
-/// Adds the children of the prefix at which the probe is, one of these kept ones, whose floors are below the best.
+/// Adds the children of this prefix, one of these kept ones, whose floors are below the best.
 fn push_children(
-    probe: &mut Probe<'_>,
+    prefix: &mut Prefix<'_>,
     parent: usize,
     floor: u32,
     best: u32,
     children: &mut Vec<Child>,
 ) -> Result<(), AllocError> {
-    let mut rest = probe.ready();
+    let mut rest = prefix.ready();
     while let Some(number) = rest.pop_first() {
-        if probe.try_push(number) {
-            let merit = probe.merit(floor);
-            let placed = probe.pushed();
-            probe.undo();
+        if prefix.try_push(number) {
+            let merit = Merit::of(prefix, floor);
+            let placed = prefix.pushed();
+            prefix.undo();
             if merit.floor < best {
                 children.push(Child {
                     merit,
@@ -93,7 +94,7 @@ fn is_dominated(seen: &[Seen], other: &Seen) -> bool {
 /// The children of the first `width` of these that aren't dominated by one before.
 fn children_of(
     alloc: Global,
-    probe: &mut Probe<'_>,
+    prefix: &mut Prefix<'_>,
     kept: &[Kept],
     width: usize,
     best: u32,
@@ -105,14 +106,14 @@ fn children_of(
             break;
         }
         let one = &kept[parent];
-        probe.go_to(one.numbers.as_slice());
+        prefix.go_to(one.numbers.as_slice());
         let this = Seen {
             placed: one.placed,
-            mark: probe.mark(),
+            mark: prefix.mark(),
         };
         if !is_dominated(seen.as_slice(), &this) {
             seen.push(this)?;
-            push_children(probe, parent, one.merit.floor, best, &mut children)?;
+            push_children(prefix, parent, one.merit.floor, best, &mut children)?;
         }
     }
     Ok(children)
@@ -171,11 +172,11 @@ fn best_of(
 /// these the first `width` go on that aren't dominated; twice as many are kept, as some will be.
 pub fn next_depth(
     alloc: Global,
-    probe: &mut Probe<'_>,
+    prefix: &mut Prefix<'_>,
     kept: &[Kept],
     width: usize,
     best: u32,
 ) -> Result<Vec<Kept>, AllocError> {
-    let children = children_of(alloc, probe, kept, width, best)?;
+    let children = children_of(alloc, prefix, kept, width, best)?;
     best_of(alloc, kept, children.as_slice(), width.saturating_mul(2))
 }

@@ -4,6 +4,6 @@
 mod beam;
 mod child;
 mod depth;
-mod probe;
+mod merit;
 
 pub use beam::beam_below;
