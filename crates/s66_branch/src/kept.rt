@@ -1,8 +1,9 @@
-//! The prefixes that were split, to be found by the sets of their numbers.
+//! The prefixes that may dominate others, to be found by the sets of their numbers.
 
 ghost use Rattle.std.specs.Prelude.{◌≤◌, length};
 ghost use Rattle.s66_branch.specs.declared.kept.TheConstants.{KEPT_LIMIT};
 
+use crate::nodes::Nodes;
 use s66_dep::Set;
 use s66_time::{Mark, dominates_clamped};
 use std::alloc::{AllocError, Global};
@@ -19,24 +20,32 @@ const LOOK_LIMIT: usize = 64;
 /// The most prefixes that are kept.
 const KEPT_LIMIT: usize = 262_144;
 
-/// A prefix that was split.
-#[derive(Debug, Drop)]
-struct Entry {
+/// What is looked at of a prefix before its mark.
+#[derive(Clone, Copy, Debug)]
+struct Key {
     /// The set of its numbers.
     pushed: Set,
-    mark: Mark,
-    /// The number of its line in the document.
-    line: u32,
+    /// The index of its node.
+    node: u32,
     /// The place of the next one in its list.
     next: u32,
 }
 
-/// Prefixes that were split, each in the list of the hash of its set, some 400 bytes each. At most 262,144 are kept.
+/// A prefix as it is looked for: its node, the set of its numbers, and its mark.
+#[derive(Clone, Copy, Debug)]
+pub struct Sought {
+    pub node: u32,
+    pub pushed: Set,
+    pub mark: Mark,
+}
+
+/// Prefixes, each in the list of the hash of its set, some 400 bytes each. At most 262,144 are kept.
 ///
 /// Nothing is promised of what is in which list: who looks for a set compares it with that of each entry.
 #[derive(Debug, Drop)]
 pub struct Kept {
-    entries: Vec<Entry>,
+    keys: Vec<Key>,
+    marks: Vec<Mark>,
     /// The place of the first entry of each list.
     firsts: Vec<u32>,
 }
@@ -47,21 +56,21 @@ fn list_of(pushed: &Set, lists: usize) -> usize {
     ((pushed.hash() >> 32).wrapping_mul(lists as u64) >> 32) as usize
 }
 
-/// Puts the entry of a place first in its list.
-fn put(entry: &mut Entry, firsts: &mut [u32], place: u32) {
-    let list = list_of(&entry.pushed, firsts.len());
+/// Puts the key of a place first in its list.
+fn put(key: &mut Key, firsts: &mut [u32], place: u32) {
+    let list = list_of(&key.pushed, firsts.len());
     if list < firsts.len() {
-        entry.next = firsts[list];
+        key.next = firsts[list];
         firsts[list] = place;
     }
 }
 
-/// Puts each entry into its list; all lists are empty before.
-fn put_all(entries: &mut [Entry], firsts: &mut [u32])
-    requires { length entries.old ≤ KEPT_LIMIT }
+/// Puts each key into its list; all lists are empty before.
+fn put_all(keys: &mut [Key], firsts: &mut [u32])
+    requires { length keys.old ≤ KEPT_LIMIT }
 {
-    for place in 0..entries.len() {
-        put(&mut entries[place], firsts, place as u32);
+    for place in 0..keys.len() {
+        put(&mut keys[place], firsts, place as u32);
     }
 }
 
@@ -72,7 +81,8 @@ impl Kept {
     /// No prefix.
     pub fn new(alloc: Global) -> Kept {
         Kept {
-            entries: Vec::new(alloc),
+            keys: Vec::new(alloc),
+            marks: Vec::new(alloc),
             firsts: Vec::new(alloc),
         }
     }
@@ -87,56 +97,66 @@ impl Kept {
         }
     }
 
-    /// The line of a prefix with the same set of numbers that dominates the one with this mark, if one of the first 64 of its list
-    /// does.
-    pub fn find(&self, pushed: &Set, mark: &Mark) -> Option<u32> {
-        let mut place = self.first(pushed);
+    /// Whether the prefix of a key dominates another one, and is dominated by none itself.
+    fn has_dominating(&self, place: usize, key: &Key, nodes: &Nodes, other: &Sought) -> bool {
+        if key.pushed != other.pushed || key.node == other.node {
+            return false;
+        }
+        match self.marks.get(place) {
+            Some(mark) => { dominates_clamped(mark, &other.mark) && !nodes.is_dominated(key.node) }
+            None => false,
+        }
+    }
+
+    /// The node of another prefix with the same numbers that dominates this one, if one of the first 64 of its list does.
+    pub fn find(&self, nodes: &Nodes, other: &Sought) -> Option<u32> {
+        let mut place = self.first(&other.pushed);
         for _ in 0..LOOK_LIMIT {
             let index = place as usize;
-            if index >= self.entries.len() {
+            if index >= self.keys.len() {
                 return None;
             }
-            let entry = &self.entries[index];
-            if entry.pushed == *pushed && dominates_clamped(&entry.mark, mark) {
-                return Some(entry.line);
+            let key = &self.keys[index];
+            if self.has_dominating(index, key, nodes, other) {
+                return Some(key.node);
             }
-            place = entry.next;
+            place = key.next;
         }
         None
     }
 
     /// Makes twice as many lists.
     fn double_lists(&mut self) -> Result<(), AllocError>
-        requires { length self.old.entries.items ≤ KEPT_LIMIT }
+        requires { length self.old.keys.items ≤ KEPT_LIMIT }
     {
         let lists = self.firsts.len().saturating_mul(2).max(FIRST_LISTS);
         self.firsts.clear();
         self.firsts.resize(lists, NONE)?;
-        put_all(self.entries.as_mut_slice(), self.firsts.as_mut_slice());
+        put_all(self.keys.as_mut_slice(), self.firsts.as_mut_slice());
         Ok(())
     }
 
-    /// Keeps a prefix by the set of its numbers, its mark and its line, if there is room.
+    /// Keeps a prefix, if there is room.
     ///
     /// # Errors
     ///
     /// `AllocError` if memory runs out.
-    pub fn keep(&mut self, pushed: Set, mark: Mark, line: u32) -> Result<(), AllocError> {
-        let place = self.entries.len();
+    pub fn keep(&mut self, one: &Sought) -> Result<(), AllocError> {
+        let place = self.keys.len();
         if place >= KEPT_LIMIT {
             return Ok(());
         }
         if place >= self.firsts.len() {
             self.double_lists()?;
         }
-        let mut entry = Entry {
-            pushed,
-            mark,
-            line,
+        let mut key = Key {
+            pushed: one.pushed,
+            node: one.node,
             next: NONE,
         };
-        put(&mut entry, self.firsts.as_mut_slice(), place as u32);
-        self.entries.push(entry)?;
+        put(&mut key, self.firsts.as_mut_slice(), place as u32);
+        self.keys.push(key)?;
+        self.marks.push(one.mark)?;
         Ok(())
     }
 }

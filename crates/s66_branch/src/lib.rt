@@ -1,10 +1,13 @@
-//! A depth-first search of all legal orders of a block, which writes why no order takes less than the fastest one that it met.
+//! A search of all legal orders of a block that goes on with the most promising prefix first, and writes why no order takes less than
+//! the fastest one that it met.
 #![tactic(auto)]
 
-mod frames;
 mod kept;
 mod known;
-mod prefix;
+mod nodes;
+mod open;
 mod search;
+mod trail;
+mod writer;
 
-pub use search::{Branched, branch};
+pub use search::{Branched, Limits, branch};

@@ -1,64 +1,75 @@
-ghost use Rattle.std.specs.Prelude.{◌≡◌, ◌≤◌, IfOk, IfSome};
+ghost use Rattle.std.specs.Prelude.{◌≡◌, ◌≤◌, IfOk};
 ghost use Rattle.s66_line.specs.Block.{instrs_of};
-ghost use Rattle.s66_model.specs.LegalOrder.{IsComplete, IsIncomplete};
+ghost use Rattle.s66_model.specs.LegalOrder.{IsComplete};
 ghost use Rattle.s66_model.specs.Timing.{total_of};
-ghost use Rattle.s66_tree.specs.Lines.{vertex_of, IsShort};
 ghost use Rattle.s66_branch.specs.Branching.{IsNoSlower};
 
-use crate::frames::Frames;
-use crate::kept::Kept;
+use crate::kept::{Kept, Sought};
 use crate::known::known_before_each;
-use crate::prefix::Prefix;
+use crate::nodes::{Fate, Node, Nodes, ROOT};
+use crate::open::{Next, Open};
+use crate::trail::Trail;
+use crate::writer::written;
 use s66_dep::Set;
 use s66_facts::Facts;
 use s66_isa::{BLOCK_LIMIT, Profile};
 use s66_line::Block;
 use s66_paths::Tails;
+use s66_prefix::Prefix;
 use s66_time::Timed;
-use s66_tree::{Tree, TreeLine};
+use s66_tree::Tree;
 use std::alloc::{AllocError, Global};
 use std::marker::Model;
 
-/// The most turns of a search to one split: each of its numbers, and the way back.
-const TURNS: u64 = BLOCK_LIMIT as u64 + 2;
+/// The most prefixes that are looked at to one split: its children, and itself.
+const LOOKS: u64 = BLOCK_LIMIT as u64 + 1;
 
-/// What a depth-first search of all legal orders came to.
+/// What a search of all legal orders came to.
 #[derive(Debug, Drop)]
 pub struct Branched {
     /// The fastest order that it met; the one that it was given if none is faster.
     pub best: Timed,
-    /// The lines of the tree in preorder. They are a tree only if it is closed.
-    pub tree: Tree,
     /// How many prefixes were split.
     pub splits: u32,
-    /// Whether all orders were gone through, so that the tree shows that none takes less than the fastest.
-    pub is_closed: bool,
+    /// What each order takes at least, in minor cycles. If the search came to its end, this is the time below which it sought, or what
+    /// the fastest order takes, if that is less.
+    pub bound: u32,
+    /// The lines in preorder of a tree that shows this, if there is one.
+    pub tree: Option<Tree>,
 }
 
-/// What a turn of a search came to.
+/// How far a search goes.
 #[derive(Clone, Copy, Debug)]
-enum Turn {
-    GoesOn,
-    /// All is closed.
-    Closed,
-    /// A prefix is left to be split, and no split.
-    Spent,
+pub struct Limits {
+    /// It seeks orders that take less than this, in minor cycles.
+    pub below: u32,
+    /// The most splits.
+    pub splits: u32,
+    /// The number in the document of the tree's first line, from 1.
+    pub first_line: u32,
+}
+
+/// What a prefix is found to be: its fate, and if it is open its floor, in minor cycles.
+#[derive(Clone, Copy, Debug)]
+enum Found {
+    Is(Fate),
+    IsOpen(u32),
 }
 
 /// A search under way.
 #[derive(Debug, Drop)]
 struct Search<'a> {
-    prefix: Prefix<'a>,
+    trail: Trail<'a>,
     /// Of each number those that are known to stand before it; of n at place n - 1.
     before: [Set; BLOCK_LIMIT],
-    frames: Frames,
+    nodes: Nodes,
+    open: Open,
     kept: Kept,
-    tree: Tree,
-    /// The number in the document of the tree's next line.
-    line: u32,
     splits: u32,
     /// The most splits.
     most: u32,
+    /// Orders are sought that take less than this, in minor cycles.
+    low: u32,
     best: Timed,
 }
 
@@ -70,19 +81,7 @@ impl<'a> Model for Search<'a> {
 
     ghost view = { λ s. s.best };
 
-    ghost invariant = { λ s. s.prefix.problem ≡ s.best.problem };
-}
-
-/// A leaf of a prefix, if a bound is so great at least, or a prefix that was split dominates it.
-fn leaf_of(prefix: &Prefix<'_>, kept: &Kept, low: u32) -> Option<TreeLine<'static>>
-    requires { IsIncomplete prefix.now.problem.block prefix.now.numbers }
-    ensures { IfSome result (λ line. IsShort (vertex_of line)) }
-{
-    if let Some(line) = prefix.leaf(low) {
-        return Some(line);
-    }
-    let line = kept.find(&prefix.pushed(), &prefix.mark())?;
-    Some(TreeLine::AtLine(line))
+    ghost invariant = { λ s. s.trail ≡ s.best.problem };
 }
 
 /// Keeps the whole order that a prefix is, if it is faster than the best.
@@ -101,134 +100,150 @@ fn keep_faster(prefix: &Prefix<'_>, best: &mut Timed)
 impl<'a> Search<'a> {
     ghost use Rattle.std.specs.Prelude.{◌≡◌, ◌≤◌};
     ghost use Rattle.s66_isa.specs.declared.limits.TheConstants.{BLOCK_LIMIT};
-    ghost use Rattle.s66_tree.specs.Lines.{vertex_of, IsShort};
     ghost use Rattle.s66_branch.specs.Branching.{IsNoSlower};
 
-    /// Writes the next line of the tree.
-    fn write(&mut self, line: TreeLine<'_>) -> Result<(), AllocError>
-        requires { IsShort (vertex_of line) }
-        ensures { self.new ≡ self.old }
-    {
-        self.tree.push(line)?;
-        self.line = self.line.saturating_add(1);
-        Ok(())
+    /// The prefix at which the trail is, as that of a node.
+    fn sought(&self, node: u32) -> Sought {
+        Sought {
+            node,
+            pushed: self.trail.prefix.pushed(),
+            mark: self.trail.prefix.mark(),
+        }
     }
 
-    /// Writes the leaf of a prefix that has n before a number that is known to stand before n, and returns whether it is one.
-    fn close_turned(&mut self, n: u8) -> Result<bool, AllocError>
-        requires { (1 ≤ n) × (n ≤ BLOCK_LIMIT) }
-        ensures { self.new ≡ self.old }
-    {
-        let mut missing = self.before[n as usize - 1].without(&self.prefix.pushed());
-        let Some(first) = missing.pop_first() else {
-            return Ok(false);
-        };
-        self.write(TreeLine::Turned(first, n))?;
-        Ok(true)
+    /// The first number that is known to stand before n and isn't in the prefix.
+    fn missing_before(&self, n: u8) -> Option<u8> {
+        if n == 0 || n as usize > BLOCK_LIMIT {
+            return None;
+        }
+        let mut missing = self.before[n as usize - 1].without(&self.trail.prefix.pushed());
+        missing.pop_first()
     }
 
-    /// Writes the leaf of the prefix, and returns whether it has one. A whole order that is faster is the best from then on.
-    fn close(&mut self) -> Result<bool, AllocError>
+    /// Finds what the prefix of a new node is, and keeps it if it is open. A whole order that is faster is the best from then on.
+    fn look(&mut self, node: u32) -> Result<Found, AllocError>
         ensures { IsNoSlower self.old self.new }
     {
-        let low = self.best.total();
-        if self.prefix.is_complete() {
-            keep_faster(&self.prefix, &mut self.best);
-            self.write(TreeLine::Whole)?;
-            return Ok(true);
+        if self.trail.prefix.is_complete() {
+            keep_faster(&self.trail.prefix, &mut self.best);
+            self.low = self.low.min(self.best.total());
+            return Ok(Found::Is(Fate::Closed));
         }
-        let Some(line) = leaf_of(&self.prefix, &self.kept, low) else {
-            return Ok(false);
-        };
-        self.write(line)?;
-        Ok(true)
+        let floor = self.trail.prefix.floor();
+        if self.low <= floor {
+            return Ok(Found::Is(Fate::Closed));
+        }
+        let sought = self.sought(node);
+        if let Some(other) = self.kept.find(&self.nodes, &sought) {
+            return Ok(Found::Is(Fate::Dominated(other)));
+        }
+        self.kept.keep(&sought)?;
+        Ok(Found::IsOpen(floor))
     }
 
-    /// Splits the prefix, if splits are left; these numbers are ready after it.
-    fn split(&mut self, ready: Set) -> Result<Turn, AllocError>
-        ensures { self.new ≡ self.old }
-    {
-        if self.splits >= self.most {
-            return Ok(Turn::Spent);
-        }
-        self.kept
-            .keep(self.prefix.pushed(), self.prefix.mark(), self.line)?;
-        self.write(TreeLine::Split(ready.numbers().as_slice()))?;
-        self.splits = self.splits.saturating_add(1);
-        self.frames.split(self.prefix.len(), ready);
-        Ok(Turn::GoesOn)
-    }
-
-    /// Goes on with a number that is ready after the prefix of this depth, which is split, and back if that is closed.
-    fn enter(&mut self, depth: usize, n: u8) -> Result<Turn, AllocError>
-        requires depth { depth ≤ BLOCK_LIMIT }
-        requires number { (1 ≤ n) × (n ≤ BLOCK_LIMIT) }
+    /// Adds the child of a node with a number that is ready, to which the trail goes and back, and returns whether it could.
+    fn add_child(&mut self, parent: u32, n: u8) -> Result<bool, AllocError>
         ensures { IsNoSlower self.old self.new }
     {
+        let index = self.nodes.len();
+        let missing = self.missing_before(n);
         // a split has no other; this look is what shows that it may be pushed
-        if !self.prefix.is_ready(n) {
-            return Ok(Turn::Spent);
+        if !self.trail.prefix.try_push(n) {
+            return Ok(false);
         }
-        self.prefix.push(n);
-        if self.close_turned(n)? {
-            self.prefix.undo();
-            return Ok(Turn::GoesOn);
-        }
-        if self.close()? {
-            self.prefix.undo();
-            return Ok(Turn::GoesOn);
-        }
-        let before = self.frames.ready(depth);
-        let ready = self.prefix.ready_after(&before, n);
-        self.split(ready)
+        let depth = self.trail.prefix.len() as u8;
+        let found = match missing {
+            Some(other) => Found::Is(Fate::Turned(other)),
+            None => self.look(index)?,
+        };
+        self.trail.prefix.undo();
+        let fate = match found {
+            Found::Is(fate) => fate,
+            Found::IsOpen(floor) => {
+                self.open.push(index, depth, floor)?;
+                Fate::Open
+            }
+        };
+        self.nodes.push(Node {
+            parent,
+            number: n,
+            depth,
+            fate,
+        })?;
+        Ok(true)
     }
 
-    /// Goes on with the next number of the prefix, which is split, or back if none is left.
-    fn turn(&mut self) -> Result<Turn, AllocError>
+    /// Adds the children of a node, at which the trail is, and returns whether it could.
+    fn split(&mut self, node: u32) -> Result<bool, AllocError>
         ensures { IsNoSlower self.old self.new }
     {
-        let depth = self.prefix.len();
-        match self.frames.next(depth) {
-            Some(n) => self.enter(depth, n),
-            None if depth == 0 => Ok(Turn::Closed),
-            None => {
-                self.prefix.undo();
-                Ok(Turn::GoesOn)
+        let first = self.nodes.len();
+        let ready = self.trail.prefix.ready().numbers();
+        for n in ready.as_slice() {
+            if !self.add_child(node, *n)? {
+                return Ok(false);
             }
         }
+        let count = ready.len() as u8;
+        self.nodes.set_fate(node, Fate::Split { first, count });
+        self.splits = self.splits.saturating_add(1);
+        Ok(true)
     }
 
-    /// Goes through all orders from the empty prefix on, and returns whether all is closed.
-    fn run(&mut self) -> Result<bool, AllocError>
+    /// Splits an open node, unless a prefix that was met since then dominates it, and returns whether it could.
+    fn take(&mut self, next: &Next) -> Result<bool, AllocError>
         ensures { IsNoSlower self.old self.new }
     {
-        if self.close()? {
+        if !self.trail.go_to(&self.nodes, next.node) {
+            return Ok(false);
+        }
+        if let Some(other) = self.kept.find(&self.nodes, &self.sought(next.node)) {
+            self.nodes.set_fate(next.node, Fate::Dominated(other));
             return Ok(true);
         }
-        let turns = TURNS * (u64::from(self.most) + 1);
-        let ready = self.prefix.ready();
-        let mut turn = self.split(ready)?;
-        for _turn in 0..turns {
-            match turn {
-                Turn::GoesOn => turn = self.turn()?,
-                Turn::Closed => return Ok(true),
-                Turn::Spent => return Ok(false),
+        self.split(next.node)
+    }
+
+    /// Goes on until no open node's floor is so low that a faster order may begin so, or all splits are made. What each order takes at
+    /// least then, in minor cycles.
+    fn run(&mut self) -> Result<u32, AllocError>
+        ensures { IsNoSlower self.old self.new }
+    {
+        let looks = LOOKS * (u64::from(self.most) + 1);
+        let mut bound = 0;
+        for _ in 0..looks {
+            let Some(next) = self.open.pop() else {
+                return Ok(self.low);
+            };
+            if self.low <= next.floor {
+                return Ok(self.low);
+            }
+            bound = next.floor;
+            if self.splits >= self.most || !self.take(&next)? {
+                return Ok(bound);
             }
         }
-        Ok(false)
+        Ok(bound)
+    }
+
+    /// Opens the root.
+    fn open_root(&mut self) -> Result<(), AllocError>
+        ensures { IsNoSlower self.old self.new }
+    {
+        if let Found::IsOpen(floor) = self.look(ROOT)? {
+            self.open.push(ROOT, 0, floor)?;
+        }
+        Ok(())
     }
 }
 
-/// Goes through the legal orders of a block under a profile depth first, by rising number, and writes the tree of why none takes less
-/// than the fastest that it meets. `best` is the fastest so far. The facts are of the block's orders that take less than that, and so
-/// are the tails: what follows the stages of number n, at place n - 1, in minor cycles.
-///
-/// At most `most` prefixes are split. The tree's first line has the number `first_line` in its document; by such numbers leaves name
-/// lines. A leaf that was right for a greater time stays so when a faster order is met.
+/// Goes through the legal orders of a block under a profile that take less than a limit, the most promising prefix first, and writes the
+/// tree of why none does, or why none takes less than the fastest that it met. `best` is the fastest order so far. The facts are of the
+/// orders below the limit, and so are the tails: what follows the stages of number n, at place n - 1, in minor cycles. What was found
+/// for a greater time stays so when a faster order is met.
 ///
 /// A child of a split costs a push, an undo, a few looks for each word of its clock that is late, and at most 64 comparisons of marks;
-/// one that is closed by a path also a look at each number that remains. At 128 instructions a split with its children takes some
-/// 10,000 steps of a machine.
+/// to write it, a push and an undo once more, and if it is closed by a path a look at each number that remains.
 ///
 /// # Errors
 ///
@@ -240,35 +255,37 @@ pub fn branch(
     facts: &Facts,
     tails: &[Tails; BLOCK_LIMIT],
     best: Timed,
-    most: u32,
-    first_line: u32,
+    limits: Limits,
 ) -> Result<Branched, AllocError>
     requires { best.problem ≡ record { block = instrs_of block.now; profile = profile.now } }
     ensures problem { IfOk result (λ branched. branched.best.problem ≡ best.problem) }
     ensures total { IfOk result (λ branched. total_of branched.best.problem branched.best.numbers ≤ total_of best.problem best.numbers) }
 {
     let mut search = Search {
-        prefix: Prefix::new(block, profile, tails),
+        trail: Trail::new(Prefix::new(block, profile, tails)),
         before: known_before_each(facts),
-        frames: Frames::new(),
+        nodes: Nodes::new(alloc)?,
+        open: Open::new(alloc),
         kept: Kept::new(alloc),
-        tree: Tree::new(alloc),
-        line: first_line,
         splits: 0,
-        most,
+        most: limits.splits,
+        low: limits.below.min(best.total()),
         best,
     };
-    let is_closed = search.run()?;
+    search.open_root()?;
+    let bound = search.run()?;
     let Search {
-        tree,
+        mut trail,
+        nodes,
         splits,
         best,
         ..
     } = search;
+    let tree = written(alloc, &mut trail, &nodes, bound, limits.first_line)?;
     Ok(Branched {
         best,
-        tree,
         splits,
-        is_closed,
+        bound,
+        tree,
     })
 }

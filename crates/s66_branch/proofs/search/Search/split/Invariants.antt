@@ -1,0 +1,5 @@
+use Rattle.s66_branch.specs.Branching.{IsNoSlower}
+use Rattle.s66_branch.proofs.search.Search.split.Given as goal
+
+abbrev pub invariant-loop-n : goal.invariant-loop-n
+invariant-loop-n l = IsNoSlower l.fn.self l.self

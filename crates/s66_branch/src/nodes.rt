@@ -1,0 +1,116 @@
+//! The prefixes that a search has met, as the nodes of a tree.
+
+use arrayvec::ArrayVec;
+use s66_isa::BLOCK_LIMIT;
+use std::alloc::{AllocError, Global};
+
+/// The index of the root, which is the empty prefix.
+pub const ROOT: u32 = 0;
+
+/// What became of a prefix.
+#[derive(Clone, Copy, Debug)]
+pub enum Fate {
+    /// It is to be split, unless its floor turns out too great.
+    Open,
+    /// It goes on with each number that is ready after it: its children, which are this many nodes from an index on.
+    Split { first: u32, count: u8 },
+    /// A bound closes it, or it is a whole order.
+    Closed,
+    /// This number is known to stand before the last one and doesn't.
+    Turned(u8),
+    /// The prefix of the node at this index dominates it.
+    Dominated(u32),
+}
+
+/// A prefix that a search has met: that of its parent, and one number more.
+#[derive(Clone, Copy, Debug)]
+pub struct Node {
+    /// The index of the parent; the root is its own.
+    pub parent: u32,
+    pub number: u8,
+    /// How many numbers it has.
+    pub depth: u8,
+    pub fate: Fate,
+}
+
+/// The nodes, in sixteen bytes each. A parent stands before its children, and these stand side by side.
+#[derive(Debug, Drop)]
+pub struct Nodes {
+    nodes: Vec<Node>,
+}
+
+impl Nodes {
+    /// The root alone.
+    pub fn new(alloc: Global) -> Result<Nodes, AllocError> {
+        let mut nodes = Vec::new(alloc);
+        nodes.push(Node {
+            parent: ROOT,
+            number: 0,
+            depth: 0,
+            fate: Fate::Open,
+        })?;
+        Ok(Nodes { nodes })
+    }
+
+    /// How many there are.
+    pub fn len(&self) -> u32 {
+        u32::try_from(self.nodes.len()).unwrap_or(u32::MAX)
+    }
+
+    /// The node at an index.
+    pub fn at(&self, index: u32) -> Option<Node> {
+        self.nodes.get(index as usize).copied()
+    }
+
+    /// Appends a node.
+    pub fn push(&mut self, node: Node) -> Result<(), AllocError> {
+        self.nodes.push(node)?;
+        Ok(())
+    }
+
+    /// A node has this fate from now on.
+    pub fn set_fate(&mut self, index: u32, fate: Fate) {
+        if let Some(node) = self.nodes.get_mut(index as usize) {
+            node.fate = fate;
+        }
+    }
+
+    /// Whether another node dominates one.
+    pub fn is_dominated(&self, index: u32) -> bool {
+        match self.at(index) {
+            Some(node) => matches!(node.fate, Fate::Dominated(_)),
+            None => false,
+        }
+    }
+
+    /// The node that dominates this one and is dominated by none, in as many steps as there are between the two; this one if none
+    /// dominates it.
+    pub fn dominator(&self, index: u32) -> u32 {
+        let mut last = index;
+        for _ in 0..self.nodes.len() {
+            match self.at(last) {
+                Some(
+                    Node {
+                        fate: Fate::Dominated(other),
+                        ..
+                    },
+                ) => last = other,
+                _ => return last,
+            }
+        }
+        last
+    }
+
+    /// The numbers of the children from an index on.
+    pub fn numbers(&self, first: u32, count: u8) -> ArrayVec<u8, BLOCK_LIMIT> {
+        let mut numbers = ArrayVec::new();
+        for place in 0..count {
+            if let Some(child) = self.at(first.saturating_add(u32::from(place)))
+                && !numbers.is_full()
+            {
+                numbers.push(child.number);
+            }
+        }
+        numbers
+    }
+}
