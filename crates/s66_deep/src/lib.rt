@@ -2,9 +2,11 @@
 //! they are right is for a checker to say.
 #![tactic(auto)]
 
+mod lines;
 mod look;
 mod orders;
 mod ranges;
+mod search;
 mod trees;
 
 pub use look::{Looked, look_at};

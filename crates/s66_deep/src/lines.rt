@@ -1,0 +1,141 @@
+//! A good order and a bound by fact lines alone.
+
+ghost use Rattle.std.specs.Prelude.{◌≡◌, IfOk, IfSome};
+ghost use Rattle.s66_line.specs.Block.{instrs_of};
+ghost use Rattle.s66_model.specs.Timing.{Problem};
+ghost use Rattle.s66_deep.specs.Orders.{IsGood};
+
+use crate::orders::faster;
+use s66_beam::beam_below;
+use s66_finder::Finder;
+use s66_isa::Profile;
+use s66_line::Block;
+use s66_time::Timed;
+use std::alloc::{AllocError, Global};
+
+/// How many beginnings of a length a beam keeps.
+pub(crate) const BEAM_WIDTH: usize = 64;
+
+/// The same of one that is tried where the others left something to be found.
+pub(crate) const WIDE_WIDTH: usize = 512;
+
+/// How often a beam goes on by the lines for a better time.
+const BEAMS_LIMIT: u32 = 4;
+
+/// How often the middle of a bound and a time is tried at most.
+const HALVES_LIMIT: u32 = 8;
+
+/// The best order, and the fact lines for orders that take less.
+#[derive(Debug, Drop)]
+pub(crate) struct Lined {
+    pub(crate) best: Timed,
+    pub(crate) below: Finder,
+}
+
+/// A bound of all orders, in minor cycles, and a finder whose lines show it by one leaf.
+#[derive(Debug, Drop)]
+pub(crate) struct Bound {
+    pub(crate) value: u32,
+    pub(crate) finder: Finder,
+}
+
+/// The best order, fact lines for orders that take no more than it or less, and what such lines show.
+#[derive(Debug, Drop)]
+pub(crate) struct Halved {
+    pub(crate) best: Timed,
+    pub(crate) below: Finder,
+    pub(crate) bound: Bound,
+}
+
+/// An order that a beam of this width finds by fact lines for orders below a limit, if there is one.
+pub(crate) fn beam_by(
+    alloc: Global,
+    block: &Block,
+    profile: &Profile,
+    finder: &Finder,
+    width: usize,
+    limit: u32,
+) -> Result<Option<Timed>, AllocError>
+    ensures { IfOk result (λ other. IfSome other (λ timed. timed.problem ≡ record { block = instrs_of block.now; profile = profile.now })) }
+{
+    beam_below(alloc, block, profile, &finder.tails(), width, limit)
+}
+
+/// All fact lines that are found for orders which take less than a bound, after those of another finder.
+pub(crate) fn found_below(finder: &Finder, bound: u32) -> Result<Finder, AllocError> {
+    let mut other = finder.duplicate()?;
+    other.find_below(bound)?;
+    Ok(other)
+}
+
+/// The best order, and the fact lines for orders that take less. As long as a beam of this width finds one by such lines, the next ones
+/// are by its time.
+pub(crate) fn best_by_lines(
+    alloc: Global,
+    block: &Block,
+    profile: &Profile,
+    finder: &Finder,
+    width: usize,
+    best: Timed,
+) -> Result<Lined, AllocError>
+    requires { IsGood (record { block = instrs_of block.now; profile = profile.now }) best }
+    ensures { IfOk result (λ lined. IsGood (record { block = instrs_of block.now; profile = profile.now }) lined.best) }
+{
+    let mut best = best;
+    let mut below = found_below(finder, best.total())?;
+    for _ in 0..BEAMS_LIMIT {
+        if best.total() <= below.root().1 {
+            break;
+        }
+        let other = beam_by(alloc, block, profile, &below, width, best.total())?;
+        if other.is_none() {
+            break;
+        }
+        best = faster(best, other);
+        below = found_below(finder, best.total())?;
+    }
+    Ok(Lined { best, below })
+}
+
+/// The middle of a bound and what is above it, in minor cycles; the greater one of two.
+fn middle_of(bound: u32, above: u32) -> u32 {
+    bound.saturating_add(above.saturating_sub(bound).saturating_add(1) / 2)
+}
+
+/// A bound that fact lines are found to show, and a good order: between the bound and the order's time, one of the two is brought nearer
+/// by halves. Lines for orders below the middle show it, or guide a beam to such an order, or else less is tried.
+pub(crate) fn halve(
+    alloc: Global,
+    block: &Block,
+    profile: &Profile,
+    lined: Lined,
+) -> Result<Halved, AllocError>
+    requires { IsGood (record { block = instrs_of block.now; profile = profile.now }) lined.best }
+    ensures { IfOk result (λ halved. IsGood (record { block = instrs_of block.now; profile = profile.now }) halved.best) }
+{
+    let Lined { mut best, below } = lined;
+    let (_, reached) = below.root();
+    let mut above = best.total();
+    let mut bound = Bound {
+        value: reached.min(above),
+        finder: below.duplicate()?,
+    };
+    for _ in 0..HALVES_LIMIT {
+        let middle = middle_of(bound.value, above);
+        if middle <= bound.value {
+            break;
+        }
+        let next = found_below(&below, middle)?;
+        if middle <= next.root().1 {
+            bound = Bound {
+                value: middle,
+                finder: next,
+            };
+        } else {
+            let other = beam_by(alloc, block, profile, &next, BEAM_WIDTH, middle)?;
+            best = faster(best, other);
+            above = best.total().min(middle.saturating_sub(1));
+        }
+    }
+    Ok(Halved { best, below, bound })
+}

@@ -1,0 +1,216 @@
+//! What trees show beyond fact lines.
+
+ghost use Rattle.std.specs.Prelude.{◌≡◌, IfOk};
+ghost use Rattle.s66_line.specs.Block.{instrs_of};
+ghost use Rattle.s66_model.specs.Timing.{Problem};
+ghost use Rattle.s66_deep.specs.Orders.{IsGood};
+
+use crate::lines::{
+    BEAM_WIDTH, Bound, Halved, Lined, WIDE_WIDTH, best_by_lines, found_below, halve,
+};
+use crate::orders::faster;
+use s66_branch::{Branched, Limits, branch};
+use s66_cert::{Tree, TreeLine};
+use s66_finder::Finder;
+use s66_isa::Profile;
+use s66_line::Block;
+use s66_moments::FactLine;
+use s66_time::Timed;
+use std::alloc::{AllocError, Global};
+
+/// By how many minor cycles a bound is raised at most.
+const RAISES_LIMIT: u32 = 128;
+
+/// The lines of a document before its fact lines, but for those of its instructions.
+const HEAD_LINES: u32 = 6;
+
+/// What shows a bound, as a certificate has it: fact lines, a tree, and how often that splits.
+#[derive(Debug, Drop)]
+pub(crate) struct Written {
+    pub(crate) bound: u32,
+    pub(crate) lines: Vec<FactLine>,
+    pub(crate) tree: Tree,
+    pub(crate) splits: u32,
+}
+
+/// What may be shown of all orders: by fact lines and one leaf, or by a tree.
+#[derive(Debug, Drop)]
+pub(crate) enum Shown {
+    ByLeaf(Bound),
+    ByTree(Written),
+}
+
+/// The best order, and what may be shown of all.
+#[derive(Debug, Drop)]
+pub(crate) struct Searched {
+    pub(crate) best: Timed,
+    pub(crate) shown: Shown,
+}
+
+/// What a search of so many splits found: the best order, and what its tree shows, if it has one.
+#[derive(Debug, Drop)]
+struct Tried {
+    best: Timed,
+    splits: u32,
+    shown: Option<Written>,
+}
+
+/// The fact lines that a bound needs, and one leaf: the instruction of a number came too late if it came first.
+fn by_leaf(alloc: Global, bound: &Bound) -> Result<Written, AllocError> {
+    let finder = bound.finder.needed(bound.value)?;
+    let (leaf, _) = finder.root();
+    let mut tree = Tree::new(alloc);
+    tree.push(TreeLine::Next(leaf))?;
+    Ok(Written {
+        bound: bound.value,
+        lines: finder.into_lines(),
+        tree,
+        splits: 0,
+    })
+}
+
+impl Shown {
+    /// What all orders take at least, in minor cycles.
+    fn bound(&self) -> u32 {
+        match self {
+            Shown::ByLeaf(bound) => bound.value,
+            Shown::ByTree(written) => written.bound,
+        }
+    }
+
+    /// This, or what a tree shows if that is more.
+    fn or_more(self, other: Option<Written>) -> Shown {
+        match other {
+            Some(written) if self.bound() < written.bound => Shown::ByTree(written),
+            _ => self,
+        }
+    }
+
+    /// As a certificate has it. `Err` is out of memory.
+    pub(crate) fn written(self, alloc: Global) -> Result<Written, AllocError> {
+        match self {
+            Shown::ByLeaf(bound) => by_leaf(alloc, &bound),
+            Shown::ByTree(written) => Ok(written),
+        }
+    }
+}
+
+/// The number in its document of the first line of a tree after these fact lines.
+fn first_line(block: &Block, lines: &[FactLine]) -> u32 {
+    let before = block.count().saturating_add(lines.len());
+    match u32::try_from(before) {
+        Ok(before) => before.saturating_add(HEAD_LINES + 1),
+        Err(_) => u32::MAX,
+    }
+}
+
+/// A search for orders that take less than a limit, by fact lines of such orders, of at most so many splits.
+fn search_below(
+    alloc: Global,
+    block: &Block,
+    profile: &Profile,
+    below: Finder,
+    best: Timed,
+    limit: u32,
+    splits: u32,
+) -> Result<Tried, AllocError>
+    requires { IsGood (record { block = instrs_of block.now; profile = profile.now }) best }
+    ensures { IfOk result (λ tried. IsGood (record { block = instrs_of block.now; profile = profile.now }) tried.best) }
+{
+    let limits = Limits {
+        below: limit,
+        splits,
+        first_line: first_line(block, below.lines()),
+    };
+    let copy = best.duplicate();
+    let tails = below.tails();
+    let branched = branch(alloc, block, profile, below.facts(), &tails, copy, limits)?;
+    let Branched {
+        best: other,
+        splits,
+        bound,
+        tree,
+    } = branched;
+    let shown = match tree {
+        Some(tree) => Some(Written {
+            bound,
+            lines: below.into_lines(),
+            tree,
+            splits,
+        }),
+        None => None,
+    };
+    Ok(Tried {
+        best: faster(best, Some(other)),
+        splits,
+        shown,
+    })
+}
+
+/// Raises what is shown of all orders, one minor cycle after the other, each by the fact lines of orders that take less than what is to
+/// be shown, until an order takes no more, or so many splits are made.
+fn raise(
+    alloc: Global,
+    block: &Block,
+    profile: &Profile,
+    finder: &Finder,
+    searched: Searched,
+    most: u32,
+) -> Result<Searched, AllocError>
+    requires { IsGood (record { block = instrs_of block.now; profile = profile.now }) searched.best }
+    ensures { IfOk result (λ searched. IsGood (record { block = instrs_of block.now; profile = profile.now }) searched.best) }
+{
+    let Searched {
+        mut best,
+        mut shown,
+    } = searched;
+    let mut left = most;
+    for _ in 0..RAISES_LIMIT {
+        let limit = shown.bound().saturating_add(1);
+        if best.total() < limit {
+            break;
+        }
+        let below = found_below(finder, limit)?;
+        let tried = search_below(alloc, block, profile, below, best, limit, left)?;
+        best = tried.best;
+        left = left.saturating_sub(tried.splits);
+        shown = shown.or_more(tried.shown);
+        if shown.bound() < limit {
+            break;
+        }
+    }
+    Ok(Searched { best, shown })
+}
+
+/// The best order that is found, and what shows that none takes less, or how little less: fact lines and a leaf, or a tree of at most
+/// this many splits. Twice so many are made at most: for orders that take less than the best, and then to raise what is shown.
+pub(crate) fn search(
+    alloc: Global,
+    block: &Block,
+    profile: &Profile,
+    finder: &Finder,
+    best: Timed,
+    most: u32,
+) -> Result<Searched, AllocError>
+    requires { IsGood (record { block = instrs_of block.now; profile = profile.now }) best }
+    ensures { IfOk result (λ searched. IsGood (record { block = instrs_of block.now; profile = profile.now }) searched.best) }
+{
+    let lined = best_by_lines(alloc, block, profile, finder, BEAM_WIDTH, best)?;
+    let Halved { best, below, bound } = halve(alloc, block, profile, lined)?;
+    let shown = Shown::ByLeaf(bound);
+    if best.total() <= shown.bound() {
+        return Ok(Searched { best, shown });
+    }
+    let lined = best_by_lines(alloc, block, profile, &below, WIDE_WIDTH, best)?;
+    let Lined { best, below: lines } = lined;
+    let time = best.total();
+    if time <= shown.bound() {
+        return Ok(Searched { best, shown });
+    }
+    let tried = search_below(alloc, block, profile, lines, best, time, most)?;
+    let searched = Searched {
+        best: tried.best,
+        shown: shown.or_more(tried.shown),
+    };
+    raise(alloc, block, profile, &below, searched, most)
+}
