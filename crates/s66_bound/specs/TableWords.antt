@@ -34,6 +34,14 @@ AreThose b test set = numbers_in set ≡ filter test (numbers b.block)
 abbrev pub HasWorks : Problem → List ℕ → Type 0
 HasWorks b words = (kind : Kind) → get_or words (kind_number kind) 0 ≡ weigh (λ n. work_of kind (row_at b n)) (numbers b.block)
 
+-- one unit of each kind of which the standard machine has one
+pub record HasSingles (p : Profile) : Type 0 where
+  pub boolean : p.units_boolean ≡ 1
+  pub shift : p.units_shift ≡ 1
+  pub add : p.units_add ≡ 1
+  pub longadd : p.units_longadd ≡ 1
+  pub divide : p.units_divide ≡ 1
+
 -- the longest tail of each number, at the place below its rank
 abbrev pub HasTails : Problem → List ℕ → Type 0
 HasTails b words = (n : ℕ) → 1 ≤ n → n ≤ length b.block → get_or words (rank b n - 1) 0 ≡ longest_tail b n
@@ -66,6 +74,7 @@ pub record IsTables (b : Problem) (t : Tables) : Type 0 where
   pub tails : HasTails b t.tails
   pub ends : AreEnds t.spare (length b.block) t.ends
   pub works : HasWorks b t.works
+  pub singles : t.has_singles ≡ true → HasSingles b.profile
   pub users : HasUsers b t.users_by_rank
   pub written : HasWritten b t.written.items
   pub registers : AreRegisters t.written.items

@@ -52,7 +52,7 @@ impl<'a> Bounds<'a> {
         ensures { result ≡ record { block = instrs_of block.now; profile = profile.now } }
     {
         let entries = entries_of(block, profile);
-        let tables = Tables::of(entries.as_slice());
+        let tables = Tables::of(entries.as_slice(), profile);
         Bounds {
             block,
             profile: *profile,

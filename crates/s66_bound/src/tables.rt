@@ -1,4 +1,4 @@
-ghost use Rattle.std.specs.Prelude.{ℕ, ◌≡◌, ◌+◌, ◌≤◌, ◌<◌, ◌==◌, length};
+ghost use Rattle.std.specs.Prelude.{ℕ, ◌≡◌, ◌+◌, ◌≤◌, ◌<◌, ◌==◌, true, length};
 ghost use Rattle.s66_isa.specs.declared.reg.TheConstants.{REGISTER_COUNT};
 ghost use Rattle.s66_isa.specs.Lists.{some_of};
 ghost use Rattle.s66_isa.specs.Registers.{index_of};
@@ -10,7 +10,7 @@ ghost use Rattle.s66_model.specs.Tails.{spare, HasWords, HasWritten};
 ghost use Rattle.s66_bound.specs.InstructionCosts.{AreCosts};
 ghost use Rattle.s66_bound.specs.declared.entry.Entry.{Entry as EntryOf};
 ghost use Rattle.s66_bound.specs.Ranks.{rank};
-ghost use Rattle.s66_bound.specs.TableWords.{AreThose, AreRegisters, HasWorks, HasUsers, IsTables};
+ghost use Rattle.s66_bound.specs.TableWords.{AreThose, AreRegisters, HasSingles, HasWorks, HasUsers, IsTables};
 
 use crate::entry::Entry;
 use crate::longest::longest_tails;
@@ -18,7 +18,9 @@ use crate::numbers::ends_of;
 use crate::ranks::{ranks_by_number, ranks_of, tails_by_rank};
 use arrayvec::ArrayVec;
 use s66_dep::Set;
-use s66_isa::{BLOCK_LIMIT, KIND_COUNT, REGISTER_COUNT, Reg, Write, is_same_register, kind_number};
+use s66_isa::{
+    BLOCK_LIMIT, KIND_COUNT, Profile, REGISTER_COUNT, Reg, Write, is_same_register, kind_number,
+};
 
 /// What bounds look up of the numbers of a block; the word of n is at place n - 1. Times are in minor cycles.
 #[derive(Debug, Drop)]
@@ -39,6 +41,8 @@ pub struct Tables {
     pub ends: Set,
     /// Of each kind, by its number, for how long the instructions take a unit, summed: each for its hold and one.
     pub works: [u32; KIND_COUNT],
+    /// Whether the profile has one unit of each kind of which the standard machine has one.
+    pub has_singles: bool,
     /// The ranks of the numbers that read or write each register, by its index.
     pub users_by_rank: [Set; REGISTER_COUNT],
     /// The registers that the block writes, each once.
@@ -46,11 +50,11 @@ pub struct Tables {
 }
 
 impl Tables {
-    /// The tables of a block of these entries.
-    pub fn of(entries: &[Entry]) -> Tables
+    /// The tables of a block of these entries under a profile.
+    pub fn of(entries: &[Entry], profile: &Profile) -> Tables
         requires few { length entries.now ≤ BLOCK_LIMIT }
         requires known { (b : Problem) × AreCosts b entries.now }
-        ensures { (b : Problem) → AreCosts b entries.now → IsTables b result }
+        ensures { (b : Problem) → b.profile ≡ profile.now → AreCosts b entries.now → IsTables b result }
     {
         let longest = longest_tails(entries);
         let spare = spares(entries);
@@ -65,6 +69,7 @@ impl Tables {
             spare,
             ranks,
             works: works_by_kind(entries),
+            has_singles: has_singles(profile),
             written: written_registers(entries),
         }
     }
@@ -108,6 +113,17 @@ fn works_by_kind(entries: &[Entry]) -> [u32; KIND_COUNT]
         works[kind] += entries[place].work;
     }
     works
+}
+
+/// Whether the profile has one unit of each kind of which the standard machine has one.
+fn has_singles(profile: &Profile) -> bool
+    ensures { result ≡ true → HasSingles profile.now }
+{
+    profile.units_boolean == 1
+        && profile.units_shift == 1
+        && profile.units_add == 1
+        && profile.units_longadd == 1
+        && profile.units_divide == 1
 }
 
 /// The numbers that read or write a register.

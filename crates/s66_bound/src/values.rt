@@ -1,8 +1,8 @@
 //! The values of the bounds, by the tables of the clock's block. All are in minor cycles.
 
-ghost use Rattle.std.specs.Prelude.{ℕ, ◌≡◌, ◌+◌, ◌-◌, ◌<◌, ◌≤◌, ◌^◌, Bool, [], IfSome, IfNone, length, max, get_or};
+ghost use Rattle.std.specs.Prelude.{ℕ, ◌≡◌, ◌+◌, ◌-◌, ◌<◌, ◌≤◌, ◌^◌, Bool, true, [], IfSome, IfNone, length, max, get_or};
 ghost use Rattle.s66_isa.specs.Lists.{greatest, least};
-ghost use Rattle.s66_isa.specs.Table.{all_kinds};
+ghost use Rattle.s66_isa.specs.Table.{all_kinds, copies_of};
 ghost use Rattle.s66_line.specs.Block.{instrs_of};
 ghost use Rattle.s66_model.specs.Timing.{Problem, row_at};
 ghost use Rattle.s66_model.specs.LegalOrder.{IsBeginning, sum_remaining};
@@ -12,7 +12,7 @@ ghost use Rattle.s66_dep.specs.Members.{numbers_in};
 ghost use Rattle.s66_time.specs.declared.limits.TheConstants.{COPIES_LIMIT, TOTAL_LIMIT};
 ghost use Rattle.s66_time.specs.Ticking.{problem_of};
 ghost use Rattle.s66_bound.specs.Ranks.{AreRanks, AreRanksLeft};
-ghost use Rattle.s66_bound.specs.TableWords.{AreRemaining, HasTails, IsGreatestTail, IsTables};
+ghost use Rattle.s66_bound.specs.TableWords.{AreRemaining, HasSingles, HasTails, IsGreatestTail, IsTables};
 
 use crate::numbers::least_of;
 use crate::ranks::ranks_of;
@@ -122,21 +122,45 @@ fn over(work: u32, copies: u32) -> u32
     (work + (copies - 1)) / copies
 }
 
+/// The load of a kind with one unit, also if nothing remains.
+#[inline(always)]
+fn single_load(tables: &Tables, clock: &Clock<'_>, kind: Kind) -> u32
+    requires tables { IsTables (problem_of clock.now) tables.now }
+    requires single { copies_of clock.now.profile kind ≡ 1 }
+    ensures { result ≡ load (problem_of clock.now) clock.now.numbers kind }
+{
+    remaining_work(tables, clock, kind) + clock.free(kind)
+}
+
 /// The load of a kind of unit, also if nothing remains.
 pub fn load_of(tables: &Tables, clock: &Clock<'_>, kind: Kind) -> u32
     requires { IsTables (problem_of clock.now) tables.now }
     ensures { result ≡ load (problem_of clock.now) clock.now.numbers kind }
 {
-    let work = remaining_work(tables, clock, kind);
     let copies = clock.profile().copies(kind);
     // the standard machine has one or two units of a kind, for which this is neither a loop nor a division
     if copies == 1 {
-        return work + clock.free(kind);
+        return single_load(tables, clock, kind);
     }
+    let work = remaining_work(tables, clock, kind);
     if copies == 2 {
         return over(work + clock.busy(kind), 2) + clock.next();
     }
     over(work + clock.busy(kind), copies) + clock.next()
+}
+
+/// The load of a kind, which is known to have one unit if `single` says so.
+#[inline(always)]
+fn load_by(tables: &Tables, clock: &Clock<'_>, kind: Kind, single: bool) -> u32
+    requires tables { IsTables (problem_of clock.now) tables.now }
+    requires single { single ≡ true → copies_of clock.now.profile kind ≡ 1 }
+    ensures { result ≡ load (problem_of clock.now) clock.now.numbers kind }
+{
+    if single {
+        single_load(tables, clock, kind)
+    } else {
+        load_of(tables, clock, kind)
+    }
 }
 
 /// The least spare of the numbers that remain. Mostly one of the block's least remains.
@@ -164,18 +188,33 @@ pub fn parcels_of(tables: &Tables, clock: &Clock<'_>, rest: &Set) -> u32
     clock.next() + parcels + least_spare(tables, clock, rest)
 }
 
-/// The greatest load.
+/// The greatest load, if `singles` says whether the kinds of which the standard machine has one unit are known to have one.
+#[inline(always)]
+fn greatest_load_by(tables: &Tables, clock: &Clock<'_>, singles: bool) -> u32
+    requires tables { IsTables (problem_of clock.now) tables.now }
+    requires singles { singles ≡ true → HasSingles clock.now.profile }
+    ensures { result ≡ greatest (load (problem_of clock.now) clock.now.numbers) all_kinds }
+{
+    let increment = load_of(tables, clock, Kind::Increment);
+    let divide = load_by(tables, clock, Kind::Divide, singles).max(increment);
+    let multiply = load_of(tables, clock, Kind::Multiply).max(divide);
+    let long_add = load_by(tables, clock, Kind::LongAdd, singles).max(multiply);
+    let add = load_by(tables, clock, Kind::Add, singles).max(long_add);
+    let shift = load_by(tables, clock, Kind::Shift, singles).max(add);
+    load_by(tables, clock, Kind::Boolean, singles).max(shift)
+}
+
+/// The greatest load. The loads of single units are worked out without a look at how many there are.
 pub fn greatest_load(tables: &Tables, clock: &Clock<'_>) -> u32
     requires { IsTables (problem_of clock.now) tables.now }
     ensures { result ≡ greatest (load (problem_of clock.now) clock.now.numbers) all_kinds }
 {
-    let increment = load_of(tables, clock, Kind::Increment);
-    let divide = load_of(tables, clock, Kind::Divide).max(increment);
-    let multiply = load_of(tables, clock, Kind::Multiply).max(divide);
-    let long_add = load_of(tables, clock, Kind::LongAdd).max(multiply);
-    let add = load_of(tables, clock, Kind::Add).max(long_add);
-    let shift = load_of(tables, clock, Kind::Shift).max(add);
-    load_of(tables, clock, Kind::Boolean).max(shift)
+    // the constants leave one branch of each load in either call
+    if tables.has_singles {
+        greatest_load_by(tables, clock, true)
+    } else {
+        greatest_load_by(tables, clock, false)
+    }
 }
 
 /// The greatest of the chain, the loads and the parcels; `ranks` are those of what remains.

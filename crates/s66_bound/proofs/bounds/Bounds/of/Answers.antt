@@ -1,4 +1,4 @@
-use Rattle.std.proofs.Common.{List, sym, subst}
+use Rattle.std.proofs.Common.{List, refl, sym, subst}
 use Rattle.s66_model.specs.Timing.{Problem}
 use Rattle.s66_bound.specs.declared.entry.Entry.{Entry}
 use Rattle.s66_bound.specs.InstructionCosts.{AreCosts}
@@ -13,4 +13,4 @@ of-tables-requires-clause-known c =
 pub invariant_of-result : goal.invariant_of-result
 invariant_of-result c =
     let b : Problem = timed_by c.args.block.now c.args.profile.now in
-    (c.entries_of-entries.ensures, c.of-tables.ensures b (subst (λ (es : List Entry). AreCosts b es) (sym c.as_slice.ensures.value) c.entries_of-entries.ensures))
+    (c.entries_of-entries.ensures, c.of-tables.ensures b refl (subst (λ (es : List Entry). AreCosts b es) (sym c.as_slice.ensures.value) c.entries_of-entries.ensures))

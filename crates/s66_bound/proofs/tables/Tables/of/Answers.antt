@@ -1,5 +1,6 @@
-use Rattle.std.proofs.Common.{subst, arith, rules}
+use Rattle.std.proofs.Common.{sym, subst, arith, rules}
 use Rattle.s66_bound.specs.LeastWords.{AreEnds}
+use Rattle.s66_bound.specs.TableWords.{HasSingles}
 use Rattle.s66_bound.proofs.tables.Tables.of.Goals as goal
 
 pub tails_by_rank-requires-clause-known : goal.tails_by_rank-requires-clause-known
@@ -13,7 +14,7 @@ users_by_rank-requires-clause-known c =
     (b, are, c.ranks_by_number-ranks.ensures b (c.longest_tails-longest.ensures b are) are.count)
 
 pub returns : goal.returns
-returns c = λ b are.
+returns c = λ b same are.
     let longest = c.longest_tails-longest.ensures b are in
     let ranks = c.ranks_by_number-ranks.ensures b longest are.count in
     record {
@@ -26,6 +27,7 @@ returns c = λ b are.
       tails = c.tails_by_rank.ensures b longest ranks are.count;
       ends = subst (λ k. AreEnds c.spares-spare.result k c.ends_of.result) are.count c.ends_of.ensures;
       works = c.works_by_kind.ensures b are;
+      singles = λ has. subst HasSingles (sym same) (c.has_singles.ensures has);
       users = c.users_by_rank.ensures b are ranks;
       written = c.written_registers.ensures.written b are;
       registers = c.written_registers.ensures.registers;
