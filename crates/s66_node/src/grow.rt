@@ -1,4 +1,5 @@
-ghost use Rattle.std.specs.Prelude.{◌≡◌, ◌≤◌, ◌++◌, [], ℕ, List, IfOk, OnOk, IfSome, IfNone, IsTrue};
+ghost use Rattle.std.specs.Prelude.{◌≡◌, ◌≤◌, ◌++◌, ◌⊎◌, [], ℕ, List, IfOk, OnOk, IfSome, IfNone, IsTrue};
+ghost use Rattle.s66_isa.specs.Lists.{Among};
 ghost use Rattle.s66_model.specs.declared.rule.Rule.TheVariants.{NoneNamed, WrittenEarlier};
 ghost use Rattle.s66_model.specs.Leaves.{floor_value};
 ghost use Rattle.s66_model.specs.Tree.{Tree};
@@ -127,11 +128,13 @@ fn unsplit_by_floor(walk: &Walk<'_>, value: u32, best: u32, may_split: bool) -> 
 }
 
 /// What the walk's prefix has below the root, if it may be split by the best time. That is the name of a node that dominates it,
-/// if one is known. Else it is nothing if the prefix is to be split, or it stays open.
+/// if one is known. Else it is nothing if the prefix is to be split, or it stays open; it may be known from then on, and its node
+/// has this line of the tree.
 fn unsplit_by_name<N: Naming>(
     alloc: Global,
     walk: &Walk<'_>,
     value: u32,
+    line: usize,
     may_split: bool,
     rule: Rule,
     names: &mut N,
@@ -139,12 +142,13 @@ fn unsplit_by_name<N: Naming>(
     requires value { value ≡ floor_value walk.now.problem walk.now.numbers }
     requires suits { N.suits names.old walk.now.problem }
     ensures suits { N.suits names.new walk.now.problem }
-    ensures same { N.names names.new ≡ N.names names.old }
+    ensures known { (name : List ℕ) → Among name (N.names names.new) → (name ≡ walk.now.numbers) ⊎ Among name (N.names names.old) }
+    ensures same { rule ≡ WrittenEarlier → IfOk result (λ unsplit. IfSome unsplit (λ u. N.names names.new ≡ N.names names.old)) }
     ensures found { (best : Span) → IsDue walk.now.problem best.high walk.now.numbers → IfOk result (λ unsplit. IfSome unsplit (IsFound rule walk.now.problem best walk.now.numbers (N.names names.old))) }
     ensures left_open { IfOk result (λ unsplit. IfSome unsplit (λ u. IsOpen u → ¬ IsTrue may_split)) }
     ensures may { IfOk result (λ unsplit. IfNone unsplit (IsTrue may_split)) }
 {
-    if let Some(name) = names.find_name(alloc, walk, rule)? {
+    if let Some(name) = names.find_or_keep(alloc, walk, rule, line, may_split)? {
         return Ok(Some(Unsplit::Dominated { value, name }));
     }
     if may_split {
@@ -155,12 +159,14 @@ fn unsplit_by_name<N: Naming>(
 }
 
 /// What the walk's prefix has if it isn't split, by the last best time. If that would split it, the best time is read again, and
-/// decides whether it still does; a node that dominates it forbids it.
+/// decides whether it still does; a node that dominates it forbids it. If none does, it may be known from then on: its node has
+/// this line of the tree.
 fn unsplit_child<L: Least, N: Naming>(
     alloc: Global,
     walk: &Walk<'_>,
     best: &mut u32,
     incumbent: &mut L,
+    line: usize,
     may_split: bool,
     rule: Rule,
     names: &mut N,
@@ -168,7 +174,8 @@ fn unsplit_child<L: Least, N: Naming>(
     requires kept { L.kept incumbent.old ≡ best.old }
     requires suits { N.suits names.old walk.now.problem }
     ensures suits { N.suits names.new walk.now.problem }
-    ensures same { N.names names.new ≡ N.names names.old }
+    ensures known { (name : List ℕ) → Among name (N.names names.new) → (name ≡ walk.now.numbers) ⊎ Among name (N.names names.old) }
+    ensures same { rule ≡ WrittenEarlier → IfOk result (λ unsplit. IfSome unsplit (λ u. N.names names.new ≡ N.names names.old)) }
     ensures kept { L.kept incumbent.new ≡ best.new }
     ensures falls { best.new ≤ best.old }
     ensures lowest { (L.lowest incumbent.new ≡ L.lowest incumbent.old) × (L.lowest incumbent.old ≤ best.old → L.lowest incumbent.old ≤ best.new) }
@@ -187,7 +194,7 @@ fn unsplit_child<L: Least, N: Naming>(
             return Ok(Some(leaf));
         }
     }
-    unsplit_by_name(alloc, walk, value, may_split, rule, names)
+    unsplit_by_name(alloc, walk, value, line, may_split, rule, names)
 }
 
 /// Keeps the lesser of the least whole order so far and that of the walk's prefix, if this is its leaf.
@@ -236,7 +243,7 @@ pub(crate) fn grow<L: Least, N: Naming>(
     let mut best = incumbent.least();
     if let Some(unsplit) = unsplit_by_floor(walk, value, best, 0 < allowance) {
         keep_whole(&mut least, walk, &unsplit);
-        names.keep_terminal(walk, rule, 0, unsplit.state());
+        names.keep_root(walk, rule, unsplit.state());
         push_unsplit(&mut nodes, &mut dominances, 0, 0, depth, unsplit)?;
         return Ok(Grown {
             nodes,
@@ -246,7 +253,7 @@ pub(crate) fn grow<L: Least, N: Naming>(
         });
     }
     nodes.reserve(FIRST_NODES)?;
-    names.keep_split(walk, rule, 0);
+    names.keep_root(walk, rule, State::Split);
     let ready = walk.ready();
     nodes.push(Node::new(0, 0, depth, 0, State::Split))?;
     let mut splits = 1;
@@ -261,19 +268,20 @@ pub(crate) fn grow<L: Least, N: Naming>(
             frames.push(frame);
             walk.push(n);
             let depth = walk.numbers().len() as u8;
+            let line = nodes.len();
             let may_split = splits < allowance;
-            let child = unsplit_child(alloc, walk, &mut best, incumbent, may_split, rule, names)?;
+            let child = unsplit_child(
+                alloc, walk, &mut best, incumbent, line, may_split, rule, names,
+            )?;
             match child {
                 Some(unsplit) => {
                     keep_whole(&mut least, walk, &unsplit);
-                    names.keep_terminal(walk, rule, nodes.len(), unsplit.state());
                     push_unsplit(&mut nodes, &mut dominances, frame.node, n, depth, unsplit)?;
                     walk.undo();
                 }
                 None => {
-                    names.keep_split(walk, rule, nodes.len());
                     let ready = walk.ready();
-                    let node = place_of(nodes.len())?;
+                    let node = place_of(line)?;
                     nodes.push(Node::new(frame.node, n, depth, 0, State::Split))?;
                     frames.push(OpenSplit { node, left: ready });
                     splits += 1;

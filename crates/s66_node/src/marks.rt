@@ -6,7 +6,7 @@ ghost use Rattle.s66_model.specs.Dominance.{IsSameSet};
 ghost use Rattle.s66_model.specs.DominatedLeaves.{IsEarlier, DominatesByRule};
 ghost use Rattle.s66_time.specs.Marks.{IsMarkOf};
 ghost use Rattle.s66_isa.specs.declared.limits.TheConstants.{BLOCK_LIMIT};
-ghost use Rattle.s66_node.specs.MarkTables.{IsEntryOf, AreEntries, numbers_of};
+ghost use Rattle.s66_node.specs.MarkTables.{IsEntry, AreEntries, numbers_of};
 ghost use Rattle.s66_node.specs.declared.marks.TheConstants.{TABLE_LIMIT};
 
 use crate::chains::{Chains, NONE};
@@ -180,24 +180,12 @@ fn make_place(
     chains.add_place()
 }
 
-/// Puts an entry of this set, with this mark and these numbers, in the place of that of an index, or after all.
-fn put_entry(
-    entries: &mut Vec<Entry>,
-    index: usize,
-    pushed: &Set,
-    mark: &Mark,
-    numbers: &[u8],
-) -> Result<(), AllocError>
-    requires few { length numbers.now ≤ BLOCK_LIMIT }
+/// Puts an entry in the place of that of an index, or after all.
+fn put_entry(entries: &mut Vec<Entry>, index: usize, entry: Entry) -> Result<(), AllocError>
     requires within { index < TABLE_LIMIT }
-    ensures entries { (b : Problem) → IsEntryOf b pushed.now mark.now numbers.now → AreEntries b entries.old.items → AreEntries b entries.new.items }
-    ensures known { (name : List ℕ) → Among name (map numbers_of entries.new.items) → (name ≡ numbers.now) ⊎ Among name (map numbers_of entries.old.items) }
+    ensures entries { (b : Problem) → IsEntry b entry → AreEntries b entries.old.items → AreEntries b entries.new.items }
+    ensures known { (name : List ℕ) → Among name (map numbers_of entries.new.items) → (name ≡ numbers_of entry) ⊎ Among name (map numbers_of entries.old.items) }
 {
-    let entry = Entry {
-        pushed: *pushed,
-        mark: *mark,
-        numbers: copy_of(numbers),
-    };
     if index < entries.len() {
         entries[index] = entry;
     } else {
@@ -239,6 +227,26 @@ fn remove_lines(chains: &mut Chains, entries: &[Entry], places: &[Place], unsett
 }
 
 impl Entry {
+    ghost use Rattle.std.specs.Prelude.{ℕ, ◌≡◌};
+    ghost use Rattle.s66_dep.specs.Members.{numbers_in};
+    ghost use Rattle.s66_isa.specs.Lists.{has};
+    ghost use Rattle.s66_time.specs.Marks.{IsMarkOf};
+    ghost use Rattle.s66_node.specs.MarkTables.{IsEntry, numbers_of};
+
+    /// That of a walk's prefix, by the set of its numbers and its mark.
+    pub fn of(walk: &Walk<'_>, pushed: &Set, mark: &Mark) -> Entry
+        requires pushed { (m : ℕ) → has m (numbers_in pushed.now) ≡ has m walk.now.numbers }
+        requires mark { IsMarkOf walk.now.problem walk.now.numbers mark.now }
+        ensures entry { IsEntry walk.now.problem result }
+        ensures numbers { numbers_of result ≡ walk.now.numbers }
+    {
+        Entry {
+            pushed: *pushed,
+            mark: *mark,
+            numbers: copy_of(walk.numbers()),
+        }
+    }
+
     /// The hash of its set.
     pub fn hash(&self) -> u64 {
         self.pushed.hash()
@@ -246,15 +254,16 @@ impl Entry {
 }
 
 impl<'a> Marks<'a> {
-    ghost use Rattle.std.specs.Prelude.{ℕ, ◌≡◌, ◌⊎◌, ◌++◌, [], ◌∷◌, List, IfOk, IfSome, IfNone};
+    ghost use Rattle.std.specs.Prelude.{ℕ, ◌≡◌, ◌⊎◌, ◌++◌, [], ◌∷◌, List, IfOk, IfSome, IfNone, IsTrue};
     ghost use Rattle.s66_dep.specs.Members.{numbers_in};
     ghost use Rattle.s66_isa.specs.Lists.{has};
     ghost use Rattle.s66_time.specs.Marks.{IsMarkOf};
     ghost use Rattle.s66_isa.specs.Lists.{Among};
     ghost use Rattle.s66_line.specs.Block.{instrs_of};
+    ghost use Rattle.s66_model.specs.declared.rule.Rule.TheVariants.{WrittenEarlier};
     ghost use Rattle.s66_model.specs.LegalOrder.{IsIncomplete};
     ghost use Rattle.s66_model.specs.DominatedLeaves.{DominatesByRule};
-    ghost use Rattle.s66_node.specs.MarkTables.{IsEntry, IsEntryOf, numbers_of};
+    ghost use Rattle.s66_node.specs.MarkTables.{IsEntry, numbers_of};
 
     /// No mark.
     pub fn new(alloc: Global, block: &'a Block<'a>, profile: &Profile) -> Marks<'a>
@@ -305,23 +314,32 @@ impl<'a> Marks<'a> {
         self.find_by(walk, &walk.pushed(), &walk.mark(), rule)
     }
 
-    /// The name of what `find` finds.
-    pub(crate) fn find_name(
+    /// The name of what `find` finds. If it finds nothing, the mark of the prefix is kept, which has this line of a piece and is
+    /// split or stays open; by the rule of earlier nodes only if it is split.
+    pub(crate) fn find_or_keep(
         &mut self,
         alloc: Global,
         walk: &Walk<'_>,
         rule: Rule,
+        line: usize,
+        is_split: bool,
     ) -> Result<Option<Box<Name>>, AllocError>
         requires { self.old.problem ≡ walk.now.problem }
-        ensures same { self.new ≡ self.old }
+        ensures same { self.new.problem ≡ self.old.problem }
         ensures dominates { IfOk result (λ found. IfSome found (λ name. IsIncomplete walk.now.problem.block walk.now.numbers → DominatesByRule rule walk.now.problem name.value.numbers.items walk.now.numbers)) }
         ensures known { IfOk result (λ found. IfSome found (λ name. Among name.value.numbers.items self.old.names)) }
+        ensures kept { (name : List ℕ) → Among name self.new.names → (name ≡ walk.now.numbers) ⊎ Among name self.old.names }
+        ensures found { IfOk result (λ found. IfSome found (λ name. self.new.names ≡ self.old.names)) }
+        ensures open { rule ≡ WrittenEarlier → ¬ IsTrue is_split → self.new.names ≡ self.old.names }
     {
+        let pushed = walk.pushed();
         walk.set_mark(&mut self.room);
-        match self.find_by(walk, &walk.pushed(), &self.room, rule) {
-            Some((numbers, place)) => Ok(Some(Name::new(alloc, numbers, place)?)),
-            None => Ok(None),
+        if let Some((numbers, place)) = self.find_by(walk, &pushed, &self.room, rule) {
+            return Ok(Some(Name::new(alloc, numbers, place)?));
         }
+        let entry = Entry::of(walk, &pushed, &self.room);
+        self.put_line(entry, line, is_split, rule);
+        Ok(None)
     }
 
     /// What `find` finds, by the set of the prefix's numbers and its mark.
@@ -356,18 +374,11 @@ impl<'a> Marks<'a> {
         None
     }
 
-    /// Keeps an entry of this set, with this mark and these numbers, and the node that it is, if there is room.
-    fn keep(
-        &mut self,
-        pushed: &Set,
-        mark: &Mark,
-        numbers: &[u8],
-        place: Place,
-    ) -> Result<(), AllocError>
-        requires few { length numbers.now ≤ BLOCK_LIMIT }
-        requires entry { IsEntryOf self.old.problem pushed.now mark.now numbers.now }
+    /// Keeps an entry, and the node that it is, if there is room.
+    fn keep(&mut self, entry: Entry, place: Place) -> Result<(), AllocError>
+        requires { IsEntry self.old.problem entry }
         ensures same { self.new.problem ≡ self.old.problem }
-        ensures known { (name : List ℕ) → Among name self.new.names → (name ≡ numbers.now) ⊎ Among name self.old.names }
+        ensures known { (name : List ℕ) → Among name self.new.names → (name ≡ numbers_of entry) ⊎ Among name self.old.names }
     {
         let index = match self.chains.reuse() {
             Some(index) => index as usize,
@@ -384,8 +395,9 @@ impl<'a> Marks<'a> {
             index,
             place,
         )?;
-        put_entry(&mut self.entries, index, pushed, mark, numbers)?;
-        self.chains.put(pushed.hash(), index as u32);
+        let hash = entry.hash();
+        put_entry(&mut self.entries, index, entry)?;
+        self.chains.put(hash, index as u32);
         Ok(())
     }
 
@@ -397,15 +409,22 @@ impl<'a> Marks<'a> {
         ensures known { (name : List ℕ) → Among name self.new.names → (name ≡ walk.now.numbers) ⊎ Among name self.old.names }
     {
         walk.set_mark(&mut self.room);
-        let mark = self.room;
-        let line = line.min(u32::MAX as usize) as u32;
-        self.put_all_of(
-            &walk.pushed(),
-            &mark,
-            walk.numbers(),
-            Place::Line(line),
-            rule,
-        );
+        let entry = Entry::of(walk, &walk.pushed(), &self.room);
+        self.put_line(entry, line, true, rule);
+    }
+
+    /// Keeps an entry as `put` does, which has this line of a piece and is split or stays open; by the rule of earlier nodes only
+    /// if it is split.
+    pub fn put_line(&mut self, entry: Entry, line: usize, is_split: bool, rule: Rule)
+        requires { IsEntry self.old.problem entry }
+        ensures same { self.new.problem ≡ self.old.problem }
+        ensures known { (name : List ℕ) → Among name self.new.names → (name ≡ entry.numbers.items) ⊎ Among name self.old.names }
+        ensures open { rule ≡ WrittenEarlier → ¬ IsTrue is_split → self.new.names ≡ self.old.names }
+    {
+        if is_split || rule == Rule::ClampedStanding {
+            let line = line.min(u32::MAX as usize) as u32;
+            self.put(entry, Place::Line(line), rule);
+        }
     }
 
     /// Keeps an entry, which is this node, and forgets those beside which it is enough by the rule.
@@ -414,33 +433,17 @@ impl<'a> Marks<'a> {
         ensures same { self.new.problem ≡ self.old.problem }
         ensures known { (name : List ℕ) → Among name self.new.names → (name ≡ entry.numbers.items) ⊎ Among name self.old.names }
     {
-        self.put_all_of(
-            &entry.pushed,
-            &entry.mark,
-            entry.numbers.as_slice(),
-            place,
-            rule,
-        );
-    }
-
-    /// Keeps an entry of this set, with this mark and these numbers, as `put` does.
-    fn put_all_of(&mut self, pushed: &Set, mark: &Mark, numbers: &[u8], place: Place, rule: Rule)
-        requires few { length numbers.now ≤ BLOCK_LIMIT }
-        requires entry { IsEntryOf self.old.problem pushed.now mark.now numbers.now }
-        ensures same { self.new.problem ≡ self.old.problem }
-        ensures known { (name : List ℕ) → Among name self.new.names → (name ≡ numbers.now) ⊎ Among name self.old.names }
-    {
         let stay = remove_dominated(
             &mut self.chains,
             self.entries.as_slice(),
-            pushed,
-            mark,
+            &entry.pushed,
+            &entry.mark,
             rule,
         );
         if rule == Rule::ClampedStanding && stay >= LIST_LIMIT {
             return;
         }
-        let _ = self.keep(pushed, mark, numbers, place);
+        let _ = self.keep(entry, place);
     }
 
     /// Takes the last entry out, with the node that it is. Before the table is empty, `find` may miss entries that are left.

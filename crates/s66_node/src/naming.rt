@@ -8,7 +8,7 @@ use std::boxed::Box;
 
 /// What knows nodes that dominate others, while a tree is made.
 pub trait Naming {
-    ghost use Rattle.std.specs.Prelude.{ℕ, List, ◌≡◌, ◌⊎◌, IfOk, IfSome};
+    ghost use Rattle.std.specs.Prelude.{ℕ, List, ◌≡◌, ◌⊎◌, IfOk, IfSome, IsTrue};
     ghost use Rattle.s66_isa.specs.Lists.{Among};
     ghost use Rattle.s66_model.specs.declared.rule.Rule.TheVariants.{WrittenEarlier};
     ghost use Rattle.s66_model.specs.Timing.{Problem};
@@ -23,30 +23,30 @@ pub trait Naming {
 
     /// A node that dominates the walk's prefix, as the rule asks, if one is known. By the rule of earlier nodes it has these
     /// numbers.
-    fn find_name(
+    ///
+    /// If none is known, the prefix may be known from then on: its node has this place, and is split or stays open. By the rule of
+    /// earlier nodes one that stays open isn't.
+    fn find_or_keep(
         &mut self,
         alloc: Global,
         walk: &Walk<'_>,
         rule: Rule,
+        line: usize,
+        is_split: bool,
     ) -> Result<Option<Box<Name>>, AllocError>
         requires suits { suits self.old walk.now.problem }
         ensures suits { suits self.new walk.now.problem }
-        ensures same { names self.new ≡ names self.old }
         ensures dominates { IfOk result (λ found. IfSome found (λ name. IsIncomplete walk.now.problem.block walk.now.numbers → DominatesByRule rule walk.now.problem name.value.numbers.items walk.now.numbers)) }
-        ensures known { rule ≡ WrittenEarlier → IfOk result (λ found. IfSome found (λ name. Among name.value.numbers.items (names self.old))) };
+        ensures known { rule ≡ WrittenEarlier → IfOk result (λ found. IfSome found (λ name. Among name.value.numbers.items (names self.old))) }
+        ensures kept { (name : List ℕ) → Among name (names self.new) → (name ≡ walk.now.numbers) ⊎ Among name (names self.old) }
+        ensures found { rule ≡ WrittenEarlier → IfOk result (λ found. IfSome found (λ name. names self.new ≡ names self.old)) }
+        ensures open { rule ≡ WrittenEarlier → ¬ IsTrue is_split → names self.new ≡ names self.old };
 
-    /// May know the walk's prefix from now on, which is split: this is the place of its node.
-    fn keep_split(&mut self, walk: &Walk<'_>, rule: Rule, line: usize)
+    /// May know the walk's prefix from now on, which is the root of a tree: its node has this state.
+    fn keep_root(&mut self, walk: &Walk<'_>, rule: Rule, state: State)
         requires suits { suits self.old walk.now.problem }
         ensures suits { suits self.new walk.now.problem }
-        ensures known { (name : List ℕ) → Among name (names self.new) → (name ≡ walk.now.numbers) ⊎ Among name (names self.old) };
-
-    /// May know the walk's prefix from now on, which isn't split: its node has this place and this state. By the rule of earlier
-    /// nodes it doesn't.
-    fn keep_terminal(&mut self, walk: &Walk<'_>, rule: Rule, line: usize, state: State)
-        requires suits { suits self.old walk.now.problem }
-        ensures suits { suits self.new walk.now.problem }
-        ensures known { rule ≡ WrittenEarlier → names self.new ≡ names self.old };
+        ensures kept { (name : List ℕ) → Among name (names self.new) → (name ≡ walk.now.numbers) ⊎ Among name (names self.old) };
 }
 
 /// No node is known.
@@ -60,18 +60,18 @@ impl Naming for NoNames {
 
     ghost names = { λ _. [] };
 
-    fn find_name(
+    fn find_or_keep(
         &mut self,
         _alloc: Global,
         _walk: &Walk<'_>,
         _rule: Rule,
+        _line: usize,
+        _is_split: bool,
     ) -> Result<Option<Box<Name>>, AllocError> {
         Ok(None)
     }
 
-    fn keep_split(&mut self, _walk: &Walk<'_>, _rule: Rule, _line: usize) {}
-
-    fn keep_terminal(&mut self, _walk: &Walk<'_>, _rule: Rule, _line: usize, _state: State) {}
+    fn keep_root(&mut self, _walk: &Walk<'_>, _rule: Rule, _state: State) {}
 }
 
 impl Naming for Marks<'_> {
@@ -81,22 +81,22 @@ impl Naming for Marks<'_> {
 
     ghost names = { λ marks. marks.names };
 
-    fn find_name(
+    fn find_or_keep(
         &mut self,
         alloc: Global,
         walk: &Walk<'_>,
         rule: Rule,
+        line: usize,
+        is_split: bool,
     ) -> Result<Option<Box<Name>>, AllocError> {
-        Marks::find_name(self, alloc, walk, rule)
+        Marks::find_or_keep(self, alloc, walk, rule, line, is_split)
     }
 
-    fn keep_split(&mut self, walk: &Walk<'_>, rule: Rule, line: usize) {
-        self.insert(walk, rule, line);
-    }
-
-    fn keep_terminal(&mut self, walk: &Walk<'_>, rule: Rule, line: usize, state: State) {
-        if let (Rule::ClampedStanding, State::Open) = (rule, state) {
-            self.insert(walk, rule, line);
+    fn keep_root(&mut self, walk: &Walk<'_>, rule: Rule, state: State) {
+        match state {
+            State::Split => self.insert(walk, rule, 0),
+            State::Open if rule == Rule::ClampedStanding => self.insert(walk, rule, 0),
+            _ => {}
         }
     }
 }

@@ -1,6 +1,6 @@
 use crate::shared_marks::{SharedMarks, Token, name_in};
 use s66_model::Rule;
-use s66_node::{Marks, Name, Naming, Place, State, Walk};
+use s66_node::{Entry, Marks, Name, Naming, Place, State, Walk};
 use s66_time::Mark;
 use std::alloc::{AllocError, Global};
 use std::boxed::Box;
@@ -14,7 +14,7 @@ pub(crate) struct Known<'s, 'b, R> {
     own: Marks<'b>,
     settled: &'s SharedMarks<'b>,
     token: Token<'b>,
-    /// Room for the mark of a prefix that is looked for.
+    /// Room for the mark of a prefix that is looked for or kept.
     room: Mark,
 }
 
@@ -73,32 +73,32 @@ impl<R: Wait> Naming for Known<'_, '_, R> {
 
     ghost names = { λ known. known.names };
 
-    fn find_name(
+    fn find_or_keep(
         &mut self,
         alloc: Global,
         walk: &Walk<'_>,
         rule: Rule,
+        line: usize,
+        is_split: bool,
     ) -> Result<Option<Box<Name>>, AllocError> {
         let pushed = walk.pushed();
         walk.set_mark(&mut self.room);
-        let own = name_in(alloc, &self.own, walk, &pushed, &self.room, rule)?;
-        if own.is_some() || rule != Rule::ClampedStanding {
-            return Ok(own);
+        if let Some(name) = name_in(alloc, &self.own, walk, &pushed, &self.room, rule)? {
+            return Ok(Some(name));
         }
         let token = &mut self.token;
-        self.settled
-            .find_name(self.rt, token, alloc, walk, &pushed, &self.room, rule)
-    }
-
-    fn keep_split(&mut self, walk: &Walk<'_>, rule: Rule, line: usize) {
-        // the root has other numbers than each prefix below it, and all know it since it was made
-        if line == 0 {
-            return;
+        let settled = self
+            .settled
+            .find_name(self.rt, token, alloc, walk, &pushed, &self.room, rule)?;
+        if let Some(name) = settled {
+            return Ok(Some(name));
         }
-        self.own.keep_split(walk, rule, line);
+        let entry = Entry::of(walk, &pushed, &self.room);
+        self.own.put_line(entry, line, is_split, rule);
+        Ok(None)
     }
 
-    fn keep_terminal(&mut self, walk: &Walk<'_>, rule: Rule, line: usize, state: State) {
-        self.own.keep_terminal(walk, rule, line, state);
+    fn keep_root(&mut self, _walk: &Walk<'_>, _rule: Rule, _state: State) {
+        // it has other numbers than each prefix below it, and all know it since it was made
     }
 }

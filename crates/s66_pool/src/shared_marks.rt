@@ -113,6 +113,7 @@ impl<'b> SharedMarks<'b> {
     ghost use Rattle.s66_dep.specs.Members.{numbers_in};
     ghost use Rattle.s66_isa.specs.Lists.{has};
     ghost use Rattle.s66_time.specs.Marks.{IsMarkOf};
+    ghost use Rattle.s66_model.specs.declared.rule.Rule.TheVariants.{ClampedStanding};
     ghost use Rattle.s66_model.specs.LegalOrder.{IsIncomplete};
     ghost use Rattle.s66_model.specs.DominatedLeaves.{DominatesByRule};
     ghost use Rattle.s66_node.specs.MarkTables.{MarkTable, IsEntry};
@@ -220,8 +221,8 @@ impl<'b> SharedMarks<'b> {
         self.table.shared.store::<Gives>(token, part, 0);
     }
 
-    /// A node that dominates the walk's prefix, as the rule asks, if one is known. The set is that of the prefix's numbers, and
-    /// the mark the prefix's.
+    /// A node that dominates the walk's prefix, as the rule asks, if one is known; by a rule that names nodes of the same piece
+    /// alone, none. The set is that of the prefix's numbers, and the mark the prefix's.
     pub(crate) fn find_name<R: Wait>(
         &self,
         rt: &R,
@@ -238,7 +239,11 @@ impl<'b> SharedMarks<'b> {
         requires mark { IsMarkOf walk.now.problem walk.now.numbers mark.now }
         ensures here { IsAt self.now.table.shared.table_id self.now.table.shared.key token.new }
         ensures dominates { IfOk result (λ found. IfSome found (λ name. IsIncomplete walk.now.problem.block walk.now.numbers → DominatesByRule rule walk.now.problem name.value.numbers.items walk.now.numbers)) }
+        ensures clamped { IfOk result (λ found. IfSome found (λ name. rule ≡ ClampedStanding)) }
     {
+        if rule != Rule::ClampedStanding {
+            return Ok(None);
+        }
         let part = self.part_of(pushed.hash());
         self.take(rt, token, part);
         let held = token.slot_mut(&self.table.shared, part);

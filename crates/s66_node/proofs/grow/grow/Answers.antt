@@ -2,7 +2,7 @@ use Rattle.std.proofs.Common.{ℕ, ◌+◌, ◌-◌, ◌*◌, ◌≤◌, ◌≡�
 use Rattle.std.proofs.lemmas.Bool.{lt-ltb, ltb-true, true≢false}
 use Rattle.s66_isa.specs.declared.limits.TheConstants.{BLOCK_LIMIT}
 use Rattle.s66_isa.specs.Lists.{Among}
-use Rattle.s66_model.specs.declared.rule.Rule.TheVariants.{NoneNamed}
+use Rattle.s66_model.specs.declared.rule.Rule.TheVariants.{NoneNamed, WrittenEarlier}
 use Rattle.s66_model.specs.Timing.{Problem}
 use Rattle.s66_model.specs.Piece.{Frontier, Passed}
 use Rattle.s66_model.specs.Expansion.{whole_at}
@@ -79,11 +79,11 @@ loop-frame-init g c =
       kept = sym c.least-best.ensures.now;
       falls = omega (arith, c.least-best.ensures.now, c.least-best.ensures.falls);
       lowest = (c.least-best.ensures.lowest.0, omega (arith, c.least-best.ensures.lowest.0, c.least-best.ensures.lowest.1, c.least-best.ensures.now));
-      suits = c.keep_split.ensures.suits;
+      suits = c.keep_root-2.ensures.suits;
       nodes = rw (only, none) (split-node b [] root node deep short refl refl, tt);
       walk = λ low le.
           rw (c.ready-ready.ensures.same, frames, only)
-          (walk-root c.args.rule b (span high low) c.args.allowance root frame (g.N.Naming.names c.args.names.now) (g.N.Naming.names c.keep_split.new.self) c.requires.unknown c.keep_split.ensures.known (ltb-true 0 c.args.allowance c.in_default.ensures.may) c.numbers.ensures.begins due refl c.ready-ready.ensures.ready);
+          (walk-root c.args.rule b (span high low) c.args.allowance root frame (g.N.Naming.names c.args.names.now) (g.N.Naming.names c.keep_root-2.new.self) c.requires.unknown c.keep_root-2.ensures.kept (ltb-true 0 c.args.allowance c.in_default.ensures.may) c.numbers.ensures.begins due refl c.ready-ready.ensures.ready);
     }
 
 pub push-requires-in-Some-pop_first : goal.push-requires-in-Some-pop_first
@@ -136,6 +136,8 @@ loop-frame-preserved-in-Some-child g c =
     subst (λ (o : Option Unsplit). IfSome o (IsFound c.args.rule now.problem (span lf.best c.unsplit_child.new.best) now.numbers (g.N.Naming.names lf.names))) c.in-Some-child.is c.in_ok-child.ensures.found in
     let left : IsOpen u → ¬ IsTrue (nat_lt lf.splits c.args.allowance) =
     subst (λ (o : Option Unsplit). IfSome o (λ k. IsOpen k → ¬ IsTrue (nat_lt lf.splits c.args.allowance))) c.in-Some-child.is c.in_ok-child.ensures.left_open in
+    let same : c.args.rule ≡ WrittenEarlier → g.N.Naming.names c.unsplit_child.new.names ≡ g.N.Naming.names lf.names =
+    λ by. subst (λ (o : Option Unsplit). IfSome o (λ k. g.N.Naming.names c.unsplit_child.new.names ≡ g.N.Naming.names lf.names)) c.in-Some-child.is (c.in_ok-child.ensures.same by) in
     let put = c.in_ok-push_unsplit-in-Some-child.ensures in
     let found : (low : ℕ) → low ≤ c.unsplit_child.new.best → IsFound c.args.rule b (span high low) child (g.N.Naming.names lf.names) u =
     λ low le.
@@ -156,7 +158,7 @@ loop-frame-preserved-in-Some-child g c =
       kept = c.unsplit_child.ensures.kept;
       falls = omega (arith, c.unsplit_child.ensures.falls, lf.invariant.falls);
       lowest = (c.unsplit_child.ensures.lowest.0 ∙ lf.invariant.lowest.0, omega (arith, c.unsplit_child.ensures.lowest.1 (omega (arith, lf.invariant.lowest.0, lf.invariant.lowest.1)), lf.invariant.lowest.0));
-      suits = subst (λ (p : Problem). g.N.Naming.suits c.keep_terminal-in-Some-child.new.self p) own c.keep_terminal-in-Some-child.ensures.suits;
+      suits = subst (λ (p : Problem). g.N.Naming.suits c.unsplit_child.new.names p) own c.unsplit_child.ensures.suits;
       nodes = pushed.stand;
       walk = λ low le.
           let old_le : low ≤ lf.best = omega (arith, le, c.unsplit_child.ensures.falls) in
@@ -167,8 +169,8 @@ loop-frame-preserved-in-Some-child g c =
           (subst (λ (p : Problem). IsLeast p orders lf.least → IsLeast p (orders ++ whole_at now.numbers (terminal_by p now.numbers u)) c.keep_whole-in-Some-child.new.least) own
           (c.keep_whole-in-Some-child.ensures c.args.rule (span lf.best c.unsplit_child.new.best) known orders found_now) h) in
           walk-terminal c.args.rule b (span (g.L.Least.kept c.args.incumbent.now) low) c.args.allowance root lf.walk.numbers lf.frames.items c.pop.new.self.items c.in-Some-pop.frame (node_lines b (map named lf.dominances.items) (prefixes_over root lf.nodes.items) lf.nodes.items) (prefixes_over root lf.nodes.items) lf.splits lf.least (g.N.Naming.names lf.names) (lf.invariant.walk low old_le) c.in-Some-pop.ensures.items
-          n frame c.in-Some-pop_first.ensures.some refl c.push-in-Some-pop_first.new.self.items _ _ c.keep_whole-in-Some-child.new.least (g.N.Naming.names c.keep_terminal-in-Some-child.new.self) (terminal_by b child u) c.undo.new.self.numbers
-          (λ by. c.keep_terminal-in-Some-child.ensures.known by ∙ c.unsplit_child.ensures.same) here.knows c.push-in-Some-pop_first.ensures.items up here.left
+          n frame c.in-Some-pop_first.ensures.some refl c.push-in-Some-pop_first.new.self.items _ _ c.keep_whole-in-Some-child.new.least (g.N.Naming.names c.unsplit_child.new.names) (terminal_by b child u) c.undo.new.self.numbers
+          same here.knows c.push-in-Some-pop_first.ensures.items up here.left
           pushed.lines
           pushed.prefixes
           lower (λ is lt. left (found-open b child u is) (lt-ltb lf.splits c.args.allowance lt));
@@ -224,23 +226,23 @@ loop-frame-preserved-in-None g c =
     subst (IsDue b high) next (subst (λ (p : Problem). IsDue p high now.numbers) own (due_now.0, omega (arith, due_now.1, c.unsplit_child.ensures.falls, lf.invariant.falls))) in
     let ready_is : numbers_in c.ready-ready-in-None.result ≡ ready b.block child = subst (λ at. numbers_in c.ready-ready-in-None.result ≡ ready b.block at) next (subst (λ (p : Problem). numbers_in c.ready-ready-in-None.result ≡ ready p.block now.numbers) own c.ready-ready-in-None.ensures.ready) in
     let put = c.in_ok-push-in-None.ensures.items ∙ ap (λ (x : Node). nodes ++ x ∷ []) c.new-in-None.ensures in
-    let last : c.in_ok-node-in-None.node ≡ length prefixes = omega (arith, c.in_ok-node-in-None.ensures, c.len-in-None-2.ensures, length-prefixes_over root nodes) in
-    let kept : (name : List ℕ) → Among name (g.N.Naming.names c.keep_split-in-None.new.self) → (name ≡ child) ⊎ Among name (g.N.Naming.names lf.names) =
+    let last : c.in_ok-node-in-None.node ≡ length prefixes = omega (arith, c.in_ok-node-in-None.ensures, c.len-line.ensures, length-prefixes_over root nodes) in
+    let kept : (name : List ℕ) → Among name (g.N.Naming.names c.unsplit_child.new.names) → (name ≡ child) ⊎ Among name (g.N.Naming.names lf.names) =
     λ name among.
-    subst (λ at. (name ≡ at) ⊎ Among name (g.N.Naming.names lf.names)) next (subst (λ names. (name ≡ now.numbers) ⊎ Among name names) c.unsplit_child.ensures.same (c.keep_split-in-None.ensures.known name among)) in
+    subst (λ at. (name ≡ at) ⊎ Among name (g.N.Naming.names lf.names)) next (c.unsplit_child.ensures.known name among) in
     let pushed = split-pushed b root lf.walk.numbers n nodes new names parent _ deep short lf.invariant.nodes within over put in
     record {
       problem = ap (λ (w : Walked). w.problem) c.ready-ready-in-None.ensures.same ∙ own;
       kept = c.unsplit_child.ensures.kept;
       falls = omega (arith, c.unsplit_child.ensures.falls, lf.invariant.falls);
       lowest = (c.unsplit_child.ensures.lowest.0 ∙ lf.invariant.lowest.0, omega (arith, c.unsplit_child.ensures.lowest.1 (omega (arith, lf.invariant.lowest.0, lf.invariant.lowest.1)), lf.invariant.lowest.0));
-      suits = subst (λ (p : Problem). g.N.Naming.suits c.keep_split-in-None.new.self p) own c.keep_split-in-None.ensures.suits;
+      suits = subst (λ (p : Problem). g.N.Naming.suits c.unsplit_child.new.names p) own c.unsplit_child.ensures.suits;
       nodes = pushed.stand;
       walk = λ low le.
           let old_le : low ≤ lf.best = omega (arith, le, c.unsplit_child.ensures.falls) in
           rw c.ready-ready-in-None.ensures.same
           (walk-split c.args.rule b (span (g.L.Least.kept c.args.incumbent.now) low) c.args.allowance root lf.walk.numbers lf.frames.items c.pop.new.self.items c.in-Some-pop.frame (node_lines b (map named lf.dominances.items) (prefixes_over root lf.nodes.items) lf.nodes.items) (prefixes_over root lf.nodes.items) lf.splits lf.least (g.N.Naming.names lf.names) (lf.invariant.walk low old_le) c.in-Some-pop.ensures.items
-          n frame c.in-Some-pop_first.ensures.some refl below c.push-in-None-2.new.self.items _ _ (g.N.Naming.names c.keep_split-in-None.new.self) now.numbers kept
+          n frame c.in-Some-pop_first.ensures.some refl below c.push-in-None-2.new.self.items _ _ (g.N.Naming.names c.unsplit_child.new.names) now.numbers kept
           (c.push-in-None-2.ensures.items ∙ ap (λ fs. fs ++ below ∷ []) c.push-in-Some-pop_first.ensures.items) next due ready_is last
           pushed.lines
           pushed.prefixes

@@ -1,10 +1,9 @@
-use Rattle.std.proofs.Common.{◌∙◌, inl, inr}
+use Rattle.std.proofs.Common.{◌≡◌, ◌⊎◌, subst}
+use Rattle.s66_isa.specs.Lists.{Among}
+use Rattle.s66_node.specs.MarkTables.{MarkTable}
 use Rattle.s66_node.proofs.marks.Marks.put.Goals as goal
 
 pub returns-clause-known : goal.returns-clause-known
 returns-clause-known c =
     λ name among.
-    elim (c.put_all_of.ensures.known name among) [
-      | inl is ↦ inl (is ∙ c.as_slice.ensures.value)
-      | inr before ↦ inr before
-    ]
+    subst (λ (m : MarkTable). (name ≡ c.args.entry.numbers.items) ⊎ Among name m.names) c.self.view_is (c.keep.ensures.known name among)

@@ -1,9 +1,0 @@
-use Rattle.std.proofs.Common.{◌≡◌, ◌⊎◌, subst}
-use Rattle.s66_isa.specs.Lists.{Among}
-use Rattle.s66_node.specs.MarkTables.{MarkTable}
-use Rattle.s66_node.proofs.marks.Marks.put_all_of.Goals as goal
-
-pub returns-clause-known : goal.returns-clause-known
-returns-clause-known c =
-    λ name among.
-    subst (λ (m : MarkTable). (name ≡ c.args.numbers.now) ⊎ Among name m.names) c.self.view_is (c.keep.ensures.known name among)
