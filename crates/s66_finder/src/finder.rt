@@ -7,12 +7,13 @@ use crate::ground::Ground;
 use crate::known::Known;
 use crate::limits::{PASSES_LIMIT, ROUNDS_LIMIT, WAIT_LIMIT};
 use crate::lines::{copies_of, copy_of_line};
+use crate::load::{Best, Load};
 use crate::needed::needed_of;
 use crate::network::Network;
 use crate::pairs::Forced;
 use crate::spans::{FROM_ORIGIN, Spans, TO_END, at_issue};
 use crate::taken::{Taken, word};
-use crate::ways::{Best, best_load, users_in};
+use crate::ways::Ways;
 use s66_dep::Set;
 use s66_facts::{Facts, Times};
 use s66_isa::{BLOCK_LIMIT, Instr, KINDS, Kind, Profile};
@@ -27,6 +28,7 @@ pub struct Finder {
     ground: Ground,
     taken: Taken,
     lines: Vec<FactLine>,
+    ways: Ways,
 }
 
 /// Where a load line leads from; 0 is the origin.
@@ -72,11 +74,31 @@ fn tails_of(times: &Times) -> Tails {
     }
 }
 
-/// A load line as it was found, and the numbers of its kind from which its own are.
+/// A load line as it was found, and the numbers of a kind from which its own are.
 #[derive(Clone, Copy, Debug)]
 struct Found {
     best: Best,
+    kind: Kind,
     numbers: Set,
+}
+
+/// The load of some numbers of a kind between the places of two numbers.
+fn load_of<'a>(
+    ground: &'a Ground,
+    spans: &'a Spans,
+    from: u8,
+    to: u8,
+    kind: Kind,
+    numbers: Set,
+) -> Load<'a> {
+    Load {
+        rows: ground.rows(),
+        spans,
+        from: front_place(from),
+        to: back_place(to),
+        numbers,
+        copies: ground.copies(kind),
+    }
 }
 
 impl Finder {
@@ -89,6 +111,7 @@ impl Finder {
             ground: Ground::of(block, profile),
             taken: Taken::new(block, profile),
             lines: Vec::new(alloc),
+            ways: Ways::new(alloc),
         }
     }
 
@@ -151,6 +174,7 @@ impl Finder {
             ground: self.ground.duplicate(),
             taken: self.taken.duplicate(),
             lines: copies_of(self.alloc, self.lines.as_slice())?,
+            ways: Ways::new(self.alloc),
         })
     }
 
@@ -183,6 +207,7 @@ impl Finder {
             ground: self.ground.duplicate(),
             taken: self.ground.first_known(),
             lines: Vec::new(self.alloc),
+            ways: Ways::new(self.alloc),
         }
     }
 
@@ -286,43 +311,45 @@ impl Finder {
     }
 
     /// What says most between two places, if with it a path from the origin or to the end grows.
-    fn best_between(&self, known: &Known, spans: &Spans, from: u8, to: u8) -> Option<Found> {
+    fn best_between(
+        &mut self,
+        known: &Known,
+        spans: &Spans,
+        from: u8,
+        to: u8,
+    ) -> Result<Option<Found>, AllocError> {
         let between = known.between(from, to);
         let mut wait = wait_known(spans, from, to);
         let mut found = None;
         for kind in KINDS {
             let numbers = between.both(&self.ground.users(kind));
-            if let Some(best) = self.best_of(spans, from, to, kind, numbers, wait) {
+            if let Some(best) = self.best_of(spans, from, to, kind, numbers, wait)? {
                 wait = u32::try_from(best.wait).unwrap_or(u32::MAX);
-                found = Some(Found { best, numbers });
+                found = Some(Found {
+                    best,
+                    kind,
+                    numbers,
+                });
             }
         }
-        found
+        Ok(found)
     }
 
     /// What says most by instructions of a kind.
     fn best_of(
-        &self,
+        &mut self,
         spans: &Spans,
         from: u8,
         to: u8,
         kind: Kind,
         numbers: Set,
         wait: u32,
-    ) -> Option<Best> {
-        let copies = self.ground.copies(kind);
-        if numbers.count() <= copies {
-            return None;
+    ) -> Result<Option<Best>, AllocError> {
+        if numbers.count() <= self.ground.copies(kind) {
+            return Ok(None);
         }
-        best_load(
-            self.ground.rows(),
-            spans,
-            front_place(from),
-            back_place(to),
-            numbers,
-            copies,
-            wait,
-        )
+        let load = load_of(&self.ground, spans, from, to, kind, numbers);
+        self.ways.best(&load, wait)
     }
 
     /// Takes the load line that says most between two places, if one is worth it; whether one is taken.
@@ -333,26 +360,20 @@ impl Finder {
         from: u8,
         to: u8,
     ) -> Result<bool, AllocError> {
-        let Some(found) = self.best_between(known, spans, from, to) else {
+        let Some(found) = self.best_between(known, spans, from, to)? else {
             return Ok(false);
         };
         let wait = u32::try_from(found.best.wait).unwrap_or(u32::MAX);
         if wait > WAIT_LIMIT {
             return Ok(false);
         }
+        let load = load_of(&self.ground, spans, from, to, found.kind, found.numbers);
         let line = LoadLine {
             from: front(from),
             to: back(to),
             after: found.best.after,
             wait,
-            numbers: users_in(
-                self.ground.rows(),
-                spans,
-                front_place(from),
-                back_place(to),
-                found.numbers,
-                &found.best,
-            ),
+            numbers: load.users(&found.best),
         };
         // a load line holds for each bound
         let is_taken = self.take(0, FactLine::Load(line))?;
