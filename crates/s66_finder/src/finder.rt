@@ -11,6 +11,7 @@ use crate::load::{Best, Load};
 use crate::needed::needed_of;
 use crate::network::Network;
 use crate::pairs::Forced;
+use crate::sketch::Sketch;
 use crate::spans::{FROM_ORIGIN, Spans, TO_END, at_issue};
 use crate::taken::{Taken, word};
 use crate::ways::Ways;
@@ -181,13 +182,16 @@ impl Finder {
     /// The same with some of its lines, in their order, after which a path from an issue to the end still takes the bound, if one does:
     /// as few as are found. Its lines are to hold for the bound.
     ///
-    /// It takes the time of some `TAKES_LIMIT` load lines that are taken in. `Err` is out of memory.
+    /// Which these are is found out by a sketch of what is known, into which some `TAKES_LIMIT` lines are taken at most. `Err` is out of
+    /// memory.
     pub fn needed(&self, bound: u32) -> Result<Finder, AllocError> {
         if self.root().1 < bound {
             return self.duplicate();
         }
         let lines = self.lines.as_slice();
-        let places = needed_of(self.alloc, self.ground.first_known(), lines, bound)?;
+        let known = Known::of(self.ground.first_known().facts());
+        let first = Sketch::of(self.alloc, &self.ground, known)?;
+        let places = needed_of(self.alloc, first, lines, bound)?;
         let mut other = self.without_lines();
         for place in places.as_slice() {
             if let Some(line) = lines.get(*place) {

@@ -105,6 +105,14 @@ impl Ground {
         self.rows.as_slice()
     }
 
+    /// The row of a number.
+    pub fn row(&self, n: u8) -> Option<&Row> {
+        if n == 0 {
+            return None;
+        }
+        self.rows.get(n as usize - 1)
+    }
+
     /// How many units there are of a kind.
     pub fn copies(&self, kind: Kind) -> u32 {
         self.copies[kind_number(kind)]

@@ -13,6 +13,7 @@ mod network;
 mod nodes;
 mod pairs;
 mod shares;
+mod sketch;
 mod spans;
 mod taken;
 mod ways;

@@ -1,7 +1,7 @@
 //! Which lines a bound needs.
 
 use crate::limits::TAKES_LIMIT;
-use crate::taken::Taken;
+use crate::sketch::Sketch;
 use s66_moments::FactLine;
 use std::alloc::{AllocError, Global};
 
@@ -17,9 +17,9 @@ enum Need {
 
 /// Lines next to each other, of which it isn't decided yet whether they are needed.
 #[derive(Debug, Drop)]
-struct Part {
+struct Part<'a> {
     /// What is known before them.
-    before: Taken,
+    before: Sketch<'a>,
     first: usize,
     /// The place after the last one.
     end: usize,
@@ -33,7 +33,7 @@ struct Dropping<'a> {
     lines: &'a [FactLine],
     bound: u32,
     /// The parts that aren't decided, the last one last.
-    parts: Vec<Part>,
+    parts: Vec<Part<'a>>,
     /// The places of the lines after these that are needed, in their order.
     kept: Vec<usize>,
     /// How often some were kept.
@@ -44,23 +44,28 @@ struct Dropping<'a> {
 
 impl<'a> Dropping<'a> {
     /// Takes a line in, and returns whether it was right, and wasn't known.
-    fn take(&mut self, taken: &mut Taken, place: usize) -> bool {
+    fn take(&mut self, taken: &mut Sketch<'a>, place: usize) -> Result<bool, AllocError> {
         match self.lines.get(place) {
-            None => false,
+            None => Ok(false),
             Some(line) => {
                 self.left = self.left.saturating_sub(1);
-                taken.take_new(self.bound, line)
+                taken.take(self.bound, line)
             }
         }
     }
 
     /// What is known after these lines, by what is known before them.
-    fn after(&mut self, before: &Taken, first: usize, end: usize) -> Taken {
-        let mut taken = before.duplicate();
+    fn after(
+        &mut self,
+        before: &Sketch<'a>,
+        first: usize,
+        end: usize,
+    ) -> Result<Sketch<'a>, AllocError> {
+        let mut taken = before.duplicate()?;
         for place in first..end {
-            self.take(&mut taken, place);
+            self.take(&mut taken, place)?;
         }
-        taken
+        Ok(taken)
     }
 
     /// The place of a kept line; one of no line if there are no more.
@@ -72,19 +77,19 @@ impl<'a> Dropping<'a> {
     }
 
     /// Those of the kept lines that are right after what is known, up to one with which some path takes the bound; None if none does.
-    fn kept_after(&mut self, before: &Taken) -> Result<Option<Vec<usize>>, AllocError> {
-        let mut taken = before.duplicate();
+    fn kept_after(&mut self, before: &Sketch<'a>) -> Result<Option<Vec<usize>>, AllocError> {
+        let mut taken = before.duplicate()?;
         let mut places = Vec::new(self.alloc);
         for position in 0..self.kept.len() {
-            if taken.root().1 >= self.bound {
+            if taken.longest() >= self.bound {
                 break;
             }
             let place = self.kept_at(position);
-            if self.take(&mut taken, place) {
+            if self.take(&mut taken, place)? {
                 places.push(place)?;
             }
         }
-        if taken.root().1 >= self.bound {
+        if taken.longest() >= self.bound {
             Ok(Some(places))
         } else {
             Ok(None)
@@ -114,14 +119,14 @@ impl<'a> Dropping<'a> {
     }
 
     /// Divides a part of which some lines are needed into two.
-    fn divide(&mut self, part: Part, middle: usize) -> Result<(), AllocError> {
+    fn divide(&mut self, part: Part<'a>, middle: usize) -> Result<(), AllocError> {
         let Part {
             before,
             first,
             end,
             ..
         } = part;
-        let after = self.after(&before, first, middle);
+        let after = self.after(&before, first, middle)?;
         self.parts.push(Part {
             before,
             first,
@@ -138,7 +143,7 @@ impl<'a> Dropping<'a> {
     }
 
     /// Drops a part if none of its lines is needed, and else divides it, or keeps it if it is one line or nothing more may be tried.
-    fn decide(&mut self, part: Part) -> Result<(), AllocError> {
+    fn decide(&mut self, part: Part<'a>) -> Result<(), AllocError> {
         if !self.is_needed(part.need)
             && let Some(places) = self.kept_after(&part.before)?
         {
@@ -170,10 +175,10 @@ impl<'a> Dropping<'a> {
 /// is what is known without them. No more of these can be dropped one by one, unless `TAKES_LIMIT` lines were taken to find out.
 ///
 /// `Err` is out of memory.
-pub fn needed_of(
+pub fn needed_of<'a>(
     alloc: Global,
-    before: Taken,
-    lines: &[FactLine],
+    before: Sketch<'a>,
+    lines: &'a [FactLine],
     bound: u32,
 ) -> Result<Vec<usize>, AllocError> {
     let mut parts = Vec::new(alloc);

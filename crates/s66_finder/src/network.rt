@@ -7,7 +7,7 @@ use crate::nodes::{
 };
 use s66_dep::Set;
 use s66_isa::{Memory, Reg, Row, has_register, is_same_register};
-use s66_moments::{FactLine, Moment, Stage};
+use s66_moments::{FactLine, KnownArc, Moment, Stage};
 use std::alloc::{AllocError, Global};
 
 /// How much later one node comes at least than another, in minor cycles.
@@ -22,6 +22,13 @@ struct Arc {
 #[derive(Debug, Drop)]
 pub struct Network {
     arcs: Vec<Arc>,
+}
+
+/// The longest paths from the origin to each node, and from each to the end.
+#[derive(Clone, Copy, Debug)]
+pub struct Paths {
+    pub heads: Times,
+    pub tails: Times,
 }
 
 /// The row of a number.
@@ -70,7 +77,7 @@ fn done(row: &Row, n: u8, register: Reg) -> usize {
 }
 
 /// The node of a moment of which a load line may speak.
-fn node_of(moment: &Moment) -> usize {
+pub fn node_of(moment: &Moment) -> usize {
     match moment {
         Moment::Origin => ORIGIN,
         Moment::At(n, Stage::Issue) => issue(*n),
@@ -253,6 +260,46 @@ impl Network {
             }
         }
         Ok(())
+    }
+
+    /// How many arcs stand before those that lead from a node.
+    fn count_before(&self, node: usize) -> usize {
+        for place in 0..self.arcs.len() {
+            if self.arcs[place].from == node {
+                return place;
+            }
+        }
+        self.arcs.len()
+    }
+
+    /// Adds the arc of a load after all that lead to its node and before all that lead from there.
+    pub fn insert(&mut self, load: &KnownArc) -> Result<(), AllocError> {
+        let to = node_of(&load.to);
+        let place = self.count_before(to).min(self.arcs.len());
+        self.arcs.insert(
+            place,
+            Arc {
+                from: node_of(&load.from),
+                wait: load.wait,
+                to,
+            },
+        )?;
+        Ok(())
+    }
+
+    /// The same.
+    pub fn duplicate(&self, alloc: Global) -> Result<Network, AllocError> {
+        let mut arcs = Vec::new(alloc);
+        arcs.extend_from_slice(self.arcs.as_slice())?;
+        Ok(Network { arcs })
+    }
+
+    /// The longest paths from the origin and to the end.
+    pub fn paths(&self) -> Paths {
+        Paths {
+            heads: self.heads(ORIGIN),
+            tails: self.tails(END),
+        }
     }
 
     /// The longest paths from a node.

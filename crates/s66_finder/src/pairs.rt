@@ -2,8 +2,8 @@
 
 use crate::ground::Ground;
 use crate::known::{Known, set_of, turned};
-use crate::network::Network;
-use crate::nodes::{END, ORIGIN, Times, free, issue, time_at};
+use crate::network::{Network, Paths};
+use crate::nodes::{free, issue, time_at};
 use s66_dep::Set;
 use s66_isa::{BLOCK_LIMIT, Row, is_same_kind};
 
@@ -19,8 +19,7 @@ pub struct Forced {
 struct Looks<'a> {
     ground: &'a Ground,
     known: &'a Known,
-    heads: Times,
-    tails: Times,
+    paths: Paths,
     bound: u32,
 }
 
@@ -41,21 +40,22 @@ fn reaches(bound: u32, head: Option<u32>, wait: u32, tail: Option<u32>) -> bool 
     }
 }
 
+/// Whether m would come too late for a bound if n stood before it: by parcels, or by the only unit of their kind.
+pub fn is_late(ground: &Ground, paths: &Paths, bound: u32, m: u8, n: u8) -> bool {
+    let rows = ground.rows();
+    let (Some(row), Some(other)) = (row_of(rows, n), row_of(rows, m)) else {
+        return false;
+    };
+    let tail = time_at(&paths.tails, issue(m));
+    let is_shared = is_same_kind(row.kind, other.kind) && ground.copies(row.kind) == 1;
+    let by_parcels = reaches(bound, time_at(&paths.heads, issue(n)), row.parcels, tail);
+    by_parcels || is_shared && reaches(bound, time_at(&paths.heads, free(n)), 0, tail)
+}
+
 impl<'a> Looks<'a> {
-    /// Whether m would come too late if n stood before it: by parcels, or by the only unit of their kind.
+    /// Whether m would come too late if n stood before it.
     fn is_late(&self, m: u8, n: u8) -> bool {
-        let rows = self.ground.rows();
-        let (Some(row), Some(other)) = (row_of(rows, n), row_of(rows, m)) else {
-            return false;
-        };
-        let tail = time_at(&self.tails, issue(m));
-        let is_shared = is_same_kind(row.kind, other.kind) && self.ground.copies(row.kind) == 1;
-        reaches(
-            self.bound,
-            time_at(&self.heads, issue(n)),
-            row.parcels,
-            tail,
-        ) || is_shared && reaches(self.bound, time_at(&self.heads, free(n)), 0, tail)
+        is_late(self.ground, &self.paths, self.bound, m, n)
     }
 
     /// The numbers that stand after m, or have to.
@@ -86,8 +86,7 @@ impl Forced {
         let looks = Looks {
             ground,
             known,
-            heads: network.heads(ORIGIN),
-            tails: network.tails(END),
+            paths: network.paths(),
             bound,
         };
         let after = looks.after_each();

@@ -84,14 +84,6 @@ impl Taken {
         is_taken
     }
 
-    /// The same, but for a pair that is known.
-    pub fn take_new(&mut self, bound: u32, line: &FactLine) -> bool {
-        match line {
-            FactLine::Pair(m, n) if self.is_before(*m, *n) => false,
-            _ => self.take(bound, line),
-        }
-    }
-
     /// The same.
     pub fn duplicate(&self) -> Taken {
         Taken {
