@@ -1,5 +1,5 @@
 -- Each reply to a piece.
-use Rattle.std.proofs.Common.{ℕ, ◌+◌, ◌-◌, ◌*◌, ◌≤◌, ◌<◌, ◌^◌, ◌≡◌, ◌↔◌, IsTrue, Bool, true, false, true≢false, cond, List, [], ◌∷◌, ◌++◌, length, drop, get_or, set, refl, sym, ap, arith, subst, ◌∙◌, Some, None, length-append}
+use Rattle.std.proofs.Common.{ℕ, ◌+◌, ◌-◌, ◌*◌, ◌≤◌, ◌<◌, ◌^◌, ◌≡◌, Bool, true, false, true≢false, cond, List, [], ◌∷◌, ◌++◌, length, drop, get_or, set, refl, sym, ap, arith, subst, ◌∙◌, Some, None, length-append}
 use Rattle.std.proofs.lemmas.List.{length-set}
 use Rattle.s66_isa.specs.declared.limits.TheConstants.{BLOCK_LIMIT}
 use Rattle.s66_isa.specs.Lists.{weigh}
@@ -12,16 +12,16 @@ use Rattle.s66_model.specs.Tree.{Tree, Alone, Parted, Siblings, NoMore, Unsplit,
 use Rattle.s66_model.specs.Piece.{Terminal, TerminalHolds, IsPiece}
 use Rattle.s66_model.specs.Ledger as model
 use Rattle.s66_model.specs.Ledger.{Reply, Graft, Taken, NotOut, OtherPrefix, OverAllowance, Moves, root_state, new_nodes, AreNamed}
-use Rattle.s66_model.specs.Recorded.{graft_event}
+use Rattle.s66_model.specs.Recorded.{graft_event, IsOwnPiece}
 use Rattle.s66_model.proofs.Beginnings.{length-rising}
 use Rattle.s66_node.specs.declared.node.Node.{Node}
 use Rattle.s66_node.specs.Pieces.{PieceOf, tree_of, AreTreeNodes}
-use Rattle.s66_ledger.specs.Nodes.{prefixes, nodes_of, made_lines, HaveFloors}
+use Rattle.s66_ledger.specs.Nodes.{prefixes, name_at, stored_at, nodes_of, made_lines, HaveFloors}
 use Rattle.s66_ledger.specs.OpenNodes.{StoresOut}
 use Rattle.s66_ledger.specs.LedgerMachine.{MachineOf, Stored, ledger_of, machine_of, IsKeptMachine}
 use Rattle.s66_ledger.specs.Grafting.{IsAttachedAs}
 use Rattle.s66_ledger.specs.GraftMoves.{IsGraftMove, IsTakenMove}
-use Rattle.s66_ledger.proofs.SeenNodes.{at-nodes}
+use Rattle.s66_ledger.proofs.SeenNodes.{length-nodes, at-nodes, out-seen}
 use Rattle.s66_ledger.proofs.Taken.{same-splits, taken-whole}
 use Rattle.s66_ledger.proofs.Attached.{piece-length}
 use Rattle.s66_ledger.proofs.Events.{is-out, not-out, kept-room, kept-next, is-worker}
@@ -58,100 +58,133 @@ module _ (block : List Instr) (Q : List ℕ → Terminal → Type 0) (few : leng
 pub piece-nodes : (p : PieceOf) → AreTreeNodes p → length p.problem.block ≤ BLOCK_LIMIT → length p.nodes ≤ 1 + BLOCK_LIMIT * splits (tree_of p)
 piece-nodes p are few = omega (arith, piece-length p are, tree-lines p.problem.block (TerminalHolds p.rule p.problem p.prefix (tree_of p)) few p.prefix (tree_of p) are.piece)
 
--- REPLIES
+-- WHAT A NODE THAT IS OUT IS, as it is stored
 
-module _ (m : Stored) (h : IsKeptMachine m) (l : MachineOf) (is : machine_of m ≡ l) (w : ℕ) (worker : (1 ≤ w) × (w ≤ l.workers)) (i : ℕ) (p : PieceOf) (own : Bool) (owns : IsTrue own ↔ ((p.rule ≡ l.rule) × (p.problem ≡ l.problem))) where
-  abbrev b : Problem
-  b = m.problem
+module _ (m : Stored) (l : MachineOf) (is : machine_of m ≡ l) (i : ℕ) where
+  seen-over : i < length m.nodes → (model.node_at l.state.nodes i).prefix ≡ get_or (prefixes m.nodes) i []
+  seen-over lt =
+      sym (ap (λ (l : MachineOf). (model.node_at l.state.nodes i).prefix) is) ∙ ap (λ (n : model.Node). n.prefix) (at-nodes m.problem m.nodes i lt)
 
+  pub out-seen-as : StoresOut m.nodes i → model.IsOut l.state i
+  out-seen-as out =
+      subst (λ (l : MachineOf). model.IsOut l.state i) is (is-out m.problem m.nodes m.best.numbers m.left m.allowances m.spent i out)
+
+  pub over-seen-as : (prefix : List ℕ) → StoresOut m.nodes i → get_or (prefixes m.nodes) i [] ≡ prefix → (model.node_at l.state.nodes i).prefix ≡ prefix
+  over-seen-as prefix out over = seen-over out.0 ∙ over
+
+  pub out-stored : model.IsOut l.state i → StoresOut m.nodes i
+  out-stored out =
+      let lt : i < length m.nodes = omega (arith, out.0, length-nodes m.problem m.nodes, ap (λ (l : MachineOf). length l.state.nodes) is) in (
+        lt,
+        out-seen m.problem (name_at m.nodes i) (get_or (prefixes m.nodes) i []) (stored_at m.nodes i).state
+            (sym (ap (λ (n : model.Node). n.state) (at-nodes m.problem m.nodes i lt)) ∙ (ap (λ (l : MachineOf). (model.node_at l.state.nodes i).state) is ∙ out.1)),
+      )
+
+  pub over-stored : (prefix : List ℕ) → model.IsOut l.state i → (model.node_at l.state.nodes i).prefix ≡ prefix → get_or (prefixes m.nodes) i [] ≡ prefix
+  over-stored prefix out over = sym (seen-over (out-stored out).0) ∙ over
+
+-- REFUSALS
+
+module _ (m : Stored) (h : IsKeptMachine m) (l : MachineOf) (is : machine_of m ≡ l) (w : ℕ) (worker : (1 ≤ w) × (w ≤ l.workers)) (i : ℕ) (p : PieceOf) (own : Bool) (owns : IsOwnPiece l.rule l.problem p.rule p.problem own) where
   abbrev tree : Tree Terminal
   tree = tree_of p
 
   works : (1 ≤ w) × (w ≤ length m.allowances)
   works = is-worker m h l is w worker
 
-  owned : IsTrue own ↔ ((p.rule ≡ m.rule) × (p.problem ≡ b))
-  owned = subst (λ (l : MachineOf). IsTrue own ↔ ((p.rule ≡ l.rule) × (p.problem ≡ l.problem))) (sym is) owns
+  owned : IsOwnPiece m.rule m.problem p.rule p.problem own
+  owned = subst (λ (l : MachineOf). IsOwnPiece l.rule l.problem p.rule p.problem own) (sym is) owns
 
-  prefix-is : i < length m.nodes → (model.node_at (nodes_of b m.nodes) i).prefix ≡ get_or (prefixes m.nodes) i []
-  prefix-is lt = ap (λ (n : model.Node). n.prefix) (at-nodes b m.nodes i lt)
+  prefix-is : i < length m.nodes → (model.node_at (nodes_of m.problem m.nodes) i).prefix ≡ get_or (prefixes m.nodes) i []
+  prefix-is lt = ap (λ (n : model.Node). n.prefix) (at-nodes m.problem m.nodes i lt)
 
   -- a refusal changes nothing
-  refused : (reply : Reply) → graft_event w i own p.prefix tree reply ≡ Graft w i own p.prefix (splits tree) None → Moves m.rule b (ledger_of m) (Graft w i own p.prefix (splits tree) None) reply (ledger_of m) → IsGraftMove l w i p reply l
+  refused : (reply : Reply) → graft_event w i own p.prefix tree reply ≡ Graft w i own p.prefix (splits tree) None → Moves m.rule m.problem (ledger_of m) (Graft w i own p.prefix (splits tree) None) reply (ledger_of m) → IsGraftMove l w i p reply l
   refused reply event moves =
       subst (λ (l : MachineOf). IsGraftMove l w i p reply l) is
       (Graft w i own p.prefix (splits tree) None, (own, tree, owned, taken-whole tree, sym event), (refl, refl, refl, (works, moves), refl))
 
-  seen-out : StoresOut m.nodes i → model.IsOut (ledger_of m) i
-  seen-out out = is-out b m.nodes m.best.numbers m.left m.allowances m.spent i out
-
   pub graft-not-out : ¬ StoresOut m.nodes i → IsGraftMove l w i p NotOut l
-  graft-not-out never = refused NotOut refl (not-out b m.nodes m.best.numbers m.left m.allowances m.spent i never, refl)
+  graft-not-out never = refused NotOut refl (not-out m.problem m.nodes m.best.numbers m.left m.allowances m.spent i never, refl)
 
   module _ (out : StoresOut m.nodes i) where
+    seen : model.IsOut (ledger_of m) i
+    seen = is-out m.problem m.nodes m.best.numbers m.left m.allowances m.spent i out
+
     pub graft-other : own ≡ false → IsGraftMove l w i p OtherPrefix l
-    graft-other other = refused OtherPrefix refl (seen-out out, (λ over. true≢false (sym over.0 ∙ other)), refl)
+    graft-other other = refused OtherPrefix refl (seen, (λ over. true≢false (sym over.0 ∙ other)), refl)
 
     pub graft-other-prefix : ¬ (get_or (prefixes m.nodes) i [] ≡ p.prefix) → IsGraftMove l w i p OtherPrefix l
-    graft-other-prefix other = refused OtherPrefix refl (seen-out out, (λ over. other (sym (over.1 ∙ prefix-is out.0))), refl)
+    graft-other-prefix other = refused OtherPrefix refl (seen, (λ over. other (sym (over.1 ∙ prefix-is out.0))), refl)
 
-    module _ (mine : own ≡ true) where
-      pub piece-problem : p.problem ≡ b
-      piece-problem = (owned.0 mine).1
+    pub graft-over : own ≡ true → get_or (prefixes m.nodes) i [] ≡ p.prefix → get_or m.allowances (w - 1) 0 < splits tree → IsGraftMove l w i p OverAllowance l
+    graft-over mine over lt = refused OverAllowance refl (seen, (mine, sym over ∙ sym (prefix-is out.0)), lt, refl)
 
-      pub piece-floors : HaveFloors p.problem m.nodes
-      piece-floors = subst (λ (q : Problem). HaveFloors q m.nodes) (sym piece-problem) h.floors
+-- A PIECE THAT IS TAKEN
 
-      pub graft-over : get_or (prefixes m.nodes) i [] ≡ p.prefix → get_or m.allowances (w - 1) 0 < splits tree → IsGraftMove l w i p OverAllowance l
-      graft-over over lt = refused OverAllowance refl (seen-out out, (mine, sym over ∙ sym (prefix-is out.0)), lt, refl)
+module _ (m : Stored) (h : IsKeptMachine m) (l : MachineOf) (is : machine_of m ≡ l) (w : ℕ) (worker : (1 ≤ w) × (w ≤ l.workers)) (i : ℕ) (p : PieceOf) (by : p.rule ≡ l.rule) (of : p.problem ≡ l.problem) (out : model.IsOut l.state i) where
+  abbrev b : Problem
+  b = m.problem
 
-      module _ (are : AreTreeNodes p) (few : length b.block ≤ BLOCK_LIMIT) where
-        nodes-few : length p.nodes ≤ 1 + BLOCK_LIMIT * splits tree
-        nodes-few = piece-nodes p are (omega (arith, few, ap (λ (q : Problem). length q.block) piece-problem))
+  rule : p.rule ≡ m.rule
+  rule = by ∙ sym (ap (λ (l : MachineOf). l.rule) is)
 
-        -- there is room for its nodes
-        pub piece-room : splits tree ≤ get_or m.allowances (w - 1) 0 → length m.nodes + length p.nodes < 2 ^ 32
-        piece-room within = omega (arith, nodes-few, within, kept-room m h (w - 1), h.room, h.few)
+  problem : p.problem ≡ b
+  problem = of ∙ sym (ap (λ (l : MachineOf). l.problem) is)
 
-        module _ (new : List Node) (count : ℕ) (over : get_or (prefixes m.nodes) i [] ≡ p.prefix) (counts : count ≡ splits tree) (within : count ≤ get_or m.allowances (w - 1) 0) (best : ℕ) (best_is : best ≡ total_of m.best.problem m.best.numbers) (at : IsAttachedAs p best i m.nodes new) where
-          -- as it is taken
-          abbrev part : Tree Terminal
-          part = at.part
+  pub piece-floors : HaveFloors p.problem m.nodes
+  piece-floors = subst (λ (q : Problem). HaveFloors q m.nodes) (sym problem) h.floors
 
-          abbrev after : Stored
-          after = record m { nodes = new; allowances = set m.allowances (w - 1) (get_or m.allowances (w - 1) 0 - count); spent = m.spent + count }
+  module _ (are : AreTreeNodes p) (few : length b.block ≤ BLOCK_LIMIT) (fits : splits (tree_of p) ≤ model.allowance l.state w) where
+    nodes-few : length p.nodes ≤ 1 + BLOCK_LIMIT * splits (tree_of p)
+    nodes-few = piece-nodes p are (omega (arith, few, ap (λ (q : Problem). length q.block) problem))
 
-          counted : count ≡ splits part
-          counted = counts ∙ same-splits tree part at.taken.opens
+    pub within : splits (tree_of p) ≤ get_or m.allowances (w - 1) 0
+    within = omega (arith, fits, ap (λ (l : MachineOf). model.allowance l.state w) is)
 
-          made : nodes_of b new ≡ model.with_state (nodes_of b m.nodes) i (root_state b (total_of b m.best.numbers) p.prefix part) ++ new_nodes b (total_of b m.best.numbers) p.prefix part
-          made =
-              subst (λ k. nodes_of b new ≡ model.with_state (nodes_of b m.nodes) i (root_state b k p.prefix part) ++ new_nodes b k p.prefix part) (best_is ∙ ap (λ (r : Problem). total_of r m.best.numbers) h.own)
-              (subst (λ (r : Problem). nodes_of r new ≡ model.with_state (nodes_of r m.nodes) i (root_state r best p.prefix part) ++ new_nodes r best p.prefix part) piece-problem at.nodes)
+    -- there is room for its nodes
+    pub piece-room : length m.nodes + length p.nodes < 2 ^ 32
+    piece-room = omega (arith, nodes-few, within, kept-room m h (w - 1), h.room, h.few)
 
-          taken-moves : Moves m.rule b (ledger_of m) (Graft w i true p.prefix (splits part) (Some part)) Taken (ledger_of after)
-          taken-moves =
-              let state : ledger_of after ≡ model.after_graft b (ledger_of m) w i p.prefix part =
-              ap (λ n. record { nodes = nodes_of b new; best = m.best.numbers; left = m.left; allowances = set m.allowances (w - 1) (get_or m.allowances (w - 1) 0 - n); spent = m.spent + n }) counted
-              ∙ ap (λ (ns : List model.Node). record { nodes = ns; best = m.best.numbers; left = m.left; allowances = set m.allowances (w - 1) (get_or m.allowances (w - 1) 0 - splits part); spent = m.spent + splits part }) made in
-              let is_piece : IsPiece m.rule b p.prefix part = subst (λ r. IsPiece r b p.prefix part) (owned.0 mine).0 (subst (λ (r : Problem). IsPiece p.rule r p.prefix part) piece-problem at.piece) in
-              let are_named : AreNamed m.rule b (nodes_of b new) p.prefix part =
-              subst (λ r. AreNamed r b (nodes_of b new) p.prefix part) (owned.0 mine).0 (subst (λ (r : Problem). AreNamed p.rule r (nodes_of r new) p.prefix part) piece-problem at.named) in
-              (seen-out out, (refl, sym over ∙ sym (prefix-is out.0)), omega (arith, counted, within), refl, is_piece, state, are_named)
+    module _ (new : List Node) (count : ℕ) (over : (model.node_at l.state.nodes i).prefix ≡ p.prefix) (counts : count ≡ splits (tree_of p)) (best : ℕ) (best_is : best ≡ total_of m.best.problem m.best.numbers) (at : IsAttachedAs p best i m.nodes new) where
+      -- as it is taken
+      abbrev part : Tree Terminal
+      part = at.part
 
-          pub graft-taken : IsTakenMove l w i p (machine_of after)
-          graft-taken =
-              subst (λ (l : MachineOf). IsTakenMove l w i p (machine_of after)) is
-              (record {
-                rule = (owned.0 mine).0;
-                problem = piece-problem;
-                part = part;
-                taken = at.taken;
-                lines = subst (λ (r : Problem). made_lines r new ≡ made_lines r m.nodes ++ drop 1 (flat part)) piece-problem at.lines;
-                move = (refl, refl, length-set m.allowances (w - 1) (get_or m.allowances (w - 1) 0 - count), (works, taken-moves), refl);
-              })
+      abbrev after : Stored
+      after = record m { nodes = new; allowances = set m.allowances (w - 1) (get_or m.allowances (w - 1) 0 - count); spent = m.spent + count }
 
-          pub kept-taken : IsKeptMachine after
-          kept-taken =
-              kept-next m h new m.best m.left (set m.allowances (w - 1) (get_or m.allowances (w - 1) 0 - count)) (m.spent + count) (Graft w i true p.prefix (splits part) (Some part)) Taken h.own
-              (subst (λ (r : Problem). HaveFloors r new) piece-problem at.floors) (omega (arith, at.count, nodes-few, counts, h.room)) (length-set m.allowances (w - 1) (get_or m.allowances (w - 1) 0 - count)) (works, taken-moves)
+      counted : count ≡ splits part
+      counted = counts ∙ same-splits (tree_of p) part at.taken.opens
+
+      made : nodes_of b new ≡ model.with_state (nodes_of b m.nodes) i (root_state b (total_of b m.best.numbers) p.prefix part) ++ new_nodes b (total_of b m.best.numbers) p.prefix part
+      made =
+          subst (λ k. nodes_of b new ≡ model.with_state (nodes_of b m.nodes) i (root_state b k p.prefix part) ++ new_nodes b k p.prefix part) (best_is ∙ ap (λ (r : Problem). total_of r m.best.numbers) h.own)
+          (subst (λ (r : Problem). nodes_of r new ≡ model.with_state (nodes_of r m.nodes) i (root_state r best p.prefix part) ++ new_nodes r best p.prefix part) problem at.nodes)
+
+      taken-moves : Moves m.rule b (ledger_of m) (Graft w i true p.prefix (splits part) (Some part)) Taken (ledger_of after)
+      taken-moves =
+          let state : ledger_of after ≡ model.after_graft b (ledger_of m) w i p.prefix part =
+          ap (λ n. record { nodes = nodes_of b new; best = m.best.numbers; left = m.left; allowances = set m.allowances (w - 1) (get_or m.allowances (w - 1) 0 - n); spent = m.spent + n }) counted
+          ∙ ap (λ (ns : List model.Node). record { nodes = ns; best = m.best.numbers; left = m.left; allowances = set m.allowances (w - 1) (get_or m.allowances (w - 1) 0 - splits part); spent = m.spent + splits part }) made in
+          let is_piece : IsPiece m.rule b p.prefix part = subst (λ r. IsPiece r b p.prefix part) rule (subst (λ (r : Problem). IsPiece p.rule r p.prefix part) problem at.piece) in
+          let are_named : AreNamed m.rule b (nodes_of b new) p.prefix part =
+          subst (λ r. AreNamed r b (nodes_of b new) p.prefix part) rule (subst (λ (r : Problem). AreNamed p.rule r (nodes_of r new) p.prefix part) problem at.named) in
+          (subst (λ (l : MachineOf). model.IsOut l.state i) (sym is) out, (refl, sym over ∙ sym (ap (λ (l : MachineOf). (model.node_at l.state.nodes i).prefix) is)), omega (arith, counted, counts, within), refl, is_piece, state, are_named)
+
+      pub graft-taken : IsTakenMove l w i p (machine_of after)
+      graft-taken =
+          subst (λ (l : MachineOf). IsTakenMove l w i p (machine_of after)) is
+          (record {
+            rule = rule;
+            problem = problem;
+            part = part;
+            taken = at.taken;
+            lines = subst (λ (r : Problem). made_lines r new ≡ made_lines r m.nodes ++ drop 1 (flat part)) problem at.lines;
+            move = (refl, refl, length-set m.allowances (w - 1) (get_or m.allowances (w - 1) 0 - count), (is-worker m h l is w worker, taken-moves), refl);
+          })
+
+      pub kept-taken : IsKeptMachine after
+      kept-taken =
+          kept-next m h new m.best m.left (set m.allowances (w - 1) (get_or m.allowances (w - 1) 0 - count)) (m.spent + count) (Graft w i true p.prefix (splits part) (Some part)) Taken h.own
+          (subst (λ (r : Problem). HaveFloors r new) problem at.floors) (omega (arith, at.count, nodes-few, counts, h.room)) (length-set m.allowances (w - 1) (get_or m.allowances (w - 1) 0 - count)) (is-worker m h l is w worker, taken-moves)

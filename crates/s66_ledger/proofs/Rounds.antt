@@ -1,5 +1,5 @@
 -- What the events of a search's round do to the nodes that are out and to the allowances.
-use Rattle.std.proofs.Common.{ℕ, ◌+◌, ◌-◌, ◌≤◌, ◌<◌, ◌≡◌, ◌≢◌, Bool, true, false, cond, List, [], ◌∷◌, ◌++◌, length, get_or, set, refl, sym, ap, arith, subst, ◌∙◌, inl, inr, Some, None}
+use Rattle.std.proofs.Common.{ℕ, ◌+◌, ◌-◌, ◌≤◌, ◌<◌, ◌≡◌, ◌≢◌, Bool, true, false, cond, List, [], ◌∷◌, ◌++◌, length, get_or, set, refl, sym, ap, arith, subst, ◌∙◌, inl, inr, Some}
 use Rattle.std.specs.Prelude.{nat_le}
 use Rattle.std.proofs.lemmas.List.{length-set, get_or-set_same, set-set, set-get_or}
 use Rattle.s66_isa.specs.Lists.{tally, weigh, Among}
@@ -16,13 +16,13 @@ use Rattle.s66_model.specs.Tree.{Tree, Alone, Parted, Siblings, NoMore, Unsplit,
 use Rattle.s66_model.specs.Piece.{Terminal, Carries, Frontier, Passed, IsPiece}
 use Rattle.s66_model.specs.Expansion.{whole_orders}
 use Rattle.s66_model.specs.DominatedLeaves.{Bounding}
-use Rattle.s66_model.specs.Ledger.{Ledger, Node, State, Open, Out, Cut, Closed, Grant, Claim, Graft, Back, Granted, Claimed, Taken, OverAllowance, Returned, no_node, node_at, with_state, is_out_state, is_out, is_live_state, best_time, allowance, share_of, state_of, root_state, sibling_nodes, new_nodes, after_offer, after_graft, Offer, Moves, Event}
+use Rattle.s66_model.specs.Ledger.{Ledger, Node, State, Open, Out, Cut, Closed, Grant, Claim, Back, Granted, Claimed, Taken, Returned, no_node, node_at, with_state, is_out_state, is_out, is_live_state, best_time, allowance, share_of, state_of, root_state, sibling_nodes, new_nodes, after_offer, after_graft, Offer, Moves, Event}
 use Rattle.s66_model.specs.Coverage.{Covers}
 use Rattle.s66_node.specs.Pieces.{PieceOf, tree_of}
 use Rattle.s66_model.specs.Tickets.{TicketOf}
 use Rattle.s66_ledger.specs.LedgerMachine.{MachineOf, IsMove}
-use Rattle.s66_ledger.specs.GraftMoves.{IsGraftMove, taken_event, IsTakenMove}
-use Rattle.s66_ledger.proofs.Taken.{same-splits, same-wholes}
+use Rattle.s66_ledger.specs.GraftMoves.{taken_event, IsTakenMove}
+use Rattle.s66_ledger.proofs.Taken.{same-wholes}
 use Rattle.s66_ledger.specs.Finishing.{Leads, NoneOut, IsIdle, IsBetweenRounds, IsWithinRound, IsOffering, still_to_go}
 use Rattle.s66_ledger.proofs.Leading.{event-leads, leads-on, leads-fall}
 use Rattle.s66_ledger.proofs.TimedWholes.{wholes-offered, wholes-moved, wholes-grafted}
@@ -245,9 +245,3 @@ graft-between old new ticket piece within each h =
       alone = alone-set l.allowances (allowance l 1 - splits tree) taken.0 within.alone;
       wholes = wholes-grafted old.rule b l 1 i piece.prefix tree within.out taken.2 (λ order among. each order (subst (Among order) (sym same) among)) within.wholes;
     }))
-
--- a piece that the worker may spend before an offer isn't refused for its splits after it
-pub never-over : (old mid new : MachineOf) (i : ℕ) (piece : PieceOf) → IsOffering old mid → splits (tree_of piece) ≤ allowance old.state 1 → IsGraftMove mid 1 i piece OverAllowance new → ⊥
-never-over old mid new i piece offers within (event, (own, taken, owns, opens, is), move) =
-    let k : IsMove mid (Graft 1 i own piece.prefix (splits taken) None) OverAllowance new = subst (λ e. IsMove mid e OverAllowance new) is move in
-    absurd (omega (arith, k.3.1.2, same-splits (tree_of piece) taken opens, within, ap (λ (l : Ledger). allowance l 1) offers.same))

@@ -1,5 +1,5 @@
 -- A piece that is taken with some of its dominated prefixes left open.
-use Rattle.std.proofs.Common.{ℕ, ◌+◌, ◌≡◌, ◌≢◌, Bool, true, false, cond, eqb, List, [], ◌∷◌, ◌++◌, length, drop, get_or, refl, sym, ap, arith, inl, inr, ◌∙◌, subst, Option, None, length-append}
+use Rattle.std.proofs.Common.{ℕ, ◌≡◌, ◌≢◌, Bool, true, false, cond, eqb, List, [], ◌∷◌, ◌++◌, length, drop, get_or, refl, sym, ap, arith, inl, inr, ◌∙◌, subst, Option, None, length-append}
 use Rattle.s66_isa.specs.declared.instr.Instr.{Instr}
 use Rattle.s66_line.proofs.OperationLaw.{among-at}
 use Rattle.s66_model.specs.declared.rule.Rule.{Rule}

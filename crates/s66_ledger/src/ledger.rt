@@ -45,7 +45,7 @@ impl<'a> Ledger<'a> {
     ghost use Rattle.s66_model.specs.DominatedLeaves.{Dominated};
     ghost use Rattle.s66_model.specs.Accounts.{Account};
     ghost use Rattle.s66_model.specs.Ledger.{Event, Run, opening, best_time, is_open, node_at, Closed, Grant, Granted, Claim, Claimed, Back, Returned, NotOut, Retire, Retired, Taken};
-    ghost use Rattle.s66_model.specs.Recorded.{IsOfferOf};
+    ghost use Rattle.s66_model.specs.Recorded.{IsOfferOf, IsOwnPiece};
     ghost use Rattle.s66_model.specs.Coverage.{Covers, bound_of, IsFinished};
     ghost use Rattle.s66_model.specs.BestAndBound.{IsBound};
     ghost use Rattle.s66_model.specs.NodeTable.{IsTable};
@@ -369,6 +369,32 @@ impl<'a> Ledger<'a> {
         ensures refused { IfErr result (λ why. IsRefusedGraftAt self.old w node piece.now why self.new) }
         ensures err { OnErr result (self.new.state ≡ self.old.state) }
     {
+        let own = self.machine.is_own(piece);
+        self.graft_if(w, node, piece, own)
+    }
+
+    /// Puts a piece in the place of the node of this number, as `graft_at` does, if its caller knows that it is of the ledger's
+    /// block and profile, and by its rule: nothing of these is compared.
+    pub fn graft_own(&mut self, w: u8, node: u32, piece: &Piece) -> Result<(), GraftError>
+        requires worker { (1 ≤ w) × (w ≤ self.old.workers) }
+        requires rule { piece.now.rule ≡ self.old.rule }
+        requires problem { piece.now.problem ≡ self.old.problem }
+        ensures ok { OnOk result (IsGraftAt self.old w node piece.now Taken self.new) }
+        ensures refused { IfErr result (λ why. IsRefusedGraftAt self.old w node piece.now why self.new) }
+        ensures err { OnErr result (self.new.state ≡ self.old.state) }
+    {
+        self.graft_if(w, node, piece, true)
+    }
+
+    /// Puts a piece in the place of the node of this number, if `own` says that it is of the ledger's block and profile, and by
+    /// its rule.
+    fn graft_if(&mut self, w: u8, node: u32, piece: &Piece, own: bool) -> Result<(), GraftError>
+        requires worker { (1 ≤ w) × (w ≤ self.old.workers) }
+        requires own { IsOwnPiece self.old.rule self.old.problem piece.now.rule piece.now.problem own }
+        ensures ok { OnOk result (IsGraftAt self.old w node piece.now Taken self.new) }
+        ensures refused { IfErr result (λ why. IsRefusedGraftAt self.old w node piece.now why self.new) }
+        ensures err { OnErr result (self.new.state ≡ self.old.state) }
+    {
         let Ok(()) = self.history.entries.reserve(1) else {
             return Err(GraftError::OutOfMemory);
         };
@@ -380,7 +406,7 @@ impl<'a> Ledger<'a> {
         };
         let splits = piece.splits();
         let first = self.machine.node_count();
-        let error = match self.machine.graft(w, node, piece) {
+        let error = match self.machine.graft(w, node, piece, own) {
             Ok(()) => {
                 let root = opened_state(piece.nodes()[0].state);
                 let nodes = self.machine.node_count() - first;
@@ -403,7 +429,7 @@ impl<'a> Ledger<'a> {
         self.history.entries.push_reserved(Entry::Refused {
             w,
             node,
-            own: self.machine.is_own(piece),
+            own,
             depth,
             splits,
             why,

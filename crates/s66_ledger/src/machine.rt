@@ -48,11 +48,13 @@ impl<'a> Machine<'a> {
     ghost use Rattle.s66_model.specs.LegalOrder.{IsBeginning};
     ghost use Rattle.s66_model.specs.DominatedLeaves.{Dominated};
     ghost use Rattle.s66_model.specs.Leaves.{floor_value};
-    ghost use Rattle.s66_model.specs.Ledger.{Event, opening, best_time, is_open, is_live, node_at, Closed, Grant, Granted, Claim, Claimed, Back, Returned, NotOut, Retire, Retired, Offer};
-    ghost use Rattle.s66_model.specs.Recorded.{IsOfferOf};
+    ghost use Rattle.s66_model.specs.Tree.{splits};
+    ghost use Rattle.s66_model.specs.Ledger.{Event, opening, best_time, allowance, is_open, is_live, node_at, IsOut, Closed, Grant, Granted, Claim, Claimed, Back, Returned, NotOut, Retire, Retired, Offer};
+    ghost use Rattle.s66_model.specs.Recorded.{IsOfferOf, IsOwnPiece};
     ghost use Rattle.s66_model.specs.Coverage.{Covers, bound_of, IsFinished};
     ghost use Rattle.s66_model.specs.BestAndBound.{IsBound};
     ghost use Rattle.s66_model.specs.NodeTable.{IsTable};
+    ghost use Rattle.s66_node.specs.Pieces.{tree_of};
     ghost use Rattle.s66_ledger.specs.LedgerMachine.{IsMove, IsMadeAs};
     ghost use Rattle.s66_model.specs.Ended.{IsEnded, ended_answer};
     ghost use Rattle.s66_ledger.specs.Answers.{answer_of};
@@ -279,24 +281,21 @@ impl<'a> Machine<'a> {
         }
     }
 
-    /// Whether a piece is of the block and the profile, and by the rule.
+    /// Whether a piece is of the block and the profile, and by the rule, in time linear in the block's length.
     pub fn is_own(&self, piece: &Piece) -> bool
         ensures { IsTrue result ↔ ((piece.now.rule ≡ self.now.rule) × (piece.now.problem ≡ self.now.problem)) }
     {
         piece.rule() == self.rule && piece.is_of(self.block, &self.profile)
     }
 
-    pub fn graft(&mut self, w: u8, node: u32, piece: &Piece) -> Result<(), GraftError>
-        requires { (1 ≤ w) × (w ≤ self.old.workers) }
+    /// Puts a piece in the place of a node; `own` says whether it is of the block and the profile, and by the rule.
+    pub fn graft(&mut self, w: u8, node: u32, piece: &Piece, own: bool) -> Result<(), GraftError>
+        requires worker { (1 ≤ w) × (w ≤ self.old.workers) }
+        requires own { IsOwnPiece self.old.rule self.old.problem piece.now.rule piece.now.problem own }
         ensures ok { OnOk result (IsTakenMove self.old w node piece.now self.new) }
         ensures refused { IfErr result (λ e. IsRefusedMove self.old w node piece.now e self.new) }
         ensures err { OnErr result (self.new ≡ self.old) }
     {
-        // so the numbers of its nodes fit
-        prove!(self.block.count() <= BLOCK_LIMIT);
-        let own = self.is_own(piece);
-        // proof only: its nodes are those of a piece's tree
-        let _nodes = piece.nodes();
         if !self.table.is_out(node) {
             return Err(GraftError::NotOut);
         }
@@ -306,16 +305,35 @@ impl<'a> Machine<'a> {
         if !self.table.is_over(node, piece.prefix()) {
             return Err(GraftError::OtherPrefix);
         }
-        let splits = piece.splits();
-        let at = w as usize - 1;
-        if self.allowances[at] < splits {
+        if self.allowances[w as usize - 1] < piece.splits() {
             return Err(GraftError::OverAllowance);
         }
+        match self.put_in(w, node, piece) {
+            Ok(()) => Ok(()),
+            Err(AllocError) => Err(GraftError::OutOfMemory),
+        }
+    }
+
+    /// Puts a piece that needs no test in the place of a node: it is of the block and the profile, by the rule, and within what the
+    /// worker may spend, and the node is out and has its prefix.
+    pub(crate) fn put_in(&mut self, w: u8, node: u32, piece: &Piece) -> Result<(), AllocError>
+        requires worker { (1 ≤ w) × (w ≤ self.old.workers) }
+        requires rule { piece.now.rule ≡ self.old.rule }
+        requires problem { piece.now.problem ≡ self.old.problem }
+        requires out { IsOut self.old.state node }
+        requires prefix { (node_at self.old.state.nodes node).prefix ≡ piece.now.prefix }
+        requires within { splits (tree_of piece.now) ≤ allowance self.old.state w }
+        ensures ok { OnOk result (IsTakenMove self.old w node piece.now self.new) }
+        ensures err { OnErr result (self.new ≡ self.old) }
+    {
+        // so the numbers of its nodes fit
+        prove!(self.block.count() <= BLOCK_LIMIT);
+        // proof only: its nodes are those of a piece's tree
+        let _nodes = piece.nodes();
+        let splits = piece.splits();
         let best = self.best.total();
-        let Ok(()) = self.table.attach(node, best, piece) else {
-            return Err(GraftError::OutOfMemory);
-        };
-        self.allowances[at] -= splits;
+        self.table.attach(node, best, piece)?;
+        self.allowances[w as usize - 1] -= splits;
         self.spent += splits;
         Ok(())
     }

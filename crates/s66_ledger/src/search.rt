@@ -7,7 +7,7 @@ ghost use Rattle.s66_ledger.specs.PieceSplits.{piece_splits};
 
 use crate::limits::{DOMINATED_PIECE_LIMIT, SCHEDULE_ROUNDS};
 use crate::machine::Machine;
-use crate::reply::{BackError, GraftError};
+use crate::reply::BackError;
 use s66_model::{Rule, Ticket};
 use s66_node::{Constant, Marks, Piece, Priority, Walk, schedule_below};
 use std::alloc::{AllocError, Global};
@@ -233,13 +233,8 @@ impl<'a> Machine<'a> {
     {
         // first, so that no whole order is left open below the best time
         self.offer_best(&piece);
-        match self.graft(1, ticket.node(), &piece) {
-            Ok(()) => Ok(()),
-            Err(GraftError::OutOfMemory) => Err(AllocError),
-            Err(GraftError::NotOut) => unreachable!(),
-            Err(GraftError::OtherPrefix) => unreachable!(),
-            Err(GraftError::OverAllowance) => unreachable!(),
-        }
+        self.put_in(1, ticket.node(), &piece)?;
+        Ok(())
     }
 
     /// Offers the best of the piece's whole orders, if it has some.

@@ -9,7 +9,7 @@ use Rattle.s66_ledger.specs.GraftMoves.{IsGraftMove, IsRefusedMove, taken_event,
 use Rattle.s66_ledger.specs.Grafts.{IsGraftAt, IsRefusedGraftAt}
 use Rattle.s66_ledger.specs.Ledgers.{LedgerOf, with_history}
 use Rattle.s66_ledger.proofs.Recording.{recorded, recorded-event, recorded-lineless, event-lineless, root-state, taken-entry, refused-move, refused-entry, refused-at}
-use Rattle.s66_ledger.proofs.ledger.Ledger.graft_at.Goals as goal
+use Rattle.s66_ledger.proofs.ledger.Ledger.graft_if.Goals as goal
 
 pub invariant_of-self-in-Ok-graft : goal.invariant_of-self-in-Ok-graft
 invariant_of-self-in-Ok-graft c =
@@ -58,8 +58,8 @@ invariant_of-self-2 c =
     let over = c.prefix-prefix.ensures.value in
     let h : IsGraftMove m w i p (refusal_reply why) new =
     refused-move m new w i p c.splits-splits.result c.splits-splits.ensures why (subst (λ (e : GraftError). IsRefusedMove m w i p e new) c.in-Some.ensures.some c.in-Err.ensures.refused) in
-    let own : IsOwnPiece m.rule m.problem p.rule p.problem c.is_own.result = subst (λ (n : MachineOf). IsOwnPiece n.rule n.problem p.rule p.problem c.is_own.result) c.in-Err.ensures.err c.is_own.ensures in
-    let entry = ap (λ at. (Graft w i c.is_own.result at c.splits-splits.result None, refusal_reply why)) over ∙ refused-entry m new w i p c.splits-splits.result c.splits-splits.ensures c.is_own.result why own h in
+    let own : IsOwnPiece m.rule m.problem p.rule p.problem c.args.own = subst (λ (l : LedgerOf). IsOwnPiece l.rule l.problem p.rule p.problem c.args.own) (sym c.self.view_is) c.requires.own in
+    let entry = ap (λ at. (Graft w i c.args.own at c.splits-splits.result None, refusal_reply why)) over ∙ refused-entry m new w i p c.splits-splits.result c.splits-splits.ensures c.args.own why own h in
     recorded-lineless m new history.entries.items c.reserve.new.self.items c.push_reserved-2.new.self.items history.bytes.items c.extend_from_slice.new.self.items _ c.prefix-prefix.result.now h.0 (refusal_reply why) h.2 (ap (λ (n : MachineOf). n.lines) c.in-Err.ensures.err) entry
     c.reserve.ensures.items c.push_reserved-2.ensures.items c.in-Ok-extend_from_slice.ensures.items refl refl c.self.invariant
 
@@ -75,8 +75,8 @@ returns-clause-refused c =
     let over = c.prefix-prefix.ensures.value in
     let h : IsGraftMove m w i p (refusal_reply why) new =
     refused-move m new w i p c.splits-splits.result c.splits-splits.ensures why (subst (λ (e : GraftError). IsRefusedMove m w i p e new) c.in-Some.ensures.some c.in-Err.ensures.refused) in
-    let own : IsOwnPiece m.rule m.problem p.rule p.problem c.is_own.result = subst (λ (n : MachineOf). IsOwnPiece n.rule n.problem p.rule p.problem c.is_own.result) c.in-Err.ensures.err c.is_own.ensures in
-    let entry = ap (λ at. (Graft w i c.is_own.result at c.splits-splits.result None, refusal_reply why)) over ∙ refused-entry m new w i p c.splits-splits.result c.splits-splits.ensures c.is_own.result why own h in
+    let own : IsOwnPiece m.rule m.problem p.rule p.problem c.args.own = subst (λ (l : LedgerOf). IsOwnPiece l.rule l.problem p.rule p.problem c.args.own) (sym c.self.view_is) c.requires.own in
+    let entry = ap (λ at. (Graft w i c.args.own at c.splits-splits.result None, refusal_reply why)) over ∙ refused-entry m new w i p c.splits-splits.result c.splits-splits.ensures c.args.own why own h in
     let now = with_history new c.push_reserved-2.new.self.items c.extend_from_slice.new.self.items in
     let event = event-lineless m new history.entries.items c.reserve.new.self.items c.push_reserved-2.new.self.items history.bytes.items c.extend_from_slice.new.self.items _ c.prefix-prefix.result.now h.0 (refusal_reply why) h.2 (ap (λ (n : MachineOf). n.lines) c.in-Err.ensures.err) entry
     c.reserve.ensures.items c.push_reserved-2.ensures.items c.in-Ok-extend_from_slice.ensures.items refl refl c.self.invariant in
