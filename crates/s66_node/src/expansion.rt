@@ -14,7 +14,7 @@ use crate::grow::{Grown, grow};
 use crate::least::{Constant, Least};
 use crate::marks::Marks;
 use crate::naming::{Naming, NoNames};
-use crate::piece::Piece;
+use crate::piece::{Origin, Piece};
 use crate::walk::Walk;
 use crate::whole_order::{WholeOrder, copy_of};
 use s66_dep::Order;
@@ -243,11 +243,14 @@ impl Walk<'_> {
         } = grow(alloc, self, incumbent, allowance, rule, names)?;
         let block = self.clock.block();
         let profile = self.clock.profile();
-        Ok(Piece {
-            rule,
+        let origin = Origin {
             source: Order::source(block),
             profile: *profile,
             prefix: copy_of(prefix),
+        };
+        Ok(Piece {
+            rule,
+            origin: Box::new(alloc, origin)?,
             nodes,
             dominances,
             splits,

@@ -9,18 +9,25 @@ use s66_time::Timed;
 use std::boxed::Box;
 use std::marker::Model;
 
+/// What a piece is a tree over: a prefix of the legal orders of a block, timed under a profile.
+#[derive(Debug, Drop)]
+pub(crate) struct Origin {
+    pub source: Order,
+    pub profile: Profile,
+    pub prefix: ArrayVec<u8, BLOCK_LIMIT>,
+}
+
 /// A tree over a prefix of a block's legal orders: splits with exactly the ready numbers, leaves that are floors, dominated leaves
 /// with names as its rule asks, and a frontier.
 #[derive(Debug, Drop)]
 pub struct Piece {
     pub(crate) rule: Rule,
-    pub(crate) source: Order,
-    pub(crate) profile: Profile,
-    pub(crate) prefix: ArrayVec<u8, BLOCK_LIMIT>,
+    // boxed, so that a move of a piece is cheap
+    pub(crate) origin: Box<Origin>,
     pub(crate) nodes: Vec<Node>,
     pub(crate) dominances: Vec<Dominance>,
     pub(crate) splits: u32,
-    // boxed, so that a move of a piece is cheap
+    // boxed for the same reason
     pub(crate) timed: Option<Box<Timed>>,
 }
 
@@ -32,9 +39,9 @@ impl Model for Piece {
 
     ghost Value = { PieceOf };
 
-    ghost view = { λ p. record { rule = p.rule; problem = record { block = p.source.block; profile = p.profile }; prefix = p.prefix.items; nodes = p.nodes.items; names = map named p.dominances.items; timed = option_map (λ t. t.value) p.timed } };
+    ghost view = { λ p. record { rule = p.rule; problem = record { block = p.origin.value.source.block; profile = p.origin.value.profile }; prefix = p.origin.value.prefix.items; nodes = p.nodes.items; names = map named p.dominances.items; timed = option_map (λ t. t.value) p.timed } };
 
-    ghost invariant = { λ p. IsKeptPiece (record { rule = p.rule; problem = record { block = p.source.block; profile = p.profile }; prefix = p.prefix.items; nodes = p.nodes.items; names = map named p.dominances.items; timed = option_map (λ t. t.value) p.timed }) p.splits };
+    ghost invariant = { λ p. IsKeptPiece (record { rule = p.rule; problem = record { block = p.origin.value.source.block; profile = p.origin.value.profile }; prefix = p.origin.value.prefix.items; nodes = p.nodes.items; names = map named p.dominances.items; timed = option_map (λ t. t.value) p.timed }) p.splits };
 }
 
 impl Piece {
@@ -50,7 +57,7 @@ impl Piece {
     pub fn is_of(&self, block: &Block, profile: &Profile) -> bool
         ensures { IsTrue result ↔ (self.now.problem ≡ record { block = instrs_of block.now; profile = profile.now }) }
     {
-        self.source.is_of(block) && is_same_profile(&self.profile, profile)
+        self.origin.source.is_of(block) && is_same_profile(&self.origin.profile, profile)
     }
 
     /// The rule of its dominated leaves.
@@ -65,7 +72,7 @@ impl Piece {
         ensures value { result.now ≡ self.now.prefix }
         ensures few { length result.now ≤ BLOCK_LIMIT }
     {
-        self.prefix.as_slice()
+        self.origin.prefix.as_slice()
     }
 
     /// How many splits the tree has.
@@ -82,7 +89,7 @@ impl Piece {
         ensures few { length self.now.problem.block ≤ BLOCK_LIMIT }
     {
         // proof only: a number for each instruction
-        let _few = self.source.numbers();
+        let _few = self.origin.source.numbers();
         self.nodes.as_slice()
     }
 

@@ -1,4 +1,4 @@
-use Rattle.std.proofs.Common.{◌≡◌, List, Option, arith, length, sym, ◌∙◌, ap, subst, refl}
+use Rattle.std.proofs.Common.{◌≡◌, List, Option, arith, rules, length, sym, ◌∙◌, ap, subst, refl}
 use Rattle.std.specs.Option.{option_map}
 use Rattle.s66_isa.specs.declared.instr.Instr.{Instr}
 use Rattle.s66_line.specs.Block.{instrs_of}
@@ -11,6 +11,7 @@ use Rattle.s66_time.specs.Ticking.{problem_of}
 use Rattle.s66_time.specs.TimedOrder.{TimedOrder}
 use Rattle.s66_node.specs.Pieces.{PieceOf, IsBestTimed}
 use Rattle.s66_node.specs.Walked.{Walked}
+use Rattle.s66_node.specs.declared.piece.Origin.{Origin}
 use Rattle.s66_node.specs.Walking.{Span, span, IsGrown, IsLeast, names_of}
 use Rattle.s66_node.proofs.Pieces.{piece-tree, piece-expansion, piece-kept}
 use Rattle.s66_node.proofs.walk.Walk.expand_named.Goals as goal
@@ -34,8 +35,19 @@ module _ (g : Over) (c : In_ok-timed_of g) where
       let here : record { block = instrs_of c.block-block.result.now; profile = c.profile-profile.result.now } ≡ problem_of c.self.inside.clock = rw (c.block-block.ensures, c.profile-profile.ensures) refl in
       here ∙ (ap (λ (w : Walked). w.problem) c.self.view_is ∙ (c.grow.ensures.same ∙ ap (λ (w : Walked). w.problem) c.go_to.ensures))
 
-  own : record { block = c.source.result.block; profile = c.profile-profile.result.now } ≡ b
-  own = ap (λ (is : List Instr). record { block = is; profile = c.profile-profile.result.now }) c.source.ensures.block ∙ asked
+  abbrev kept : Origin
+  kept = c.in_ok-new.field-0.value
+
+  boxed : kept ≡ record { source = c.source.result; profile = c.profile-profile.result.now; prefix = c.copy_of.result }
+  boxed = search rules
+
+  own : record { block = kept.source.block; profile = kept.profile } ≡ b
+  own =
+      ap (λ (o : Origin). record { block = o.source.block; profile = o.profile }) boxed
+      ∙ (ap (λ (is : List Instr). record { block = is; profile = c.profile-profile.result.now }) c.source.ensures.block ∙ asked)
+
+  over : kept.prefix.items ≡ c.args.prefix.now
+  over = ap (λ (o : Origin). o.prefix.items) boxed ∙ c.copy_of.ensures
 
   abbrev best : Span
   best = span (g.L.Least.kept c.args.incumbent.now) (g.L.Least.kept c.grow.new.incumbent)
@@ -49,20 +61,20 @@ module _ (g : Over) (c : In_ok-timed_of g) where
       subst (λ (p : Problem). IsLeast p (whole_orders ns tree) c.in_ok-nodes.field-0.least → IsBestTimed p ns tree shown) asked (c.in_ok-timed_of.ensures ns tree) h.least
 
   abbrev piece : PieceOf
-  piece = record { rule = c.args.rule; problem = record { block = c.source.result.block; profile = c.profile-profile.result.now }; prefix = c.copy_of.result.items; nodes = c.in_ok-nodes.field-0.nodes.items; names = names_of c.in_ok-nodes.field-0; timed = shown }
+  piece = record { rule = c.args.rule; problem = record { block = kept.source.block; profile = kept.profile }; prefix = kept.prefix.items; nodes = c.in_ok-nodes.field-0.nodes.items; names = names_of c.in_ok-nodes.field-0; timed = shown }
 
 pub invariant_of-result : goal.invariant_of-result
 invariant_of-result g c =
     let (tree, h) = grown g c in
-    piece-kept c.args.rule (b g c) (best g c) c.args.allowance c.args.prefix.now c.in_ok-nodes.field-0 tree h (piece g c) refl (own g c) c.copy_of.ensures refl refl (timed g c tree h)
+    piece-kept c.args.rule (b g c) (best g c) c.args.allowance c.args.prefix.now c.in_ok-nodes.field-0 tree h (piece g c) refl (own g c) (over g c) refl refl (timed g c tree h)
 
 pub returns-clause-expansion : goal.returns-clause-expansion
 returns-clause-expansion g c =
     let (tree, h) = grown g c in
-    piece-expansion c.args.rule (b g c) (best g c) c.args.allowance c.args.prefix.now c.in_ok-nodes.field-0 tree h (piece g c) refl (own g c) c.copy_of.ensures refl refl
+    piece-expansion c.args.rule (b g c) (best g c) c.args.allowance c.args.prefix.now c.in_ok-nodes.field-0 tree h (piece g c) refl (own g c) (over g c) refl refl
 
 pub returns-clause-timed : goal.returns-clause-timed
 returns-clause-timed g c =
     let (tree, h) = grown g c in
-    let is = piece-tree c.args.rule (b g c) (best g c) c.args.allowance c.args.prefix.now c.in_ok-nodes.field-0 tree h (piece g c) refl (own g c) c.copy_of.ensures refl refl in
+    let is = piece-tree c.args.rule (b g c) (best g c) c.args.allowance c.args.prefix.now c.in_ok-nodes.field-0 tree h (piece g c) refl (own g c) (over g c) refl refl in
     subst (λ t. IsBestTimed (b g c) c.args.prefix.now t (shown g c)) (sym is) (timed g c tree h)
