@@ -7,8 +7,8 @@ pub const RANKED_LIMIT: u32 = 0xff_ffff;
 /// How many depths are distinguished among open nodes of one floor; a block's prefixes are far shorter.
 pub const DEPTH_RANKS: u32 = 256;
 
-/// After how many rounds of a search, and of each of its workers, a list schedule is offered again.
-pub const SCHEDULE_ROUNDS: u32 = 16;
+/// After how many splits of a search, and of each of its workers, a list schedule is offered again.
+pub const SCHEDULE_SPLITS: u32 = 128;
 
 /// The most splits of a piece in which any node of the ledger may be named.
 pub const DOMINATED_PIECE_LIMIT: u32 = 8;

@@ -1,11 +1,12 @@
-ghost use Rattle.std.specs.Prelude.{◌≡◌, ◌≤◌, IfOk};
+ghost use Rattle.std.specs.Prelude.{◌≡◌, ◌≤◌, ◌<◌, ◌/◌, ◌↔◌, IsTrue, IfOk};
 ghost use Rattle.s66_model.specs.LegalOrder.{IsBeginning};
 ghost use Rattle.s66_model.specs.Tree.{splits};
 ghost use Rattle.s66_model.specs.Expansion.{IsExpansion};
 ghost use Rattle.s66_node.specs.Pieces.{tree_of, IsBestTimed};
 ghost use Rattle.s66_ledger.specs.PieceSplits.{piece_splits};
+ghost use Rattle.s66_ledger.specs.declared.limits.TheConstants.{SCHEDULE_SPLITS};
 
-use crate::limits::{DOMINATED_PIECE_LIMIT, SCHEDULE_ROUNDS};
+use crate::limits::{DOMINATED_PIECE_LIMIT, SCHEDULE_SPLITS};
 use crate::machine::Machine;
 use crate::reply::BackError;
 use s66_model::{Rule, Ticket};
@@ -22,6 +23,14 @@ pub fn piece_splits(rule: Rule, allowance: u32) -> u32
         Rule::NoneNamed | Rule::WrittenEarlier => allowance,
         Rule::ClampedStanding => allowance.min(DOMINATED_PIECE_LIMIT),
     }
+}
+
+/// Whether a list schedule is due where a search or a worker had spent `before` splits and has spent `after`: these pass a multiple
+/// of `SCHEDULE_SPLITS`.
+pub fn is_schedule_due(before: u32, after: u32) -> bool
+    ensures { IsTrue result ↔ (before / SCHEDULE_SPLITS < after / SCHEDULE_SPLITS) }
+{
+    before / SCHEDULE_SPLITS < after / SCHEDULE_SPLITS
 }
 
 /// Goes to a prefix and expands it by a rule of dominated leaves, with as many splits as a piece may have within an allowance. The
@@ -70,8 +79,8 @@ impl<'a> Machine<'a> {
 
     /// Goes on, as worker 1, until no open node's floor is below the best time or the budget is spent. Each round claims the open
     /// node of the least floor, expands it by what the worker may spend, offers the best of its whole orders and grafts the
-    /// piece. The marks grow by those of the nodes that it makes. After each `SCHEDULE_ROUNDS` of these rounds it offers a list
-    /// schedule that begins with the node's prefix, so that good orders are found even if no expansion comes to its end.
+    /// piece. The marks grow by those of the nodes that it makes. After each `SCHEDULE_SPLITS` splits it offers a list schedule that
+    /// begins with the node's prefix, so that good orders are found even if no expansion comes to its end.
     pub(crate) fn search(
         &mut self,
         alloc: Global,
@@ -87,10 +96,10 @@ impl<'a> Machine<'a> {
         ensures leads { OnOk result (Leads self.old self.new) }
         ensures searched { OnOk result (IsSearched self.new.problem self.new.budget self.new.state) }
     {
-        let mut rounds = 0u32;
+        let mut before = self.spent;
         while self.search_round(alloc, walk, marks)? {
-            rounds = rounds.wrapping_add(1);
-            self.offer_sometimes(walk, rounds);
+            self.offer_sometimes(walk, before);
+            before = self.spent;
         }
         Ok(())
     }
@@ -185,13 +194,13 @@ impl<'a> Machine<'a> {
         self.grant(1)
     }
 
-    /// Offers a list schedule from the walk's prefix on, after each `SCHEDULE_ROUNDS` rounds.
-    fn offer_sometimes(&mut self, walk: &mut Walk<'_>, rounds: u32)
+    /// Offers a list schedule from the walk's prefix on, if one is due since `before` splits were spent.
+    fn offer_sometimes(&mut self, walk: &mut Walk<'_>, before: u32)
         requires { 1 ≤ self.old.workers }
         ensures walk { walk.new.problem ≡ walk.old.problem }
         ensures offers { IsOffering self.old self.new }
     {
-        if rounds % SCHEDULE_ROUNDS == 0 {
+        if is_schedule_due(before, self.spent) {
             self.offer_schedule(walk, Priority::Start);
         }
     }

@@ -6,7 +6,7 @@ ghost use Rattle.s66_node.specs.Pieces.{tree_of};
 ghost use Rattle.s66_pool.specs.Workers.{IsSameSearch};
 
 use crate::search::offer_schedule;
-use s66_ledger::{Ledger, SCHEDULE_ROUNDS, Ticket, expand_by_rule};
+use s66_ledger::{Ledger, Ticket, expand_by_rule, is_schedule_due};
 use s66_node::{Marks, Piece, Priority, Walk};
 use std::alloc::Global;
 
@@ -14,9 +14,9 @@ use std::alloc::Global;
 const ROUNDS_LIMIT: u32 = 65_536;
 
 /// Searches as worker 1 in the calling thread, until `most` splits are spent or no open node's floor is below the best time. Each
-/// round claims a node, expands it, offers the best of its whole orders and grafts its piece; after each `SCHEDULE_ROUNDS` of
-/// them it offers a list schedule. The marks grow by those of the nodes that are made. What is left of worker 1's allowance goes
-/// back to the budget.
+/// round claims a node, expands it, offers the best of its whole orders and grafts its piece; after each `SCHEDULE_SPLITS` splits
+/// it offers a list schedule. The marks grow by those of the nodes that are made. What is left of worker 1's allowance goes back
+/// to the budget.
 ///
 /// If out of memory it ends, with what is grafted by then.
 pub(crate) fn search_alone(
@@ -34,11 +34,12 @@ pub(crate) fn search_alone(
     ensures same { IsSameSearch ledger.old ledger.new }
 {
     let mut allowance = 0;
-    for round in 0..ROUNDS_LIMIT {
-        if most <= ledger.splits() || !search_round(alloc, ledger, walk, marks, &mut allowance) {
+    for _ in 0..ROUNDS_LIMIT {
+        let before = ledger.splits();
+        if most <= before || !search_round(alloc, ledger, walk, marks, &mut allowance) {
             break;
         }
-        if round % SCHEDULE_ROUNDS == SCHEDULE_ROUNDS - 1 {
+        if is_schedule_due(before, ledger.splits()) {
             let _ = offer_schedule(ledger, walk, Priority::Start);
         }
     }
@@ -90,6 +91,8 @@ fn expand_below(
     requires marks { marks.old.problem ≡ walk.old.problem }
     ensures walk { walk.new.problem ≡ walk.old.problem }
     ensures marks { marks.new.problem ≡ marks.old.problem }
+    ensures rule { IfSome result (λ piece. piece.rule ≡ ledger.now.rule) }
+    ensures problem { IfSome result (λ piece. piece.problem ≡ walk.old.problem) }
     ensures within { IfSome result (λ piece. splits (tree_of piece) ≤ allowance) }
 {
     if !walk.try_go_to(prefix) {
@@ -112,6 +115,8 @@ fn take_in(
     allowance: &mut u32,
 ) -> bool
     requires workers { 1 ≤ ledger.old.workers }
+    requires rule { piece.now.rule ≡ ledger.old.rule }
+    requires problem { piece.now.problem ≡ ledger.old.problem }
     requires within { splits (tree_of piece.now) ≤ allowance.old }
     ensures marks { marks.new.problem ≡ marks.old.problem }
     ensures same { IsSameSearch ledger.old ledger.new }
@@ -127,12 +132,14 @@ fn take_in(
 
 /// Puts a piece in the place of a node, and lets the marks know which nodes it has become; false if out of memory.
 fn graft(ledger: &mut Ledger<'_>, marks: &mut Marks<'_>, node: u32, piece: &Piece) -> bool
-    requires { 1 ≤ ledger.old.workers }
+    requires workers { 1 ≤ ledger.old.workers }
+    requires rule { piece.now.rule ≡ ledger.old.rule }
+    requires problem { piece.now.problem ≡ ledger.old.problem }
     ensures marks { marks.new.problem ≡ marks.old.problem }
     ensures same { IsSameSearch ledger.old ledger.new }
 {
     let first = ledger.node_count();
-    if ledger.graft_at(1, node, piece).is_err() {
+    if ledger.graft_own(1, node, piece).is_err() {
         return false;
     }
     marks.settle(node, first);

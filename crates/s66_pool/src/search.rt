@@ -136,7 +136,13 @@ pub fn run_from<R: AllocGlobal + Threads + Wait + Sync, G: Gate + Sync>(
     offer_schedules(&mut ledger, &mut walk)?;
     offer_first(&mut ledger, first)?;
     let mut marks = Marks::new(alloc, block, profile);
-    search_alone(alloc, &mut ledger, &mut walk, &mut marks, FIRST_SPLITS);
+    // a single worker's steps are the same at the ledger's end, where nothing is recorded
+    let first_splits = if options.workers == 1 {
+        0
+    } else {
+        FIRST_SPLITS
+    };
+    search_alone(alloc, &mut ledger, &mut walk, &mut marks, first_splits);
     let rule = options.rule;
     let ledger = search_by_workers(rt, ledger, block, profile, rule, gate, &mut marks)?;
     ledger.finish_with(alloc, &mut walk, &mut marks)

@@ -9,7 +9,7 @@ use crate::member::Member;
 use crate::seat::Seat;
 use crate::shared_marks::SharedMarks;
 use crate::supply::{Needs, Supply};
-use s66_ledger::{Offered, SCHEDULE_ROUNDS, Ticket};
+use s66_ledger::{Offered, Ticket, is_schedule_due};
 use s66_model::Rule;
 use s66_node::Piece;
 use s66_time::Timed;
@@ -41,8 +41,6 @@ struct Worker<'s, 'b, R> {
     has_claimed: bool,
     /// How many searches for a node in a row have found none.
     nones: u32,
-    /// How many pieces it has grafted.
-    rounds: u32,
 }
 
 /// What a worker does next.
@@ -98,7 +96,6 @@ impl<'s, 'b, R: AllocGlobal + Wait> Worker<'s, 'b, R> {
             allowance: 0,
             has_claimed: false,
             nones: 0,
-            rounds: 0,
         }
     }
 
@@ -255,6 +252,7 @@ impl<'s, 'b, R: AllocGlobal + Wait> Worker<'s, 'b, R> {
             give_back_some(site, &mut member.seat, next);
             return give_back(site, &mut member.seat, ticket);
         };
+        let before = member.seat.splits();
         site.gate.before_graft(member.seat.number());
         let Ok(supply) = site.hub.graft_and_supply(
             site.rt,
@@ -270,7 +268,7 @@ impl<'s, 'b, R: AllocGlobal + Wait> Worker<'s, 'b, R> {
         };
         self.expander.settle(ticket.node(), member.seat.attached);
         let step = self.go_on(site, member, needs, supply, next, claimed);
-        self.end_round(site, member, step)
+        self.end_round(site, member, before, step)
     }
 
     /// Goes on after the turn of its graft, with the node that it had found before it or with those that it claimed in it.
@@ -299,19 +297,19 @@ impl<'s, 'b, R: AllocGlobal + Wait> Worker<'s, 'b, R> {
         }
     }
 
-    /// Counts a piece that was grafted, and offers a list schedule if it is time; then comes the next step. If out of memory the worker
+    /// Offers a list schedule if one is due since it had spent `before` splits; then comes the next step. If out of memory the worker
     /// ends, and gives its next node back.
     fn end_round<'a, G: Gate>(
         &mut self,
         site: &Site<'_, 'a, '_, R, G>,
         member: &mut Member<'_, 'a>,
+        before: u32,
         next: Step,
     ) -> Step
         requires { member.old.seat.hub ≡ site.now.hub.now.id }
         ensures { IsSameMember member.old member.new }
     {
-        self.rounds = self.rounds.wrapping_add(1);
-        if self.offer_sometimes(site, member) {
+        if self.offer_sometimes(site, member, before) {
             return next;
         }
         match next {
@@ -320,17 +318,18 @@ impl<'s, 'b, R: AllocGlobal + Wait> Worker<'s, 'b, R> {
         }
     }
 
-    /// Offers a list schedule from the walk's prefix on, after each `SCHEDULE_ROUNDS` rounds and if its time is below the best; false if
-    /// out of memory.
+    /// Offers a list schedule from the walk's prefix on, if one is due since it had spent `before` splits and its time is below the
+    /// best; false if out of memory.
     fn offer_sometimes<'a, G: Gate>(
         &mut self,
         site: &Site<'_, 'a, '_, R, G>,
         member: &mut Member<'_, 'a>,
+        before: u32,
     ) -> bool
         requires { member.old.seat.hub ≡ site.now.hub.now.id }
         ensures { IsSameMember member.old member.new }
     {
-        if self.rounds % SCHEDULE_ROUNDS != 0 {
+        if !is_schedule_due(before, member.seat.splits()) {
             return true;
         }
         let best = member.local.incumbent.load();

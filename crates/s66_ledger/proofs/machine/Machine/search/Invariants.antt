@@ -2,8 +2,8 @@ use Rattle.std.proofs.Common.{◌≡◌}
 use Rattle.s66_ledger.specs.Finishing.{Leads, IsBetweenRounds, still_to_go}
 use Rattle.s66_ledger.proofs.machine.Machine.search.Given as goal
 
-abbrev pub invariant-loop-rounds : goal.invariant-loop-rounds
-invariant-loop-rounds l =
+abbrev pub invariant-loop-self : goal.invariant-loop-self
+invariant-loop-self l =
     record {
       walk : l.walk.problem ≡ l.fn.walk.problem;
       marks : l.marks.problem ≡ l.fn.marks.problem;
@@ -11,5 +11,5 @@ invariant-loop-rounds l =
       between : IsBetweenRounds l.self.problem l.self.state;
     }
 
-abbrev pub decreases-loop-rounds : goal.decreases-loop-rounds
-decreases-loop-rounds l = still_to_go l.self
+abbrev pub decreases-loop-self : goal.decreases-loop-self
+decreases-loop-self l = still_to_go l.self
