@@ -7,6 +7,8 @@ pub mod Soonest
 pub mod TableArcs
 pub mod Steps
 pub mod FoundedLines
+pub mod PushedInUse
+pub mod InUse
 pub mod ClosedTrees
 pub mod Tails
 pub mod PathWords

@@ -2,6 +2,7 @@ pub mod Moments
 pub mod Facts
 pub mod Paths
 pub mod FactLines
+pub mod InUse
 pub mod LineTrees
 pub mod Networks
 pub mod Known

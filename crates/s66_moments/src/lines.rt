@@ -12,6 +12,8 @@ ghost use Rattle.s66_moments.specs.Moments.{soonest};
 ghost use Rattle.s66_moments.specs.Facts.{Fact, Begins, Follows, IsNumber};
 ghost use Rattle.s66_moments.specs.Paths.{Precedes, IsPlacedFirst};
 ghost use Rattle.s66_moments.specs.Networks.{Network, AreSteps, IsRemaining, tail};
+ghost use Rattle.s66_model.specs.Dominance.{DominatesClamped};
+ghost use Rattle.s66_moments.specs.InUse.{DominatesInUse, IsNoWorseBelow};
 ghost use Rattle.s66_moments.specs.FactLines.{Line, fact_of, IsFounded, AreFounded, facts_after};
 ghost use Rattle.s66_moments.specs.LineTrees.{LineEnding, IsTooLate, ShowsByLines};
 
@@ -34,6 +36,15 @@ pub fn next_leaf_law()
         low ≤ soonest b prefix n stage + tail b arcs (At n stage) → IsTooLate b low (Begins prefix ∷ known) }
     ensures turned { (b : Problem) (low : ℕ) (known : List Fact) (prefix : List ℕ) (m n : ℕ) → IsNumber b m → IsNumber b n →
         Precedes b known m n → IsPlacedFirst prefix n m → IsTooLate b low (Begins prefix ∷ known) }
+{}
+
+/// Whatever completes a beginning with a total below a time completes one that dominates it in use below that time, and with a total below
+/// it. A beginning that dominates another clamped at the next slot does so in use, below each time.
+pub fn in_use_law()
+    ensures no_worse { (b : Problem) (low : ℕ) (other prefix : List ℕ) →
+        DominatesInUse b low other prefix → IsNoWorseBelow b low other prefix }
+    ensures clamped { (b : Problem) (low : ℕ) (other prefix : List ℕ) →
+        DominatesClamped b other prefix → DominatesInUse b low other prefix }
 {}
 
 /// What a tree shows by lines, by leaves and by dominated leaves of one rule is at most the total of every legal order that begins
