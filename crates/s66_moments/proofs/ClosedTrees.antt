@@ -6,7 +6,7 @@ use Rattle.s66_model.specs.declared.rule.Rule.TheVariants.{NoneNamed, WrittenEar
 use Rattle.s66_model.specs.Timing.{Problem, total_of}
 use Rattle.s66_model.specs.LegalOrder.{IsLegal}
 use Rattle.s66_model.specs.Leaves.{Leaf}
-use Rattle.s66_model.specs.Tree.{Tree, Vertex, AtTerminal, AtSplit, LeafShows}
+use Rattle.s66_model.specs.Tree.{Tree, Vertex, AtTerminal, AtSplit, TreeHolds, LeafShows}
 use Rattle.s66_model.specs.NodeNames.{node_named}
 use Rattle.s66_moments.specs.declared.moment.Moment.TheVariants.{Origin, End}
 use Rattle.s66_moments.specs.Facts.{Fact, Begins, AreSo, NoOrder}
@@ -14,11 +14,11 @@ use Rattle.s66_moments.specs.FactLines.{Line, facts_after}
 use Rattle.s66_moments.specs.LineTrees.{LineEnding, AtLeaf, AtLines, DominatedBy, IsTooLate, IsClosedByLines, may_be_named, LineEndingShows, ShowsByLines}
 use Rattle.s66_model.proofs.LegalOrders.{order-legal, GoesOn-join}
 use Rattle.s66_model.proofs.Trees.{leaf-sound}
-use Rattle.s66_model.proofs.TreesHold.{tree-weaken}
-use Rattle.s66_model.proofs.DominatedTrees.{IsShut, IsNamed, may_name, shown-by}
+use Rattle.s66_model.proofs.DominatedTrees.{IsShut, may_name, shown-by}
 use Rattle.s66_moments.proofs.FactLaws.{before-itself}
 use Rattle.s66_moments.proofs.Steps.{precedes-so, leads-so}
-use Rattle.s66_moments.proofs.FoundedLines.{lines-so, lines-lower}
+use Rattle.s66_moments.proofs.FoundedLines.{lines-so}
+use Rattle.s66_moments.proofs.InUseTrees.{IsNamedBelow, shown-in_use}
 
 too_late-none : (b : Problem) (low : ℕ) (known : List Fact) → IsTooLate b low known → NoOrder b low known
 too_late-none b low known (inl leads) = λ order legal less so. absurd (omega (arith, leads-so b known order legal so Origin low End leads, less))
@@ -53,7 +53,7 @@ module _ (rule : Rule) (b : Problem) (low : ℕ) (known : List Fact) (so : (orde
             absurd (too_late-none b low (facts_after (Begins at ∷ known) lines) closed.1 (at ++ rest) legal less all)
       ]
 
-  ending-says : (at : List ℕ) (ending : LineEnding) → LineEndingShows rule b low known prefix tree at ending → IsShut b low at ⊎ IsNamed closes rule b prefix tree at
+  ending-says : (at : List ℕ) (ending : LineEnding) → LineEndingShows rule b low known prefix tree at ending → IsShut b low at ⊎ IsNamedBelow closes rule b low prefix tree at
   ending-says at (AtLeaf leaf) h = inl (leaf-shuts at leaf h)
   ending-says at (AtLines lines) h = inl (lines-shut at lines h)
   ending-says at (DominatedBy name) h = inr (name, h.0, sym (may-name rule (node_named prefix tree name)) ∙ h.1)
@@ -63,25 +63,22 @@ module _ (rule : Rule) (b : Problem) (low : ℕ) (known : List Fact) (so : (orde
   ending-shuts at (AtLines lines) closed h = lines-shut at lines h
   ending-shuts at (DominatedBy name) closed h = absurd cc
 
+-- BY ANY RULE: a standing node dominates in use, any other as without lines
+
+all-below : (rule : Rule) (b : Problem) (low : ℕ) (known : List Fact) → ((order : List ℕ) → IsLegal b.block order → total_of b order < low → AreSo b order known) → (prefix : List ℕ) (tree : Tree LineEnding) → TreeHolds b.block (LineEndingShows rule b low known prefix tree) prefix tree → (rest : List ℕ) → IsLegal b.block (prefix ++ rest) → low ≤ total_of b (prefix ++ rest)
+all-below NoneNamed b low known so prefix tree shows rest legal =
+    shown-by closes b low (LineEndingShows NoneNamed b low known prefix tree) prefix tree shows NoneNamed (ending-says NoneNamed b low known so prefix tree) (ending-shuts NoneNamed b low known so prefix tree) rest legal
+all-below WrittenEarlier b low known so prefix tree shows rest legal =
+    shown-by closes b low (LineEndingShows WrittenEarlier b low known prefix tree) prefix tree shows WrittenEarlier (ending-says WrittenEarlier b low known so prefix tree) (ending-shuts WrittenEarlier b low known so prefix tree) rest legal
+all-below ClampedStanding b low known so prefix tree shows rest legal =
+    shown-in_use closes b low (LineEndingShows ClampedStanding b low known prefix tree) prefix tree shows (ending-says ClampedStanding b low known so prefix tree) (ending-shuts ClampedStanding b low known so prefix tree) rest legal
+
 pub lines-below : (rule : Rule) (b : Problem) (low : ℕ) (lines : List Line) (prefix rest : List ℕ) (tree : Tree LineEnding) → ShowsByLines rule b low lines prefix tree → IsLegal b.block (prefix ++ rest) → low ≤ total_of b (prefix ++ rest)
 lines-below rule b low lines prefix rest tree shows legal =
-    let known : List Fact = facts_after [] lines in
-    let so : (order : List ℕ) → IsLegal b.block order → total_of b order < low → AreSo b order known = λ order legal2 less. lines-so b low [] lines shows.0 order legal2 less tt in
-    shown-by closes b low (LineEndingShows rule b low known prefix tree) prefix tree shows.1 rule (ending-says rule b low known so prefix tree) (ending-shuts rule b low known so prefix tree) rest legal
+    let (time, le, all) = shows in
+    let so : (order : List ℕ) → IsLegal b.block order → total_of b order < time → AreSo b order (facts_after [] lines) = λ order legal2 less. lines-so b time [] lines all.0 order legal2 less tt in
+    omega (arith, le, all-below rule b time (facts_after [] lines) so prefix tree all.1 rest legal)
 
--- A LOWER TIME
-
-module _ (rule : Rule) (b : Problem) (low other : ℕ) (less : other ≤ low) (prefix : List ℕ) (tree : Tree LineEnding) where
-  too_late-lower : (known : List Fact) → IsTooLate b low known → IsTooLate b other known
-  too_late-lower known (inl (hops, path, le)) = inl (hops, path, omega (arith, le, less))
-  too_late-lower known (inr ring) = inr ring
-
-  ending-lower : (known : List Fact) (at : List ℕ) (ending : LineEnding) → LineEndingShows rule b low known prefix tree at ending → LineEndingShows rule b other known prefix tree at ending
-  ending-lower known at (AtLeaf leaf) h = (h.0, omega (arith, h.1, less))
-  ending-lower known at (AtLines lines) h =
-      (lines-lower b low other less (Begins at ∷ known) lines h.0, too_late-lower (facts_after (Begins at ∷ known) lines) h.1)
-  ending-lower known at (DominatedBy name) h = h
-
-  pub tree-lower : (lines : List Line) → ShowsByLines rule b low lines prefix tree → ShowsByLines rule b other lines prefix tree
-  tree-lower lines shows =
-      (lines-lower b low other less [] lines shows.0, tree-weaken b.block (LineEndingShows rule b low (facts_after [] lines) prefix tree) (LineEndingShows rule b other (facts_after [] lines) prefix tree) (ending-lower (facts_after [] lines)) tree prefix shows.1)
+-- what shows a time shows each that is less
+pub tree-lower : (rule : Rule) (b : Problem) (low other : ℕ) → other ≤ low → (lines : List Line) (prefix : List ℕ) (tree : Tree LineEnding) → ShowsByLines rule b low lines prefix tree → ShowsByLines rule b other lines prefix tree
+tree-lower rule b low other less lines prefix tree shows = (let (time, le, all) = shows in (time, omega (arith, le, less), all))

@@ -9,6 +9,7 @@ pub mod Steps
 pub mod FoundedLines
 pub mod PushedInUse
 pub mod InUse
+pub mod InUseTrees
 pub mod ClosedTrees
 pub mod Tails
 pub mod PathWords

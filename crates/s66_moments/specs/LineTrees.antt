@@ -1,8 +1,9 @@
 -- To be believed: trees whose unsplit prefixes are closed by leaves or by lines, or name a node that dominates them, and what they show.
-use Rattle.std.specs.Prelude.{ℕ, ◌≡◌, ◌⊎◌, Bool, true, false, List, [], ◌∷◌, Option, Some, None}
+use Rattle.std.specs.Prelude.{ℕ, ◌≡◌, ◌≤◌, ◌⊎◌, Bool, true, false, List, [], ◌∷◌, Option, Some, None}
 use Rattle.s66_model.specs.declared.rule.Rule.{Rule}
 use Rattle.s66_model.specs.declared.rule.Rule.TheVariants.{NoneNamed, WrittenEarlier, ClampedStanding}
 use Rattle.s66_model.specs.Timing.{Problem}
+use Rattle.s66_model.specs.LegalOrder.{IsIncomplete}
 use Rattle.s66_model.specs.Leaves.{Leaf}
 use Rattle.s66_model.specs.Tree.{Tree, Vertex, AtTerminal, AtSplit, TreeHolds, LeafShows}
 use Rattle.s66_model.specs.NodeNames.{node_named, is_node}
@@ -11,6 +12,7 @@ use Rattle.s66_moments.specs.declared.moment.Moment.TheVariants.{Origin, End}
 use Rattle.s66_moments.specs.Facts.{Fact, Begins, IsNumber}
 use Rattle.s66_moments.specs.Paths.{Precedes, Leads}
 use Rattle.s66_moments.specs.FactLines.{Line, AreFounded, facts_after}
+use Rattle.s66_moments.specs.InUse.{DominatesInUse}
 
 -- what an unsplit prefix has: a leaf that bounds; lines of its own, by which no order through it takes less than low; or the name of
 -- a node that dominates it
@@ -44,14 +46,24 @@ may_be_named NoneNamed vertex = false
 may_be_named WrittenEarlier vertex = is_node vertex
 may_be_named ClampedStanding vertex = is_closed vertex
 
+-- the name dominates an incomplete prefix, as the rule asks; a standing node does so in use, which is less than clamped
+abbrev pub DominatesBelow : Rule → Problem → ℕ → List ℕ → List ℕ → Type 0
+DominatesBelow NoneNamed b low name at = DominatesByRule NoneNamed b name at
+DominatesBelow WrittenEarlier b low name at = DominatesByRule WrittenEarlier b name at
+DominatesBelow ClampedStanding b low name at = IsIncomplete b.block at × DominatesInUse b low name at
+
 -- WHAT A TREE SHOWS over a prefix by lines at its head: no order that begins so takes less than low
 
 abbrev pub LineEndingShows : Rule → Problem → ℕ → List Fact → List ℕ → Tree LineEnding → List ℕ → LineEnding → Type 0
 LineEndingShows rule b low known prefix tree at (AtLeaf leaf) = LeafShows b low at leaf
 LineEndingShows rule b low known prefix tree at (AtLines lines) = IsClosedByLines b low known at lines
 LineEndingShows rule b low known prefix tree at (DominatedBy name) =
-    DominatesByRule rule b name at × (may_be_named rule (node_named prefix tree name) ≡ true)
+    DominatesBelow rule b low name at × (may_be_named rule (node_named prefix tree name) ≡ true)
 
-abbrev pub ShowsByLines : Rule → Problem → ℕ → List Line → List ℕ → Tree LineEnding → Type 0
-ShowsByLines rule b low lines prefix tree =
+abbrev pub AllShow : Rule → Problem → ℕ → List Line → List ℕ → Tree LineEnding → Type 0
+AllShow rule b low lines prefix tree =
     AreFounded b low [] lines × TreeHolds b.block (LineEndingShows rule b low (facts_after [] lines) prefix tree) prefix tree
+
+-- all of it shows low, or one time above it: a node may dominate in use below that time alone
+abbrev pub ShowsByLines : Rule → Problem → ℕ → List Line → List ℕ → Tree LineEnding → Type 0
+ShowsByLines rule b low lines prefix tree = (time : ℕ) × (low ≤ time) × AllShow rule b time lines prefix tree

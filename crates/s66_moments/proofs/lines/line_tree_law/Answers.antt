@@ -9,4 +9,4 @@ pub returns-clause-bound : goal.returns-clause-bound
 returns-clause-bound c = λ rule b low lines tree shows order legal. lines-below rule b low lines [] order tree shows legal
 
 pub returns-clause-lower : goal.returns-clause-lower
-returns-clause-lower c = λ rule b low other lines prefix tree le shows. tree-lower rule b low other le prefix tree lines shows
+returns-clause-lower c = λ rule b low other lines prefix tree le shows. tree-lower rule b low other le lines prefix tree shows
