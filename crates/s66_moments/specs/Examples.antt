@@ -92,6 +92,20 @@ first_of_two = instr 0o11 2 4 3 ∷ instr 0o36 1 3 1 ∷ instr 0o40 2 1 4 ∷ []
 abbrev pub two_sums : List Instr
 two_sums = instr 0o11 5 2 5 ∷ instr 0o30 2 4 4 ∷ instr 0o30 5 1 4 ∷ []
 
+-- IN USE: the third of each comes after the first two in either order
+
+-- BX1 X2 / BX3 X4 / BX5 X1: the third waits for the only Boolean unit, and by then X1 is there
+abbrev pub waits_for_the_unit : List Instr
+waits_for_the_unit = instr 0o10 1 2 0 ∷ instr 0o10 3 4 0 ∷ instr 0o10 5 1 0 ∷ []
+
+-- BX1 X2 / BX3 X4 / IX5 X1+X6: the third waits for X1
+abbrev pub waits_for_x1 : List Instr
+waits_for_x1 = instr 0o10 1 2 0 ∷ instr 0o10 3 4 0 ∷ instr 0o36 5 1 6 ∷ []
+
+-- BX1 X2 / FX3 X4*X5 / BX6 X7: the product is the last result if it comes second, and nothing waits for it
+abbrev pub product_and_booleans : List Instr
+product_and_booleans = instr 0o10 1 2 0 ∷ instr 0o40 3 4 5 ∷ instr 0o10 6 7 0 ∷ []
+
 -- FACT LINES, as a certificate has them
 
 abbrev pub load_fact : (from to : Moment) → (after wait : ℕ) → List ℕ → FactLine

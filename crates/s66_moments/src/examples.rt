@@ -8,6 +8,7 @@ ghost use Rattle.s66_model.specs.Timing.{total_of};
 ghost use Rattle.s66_model.specs.BestAndBound.{IsBound};
 ghost use Rattle.s66_model.specs.Leaves.{Load, chain};
 ghost use Rattle.s66_model.specs.Tree.{Alone};
+ghost use Rattle.s66_model.specs.Dominance.{DominatesClamped};
 ghost use Rattle.s66_model.specs.Examples.{
   standard_problem,
   floor_in,
@@ -28,6 +29,7 @@ ghost use Rattle.s66_moments.specs.Facts.{Before, Begins};
 ghost use Rattle.s66_moments.specs.Paths.{waits};
 ghost use Rattle.s66_moments.specs.Networks.{IsRemaining, IsNetworkPath, precedes, tail, greatest_path};
 ghost use Rattle.s66_moments.specs.FactLines.{ForcedPair, IsFounded};
+ghost use Rattle.s66_moments.specs.InUse.{DominatesInUse};
 ghost use Rattle.s66_moments.specs.LineTrees.{AtLines, DominatedBy, IsTooLate, ShowsByLines};
 ghost use Rattle.s66_moments.specs.Examples.{
   arcs_of,
@@ -45,6 +47,9 @@ ghost use Rattle.s66_moments.specs.Examples.{
   still_line,
   first_of_two,
   two_sums,
+  waits_for_the_unit,
+  waits_for_x1,
+  product_and_booleans,
   split_once,
   increments_load,
   increments_tree,
@@ -142,6 +147,22 @@ pub fn line_tree_examples()
         (increments_tree increments_load (DominatedBy (1 ∷ 2 ∷ []))) }
     ensures dominated_standing { ShowsByLines ClampedStanding (standard_problem three_increments) 7 [] []
         (increments_tree (DominatedBy (2 ∷ 1 ∷ [])) increments_load) }
+{}
+
+/// Which beginnings dominate others in use, and what each takes with the number that remains: it may be that this looks at a late result
+/// only after its unit is free, or sooner. A total that is greater has to be below the time.
+pub fn in_use_examples()
+    ensures read_after_the_unit { DominatesInUse (standard_problem waits_for_the_unit) 0 (2 ∷ 1 ∷ []) (1 ∷ 2 ∷ []) }
+    ensures not_clamped { ¬ DominatesClamped (standard_problem waits_for_the_unit) (2 ∷ 1 ∷ []) (1 ∷ 2 ∷ []) }
+    ensures it_takes_12 { total_of (standard_problem waits_for_the_unit) (2 ∷ 1 ∷ 3 ∷ []) ≡ 12 }
+    ensures the_other_takes_12 { total_of (standard_problem waits_for_the_unit) (1 ∷ 2 ∷ 3 ∷ []) ≡ 12 }
+    ensures read_at_once { (low : ℕ) → ¬ DominatesInUse (standard_problem waits_for_x1) low (2 ∷ 1 ∷ []) (1 ∷ 2 ∷ []) }
+    ensures it_takes_11 { total_of (standard_problem waits_for_x1) (2 ∷ 1 ∷ 3 ∷ []) ≡ 11 }
+    ensures the_other_takes_9 { total_of (standard_problem waits_for_x1) (1 ∷ 2 ∷ 3 ∷ []) ≡ 9 }
+    ensures by_its_total { DominatesInUse (standard_problem product_and_booleans) 13 (1 ∷ 2 ∷ []) (2 ∷ 1 ∷ []) }
+    ensures not_below_its_total { ¬ DominatesInUse (standard_problem product_and_booleans) 12 (1 ∷ 2 ∷ []) (2 ∷ 1 ∷ []) }
+    ensures its_total { total_of (standard_problem product_and_booleans) (1 ∷ 2 ∷ 3 ∷ []) ≡ 12 }
+    ensures total_of_the_other { total_of (standard_problem product_and_booleans) (2 ∷ 1 ∷ 3 ∷ []) ≡ 11 }
 {}
 
 /// The longest paths through a block by what is known, before any line and after some.

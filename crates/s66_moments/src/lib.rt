@@ -11,8 +11,8 @@ mod networks;
 mod paths;
 
 pub use examples::{
-    arc_examples, fact_line_examples, line_examples, line_tree_examples, path_examples,
-    span_examples,
+    arc_examples, fact_line_examples, in_use_examples, line_examples, line_tree_examples,
+    path_examples, span_examples,
 };
 pub use fact_line::{FactLine, KnownArc, LoadLine};
 pub use facts::{fact_law, load_arc_law, pair_law, prefix_law};
