@@ -53,7 +53,7 @@ module _ (rule : Rule) (b : Problem) (low : ℕ) (known : List Fact) (so : (orde
             absurd (too_late-none b low (facts_after (Begins at ∷ known) lines) closed.1 (at ++ rest) legal less all)
       ]
 
-  ending-says : (at : List ℕ) (ending : LineEnding) → LineEndingShows rule b low known prefix tree at ending → IsShut b low at ⊎ IsNamedBelow closes rule b low prefix tree at
+  ending-says : (at : List ℕ) (ending : LineEnding) → LineEndingShows rule b low known prefix tree at ending → IsShut b low at ⊎ IsNamedBelow closes rule b low known prefix tree at
   ending-says at (AtLeaf leaf) h = inl (leaf-shuts at leaf h)
   ending-says at (AtLines lines) h = inl (lines-shut at lines h)
   ending-says at (DominatedBy name) h = inr (name, h.0, sym (may-name rule (node_named prefix tree name)) ∙ h.1)
@@ -71,7 +71,7 @@ all-below NoneNamed b low known so prefix tree shows rest legal =
 all-below WrittenEarlier b low known so prefix tree shows rest legal =
     shown-by closes b low (LineEndingShows WrittenEarlier b low known prefix tree) prefix tree shows WrittenEarlier (ending-says WrittenEarlier b low known so prefix tree) (ending-shuts WrittenEarlier b low known so prefix tree) rest legal
 all-below ClampedStanding b low known so prefix tree shows rest legal =
-    shown-in_use closes b low (LineEndingShows ClampedStanding b low known prefix tree) prefix tree shows (ending-says ClampedStanding b low known so prefix tree) (ending-shuts ClampedStanding b low known so prefix tree) rest legal
+    shown-in_use closes b low known so (LineEndingShows ClampedStanding b low known prefix tree) prefix tree shows (ending-says ClampedStanding b low known so prefix tree) (ending-shuts ClampedStanding b low known so prefix tree) rest legal
 
 pub lines-below : (rule : Rule) (b : Problem) (low : ℕ) (lines : List Line) (prefix rest : List ℕ) (tree : Tree LineEnding) → ShowsByLines rule b low lines prefix tree → IsLegal b.block (prefix ++ rest) → low ≤ total_of b (prefix ++ rest)
 lines-below rule b low lines prefix rest tree shows legal =

@@ -8,28 +8,44 @@ use Rattle.s66_isa.specs.declared.instr.Memory.TheVariants as memory
 use Rattle.s66_isa.specs.Lists.{greatest, has}
 use Rattle.s66_isa.specs.Table.{memory_pair, touches, stores}
 use Rattle.s66_isa.proofs.Lists.{ones, greatest-same}
-use Rattle.s66_model.specs.Timing.{Problem, Point, row_at, copies, points_of, points_after, point_of, next, total_of, end_of}
-use Rattle.s66_model.specs.LegalOrder.{IsBeginning, needs_met, is_remaining, is_ready, GoesOn}
+use Rattle.s66_model.specs.Timing.{Problem, Point, row_at, copies, points_of, point_of, next, total_of}
+use Rattle.s66_model.specs.LegalOrder.{IsLegal, IsBeginning, needs_met, is_remaining, is_ready}
 use Rattle.s66_model.specs.Dominance.{place_in_word, references_wait, stores_wait, free_times, IsSameSet, clamp_at, IsNoLater, DominatesClamped}
-use Rattle.s66_moments.specs.InUse.{FindsNoLater, DominatesInUse, IsNoWorseBelow}
+use Rattle.s66_moments.specs.declared.moment.Stage.TheVariants.{Issue, Start}
+use Rattle.s66_moments.specs.declared.moment.Moment.TheVariants.{At}
+use Rattle.s66_moments.specs.Moments.{time_of, soonest}
+use Rattle.s66_moments.specs.Facts.{Fact, AreSo}
+use Rattle.s66_moments.specs.InUse.{ComesNoSooner, FindsNoLater, DominatesInUse, IsNoWorseBelow}
 use Rattle.s66_model.proofs.SameSet.{is_ready-same, sum_remaining-same}
 use Rattle.s66_model.proofs.LegalOrders.{has-push, sum_remaining-run, order-legal}
 use Rattle.s66_model.proofs.Remaining.{remaining-parts, step-begins, legal-parts}
-use Rattle.s66_model.proofs.PointTimes.{good-at, points_after-append, greatest-stays, next-le-issue, issue-le-start}
+use Rattle.s66_model.proofs.PointTimes.{good-at, points_after-append, next-le-issue, issue-le-start}
 use Rattle.s66_model.proofs.ChainBound.{last-is_greatest}
 use Rattle.s66_model.proofs.FreeTimes.{busy-later, free_times-falling, places-busy}
 use Rattle.s66_model.proofs.Dominating.{clamped-total}
-use Rattle.s66_moments.proofs.Soonest.{issue-sooner, start-sooner}
+use Rattle.s66_moments.proofs.Placed.{placed-ready, time_at-placed}
+use Rattle.s66_moments.proofs.Soonest.{soonest-le, total-stays}
 use Rattle.s66_moments.proofs.PushedInUse.{FindsBelow, phase-below, slot-below, end-below, finds-push}
+
+-- what is found from some moments on is found from later ones on
+pub finds-later : (b : Problem) (q s : List Point) (issue start issue2 start2 n : ℕ) → issue ≤ issue2 → start ≤ start2 → FindsNoLater b q s issue start n → FindsNoLater b q s issue2 start2 n
+finds-later b q s issue start issue2 start2 n le le2 h =
+    record {
+      writers = λ w among. omega (arith, h.writers w among, le);
+      units = λ i lt. omega (arith, h.units i lt, le);
+      operands = λ x among. omega (arith, h.operands x among, le2);
+      memory = omega (arith, h.memory, le2);
+      readers = λ w among. omega (arith, h.readers w among, le2);
+    }
 
 -- UNITS BY PLACES, COUNTED
 
-no_later-below : (b : Problem) (q s : List Point) (t : Point) (n : ℕ) → FindsNoLater b q s t n → FindsBelow b q s t n
-no_later-below b q s t n h =
+no_later-below : (b : Problem) (q s : List Point) (issue start n : ℕ) → FindsNoLater b q s issue start n → FindsBelow b q s issue start n
+no_later-below b q s issue start n h =
     let kind = (row_at b n).kind in
     record {
       writers = h.writers;
-      busy = λ u late. omega (arith, busy-later kind u s, busy-later kind u q, places-busy (copies b kind) t.issue u (free_times kind s) (free_times kind q) (free_times-falling kind s) (free_times-falling kind q) h.units late);
+      busy = λ u late. omega (arith, busy-later kind u s, busy-later kind u q, places-busy (copies b kind) issue u (free_times kind s) (free_times kind q) (free_times-falling kind s) (free_times-falling kind q) h.units late);
       operands = h.operands;
       memory = h.memory;
       readers = h.readers;
@@ -37,15 +53,15 @@ no_later-below b q s t n h =
 
 -- THE SAME NUMBERS ON BOTH
 
--- after xs and ys, the other beginning and the prefix with the same numbers more; each number that remains is compared with its point as if
--- it came next after the prefix
-record StaysAhead (b : Problem) (other prefix xs ys : List ℕ) : Type 0 where
+-- In an order: after xs and ys, the other beginning and the prefix with the same numbers more, each number that remains finds nothing later
+-- than it issues and starts there.
+record StaysAhead (b : Problem) (order : List ℕ) (own : ℕ) (xs ys : List ℕ) : Type 0 where
   begins : IsBeginning b.block xs
   same_set : IsSameSet xs ys
   slot : next (points_of b xs) ≤ next (points_of b ys)
   phase : place_in_word (points_of b xs) ≡ place_in_word (points_of b ys)
-  finds : (n : ℕ) → is_remaining b.block ys n ≡ true → FindsBelow b (points_of b xs) (points_of b ys) (point_of b (points_of b prefix) n) n
-  total : total_of b xs ≤ max (total_of b other) (total_of b ys)
+  finds : (n : ℕ) → is_remaining b.block ys n ≡ true → FindsBelow b (points_of b xs) (points_of b ys) (time_of b order (At n Issue)) (time_of b order (At n Start)) n
+  total : total_of b xs ≤ max own (total_of b ys)
 
 pushed : (b : Problem) (xs : List ℕ) (m : ℕ) → points_of b (xs ++ m ∷ []) ≡ point_of b (points_of b xs) m ∷ points_of b xs
 pushed b xs m = points_after-append b [] xs (m ∷ [])
@@ -60,86 +76,100 @@ remains-before block ys m n h =
     (and_from (leb 1 n) (leb n (length block)) (le-leb 1 n low) (le-leb n (length block) high))
     (not_from_false (has n ys) (or_parts (eqb n m) (has n ys) (sym (has-push n m ys) ∙ new)).1)
 
-module _ (b : Problem) (other prefix front xs : List ℕ) (m : ℕ) (h : StaysAhead b other prefix xs (prefix ++ front)) (ready : is_ready b.block (prefix ++ front) m ≡ true) where
-  abbrev ys : List ℕ
-  ys = prefix ++ front
+module _ (b : Problem) (order : List ℕ) (legal : IsLegal b.block order) (own : ℕ) where
+  module _ (xs ys : List ℕ) (m : ℕ) (more : List ℕ) (is : order ≡ ys ++ m ∷ more) (h : StaysAhead b order own xs ys) where
+    abbrev q : List Point
+    q = points_of b xs
 
-  abbrev q : List Point
-  q = points_of b xs
+    abbrev s : List Point
+    s = points_of b ys
 
-  abbrev s : List Point
-  s = points_of b ys
+    abbrev issue : ℕ
+    issue = time_of b order (At m Issue)
 
-  abbrev start : ℕ → Point
-  start n = point_of b (points_of b prefix) n
+    abbrev start : ℕ
+    start = time_of b order (At m Start)
 
-  found : FindsBelow b q s (start m) m
-  found = h.finds m (and_parts (is_remaining b.block ys m) (needs_met b.block ys m m) ready).0
+    ready : is_ready b.block ys m ≡ true
+    ready = placed-ready b order legal ys more m is
 
-  split : s ≡ points_after b (points_of b prefix) front
-  split = points_after-append b [] prefix front
+    found : FindsBelow b q s issue start m
+    found = h.finds m (and_parts (is_remaining b.block ys m) (needs_met b.block ys m m) ready).0
 
-  issue_late : (start m).issue ≤ (point_of b s m).issue
-  issue_late = subst (λ v. (start m).issue ≤ (point_of b v m).issue) (sym split) (issue-sooner b prefix front m)
+    issue_late : issue ≤ (point_of b s m).issue
+    issue_late = omega (arith, time_at-placed b order legal ys more m (λ (p : Point). p.issue) is)
 
-  start_late : (start m).start ≤ (point_of b s m).start
-  start_late = subst (λ v. (start m).start ≤ (point_of b v m).start) (sym split) (start-sooner b prefix front m)
+    start_late : start ≤ (point_of b s m).start
+    start_late = omega (arith, time_at-placed b order legal ys more m (λ (p : Point). p.start) is)
 
-  finds-step : (n : ℕ) → is_remaining b.block (ys ++ m ∷ []) n ≡ true → FindsBelow b (point_of b q m ∷ q) (point_of b s m ∷ s) (start n) n
-  finds-step n left =
-      finds-push b q s (start m) m found h.slot h.phase issue_late start_late (last-is_greatest b xs) (last-is_greatest b ys) (start n) n
-      (h.finds n (remains-before b.block ys m n left))
+    finds-step : (n : ℕ) → is_remaining b.block (ys ++ m ∷ []) n ≡ true → FindsBelow b (point_of b q m ∷ q) (point_of b s m ∷ s) (time_of b order (At n Issue)) (time_of b order (At n Start)) n
+    finds-step n left =
+        finds-push b q s issue start m found h.slot h.phase issue_late start_late (last-is_greatest b xs) (last-is_greatest b ys) (time_of b order (At n Issue)) (time_of b order (At n Start)) n
+        (h.finds n (remains-before b.block ys m n left))
 
-  step : StaysAhead b other prefix (xs ++ m ∷ []) (ys ++ m ∷ [])
-  step = record {
-    begins = step-begins b.block xs m h.begins (is_ready-same b.block xs ys h.same_set m ∙ ready);
-    same_set = same-push xs ys m h.same_set;
-    slot = rw (pushed b xs m, pushed b ys m) (slot-below b q s (start m) m found h.slot h.phase issue_late start_late);
-    phase = rw (pushed b xs m, pushed b ys m) (phase-below b q s (start m) m found h.slot h.phase issue_late start_late);
-    finds = λ n left. rw (pushed b xs m, pushed b ys m) (finds-step n left);
-    total = rw (pushed b xs m, pushed b ys m) (omega (arith, end-below b q s (start m) m found h.slot h.phase issue_late start_late (last-is_greatest b xs) (last-is_greatest b ys), h.total));
-  }
+    step : StaysAhead b order own (xs ++ m ∷ []) (ys ++ m ∷ [])
+    step = record {
+      begins = step-begins b.block xs m h.begins (is_ready-same b.block xs ys h.same_set m ∙ ready);
+      same_set = same-push xs ys m h.same_set;
+      slot = rw (pushed b xs m, pushed b ys m) (slot-below b q s issue start m found h.slot h.phase issue_late start_late);
+      phase = rw (pushed b xs m, pushed b ys m) (phase-below b q s issue start m found h.slot h.phase issue_late start_late);
+      finds = λ n left. rw (pushed b xs m, pushed b ys m) (finds-step n left);
+      total = rw (pushed b xs m, pushed b ys m) (omega (arith, end-below b q s issue start m found h.slot h.phase issue_late start_late (last-is_greatest b xs) (last-is_greatest b ys), h.total));
+    }
 
-run : (b : Problem) (other prefix front xs rest : List ℕ) → StaysAhead b other prefix xs (prefix ++ front) → GoesOn b.block (prefix ++ front) rest → StaysAhead b other prefix (xs ++ rest) ((prefix ++ front) ++ rest)
-run b other prefix front xs [] h goes = rw (append-nil xs, append-nil (prefix ++ front)) h
-run b other prefix front xs (m ∷ rest) h goes =
-    let e : (prefix ++ front) ++ m ∷ [] ≡ prefix ++ (front ++ m ∷ []) = append_assoc prefix front (m ∷ []) in
-    let one : StaysAhead b other prefix (xs ++ m ∷ []) (prefix ++ (front ++ m ∷ [])) = subst (λ ys. StaysAhead b other prefix (xs ++ m ∷ []) ys) e (step b other prefix front xs m h goes.0) in
-    let all = run b other prefix (front ++ m ∷ []) (xs ++ m ∷ []) rest one (subst (λ ys. GoesOn b.block ys rest) e goes.1) in
-    let same : (prefix ++ (front ++ m ∷ [])) ++ rest ≡ (prefix ++ front) ++ m ∷ rest = ap (λ ys. ys ++ rest) (sym e) ∙ append_assoc (prefix ++ front) (m ∷ []) rest in
-    subst (λ v. StaysAhead b other prefix v ((prefix ++ front) ++ m ∷ rest)) (append_assoc xs (m ∷ []) rest)
-    (subst (λ v. StaysAhead b other prefix ((xs ++ m ∷ []) ++ rest) v) same all)
+  run : (xs ys rest : List ℕ) → order ≡ ys ++ rest → StaysAhead b order own xs ys → StaysAhead b order own (xs ++ rest) (ys ++ rest)
+  run xs ys [] is h = rw (append-nil xs, append-nil ys) h
+  run xs ys (m ∷ rest) is h =
+      let e : (ys ++ m ∷ []) ++ rest ≡ ys ++ m ∷ rest = append_assoc ys (m ∷ []) rest in
+      let all = run (xs ++ m ∷ []) (ys ++ m ∷ []) rest (is ∙ sym e) (step xs ys m rest is h) in
+      subst (λ v. StaysAhead b order own v (ys ++ m ∷ rest)) (append_assoc xs (m ∷ []) rest)
+      (subst (λ v. StaysAhead b order own ((xs ++ m ∷ []) ++ rest) v) e all)
 
 -- WHAT IT IS FOR
 
-ahead : (b : Problem) (low : ℕ) (other prefix : List ℕ) → DominatesInUse b low other prefix → StaysAhead b other prefix other prefix
-ahead b low other prefix h =
+ahead : (b : Problem) (low : ℕ) (known : List Fact) (other prefix rest : List ℕ) → DominatesInUse b low known other prefix → IsLegal b.block (prefix ++ rest) → total_of b (prefix ++ rest) < low → AreSo b (prefix ++ rest) known → StaysAhead b (prefix ++ rest) (total_of b other) other prefix
+ahead b low known other prefix rest h legal less so =
     record {
       begins = h.other_begins;
       same_set = h.same_set;
       slot = h.slot;
       phase = h.phase;
-      finds = λ n left. no_later-below b (points_of b other) (points_of b prefix) (point_of b (points_of b prefix) n) n (h.finds n left);
+      finds = found;
       total = omega arith;
     }
+  where
+    found : (n : ℕ) → is_remaining b.block prefix n ≡ true → FindsBelow b (points_of b other) (points_of b prefix) (time_of b (prefix ++ rest) (At n Issue)) (time_of b (prefix ++ rest) (At n Start)) n
+    found n left =
+        let (issue, start, comes, finds) = h.finds n left in
+        let issue2 = time_of b (prefix ++ rest) (At n Issue) in
+        let start2 = time_of b (prefix ++ rest) (At n Start) in
+        no_later-below b (points_of b other) (points_of b prefix) issue2 start2 n
+        (finds-later b (points_of b other) (points_of b prefix) issue start issue2 start2 n (omega (arith, comes.issues (prefix ++ rest) legal less ((rest, refl), so))) (omega (arith, comes.starts (prefix ++ rest) legal less ((rest, refl), so))) finds)
 
-pub in_use-length : (b : Problem) (low : ℕ) (other prefix : List ℕ) → DominatesInUse b low other prefix → length other ≡ length prefix
-in_use-length b low other prefix h =
+pub in_use-length : (b : Problem) (low : ℕ) (known : List Fact) (other prefix : List ℕ) → DominatesInUse b low known other prefix → length other ≡ length prefix
+in_use-length b low known other prefix h =
     omega (arith, sum_remaining-same b.block other prefix h.same_set (λ _. 1), sum_remaining-run b.block (λ _. 1) [] prefix h.begins, sum_remaining-run b.block (λ _. 1) [] other h.other_begins, ones prefix, ones other)
 
 total_below : (low before own total : ℕ) → (own < low) ⊎ (own ≤ before) → before ≤ total → total < low → max own total < low
 total_below low before own total (inl less) le below = omega arith
 total_below low before own total (inr no_later) le below = omega arith
 
-pub no_worse-below : (b : Problem) (low : ℕ) (other prefix : List ℕ) → DominatesInUse b low other prefix → IsNoWorseBelow b low other prefix
-no_worse-below b low other prefix h rest legal less =
+pub no_worse-below : (b : Problem) (low : ℕ) (known : List Fact) (other prefix : List ℕ) → DominatesInUse b low known other prefix → IsNoWorseBelow b low known other prefix
+no_worse-below b low known other prefix h rest legal less so =
     let (begins, completes) = legal-parts b.block prefix rest legal in
-    let from : StaysAhead b other prefix other (prefix ++ []) = subst (λ ys. StaysAhead b other prefix other ys) (sym (append-nil prefix)) (ahead b low other prefix h) in
-    let goes : GoesOn b.block (prefix ++ []) rest = subst (λ ys. GoesOn b.block ys rest) (sym (append-nil prefix)) completes.0 in
-    let after : StaysAhead b other prefix (other ++ rest) (prefix ++ rest) = subst (λ ys. StaysAhead b other prefix (other ++ rest) (ys ++ rest)) (append-nil prefix) (run b other prefix [] other rest from goes) in
-    let size : length (other ++ rest) ≡ length b.block = omega (arith, length-append other rest, length-append prefix rest, in_use-length b low other prefix h, completes.1) in
-    let stays : total_of b prefix ≤ total_of b (prefix ++ rest) = omega (arith, ap (λ s. greatest end_of s) (points_after-append b [] prefix rest), greatest-stays b end_of (points_of b prefix) rest) in
+    let after = run b (prefix ++ rest) legal (total_of b other) other prefix rest refl (ahead b low known other prefix rest h legal less so) in
+    let size : length (other ++ rest) ≡ length b.block = omega (arith, length-append other rest, length-append prefix rest, in_use-length b low known other prefix h, completes.1) in
+    let stays : total_of b prefix ≤ total_of b (prefix ++ rest) = total-stays b (prefix ++ rest) legal prefix rest refl in
     (order-legal b.block (other ++ rest) (after.begins, size), omega (arith, after.total, total_below low (total_of b prefix) (total_of b other) (total_of b (prefix ++ rest)) h.total stays less))
+
+-- AS IF IT CAME NEXT
+
+pub next-comes : (b : Problem) (low : ℕ) (known : List Fact) (prefix : List ℕ) (n : ℕ) → is_remaining b.block prefix n ≡ true → ComesNoSooner b low known prefix n (soonest b prefix n Issue) (soonest b prefix n Start)
+next-comes b low known prefix n left =
+    record {
+      issues = λ order legal less so. omega (arith, soonest-le b order legal prefix so.0.0 so.0.1 n Issue left);
+      starts = λ order legal less so. omega (arith, soonest-le b order legal prefix so.0.0 so.0.1 n Start left);
+    }
 
 -- CLAMPED
 
@@ -177,7 +207,7 @@ memory-clamped memory.Load q s c start refs stored late =
 memory-clamped memory.Store q s c start refs stored late =
     omega (arith, wait-same (λ k. memory_pair k memory.Store) touches pair-store s, wait-same (λ k. memory_pair k memory.Store) touches pair-store q)
 
-clamped-finds : (b : Problem) (q s : List Point) (n : ℕ) → IsNoLater b (clamp_at (next s)) q s → FindsNoLater b q s (point_of b s n) n
+pub clamped-finds : (b : Problem) (q s : List Point) (n : ℕ) → IsNoLater b (clamp_at (next s)) q s → FindsNoLater b q s (point_of b s n).issue (point_of b s n).start n
 clamped-finds b q s n h =
     let t = point_of b s n in
     let issue : next s ≤ t.issue = next-le-issue b s n in
@@ -190,14 +220,14 @@ clamped-finds b q s n h =
       readers = λ w among. omega (arith, h.readers w.reg, start, ((good-at b n).latencies w among).0);
     }
 
-pub clamped-in_use : (b : Problem) (low : ℕ) (other prefix : List ℕ) → DominatesClamped b other prefix → DominatesInUse b low other prefix
-clamped-in_use b low other prefix h =
+pub clamped-in_use : (b : Problem) (low : ℕ) (known : List Fact) (other prefix : List ℕ) → DominatesClamped b other prefix → DominatesInUse b low known other prefix
+clamped-in_use b low known other prefix h =
     record {
       begins = h.begins;
       other_begins = h.other_begins;
       same_set = h.same_set;
       slot = h.no_later.slot;
       phase = h.no_later.phase;
-      finds = λ n left. clamped-finds b (points_of b other) (points_of b prefix) n h.no_later;
+      finds = λ n left. (soonest b prefix n Issue, soonest b prefix n Start, next-comes b low known prefix n left, clamped-finds b (points_of b other) (points_of b prefix) n h.no_later);
       total = inr (clamped-total b other prefix h);
     }

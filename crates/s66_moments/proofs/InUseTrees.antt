@@ -1,5 +1,5 @@
 -- What a tree shows whose dominated leaves name standing nodes that dominate them in use is a lower bound, whatever closes its other prefixes.
-use Rattle.std.proofs.Common.{ℕ, zero, suc, ◌+◌, ◌≤◌, ◌≡◌, ◌⊎◌, List, [], ◌++◌, length, arith, inl, inr, Bool, true}
+use Rattle.std.proofs.Common.{ℕ, zero, suc, ◌+◌, ◌≤◌, ◌<◌, ◌≡◌, ◌⊎◌, List, [], ◌++◌, length, arith, inl, inr, Bool, true}
 use Rattle.s66_isa.proofs.Lists.{cases_le}
 use Rattle.s66_model.specs.declared.rule.Rule.{Rule}
 use Rattle.s66_model.specs.declared.rule.Rule.TheVariants.{ClampedStanding}
@@ -7,6 +7,7 @@ use Rattle.s66_model.specs.Timing.{Problem, total_of}
 use Rattle.s66_model.specs.LegalOrder.{IsLegal, Completes, IsBeginning}
 use Rattle.s66_model.specs.Tree.{Tree, Alone, Parted, TreeHolds}
 use Rattle.s66_model.specs.NodeNames.{node_named}
+use Rattle.s66_moments.specs.Facts.{Fact, AreSo}
 use Rattle.s66_moments.specs.LineTrees.{DominatesBelow}
 use Rattle.s66_model.proofs.LegalOrders.{GoesOn-join, order-legal}
 use Rattle.s66_model.proofs.Remaining.{legal-parts}
@@ -16,18 +17,18 @@ use Rattle.s66_model.proofs.DominatedTrees.{IsShut, may_name}
 use Rattle.s66_moments.proofs.InUse.{in_use-length, no_worse-below}
 
 -- a node that dominates it below low may be named there
-abbrev pub IsNamedBelow : {M : Type 0} → (M → Bool) → Rule → Problem → ℕ → List ℕ → Tree M → List ℕ → Type 0
-IsNamedBelow closes rule b low prefix tree at =
-    (name : List ℕ) × DominatesBelow rule b low name at × (may_name closes rule (node_named prefix tree name) ≡ true)
+abbrev pub IsNamedBelow : {M : Type 0} → (M → Bool) → Rule → Problem → ℕ → List Fact → List ℕ → Tree M → List ℕ → Type 0
+IsNamedBelow closes rule b low known prefix tree at =
+    (name : List ℕ) × DominatesBelow rule b low known name at × (may_name closes rule (node_named prefix tree name) ≡ true)
 
-module _ {M : Type 0} (closes : M → Bool) (b : Problem) (low : ℕ) (Q : List ℕ → M → Type 0) (prefix : List ℕ) (tree : Tree M) (shows : TreeHolds b.block Q prefix tree) where
-  module _ (says : (at : List ℕ) (terminal : M) → Q at terminal → IsShut b low at ⊎ IsNamedBelow closes ClampedStanding b low prefix tree at) (shuts : (at : List ℕ) (terminal : M) → closes terminal ≡ true → Q at terminal → IsShut b low at) where
+module _ {M : Type 0} (closes : M → Bool) (b : Problem) (low : ℕ) (known : List Fact) (so : (order : List ℕ) → IsLegal b.block order → total_of b order < low → AreSo b order known) (Q : List ℕ → M → Type 0) (prefix : List ℕ) (tree : Tree M) (shows : TreeHolds b.block Q prefix tree) where
+  module _ (says : (at : List ℕ) (terminal : M) → Q at terminal → IsShut b low at ⊎ IsNamedBelow closes ClampedStanding b low known prefix tree at) (shuts : (at : List ℕ) (terminal : M) → closes terminal ≡ true → Q at terminal → IsShut b low at) where
     abbrev AreLow : ℕ → Type 0
     AreLow fuel =
         (at rest : List ℕ) → length b.block ≤ length at + fuel → Standing closes Q b.block at → IsBeginning b.block at → Completes b.block at rest → low ≤ total_of b (at ++ rest)
 
     -- an order below low through a dominated leaf gives one through its node, which is as deep
-    named-low : (fuel : ℕ) (at rest : List ℕ) → AreLow fuel → length b.block ≤ length at + fuel → IsNamedBelow closes ClampedStanding b low prefix tree at → IsBeginning b.block at → Completes b.block at rest → low ≤ total_of b (at ++ rest)
+    named-low : (fuel : ℕ) (at rest : List ℕ) → AreLow fuel → length b.block ≤ length at + fuel → IsNamedBelow closes ClampedStanding b low known prefix tree at → IsBeginning b.block at → Completes b.block at rest → low ≤ total_of b (at ++ rest)
     named-low fuel at rest ih enough named begins whole =
         elim (cases_le low (total_of b (at ++ rest))) [
           | inl le ↦ le
@@ -35,10 +36,10 @@ module _ {M : Type 0} (closes : M → Bool) (b : Problem) (low : ℕ) (Q : List 
               (let (name, dominated, found) = named in
               let (part, dominates) = dominated in
               let legal : IsLegal b.block (at ++ rest) = order-legal b.block (at ++ rest) (GoesOn-join b.block [] at rest begins whole.0, whole.1) in
-              let after = no_worse-below b low name at dominates rest legal less in
+              let after = no_worse-below b low known name at dominates rest legal less (so (at ++ rest) legal less) in
               let there = node-stands closes b.block Q prefix tree name shows found in
               let (goes, completes) = legal-parts b.block name rest after.0 in
-              absurd (omega (arith, after.1, ih name rest (omega (arith, enough, in_use-length b low name at dominates)) there goes completes)))
+              absurd (omega (arith, after.1, ih name rest (omega (arith, enough, in_use-length b low known name at dominates)) there goes completes)))
         ]
 
     ending-low : (fuel : ℕ) (at : List ℕ) (terminal : M) (rest : List ℕ) → AreLow fuel → length b.block ≤ length at + fuel → Q at terminal → IsBeginning b.block at → Completes b.block at rest → low ≤ total_of b (at ++ rest)

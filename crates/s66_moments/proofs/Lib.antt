@@ -21,3 +21,4 @@ pub mod Rings
 pub mod NextLeaves
 pub mod Spans
 pub mod KnownLines
+pub mod Turns

@@ -13,13 +13,13 @@ use Rattle.s66_model.proofs.PointTimes.{point_of-row}
 use Rattle.s66_model.proofs.PushedBoth.{pad, slot-is}
 use Rattle.s66_model.proofs.ChainBound.{reads-le-start, memory-le-start}
 
--- n finds nothing later after q than after s, or than t, with the busy units counted
-pub record FindsBelow (b : Problem) (q s : List Point) (t : Point) (n : ℕ) : Type 0 where
-  pub writers : (w : Write) → Among w (row_at b n).writes → done_of q w.reg ≤ max (done_of s w.reg) t.issue
-  pub busy : (u : ℕ) → t.issue ≤ u → min (copies b (row_at b n).kind) (tally (busy_at (row_at b n).kind u) q) ≤ min (copies b (row_at b n).kind) (tally (busy_at (row_at b n).kind u) s)
-  pub operands : (x : Reg) → Among x (row_at b n).reads → done_of q x ≤ max (done_of s x) t.start
-  pub memory : memory_wait q (row_at b n) ≤ max (memory_wait s (row_at b n)) t.start
-  pub readers : (w : Write) → Among w (row_at b n).writes → readers_wait q w.reg ≤ max (readers_wait s w.reg) (t.start + w.latency)
+-- n finds nothing later after q than after s, or than it issues and starts, with the busy units counted
+pub record FindsBelow (b : Problem) (q s : List Point) (issue start n : ℕ) : Type 0 where
+  pub writers : (w : Write) → Among w (row_at b n).writes → done_of q w.reg ≤ max (done_of s w.reg) issue
+  pub busy : (u : ℕ) → issue ≤ u → min (copies b (row_at b n).kind) (tally (busy_at (row_at b n).kind u) q) ≤ min (copies b (row_at b n).kind) (tally (busy_at (row_at b n).kind u) s)
+  pub operands : (x : Reg) → Among x (row_at b n).reads → done_of q x ≤ max (done_of s x) start
+  pub memory : memory_wait q (row_at b n) ≤ max (memory_wait s (row_at b n)) start
+  pub readers : (w : Write) → Among w (row_at b n).writes → readers_wait q w.reg ≤ max (readers_wait s w.reg) (start + w.latency)
 
 -- THE PLACE IN THE WORD
 
@@ -61,9 +61,9 @@ busy_one : (is_kind : Bool) (t x y : ℕ) → x ≤ y → cond (is_kind && ltb t
 busy_one true t x y h = later_le t x y h
 busy_one false t x y h = omega arith
 
--- A PUSH ON BOTH of a number that comes no sooner than t
+-- A PUSH ON BOTH of a number that comes no sooner
 
-module _ (b : Problem) (q s : List Point) (t : Point) (m : ℕ) (h : FindsBelow b q s t m) (slot : next q ≤ next s) (phase : place_in_word q ≡ place_in_word s) (issue_late : t.issue ≤ (point_of b s m).issue) (start_late : t.start ≤ (point_of b s m).start) where
+module _ (b : Problem) (q s : List Point) (issue start m : ℕ) (h : FindsBelow b q s issue start m) (slot : next q ≤ next s) (phase : place_in_word q ≡ place_in_word s) (issue_late : issue ≤ (point_of b s m).issue) (start_late : start ≤ (point_of b s m).start) where
   issue-below : (point_of b q m).issue ≤ (point_of b s m).issue
   unfolding point
   issue-below =
@@ -116,8 +116,8 @@ module _ (b : Problem) (q s : List Point) (t : Point) (m : ℕ) (h : FindsBelow 
         omega (arith, free-below, results-sooner (λ _ _. true) q s (start_of b s r) (start_of b q r) start-below r.writes readers-by)
 
     -- what another number finds
-    pub finds-push : (v : Point) (n : ℕ) → FindsBelow b q s v n → FindsBelow b (point_of b q m ∷ q) (point_of b s m ∷ s) v n
-    finds-push v n k =
+    pub finds-push : (issue2 start2 n : ℕ) → FindsBelow b q s issue2 start2 n → FindsBelow b (point_of b q m ∷ q) (point_of b s m ∷ s) issue2 start2 n
+    finds-push issue2 start2 n k =
         let ps = point_of b s m in
         let pq = point_of b q m in
         let r : Row = row_at b m in

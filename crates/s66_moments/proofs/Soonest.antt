@@ -57,7 +57,7 @@ module _ (b : Problem) (prefix front : List ℕ) (n : ℕ) where
   abbrev later : List Point
   later = points_after b now front
 
-  pub issue-sooner : (point_of b now n).issue ≤ (point_of b later n).issue
+  issue-sooner : (point_of b now n).issue ≤ (point_of b later n).issue
   unfolding point
   issue-sooner =
       let r : Row = row_at b n in
@@ -72,7 +72,7 @@ module _ (b : Problem) (prefix front : List ℕ) (n : ℕ) where
   last-later : (x : Reg) → last_done x later ≡ done_of later x
   last-later x = subst (λ s. last_done x s ≡ done_of s x) (points_after-append b [] prefix front) (last-is_greatest b (prefix ++ front) x)
 
-  pub start-sooner : (point_of b now n).start ≤ (point_of b later n).start
+  start-sooner : (point_of b now n).start ≤ (point_of b later n).start
   unfolding point start_of
   start-sooner =
       let r : Row = row_at b n in

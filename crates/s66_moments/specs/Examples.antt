@@ -16,7 +16,7 @@ use Rattle.s66_moments.specs.FactLines.{Use, Line, LoadArc}
 use Rattle.s66_moments.specs.LineTrees.{LineEnding, AtLeaf}
 use Rattle.s66_moments.specs.declared.fact_line.FactLine.{FactLine}
 use Rattle.s66_moments.specs.declared.fact_line.FactLine.TheVariants as fact
-use Rattle.s66_moments.specs.Known.{Known, span, known_first, known_after, is_taken, next_value, is_turned}
+use Rattle.s66_moments.specs.Known.{Known, span, known_first, known_after, is_taken, next_value, is_turned, start_at_least}
 use Rattle.s66_moments.specs.Known.{arcs_of as known_arcs}
 
 -- ARCS
@@ -92,7 +92,7 @@ first_of_two = instr 0o11 2 4 3 ∷ instr 0o36 1 3 1 ∷ instr 0o40 2 1 4 ∷ []
 abbrev pub two_sums : List Instr
 two_sums = instr 0o11 5 2 5 ∷ instr 0o30 2 4 4 ∷ instr 0o30 5 1 4 ∷ []
 
--- IN USE: the third of each comes after the first two in either order
+-- IN USE: what follows the first two comes after them in either order
 
 -- BX1 X2 / BX3 X4 / BX5 X1: the third waits for the only Boolean unit, and by then X1 is there
 abbrev pub waits_for_the_unit : List Instr
@@ -101,6 +101,10 @@ waits_for_the_unit = instr 0o10 1 2 0 ∷ instr 0o10 3 4 0 ∷ instr 0o10 5 1 0 
 -- BX1 X2 / BX3 X4 / IX5 X1+X6: the third waits for X1
 abbrev pub waits_for_x1 : List Instr
 waits_for_x1 = instr 0o10 1 2 0 ∷ instr 0o10 3 4 0 ∷ instr 0o36 5 1 6 ∷ []
+
+-- BX1 X2 / BX3 X4 / SX6 B1+5 / IX5 X1+X6: the fourth waits for the two parcels of the third, and by then X1 is there
+abbrev pub waits_for_two_parcels : List Instr
+waits_for_two_parcels = instr 0o10 1 2 0 ∷ instr 0o10 3 4 0 ∷ instr 0o71 6 1 5 ∷ instr 0o36 5 1 6 ∷ []
 
 -- BX1 X2 / FX3 X4*X5 / BX6 X7: the product is the last result if it comes second, and nothing waits for it
 abbrev pub product_and_booleans : List Instr
@@ -128,6 +132,9 @@ next_after block lines prefix n = next_value (standard_problem block) (known_of 
 
 abbrev pub is_turned_after : List Instr → List FactLine → List ℕ → ℕ → ℕ → Bool
 is_turned_after block lines prefix m n = is_turned (standard_problem block) (known_of block lines) prefix m n
+
+abbrev pub start_after : List Instr → List FactLine → List ℕ → ℕ → ℕ
+start_after block lines prefix n = start_at_least (standard_problem block) (known_of block lines) prefix n
 
 -- TREES
 

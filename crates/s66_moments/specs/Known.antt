@@ -1,10 +1,10 @@
 -- To be believed: fact lines as a certificate has them, what is known after some, longest paths by what is known, and the tests of lines and leaves by these paths.
-use Rattle.std.specs.Prelude.{ℕ, zero, suc, ◌+◌, ◌≡◌, ◌≤◌, Bool, true, false, not, ◌||◌, ◌&&◌, ◌==◌, max, List, [], ◌∷◌, ◌++◌, map, length, nat_le, nat_lt, get_or, Option, Some, None}
+use Rattle.std.specs.Prelude.{ℕ, zero, suc, ◌+◌, ◌≡◌, ◌≤◌, Bool, true, false, if◌then◌else◌, not, ◌||◌, ◌&&◌, ◌==◌, max, List, [], ◌∷◌, ◌++◌, map, length, nat_le, nat_lt, get_or, Option, Some, None}
 use Rattle.s66_isa.specs.declared.instr.Kind.{Kind}
 use Rattle.s66_isa.specs.Lists.{greatest, every, has}
 use Rattle.s66_isa.specs.Table.{same_kind}
-use Rattle.s66_model.specs.Timing.{Problem, row_at, copies}
-use Rattle.s66_model.specs.LegalOrder.{is_remaining}
+use Rattle.s66_model.specs.Timing.{Problem, row_at, copies, points_of, next}
+use Rattle.s66_model.specs.LegalOrder.{is_remaining, sum_remaining}
 use Rattle.s66_moments.specs.declared.moment.Stage.{Stage}
 use Rattle.s66_moments.specs.declared.moment.Stage.TheVariants.{Issue, Start, Done, Free}
 use Rattle.s66_moments.specs.declared.moment.Moment.{Moment}
@@ -13,7 +13,7 @@ use Rattle.s66_moments.specs.declared.fact_line.FactLine.{FactLine}
 use Rattle.s66_moments.specs.declared.fact_line.FactLine.TheVariants.{Pair, Load}
 use Rattle.s66_moments.specs.declared.fact_line.LoadLine.{LoadLine}
 use Rattle.s66_moments.specs.declared.fact_line.KnownArc.{KnownArc}
-use Rattle.s66_moments.specs.Moments.{is_moment, only_if}
+use Rattle.s66_moments.specs.Moments.{is_moment, only_if, soonest}
 use Rattle.s66_moments.specs.FactLines.{Use, Line, ForcedPair, LoadArc, use_time}
 use Rattle.s66_moments.specs.Networks.{Network, network, precedes, moments_of, targets, most_arcs, same_moment, with_arc, with_pair, soonest_path}
 
@@ -197,3 +197,17 @@ next_value b known prefix n = greatest (soonest_path b (arcs_of b known) prefix)
 -- R: the prefix has n, and not m, which is known to stand before it
 abbrev pub is_turned : Problem → Known → List ℕ → ℕ → ℕ → Bool
 is_turned b known prefix m n = is_remaining b.block prefix m && is_number b n && has n prefix && known.before m n
+
+-- WHEN A NUMBER THAT REMAINS COMES AT THE SOONEST
+
+-- its slot, if all that remains and is known to stand before it comes next: one parcel a minor cycle
+abbrev pub turn : Problem → Known → List ℕ → ℕ → ℕ
+turn b known prefix n =
+    next (points_of b prefix) + sum_remaining b.block prefix (λ m. if known.before m n then (row_at b m).parcels else 0)
+
+-- no sooner than that, nor than if it came next
+abbrev pub issue_at_least : Problem → Known → List ℕ → ℕ → ℕ
+issue_at_least b known prefix n = max (soonest b prefix n Issue) (turn b known prefix n)
+
+abbrev pub start_at_least : Problem → Known → List ℕ → ℕ → ℕ
+start_at_least b known prefix n = max (soonest b prefix n Start) (turn b known prefix n)

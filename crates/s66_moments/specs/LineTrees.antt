@@ -47,10 +47,10 @@ may_be_named WrittenEarlier vertex = is_node vertex
 may_be_named ClampedStanding vertex = is_closed vertex
 
 -- the name dominates an incomplete prefix, as the rule asks; a standing node does so in use, which is less than clamped
-abbrev pub DominatesBelow : Rule → Problem → ℕ → List ℕ → List ℕ → Type 0
-DominatesBelow NoneNamed b low name at = DominatesByRule NoneNamed b name at
-DominatesBelow WrittenEarlier b low name at = DominatesByRule WrittenEarlier b name at
-DominatesBelow ClampedStanding b low name at = IsIncomplete b.block at × DominatesInUse b low name at
+abbrev pub DominatesBelow : Rule → Problem → ℕ → List Fact → List ℕ → List ℕ → Type 0
+DominatesBelow NoneNamed b low known name at = DominatesByRule NoneNamed b name at
+DominatesBelow WrittenEarlier b low known name at = DominatesByRule WrittenEarlier b name at
+DominatesBelow ClampedStanding b low known name at = IsIncomplete b.block at × DominatesInUse b low known name at
 
 -- WHAT A TREE SHOWS over a prefix by lines at its head: no order that begins so takes less than low
 
@@ -58,7 +58,7 @@ abbrev pub LineEndingShows : Rule → Problem → ℕ → List Fact → List ℕ
 LineEndingShows rule b low known prefix tree at (AtLeaf leaf) = LeafShows b low at leaf
 LineEndingShows rule b low known prefix tree at (AtLines lines) = IsClosedByLines b low known at lines
 LineEndingShows rule b low known prefix tree at (DominatedBy name) =
-    DominatesBelow rule b low name at × (may_be_named rule (node_named prefix tree name) ≡ true)
+    DominatesBelow rule b low known name at × (may_be_named rule (node_named prefix tree name) ≡ true)
 
 abbrev pub AllShow : Rule → Problem → ℕ → List Line → List ℕ → Tree LineEnding → Type 0
 AllShow rule b low lines prefix tree =

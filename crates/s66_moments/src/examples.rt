@@ -1,6 +1,6 @@
 //! Worked examples of arcs, paths, lines and trees.
 
-ghost use Rattle.std.specs.Prelude.{ℕ, List, [], ◌∷◌, ◌+◌, ◌≡◌, ◌≢◌, true, false, Some, None};
+ghost use Rattle.std.specs.Prelude.{ℕ, List, [], ◌∷◌, ◌+◌, ◌≡◌, ◌≤◌, ◌≢◌, true, false, Some, None};
 ghost use Rattle.s66_isa.specs.declared.instr.Kind.TheVariants.{Boolean};
 ghost use Rattle.s66_isa.specs.Table.{a_reg, x_reg};
 ghost use Rattle.s66_model.specs.declared.rule.Rule.TheVariants.{NoneNamed, WrittenEarlier, ClampedStanding};
@@ -49,6 +49,7 @@ ghost use Rattle.s66_moments.specs.Examples.{
   two_sums,
   waits_for_the_unit,
   waits_for_x1,
+  waits_for_two_parcels,
   product_and_booleans,
   split_once,
   increments_load,
@@ -58,6 +59,7 @@ ghost use Rattle.s66_moments.specs.Examples.{
   is_taken_after,
   next_after,
   is_turned_after,
+  start_after,
 };
 ghost use Rattle.s66_moments.specs.declared.fact_line.FactLine.TheVariants.{Pair};
 
@@ -149,18 +151,22 @@ pub fn line_tree_examples()
         (increments_tree (DominatedBy (2 ∷ 1 ∷ [])) increments_load) }
 {}
 
-/// Which beginnings dominate others in use, and what each takes with the number that remains: it may be that this looks at a late result
-/// only after its unit is free, or sooner. A total that is greater has to be below the time.
+/// Which beginnings dominate others in use, and what each takes with the numbers that remain: it may be that one of these looks at a late
+/// result only after its unit is free, or after the parcels of what stands before it, or sooner. A total that is greater has to be below
+/// the time.
 pub fn in_use_examples()
-    ensures read_after_the_unit { DominatesInUse (standard_problem waits_for_the_unit) 0 (2 ∷ 1 ∷ []) (1 ∷ 2 ∷ []) }
+    ensures read_after_the_unit { (low : ℕ) → DominatesInUse (standard_problem waits_for_the_unit) low [] (2 ∷ 1 ∷ []) (1 ∷ 2 ∷ []) }
     ensures not_clamped { ¬ DominatesClamped (standard_problem waits_for_the_unit) (2 ∷ 1 ∷ []) (1 ∷ 2 ∷ []) }
     ensures it_takes_12 { total_of (standard_problem waits_for_the_unit) (2 ∷ 1 ∷ 3 ∷ []) ≡ 12 }
     ensures the_other_takes_12 { total_of (standard_problem waits_for_the_unit) (1 ∷ 2 ∷ 3 ∷ []) ≡ 12 }
-    ensures read_at_once { (low : ℕ) → ¬ DominatesInUse (standard_problem waits_for_x1) low (2 ∷ 1 ∷ []) (1 ∷ 2 ∷ []) }
+    ensures read_after_two_parcels { (low : ℕ) → DominatesInUse (standard_problem waits_for_two_parcels) low [] (2 ∷ 1 ∷ []) (1 ∷ 2 ∷ []) }
+    ensures after_two_parcels_it_takes_12 { total_of (standard_problem waits_for_two_parcels) (2 ∷ 1 ∷ 3 ∷ 4 ∷ []) ≡ 12 }
+    ensures after_two_parcels_the_other_takes_12 { total_of (standard_problem waits_for_two_parcels) (1 ∷ 2 ∷ 3 ∷ 4 ∷ []) ≡ 12 }
+    ensures read_at_once { (low : ℕ) → 10 ≤ low → ¬ DominatesInUse (standard_problem waits_for_x1) low [] (2 ∷ 1 ∷ []) (1 ∷ 2 ∷ []) }
     ensures it_takes_11 { total_of (standard_problem waits_for_x1) (2 ∷ 1 ∷ 3 ∷ []) ≡ 11 }
     ensures the_other_takes_9 { total_of (standard_problem waits_for_x1) (1 ∷ 2 ∷ 3 ∷ []) ≡ 9 }
-    ensures by_its_total { DominatesInUse (standard_problem product_and_booleans) 13 (1 ∷ 2 ∷ []) (2 ∷ 1 ∷ []) }
-    ensures not_below_its_total { ¬ DominatesInUse (standard_problem product_and_booleans) 12 (1 ∷ 2 ∷ []) (2 ∷ 1 ∷ []) }
+    ensures by_its_total { DominatesInUse (standard_problem product_and_booleans) 13 [] (1 ∷ 2 ∷ []) (2 ∷ 1 ∷ []) }
+    ensures not_below_its_total { ¬ DominatesInUse (standard_problem product_and_booleans) 12 [] (1 ∷ 2 ∷ []) (2 ∷ 1 ∷ []) }
     ensures its_total { total_of (standard_problem product_and_booleans) (1 ∷ 2 ∷ 3 ∷ []) ≡ 12 }
     ensures total_of_the_other { total_of (standard_problem product_and_booleans) (2 ∷ 1 ∷ 3 ∷ []) ≡ 11 }
 {}
@@ -175,7 +181,7 @@ pub fn span_examples()
     ensures by_a_load { span_after two_free_adds (load_fact Origin End 0 10 (1 ∷ 2 ∷ []) ∷ []) Origin End ≡ Some 10 }
 {}
 
-/// Which fact lines are taken, and which leaves are right by them.
+/// Which fact lines are taken, and which leaves are right by them, and when a number starts at the soonest.
 pub fn fact_line_examples()
     ensures by_parcels { is_taken_after first_of_two 15 [] (Pair 1 2) ≡ true }
     ensures not_for_another_bound { is_taken_after first_of_two 16 [] (Pair 1 2) ≡ false }
@@ -194,5 +200,8 @@ pub fn fact_line_examples()
     ensures next_without_the_line { next_after two_sums [] [] 1 ≡ 8 }
     ensures turned { is_turned_after first_of_two (Pair 1 2 ∷ []) (2 ∷ []) 1 2 ≡ true }
     ensures turned_without_the_line { is_turned_after first_of_two [] (2 ∷ []) 1 2 ≡ false }
+    ensures start_by_what_stands_before { start_after waits_for_two_parcels [] (1 ∷ 2 ∷ []) 4 ≡ 7 }
+    ensures start_by_a_pair { start_after two_free_adds (Pair 2 1 ∷ []) [] 1 ≡ 1 }
+    ensures start_without_the_pair { start_after two_free_adds [] [] 1 ≡ 0 }
     ensures not_turned { is_turned_after first_of_two (Pair 1 2 ∷ []) (1 ∷ []) 1 2 ≡ false }
 {}

@@ -11,8 +11,9 @@ ghost use Rattle.s66_moments.specs.Facts.{Fact, Begins};
 ghost use Rattle.s66_moments.specs.Paths.{Hop, waits};
 ghost use Rattle.s66_moments.specs.Networks.{Network, IsKnown, AreSteps, IsRising, HasOwnArcs, IsTransitive, HasNoRing, targets, IsNetworkPath, same_moment, tail};
 ghost use Rattle.s66_moments.specs.FactLines.{AreFounded, facts_after};
+ghost use Rattle.s66_moments.specs.InUse.{ComesNoSooner};
 ghost use Rattle.s66_moments.specs.LineTrees.{IsTooLate};
-ghost use Rattle.s66_moments.specs.Known.{Known, line_of, later, latest, plus, span, known_first, known_after, arcs_of, are_taken, next_value, is_turned};
+ghost use Rattle.s66_moments.specs.Known.{Known, line_of, later, latest, plus, span, known_first, known_after, arcs_of, are_taken, next_value, is_turned, issue_at_least, start_at_least};
 
 /// A span is how long some path takes, and if no arcs form a ring none takes longer. So it is the latest of the arcs from its first
 /// moment, each with the span from where it leads, and of the arcs to its last one, each with the span to where it comes from.
@@ -28,7 +29,8 @@ pub fn span_law()
 {}
 
 /// If each of these lines is taken, they are founded: so their facts follow, and all that is known after them does. The arcs of that
-/// form no ring, and lack none of an instruction; a leaf that is right by them closes its prefix.
+/// form no ring, and lack none of an instruction; a leaf that is right by them closes its prefix, and no number that remains comes
+/// sooner than they say.
 pub fn fact_lines_law()
     ensures founded { (b : Problem) (bound : ℕ) (lines : List FactLine) →
         are_taken b bound (known_first b) lines ≡ true → AreFounded b bound [] (map (line_of b) lines) }
@@ -54,4 +56,8 @@ pub fn fact_lines_law()
     ensures turned { (b : Problem) (bound : ℕ) (lines : List FactLine) (prefix : List ℕ) (m n : ℕ) →
         are_taken b bound (known_first b) lines ≡ true → is_turned b (known_after (known_first b) lines) prefix m n ≡ true →
         IsTooLate b bound (Begins prefix ∷ facts_after [] (map (line_of b) lines)) }
+    ensures no_sooner { (b : Problem) (bound : ℕ) (lines : List FactLine) (prefix : List ℕ) (n : ℕ) →
+        are_taken b bound (known_first b) lines ≡ true → is_remaining b.block prefix n ≡ true →
+        ComesNoSooner b bound (facts_after [] (map (line_of b) lines)) prefix n
+        (issue_at_least b (known_after (known_first b) lines) prefix n) (start_at_least b (known_after (known_first b) lines) prefix n) }
 {}

@@ -1,19 +1,20 @@
 //! Lines that each give a fact, and trees that show a bound by them.
 
-ghost use Rattle.std.specs.Prelude.{ℕ, List, [], ◌∷◌, ◌++◌, ◌+◌, ◌≤◌};
+ghost use Rattle.std.specs.Prelude.{ℕ, List, [], ◌∷◌, ◌++◌, ◌+◌, ◌≡◌, ◌≤◌, true};
 ghost use Rattle.s66_model.specs.declared.rule.Rule.{Rule};
 ghost use Rattle.s66_model.specs.Timing.{Problem, total_of};
-ghost use Rattle.s66_model.specs.LegalOrder.{IsLegal};
+ghost use Rattle.s66_model.specs.LegalOrder.{IsLegal, is_remaining};
 ghost use Rattle.s66_model.specs.BestAndBound.{IsBound};
 ghost use Rattle.s66_model.specs.Tree.{Tree};
 ghost use Rattle.s66_moments.specs.declared.moment.Stage.{Stage};
+ghost use Rattle.s66_moments.specs.declared.moment.Stage.TheVariants.{Issue, Start};
 ghost use Rattle.s66_moments.specs.declared.moment.Moment.TheVariants.{At};
 ghost use Rattle.s66_moments.specs.Moments.{soonest};
 ghost use Rattle.s66_moments.specs.Facts.{Fact, Begins, Follows, IsNumber};
 ghost use Rattle.s66_moments.specs.Paths.{Precedes, IsPlacedFirst};
 ghost use Rattle.s66_moments.specs.Networks.{Network, AreSteps, IsRemaining, tail};
 ghost use Rattle.s66_model.specs.Dominance.{DominatesClamped};
-ghost use Rattle.s66_moments.specs.InUse.{DominatesInUse, IsNoWorseBelow};
+ghost use Rattle.s66_moments.specs.InUse.{ComesNoSooner, DominatesInUse, IsNoWorseBelow};
 ghost use Rattle.s66_moments.specs.FactLines.{Line, fact_of, IsFounded, AreFounded, facts_after};
 ghost use Rattle.s66_moments.specs.LineTrees.{LineEnding, IsTooLate, ShowsByLines};
 
@@ -38,13 +39,16 @@ pub fn next_leaf_law()
         Precedes b known m n → IsPlacedFirst prefix n m → IsTooLate b low (Begins prefix ∷ known) }
 {}
 
-/// Whatever completes a beginning with a total below a time completes one that dominates it in use below that time, and with a total below
-/// it. A beginning that dominates another clamped at the next slot does so in use, below each time.
+/// Whatever completes a beginning with a total below a time, and has the known facts, completes one that dominates it in use below that
+/// time, and with a total below it. No number that remains comes sooner than if it came next. So a beginning that dominates another
+/// clamped at the next slot does so in use, below each time and whatever is known.
 pub fn in_use_law()
-    ensures no_worse { (b : Problem) (low : ℕ) (other prefix : List ℕ) →
-        DominatesInUse b low other prefix → IsNoWorseBelow b low other prefix }
-    ensures clamped { (b : Problem) (low : ℕ) (other prefix : List ℕ) →
-        DominatesClamped b other prefix → DominatesInUse b low other prefix }
+    ensures no_worse { (b : Problem) (low : ℕ) (known : List Fact) (other prefix : List ℕ) →
+        DominatesInUse b low known other prefix → IsNoWorseBelow b low known other prefix }
+    ensures next { (b : Problem) (low : ℕ) (known : List Fact) (prefix : List ℕ) (n : ℕ) → is_remaining b.block prefix n ≡ true →
+        ComesNoSooner b low known prefix n (soonest b prefix n Issue) (soonest b prefix n Start) }
+    ensures clamped { (b : Problem) (low : ℕ) (known : List Fact) (other prefix : List ℕ) →
+        DominatesClamped b other prefix → DominatesInUse b low known other prefix }
 {}
 
 /// What a tree shows by lines, by leaves and by dominated leaves of one rule is at most the total of every legal order that begins

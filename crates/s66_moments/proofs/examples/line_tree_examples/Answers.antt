@@ -55,4 +55,4 @@ second_first = search rules
 pub returns-clause-dominated_standing : goal.returns-clause-dominated_standing
 unfolding row conflict issue_of start_of point
 returns-clause-dominated_standing c =
-    (7, lit≤ tt, (tt, (lit≤ tt, refl, (lit≤ tt, refl, (((lit≤ tt, clamped-in_use (standard_problem three_increments) 7 (2 ∷ 1 ∷ []) (1 ∷ 2 ∷ []) second_first), refl), (search rules, tt)), search rules))))
+    (7, lit≤ tt, (tt, (lit≤ tt, refl, (lit≤ tt, refl, (((lit≤ tt, clamped-in_use (standard_problem three_increments) 7 [] (2 ∷ 1 ∷ []) (1 ∷ 2 ∷ []) second_first), refl), (search rules, tt)), search rules))))
