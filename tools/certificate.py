@@ -350,15 +350,38 @@ class Problem:
             waits.update(((unit, rank), time) for rank, time in enumerate(latest))
         return waits
 
-    def dominates(self, version, node, prefix):
-        """Whether a node dominates a prefix of the same numbers, by the rule of a version."""
+    def is_in_step(self, node, prefix):
+        """Whether next is no later after a node than after a prefix, and the parcels that follow lie alike in their words."""
         apart = self.following_parcel(node) - self.following_parcel(prefix)
+        return apart % 4 == 0 and self.next_issue(node) <= self.next_issue(prefix)
+
+    def dominates(self, version, node, prefix):
+        """Whether a node dominates a prefix of the same numbers, by the rule of version 2 or 3."""
         slot, waits = self.next_issue(prefix), self.waits(prefix)
         is_slower = version == 2 and self.total(node) > self.total(prefix)
-        if apart % 4 or is_slower or self.next_issue(node) > slot:
+        if is_slower or not self.is_in_step(node, prefix):
             return False
         clamp = slot if version > 2 else 0  # nothing that follows can issue before
         return all(time <= max(waits[what], clamp) for what, time in self.waits(node).items())
+
+    def uses(self, prefix, n):
+        """What an instruction may wait for that comes after a prefix, each with the soonest moment at which it may."""
+        point = self.followed_by(prefix, n)[-1]
+        issued = [(point.own.unit, rank) for rank in range(self.profile[point.own.unit])]
+        issued += [("result", x) for x in self.latencies[n]]
+        started = [("result", x) for x in point.own.reads]
+        started += [{"load": "store", "store": "reference"}[point.own.memory]] if point.own.memory else []
+        uses = [(what, point.issue) for what in issued] + [(what, point.start) for what in started]
+        return uses + [(("reader", x), point.start + latency - 1) for x, latency in self.latencies[n].items()]
+
+    def dominates_in_use(self, bound, node, prefix):
+        """Whether a node dominates a prefix of the same numbers in use, for a bound: by the rule of version 4."""
+        is_slower = self.total(node) > self.total(prefix) and self.total(node) >= bound
+        if is_slower or not self.is_in_step(node, prefix):
+            return False
+        waits, other = self.waits(node), self.waits(prefix)
+        uses = [use for n in self.remaining(prefix) for use in self.uses(prefix, n)]
+        return all(waits.get(what, 0) <= max(other.get(what, 0), time) for what, time in uses)
 
 
 class Known:
@@ -519,7 +542,11 @@ def domination_fault(problem, document, prefix, leaf):
     node = may_be_named and sorted(name) == sorted(numbers) and problem.beginning(tuple(name))
     if not node:
         return NOT_TO_BE_NAMED
-    return None if problem.dominates(document.version, node, prefix) else NOT_DOMINATED
+    if leaf.kind == "N":
+        dominates = problem.dominates_in_use(document.bound, node, prefix)
+    else:
+        dominates = problem.dominates(document.version, node, prefix)
+    return None if dominates else NOT_DOMINATED
 
 
 def line_fault(known, document, prefix, line):

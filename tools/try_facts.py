@@ -7,7 +7,8 @@ It tries N blocks of 3 to 7 instructions, 300 unless given, half of them under a
 timed. tools/certificate.py has to say YES to the document that tools/find_facts.py finds for the best time. For a greater
 bound there must be no tree, and no YES to that document with the greater bound and damages. And what fact lines say for a
 greater bound, found ones and random ones, has to be so in each order that takes less: pairs, the longest path between any
-two moments, and the values of E lines at its prefixes. Each fault is printed with its block. The same seed makes the same
+two moments, and the values of E lines at its prefixes. Where a beginning dominates another in use, below a bound, whatever
+completes the other below that has to complete it so too. Each fault is printed with its block. The same seed makes the same
 blocks.
 """
 import argparse
@@ -27,6 +28,7 @@ FEW = """
 FXi Xj*Xk|FXi Xj/Xk|FXi Xj+Xk|IXi Xj+Xk|BXi Xj+Xk|BXi Xj|LXi Bj,Xk|NXi Bj,Xk|SAi Aj+Bk|SAi Bj+Bk|SXi Xj+Bk|SBi Bj+Bk|SXi Bj+K
 """.strip().split("|")
 MOST_ORDERS = 1000  # of a block
+MOST_PAIRS = 30  # of beginnings, of a block
 
 
 def verdict(lines):
@@ -45,6 +47,10 @@ def times_of(order, total):
         stages = {"issue": point.issue, "start": point.start, **point.done, "free": point.free}
         times.update(((stage, point.number), time) for stage, time in stages.items())
     return times
+
+
+def numbers_of(points):
+    return tuple(point.number for point in points)
 
 
 class Trial:
@@ -99,7 +105,7 @@ class Trial:
         """What is known for a bound, and isn't so in an order that takes less."""
         known, paths = finder.known, {begin: finder.known.paths_from(begin) for begin in finder.known.arcs}
         for order in self.orders:
-            times, numbers = times_of(order, self.problem.total(order)), [point.number for point in order]
+            times, numbers = times_of(order, self.problem.total(order)), numbers_of(order)
             if times[END] >= finder.bound:
                 return
             wrong = [(m, n) for n in numbers for m in known.before[n] if numbers.index(m) > numbers.index(n)]
@@ -143,6 +149,31 @@ class Trial:
             yield from self.wrong_facts(finder)
             counts.update("for greater bounds " + type(fact).__name__ for fact in finder.facts)
         yield from self.wrong_claims(lines, counts)
+        yield from self.wrong_dominance(counts)
+
+    def pairs(self):
+        """Some pairs of different beginnings with the same numbers, each with an order that has the second."""
+        alike, pairs = collections.defaultdict(dict), []
+        for order in self.orders:
+            for length in range(2, len(order)):
+                beginning = order[:length]
+                alike[frozenset(numbers_of(beginning))].setdefault(numbers_of(beginning), (beginning, []))[1].append(order)
+        for beginnings in alike.values():
+            pairs += [(node, *other) for (node, _), other in itertools.permutations(beginnings.values(), 2)]
+        chosen = self.any.sample(pairs, min(MOST_PAIRS, len(pairs)))
+        return [(node, prefix, self.any.choice(orders)) for node, prefix, orders in chosen]
+
+    def wrong_dominance(self, counts):
+        """Beginnings that dominate others in use, and are not completed below a bound by what completes those so."""
+        for node, prefix, order in self.pairs():
+            is_clamped, bound = self.problem.dominates(3, node, prefix), self.problem.total(order) + 1
+            is_in_use = self.problem.dominates_in_use(bound, node, prefix)
+            counts.update({"pairs of beginnings": 1, "dominated clamped": is_clamped, "dominated in use": is_in_use})
+            other = self.problem.beginning(numbers_of(node) + numbers_of(order[len(node) :]))
+            if is_in_use and not (other and self.problem.total(other) < bound):
+                yield f"{numbers_of(node)} dominates a beginning of {numbers_of(order)} in use, for the bound {bound}"
+            if is_clamped and not self.problem.dominates_in_use(0, node, prefix):
+                yield f"{numbers_of(node)} dominates a beginning of {numbers_of(order)} clamped, and not in use"
 
     def wrong_claims(self, lines, counts):
         """Yes to a document with a greater bound, and the time of an order that takes as long."""
@@ -151,7 +182,7 @@ class Trial:
             order = self.any.choice(slower)
             time = self.problem.total(order)
             claims = {"TIME": time, "BOUND": self.any.randint(self.best + 1, min(time, self.best + 3))}
-            claims["ORDER"] = " ".join(str(point.number) for point in order)
+            claims["ORDER"] = " ".join(map(str, numbers_of(order)))
             words = [line.split(" ")[0] for line in lines]
             claimed = [f"{word} {claims[word]}" if word in claims else line for word, line in zip(words, lines)]
             told = verdict(self.damaged(claimed))
