@@ -364,25 +364,6 @@ class Problem:
         clamp = slot if version > 2 else 0  # nothing that follows can issue before
         return all(time <= max(waits[what], clamp) for what, time in self.waits(node).items())
 
-    def uses(self, prefix, n):
-        """What an instruction may wait for that comes after a prefix, each with the soonest moment at which it may."""
-        point = self.followed_by(prefix, n)[-1]
-        issued = [(point.own.unit, rank) for rank in range(self.profile[point.own.unit])]
-        issued += [("result", x) for x in self.latencies[n]]
-        started = [("result", x) for x in point.own.reads]
-        started += [{"load": "store", "store": "reference"}[point.own.memory]] if point.own.memory else []
-        uses = [(what, point.issue) for what in issued] + [(what, point.start) for what in started]
-        return uses + [(("reader", x), point.start + latency - 1) for x, latency in self.latencies[n].items()]
-
-    def dominates_in_use(self, bound, node, prefix):
-        """Whether a node dominates a prefix of the same numbers in use, for a bound: by the rule of version 4."""
-        is_slower = self.total(node) > self.total(prefix) and self.total(node) >= bound
-        if is_slower or not self.is_in_step(node, prefix):
-            return False
-        waits, other = self.waits(node), self.waits(prefix)
-        uses = [use for n in self.remaining(prefix) for use in self.uses(prefix, n)]
-        return all(waits.get(what, 0) <= max(other.get(what, 0), time) for what, time in uses)
-
 
 class Known:
     """What is known of all legal orders that take less than a bound: which instruction stands before which, and arcs, that is,
@@ -512,6 +493,31 @@ class Known:
         times = {"issue": point.issue, "start": point.start, **point.done, "free": point.free}
         return max(time + self.tails[stage, n] for stage, time in times.items())
 
+    def turn(self, prefix, n):
+        """No order that has this prefix issues an instruction sooner: what remains and stands before it takes its parcels."""
+        earlier = self.before[n].intersection(self.problem.remaining(prefix))
+        return self.problem.next_issue(prefix) + sum(self.problem.block[m].parcels for m in earlier)
+
+    def uses(self, prefix, n):
+        """What an instruction may wait for that comes after a prefix, each with the soonest moment at which it may."""
+        point, turn = self.problem.followed_by(prefix, n)[-1], self.turn(prefix, n)
+        issue, start, latencies = max(point.issue, turn), max(point.start, turn), self.problem.latencies[n]
+        issued = [(point.own.unit, rank) for rank in range(self.problem.profile[point.own.unit])]
+        issued += [("result", x) for x in latencies]
+        started = [("result", x) for x in point.own.reads]
+        started += [{"load": "store", "store": "reference"}[point.own.memory]] if point.own.memory else []
+        uses = [(what, issue) for what in issued] + [(what, start) for what in started]
+        return uses + [(("reader", x), start + latency - 1) for x, latency in latencies.items()]
+
+    def dominates(self, node, prefix):
+        """Whether a node dominates a prefix of the same numbers in use: by the rule of version 4."""
+        total, waits, other = self.problem.total(node), self.problem.waits(node), self.problem.waits(prefix)
+        is_slower = total > self.problem.total(prefix) and total >= self.bound
+        if is_slower or not self.problem.is_in_step(node, prefix):
+            return False
+        uses = [use for n in self.problem.remaining(prefix) for use in self.uses(prefix, n)]
+        return all(waits.get(what, 0) <= max(other.get(what, 0), time) for what, time in uses)
+
 
 def node_at(line, name):
     """The line to which the numbers of a name lead from a tree's first line, or nothing."""
@@ -531,22 +537,20 @@ def name_of(line):
     return name[::-1]
 
 
-def domination_fault(problem, document, prefix, leaf):
+def domination_fault(known, document, prefix, leaf):
     """What is wrong with a dominated leaf, or nothing."""
     if leaf.kind == "D":
         line = node_at(next(iter(document.tree.values())), leaf.names)
     else:
         line = document.tree.get(leaf.names[0])
-    name, numbers = line and name_of(line), [point.number for point in prefix]
+    problem, name, numbers = known.problem, line and name_of(line), [point.number for point in prefix]
     may_be_named = line and (name < numbers if document.version == 2 else line.kind != leaf.kind)
     node = may_be_named and sorted(name) == sorted(numbers) and problem.beginning(tuple(name))
     if not node:
         return NOT_TO_BE_NAMED
     if leaf.kind == "N":
-        dominates = problem.dominates_in_use(document.bound, node, prefix)
-    else:
-        dominates = problem.dominates(document.version, node, prefix)
-    return None if dominates else NOT_DOMINATED
+        return None if known.dominates(node, prefix) else NOT_DOMINATED
+    return None if problem.dominates(document.version, node, prefix) else NOT_DOMINATED
 
 
 def line_fault(known, document, prefix, line):
@@ -558,7 +562,7 @@ def line_fault(known, document, prefix, line):
     if (line.kind == "T") == bool(remaining):
         return NOT_HERE
     if line.kind in ("D", "N"):
-        return domination_fault(problem, document, prefix, line)
+        return domination_fault(known, document, prefix, line)
     if line.kind == "E":
         [n] = line.names
         return None if n in remaining and known.next_value(prefix, n) >= document.bound else NOT_TOO_LATE

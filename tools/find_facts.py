@@ -102,7 +102,7 @@ class Finder:
         loaded = [("U", unit) for unit in certificate.UNITS if self.problem.load(prefix, unit) >= self.bound]
         parcels = [("P",)] if self.problem.parcels(prefix) >= self.bound else []
         late = [("E", n) for n in remaining if self.known.next_value(prefix, n) >= self.bound]
-        named = [("N", place) for node, place in closed if self.problem.dominates_in_use(self.bound, node, prefix)]
+        named = [("N", place) for node, place in closed if self.known.dominates(node, prefix)]
         kinds = {"R": turned, "U": loaded, "P": parcels, "E": late, "N": named}
         return next((leaf for kind in self.leaves for leaf in kinds[kind]), None)
 

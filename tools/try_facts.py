@@ -7,9 +7,9 @@ It tries N blocks of 3 to 7 instructions, 300 unless given, half of them under a
 timed. tools/certificate.py has to say YES to the document that tools/find_facts.py finds for the best time. For a greater
 bound there must be no tree, and no YES to that document with the greater bound and damages. And what fact lines say for a
 greater bound, found ones and random ones, has to be so in each order that takes less: pairs, the longest path between any
-two moments, and the values of E lines at its prefixes. Where a beginning dominates another in use, below a bound, whatever
-completes the other below that has to complete it so too. Each fault is printed with its block. The same seed makes the same
-blocks.
+two moments, and the values of E lines at its prefixes. Where a beginning dominates another in use by such fact lines,
+whatever completes the other below the bound has to complete it so too. Each fault is printed with its block. The same seed
+makes the same blocks.
 """
 import argparse
 import collections
@@ -20,7 +20,7 @@ import re
 import sys
 
 import certificate
-from certificate import END, ORIGIN, Load, Pair, Problem
+from certificate import END, ORIGIN, Known, Load, Pair, Problem
 from compare_certificates import CONSTANTS, INSTRUCTIONS
 from find_facts import PROFILE, Finder, document, legal_orders
 
@@ -152,7 +152,7 @@ class Trial:
         yield from self.wrong_dominance(counts)
 
     def pairs(self):
-        """Some pairs of different beginnings with the same numbers, each with an order that has the second."""
+        """Some pairs of different beginnings with the same numbers, each with the orders that have the second."""
         alike, pairs = collections.defaultdict(dict), []
         for order in self.orders:
             for length in range(2, len(order)):
@@ -160,20 +160,24 @@ class Trial:
                 alike[frozenset(numbers_of(beginning))].setdefault(numbers_of(beginning), (beginning, []))[1].append(order)
         for beginnings in alike.values():
             pairs += [(node, *other) for (node, _), other in itertools.permutations(beginnings.values(), 2)]
-        chosen = self.any.sample(pairs, min(MOST_PAIRS, len(pairs)))
-        return [(node, prefix, self.any.choice(orders)) for node, prefix, orders in chosen]
+        return self.any.sample(pairs, min(MOST_PAIRS, len(pairs)))
+
+    def is_completed_below(self, bound, node, order):
+        """Whether what follows in an order follows a node of the numbers before it too, with a total below a bound."""
+        other = self.problem.beginning(numbers_of(node) + numbers_of(order[len(node) :]))
+        return other and self.problem.total(other) < bound
 
     def wrong_dominance(self, counts):
-        """Beginnings that dominate others in use, and are not completed below a bound by what completes those so."""
-        for node, prefix, order in self.pairs():
-            is_clamped, bound = self.problem.dominates(3, node, prefix), self.problem.total(order) + 1
-            is_in_use = self.problem.dominates_in_use(bound, node, prefix)
+        """Beginnings that dominate others in use, and are not completed below the bound by all that completes those so."""
+        known, blank = self.facts_for(self.problem.total(self.any.choice(self.orders)) + 1).known, Known(self.problem, 0)
+        for node, prefix, orders in self.pairs():
+            is_clamped, is_in_use = self.problem.dominates(3, node, prefix), known.dominates(node, prefix)
             counts.update({"pairs of beginnings": 1, "dominated clamped": is_clamped, "dominated in use": is_in_use})
-            other = self.problem.beginning(numbers_of(node) + numbers_of(order[len(node) :]))
-            if is_in_use and not (other and self.problem.total(other) < bound):
-                yield f"{numbers_of(node)} dominates a beginning of {numbers_of(order)} in use, for the bound {bound}"
-            if is_clamped and not self.problem.dominates_in_use(0, node, prefix):
-                yield f"{numbers_of(node)} dominates a beginning of {numbers_of(order)} clamped, and not in use"
+            below = [order for order in orders if is_in_use and self.problem.total(order) < known.bound]
+            if not all(self.is_completed_below(known.bound, node, order) for order in below):
+                yield f"{numbers_of(node)} dominates {numbers_of(prefix)} in use, for the bound {known.bound}"
+            if is_clamped and not blank.dominates(node, prefix):
+                yield f"{numbers_of(node)} dominates {numbers_of(prefix)} clamped, and not in use"
 
     def wrong_claims(self, lines, counts):
         """Yes to a document with a greater bound, and the time of an order that takes as long."""
