@@ -8,7 +8,7 @@ pub const RANKED_LIMIT: u32 = 0xff_ffff;
 pub const DEPTH_RANKS: u32 = 256;
 
 /// After how many splits of a search, and of each of its workers, a list schedule is offered again.
-pub const SCHEDULE_SPLITS: u32 = 128;
+pub const SCHEDULE_SPLITS: u32 = 256;
 
 /// The most splits of a piece in which any node of the ledger may be named.
-pub const DOMINATED_PIECE_LIMIT: u32 = 8;
+pub const DOMINATED_PIECE_LIMIT: u32 = 2;
