@@ -20,6 +20,8 @@ pub mod GoingTo
 pub mod UnitsNoLater
 pub mod TwoPrefixes
 pub mod DominanceTests
+pub mod InUseTests
+pub mod FoundNoLater
 pub mod DominatedLines
 pub mod TreeClaims
 pub mod LineNodes

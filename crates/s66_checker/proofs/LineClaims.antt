@@ -1,5 +1,5 @@
 -- A tree whose lines have no fault, after fact lines that are taken, shows the bound by them.
-use Rattle.std.proofs.Common.{ℕ, ◌≤◌, ◌≡◌, Bool, true, true≢false, cond, not, ◌&&◌, List, [], Option, None, Some, leb, refl, sym, ap, ◌∙◌, subst, map}
+use Rattle.std.proofs.Common.{ℕ, ◌≤◌, ◌≡◌, Bool, true, true≢false, cond, not, ◌&&◌, List, [], Option, None, Some, leb, arith, refl, sym, ap, ◌∙◌, subst, map}
 use Rattle.std.proofs.lemmas.Bool.{leb-true, not-false, not_from_false, and_parts}
 use Rattle.s66_model.specs.declared.rule.Rule.{Rule}
 use Rattle.s66_model.specs.declared.rule.Rule.TheVariants.{ClampedStanding}
@@ -12,17 +12,19 @@ use Rattle.s66_model.proofs.TreesHold.{tree-weaken, seen-holds}
 use Rattle.s66_moments.specs.declared.fact_line.FactLine.{FactLine}
 use Rattle.s66_moments.specs.Facts.{Fact}
 use Rattle.s66_moments.specs.FactLines.{facts_after}
+use Rattle.s66_moments.specs.Networks.{IsKnown}
 use Rattle.s66_moments.specs.Known.{Known, line_of, known_first, known_after, are_taken, next_value, is_turned}
 use Rattle.s66_moments.specs.LineTrees.{LineEnding, is_closed, LineEndingShows, ShowsByLines}
+use Rattle.s66_moments.proofs.InUse.{clamped-in_use}
 use Rattle.s66_moments.proofs.KnownLines.{IsSound, after-sound, next-too_late, turned-too_late}
 use Rattle.s66_cert.specs.Document.{Document}
 use Rattle.s66_checker.specs.declared.verdict.Reason.TheVariants as fault
-use Rattle.s66_checker.specs.Dominating.{is_beginning, is_same_set, dominates_by}
+use Rattle.s66_checker.specs.Dominating.{is_beginning, is_same_set, dominates_in_use}
 use Rattle.s66_checker.specs.Verdict.{problem_of, known_of, node_on, is_complete, is_name_at, name_of, at_line_fault, next_fault, turned_fault, line_fault}
 use Rattle.s66_checker.specs.TrueClaims.{line_ending, line_tree}
 use Rattle.s66_checker.proofs.Faultless.{passed, is_incomplete-Decides, leaf-shows}
 use Rattle.s66_checker.proofs.DominatedLines.{dominated-shows}
-use Rattle.s66_checker.proofs.DominanceTests.{clamped-Decides, document-digits}
+use Rattle.s66_checker.proofs.InUseTests.{in_use-shown}
 use Rattle.s66_checker.proofs.LineNodes.{closed-node, node-found}
 
 module _ (d : Document) (lines : List FactLine) (some : d.facts ≡ Some lines) (rule : d.rule ≡ ClampedStanding) (taken : are_taken (problem_of d) d.bound (known_first (problem_of d)) lines ≡ true) where
@@ -37,6 +39,9 @@ module _ (d : Document) (lines : List FactLine) (some : d.facts ≡ Some lines) 
 
   known-is : known_of d ≡ known_after (known_first b) lines
   known-is = rw some refl
+
+  known-facts : IsKnown b facts (known_of d).before
+  known-facts = subst (λ (k : Known). IsKnown b facts k.before) (sym known-is) sound.is_known
 
   abbrev Shows : List ℕ → LineEnding → Type 0
   Shows at ending = LineEndingShows ClampedStanding b d.bound facts [] (line_tree d) at ending
@@ -67,8 +72,9 @@ module _ (d : Document) (lines : List FactLine) (some : d.facts ≡ Some lines) 
 
   dominated-line : (at name : List ℕ) → IsBeginning b.block at → line_fault d at (AtTerminal (Dominated name)) ≡ None → Shows at (line_ending d (Dominated name))
   dominated-line at name begins h =
-      let (dominates, may) = (dominated-shows d at name begins).0 h in (
-        subst (λ (r : Rule). DominatesByRule r b name at) rule dominates,
+      let (dominates, may) = (dominated-shows d at name begins).0 h in
+      let clamped : DominatesByRule ClampedStanding b name at = subst (λ (r : Rule). DominatesByRule r b name at) rule dominates in (
+        (clamped.0, clamped-in_use b d.bound facts name at clamped.1),
         closed-node d name ∙ subst (λ (r : Rule). may_be_named r (node_named [] d.tree name) ≡ true) rule may,
       )
 
@@ -84,11 +90,12 @@ module _ (d : Document) (lines : List FactLine) (some : d.facts ≡ Some lines) 
     at_line-shows : (at : List ℕ) (line : ℕ) → IsBeginning b.block at → at_line_fault d at line ≡ None → Shows at (line_ending d (AtLine line))
     at_line-shows at line begins h =
         let named : Bool = is_name_at d at (node_on d line) in
-        let dominates : Bool = dominates_by ClampedStanding b (name_of (node_on d line)) at in
+        let name : List ℕ = name_of (node_on d line) in
+        let dominates : Bool = dominates_in_use b d.bound (known_of d) name at in
         let one = (passed (is_complete b at) (Some fault.Place) (cond (not named) (Some fault.Name) (cond (not dominates) (Some fault.Dominance) None)) None (λ h. (cc))).0 h in
         let two = (passed (not named) (Some fault.Name) (cond (not dominates) (Some fault.Dominance) None) None (λ h. (cc))).0 one.1 in
         let three = (passed (not dominates) (Some fault.Dominance) None None (λ h. (cc))).0 two.1 in (
-          ((is_incomplete-Decides b at begins).0 (not_from_false (is_complete b at) one.0), (clamped-Decides b (name_of (node_on d line)) at (document-digits d)).0 (not-false dominates three.0)),
+          ((is_incomplete-Decides b at begins).0 (not_from_false (is_complete b at) one.0), in_use-shown b d.bound (known_of d) name at facts known-facts (not-false dominates three.0)),
           node-shows at line (node_on d line) refl (not-false named two.0),
         )
 
@@ -101,7 +108,11 @@ module _ (d : Document) (lines : List FactLine) (some : d.facts ≡ Some lines) 
 
   pub shown-by_lines : TreeHolds b.block (λ at ending. IsBeginning b.block at × (line_fault d at (AtTerminal ending) ≡ None)) [] d.tree → ShowsByLines ClampedStanding b d.bound (map (line_of b) lines) [] (line_tree d)
   shown-by_lines holds = (
-    (after-sound b d.bound lines taken).0,
-    seen-holds (λ at. line_ending d) b.block Shows d.tree []
-        (tree-weaken b.block (λ at ending. IsBeginning b.block at × (line_fault d at (AtTerminal ending) ≡ None)) (λ at ending. Shows at (line_ending d ending)) (ending-line (λ at ending. IsBeginning b.block at × (line_fault d at (AtTerminal ending) ≡ None)) holds) d.tree [] holds),
+    d.bound,
+    omega arith,
+    (
+      (after-sound b d.bound lines taken).0,
+      seen-holds (λ at. line_ending d) b.block Shows d.tree []
+          (tree-weaken b.block (λ at ending. IsBeginning b.block at × (line_fault d at (AtTerminal ending) ≡ None)) (λ at ending. Shows at (line_ending d ending)) (ending-line (λ at ending. IsBeginning b.block at × (line_fault d at (AtTerminal ending) ≡ None)) holds) d.tree [] holds),
+    ),
   )

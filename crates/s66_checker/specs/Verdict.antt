@@ -19,7 +19,7 @@ use Rattle.s66_checker.specs.declared.verdict.Verdict.{Verdict}
 use Rattle.s66_checker.specs.declared.verdict.Verdict.TheVariants.{Yes, No}
 use Rattle.s66_checker.specs.declared.verdict.Reason.{Reason}
 use Rattle.s66_checker.specs.declared.verdict.Reason.TheVariants as fault
-use Rattle.s66_checker.specs.Dominating.{is_beginning, is_same_set, dominates_by}
+use Rattle.s66_checker.specs.Dominating.{is_beginning, is_same_set, dominates_by, dominates_in_use}
 
 -- ITS BLOCK, under its own profile
 
@@ -137,7 +137,7 @@ abbrev pub at_line_fault : Document → List ℕ → ℕ → Option Reason
 at_line_fault d at line =
     if is_complete (problem_of d) at then Some fault.Place
     else (if not (is_name_at d at (node_on d line)) then Some fault.Name
-    else (if not (dominates_by ClampedStanding (problem_of d) (name_of (node_on d line)) at) then Some fault.Dominance
+    else (if not (dominates_in_use (problem_of d) d.bound (known_of d) (name_of (node_on d line)) at) then Some fault.Dominance
     else None))
 
 -- FAULTS OF A LEAF BY FACTS, all that is known after the last fact line

@@ -4,13 +4,13 @@
 ghost use Rattle.std.specs.Prelude.{◌≡◌, ◌≤◌, reverse};
 ghost use Rattle.s66_model.specs.Dominance.{free_times};
 ghost use Rattle.s66_checker.specs.KeptPrefix.{AreTimed};
-ghost use Rattle.s66_checker.specs.Dominating.{are_places_no_later, are_units_no_later, is_no_later};
+ghost use Rattle.s66_checker.specs.Dominating.{are_places_no_later, are_units_no_later, is_no_later, are_results_no_later, are_operands_no_later, is_reader_no_later, are_readers_no_later, finds_no_later};
 
 use crate::falling::FallingTimes;
 use crate::past::Past;
 use crate::point::KeptPoint;
 use crate::timing::{next, next_parcel};
-use s66_isa::{KINDS, Kind, Profile, is_same_kind, kind_number};
+use s66_isa::{KINDS, Kind, Profile, Reg, Row, Write, is_same_kind, kind_number};
 
 /// When the units of a kind are free, the latest first: one look at each point.
 fn free_times(points: &[KeptPoint], kind: Kind) -> FallingTimes
@@ -97,4 +97,80 @@ pub fn is_no_later(own: &Past, other: &Past, profile: &Profile, readers: u32, ot
         return false;
     }
     first.load <= second.load.max(others)
+}
+
+/// Whether the last results in the registers of these writes are there no later than in another past, or than a time.
+fn are_results_no_later(own: &Past, other: &Past, writes: &[Write], issue: u32) -> bool
+    ensures { result ≡ are_results_no_later issue own.now other.now writes.now }
+{
+    for write in writes {
+        if own.done_of(write.reg) > other.done_of(write.reg).max(issue) {
+            return false;
+        }
+    }
+    true
+}
+
+/// Whether the last results in these registers are.
+fn are_operands_no_later(own: &Past, other: &Past, reads: &[Reg], start: u32) -> bool
+    ensures { result ≡ are_operands_no_later start own.now other.now reads.now }
+{
+    for register in reads {
+        if own.done_of(*register) > other.done_of(*register).max(start) {
+            return false;
+        }
+    }
+    true
+}
+
+/// Whether the readers of the register of a write have started no later than in another past, or than its result is there after a
+/// start.
+fn is_reader_no_later(own: &Past, other: &Past, write: &Write, start: u32) -> bool
+    ensures { result ≡ is_reader_no_later start own.now other.now write.now }
+{
+    let wait = own.readers_wait(write.reg);
+    wait <= other.readers_wait(write.reg) || wait.saturating_sub(write.latency) <= start
+}
+
+/// Whether those of all these writes have.
+fn are_readers_no_later(own: &Past, other: &Past, writes: &[Write], start: u32) -> bool
+    ensures { result ≡ are_readers_no_later start own.now other.now writes.now }
+{
+    for write in writes {
+        if !is_reader_no_later(own, other, write, start) {
+            return false;
+        }
+    }
+    true
+}
+
+/// Whether an instruction of this row that comes after both, with `copies` units of its kind, finds nothing that it waits for later
+/// in a past than in another one, or than it looks at that: it issues and starts no sooner than at these times.
+pub fn finds_no_later(
+    own: &Past,
+    other: &Past,
+    row: &Row,
+    copies: u32,
+    issue: u32,
+    start: u32,
+) -> bool
+    requires some { 1 ≤ copies }
+    requires own { AreTimed own.now }
+    requires other { AreTimed other.now }
+    ensures { result ≡ finds_no_later copies (reverse own.now) (reverse other.now) issue start row.now }
+{
+    let writes = row.writes.as_slice();
+    if !are_results_no_later(own, other, writes, issue) {
+        return false;
+    }
+    if !are_units_no_later(own, other, row.kind, copies, issue) {
+        return false;
+    }
+    if !are_operands_no_later(own, other, row.reads.as_slice(), start) {
+        return false;
+    }
+    if own.memory_wait(row.memory) > other.memory_wait(row.memory).max(start) {
+        return false;
+    }
+    are_readers_no_later(own, other, writes, start)
 }

@@ -10,6 +10,7 @@ ghost use Rattle.s66_cert.specs.DocumentParts.{document_of};
 ghost use Rattle.s66_checker.specs.KeptKnown.{KnowsAll};
 ghost use Rattle.s66_checker.specs.Verdict.{problem_of, is_complete, leaf_fault, dominated_fault, at_line_fault, next_fault, turned_fault};
 
+use crate::in_use::dominates_in_use;
 use crate::known::Known;
 use crate::leaf::{chain_value, load, parcels, ready};
 use crate::name::{is_name, is_name_at};
@@ -17,7 +18,6 @@ use crate::prefix::Prefix;
 use crate::verdict::Reason;
 use s66_cert::{Document, TreeLine};
 use s66_isa::Kind;
-use s66_model::Rule;
 
 impl Prefix {
     ghost use Rattle.std.specs.Prelude.{◌≡◌};
@@ -50,7 +50,7 @@ impl Prefix {
             TreeLine::Load(kind) => load_fault(self, bound, kind),
             TreeLine::Parcels => parcels_fault(self, bound),
             TreeLine::Dominated(name) => dominated_fault(self, named, document, name),
-            TreeLine::AtLine(line) => at_line_fault(self, named, document, line),
+            TreeLine::AtLine(line) => at_line_fault(self, named, document, known, line),
             TreeLine::Next(n) => next_fault(self, document, known, n),
             TreeLine::Turned(first, second) => turned_fault(self, document, known, first, second),
         }
@@ -163,10 +163,12 @@ fn at_line_fault(
     prefix: &Prefix,
     named: &mut Prefix,
     document: &Document,
+    known: &Known,
     line: u32,
 ) -> Option<Reason>
     requires problem { prefix.now.problem ≡ problem_of (document_of document.now) }
     requires same { named.old.problem ≡ prefix.now.problem }
+    requires known { KnowsAll (document_of document.now) known.now }
     ensures value { result ≡ at_line_fault (document_of document.now) prefix.now.numbers line }
     ensures same { named.new.problem ≡ named.old.problem }
 {
@@ -176,7 +178,7 @@ fn at_line_fault(
     if !is_name_at(prefix, named, document, line) {
         return Some(Reason::Name);
     }
-    if named.dominates(prefix, Rule::ClampedStanding) {
+    if dominates_in_use(named, prefix, known, document.bound()) {
         None
     } else {
         Some(Reason::Dominance)

@@ -165,11 +165,20 @@ impl Known {
         prefix.is_remaining(n) && self.is_late(prefix, bound, n)
     }
 
+    /// Whether m is known to stand before n.
+    pub(crate) fn is_before(&self, m: u8, n: u8) -> bool
+        requires first { (1 ≤ m) × (m ≤ length self.now.problem.block) }
+        requires second { (1 ≤ n) × (n ≤ length self.now.problem.block) }
+        ensures { result ≡ (known_in self.now).before m n }
+    {
+        self.facts.is_before(m, n)
+    }
+
     /// Whether a prefix has the second number and not the first, which is known to stand before it.
     pub(crate) fn is_turned(&self, prefix: &Prefix, first: u8, second: u8) -> bool
         requires { prefix.now.problem ≡ self.now.problem }
         ensures { result ≡ is_turned self.now.problem (known_in self.now) prefix.now.numbers first second }
     {
-        prefix.is_remaining(first) && prefix.has(second) && self.facts.is_before(first, second)
+        prefix.is_remaining(first) && prefix.has(second) && self.is_before(first, second)
     }
 }

@@ -2,10 +2,11 @@
 //! that no order beats, or the first fault.
 //!
 //! It goes through the order, then through the fact lines of a document of version 4, and then through the tree of the bound line
-//! by line. A fact line has to be shown by what is known before it; that of a load isn't taken yet. A split has to go on with all instructions that are ready
+//! by line. A fact line has to be shown by what is known before it. A split has to go on with all instructions that are ready
 //! there. A leaf has to have a value that reaches the bound, by one of the four rules of the model, or to name a node of the tree
 //! that dominates it. Such a node is an earlier one (version 2), or is no dominated leaf itself (versions 3 and 4), so that no two
-//! rest on one another. In version 4 a leaf may also be closed by what is known after all fact lines.
+//! rest on one another; in version 4 it has to dominate in use only, below the bound, by what is known after all fact lines. By that a
+//! leaf may also be closed without a node.
 //!
 //! It shares nothing with the search that made the certificate: no clock, no marks, no sets of dependences, no bounds, no ledger.
 //! So a mistake there, or in what is proved of it, doesn't come back here as a yes. It uses the table of instructions
@@ -15,10 +16,12 @@
 //! What each instruction depends on is tested pair by pair, and stored in a word (`needs`, `marks`). One prefix is pushed and
 //! popped along the tree (`prefix`, `walk`), with its points and what they leave for the next instruction (`past`, `words`,
 //! `timing`). Another goes to the nodes that are named (`name`). What both leave decides whether it dominates (`dominance`,
-//! `falling`), and what is known after the fact lines whether a leaf is right by facts (`known`).
+//! `falling`, `in_use`), and what is known after the fact lines whether a leaf is right by facts (`known`).
 //!
 //! A block takes time for each of its pairs once. A line of the tree takes a time linear in the block's length, on the average
-//! over all lines, whatever the profile. A node that is named is found by a jump for each earlier sibling on the way.
+//! over all lines, whatever the profile. A node that is named is found by a jump for each earlier sibling on the way. A leaf that
+//! names a line takes a look at each number that remains, and for those that find something later as if they came next, at each
+//! other number.
 #![tactic(auto)]
 
 mod check;
@@ -26,6 +29,7 @@ mod dominance;
 mod examples;
 mod falling;
 mod fault;
+mod in_use;
 mod known;
 mod laws;
 mod leaf;

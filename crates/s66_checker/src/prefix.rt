@@ -138,6 +138,7 @@ impl Prefix {
     pub(crate) fn points(&self) -> &[KeptPoint]
         ensures value { reverse result.now ≡ points_of self.now.problem self.now.numbers }
         ensures timed { AreTimed result.now }
+        ensures begins { IsBeginning self.now.problem.block self.now.numbers }
     {
         self.past.points()
     }
