@@ -1,13 +1,15 @@
 -- Used by examples alone: worked documents with a part changed.
 use Rattle.std.specs.Prelude.{ℕ, List, [], ◌∷◌, Some, None, codes}
+use Rattle.s66_isa.specs.declared.instr.Instr.{Instr}
+use Rattle.s66_isa.specs.declared.instr.Kind.TheVariants.{Boolean}
 use Rattle.s66_isa.specs.Profiles.{profile_of}
 use Rattle.s66_isa.specs.Table.{instr}
 use Rattle.s66_model.specs.Timing.{Problem}
 use Rattle.s66_model.specs.declared.rule.Rule.{Rule}
 use Rattle.s66_model.specs.declared.rule.Rule.TheVariants.{ClampedStanding}
-use Rattle.s66_model.specs.Leaves.{Leaf, Whole, Chain, Parcels}
+use Rattle.s66_model.specs.Leaves.{Leaf, Whole, Chain, Load, Parcels}
 use Rattle.s66_model.specs.Tree.{Tree, Alone, Parted, Siblings, NoMore, Unsplit, Split}
-use Rattle.s66_model.specs.DominatedLeaves.{Ending, Bounding, Dominated, Next, Turned}
+use Rattle.s66_model.specs.DominatedLeaves.{Ending, Bounding, Dominated, Next, Turned, AtLine}
 use Rattle.s66_model.specs.Examples.{late_reader_tree, increments_tree, increments_load}
 use Rattle.s66_moments.specs.declared.moment.Stage.TheVariants.{Issue}
 use Rattle.s66_moments.specs.declared.moment.Moment.TheVariants.{At, End}
@@ -172,3 +174,25 @@ booleans_between after wait =
 abbrev pub increments_named : Ending → Ending → Document
 increments_named first second =
     with_facts (codes "SB0 B1" ∷ codes "SB0 B1" ∷ codes "SB0 B1" ∷ []) (1 ∷ 2 ∷ 3 ∷ []) 8 7 [] (increments_tree first second)
+
+-- NAMED BY ITS LINE, and dominating in use alone: 2 1, on line 15, for 1 2, on line 12
+
+-- of this block, by an order that takes this time
+abbrev pub named_in_use : List (List ℕ) → List ℕ → ℕ → Document
+named_in_use block numbers time =
+    with_facts block numbers time time []
+    (Parted (1 ∷ 2 ∷ [])
+    (Split (2 ∷ 3 ∷ []) (Unsplit (AtLine 15) (Unsplit (Bounding (Load Boolean)) NoMore))
+    (Split (1 ∷ []) (Unsplit (Bounding (Load Boolean)) NoMore) NoMore)))
+
+-- the third waits for the only Boolean unit, and by then X1 is there in either order
+abbrev pub waits_for_the_unit : Document
+waits_for_the_unit = named_in_use (codes "BX1 X2" ∷ codes "BX3 X4" ∷ codes "BX5 X1" ∷ []) (1 ∷ 2 ∷ 3 ∷ []) 12
+
+-- the third waits for X1, which is there later after 2 1
+abbrev pub waits_for_x1 : Document
+waits_for_x1 = named_in_use (codes "BX1 X2" ∷ codes "BX3 X4" ∷ codes "IX5 X1+X6" ∷ []) (1 ∷ 3 ∷ 2 ∷ []) 8
+
+-- BX1 X2 / BX3 X4 / IX5 X1+X6 / SX7 B1+5: the third needn't wait for the parcels of the fourth, if nothing says so
+abbrev pub two_parcels_beside : List Instr
+two_parcels_beside = instr 0o10 1 2 0 ∷ instr 0o10 3 4 0 ∷ instr 0o36 5 1 6 ∷ instr 0o71 7 1 5 ∷ []

@@ -9,13 +9,15 @@ ghost use Rattle.s66_model.specs.Leaves.{Whole, Chain, Load, Parcels};
 ghost use Rattle.s66_model.specs.Tree.{Alone, Parted, NoMore, Unsplit, Split};
 ghost use Rattle.s66_model.specs.DominatedLeaves.{Bounding, Dominated, Next, Turned, AtLine};
 ghost use Rattle.s66_moments.specs.declared.fact_line.FactLine.TheVariants.{Pair};
+ghost use Rattle.s66_moments.specs.Examples as in_use;
+ghost use Rattle.s66_moments.specs.Examples.{known_of};
 ghost use Rattle.s66_cert.specs.Examples as examples;
 ghost use Rattle.s66_cert.specs.Examples.{after_one, with_times, with_order, with_chain, with_tree, with_name};
 ghost use Rattle.s66_checker.specs.declared.verdict.Verdict.TheVariants.{Yes, No};
 ghost use Rattle.s66_checker.specs.declared.verdict.Reason.TheVariants as fault;
 ghost use Rattle.s66_checker.specs.Verdict.{verdict};
-ghost use Rattle.s66_checker.specs.Dominating.{dominates_by};
-ghost use Rattle.s66_checker.specs.Examples.{refused_order, slow_one_load, multiplies_at_once, load_and_multiplies, multiplies_split, second_line, third_line, last_leaf, late_naming, late_order, late_misplaced, increments, four_increments, three_sums, two_sums, first_of_two, after_pair, at_the_end, booleans_between, increments_named};
+ghost use Rattle.s66_checker.specs.Dominating.{dominates_by, dominates_in_use};
+ghost use Rattle.s66_checker.specs.Examples.{refused_order, slow_one_load, multiplies_at_once, load_and_multiplies, multiplies_split, second_line, third_line, last_leaf, late_naming, late_order, late_misplaced, increments, four_increments, three_sums, two_sums, first_of_two, after_pair, at_the_end, booleans_between, increments_named, waits_for_the_unit, waits_for_x1, two_parcels_beside};
 
 /// Verdicts on the worked documents: a leaf of each kind, and whole orders alone.
 pub fn verdict_examples()
@@ -142,6 +144,19 @@ pub fn line_name_examples()
     ensures each_by_the_other { verdict (increments_named (AtLine 15) (AtLine 12)) ≡ No 12 fault.Name }
     ensures no_line_of_the_tree { verdict (increments_named (AtLine 9) increments_load) ≡ No 12 fault.Name }
     ensures no_line { verdict (increments_named (AtLine 18) increments_load) ≡ No 12 fault.Name }
+    ensures in_use_alone { verdict waits_for_the_unit ≡ Yes 12 12 }
+    ensures not_in_use { verdict waits_for_x1 ≡ No 12 fault.Dominance }
+{}
+
+/// Which beginnings dominate which in use, by the test.
+pub fn in_use_examples()
+    ensures after_the_unit { dominates_in_use (standard_problem in_use.waits_for_the_unit) 0 (known_of in_use.waits_for_the_unit []) (2 ∷ 1 ∷ []) (1 ∷ 2 ∷ []) ≡ true }
+    ensures at_once { dominates_in_use (standard_problem in_use.waits_for_x1) 0 (known_of in_use.waits_for_x1 []) (2 ∷ 1 ∷ []) (1 ∷ 2 ∷ []) ≡ false }
+    ensures after_two_parcels { dominates_in_use (standard_problem in_use.waits_for_two_parcels) 0 (known_of in_use.waits_for_two_parcels []) (2 ∷ 1 ∷ []) (1 ∷ 2 ∷ []) ≡ true }
+    ensures after_two_parcels_by_a_pair { dominates_in_use (standard_problem two_parcels_beside) 0 (known_of two_parcels_beside (Pair 4 3 ∷ [])) (2 ∷ 1 ∷ []) (1 ∷ 2 ∷ []) ≡ true }
+    ensures without_the_pair { dominates_in_use (standard_problem two_parcels_beside) 0 (known_of two_parcels_beside []) (2 ∷ 1 ∷ []) (1 ∷ 2 ∷ []) ≡ false }
+    ensures below_the_time { dominates_in_use (standard_problem in_use.product_and_booleans) 13 (known_of in_use.product_and_booleans []) (1 ∷ 2 ∷ []) (2 ∷ 1 ∷ []) ≡ true }
+    ensures not_below_the_time { dominates_in_use (standard_problem in_use.product_and_booleans) 12 (known_of in_use.product_and_booleans []) (1 ∷ 2 ∷ []) (2 ∷ 1 ∷ []) ≡ false }
 {}
 
 /// Which beginnings dominate which, by the tests.

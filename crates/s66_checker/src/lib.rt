@@ -49,7 +49,8 @@ mod words;
 pub use check::verify;
 pub use examples::{
     dominated_examples, dominating_examples, fact_examples, fact_leaf_examples, fault_examples,
-    leaf_examples, line_name_examples, profile_examples, split_examples, verdict_examples,
+    in_use_examples, leaf_examples, line_name_examples, profile_examples, split_examples,
+    verdict_examples,
 };
 pub use laws::{dominating_law, yes_law};
 pub use verdict::{Reason, Verdict};
