@@ -2,12 +2,16 @@
 //! the fastest one that it met.
 #![tactic(auto)]
 
+mod allowed;
 mod kept;
 mod known;
+mod lookers;
 mod nodes;
 mod open;
+mod remaining;
 mod search;
 mod trail;
+mod waits;
 mod writer;
 
 pub use search::{Branched, Limits, branch};

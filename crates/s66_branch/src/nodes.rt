@@ -18,8 +18,8 @@ pub enum Fate {
     Closed,
     /// This number is known to stand before the last one and doesn't.
     Turned(u8),
-    /// The prefix of the node at this index dominates it.
-    Dominated(u32),
+    /// The prefix of another node dominates it; its own floor is this, in minor cycles.
+    Dominated { other: u32, floor: u16 },
 }
 
 /// A prefix that a search has met: that of its parent, and one number more.
@@ -30,6 +30,8 @@ pub struct Node {
     pub number: u8,
     /// How many numbers it has.
     pub depth: u8,
+    /// The place in its word of the next parcel.
+    pub place: u8,
     pub fate: Fate,
 }
 
@@ -47,6 +49,7 @@ impl Nodes {
             parent: ROOT,
             number: 0,
             depth: 0,
+            place: 0,
             fate: Fate::Open,
         })?;
         Ok(Nodes { nodes })
@@ -78,24 +81,29 @@ impl Nodes {
     /// Whether another node dominates one.
     pub fn is_dominated(&self, index: u32) -> bool {
         match self.at(index) {
-            Some(node) => matches!(node.fate, Fate::Dominated(_)),
+            Some(node) => matches!(node.fate, Fate::Dominated { .. }),
             None => false,
         }
     }
 
-    /// The node that dominates this one and is dominated by none, in as many steps as there are between the two; this one if none
-    /// dominates it.
-    pub fn dominator(&self, index: u32) -> u32 {
+    /// The node that dominates this one, if one does and this one's floor doesn't show `low`.
+    fn leans_on(&self, index: u32, low: u32) -> Option<u32> {
+        match self.at(index)?.fate {
+            Fate::Dominated { other, floor } if u32::from(floor) < low => Some(other),
+            _ => None,
+        }
+    }
+
+    /// The end of the chain of nodes that lean on one another, from this one on, where each leaf has to show `low`.
+    ///
+    /// It dominates each of them. For after a prefix that dominates another, what remains looks no later, so that what is no later than the
+    /// words and the looks of the former is no later than those of the latter. And a total up to a floor below `low` makes no difference.
+    pub fn dominator(&self, index: u32, low: u32) -> u32 {
         let mut last = index;
         for _ in 0..self.nodes.len() {
-            match self.at(last) {
-                Some(
-                    Node {
-                        fate: Fate::Dominated(other),
-                        ..
-                    },
-                ) => last = other,
-                _ => return last,
+            match self.leans_on(last, low) {
+                Some(other) => last = other,
+                None => return last,
             }
         }
         last

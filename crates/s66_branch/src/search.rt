@@ -4,13 +4,14 @@ ghost use Rattle.s66_model.specs.LegalOrder.{IsComplete};
 ghost use Rattle.s66_model.specs.Timing.{total_of};
 ghost use Rattle.s66_branch.specs.Branching.{IsNoSlower};
 
-use crate::kept::{Kept, Sought};
-use crate::known::known_before_each;
+use crate::kept::{Kept, Key, Sought};
+use crate::known::Known;
 use crate::nodes::{Fate, Node, Nodes, ROOT};
 use crate::open::{Next, Open};
+use crate::remaining::Remaining;
 use crate::trail::Trail;
+use crate::waits::{Waits, word};
 use crate::writer::written;
-use s66_dep::Set;
 use s66_facts::Facts;
 use s66_isa::{BLOCK_LIMIT, Profile};
 use s66_line::Block;
@@ -60,8 +61,7 @@ enum Found {
 #[derive(Debug, Drop)]
 struct Search<'a> {
     trail: Trail<'a>,
-    /// Of each number those that are known to stand before it; of n at place n - 1.
-    before: [Set; BLOCK_LIMIT],
+    known: Known,
     nodes: Nodes,
     open: Open,
     kept: Kept,
@@ -102,26 +102,41 @@ impl<'a> Search<'a> {
     ghost use Rattle.s66_isa.specs.declared.limits.TheConstants.{BLOCK_LIMIT};
     ghost use Rattle.s66_branch.specs.Branching.{IsNoSlower};
 
-    /// The prefix at which the trail is, as that of a node.
-    fn sought(&self, node: u32) -> Sought {
+    /// The prefix at which the trail is, as that of a node: the place in its word of its next parcel, and its floor.
+    fn sought(&self, node: u32, place: u8, floor: u32) -> Sought {
+        let clock = self.trail.prefix.clock();
         Sought {
-            node,
-            pushed: self.trail.prefix.pushed(),
-            mark: self.trail.prefix.mark(),
+            key: Key {
+                pushed: clock.pushed(),
+                node,
+                slot: clock.next(),
+                place,
+                total: clock.total(),
+            },
+            floor,
+            waits: Waits::of(clock),
         }
+    }
+
+    /// What becomes of the prefix at which the trail is, if another one that is kept dominates it.
+    fn dominated(&self, sought: &Sought) -> Option<Fate> {
+        let remaining = Remaining::new(&self.known, self.trail.prefix.clock());
+        let other = self.kept.find(&self.nodes, &remaining, sought)?;
+        Some(Fate::Dominated {
+            other,
+            floor: word(sought.floor),
+        })
     }
 
     /// The first number that is known to stand before n and isn't in the prefix.
     fn missing_before(&self, n: u8) -> Option<u8> {
-        if n == 0 || n as usize > BLOCK_LIMIT {
-            return None;
-        }
-        let mut missing = self.before[n as usize - 1].without(&self.trail.prefix.pushed());
+        let mut missing = self.known.before(n).without(&self.trail.prefix.pushed());
         missing.pop_first()
     }
 
-    /// Finds what the prefix of a new node is, and keeps it if it is open. A whole order that is faster is the best from then on.
-    fn look(&mut self, node: u32) -> Result<Found, AllocError>
+    /// Finds what the prefix of a new node is, whose next parcel has this place in its word, and keeps it if it is open. A whole order that
+    /// is faster is the best from then on.
+    fn look(&mut self, node: u32, place: u8) -> Result<Found, AllocError>
         ensures { IsNoSlower self.old self.new }
     {
         if self.trail.prefix.is_complete() {
@@ -133,16 +148,17 @@ impl<'a> Search<'a> {
         if self.low <= floor {
             return Ok(Found::Is(Fate::Closed));
         }
-        let sought = self.sought(node);
-        if let Some(other) = self.kept.find(&self.nodes, &sought) {
-            return Ok(Found::Is(Fate::Dominated(other)));
+        let sought = self.sought(node, place, floor);
+        if let Some(fate) = self.dominated(&sought) {
+            return Ok(Found::Is(fate));
         }
-        self.kept.keep(&sought)?;
+        self.kept.keep(&sought, self.trail.prefix.clock())?;
         Ok(Found::IsOpen(floor))
     }
 
-    /// Adds the child of a node with a number that is ready, to which the trail goes and back, and returns whether it could.
-    fn add_child(&mut self, parent: u32, n: u8) -> Result<bool, AllocError>
+    /// Adds the child of a node with a number that is ready, to which the trail goes and back, and returns whether it could. The place is
+    /// that of the child's next parcel in its word.
+    fn add_child(&mut self, parent: u32, place: u8, n: u8) -> Result<bool, AllocError>
         ensures { IsNoSlower self.old self.new }
     {
         let index = self.nodes.len();
@@ -154,7 +170,7 @@ impl<'a> Search<'a> {
         let depth = self.trail.prefix.len() as u8;
         let found = match missing {
             Some(other) => Found::Is(Fate::Turned(other)),
-            None => self.look(index)?,
+            None => self.look(index, place)?,
         };
         self.trail.prefix.undo();
         let fate = match found {
@@ -168,19 +184,21 @@ impl<'a> Search<'a> {
             parent,
             number: n,
             depth,
+            place,
             fate,
         })?;
         Ok(true)
     }
 
-    /// Adds the children of a node, at which the trail is, and returns whether it could.
-    fn split(&mut self, node: u32) -> Result<bool, AllocError>
+    /// Adds the children of a node, at which the trail is, and returns whether it could. Its next parcel has this place in its word.
+    fn split(&mut self, node: u32, place: u8) -> Result<bool, AllocError>
         ensures { IsNoSlower self.old self.new }
     {
         let first = self.nodes.len();
         let ready = self.trail.prefix.ready().numbers();
         for n in ready.as_slice() {
-            if !self.add_child(node, *n)? {
+            let after = self.known.place_after(place, *n);
+            if !self.add_child(node, after, *n)? {
                 return Ok(false);
             }
         }
@@ -194,14 +212,18 @@ impl<'a> Search<'a> {
     fn take(&mut self, next: &Next) -> Result<bool, AllocError>
         ensures { IsNoSlower self.old self.new }
     {
+        let Some(own) = self.nodes.at(next.node) else {
+            return Ok(false);
+        };
         if !self.trail.go_to(&self.nodes, next.node) {
             return Ok(false);
         }
-        if let Some(other) = self.kept.find(&self.nodes, &self.sought(next.node)) {
-            self.nodes.set_fate(next.node, Fate::Dominated(other));
+        let sought = self.sought(next.node, own.place, next.floor);
+        if let Some(fate) = self.dominated(&sought) {
+            self.nodes.set_fate(next.node, fate);
             return Ok(true);
         }
-        self.split(next.node)
+        self.split(next.node, own.place)
     }
 
     /// Goes on until no open node's floor is so low that a faster order may begin so, or all splits are made. What each order takes at
@@ -230,7 +252,7 @@ impl<'a> Search<'a> {
     fn open_root(&mut self) -> Result<(), AllocError>
         ensures { IsNoSlower self.old self.new }
     {
-        if let Found::IsOpen(floor) = self.look(ROOT)? {
+        if let Found::IsOpen(floor) = self.look(ROOT, 0)? {
             self.open.push(ROOT, 0, floor)?;
         }
         Ok(())
@@ -242,8 +264,9 @@ impl<'a> Search<'a> {
 /// orders below the limit, and so are the tails: what follows the stages of number n, at place n - 1, in minor cycles. What was found
 /// for a greater time stays so when a faster order is met.
 ///
-/// A child of a split costs a push, an undo, a few looks for each word of its clock that is late, and at most 64 comparisons of marks;
-/// to write it, a push and an undo once more, and if it is closed by a path a look at each number that remains.
+/// A child of a split costs a push, an undo, a few looks for each word of its clock that is late, and at most 64 comparisons with others
+/// of the same numbers; for each word that is later in one of them, once a look at each instruction that remains and waits for it. To
+/// write it costs a push and an undo once more, and if it is closed by a path a look at each number that remains.
 ///
 /// # Errors
 ///
@@ -263,10 +286,10 @@ pub fn branch(
 {
     let mut search = Search {
         trail: Trail::new(Prefix::new(block, profile, tails)),
-        before: known_before_each(facts),
+        known: Known::new(block, profile, facts),
         nodes: Nodes::new(alloc)?,
         open: Open::new(alloc),
-        kept: Kept::new(alloc),
+        kept: Kept::new(alloc, profile),
         splits: 0,
         most: limits.splits,
         low: limits.below.min(best.total()),

@@ -109,9 +109,9 @@ struct Writer<'n> {
 }
 
 impl Writer<'_> {
-    /// The number of the line of the node that dominates another.
+    /// The number of the line of the node that dominates another, and leans on none.
     fn line_of(&self, node: u32) -> u32 {
-        let dominator = self.nodes.dominator(node);
+        let dominator = self.nodes.dominator(node, self.low);
         self.lines.get(dominator as usize).copied().unwrap_or(0)
     }
 
@@ -127,11 +127,11 @@ impl Writer<'_> {
             Fate::Turned(missing) => {
                 self.tree.push(TreeLine::Turned(missing, node.number))?;
             }
-            Fate::Dominated(_) => {
+            Fate::Dominated { floor, .. } if u32::from(floor) < self.low => {
                 let line = self.line_of(index);
                 self.tree.push(TreeLine::AtLine(line))?;
             }
-            Fate::Open | Fate::Closed => {
+            Fate::Open | Fate::Closed | Fate::Dominated { .. } => {
                 if !trail.go_to(self.nodes, index) {
                     return Ok(false);
                 }
