@@ -1,8 +1,5 @@
 //! Which instructions look at which word of a clock.
 
-ghost use Rattle.std.specs.Prelude.{◌≤◌, length};
-ghost use Rattle.s66_isa.specs.declared.limits.TheConstants.{BLOCK_LIMIT};
-
 use s66_dep::Set;
 use s66_isa::{KIND_COUNT, Memory, REGISTER_COUNT, Row, kind_number};
 

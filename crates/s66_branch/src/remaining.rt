@@ -1,9 +1,5 @@
 //! How soon the instructions that remain after a prefix can look at what it leaves them.
 
-ghost use Rattle.std.specs.Prelude.{◌<◌};
-ghost use Rattle.s66_isa.specs.declared.reg.TheConstants.{REGISTER_COUNT};
-ghost use Rattle.s66_branch.specs.declared.waits.TheConstants.{WORD_COUNT};
-
 use crate::known::Known;
 use crate::waits::{READERS_AT, REFERENCES_AT, STORES_AT, UNITS_AT};
 use s66_dep::Set;
