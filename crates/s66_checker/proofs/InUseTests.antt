@@ -1,5 +1,5 @@
 -- Where the test of dominance in use says yes there is such dominance, if what is known is. It does so of all that dominates clamped.
-use Rattle.std.proofs.Common.{ℕ, ◌+◌, ◌≤◌, ◌<◌, ◌≡◌, ◌⊎◌, ◌==◌, Bool, true, max, List, [], get_or, arith, inr, leb, ltb, Decides}
+use Rattle.std.proofs.Common.{ℕ, ◌+◌, ◌≤◌, ◌<◌, ◌≡◌, ◌⊎◌, ◌==◌, Bool, true, max, List, [], get_or, arith, inr, leb, ltb, Decides, refl, None, false}
 use Rattle.std.proofs.lemmas.Bool.{le-leb, leb-true, eqb-true, eq-eqb}
 use Rattle.std.proofs.lemmas.Bool.Decides.{Decides-like, Decides-and, Decides-or, Decides-ltb}
 use Rattle.s66_isa.specs.declared.instr.Instr.{Instr}
@@ -7,6 +7,7 @@ use Rattle.s66_isa.specs.declared.reg.Reg.{Reg}
 use Rattle.s66_isa.specs.Lists.{every, Among}
 use Rattle.s66_isa.specs.Table.{Row, Write}
 use Rattle.s66_isa.proofs.Lists.{every-each, each-every}
+use Rattle.s66_model.specs.declared.rule.Rule.TheVariants.{ClampedStanding}
 use Rattle.s66_model.specs.Timing.{Problem, Point, row_at, copies, next, done_of, memory_wait, readers_wait, point_of, points_of, total_of}
 use Rattle.s66_model.specs.LegalOrder.{IsBeginning, is_remaining, remaining}
 use Rattle.s66_model.specs.Dominance.{place_in_word, free_times, IsSameSet, DominatesClamped}
@@ -18,7 +19,10 @@ use Rattle.s66_moments.specs.InUse.{FindsNoLater, DominatesInUse}
 use Rattle.s66_moments.specs.Known.{Known, issue_at_least, start_at_least}
 use Rattle.s66_moments.proofs.InUse.{finds-later, clamped-finds}
 use Rattle.s66_moments.proofs.Turns.{turn-comes}
-use Rattle.s66_checker.specs.Dominating.{is_beginning, is_same_set, finds_no_later, number_finds_no_later, dominates_in_use}
+use Rattle.s66_cert.specs.Document.{Document}
+use Rattle.s66_checker.specs.Verdict.{problem_of, known_of, node_on, is_complete, is_name_at, name_of, at_line_fault}
+use Rattle.s66_checker.proofs.DominanceTests.{clamped-Decides, document-digits}
+use Rattle.s66_checker.specs.Dominating.{dominates_by, is_beginning, is_same_set, finds_no_later, number_finds_no_later, dominates_in_use}
 use Rattle.s66_checker.proofs.Faultless.{goes_on-Decides}
 use Rattle.s66_checker.proofs.NoLater.{le-Decides, places-Decides}
 use Rattle.s66_checker.proofs.AheadOf.{same_set-Decides}
@@ -116,3 +120,10 @@ module _ (b : Problem) (low : ℕ) (known : Known) (name at : List ℕ) where
             let start = start_at_least b known at n in
             (finds-Decides b named here issue start n).1 (finds-later b named here t.issue t.start issue start n (omega arith) (omega arith) (clamped-finds b named here n h.no_later))),
       )
+
+-- a leaf that names a node which dominates clamped has no fault
+pub clamped-fine : (d : Document) (at : List ℕ) (line : ℕ) → is_complete (problem_of d) at ≡ false → is_name_at d at (node_on d line) ≡ true → dominates_by ClampedStanding (problem_of d) (name_of (node_on d line)) at ≡ true → None ≡ at_line_fault d at line
+clamped-fine d at line incomplete named clamped =
+    let name : List ℕ = name_of (node_on d line) in
+    let in_use : dominates_in_use (problem_of d) d.bound (known_of d) name at ≡ true = clamped-in_use (problem_of d) d.bound (known_of d) name at ((clamped-Decides (problem_of d) name at (document-digits d)).0 clamped) in
+    rw (incomplete, named, in_use) refl

@@ -18,6 +18,7 @@ use crate::prefix::Prefix;
 use crate::verdict::Reason;
 use s66_cert::{Document, TreeLine};
 use s66_isa::Kind;
+use s66_model::Rule;
 
 impl Prefix {
     ghost use Rattle.std.specs.Prelude.{◌≡◌};
@@ -177,6 +178,10 @@ fn at_line_fault(
     }
     if !is_name_at(prefix, named, document, line) {
         return Some(Reason::Name);
+    }
+    // this is enough, and takes some looks only
+    if named.dominates(prefix, Rule::ClampedStanding) {
+        return None;
     }
     if dominates_in_use(named, prefix, known, document.bound()) {
         None

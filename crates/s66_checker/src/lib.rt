@@ -20,8 +20,8 @@
 //!
 //! A block takes time for each of its pairs once. A line of the tree takes a time linear in the block's length, on the average
 //! over all lines, whatever the profile. A node that is named is found by a jump for each earlier sibling on the way. A leaf that
-//! names a line takes a look at each number that remains, and for those that find something later as if they came next, at each
-//! other number.
+//! names a line of a node that doesn't dominate clamped takes a look at each number that remains, and for those that find something
+//! later as if they came next, at each other number.
 #![tactic(auto)]
 
 mod check;
