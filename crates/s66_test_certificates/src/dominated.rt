@@ -140,7 +140,14 @@ fn leaves_out_what_is_dominated(rt: HostRuntime) -> Result<(), Fail> {
     let second = altered(&rt, THREE_DOMINATED, "CERTIFICATE 3", "CERTIFICATE 2")?;
     check_left_out(&rt, 1, Rule::WrittenEarlier, second.as_str());
     check_left_out(&rt, 16, Rule::WrittenEarlier, second.as_str());
-    check_left_out(&rt, 1, Rule::ClampedStanding, THREE_DOMINATED);
-    check_left_out(&rt, 16, Rule::ClampedStanding, THREE_DOMINATED);
+    // 2 3 and 3 2 dominate one another; where any node may be named, the later one is split
+    let standing = altered(
+        &rt,
+        THREE_DOMINATED,
+        "S 1\nT\nS 1 2\nD 1 3\nD 2 3\n",
+        "D 3 2\nS 1 2\nD 1 3\nS 1\nT\n",
+    )?;
+    check_left_out(&rt, 1, Rule::ClampedStanding, standing.as_str());
+    check_left_out(&rt, 16, Rule::ClampedStanding, standing.as_str());
     Ok(())
 }
