@@ -46,7 +46,7 @@ may_be_named NoneNamed vertex = false
 may_be_named WrittenEarlier vertex = is_node vertex
 may_be_named ClampedStanding vertex = is_closed vertex
 
--- the name dominates an incomplete prefix, as the rule asks; a standing node does so in use, which is less than clamped
+-- the name dominates an incomplete prefix, as the rule asks; for a standing node it is enough to do so in use, which asks less than clamped
 abbrev pub DominatesBelow : Rule → Problem → ℕ → List Fact → List ℕ → List ℕ → Type 0
 DominatesBelow NoneNamed b low known name at = DominatesByRule NoneNamed b name at
 DominatesBelow WrittenEarlier b low known name at = DominatesByRule WrittenEarlier b name at
@@ -60,10 +60,11 @@ LineEndingShows rule b low known prefix tree at (AtLines lines) = IsClosedByLine
 LineEndingShows rule b low known prefix tree at (DominatedBy name) =
     DominatesBelow rule b low known name at × (may_be_named rule (node_named prefix tree name) ≡ true)
 
+-- the lines are founded, and each unsplit prefix shows this very time
 abbrev pub AllShow : Rule → Problem → ℕ → List Line → List ℕ → Tree LineEnding → Type 0
 AllShow rule b low lines prefix tree =
     AreFounded b low [] lines × TreeHolds b.block (LineEndingShows rule b low (facts_after [] lines) prefix tree) prefix tree
 
--- all of it shows low, or one time above it: a node may dominate in use below that time alone
+-- a tree that shows a time of low or more shows low; in use, a node may dominate below that time and not below low
 abbrev pub ShowsByLines : Rule → Problem → ℕ → List Line → List ℕ → Tree LineEnding → Type 0
 ShowsByLines rule b low lines prefix tree = (time : ℕ) × (low ≤ time) × AllShow rule b time lines prefix tree
