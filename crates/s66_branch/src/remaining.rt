@@ -42,7 +42,7 @@ impl<'s, 'a> Remaining<'s, 'a> {
     /// The soonest issue of n by its turn: what remains and is known to stand before it issues first, a parcel in a minor cycle.
     fn turn(&self, n: u8) -> u32 {
         let before = self.known.before(n).both(&self.numbers);
-        // so it is of many, and to count takes longer
+        // nothing has to come before most numbers, and counting takes longer than this look
         if before == Set::empty() {
             return self.clock.next();
         }
