@@ -8,7 +8,7 @@ use Rattle.s66_model.specs.LegalOrder.{IsLegal, Completes, IsBeginning, IsOrder}
 use Rattle.s66_model.specs.Leaves.{Leaf}
 use Rattle.s66_model.specs.Tree.{Siblings, NoMore, Unsplit, Split, Tree, Alone, Parted, Vertex, AtTerminal, AtSplit, SiblingsHold, TreeHolds, LeafShows, Shows}
 use Rattle.s66_model.specs.Dominance.{IsNoWorse, clamp_at}
-use Rattle.s66_model.specs.DominatedLeaves.{Ending, Bounding, Dominated, Next, Turned, AtLine, IsEarlier, may_be_named, DominatesByRule, EndingShows, ShowsBy, siblings_bounding, tree_bounding}
+use Rattle.s66_model.specs.DominatedLeaves.{Ending, Bounding, Dominated, Next, Turned, AtLine, LoadFrom, IsEarlier, may_be_named, DominatesByRule, EndingShows, ShowsBy, siblings_bounding, tree_bounding}
 use Rattle.s66_model.specs.NodeNames.{node_named, is_node}
 use Rattle.s66_model.proofs.LegalOrders.{GoesOn-join, order-legal, legal-order}
 use Rattle.s66_model.proofs.Remaining.{legal-parts}
@@ -133,6 +133,7 @@ bounds (Dominated name) = false
 bounds (Next number) = true
 bounds (Turned first second) = true
 bounds (AtLine line) = false
+bounds (LoadFrom after numbers) = true
 
 leaf-shuts : (b : Problem) (low : ℕ) (at : List ℕ) (leaf : Leaf) → LeafShows b low at leaf → IsShut b low at
 leaf-shuts b low at leaf h rest begins whole = omega (arith, leaf-sound b at rest leaf begins whole h.0, h.1)
@@ -147,6 +148,7 @@ may-name ClampedStanding (Some (AtTerminal (Dominated name))) = refl
 may-name ClampedStanding (Some (AtTerminal (Next number))) = refl
 may-name ClampedStanding (Some (AtTerminal (Turned first second))) = refl
 may-name ClampedStanding (Some (AtTerminal (AtLine line))) = refl
+may-name ClampedStanding (Some (AtTerminal (LoadFrom after numbers))) = refl
 
 module _ (rule : Rule) (b : Problem) (low : ℕ) (prefix : List ℕ) (tree : Tree Ending) where
   ending-says : (at : List ℕ) (ending : Ending) → EndingShows rule b low prefix tree at ending → IsShut b low at ⊎ IsNamed bounds rule b prefix tree at
@@ -155,6 +157,7 @@ module _ (rule : Rule) (b : Problem) (low : ℕ) (prefix : List ℕ) (tree : Tre
   ending-says at (Next number) h = absurd h
   ending-says at (Turned first second) h = absurd h
   ending-says at (AtLine line) h = absurd h
+  ending-says at (LoadFrom after numbers) h = absurd h
 
   ending-shuts : (at : List ℕ) (ending : Ending) → bounds ending ≡ true → EndingShows rule b low prefix tree at ending → IsShut b low at
   ending-shuts at (Bounding leaf) closed h = leaf-shuts b low at leaf h
@@ -162,6 +165,7 @@ module _ (rule : Rule) (b : Problem) (low : ℕ) (prefix : List ℕ) (tree : Tre
   ending-shuts at (Next number) closed h = absurd h
   ending-shuts at (Turned first second) closed h = absurd h
   ending-shuts at (AtLine line) closed h = absurd h
+  ending-shuts at (LoadFrom after numbers) closed h = absurd h
 
 pub shown-below : (rule : Rule) (b : Problem) (low : ℕ) (prefix rest : List ℕ) (tree : Tree Ending) → ShowsBy rule b low prefix tree → IsLegal b.block (prefix ++ rest) → low ≤ total_of b (prefix ++ rest)
 shown-below rule b low prefix rest tree shows legal =

@@ -20,6 +20,8 @@ pub data Ending : Type 0 where
   Turned : (first second : ℕ) → Ending
   -- the node of this line of the document dominates the prefix
   AtLine : (line : ℕ) → Ending
+  -- units of one kind do all that these numbers need of them, from a minor cycle on at the soonest
+  LoadFrom : (after : ℕ) (numbers : List ℕ) → Ending
 
 -- WHICH NODES MAY BE NAMED
 
@@ -38,6 +40,7 @@ is_standing (Some (AtTerminal (Dominated name))) = false
 is_standing (Some (AtTerminal (Next number))) = true
 is_standing (Some (AtTerminal (Turned first second))) = true
 is_standing (Some (AtTerminal (AtLine line))) = false
+is_standing (Some (AtTerminal (LoadFrom after numbers))) = true
 
 -- what may be named if this is found
 abbrev pub may_be_named : Rule → Option (Vertex Ending) → Bool
@@ -63,6 +66,7 @@ EndingShows rule b low prefix tree at (Dominated name) = MayBeDominated rule b p
 EndingShows rule b low prefix tree at (Next number) = ⊥
 EndingShows rule b low prefix tree at (Turned first second) = ⊥
 EndingShows rule b low prefix tree at (AtLine line) = ⊥
+EndingShows rule b low prefix tree at (LoadFrom after numbers) = ⊥
 
 abbrev pub ShowsBy : Rule → Problem → ℕ → List ℕ → Tree Ending → Type 0
 ShowsBy rule b low prefix tree = TreeHolds b.block (EndingShows rule b low prefix tree) prefix tree
