@@ -3,7 +3,7 @@ use Rattle.std.specs.Prelude.{◌≡◌, ◌≤◌, Bool, true, false, List, [],
 use Rattle.s66_isa.specs.declared.limits.TheConstants.{BLOCK_LIMIT}
 use Rattle.s66_model.specs.Leaves.{Whole, Chain, Load, Parcels}
 use Rattle.s66_model.specs.Tree.{Vertex, AtTerminal, AtSplit}
-use Rattle.s66_model.specs.DominatedLeaves.{Ending, Bounding, Dominated, Next, Turned, AtLine}
+use Rattle.s66_model.specs.DominatedLeaves.{Ending, Bounding, Dominated, Next, Turned, AtLine, LoadFrom}
 use Rattle.s66_tree.specs.declared.tree.TreeLine.{TreeLine}
 use Rattle.s66_tree.specs.declared.tree.TreeLine.TheVariants as line
 
@@ -17,6 +17,7 @@ vertex_of (line.Dominated numbers) = AtTerminal (Dominated numbers.now)
 vertex_of (line.Next number) = AtTerminal (Next number)
 vertex_of (line.Turned first second) = AtTerminal (Turned first second)
 vertex_of (line.AtLine line) = AtTerminal (AtLine line)
+vertex_of (line.LoadFrom after numbers) = AtTerminal (LoadFrom after numbers.now)
 
 -- no more numbers than a block has instructions
 abbrev pub IsShort : Vertex Ending → Type 0
@@ -29,6 +30,7 @@ IsShort (AtTerminal (Dominated name)) = length name ≤ BLOCK_LIMIT
 IsShort (AtTerminal (Next number)) = Unit {0}
 IsShort (AtTerminal (Turned first second)) = Unit {0}
 IsShort (AtTerminal (AtLine line)) = Unit {0}
+IsShort (AtTerminal (LoadFrom after numbers)) = length numbers ≤ BLOCK_LIMIT
 
 -- the next of these lines is returned, and those after it are left; none only if there is none
 abbrev pub IsNextLine : List (Vertex Ending) → Option TreeLine → List (Vertex Ending) → Type 0
@@ -43,4 +45,5 @@ has_dominated_line (AtTerminal (Dominated name) ∷ vertices) = true
 has_dominated_line (AtTerminal (Next number) ∷ vertices) = has_dominated_line vertices
 has_dominated_line (AtTerminal (Turned first second) ∷ vertices) = has_dominated_line vertices
 has_dominated_line (AtTerminal (AtLine line) ∷ vertices) = has_dominated_line vertices
+has_dominated_line (AtTerminal (LoadFrom after numbers) ∷ vertices) = has_dominated_line vertices
 has_dominated_line (AtSplit numbers ∷ vertices) = has_dominated_line vertices

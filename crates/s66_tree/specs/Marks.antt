@@ -3,7 +3,7 @@ use Rattle.std.specs.Prelude.{◌≡◌, ◌+◌, ℕ, Bool, true, false, List, 
 use Rattle.s66_isa.specs.Lists.{weigh}
 use Rattle.s66_model.specs.Leaves.{Whole, Chain, Load, Parcels}
 use Rattle.s66_model.specs.Tree.{Vertex, AtTerminal, AtSplit}
-use Rattle.s66_model.specs.DominatedLeaves.{Ending, Bounding, Dominated, Next, Turned, AtLine}
+use Rattle.s66_model.specs.DominatedLeaves.{Ending, Bounding, Dominated, Next, Turned, AtLine, LoadFrom}
 use Rattle.s66_tree.specs.declared.tree.Mark.{Mark}
 use Rattle.s66_tree.specs.declared.tree.Mark.TheVariants as mark
 
@@ -18,6 +18,7 @@ number_count (mark.Dominated count) = count
 number_count (mark.Next number) = 0
 number_count (mark.Turned first second) = 0
 number_count (mark.AtLine line) = 0
+number_count (mark.LoadFrom after count) = count
 
 abbrev pub is_dominated : Mark → Bool
 is_dominated (mark.Split count) = false
@@ -29,6 +30,7 @@ is_dominated (mark.Dominated count) = true
 is_dominated (mark.Next number) = false
 is_dominated (mark.Turned first second) = false
 is_dominated (mark.AtLine line) = false
+is_dominated (mark.LoadFrom after count) = false
 
 -- with its numbers, the first of these
 abbrev pub marked : Mark → List ℕ → Vertex Ending
@@ -41,6 +43,7 @@ marked (mark.Dominated count) numbers = AtTerminal (Dominated (take count number
 marked (mark.Next number) numbers = AtTerminal (Next number)
 marked (mark.Turned first second) numbers = AtTerminal (Turned first second)
 marked (mark.AtLine line) numbers = AtTerminal (AtLine line)
+marked (mark.LoadFrom after count) numbers = AtTerminal (LoadFrom after (take count numbers))
 
 -- the numbers of the lines come one after the other
 abbrev pub vertices_of : List Mark → List ℕ → List (Vertex Ending)

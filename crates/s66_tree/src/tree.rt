@@ -28,6 +28,8 @@ pub enum TreeLine<'a> {
     Turned(u8, u8),
     /// The node of this line of the document, from 1, dominates the prefix.
     AtLine(u32),
+    /// Units of one kind do all that these numbers need of them, from this minor cycle on at the soonest.
+    LoadFrom(u32, &'a [u8]),
 }
 
 /// What a line of a tree says except its numbers, with how many it has.
@@ -42,6 +44,7 @@ pub(crate) enum Mark {
     Next(u8),
     Turned(u8, u8),
     AtLine(u32),
+    LoadFrom(u32, u8),
 }
 
 impl Mark {
@@ -54,7 +57,10 @@ impl Mark {
         ensures { result ≡ number_count self }
     {
         match self {
-            Mark::Split(count) | Mark::Chain(count) | Mark::Dominated(count) => count as usize,
+            Mark::Split(count)
+            | Mark::Chain(count)
+            | Mark::Dominated(count)
+            | Mark::LoadFrom(_, count) => count as usize,
             _ => 0,
         }
     }
@@ -80,6 +86,7 @@ impl Mark {
             Mark::Next(number) => TreeLine::Next(number),
             Mark::Turned(first, second) => TreeLine::Turned(first, second),
             Mark::AtLine(line) => TreeLine::AtLine(line),
+            Mark::LoadFrom(after, _) => TreeLine::LoadFrom(after, numbers),
         }
     }
 }
@@ -181,6 +188,9 @@ impl KeptLines {
             TreeLine::Next(number) => self.append(Mark::Next(number), &[]),
             TreeLine::Turned(first, second) => self.append(Mark::Turned(first, second), &[]),
             TreeLine::AtLine(line) => self.append(Mark::AtLine(line), &[]),
+            TreeLine::LoadFrom(after, numbers) => {
+                self.append(Mark::LoadFrom(after, numbers.len() as u8), numbers)
+            }
         }
     }
 
