@@ -258,7 +258,7 @@ module _ (b : Problem) where
       let further : has k (numbers_used (m ∷ ns)) ≡ false = rising-none k m ns (omega (arith, less, ltb-true n m up)) rest in
       rw (ne_eqb k n (λ e. absurd (omega (arith, less, e)))) further
 
-  rising-once : (n : ℕ) (ns : List ℕ) → are_rising (n ∷ ns) ≡ true → AreOnce (numbers_used (n ∷ ns))
+  pub rising-once : (n : ℕ) (ns : List ℕ) → are_rising (n ∷ ns) ≡ true → AreOnce (numbers_used (n ∷ ns))
   rising-once n [] h = (refl, tt)
   rising-once n (m ∷ ns) h =
       let (up, rest) = and_parts (ltb n m) (are_rising (m ∷ ns)) h in

@@ -21,4 +21,5 @@ pub mod Rings
 pub mod NextLeaves
 pub mod Spans
 pub mod KnownLines
+pub mod LoadLeaves
 pub mod Turns

@@ -9,7 +9,7 @@ use Rattle.s66_moments.specs.declared.moment.Moment.{Moment}
 use Rattle.s66_moments.specs.declared.moment.Moment.TheVariants.{Origin, At, End}
 use Rattle.s66_moments.specs.Moments.{is_moment, has_stage, soonest, own_arc}
 use Rattle.s66_moments.specs.Facts.{Fact, Begins, IsNumber}
-use Rattle.s66_moments.specs.Paths.{IsFirst, PrecedesBy, Precedes, IsPlacedFirst, IsInOrder, IsStep, Hop, IsPath, waits}
+use Rattle.s66_moments.specs.Paths.{IsFirst, PrecedesBy, Precedes, IsPlacedFirst, IsInOrder, IsStep, Hop, IsPath, waits, Leads}
 use Rattle.s66_moments.specs.LineTrees.{IsTooLate}
 use Rattle.s66_moments.specs.Networks.{Network, AreSteps, IsRemaining, IsNetworkPath, most_arcs, tail}
 use Rattle.s66_model.proofs.Remaining.{remaining-parts}
@@ -94,16 +94,30 @@ module _ (b : Problem) (low : ℕ) (known : List Fact) (prefix : List ℕ) where
   network-path arcs steps e f (hop ∷ hops) path =
       (step-more b known (Begins prefix) e hop.wait hop.to (steps e hop.to hop.wait path.0), network-path arcs steps hop.to f hops path.1)
 
-  -- a path from a moment of what remains, and on to the end
-  pub next-late : (arcs : Network) (n : ℕ) (stage : Stage) → AreSteps b known arcs → IsRemaining b prefix n stage → low ≤ soonest b prefix n stage + tail b arcs (At n stage) → IsTooLate b low now
-  next-late arcs n stage steps (remains, there) late =
+  -- from each moment the longest path leads to the end
+  pub tail-leads : (arcs : Network) (e : Moment) → AreSteps b known arcs → is_moment b e ≡ true → Leads b now e (tail b arcs e) End
+  tail-leads arcs e steps moment =
+      let (hops, f, path, takes, is) = tail-reached b arcs (most_arcs b) e in
+      let (more, rest) = ends b now f (is moment) in
+      (hops ++ more, path-join (IsStep b now) e f End hops more (network-path arcs steps e f hops path) rest, omega (arith, takes, waits-join hops more))
+
+  -- what remains comes no sooner than if it came next
+  pub soonest-leads : (n : ℕ) (stage : Stage) → is_remaining b.block prefix n ≡ true → Leads b now Origin (soonest b prefix n stage) (At n stage)
+  soonest-leads n stage remains =
+      (record { wait = soonest b prefix n stage; to = At n stage } ∷ [], (inr (inr (refl, (prefix, inl refl, inr (remains, refl)))), refl), omega arith)
+
+  pub left-moment : (n : ℕ) (stage : Stage) → IsRemaining b prefix n stage → is_moment b (At n stage) ≡ true
+  left-moment n stage (remains, there) =
       let (from, to, new) = remaining-parts b.block prefix n remains in
       let stays : is_remaining b.block [] n ≡ true = rw (le-leb 1 n from, le-leb n _ to) refl in
-      let (hops, f, path, takes, is) = tail-reached b arcs (most_arcs b) (At n stage) in
-      let (more, rest) = ends b now f (is (and_from (is_remaining b.block [] n) (has_stage (row_at b n) stage) stays there)) in
-      let first : Hop = record { wait = soonest b prefix n stage; to = At n stage } in
-      let whole : IsPath (IsStep b now) Origin (first ∷ (hops ++ more)) End = (inr (inr (refl, (prefix, inl refl, inr (remains, refl)))), path-join (IsStep b now) (At n stage) f End hops more (network-path arcs steps (At n stage) f hops path) rest) in
-      inl (first ∷ (hops ++ more), whole, omega (arith, late, takes, waits-join hops more))
+      and_from (is_remaining b.block [] n) (has_stage (row_at b n) stage) stays there
+
+  -- a path from a moment of what remains, and on to the end
+  pub next-late : (arcs : Network) (n : ℕ) (stage : Stage) → AreSteps b known arcs → IsRemaining b prefix n stage → low ≤ soonest b prefix n stage + tail b arcs (At n stage) → IsTooLate b low now
+  next-late arcs n stage steps left late =
+      let (first, comes, is) = soonest-leads n stage left.0 in
+      let (hops, path, takes) = tail-leads arcs (At n stage) steps (left-moment n stage left) in
+      inl (first ++ hops, path-join (IsStep b now) Origin (At n stage) End first hops comes path, omega (arith, late, is, takes, waits-join first hops))
 
   -- what stands first is not placed first
   pub turned-late : (m n : ℕ) → IsNumber b m → IsNumber b n → Precedes b known m n → IsPlacedFirst prefix n m → IsTooLate b low now

@@ -1,10 +1,10 @@
 -- A number that remains issues after the parcels of all that is known to stand before it.
-use Rattle.std.proofs.Common.{ℕ, ◌+◌, ◌≤◌, ◌<◌, ◌≡◌, Bool, true, false, true≢false, cond, List, [], ◌∷◌, ◌++◌, length, refl, sym, ap, arith, inl, inr, subst, ◌∙◌}
+use Rattle.std.proofs.Common.{ℕ, ◌≤◌, ◌≡◌, Bool, true, false, true≢false, cond, List, [], ◌∷◌, ◌++◌, length, refl, sym, ap, arith, inl, inr, subst, ◌∙◌}
 use Rattle.std.proofs.lemmas.Bool.{cases_Bool}
 use Rattle.s66_isa.specs.Lists.{weigh, has, Among}
 use Rattle.s66_isa.specs.Table.{numbers}
 use Rattle.s66_isa.proofs.Lists.{among-rising}
-use Rattle.s66_model.specs.Timing.{Problem, Point, row_at, points_of, points_after, next, total_of}
+use Rattle.s66_model.specs.Timing.{Problem, Point, row_at, points_of, next}
 use Rattle.s66_model.specs.LegalOrder.{IsLegal, IsBeginning, GoesOn, is_remaining, sum_remaining}
 use Rattle.s66_moments.specs.declared.moment.Stage.TheVariants.{Issue, Start}
 use Rattle.s66_moments.specs.declared.moment.Moment.TheVariants.{At}

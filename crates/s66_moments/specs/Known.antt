@@ -15,7 +15,7 @@ use Rattle.s66_moments.specs.declared.fact_line.LoadLine.{LoadLine}
 use Rattle.s66_moments.specs.declared.fact_line.KnownArc.{KnownArc}
 use Rattle.s66_moments.specs.Moments.{is_moment, only_if, soonest}
 use Rattle.s66_moments.specs.FactLines.{Use, Line, ForcedPair, LoadArc, use_time}
-use Rattle.s66_moments.specs.Networks.{Network, network, precedes, moments_of, targets, most_arcs, same_moment, with_arc, with_pair, soonest_path}
+use Rattle.s66_moments.specs.Networks.{Network, network, precedes, moments_of, targets, most_arcs, same_moment, with_arc, with_pair, tail, soonest_path}
 
 -- FACT LINES
 
@@ -197,6 +197,31 @@ next_value b known prefix n = greatest (soonest_path b (arcs_of b known) prefix)
 -- R: the prefix has n, and not m, which is known to stand before it
 abbrev pub is_turned : Problem → Known → List ℕ → ℕ → ℕ → Bool
 is_turned b known prefix m n = is_remaining b.block prefix m && is_number b n && has n prefix && known.before m n
+
+-- L: some numbers of one kind remain. Units do all that these need of them from `after` on at the soonest; that, the time of all, and what
+-- is left after any one of them take the bound
+
+-- the use of n begins with this stage: not before `after`, if n came next
+abbrev pub is_left_from : Problem → Known → List ℕ → (bound after time : ℕ) → Stage → ℕ → Bool
+is_left_from b known prefix bound after time stage n =
+    nat_le after (soonest b prefix n stage)
+    && nat_le ((row_at b n).hold + 1 + bound) (after + time + tail b (arcs_of b known) (At n stage))
+
+-- its unit is of the kind, and is used from the issue or from the start on
+abbrev pub is_left : Problem → Known → List ℕ → Kind → (bound after time : ℕ) → ℕ → Bool
+is_left b known prefix kind bound after time n =
+    is_remaining b.block prefix n && same_kind (row_at b n).kind kind
+    && (is_left_from b known prefix bound after time Issue n || is_left_from b known prefix bound after time Start n)
+
+-- each once
+abbrev pub is_loaded : Problem → Known → List ℕ → (bound after : ℕ) → List ℕ → Bool
+is_loaded b known prefix bound after ns =
+    nat_lt 0 (length ns) && are_rising ns
+    && every (is_left b known prefix (kind_of_load b ns) bound after (use_time b (kind_of_load b ns) (map (use_of b) ns))) ns
+
+-- what it says: the end comes the bound later than the origin, since units do that between
+abbrev pub load_of : Problem → (bound after : ℕ) → List ℕ → Line
+load_of b bound after ns = LoadArc (kind_of_load b ns) Origin End after bound (map (use_of b) ns)
 
 -- WHEN A NUMBER THAT REMAINS COMES AT THE SOONEST
 

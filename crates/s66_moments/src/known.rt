@@ -12,8 +12,8 @@ ghost use Rattle.s66_moments.specs.Paths.{Hop, waits};
 ghost use Rattle.s66_moments.specs.Networks.{Network, IsKnown, AreSteps, IsRising, HasOwnArcs, IsTransitive, HasNoRing, targets, IsNetworkPath, same_moment, tail};
 ghost use Rattle.s66_moments.specs.FactLines.{AreFounded, facts_after};
 ghost use Rattle.s66_moments.specs.InUse.{ComesNoSooner};
-ghost use Rattle.s66_moments.specs.LineTrees.{IsTooLate};
-ghost use Rattle.s66_moments.specs.Known.{Known, line_of, later, latest, plus, span, known_first, known_after, arcs_of, are_taken, next_value, is_turned, issue_at_least, start_at_least};
+ghost use Rattle.s66_moments.specs.LineTrees.{IsTooLate, IsClosedByLines};
+ghost use Rattle.s66_moments.specs.Known.{Known, line_of, later, latest, plus, span, known_first, known_after, arcs_of, are_taken, next_value, is_turned, is_loaded, load_of, issue_at_least, start_at_least};
 
 /// A span is how long some path takes, and if no arcs form a ring none takes longer. So it is the latest of the arcs from its first
 /// moment, each with the span from where it leads, and of the arcs to its last one, each with the span to where it comes from.
@@ -56,6 +56,9 @@ pub fn fact_lines_law()
     ensures turned { (b : Problem) (bound : ℕ) (lines : List FactLine) (prefix : List ℕ) (m n : ℕ) →
         are_taken b bound (known_first b) lines ≡ true → is_turned b (known_after (known_first b) lines) prefix m n ≡ true →
         IsTooLate b bound (Begins prefix ∷ facts_after [] (map (line_of b) lines)) }
+    ensures loaded { (b : Problem) (bound : ℕ) (lines : List FactLine) (prefix : List ℕ) (after : ℕ) (numbers : List ℕ) →
+        are_taken b bound (known_first b) lines ≡ true → is_loaded b (known_after (known_first b) lines) prefix bound after numbers ≡ true →
+        IsClosedByLines b bound (facts_after [] (map (line_of b) lines)) prefix (load_of b bound after numbers ∷ []) }
     ensures no_sooner { (b : Problem) (bound : ℕ) (lines : List FactLine) (prefix : List ℕ) (n : ℕ) →
         are_taken b bound (known_first b) lines ≡ true → is_remaining b.block prefix n ≡ true →
         ComesNoSooner b bound (facts_after [] (map (line_of b) lines)) prefix n

@@ -5,6 +5,7 @@ use Rattle.s66_moments.specs.Facts.{Fact}
 use Rattle.s66_moments.specs.FactLines.{facts_after}
 use Rattle.s66_moments.specs.Known.{Known, line_of, known_first, known_after, are_taken}
 use Rattle.s66_moments.proofs.KnownLines.{IsSound, after-sound, arcs-steps, arcs-own, arcs-rise, next-too_late, turned-too_late, span-tail}
+use Rattle.s66_moments.proofs.LoadLeaves.{loaded-closed}
 use Rattle.s66_moments.proofs.Turns.{turn-comes}
 use Rattle.s66_moments.proofs.known.fact_lines_law.Goals as goal
 
@@ -46,6 +47,9 @@ returns-clause-next c = λ b bound lines prefix n taken remains le. next-too_lat
 
 pub returns-clause-turned : goal.returns-clause-turned
 returns-clause-turned c = λ b bound lines prefix m n taken turned. turned-too_late b (facts b lines) (known b lines) (sound b bound lines taken) bound prefix m n turned
+
+pub returns-clause-loaded : goal.returns-clause-loaded
+returns-clause-loaded c = λ b bound lines prefix after numbers taken loaded. loaded-closed b (facts b lines) (known b lines) (sound b bound lines taken) prefix bound after numbers loaded
 
 pub returns-clause-no_sooner : goal.returns-clause-no_sooner
 returns-clause-no_sooner c = λ b bound lines prefix n taken left. turn-comes b (facts b lines) (known b lines) (sound b bound lines taken).is_known bound prefix n left
