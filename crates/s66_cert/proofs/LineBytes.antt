@@ -10,7 +10,7 @@ use Rattle.s66_model.specs.declared.rule.Rule.{Rule}
 use Rattle.s66_model.specs.declared.rule.Rule.TheVariants.{NoneNamed, WrittenEarlier, ClampedStanding}
 use Rattle.s66_model.specs.Leaves.{Whole, Chain, Load, Parcels}
 use Rattle.s66_model.specs.Tree.{Tree, Alone, Parted, Siblings, NoMore, Unsplit, Split, Vertex, AtTerminal, AtSplit, flat, flat_siblings}
-use Rattle.s66_model.specs.DominatedLeaves.{Ending, Bounding, Dominated, Next, Turned, AtLine}
+use Rattle.s66_model.specs.DominatedLeaves.{Ending, Bounding, Dominated, Next, Turned, AtLine, LoadFrom}
 use Rattle.s66_moments.specs.declared.moment.Stage.TheVariants.{Issue, Start, Done, Free}
 use Rattle.s66_moments.specs.declared.moment.Moment.{Moment}
 use Rattle.s66_moments.specs.declared.moment.Moment.TheVariants.{Origin, At}
@@ -79,6 +79,8 @@ is-line limit (OfTree (AtTerminal (Dominated name))) narrow is = after_blanks-li
 is-line limit (OfTree (AtTerminal (Next n))) narrow is = decimal-line n (omega (arith, narrow, is.1))
 is-line limit (OfTree (AtTerminal (Turned n m))) narrow is = after_blanks-line 1 limit (n ∷ m ∷ []) narrow is
 is-line limit (OfTree (AtTerminal (AtLine n))) narrow is = decimal-line n (omega (arith, is.1))
+is-line limit (OfTree (AtTerminal (LoadFrom after numbers))) narrow is =
+    every-append _ (decimal after) (after_blanks numbers) (decimal-line after (omega (arith, is.0))) (after_blanks-line 1 limit numbers narrow is.1.2)
 is-line limit (OfFact (fact.Pair n m)) narrow is = after_blanks-line 1 limit (n ∷ m ∷ []) narrow is
 is-line limit (OfFact (fact.Load line)) narrow is =
     load-line (moment_text line.from) (moment_text line.to) line.after line.wait line.numbers.items (moment-line limit line.from narrow is.0.front.1) (moment-line limit line.to narrow is.0.back.1)

@@ -15,7 +15,7 @@ use Rattle.s66_model.specs.declared.rule.Rule.{Rule}
 use Rattle.s66_model.specs.declared.rule.Rule.TheVariants.{NoneNamed, WrittenEarlier, ClampedStanding}
 use Rattle.s66_model.specs.Leaves.{Whole, Chain, Load, Parcels}
 use Rattle.s66_model.specs.Tree.{AtTerminal, AtSplit}
-use Rattle.s66_model.specs.DominatedLeaves.{Bounding, Dominated, Next, Turned, AtLine}
+use Rattle.s66_model.specs.DominatedLeaves.{Bounding, Dominated, Next, Turned, AtLine, LoadFrom}
 use Rattle.s66_moments.specs.declared.moment.Stage.TheVariants.{Issue, Start, Done, Free}
 use Rattle.s66_moments.specs.declared.moment.Moment.{Moment}
 use Rattle.s66_moments.specs.declared.moment.Moment.TheVariants.{Origin, At}
@@ -26,7 +26,7 @@ use Rattle.s66_cert.specs.Document.{AreIn, AreNumbers, moment_text, version}
 use Rattle.s66_isa.specs.KindNames.{kind_name}
 use Rattle.s66_isa.specs.declared.limits.TheConstants.{PROFILE_LENGTH, PROFILE_LIMIT}
 use Rattle.s66_cert.specs.declared.limits.TheConstants.{TIME_LIMIT, LINE_LIMIT}
-use Rattle.s66_cert.specs.Lines.{DocumentLine, Header, Profile, Block, Instruction, Time, Bound, Order, OfFact, OfTree, End, line_bytes, IsLineInRange, first_word, after_first_word, word_in, rest_in, words_in, numbers_in, number_in, if_count, block_numbers, two_numbers, pair_with, one_number, stage_in, front_in, back_in, load_with, load_after, load_in, is_instruction_text, instruction_in, kind_in, alone, header_in, line_with, line_read}
+use Rattle.s66_cert.specs.Lines.{DocumentLine, Header, Profile, Block, Instruction, Time, Bound, Order, OfFact, OfTree, End, line_bytes, IsLineInRange, first_word, after_first_word, word_in, rest_in, words_in, numbers_in, number_in, if_count, block_numbers, two_numbers, pair_with, one_number, stage_in, front_in, back_in, load_with, load_after, load_in, load_from_with, load_from_in, is_instruction_text, instruction_in, kind_in, alone, header_in, line_with, line_read}
 use Rattle.s66_cert.proofs.NumberTexts.{number-again, number-is}
 use Rattle.s66_cert.proofs.Spelled.{instruction-again, instruction-is}
 use Rattle.s66_cert.proofs.Words.{IsWord, tail_of, joined, first-before, after-before, decimal-word, words-after_blanks, numbers-again, numbers-are}
@@ -154,6 +154,17 @@ load-again limit from to after wait (n ∷ ns) narrow front back amounts are =
       block_numbers-again limit n ns narrow are,
     ) refl
 
+-- a minor cycle, and numbers
+load_from-again : (limit after : ℕ) (ns : List ℕ) → limit < 2 ^ 64 → after ≤ TIME_LIMIT → AreNumbers limit ns → load_from_in limit (Some (decimal after ++ after_blanks ns)) ≡ Some (OfTree (AtTerminal (LoadFrom after ns)))
+load_from-again limit after [] narrow few are = absurd (omega (arith, are.0))
+load_from-again limit after (n ∷ ns) narrow few are =
+    let rest : List ℕ = decimal n ++ after_blanks ns in
+    let text : Option (List ℕ) = Some (decimal after ++ 32 ∷ rest) in
+    let word = word-again (decimal after) rest (decimal-word after (omega (arith, few))) in
+    ap (λ (o : Option (List ℕ)). load_from_with (one_number 0 TIME_LIMIT o) (block_numbers limit (rest_in text))) word.0
+    ∙ ap (λ (o : Option (List ℕ)). load_from_with (one_number 0 TIME_LIMIT (Some (decimal after))) (block_numbers limit o)) word.1
+    ∙ rw (number-again 0 TIME_LIMIT after (omega (arith, few)) (omega arith) few, block_numbers-again limit n ns narrow are) refl
+
 pub line-again : (limit : ℕ) (l : DocumentLine) → limit < 2 ^ 64 → IsLineInRange limit l → line_read limit (line_bytes l) ≡ Some l
 line-again limit (Header facts rule) narrow is = ap (λ (digit : List ℕ). line_read limit (codes "S66 CERTIFICATE " ++ digit)) (version-digit facts rule) ∙ header-again facts rule is
 line-again limit (Profile []) narrow is = absurd (omega (arith, is.0))
@@ -169,6 +180,7 @@ line-again limit (OfFact (fact.Load line)) narrow is = load-again limit line.fro
 line-again limit (OfTree (AtTerminal (Next n))) narrow is = ap (option_map (λ n. OfTree (AtTerminal (Next n)))) (number-again 1 limit n (omega (arith, narrow, is.1)) is.0 is.1)
 line-again limit (OfTree (AtTerminal (Turned n m))) narrow is = pair-again limit n m (λ n m. OfTree (AtTerminal (Turned n m))) narrow is
 line-again limit (OfTree (AtTerminal (AtLine n))) narrow is = ap (option_map (λ n. OfTree (AtTerminal (AtLine n)))) (number-again 1 LINE_LIMIT n (omega (arith, is.1)) is.0 is.1)
+line-again limit (OfTree (AtTerminal (LoadFrom after ns))) narrow is = load_from-again limit after ns narrow is.0 is.1
 line-again limit (OfTree (AtTerminal (Bounding Whole))) narrow is = refl
 line-again limit (OfTree (AtTerminal (Bounding (Chain [])))) narrow is = absurd (omega (arith, is.0))
 line-again limit (OfTree (AtTerminal (Bounding (Chain (n ∷ ns))))) narrow is = ap (option_map (λ ns. OfTree (AtTerminal (Bounding (Chain ns))))) (block_numbers-again limit n ns narrow is)
@@ -406,6 +418,20 @@ fact-line limit name rest l narrow same h =
       ),
     )
 
+-- the line of a leaf of a load
+load_from-parts : (after : Option ℕ) (numbers : Option (List ℕ)) (l : DocumentLine) → load_from_with after numbers ≡ Some l → (h : ℕ) × (ns : List ℕ) × (after ≡ Some h) × (numbers ≡ Some ns) × (OfTree (AtTerminal (LoadFrom h ns)) ≡ l)
+load_from-parts (Some h) (Some ns) l is = (h, ns, refl, refl, (cc))
+load_from-parts None numbers l is = absurd (cc)
+load_from-parts (Some h) None l is = absurd (cc)
+
+load_from-line : (limit : ℕ) (name : List ℕ) (rest : Option (List ℕ)) (l : DocumentLine) → limit < 2 ^ 64 → name ≡ codes "L" → load_from_in limit rest ≡ Some l → Spells limit (name ++ tail_of rest) l
+load_from-line limit name rest l narrow same is =
+    let (h, ns, after_is, numbers_are, line_is) = load_from-parts (one_number 0 TIME_LIMIT (word_in rest)) (block_numbers limit (rest_in rest)) l is in
+    let after = amount-is (word_in rest) h after_is in
+    let numbers = list-is 1 limit 1 limit (rest_in rest) ns narrow numbers_are in
+    let text : tail_of rest ≡ 32 ∷ (decimal h ++ after_blanks ns) = tail-is rest (decimal h) after.0 ∙ ap (λ x. 32 ∷ (decimal h ++ x)) numbers.0 in
+    rw (← line_is) (ap (λ x. x ++ tail_of rest) same ∙ ap (λ x. codes "L" ++ x) text, (after.1, (numbers.1, numbers.2, numbers.3)))
+
 with-is : (limit : ℕ) (name : List ℕ) (rest : Option (List ℕ)) (l : DocumentLine) → limit < 2 ^ 64 → line_with limit name rest ≡ Some l → Spells limit (name ++ tail_of rest) l
 with-is limit name rest l narrow h =
     let P : Type 0 = Spells limit (name ++ tail_of rest) l in
@@ -418,6 +444,7 @@ with-is limit name rest l narrow h =
     (named name (codes "E") _ _ l P (number-line limit 1 limit name (codes "E") rest (λ n. OfTree (AtTerminal (Next n))) l narrow (λ n. refl) (λ n a b. (a, b, tt)))
     (named name (codes "R") _ _ l P (pair-line limit name (codes "R") rest (λ n m. OfTree (AtTerminal (Turned n m))) l narrow (λ n m. refl) (λ n m are. are))
     (named name (codes "N") _ _ l P (number-line limit 1 LINE_LIMIT name (codes "N") rest (λ n. OfTree (AtTerminal (AtLine n))) l (omega arith) (λ n. refl) (λ n a b. (a, b, tt)))
+    (named name (codes "L") _ _ l P (load_from-line limit name rest l narrow)
     (named name (codes "F") _ _ l P (pair-line limit name (codes "F") rest (λ n m. OfFact (fact.Pair n m)) l narrow (λ n m. refl) (λ n m are. are))
     (named name (codes "A") _ _ l P (fact-line limit name rest l narrow)
     (named name (codes "I") _ _ l P (instruction-line limit name rest l)
@@ -427,7 +454,7 @@ with-is limit name rest l narrow h =
     (named name (codes "TIME") _ _ l P (number-line limit 0 TIME_LIMIT name (codes "TIME") rest Time l (omega arith) (λ n. refl) (λ n a b. b))
     (named name (codes "BOUND") _ _ l P (number-line limit 0 TIME_LIMIT name (codes "BOUND") rest Bound l (omega arith) (λ n. refl) (λ n a b. b))
     (named name (codes "ORDER") _ _ l P (list-line limit 1 limit 1 limit name (codes "ORDER") rest Order l narrow (λ ns. refl) (λ ns a b are. (a, b, are)))
-    (named name (codes "END") _ _ l P (word-line limit name (codes "END") rest End l refl tt) (λ no. absurd (cc)))))))))))))))))))) h
+    (named name (codes "END") _ _ l P (word-line limit name (codes "END") rest End l refl tt) (λ no. absurd (cc))))))))))))))))))))) h
 
 pub line-is : (limit : ℕ) (bytes : List ℕ) (l : DocumentLine) → limit < 2 ^ 64 → line_read limit bytes ≡ Some l → (bytes ≡ line_bytes l) × IsLineInRange limit l
 line-is limit bytes l narrow h = let is = with-is limit (first_word bytes) (after_first_word bytes) l narrow h in (sym (joined bytes) ∙ is.0, is.1)

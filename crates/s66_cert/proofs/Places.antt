@@ -4,7 +4,7 @@ use Rattle.std.specs.Prelude.{Err}
 use Rattle.s66_isa.specs.declared.limits.TheConstants.{BLOCK_LIMIT}
 use Rattle.s66_model.specs.declared.rule.Rule.{Rule}
 use Rattle.s66_model.specs.Tree.{Vertex, AtTerminal, AtSplit}
-use Rattle.s66_model.specs.DominatedLeaves.{Ending, Bounding, Dominated, Next, Turned, AtLine}
+use Rattle.s66_model.specs.DominatedLeaves.{Ending, Bounding, Dominated, Next, Turned, AtLine, LoadFrom}
 use Rattle.s66_moments.specs.declared.fact_line.FactLine.{FactLine}
 use Rattle.s66_cert.specs.Fine.{Leave, split_count, IsPart, IsFine}
 use Rattle.s66_cert.specs.Lines.{Header, Profile, Block, Instruction, Time, Bound, Order, OfFact, OfTree, End}
@@ -63,6 +63,7 @@ refused_vertex most s (AtTerminal (Dominated name)) h = rw h refl
 refused_vertex most s (AtTerminal (Next number)) h = rw h refl
 refused_vertex most s (AtTerminal (Turned first second)) h = rw h refl
 refused_vertex most s (AtTerminal (AtLine line)) h = rw h refl
+refused_vertex most s (AtTerminal (LoadFrom after numbers)) h = rw h refl
 refused_vertex most s (AtSplit numbers) h = absurd (cc)
 
 -- the last line if a dominated leaf is missing

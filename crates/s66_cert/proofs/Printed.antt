@@ -5,7 +5,7 @@ use Rattle.s66_isa.specs.Lists.{after_blanks}
 use Rattle.s66_isa.specs.declared.limits.TheConstants.{BLOCK_LIMIT}
 use Rattle.s66_model.specs.Leaves.{Whole, Chain, Load, Parcels}
 use Rattle.s66_model.specs.Tree.{Tree, Alone, Parted, Siblings, NoMore, Unsplit, Split, Vertex, AtTerminal, AtSplit, flat, flat_siblings}
-use Rattle.s66_model.specs.DominatedLeaves.{Ending, Bounding, Dominated, Next, Turned, AtLine}
+use Rattle.s66_model.specs.DominatedLeaves.{Ending, Bounding, Dominated, Next, Turned, AtLine, LoadFrom}
 use Rattle.s66_moments.specs.declared.fact_line.FactLine.{FactLine}
 use Rattle.s66_cert.specs.Document.{IsLeafLine, SiblingsFit, TreeFits, version, document_text, leaf_line, instructions_text, fact_line, fact_lines, facts_text, tree_lines}
 use Rattle.s66_cert.specs.Pages.{AreShort, IsPrinted, opening_lines, claim_lines}
@@ -24,6 +24,7 @@ leaf-short (Dominated name) fits = fits.1
 leaf-short (Next number) fits = tt
 leaf-short (Turned first second) fits = tt
 leaf-short (AtLine line) fits = tt
+leaf-short (LoadFrom after numbers) fits = fits.1.1
 
 short-both : (vertices more : List (Vertex Ending)) → AreShort vertices → AreShort more → AreShort (vertices ++ more)
 short-both [] more short others = others

@@ -6,7 +6,7 @@ use Rattle.std.specs.Prelude.{Option, None, Some, is_some, codes, decimal}
 use Rattle.s66_isa.specs.Lists.{every, after_blanks}
 use Rattle.s66_model.specs.Leaves.{Whole, Chain, Load, Parcels}
 use Rattle.s66_model.specs.Tree.{Vertex, AtTerminal, AtSplit, flat}
-use Rattle.s66_model.specs.DominatedLeaves.{Ending, Bounding, Dominated, Next, Turned, AtLine}
+use Rattle.s66_model.specs.DominatedLeaves.{Ending, Bounding, Dominated, Next, Turned, AtLine, LoadFrom}
 use Rattle.s66_moments.specs.declared.fact_line.FactLine.{FactLine}
 use Rattle.s66_moments.specs.declared.fact_line.FactLine.TheVariants as fact
 use Rattle.s66_cert.specs.Document.{Document, tree_lines, leaf_line, instructions_text, moment_text, fact_line, fact_lines, facts_text, version, text_before_end, document_text, documents_text}
@@ -106,6 +106,7 @@ leaf-text (Dominated name) more = simp append_assoc
 leaf-text (Next number) more = simp append_assoc
 leaf-text (Turned first second) more = append_assoc (codes "R" ++ after_blanks (first ∷ second ∷ [])) (codes "\n") more
 leaf-text (AtLine line) more = simp append_assoc
+leaf-text (LoadFrom after numbers) more = append_assoc (codes "L" ++ after_blanks (after ∷ numbers)) (codes "\n") more
 
 fact-text : (line : FactLine) (more : List ℕ) → fact_line line ++ more ≡ fact_bytes line ++ 10 ∷ more
 fact-text (fact.Pair first second) more = append_assoc (codes "F" ++ after_blanks (first ∷ second ∷ [])) (codes "\n") more

@@ -4,7 +4,7 @@ use Rattle.s66_model.specs.declared.rule.Rule.{Rule}
 use Rattle.s66_model.specs.declared.rule.Rule.TheVariants.{NoneNamed, WrittenEarlier, ClampedStanding}
 use Rattle.s66_model.specs.Leaves.{Whole, Chain, Load, Parcels}
 use Rattle.s66_model.specs.Tree.{Tree, Alone, Parted, Siblings, NoMore, Unsplit, Split, Vertex, AtTerminal, AtSplit, flat, splits}
-use Rattle.s66_model.specs.DominatedLeaves.{Ending, Bounding, Dominated, Next, Turned, AtLine}
+use Rattle.s66_model.specs.DominatedLeaves.{Ending, Bounding, Dominated, Next, Turned, AtLine, LoadFrom}
 use Rattle.s66_isa.specs.Lists.{some_of, after_blanks}
 use Rattle.s66_moments.specs.declared.moment.Stage.TheVariants.{Issue, Start, Done, Free}
 use Rattle.s66_moments.specs.declared.moment.Moment.{Moment}
@@ -49,6 +49,7 @@ IsLeafLine limit (Dominated name) = AreNumbers limit name
 IsLeafLine limit (Next number) = AreIn 1 limit (number ∷ [])
 IsLeafLine limit (Turned first second) = AreIn 1 limit (first ∷ second ∷ [])
 IsLeafLine limit (AtLine line) = AreIn 1 LINE_LIMIT (line ∷ [])
+IsLeafLine limit (LoadFrom after numbers) = (after ≤ TIME_LIMIT) × AreNumbers limit numbers
 
 -- a tree for each number of a split
 abbrev pub SiblingsFit : ℕ → List ℕ → Siblings Ending → Type 0
@@ -99,6 +100,7 @@ is_factual (AtTerminal (Dominated name)) = false
 is_factual (AtTerminal (Next number)) = true
 is_factual (AtTerminal (Turned first second)) = true
 is_factual (AtTerminal (AtLine line)) = true
+is_factual (AtTerminal (LoadFrom after numbers)) = true
 
 abbrev pub has_factual : Tree Ending → Bool
 has_factual tree = some_of is_factual (flat tree)
@@ -154,6 +156,7 @@ leaf_line (Dominated name) = codes "D" ++ after_blanks name ++ codes "\n"
 leaf_line (Next number) = codes "E " ++ decimal number ++ codes "\n"
 leaf_line (Turned first second) = codes "R" ++ after_blanks (first ∷ second ∷ []) ++ codes "\n"
 leaf_line (AtLine line) = codes "N " ++ decimal line ++ codes "\n"
+leaf_line (LoadFrom after numbers) = codes "L" ++ after_blanks (after ∷ numbers) ++ codes "\n"
 
 abbrev pub tree_lines : List (Vertex Ending) → List ℕ
 tree_lines [] = []

@@ -9,7 +9,7 @@ use Rattle.s66_model.specs.declared.rule.Rule.{Rule}
 use Rattle.s66_model.specs.declared.rule.Rule.TheVariants.{NoneNamed, WrittenEarlier, ClampedStanding}
 use Rattle.s66_model.specs.Leaves.{Whole, Chain, Load, Parcels}
 use Rattle.s66_model.specs.Tree.{Vertex, AtTerminal, AtSplit}
-use Rattle.s66_model.specs.DominatedLeaves.{Ending, Bounding, Dominated, Next, Turned, AtLine}
+use Rattle.s66_model.specs.DominatedLeaves.{Ending, Bounding, Dominated, Next, Turned, AtLine, LoadFrom}
 use Rattle.s66_line.specs.InstructionText.{spelling, operation_in, operand_in, IsInstruction}
 use Rattle.s66_line.specs.Operand.{instr_of}
 use Rattle.s66_line.specs.declared.limits.TheConstants.{TEXT_LIMIT}
@@ -47,6 +47,7 @@ leaf_bytes (Dominated name) = codes "D" ++ after_blanks name
 leaf_bytes (Next number) = codes "E " ++ decimal number
 leaf_bytes (Turned first second) = codes "R" ++ after_blanks (first ∷ second ∷ [])
 leaf_bytes (AtLine line) = codes "N " ++ decimal line
+leaf_bytes (LoadFrom after numbers) = codes "L" ++ after_blanks (after ∷ numbers)
 
 abbrev pub vertex_bytes : Vertex Ending → List ℕ
 vertex_bytes (AtTerminal leaf) = leaf_bytes leaf
@@ -218,6 +219,14 @@ load_in limit rest =
     load_after limit (word_in rest) (word_in (rest_in rest)) (word_in (rest_in (rest_in rest))) (word_in (rest_in (rest_in (rest_in rest))))
     (rest_in (rest_in (rest_in (rest_in rest))))
 
+-- of a leaf: a minor cycle, and numbers
+abbrev pub load_from_with : Option ℕ → Option (List ℕ) → Option DocumentLine
+load_from_with (Some after) (Some numbers) = Some (OfTree (AtTerminal (LoadFrom after numbers)))
+load_from_with after numbers = None
+
+abbrev pub load_from_in : ℕ → Option (List ℕ) → Option DocumentLine
+load_from_in limit rest = load_from_with (one_number 0 TIME_LIMIT (word_in rest)) (block_numbers limit (rest_in rest))
+
 -- INSTRUCTIONS
 
 abbrev pub is_instruction_text : List ℕ → Bool
@@ -271,6 +280,7 @@ line_with limit name rest =
     else (if bytes_eq name (codes "E") then option_map (λ n. OfTree (AtTerminal (Next n))) (one_number 1 limit rest)
     else (if bytes_eq name (codes "R") then pair_with (λ n m. OfTree (AtTerminal (Turned n m))) (two_numbers limit rest)
     else (if bytes_eq name (codes "N") then option_map (λ n. OfTree (AtTerminal (AtLine n))) (one_number 1 LINE_LIMIT rest)
+    else (if bytes_eq name (codes "L") then load_from_in limit rest
     else (if bytes_eq name (codes "F") then pair_with (λ n m. OfFact (fact.Pair n m)) (two_numbers limit rest)
     else (if bytes_eq name (codes "A") then load_in limit rest
     else (if bytes_eq name (codes "I") then instruction_in rest
@@ -281,7 +291,7 @@ line_with limit name rest =
     else (if bytes_eq name (codes "BOUND") then option_map Bound (one_number 0 TIME_LIMIT rest)
     else (if bytes_eq name (codes "ORDER") then option_map Order (block_numbers limit rest)
     else (if bytes_eq name (codes "END") then alone End rest
-    else None))))))))))))))))))
+    else None)))))))))))))))))))
 
 -- what a line says, or that it's no line of a document
 abbrev pub line_read : ℕ → List ℕ → Option DocumentLine

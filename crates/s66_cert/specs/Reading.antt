@@ -5,7 +5,7 @@ use Rattle.s66_isa.specs.declared.limits.TheConstants.{BLOCK_LIMIT}
 use Rattle.s66_model.specs.declared.rule.Rule.{Rule}
 use Rattle.s66_model.specs.declared.rule.Rule.TheVariants.{NoneNamed}
 use Rattle.s66_model.specs.Tree.{Vertex, AtTerminal, AtSplit}
-use Rattle.s66_model.specs.DominatedLeaves.{Ending, Bounding, Dominated, Next, Turned, AtLine}
+use Rattle.s66_model.specs.DominatedLeaves.{Ending, Bounding, Dominated, Next, Turned, AtLine, LoadFrom}
 use Rattle.s66_moments.specs.declared.fact_line.FactLine.{FactLine}
 use Rattle.s66_tree.specs.Lines.{has_dominated_line}
 use Rattle.s66_cert.specs.Document.{Document, names_nodes}
@@ -75,6 +75,7 @@ is_allowed dominated factual (AtTerminal (Dominated name)) = dominated
 is_allowed dominated factual (AtTerminal (Next number)) = factual
 is_allowed dominated factual (AtTerminal (Turned first second)) = factual
 is_allowed dominated factual (AtTerminal (AtLine line)) = factual
+is_allowed dominated factual (AtTerminal (LoadFrom after numbers)) = factual
 is_allowed dominated factual (AtSplit numbers) = true
 
 abbrev pub is_leaf_of : Parts → Vertex Ending → Bool

@@ -3,6 +3,7 @@ ghost use Rattle.s66_isa.specs.Lists.{after_blanks};
 ghost use Rattle.s66_isa.specs.declared.limits.TheConstants.{BLOCK_LIMIT};
 ghost use Rattle.s66_line.specs.declared.limits.TheConstants.{TEXT_LIMIT};
 ghost use Rattle.s66_model.specs.Tree.{AtTerminal, Vertex};
+ghost use Rattle.s66_model.specs.DominatedLeaves.{LoadFrom};
 ghost use Rattle.s66_moments.specs.declared.fact_line.FactLine.TheVariants as fact;
 ghost use Rattle.s66_cert.specs.Document.{moment_text, instructions_text, fact_lines, tree_lines};
 ghost use Rattle.s66_cert.specs.Pages.{Printed};
@@ -196,6 +197,18 @@ impl Page {
         self.text(b"\n");
     }
 
+    /// Prints the line of a leaf of a load, from a minor cycle on.
+    fn load_from(&mut self, after: u32, numbers: &[u8])
+        requires few { length numbers.now ≤ BLOCK_LIMIT }
+        requires room { length self.old + LINE_ROOM ≤ PAGE_SIZE }
+        ensures { self.new ≡ self.old ++ tree_lines (AtTerminal (LoadFrom after numbers.now) ∷ []) }
+    {
+        self.text(b"L ");
+        self.number(after);
+        self.numbers(numbers);
+        self.text(b"\n");
+    }
+
     /// Prints a line of a tree.
     pub(crate) fn tree_line(&mut self, line: TreeLine<'_>)
         requires short { IsShort (vertex_of line) }
@@ -216,6 +229,7 @@ impl Page {
             TreeLine::Next(number) => self.number_line(b"E", u32::from(number)),
             TreeLine::Turned(first, second) => self.numbered_line(b"R", &[first, second]),
             TreeLine::AtLine(line) => self.number_line(b"N", line),
+            TreeLine::LoadFrom(after, numbers) => self.load_from(after, numbers),
         }
     }
 

@@ -6,7 +6,7 @@ ghost use Rattle.s66_model.specs.Leaves.{Chain, Load};
 ghost use Rattle.s66_model.specs.Tree.{AtTerminal, AtSplit};
 ghost use Rattle.s66_model.specs.DominatedLeaves.{Bounding, Dominated, Next, Turned, AtLine};
 ghost use Rattle.s66_moments.specs.declared.fact_line.FactLine.TheVariants as fact;
-ghost use Rattle.s66_cert.specs.Lines.{line_read, word_in, rest_in, block_numbers, two_numbers, pair_with, profile_in, one_number, stage_in, front_in, back_in, load_in, instruction_in, kind_in, header_in, alone, OfFact, OfTree};
+ghost use Rattle.s66_cert.specs.Lines.{line_read, word_in, rest_in, block_numbers, two_numbers, pair_with, profile_in, one_number, stage_in, front_in, back_in, load_in, load_from_in, instruction_in, kind_in, header_in, alone, OfFact, OfTree};
 ghost use Rattle.s66_cert.specs.Lines as line;
 ghost use Rattle.s66_cert.specs.Said.{said};
 ghost use Rattle.s66_cert.specs.declared.limits.TheConstants.{TIME_LIMIT, LINE_LIMIT};
@@ -198,6 +198,18 @@ fn at_line(rest: Option<&[u8]>) -> Option<LineOf<'_>>
     Some(LineOf::OfTree(TreeLine::AtLine(number(rest, 1, LINE_LIMIT)?)))
 }
 
+/// A leaf of a load: a minor cycle, at most `TIME_LIMIT`, and numbers of instructions of a block.
+fn load_from_line<'a>(
+    rest: Option<&[u8]>,
+    room: &'a mut ArrayVec<u8, BLOCK_LIMIT>,
+) -> Option<LineOf<'a>>
+    ensures { option_map said result ≡ load_from_in BLOCK_LIMIT (option_map (λ r. r.now) rest.entry) }
+{
+    let (after, rest) = next_word(rest);
+    let after = number(after, 0, TIME_LIMIT)?;
+    Some(LineOf::OfTree(TreeLine::LoadFrom(after, block_numbers(rest, room)?)))
+}
+
 fn pair_line(rest: Option<&[u8]>) -> Option<LineOf<'_>>
     ensures { option_map said result ≡ pair_with (λ n m. OfFact (fact.Pair n m)) (two_numbers BLOCK_LIMIT (option_map (λ r. r.now) rest.entry)) }
 {
@@ -349,6 +361,9 @@ pub(crate) fn line_of<'a>(
     }
     if is_name(name, b"N") {
         return at_line(rest);
+    }
+    if is_name(name, b"L") {
+        return load_from_line(rest, room);
     }
     if is_name(name, b"F") {
         return pair_line(rest);

@@ -60,7 +60,10 @@ fn is_allowed(dominated: bool, factual: bool, line: TreeLine<'_>) -> bool
 {
     match line {
         TreeLine::Dominated(_) => dominated,
-        TreeLine::Next(_) | TreeLine::Turned(_, _) | TreeLine::AtLine(_) => factual,
+        TreeLine::Next(_)
+        | TreeLine::Turned(_, _)
+        | TreeLine::AtLine(_)
+        | TreeLine::LoadFrom(_, _) => factual,
         _ => true,
     }
 }

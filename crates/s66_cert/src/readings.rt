@@ -7,7 +7,7 @@ ghost use Rattle.s66_isa.specs.declared.limits.TheConstants.{BLOCK_LIMIT};
 ghost use Rattle.s66_model.specs.declared.rule.Rule.TheVariants.{WrittenEarlier, ClampedStanding};
 ghost use Rattle.s66_model.specs.Leaves.{Chain, Load, Parcels};
 ghost use Rattle.s66_model.specs.Tree.{Alone, Parted};
-ghost use Rattle.s66_model.specs.DominatedLeaves.{Bounding, Dominated, AtLine};
+ghost use Rattle.s66_model.specs.DominatedLeaves.{Bounding, Dominated, AtLine, LoadFrom};
 ghost use Rattle.s66_moments.specs.declared.moment.Stage.TheVariants.{Issue, Start};
 ghost use Rattle.s66_moments.specs.declared.moment.Moment.TheVariants.{Origin, At, End};
 ghost use Rattle.s66_cert.specs.declared.error.CertError.TheVariants.{BadLine, Truncated, TooManyNodes};
@@ -39,6 +39,7 @@ pub fn reading_examples()
     ensures load_from_the_origin { read_of (with_fact_line (codes "A 0 END 0 100000 3 4")) ≡ Ok (record (examples.with_load Origin End 0 100000 (3 ∷ 4 ∷ [])) { tree = Alone (Bounding Parcels) } ∷ []) }
     ensures load_between { read_of (with_fact_line (codes "A I12 S128 7 9 3")) ≡ Ok (record (examples.with_load (At 12 Issue) (At 128 Start) 7 9 (3 ∷ [])) { tree = Alone (Bounding Parcels) } ∷ []) }
     ensures line_that_dominates { read_of (replaced 15 5 (codes "N 200000000" ∷ []) examples.by_facts_text) ≡ Ok (examples.with_leaf (AtLine 200000000) ∷ []) }
+    ensures load_leaf { read_of (replaced 15 5 (codes "L 4 2 3" ∷ []) examples.by_facts_text) ≡ Ok (examples.with_leaf (LoadFrom 4 (2 ∷ 3 ∷ [])) ∷ []) }
     ensures dominated_alone { read_of (replaced 11 13 (codes "D 4 4 128" ∷ []) (late_reader_text (codes "S66 CERTIFICATE 2"))) ≡ Ok (record (late_reader WrittenEarlier) { tree = Alone (Dominated (4 ∷ 4 ∷ 128 ∷ [])) } ∷ []) }
     ensures two_versions { read_of (late_reader_text (codes "S66 CERTIFICATE 3") ++ one_load_text) ≡ Ok (late_reader ClampedStanding ∷ one_load ∷ []) }
     ensures ten_splits { read_within BLOCK_LIMIT 10 three_multiplies_text ≡ Ok (three_multiplies ∷ []) }
@@ -94,10 +95,13 @@ pub fn fault_examples()
     ensures turned_of_one { read_of (with_factual_line 16 (codes "R 2")) ≡ Err (BadLine 16) }
     ensures line_0 { read_of (with_factual_line 16 (codes "N 0")) ≡ Err (BadLine 16) }
     ensures line_200000001 { read_of (with_factual_line 16 (codes "N 200000001")) ≡ Err (BadLine 16) }
+    ensures load_leaf_from_100001 { read_of (with_factual_line 16 (codes "L 100001 2 3")) ≡ Err (BadLine 16) }
+    ensures load_leaf_of_none { read_of (with_factual_line 16 (codes "L 4")) ≡ Err (BadLine 16) }
     ensures dominated_in_version_4 { read_of (with_factual_line 16 (codes "D 2 1")) ≡ Err (BadLine 16) }
     ensures next_in_version_1 { read_of (with_line 13 (codes "E 3")) ≡ Err (BadLine 13) }
     ensures turned_in_version_2 { read_of (with_late_line 18 (codes "R 1 2")) ≡ Err (BadLine 18) }
     ensures line_in_version_1 { read_of (with_line 13 (codes "N 12")) ≡ Err (BadLine 13) }
+    ensures load_leaf_in_version_1 { read_of (with_line 13 (codes "L 4 2 3")) ≡ Err (BadLine 13) }
     ensures unfinished_facts { read_of (take (length examples.by_facts_text - 4) examples.by_facts_text) ≡ Err Truncated }
     ensures profile_of_16 { read_of (with_line 2 (codes "PROFILE 3 3 4 4 3 10 29 8 3 8 1 1 1 1 2 1")) ≡ Err (BadLine 2) }
     ensures profile_of_18 { read_of (with_line 2 (codes "PROFILE 3 3 4 4 3 10 29 8 3 8 1 1 1 1 2 1 2 2")) ≡ Err (BadLine 2) }

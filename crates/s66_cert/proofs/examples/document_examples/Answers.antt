@@ -71,6 +71,9 @@ returns-clause-load_between c = search (rules, instruction)
 pub returns-clause-line_that_dominates : goal.returns-clause-line_that_dominates
 returns-clause-line_that_dominates c = search (rules, instruction)
 
+pub returns-clause-load_leaf : goal.returns-clause-load_leaf
+returns-clause-load_leaf c = search (rules, instruction)
+
 pub returns-clause-facts_4096 : goal.returns-clause-facts_4096
 returns-clause-facts_4096 c = λ lines e are.
     let is : IsDocument BLOCK_LIMIT by_facts = search (rules, instruction) in
