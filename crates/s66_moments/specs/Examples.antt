@@ -16,7 +16,7 @@ use Rattle.s66_moments.specs.FactLines.{Use, Line, LoadArc}
 use Rattle.s66_moments.specs.LineTrees.{LineEnding, AtLeaf}
 use Rattle.s66_moments.specs.declared.fact_line.FactLine.{FactLine}
 use Rattle.s66_moments.specs.declared.fact_line.FactLine.TheVariants as fact
-use Rattle.s66_moments.specs.Known.{Known, span, known_first, known_after, is_taken, next_value, is_turned, start_at_least}
+use Rattle.s66_moments.specs.Known.{Known, span, known_first, known_after, is_taken, next_value, is_turned, is_loaded, start_at_least}
 use Rattle.s66_moments.specs.Known.{arcs_of as known_arcs}
 
 -- ARCS
@@ -82,6 +82,10 @@ two_free_adds = instr 0o30 1 2 3 ∷ instr 0o30 4 2 5 ∷ []
 abbrev pub still_line : Line
 still_line = LoadArc Add Origin End 1 10 (use_of 1 4 ∷ use_of 2 5 ∷ [])
 
+-- RX1 X2/X3 / BX4 X1 / BX5 X1: both copies issue at once, and start when the quotient is there
+abbrev pub two_copies_of_a_quotient : List Instr
+two_copies_of_a_quotient = instr 0o45 1 2 3 ∷ instr 0o10 4 1 0 ∷ instr 0o10 5 1 0 ∷ []
+
 -- PAIRS
 
 -- BX2 X4*X3 / IX1 X3+X1 / FX2 X1*X4: 15 minor cycles are left from the issue of either of the first two only if it issues first
@@ -132,6 +136,11 @@ next_after block lines prefix n = next_value (standard_problem block) (known_of 
 
 abbrev pub is_turned_after : List Instr → List FactLine → List ℕ → ℕ → ℕ → Bool
 is_turned_after block lines prefix m n = is_turned (standard_problem block) (known_of block lines) prefix m n
+
+-- whether a load leaf of these numbers, from a minor cycle on, closes a prefix for this bound
+abbrev pub is_loaded_after : List Instr → ℕ → List FactLine → (prefix : List ℕ) → (after : ℕ) → List ℕ → Bool
+is_loaded_after block bound lines prefix after numbers =
+    is_loaded (standard_problem block) (known_of block lines) prefix bound after numbers
 
 abbrev pub start_after : List Instr → List FactLine → List ℕ → ℕ → ℕ
 start_after block lines prefix n = start_at_least (standard_problem block) (known_of block lines) prefix n

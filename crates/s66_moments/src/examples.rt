@@ -58,6 +58,8 @@ ghost use Rattle.s66_moments.specs.Examples.{
   span_after,
   is_taken_after,
   next_after,
+  is_loaded_after,
+  two_copies_of_a_quotient,
   is_turned_after,
   start_after,
 };
@@ -200,6 +202,20 @@ pub fn fact_line_examples()
     ensures next_without_the_line { next_after two_sums [] [] 1 ≡ 8 }
     ensures turned { is_turned_after first_of_two (Pair 1 2 ∷ []) (2 ∷ []) 1 2 ≡ true }
     ensures turned_without_the_line { is_turned_after first_of_two [] (2 ∷ []) 1 2 ≡ false }
+    ensures loaded_from_the_issue { is_loaded_after booleans_between 16 [] (1 ∷ []) 4 (2 ∷ 3 ∷ []) ≡ true }
+    ensures not_for_17 { is_loaded_after booleans_between 17 [] (1 ∷ []) 4 (2 ∷ 3 ∷ []) ≡ false }
+    ensures not_from_5 { is_loaded_after booleans_between 16 [] (1 ∷ []) 5 (2 ∷ 3 ∷ []) ≡ false }
+    ensures not_in_this_order { is_loaded_after booleans_between 16 [] (1 ∷ []) 4 (3 ∷ 2 ∷ []) ≡ false }
+    ensures not_one_twice { is_loaded_after booleans_between 16 [] (1 ∷ []) 4 (2 ∷ 2 ∷ []) ≡ false }
+    ensures not_what_is_placed { is_loaded_after booleans_between 16 [] (1 ∷ []) 0 (1 ∷ 2 ∷ 3 ∷ []) ≡ false }
+    ensures not_of_another_kind { is_loaded_after booleans_between 0 [] (1 ∷ []) 4 (2 ∷ 3 ∷ 4 ∷ []) ≡ false }
+    ensures not_of_none { is_loaded_after booleans_between 0 [] (1 ∷ []) 0 [] ≡ false }
+    ensures loaded_from_the_start { is_loaded_after two_copies_of_a_quotient 37 [] (1 ∷ []) 29 (2 ∷ 3 ∷ []) ≡ true }
+    ensures it_takes_37 { total_of (standard_problem two_copies_of_a_quotient) (1 ∷ 2 ∷ 3 ∷ []) ≡ 37 }
+    ensures two_units_share { is_loaded_after three_increments 6 [] [] 0 (1 ∷ 2 ∷ 3 ∷ []) ≡ true }
+    ensures two_units_share_no_more { is_loaded_after three_increments 7 [] [] 0 (1 ∷ 2 ∷ 3 ∷ []) ≡ false }
+    ensures loaded_by_a_pair { is_loaded_after two_free_adds 10 (Pair 1 2 ∷ []) [] 0 (1 ∷ []) ≡ true }
+    ensures not_without_the_pair { is_loaded_after two_free_adds 10 [] [] 0 (1 ∷ []) ≡ false }
     ensures start_by_what_stands_before { start_after waits_for_two_parcels [] (1 ∷ 2 ∷ []) 4 ≡ 7 }
     ensures start_by_a_pair { start_after two_free_adds (Pair 2 1 ∷ []) [] 1 ≡ 1 }
     ensures start_without_the_pair { start_after two_free_adds [] [] 1 ≡ 0 }
