@@ -1,6 +1,7 @@
 -- What a tree with dominated leaves shows is a lower bound, by any rule and whatever closes its other prefixes; a tree of leaves shows the same by each.
-use Rattle.std.proofs.Common.{ℕ, zero, suc, ◌+◌, ◌≤◌, ◌≡◌, ◌⊎◌, List, [], ◌∷◌, ◌++◌, length, refl, sym, ap, arith, inl, inr, subst, append_assoc, ◌∙◌, Bool, true, false, Option, Some, None}
+use Rattle.std.proofs.Common.{ℕ, zero, suc, ◌+◌, ◌≤◌, ◌<◌, ◌≡◌, ◌⊎◌, List, [], ◌∷◌, ◌++◌, length, refl, sym, ap, arith, inl, inr, subst, append_assoc, ◌∙◌, Bool, true, false, Option, Some, None}
 use Rattle.s66_isa.specs.declared.instr.Instr.{Instr}
+use Rattle.s66_isa.proofs.Lists.{cases_le}
 use Rattle.s66_model.specs.declared.rule.Rule.{Rule}
 use Rattle.s66_model.specs.declared.rule.Rule.TheVariants.{NoneNamed, WrittenEarlier, ClampedStanding}
 use Rattle.s66_model.specs.Timing.{Problem, total_of, points_of, next}
@@ -8,24 +9,15 @@ use Rattle.s66_model.specs.LegalOrder.{IsLegal, Completes, IsBeginning, IsOrder}
 use Rattle.s66_model.specs.Leaves.{Leaf}
 use Rattle.s66_model.specs.Tree.{Siblings, NoMore, Unsplit, Split, Tree, Alone, Parted, Vertex, AtTerminal, AtSplit, SiblingsHold, TreeHolds, LeafShows, Shows}
 use Rattle.s66_model.specs.Dominance.{IsNoWorse, clamp_at}
-use Rattle.s66_model.specs.DominatedLeaves.{Ending, Bounding, Dominated, Next, Turned, AtLine, LoadFrom, IsEarlier, may_be_named, DominatesByRule, EndingShows, ShowsBy, siblings_bounding, tree_bounding}
+use Rattle.s66_model.specs.DominatedLeaves.{Ending, Bounding, Dominated, Next, Turned, AtLine, LoadFrom, IsEarlier, is_standing, may_be_named, DominatesByRule, EndingShows, ShowsBy, siblings_bounding, tree_bounding}
 use Rattle.s66_model.specs.NodeNames.{node_named, is_node}
 use Rattle.s66_model.proofs.LegalOrders.{GoesOn-join, order-legal, legal-order}
 use Rattle.s66_model.proofs.Remaining.{legal-parts}
 use Rattle.s66_model.proofs.Trees.{leaf-sound}
 use Rattle.s66_model.proofs.Dominating.{length-same, written-no-worse, clamped-no-worse}
-use Rattle.s66_model.proofs.EarlierOrders.{HasBetter, descent, earlier-append}
+use Rattle.s66_model.proofs.EarlierOrders.{HasEarlier, descent, earlier-append}
 use Rattle.s66_model.proofs.UnderTrees.{split-find, tree-find}
 use Rattle.s66_model.proofs.StandingNodes.{node-begins, stands, Standing, node-stands}
-
-whole_order : (block : List Instr) (at rest : List ℕ) → IsBeginning block at → Completes block at rest → IsOrder block (at ++ rest)
-whole_order block at rest begins whole = (GoesOn-join block [] at rest begins whole.0, whole.1)
-
--- the same numbers after one that is no worse
-after_other : (b : Problem) (other at rest : List ℕ) → IsNoWorse b other at → IsBeginning b.block at → Completes b.block at rest → IsOrder b.block (other ++ rest) × (total_of b (other ++ rest) ≤ total_of b (at ++ rest))
-after_other b other at rest no_worse begins whole =
-    let after = no_worse rest (order-legal b.block (at ++ rest) (whole_order b.block at rest begins whole)) in
-    (legal-order b.block (other ++ rest) after.0, after.1)
 
 -- WHAT IS SAID AT AN UNSPLIT PREFIX, whatever closes it
 
@@ -33,33 +25,61 @@ after_other b other at rest no_worse begins whole =
 abbrev pub IsShut : Problem → ℕ → List ℕ → Type 0
 IsShut b low at = (rest : List ℕ) → IsBeginning b.block at → Completes b.block at rest → low ≤ total_of b (at ++ rest)
 
+-- an order that takes less than low still does with the name in place of the prefix
+abbrev pub StaysBelow : Problem → ℕ → (name at : List ℕ) → Type 0
+StaysBelow b low name at =
+    (rest : List ℕ) → IsLegal b.block (at ++ rest) → total_of b (at ++ rest) < low → IsLegal b.block (name ++ rest) × (total_of b (name ++ rest) < low)
+
+-- which names the rule takes
+abbrev pub IsTaken : Rule → (name at : List ℕ) → Type 0
+IsTaken NoneNamed name at = ⊥
+IsTaken WrittenEarlier name at = IsEarlier name at
+IsTaken ClampedStanding name at = length name ≡ length at
+
 abbrev pub may_name : {M : Type 0} → (M → Bool) → Rule → Option (Vertex M) → Bool
 may_name closes NoneNamed vertex = false
 may_name closes WrittenEarlier vertex = is_node vertex
 may_name closes ClampedStanding vertex = stands closes vertex
 
--- a node that dominates it may be named there
-abbrev pub IsNamed : {M : Type 0} → (M → Bool) → Rule → Problem → List ℕ → Tree M → List ℕ → Type 0
-IsNamed closes rule b prefix tree at = (name : List ℕ) × DominatesByRule rule b name at × (may_name closes rule (node_named prefix tree name) ≡ true)
+-- a node is named there that stands for it below low
+abbrev pub IsNamed : {M : Type 0} → (M → Bool) → Rule → Problem → ℕ → List ℕ → Tree M → List ℕ → Type 0
+IsNamed closes rule b low prefix tree at =
+    (name : List ℕ) × IsTaken rule name at × StaysBelow b low name at × (may_name closes rule (node_named prefix tree name) ≡ true)
+
+pub whole-legal : (block : List Instr) (at rest : List ℕ) → IsBeginning block at → Completes block at rest → IsLegal block (at ++ rest)
+whole-legal block at rest begins whole = order-legal block (at ++ rest) (GoesOn-join block [] at rest begins whole.0, whole.1)
 
 module _ {M : Type 0} (closes : M → Bool) (b : Problem) (low : ℕ) (Q : List ℕ → M → Type 0) (prefix : List ℕ) (tree : Tree M) (shows : TreeHolds b.block Q prefix tree) where
+  -- an order below low through a named prefix gives one through the name
+  abbrev LeadsOn : Rule → (at rest : List ℕ) → Type 0
+  LeadsOn rule at rest =
+      (name : List ℕ) × IsTaken rule name at × (may_name closes rule (node_named prefix tree name) ≡ true) × IsLegal b.block (name ++ rest) × (total_of b (name ++ rest) < low)
+
+  low-or-on : (rule : Rule) (at rest : List ℕ) → IsShut b low at ⊎ IsNamed closes rule b low prefix tree at → IsBeginning b.block at → Completes b.block at rest → (low ≤ total_of b (at ++ rest)) ⊎ LeadsOn rule at rest
+  low-or-on rule at rest (inl shut) begins whole = inl (shut rest begins whole)
+  low-or-on rule at rest (inr named) begins whole =
+      elim (cases_le low (total_of b (at ++ rest))) [
+        | inl le ↦ inl le
+        | inr less ↦
+            (let (name, taken, stays, found) = named in
+            let (legal, still) = stays rest (whole-legal b.block at rest begins whole) less in
+            inr (name, taken, found, legal, still))
+      ]
+
   -- EARLIER NODES
 
-  module _ (says : (at : List ℕ) (terminal : M) → Q at terminal → IsShut b low at ⊎ IsNamed closes WrittenEarlier b prefix tree at) where
-    earlier-step : (at : List ℕ) (terminal : M) (rest : List ℕ) → Q at terminal → IsBeginning b.block at → Completes b.block at rest → (low ≤ total_of b (at ++ rest)) ⊎ HasBetter b prefix (at ++ rest)
+  module _ (says : (at : List ℕ) (terminal : M) → Q at terminal → IsShut b low at ⊎ IsNamed closes WrittenEarlier b low prefix tree at) where
+    earlier-step : (at : List ℕ) (terminal : M) (rest : List ℕ) → Q at terminal → IsBeginning b.block at → Completes b.block at rest → (low ≤ total_of b (at ++ rest)) ⊎ HasEarlier b low prefix (at ++ rest)
     earlier-step at terminal rest h begins whole =
-        elim (says at terminal h) [
-          | inl shut ↦ inl (shut rest begins whole)
-          | inr named ↦
-              (let (name, dominated, found) = named in
-              let (part, earlier, dominates) = dominated in
-              let after = after_other b name at rest (written-no-worse b name at dominates) begins whole in
-              let (path, is) = node-begins prefix tree name found in
+        elim (low-or-on WrittenEarlier at rest (says at terminal h) begins whole) [
+          | inl le ↦ inl le
+          | inr (name, earlier, found, legal, less) ↦
+              (let (path, is) = node-begins prefix tree name found in
               let same : name ++ rest ≡ prefix ++ (path ++ rest) = ap (λ x. x ++ rest) is ∙ append_assoc prefix path rest in
               inr (
                 path ++ rest,
-                subst (λ x. IsOrder b.block x) same after.0,
-                subst (λ x. total_of b x ≤ total_of b (at ++ rest)) same after.1,
+                subst (λ x. IsOrder b.block x) same (legal-order b.block (name ++ rest) legal),
+                subst (λ x. total_of b x < low) same less,
                 subst (λ x. IsEarlier x (at ++ rest)) same (earlier-append name at rest earlier),
               ))
         ]
@@ -67,30 +87,23 @@ module _ {M : Type 0} (closes : M → Bool) (b : Problem) (low : ℕ) (Q : List 
     -- an order below low goes through a dominated leaf, and its node gives an earlier one
     earlier-below : (rest : List ℕ) → IsBeginning b.block prefix → IsOrder b.block (prefix ++ rest) → low ≤ total_of b (prefix ++ rest)
     earlier-below rest begins order =
-        descent b low prefix (λ more whole. tree-find b Q (λ x. (low ≤ total_of b x) ⊎ HasBetter b prefix x) earlier-step prefix tree shows begins more (legal-parts b.block prefix more (order-legal b.block (prefix ++ more) whole)).1) rest order
+        descent b low prefix (λ more whole. tree-find b Q (λ x. (low ≤ total_of b x) ⊎ HasEarlier b low prefix x) earlier-step prefix tree shows begins more (legal-parts b.block prefix more (order-legal b.block (prefix ++ more) whole)).1) rest order
 
   -- STANDING NODES
 
-  module _ (says : (at : List ℕ) (terminal : M) → Q at terminal → IsShut b low at ⊎ IsNamed closes ClampedStanding b prefix tree at) (shuts : (at : List ℕ) (terminal : M) → closes terminal ≡ true → Q at terminal → IsShut b low at) where
-    abbrev Stands : List ℕ → Type 0
-    Stands at = Standing closes Q b.block at
-
+  module _ (says : (at : List ℕ) (terminal : M) → Q at terminal → IsShut b low at ⊎ IsNamed closes ClampedStanding b low prefix tree at) (shuts : (at : List ℕ) (terminal : M) → closes terminal ≡ true → Q at terminal → IsShut b low at) where
     abbrev AreLow : ℕ → Type 0
     AreLow fuel =
-        (at rest : List ℕ) → length b.block ≤ length at + fuel → Stands at → IsBeginning b.block at → Completes b.block at rest → low ≤ total_of b (at ++ rest)
+        (at rest : List ℕ) → length b.block ≤ length at + fuel → Standing closes Q b.block at → IsBeginning b.block at → Completes b.block at rest → low ≤ total_of b (at ++ rest)
 
     -- an unsplit prefix leads to a node as deep as itself
     ending-low : (fuel : ℕ) (at : List ℕ) (terminal : M) (rest : List ℕ) → AreLow fuel → length b.block ≤ length at + fuel → Q at terminal → IsBeginning b.block at → Completes b.block at rest → low ≤ total_of b (at ++ rest)
     ending-low fuel at terminal rest ih enough h begins whole =
-        elim (says at terminal h) [
-          | inl shut ↦ shut rest begins whole
-          | inr named ↦
-              (let (name, dominated, found) = named in
-              let (part, dominates) = dominated in
-              let after = after_other b name at rest (clamped-no-worse b name at dominates) begins whole in
-              let there = node-stands closes b.block Q prefix tree name shows found in
-              let (goes, completes) = legal-parts b.block name rest (order-legal b.block (name ++ rest) after.0) in
-              omega (arith, after.1, ih name rest (omega (arith, enough, length-same b (clamp_at (next (points_of b at))) name at dominates)) there goes completes))
+        elim (low-or-on ClampedStanding at rest (says at terminal h) begins whole) [
+          | inl le ↦ le
+          | inr (name, deep, found, legal, less) ↦
+              (let (goes, completes) = legal-parts b.block name rest legal in
+              absurd (omega (arith, less, ih name rest (omega (arith, enough, deep)) (node-stands closes b.block Q prefix tree name shows found) goes completes)))
         ]
 
     -- so each order under a node that stands takes at least low
@@ -106,7 +119,7 @@ module _ {M : Type 0} (closes : M → Bool) (b : Problem) (low : ℕ) (Q : List 
 
   -- WITHOUT NAMES
 
-  module _ (says : (at : List ℕ) (terminal : M) → Q at terminal → IsShut b low at ⊎ IsNamed closes NoneNamed b prefix tree at) where
+  module _ (says : (at : List ℕ) (terminal : M) → Q at terminal → IsShut b low at ⊎ IsNamed closes NoneNamed b low prefix tree at) where
     unnamed-step : (at : List ℕ) (terminal : M) (rest : List ℕ) → Q at terminal → IsBeginning b.block at → Completes b.block at rest → low ≤ total_of b (at ++ rest)
     unnamed-step at terminal rest h begins whole =
         elim (says at terminal h) [
@@ -116,7 +129,7 @@ module _ {M : Type 0} (closes : M → Bool) (b : Problem) (low : ℕ) (Q : List 
 
   -- BY ANY RULE: each unsplit prefix is shut or named, and what closes one shuts it
 
-  pub shown-by : (rule : Rule) → ((at : List ℕ) (terminal : M) → Q at terminal → IsShut b low at ⊎ IsNamed closes rule b prefix tree at) → ((at : List ℕ) (terminal : M) → closes terminal ≡ true → Q at terminal → IsShut b low at) → (rest : List ℕ) → IsLegal b.block (prefix ++ rest) → low ≤ total_of b (prefix ++ rest)
+  pub shown-by : (rule : Rule) → ((at : List ℕ) (terminal : M) → Q at terminal → IsShut b low at ⊎ IsNamed closes rule b low prefix tree at) → ((at : List ℕ) (terminal : M) → closes terminal ≡ true → Q at terminal → IsShut b low at) → (rest : List ℕ) → IsLegal b.block (prefix ++ rest) → low ≤ total_of b (prefix ++ rest)
   shown-by NoneNamed says shuts rest legal =
       (let (begins, whole) = legal-parts b.block prefix rest legal in
       tree-find b Q (λ x. low ≤ total_of b x) (unnamed-step says) prefix tree shows begins rest whole)
@@ -128,32 +141,33 @@ module _ {M : Type 0} (closes : M → Bool) (b : Problem) (low : ℕ) (Q : List 
 -- TREES WITH LEAVES
 
 abbrev bounds : Ending → Bool
-bounds (Bounding leaf) = true
-bounds (Dominated name) = false
-bounds (Next number) = true
-bounds (Turned first second) = true
-bounds (AtLine line) = false
-bounds (LoadFrom after numbers) = true
-
-leaf-shuts : (b : Problem) (low : ℕ) (at : List ℕ) (leaf : Leaf) → LeafShows b low at leaf → IsShut b low at
-leaf-shuts b low at leaf h rest begins whole = omega (arith, leaf-sound b at rest leaf begins whole h.0, h.1)
+bounds ending = is_standing (Some (AtTerminal ending))
 
 may-name : (rule : Rule) (vertex : Option (Vertex Ending)) → may_be_named rule vertex ≡ may_name bounds rule vertex
 may-name NoneNamed vertex = refl
 may-name WrittenEarlier vertex = refl
 may-name ClampedStanding None = refl
 may-name ClampedStanding (Some (AtSplit numbers)) = refl
-may-name ClampedStanding (Some (AtTerminal (Bounding leaf))) = refl
-may-name ClampedStanding (Some (AtTerminal (Dominated name))) = refl
-may-name ClampedStanding (Some (AtTerminal (Next number))) = refl
-may-name ClampedStanding (Some (AtTerminal (Turned first second))) = refl
-may-name ClampedStanding (Some (AtTerminal (AtLine line))) = refl
-may-name ClampedStanding (Some (AtTerminal (LoadFrom after numbers))) = refl
+may-name ClampedStanding (Some (AtTerminal ending)) = refl
+
+pub leaf-shuts : (b : Problem) (low : ℕ) (at : List ℕ) (leaf : Leaf) → LeafShows b low at leaf → IsShut b low at
+leaf-shuts b low at leaf h rest begins whole = omega (arith, leaf-sound b at rest leaf begins whole h.0, h.1)
+
+-- what is no worse stays below each time
+still_below : (b : Problem) (low : ℕ) (name at : List ℕ) → IsNoWorse b name at → StaysBelow b low name at
+still_below b low name at no_worse rest legal less = (let (after, le) = no_worse rest legal in (after, omega (arith, le, less)))
+
+pub rule-takes : (rule : Rule) (b : Problem) (low : ℕ) (name at : List ℕ) → DominatesByRule rule b name at → IsTaken rule name at × StaysBelow b low name at
+rule-takes NoneNamed b low name at h = absurd h
+rule-takes WrittenEarlier b low name at h = (h.1, still_below b low name at (written-no-worse b name at h.2))
+rule-takes ClampedStanding b low name at h =
+    (length-same b (clamp_at (next (points_of b at))) name at h.1, still_below b low name at (clamped-no-worse b name at h.1))
 
 module _ (rule : Rule) (b : Problem) (low : ℕ) (prefix : List ℕ) (tree : Tree Ending) where
-  ending-says : (at : List ℕ) (ending : Ending) → EndingShows rule b low prefix tree at ending → IsShut b low at ⊎ IsNamed bounds rule b prefix tree at
+  ending-says : (at : List ℕ) (ending : Ending) → EndingShows rule b low prefix tree at ending → IsShut b low at ⊎ IsNamed bounds rule b low prefix tree at
   ending-says at (Bounding leaf) h = inl (leaf-shuts b low at leaf h)
-  ending-says at (Dominated name) h = inr (name, h.0, sym (may-name rule (node_named prefix tree name)) ∙ h.1)
+  ending-says at (Dominated name) h =
+      (let (taken, stays) = rule-takes rule b low name at h.0 in inr (name, taken, stays, sym (may-name rule (node_named prefix tree name)) ∙ h.1))
   ending-says at (Next number) h = absurd h
   ending-says at (Turned first second) h = absurd h
   ending-says at (AtLine line) h = absurd h

@@ -2,6 +2,7 @@
 use Rattle.std.proofs.Common.{ℕ, ◌+◌, ◌≤◌, ◌≡◌, cond, ◌&&◌, true, max, min, List, [], ◌∷◌, ◌++◌, length, refl, arith, inl, inr, ltb, ◌∙◌, append_assoc}
 use Rattle.std.proofs.lemmas.Bool.{cond-true, eq-eqb, lt-ltb}
 use Rattle.std.proofs.lemmas.List.{append-nil}
+use Rattle.s66_isa.specs.declared.instr.Instr.{Instr}
 use Rattle.s66_isa.specs.declared.instr.Kind.{Kind}
 use Rattle.s66_isa.specs.declared.reg.Reg.{Reg}
 use Rattle.s66_isa.specs.Lists.{greatest, tally}
@@ -9,17 +10,17 @@ use Rattle.s66_isa.specs.Table.{same_reg, same_kind, kind_number}
 use Rattle.s66_isa.proofs.Lists.{cases_le, ones}
 use Rattle.s66_isa.proofs.SameRegister.{same_reg-self}
 use Rattle.s66_model.specs.Timing.{Problem, ResultAt, Point, copies, next, total, total_of, done_of, busy_at, point_of, points_of}
-use Rattle.s66_model.specs.LegalOrder.{is_ready, GoesOn}
+use Rattle.s66_model.specs.LegalOrder.{is_ready, GoesOn, IsBeginning}
 use Rattle.s66_model.specs.Dominance.{free_times, Clamp, IsNoLater, IsSameSet, DominatesBy, no_clamp, Dominates, clamp_at, DominatesClamped, IsNoWorse}
 use Rattle.s66_model.proofs.SameSet.{is_ready-same, sum_remaining-same}
 use Rattle.s66_model.proofs.LegalOrders.{has-push, sum_remaining-run, order-legal}
 use Rattle.s66_model.proofs.Remaining.{step-begins, legal-parts}
 use Rattle.s66_model.proofs.Issue.{some_copies, done_of-le-total, none_busy}
-use Rattle.s66_model.proofs.PointTimes.{good-at, points_after-append, next-le-issue, issue-le-start}
+use Rattle.s66_model.proofs.PointTimes.{points_after-append, next-le-issue}
 use Rattle.s66_model.proofs.LoadBound.{next-le-total}
 use Rattle.s66_model.proofs.ChainBound.{last-is_greatest}
 use Rattle.s66_model.proofs.FreeTimes.{busy-later, free_times-falling, places-busy, busy-places}
-use Rattle.s66_model.proofs.PushedBoth.{Below, IsLate, push-below}
+use Rattle.s66_model.proofs.PushedBoth.{Below, push-below}
 
 -- UNITS BY PLACES AND COUNTED
 
@@ -80,12 +81,15 @@ total-within b c q s h =
 
 -- ONE SET
 
-same-push : (other prefix : List ℕ) (n : ℕ) → IsSameSet other prefix → IsSameSet (other ++ n ∷ []) (prefix ++ n ∷ [])
+pub same-push : (other prefix : List ℕ) (n : ℕ) → IsSameSet other prefix → IsSameSet (other ++ n ∷ []) (prefix ++ n ∷ [])
 same-push other prefix n h m = rw (has-push m n other, has-push m n prefix, h m) refl
 
+pub set-length : (block : List Instr) (other prefix : List ℕ) → IsSameSet other prefix → IsBeginning block prefix → IsBeginning block other → length other ≡ length prefix
+set-length block other prefix same begins other_begins =
+    omega (arith, sum_remaining-same block other prefix same (λ _. 1), sum_remaining-run block (λ _. 1) [] prefix begins, sum_remaining-run block (λ _. 1) [] other other_begins, ones prefix, ones other)
+
 pub length-same : (b : Problem) (c : Clamp) (other prefix : List ℕ) → DominatesBy c b other prefix → length other ≡ length prefix
-length-same b c other prefix h =
-    omega (arith, sum_remaining-same b.block other prefix h.same_set (λ _. 1), sum_remaining-run b.block (λ _. 1) [] prefix h.begins, sum_remaining-run b.block (λ _. 1) [] other h.other_begins, ones prefix, ones other)
+length-same b c other prefix h = set-length b.block other prefix h.same_set h.begins h.other_begins
 
 -- THE SAME NUMBERS ON BOTH, for clamps that rise with the next slot and aren't past it
 
@@ -128,21 +132,12 @@ module _ (b : Problem) (clamp : ℕ → Clamp) (is : IsClamping clamp) where
   abbrev Ahead : List ℕ → List ℕ → Type 0
   Ahead other prefix = DominatesBy (clamp (next (points_of b prefix))) b other prefix
 
-  late-next : (s : List Point) (n : ℕ) → IsLate b (clamp (next s)) s n
-  late-next s n =
-      let issue : (clamp (next s)).others ≤ (point_of b s n).issue = omega (arith, is.others (next s), next-le-issue b s n) in
-      record {
-        issue = issue;
-        start = omega (arith, issue, issue-le-start b s n);
-        result = λ w among. omega (arith, is.readers (next s), next-le-issue b s n, issue-le-start b s n, ((good-at b n).latencies w among).0);
-      }
-
   words-push : (other prefix : List ℕ) (n : ℕ) → Ahead other prefix → IsNoLater b (clamp (next (point_of b (points_of b prefix) n ∷ points_of b prefix))) (point_of b (points_of b other) n ∷ points_of b other) (point_of b (points_of b prefix) n ∷ points_of b prefix)
   words-push other prefix n h =
       let s = points_of b prefix in
       let q = points_of b other in
       let now : next s ≤ next (point_of b s n ∷ s) = omega (arith, next-le-issue b s n) in
-      let pushed = push-below b (clamp (next s)) q s n (no_later-below b (clamp (next s)) q s h.no_later) (late-next s n) (last-is_greatest b other) (last-is_greatest b prefix) in
+      let pushed = push-below b (clamp (next s)) q s n (no_later-below b (clamp (next s)) q s h.no_later) (is.others (next s)) (is.readers (next s)) (last-is_greatest b other) (last-is_greatest b prefix) in
       below-no_later b (clamp (next (point_of b s n ∷ s))) (point_of b q n ∷ q) (point_of b s n ∷ s)
       (below-later b (clamp (next s)) (clamp (next (point_of b s n ∷ s))) (point_of b q n ∷ q) (point_of b s n ∷ s) (is.others_rise (next s) (next (point_of b s n ∷ s)) now) (is.readers_rise (next s) (next (point_of b s n ∷ s)) now) pushed)
 

@@ -1,4 +1,4 @@
--- Every order takes at least a time if each either does or has an earlier one that is as quick.
+-- Every order takes at least a time if each either does or has an earlier one that takes less than it.
 use Rattle.std.proofs.Common.{ℕ, zero, suc, ◌+◌, ◌*◌, ◌-◌, ◌≤◌, ◌<◌, ◌≡◌, ◌⊎◌, List, [], ◌∷◌, ◌++◌, length, sym, ap, arith, inl, inr, ◌∙◌}
 use Rattle.s66_isa.specs.declared.instr.Instr.{Instr}
 use Rattle.s66_model.specs.Timing.{Problem, total_of}
@@ -56,22 +56,22 @@ goes-digits block there (n ∷ ns) h =
 
 -- DESCENT among the orders that begin with a prefix
 
--- an earlier order that is as quick
-abbrev pub HasBetter : Problem → List ℕ → List ℕ → Type 0
-HasBetter b prefix order =
-    (rest : List ℕ) × IsOrder b.block (prefix ++ rest) × (total_of b (prefix ++ rest) ≤ total_of b order) × IsEarlier (prefix ++ rest) order
+-- an earlier order that takes less than low
+abbrev pub HasEarlier : Problem → ℕ → List ℕ → List ℕ → Type 0
+HasEarlier b low prefix order =
+    (rest : List ℕ) × IsOrder b.block (prefix ++ rest) × (total_of b (prefix ++ rest) < low) × IsEarlier (prefix ++ rest) order
 
-module _ (b : Problem) (low : ℕ) (prefix : List ℕ) (step : (rest : List ℕ) → IsOrder b.block (prefix ++ rest) → (low ≤ total_of b (prefix ++ rest)) ⊎ HasBetter b prefix (prefix ++ rest)) where
+module _ (b : Problem) (low : ℕ) (prefix : List ℕ) (step : (rest : List ℕ) → IsOrder b.block (prefix ++ rest) → (low ≤ total_of b (prefix ++ rest)) ⊎ HasEarlier b low prefix (prefix ++ rest)) where
   fall : (fuel : ℕ) (rest : List ℕ) → IsOrder b.block (prefix ++ rest) → rank (suc (length b.block)) (prefix ++ rest) < fuel → low ≤ total_of b (prefix ++ rest)
   fall zero rest legal h = absurd (omega arith)
   fall (suc fuel) rest legal h =
       elim (step rest legal) [
         | inl done ↦ done
-        | inr better ↦
+        | inr earlier ↦
             (let base : ℕ = suc (length b.block) in
-            let other : List ℕ = prefix ++ better.0 in
-            let less : rank base other < rank base (prefix ++ rest) = rank-earlier base other (prefix ++ rest) (goes-digits b.block [] other better.1.0) (better.1.1 ∙ sym legal.1) better.3 in
-            omega (arith, fall fuel better.0 better.1 (omega (arith, less, h)), better.2))
+            let other : List ℕ = prefix ++ earlier.0 in
+            let less : rank base other < rank base (prefix ++ rest) = rank-earlier base other (prefix ++ rest) (goes-digits b.block [] other earlier.1.0) (earlier.1.1 ∙ sym legal.1) earlier.3 in
+            omega (arith, fall fuel earlier.0 earlier.1 (omega (arith, less, h)), earlier.2))
       ]
 
   -- no order has earlier ones without end

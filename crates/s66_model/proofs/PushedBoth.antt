@@ -1,4 +1,4 @@
--- After a push of the same number on both, points that were no later than others still are.
+-- A number that finds nothing later after some points than after others comes no later. After a push of it on both, what found nothing later still doesn't, and points that were no later than others still are.
 use Rattle.std.proofs.Common.{ℕ, ◌+◌, ◌%◌, ◌≤◌, ◌<◌, ◌≡◌, Bool, true, false, cond, ◌&&◌, max, min, List, [], ◌∷◌, refl, ap, arith, inl, inr, ltb, eqb, map}
 use Rattle.std.proofs.lemmas.Bool.{cases_Bool, lt-ltb, le-ltb}
 use Rattle.s66_isa.specs.declared.instr.Kind.{Kind}
@@ -9,10 +9,11 @@ use Rattle.s66_isa.specs.Lists.{greatest, tally, Among}
 use Rattle.s66_isa.specs.Table.{Row, Write, same_reg, same_kind, has_reg, memory_pair, touches, stores}
 use Rattle.s66_isa.proofs.Lists.{cases_le, greatest-le, le-greatest, greatest-same}
 use Rattle.s66_model.specs.Packing.{fits_at}
-use Rattle.s66_model.specs.Timing.{Problem, ResultAt, Point, row_at, copies, next, next_parcel, parcel_of, slot_of, busy_at, issue_of, start_of, done_at, done_of, last_done, readers_wait, result_at, free_after, point, point_of}
+use Rattle.s66_model.specs.Timing.{Problem, ResultAt, Point, row_at, copies, next, next_parcel, slot_of, busy_at, issue_of, start_of, done_at, done_of, last_done, memory_wait, readers_wait, end_of, result_at, free_after, point, point_of}
 use Rattle.s66_model.specs.Dominance.{place_in_word, references_wait, stores_wait, Clamp}
 use Rattle.s66_model.proofs.Issue.{issue-is}
-use Rattle.s66_model.proofs.PointTimes.{point_of-row}
+use Rattle.s66_model.proofs.PointTimes.{good-at, point_of-row, next-le-issue, issue-le-start}
+use Rattle.s66_model.proofs.ChainBound.{reads-le-start, memory-le-start}
 
 -- q is no later than s or the clamps, with the busy units counted
 pub record Below (b : Problem) (c : Clamp) (q s : List Point) : Type 0 where
@@ -24,11 +25,13 @@ pub record Below (b : Problem) (c : Clamp) (q s : List Point) : Type 0 where
   pub references : references_wait q ≤ max (references_wait s) c.others
   pub stores : stores_wait q ≤ max (stores_wait s) c.others
 
--- n comes no earlier after s than the clamps
-pub record IsLate (b : Problem) (c : Clamp) (s : List Point) (n : ℕ) : Type 0 where
-  pub issue : c.others ≤ (point_of b s n).issue
-  pub start : c.others ≤ (point_of b s n).start
-  pub result : (w : Write) → Among w (row_at b n).writes → c.readers ≤ (point_of b s n).start + w.latency
+-- n finds nothing later after q than after s, or than it issues and starts, with the busy units counted
+pub record FindsBelow (b : Problem) (q s : List Point) (issue start n : ℕ) : Type 0 where
+  pub writers : (w : Write) → Among w (row_at b n).writes → done_of q w.reg ≤ max (done_of s w.reg) issue
+  pub busy : (t : ℕ) → issue ≤ t → min (copies b (row_at b n).kind) (tally (busy_at (row_at b n).kind t) q) ≤ min (copies b (row_at b n).kind) (tally (busy_at (row_at b n).kind t) s)
+  pub operands : (x : Reg) → Among x (row_at b n).reads → done_of q x ≤ max (done_of s x) start
+  pub memory : memory_wait q (row_at b n) ≤ max (memory_wait s (row_at b n)) start
+  pub readers : (w : Write) → Among w (row_at b n).writes → readers_wait q w.reg ≤ max (readers_wait s w.reg) (start + w.latency)
 
 -- WHAT COMES NEXT
 
@@ -53,27 +56,21 @@ pub slot-is : (s : List Point) (len : ℕ) → slot_of s len ≡ next s + pad le
 slot-is [] len = omega (arith, pad_zero len)
 slot-is (p ∷ s) len = omega (arith, fits-is (p.parcel + p.row.parcels) len)
 
-parcel-is : (s : List Point) (len : ℕ) → parcel_of s len ≡ next_parcel s + pad len (next_parcel s % 4)
-parcel-is s len = fits-is (next_parcel s) len
+pub slot-le : (q s : List Point) (len : ℕ) → next q ≤ next s → place_in_word q ≡ place_in_word s → slot_of q len ≤ slot_of s len
+slot-le q s len le same = omega (arith, slot-is q len, slot-is s len, ap (pad len) same, le)
 
-mod_arith : (x y d : ℕ) → x % 4 ≡ y % 4 → (x + d) % 4 ≡ (y + d) % 4
-mod_arith x y d h = omega arith
+fits_place : (x y len : ℕ) → x % 4 ≡ y % 4 → (fits_at x len + len) % 4 ≡ (fits_at y len + len) % 4
+fits_place x y len same =
+    elim (cases_Bool (eqb len 2 && eqb (y % 4) 3)) [
+      | inl is ↦ rw (same, is) (omega arith)
+      | inr is ↦ rw (same, is) (omega arith)
+    ]
 
-phase_arith : (y y' len : ℕ) → y' % 4 ≡ y % 4 → (y' + pad len (y' % 4) + len) % 4 ≡ (y + pad len (y % 4) + len) % 4
-phase_arith y y' len e =
-    let p : pad len (y' % 4) ≡ pad len (y % 4) = ap (pad len) e in
-    omega (arith, mod_arith y' y (pad len (y % 4) + len) e)
+pub phase-push : (b : Problem) (q s : List Point) (n : ℕ) → place_in_word q ≡ place_in_word s → place_in_word (point_of b q n ∷ q) ≡ place_in_word (point_of b s n ∷ s)
+unfolding point
+phase-push b q s n same = fits_place (next_parcel q) (next_parcel s) (row_at b n).parcels same
 
 -- WHAT EACH WAITS FOR
-
--- f is at most g or c everywhere
-greatest-or : {X : Type 0} (f g : X → ℕ) (c : ℕ) → ((x : X) → f x ≤ max (g x) c) → (xs : List X) → greatest f xs ≤ max (greatest g xs) c
-greatest-or f g c each [] = omega arith
-greatest-or f g c each (x ∷ xs) = omega (arith, each x, greatest-or f g c each xs)
-
-greatest-zero : {X : Type 0} (f : X → ℕ) → ((x : X) → f x ≡ 0) → (xs : List X) → greatest f xs ≡ 0
-greatest-zero f h [] = refl
-greatest-zero f h (x ∷ xs) = rw (h x, greatest-zero f h xs) refl
 
 -- what a reference waits for: a load for stores, a store for all references
 pair-none : (m : Memory) → memory_pair m memory.None ≡ false
@@ -98,29 +95,31 @@ wait-same : (k l : Memory → Bool) → ((m : Memory) → k m ≡ l m) → (s : 
 wait-same k l h s =
     greatest-same (λ (p : Point). cond (k p.row.memory) (p.start + 1) 0) (λ (p : Point). cond (l p.row.memory) (p.start + 1) 0) s (λ p _. ap (λ t. cond {A = ℕ} t (p.start + 1) 0) (h p.row.memory))
 
-memory_by : (m : Memory) (q s : List Point) (c start : ℕ) → references_wait q ≤ max (references_wait s) c → stores_wait q ≤ max (stores_wait s) c → wait_word (λ k. memory_pair k m) s ≤ start → c ≤ start → wait_word (λ k. memory_pair k m) q ≤ start
-memory_by memory.None q s c start refs stored h late =
-    omega (arith, greatest-zero (λ (p : Point). cond (memory_pair p.row.memory memory.None) (p.start + 1) 0) (λ p. ap (λ t. cond {A = ℕ} t (p.start + 1) 0) (pair-none p.row.memory)) q)
-memory_by memory.Load q s c start refs stored h late =
+wait-none : (s : List Point) → wait_word (λ k. memory_pair k memory.None) s ≡ 0
+wait-none [] = refl
+wait-none (p ∷ s) = rw (pair-none p.row.memory) (omega (arith, wait-none s))
+
+pub memory-clamped : (m : Memory) (q s : List Point) (c start : ℕ) → references_wait q ≤ max (references_wait s) c → stores_wait q ≤ max (stores_wait s) c → c ≤ start → wait_word (λ k. memory_pair k m) q ≤ max (wait_word (λ k. memory_pair k m) s) start
+memory-clamped memory.None q s c start refs stored late = omega (arith, wait-none q)
+memory-clamped memory.Load q s c start refs stored late =
     omega (arith, wait-same (λ k. memory_pair k memory.Load) stores pair-load s, wait-same (λ k. memory_pair k memory.Load) stores pair-load q)
-memory_by memory.Store q s c start refs stored h late =
+memory-clamped memory.Store q s c start refs stored late =
     omega (arith, wait-same (λ k. memory_pair k memory.Store) touches pair-store s, wait-same (λ k. memory_pair k memory.Store) touches pair-store q)
 
 -- results that come no later, each register waiting for its readers
-pub results-le : (k : Reg → Bool → Bool) (c : ℕ) (q s : List Point) (start early : ℕ) → ((r : Reg) → readers_wait q r ≤ max (readers_wait s r) c) → early ≤ start → (ws : List Write) → ((w : Write) → Among w ws → c ≤ start + w.latency) → greatest (λ (d : ResultAt). cond (k d.reg d.held) d.time 0) (map (result_at q early) ws) ≤ greatest (λ (d : ResultAt). cond (k d.reg d.held) d.time 0) (map (result_at s start) ws)
-results-le k c q s start early read le [] h = omega arith
-results-le k c q s start early read le (w ∷ ws) h =
-    let ih = results-le k c q s start early read le ws (λ v among. h v (inr among)) in
-    let here : max (early + w.latency) (readers_wait q w.reg) ≤ max (start + w.latency) (readers_wait s w.reg) = omega (arith, read w.reg, h w (inl refl)) in
+results-le : (k : Reg → Bool → Bool) (q s : List Point) (start early : ℕ) → early ≤ start → (ws : List Write) → ((w : Write) → Among w ws → readers_wait q w.reg ≤ max (readers_wait s w.reg) (start + w.latency)) → greatest (λ (d : ResultAt). cond (k d.reg d.held) d.time 0) (map (result_at q early) ws) ≤ greatest (λ (d : ResultAt). cond (k d.reg d.held) d.time 0) (map (result_at s start) ws)
+results-le k q s start early le [] h = omega arith
+results-le k q s start early le (w ∷ ws) h =
+    let ih = results-le k q s start early le ws (λ v among. h v (inr among)) in
+    let here : max (early + w.latency) (readers_wait q w.reg) ≤ max (start + w.latency) (readers_wait s w.reg) = omega (arith, h w (inl refl)) in
     elim (cases_Bool (k w.reg w.held)) [
       | inl is ↦ rw is (omega arith)
       | inr is ↦ rw is (omega arith)
     ]
 
-pub free-le : (c : ℕ) (q s : List Point) (start early hold : ℕ) → ((r : Reg) → readers_wait q r ≤ max (readers_wait s r) c) → early ≤ start → (ws : List Write) → ((w : Write) → Among w ws → c ≤ start + w.latency) → free_after early hold (map (result_at q early) ws) ≤ free_after start hold (map (result_at s start) ws)
-free-le c q s start early hold read le [] h = omega arith
-free-le c q s start early hold read le (w ∷ ws) h =
-    omega (arith, results-le (λ _ held. held) c q s start early read le (w ∷ ws) h)
+free-le : (q s : List Point) (start early hold : ℕ) → early ≤ start → (ws : List Write) → ((w : Write) → Among w ws → readers_wait q w.reg ≤ max (readers_wait s w.reg) (start + w.latency)) → free_after early hold (map (result_at q early) ws) ≤ free_after start hold (map (result_at s start) ws)
+free-le q s start early hold le [] h = omega arith
+free-le q s start early hold le (w ∷ ws) h = omega (arith, results-le (λ _ held. held) q s start early le (w ∷ ws) h)
 
 cond_le : (t : Bool) (x y : ℕ) → x ≤ y → cond t x 0 ≤ cond t y 0
 cond_le true x y h = h
@@ -137,68 +136,99 @@ busy_one : (k : Bool) (t x y : ℕ) → x ≤ y → cond (k && ltb t x) 1 0 ≤ 
 busy_one true t x y h = later_le t x y h
 busy_one false t x y h = omega arith
 
--- A PUSH ON BOTH
+-- A NUMBER THAT FINDS NOTHING LATER than it issues and starts after s
 
-module _ (b : Problem) (c : Clamp) (q s : List Point) (n : ℕ) (h : Below b c q s) (late : IsLate b c s n) where
-  issue-below : (point_of b q n).issue ≤ (point_of b s n).issue
+module _ (b : Problem) (q s : List Point) (n : ℕ) (h : FindsBelow b q s (point_of b s n).issue (point_of b s n).start n) (slot : slot_of q (row_at b n).parcels ≤ slot_of s (row_at b n).parcels) where
+  pub issue-below : (point_of b q n).issue ≤ (point_of b s n).issue
   unfolding point
   issue-below =
       let r : Row = row_at b n in
       let t = issue_of b s r in
       let is = issue-is b s r in
-      let slot : slot_of q r.parcels ≤ t = omega (arith, slot-is q r.parcels, slot-is s r.parcels, ap (pad r.parcels) h.phase, h.slot, is.late) in
-      let free : tally (busy_at r.kind t) q < copies b r.kind = omega (arith, h.busy r.kind t late.issue, is.passes.0) in
+      let free : tally (busy_at r.kind t) q < copies b r.kind = omega (arith, h.busy t (omega arith), is.passes.0) in
       let by : (w : Write) → Among w r.writes → done_of q w.reg ≤ t = λ w among.
-      omega (arith, h.writers w.reg, late.issue, greatest-le (λ (p : Point). done_at p w.reg) t s (λ p in_s. is.passes.1 p in_s w among)) in
-      (issue-is b q r).least t slot (free, λ p in_q w among. omega (arith, by w among, le-greatest (λ (v : Point). done_at v w.reg) p q in_q))
+      omega (arith, h.writers w among, greatest-le (λ (p : Point). done_at p w.reg) t s (λ p in_s. is.passes.1 p in_s w among)) in
+      (issue-is b q r).least t (omega (arith, slot, is.late)) (free, λ p in_q w among. omega (arith, by w among, le-greatest (λ (v : Point). done_at v w.reg) p q in_q))
 
-  module _ (last_q : (r : Reg) → last_done r q ≡ done_of q r) (last_s : (r : Reg) → last_done r s ≡ done_of s r) where
-    start-below : (point_of b q n).start ≤ (point_of b s n).start
+  pub slot-push : next (point_of b q n ∷ q) ≤ next (point_of b s n ∷ s)
+  slot-push = rw (point_of-row b q n, point_of-row b s n) (omega (arith, issue-below))
+
+  module _ (last_q : (x : Reg) → last_done x q ≡ done_of q x) (last_s : (x : Reg) → last_done x s ≡ done_of s x) where
+    operand-by : (x : Reg) → Among x (row_at b n).reads → last_done x q ≤ (point_of b s n).start
+    operand-by x among =
+        omega (arith, h.operands x among, last_q x, last_s x, le-greatest (λ y. last_done y s) x (row_at b n).reads among, reads-le-start b s n)
+
+    pub start-below : (point_of b q n).start ≤ (point_of b s n).start
     unfolding point start_of
     start-below =
         let r : Row = row_at b n in
-        let start = (point_of b s n).start in
-        omega (
-          arith,
-          issue-below,
-          late.start,
-          memory_by r.memory q s c.others start h.references h.stores (omega arith) late.start,
-          greatest-or (λ x. last_done x q) (λ x. last_done x s) c.others (λ x. omega (arith, h.writers x, last_q x, last_s x)) r.reads,
-        )
+        omega (arith, issue-below, greatest-le (λ x. last_done x q) (point_of b s n).start r.reads operand-by, h.memory, memory-le-start b s n)
 
-    done-below : (r : Reg) → done_at (point_of b q n) r ≤ done_at (point_of b s n) r
+    pub done-below : (x : Reg) → done_at (point_of b q n) x ≤ done_at (point_of b s n) x
     unfolding point
     done-below x =
         let r : Row = row_at b n in
-        results-le (λ reg _. same_reg reg x) c.readers q s (start_of b s r) (start_of b q r) h.readers start-below r.writes late.result
+        results-le (λ reg _. same_reg reg x) q s (start_of b s r) (start_of b q r) start-below r.writes h.readers
 
-    free-below : (point_of b q n).free ≤ (point_of b s n).free
+    pub free-below : (point_of b q n).free ≤ (point_of b s n).free
     unfolding point
     free-below =
         let r : Row = row_at b n in
-        free-le c.readers q s (start_of b s r) (start_of b q r) r.hold h.readers start-below r.writes late.result
+        free-le q s (start_of b s r) (start_of b q r) r.hold start-below r.writes h.readers
 
-    phase-below : place_in_word (point_of b q n ∷ q) ≡ place_in_word (point_of b s n ∷ s)
+    pub end-below : end_of (point_of b q n) ≤ end_of (point_of b s n)
     unfolding point
-    phase-below =
+    end-below =
         let r : Row = row_at b n in
-        let e : (next_parcel q + pad r.parcels (next_parcel q % 4) + r.parcels) % 4 ≡ (next_parcel s + pad r.parcels (next_parcel s % 4) + r.parcels) % 4 = phase_arith (next_parcel s) (next_parcel q) r.parcels h.phase in
-        rw (parcel-is q r.parcels, parcel-is s r.parcels) e
+        omega (arith, free-below, results-le (λ _ _. true) q s (start_of b s r) (start_of b q r) start-below r.writes h.readers)
 
-    -- after the push of one number on both
-    pub push-below : Below b c (point_of b q n ∷ q) (point_of b s n ∷ s)
-    push-below =
-        let ps = point_of b s n in
-        let pq = point_of b q n in
-        let r : Row = row_at b n in
-        let es : ps.row ≡ r = point_of-row b s n in
-        let eq : pq.row ≡ r = point_of-row b q n in
+    -- PUSHED ON BOTH
+
+    wait-below : (test : Row → Bool) → cond (test (point_of b q n).row) ((point_of b q n).start + 1) 0 ≤ cond (test (point_of b s n).row) ((point_of b s n).start + 1) 0
+    wait-below test =
+        rw (point_of-row b q n, point_of-row b s n) (cond_le (test (row_at b n)) ((point_of b q n).start + 1) ((point_of b s n).start + 1) (omega (arith, start-below)))
+
+    busy-below : (kind : Kind) (t : ℕ) → cond (busy_at kind t (point_of b q n)) 1 0 ≤ cond {A = ℕ} (busy_at kind t (point_of b s n)) 1 0
+    busy-below kind t =
+        rw (point_of-row b q n, point_of-row b s n) (busy_one (same_kind (row_at b n).kind kind) t (point_of b q n).free (point_of b s n).free free-below)
+
+    -- what another number finds
+    pub finds-push : (issue start m : ℕ) → FindsBelow b q s issue start m → FindsBelow b (point_of b q n ∷ q) (point_of b s n ∷ s) issue start m
+    finds-push issue start m k =
         record {
-          slot = rw (es, eq) (omega (arith, issue-below, h.slot));
-          phase = phase-below;
-          writers = λ x. omega (arith, done-below x, h.writers x);
-          readers = λ x. rw (es, eq) (omega (arith, cond_le (has_reg x r.reads) (pq.start + 1) (ps.start + 1) (omega (arith, start-below)), h.readers x));
-          busy = λ kind t k. rw (es, eq) (omega (arith, busy_one (same_kind r.kind kind) t pq.free ps.free free-below, h.busy kind t k));
-          references = rw (es, eq) (omega (arith, cond_le (touches r.memory) (pq.start + 1) (ps.start + 1) (omega (arith, start-below)), h.references));
-          stores = rw (es, eq) (omega (arith, cond_le (stores r.memory) (pq.start + 1) (ps.start + 1) (omega (arith, start-below)), h.stores));
+          writers = λ w among. omega (arith, done-below w.reg, k.writers w among);
+          busy = λ t late. omega (arith, busy-below (row_at b m).kind t, k.busy t late);
+          operands = λ x among. omega (arith, done-below x, k.operands x among);
+          memory = omega (arith, wait-below (λ r. memory_pair r.memory (row_at b m).memory), k.memory);
+          readers = λ w among. omega (arith, wait-below (λ r. has_reg w.reg r.reads), k.readers w among);
         }
+
+    below-push : (c : Clamp) → Below b c q s → Below b c (point_of b q n ∷ q) (point_of b s n ∷ s)
+    below-push c k =
+        record {
+          slot = slot-push;
+          phase = phase-push b q s n k.phase;
+          writers = λ x. omega (arith, done-below x, k.writers x);
+          readers = λ x. omega (arith, wait-below (λ r. has_reg x r.reads), k.readers x);
+          busy = λ kind t late. omega (arith, busy-below kind t, k.busy kind t late);
+          references = omega (arith, wait-below (λ r. touches r.memory), k.references);
+          stores = omega (arith, wait-below (λ r. stores r.memory), k.stores);
+        }
+
+-- CLAMPED NO LATER THAN WHAT COMES NEXT
+
+module _ (b : Problem) (c : Clamp) (q s : List Point) (n : ℕ) (h : Below b c q s) (others : c.others ≤ next s) (readers : c.readers ≤ next s + 1) where
+  below-finds : FindsBelow b q s (point_of b s n).issue (point_of b s n).start n
+  below-finds =
+      let issue : c.others ≤ (point_of b s n).issue = omega (arith, others, next-le-issue b s n) in
+      let start : c.others ≤ (point_of b s n).start = omega (arith, issue, issue-le-start b s n) in
+      record {
+        writers = λ w _. omega (arith, h.writers w.reg, issue);
+        busy = λ t late. h.busy (row_at b n).kind t (omega (arith, issue, late));
+        operands = λ x _. omega (arith, h.writers x, start);
+        memory = memory-clamped (row_at b n).memory q s c.others (point_of b s n).start h.references h.stores start;
+        readers = λ w among. omega (arith, h.readers w.reg, readers, next-le-issue b s n, issue-le-start b s n, ((good-at b n).latencies w among).0);
+      }
+
+  pub push-below : ((x : Reg) → last_done x q ≡ done_of q x) → ((x : Reg) → last_done x s ≡ done_of s x) → Below b c (point_of b q n ∷ q) (point_of b s n ∷ s)
+  push-below last_q last_s = below-push b q s n below-finds (slot-le q s (row_at b n).parcels h.slot h.phase) last_q last_s c h
