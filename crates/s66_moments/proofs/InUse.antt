@@ -1,31 +1,27 @@
 -- What dominates in use stays ahead of the other as both go on with the same numbers, so it is no worse below the time. What dominates clamped does so in use.
-use Rattle.std.proofs.Common.{ℕ, ◌+◌, ◌≤◌, ◌<◌, ◌≡◌, ◌⊎◌, Bool, true, false, not, cond, ◌&&◌, leb, eqb, max, List, [], ◌∷◌, ◌++◌, length, refl, sym, ap, arith, inl, inr, subst, append_assoc, length-append, ◌∙◌}
+use Rattle.std.proofs.Common.{ℕ, ◌≤◌, ◌<◌, ◌≡◌, ◌⊎◌, true, not, ◌&&◌, leb, eqb, max, List, [], ◌∷◌, ◌++◌, length, refl, sym, arith, inl, inr, subst, append_assoc, length-append, ◌∙◌}
 use Rattle.std.proofs.lemmas.Bool.{and_parts, and_from, or_parts, not_from_false, le-leb}
 use Rattle.std.proofs.lemmas.List.{append-nil}
 use Rattle.s66_isa.specs.declared.instr.Instr.{Instr}
-use Rattle.s66_isa.specs.declared.instr.Memory.{Memory}
-use Rattle.s66_isa.specs.declared.instr.Memory.TheVariants as memory
-use Rattle.s66_isa.specs.Lists.{greatest, has}
-use Rattle.s66_isa.specs.Table.{memory_pair, touches, stores}
-use Rattle.s66_isa.proofs.Lists.{ones, greatest-same}
-use Rattle.s66_model.specs.Timing.{Problem, Point, row_at, copies, points_of, point_of, next, total_of}
+use Rattle.s66_isa.specs.Lists.{has}
+use Rattle.s66_model.specs.Timing.{Problem, Point, row_at, copies, points_of, point_of, next, slot_of, total_of}
 use Rattle.s66_model.specs.LegalOrder.{IsLegal, IsBeginning, needs_met, is_remaining, is_ready}
-use Rattle.s66_model.specs.Dominance.{place_in_word, references_wait, stores_wait, free_times, IsSameSet, clamp_at, IsNoLater, DominatesClamped}
+use Rattle.s66_model.specs.Dominance.{place_in_word, free_times, IsSameSet, clamp_at, IsNoLater, DominatesClamped}
 use Rattle.s66_moments.specs.declared.moment.Stage.TheVariants.{Issue, Start}
 use Rattle.s66_moments.specs.declared.moment.Moment.TheVariants.{At}
 use Rattle.s66_moments.specs.Moments.{time_of, soonest}
 use Rattle.s66_moments.specs.Facts.{Fact, AreSo}
 use Rattle.s66_moments.specs.InUse.{ComesNoSooner, FindsNoLater, DominatesInUse, IsNoWorseBelow}
-use Rattle.s66_model.proofs.SameSet.{is_ready-same, sum_remaining-same}
-use Rattle.s66_model.proofs.LegalOrders.{has-push, sum_remaining-run, order-legal}
+use Rattle.s66_model.proofs.SameSet.{is_ready-same}
+use Rattle.s66_model.proofs.LegalOrders.{has-push, order-legal}
 use Rattle.s66_model.proofs.Remaining.{remaining-parts, step-begins, legal-parts}
 use Rattle.s66_model.proofs.PointTimes.{good-at, points_after-append, next-le-issue, issue-le-start}
 use Rattle.s66_model.proofs.ChainBound.{last-is_greatest}
 use Rattle.s66_model.proofs.FreeTimes.{busy-later, free_times-falling, places-busy}
-use Rattle.s66_model.proofs.Dominating.{clamped-total}
+use Rattle.s66_model.proofs.PushedBoth.{FindsBelow, slot-le, phase-push, memory-clamped, slot-push, end-below, finds-push}
+use Rattle.s66_model.proofs.Dominating.{same-push, set-length, clamped-total}
 use Rattle.s66_moments.proofs.Placed.{placed-ready, time_at-placed}
 use Rattle.s66_moments.proofs.Soonest.{soonest-le, total-stays}
-use Rattle.s66_moments.proofs.PushedInUse.{FindsBelow, phase-below, slot-below, end-below, finds-push}
 
 -- what is found from some moments on is found from later ones on
 pub finds-later : (b : Problem) (q s : List Point) (issue start issue2 start2 n : ℕ) → issue ≤ issue2 → start ≤ start2 → FindsNoLater b q s issue start n → FindsNoLater b q s issue2 start2 n
@@ -66,9 +62,6 @@ record StaysAhead (b : Problem) (order : List ℕ) (own : ℕ) (xs ys : List ℕ
 pushed : (b : Problem) (xs : List ℕ) (m : ℕ) → points_of b (xs ++ m ∷ []) ≡ point_of b (points_of b xs) m ∷ points_of b xs
 pushed b xs m = points_after-append b [] xs (m ∷ [])
 
-same-push : (xs ys : List ℕ) (n : ℕ) → IsSameSet xs ys → IsSameSet (xs ++ n ∷ []) (ys ++ n ∷ [])
-same-push xs ys n same m = rw (has-push m n xs, has-push m n ys, same m) refl
-
 remains-before : (block : List Instr) (ys : List ℕ) (m n : ℕ) → is_remaining block (ys ++ m ∷ []) n ≡ true → is_remaining block ys n ≡ true
 remains-before block ys m n h =
     let (low, high, new) = remaining-parts block (ys ++ m ∷ []) n h in
@@ -84,37 +77,26 @@ module _ (b : Problem) (order : List ℕ) (legal : IsLegal b.block order) (own :
     abbrev s : List Point
     s = points_of b ys
 
-    abbrev issue : ℕ
-    issue = time_of b order (At m Issue)
-
-    abbrev start : ℕ
-    start = time_of b order (At m Start)
-
     ready : is_ready b.block ys m ≡ true
     ready = placed-ready b order legal ys more m is
 
-    found : FindsBelow b q s issue start m
-    found = h.finds m (and_parts (is_remaining b.block ys m) (needs_met b.block ys m m) ready).0
+    found : FindsBelow b q s (point_of b s m).issue (point_of b s m).start m
+    found =
+        let finds = h.finds m (and_parts (is_remaining b.block ys m) (needs_met b.block ys m m) ready).0 in
+        rw (time_at-placed b order legal ys more m (λ (p : Point). p.issue) is, time_at-placed b order legal ys more m (λ (p : Point). p.start) is) at finds
 
-    issue_late : issue ≤ (point_of b s m).issue
-    issue_late = omega (arith, time_at-placed b order legal ys more m (λ (p : Point). p.issue) is)
-
-    start_late : start ≤ (point_of b s m).start
-    start_late = omega (arith, time_at-placed b order legal ys more m (λ (p : Point). p.start) is)
-
-    finds-step : (n : ℕ) → is_remaining b.block (ys ++ m ∷ []) n ≡ true → FindsBelow b (point_of b q m ∷ q) (point_of b s m ∷ s) (time_of b order (At n Issue)) (time_of b order (At n Start)) n
-    finds-step n left =
-        finds-push b q s issue start m found h.slot h.phase issue_late start_late (last-is_greatest b xs) (last-is_greatest b ys) (time_of b order (At n Issue)) (time_of b order (At n Start)) n
-        (h.finds n (remains-before b.block ys m n left))
+    slot_le : slot_of q (row_at b m).parcels ≤ slot_of s (row_at b m).parcels
+    slot_le = slot-le q s (row_at b m).parcels h.slot h.phase
 
     step : StaysAhead b order own (xs ++ m ∷ []) (ys ++ m ∷ [])
     step = record {
       begins = step-begins b.block xs m h.begins (is_ready-same b.block xs ys h.same_set m ∙ ready);
       same_set = same-push xs ys m h.same_set;
-      slot = rw (pushed b xs m, pushed b ys m) (slot-below b q s issue start m found h.slot h.phase issue_late start_late);
-      phase = rw (pushed b xs m, pushed b ys m) (phase-below b q s issue start m found h.slot h.phase issue_late start_late);
-      finds = λ n left. rw (pushed b xs m, pushed b ys m) (finds-step n left);
-      total = rw (pushed b xs m, pushed b ys m) (omega (arith, end-below b q s issue start m found h.slot h.phase issue_late start_late (last-is_greatest b xs) (last-is_greatest b ys), h.total));
+      slot = rw (pushed b xs m, pushed b ys m) (slot-push b q s m found slot_le);
+      phase = rw (pushed b xs m, pushed b ys m) (phase-push b q s m h.phase);
+      finds = λ n left.
+          rw (pushed b xs m, pushed b ys m) (finds-push b q s m found slot_le (last-is_greatest b xs) (last-is_greatest b ys) (time_of b order (At n Issue)) (time_of b order (At n Start)) n (h.finds n (remains-before b.block ys m n left)));
+      total = rw (pushed b xs m, pushed b ys m) (omega (arith, end-below b q s m found slot_le (last-is_greatest b xs) (last-is_greatest b ys), h.total));
     }
 
   run : (xs ys rest : List ℕ) → order ≡ ys ++ rest → StaysAhead b order own xs ys → StaysAhead b order own (xs ++ rest) (ys ++ rest)
@@ -146,10 +128,6 @@ ahead b low known other prefix rest h legal less so =
         no_later-below b (points_of b other) (points_of b prefix) issue2 start2 n
         (finds-later b (points_of b other) (points_of b prefix) issue start issue2 start2 n (omega (arith, comes.issues (prefix ++ rest) legal less ((rest, refl), so))) (omega (arith, comes.starts (prefix ++ rest) legal less ((rest, refl), so))) finds)
 
-pub in_use-length : (b : Problem) (low : ℕ) (known : List Fact) (other prefix : List ℕ) → DominatesInUse b low known other prefix → length other ≡ length prefix
-in_use-length b low known other prefix h =
-    omega (arith, sum_remaining-same b.block other prefix h.same_set (λ _. 1), sum_remaining-run b.block (λ _. 1) [] prefix h.begins, sum_remaining-run b.block (λ _. 1) [] other h.other_begins, ones prefix, ones other)
-
 total_below : (low before own total : ℕ) → (own < low) ⊎ (own ≤ before) → before ≤ total → total < low → max own total < low
 total_below low before own total (inl less) le below = omega arith
 total_below low before own total (inr no_later) le below = omega arith
@@ -158,7 +136,7 @@ pub no_worse-below : (b : Problem) (low : ℕ) (known : List Fact) (other prefix
 no_worse-below b low known other prefix h rest legal less so =
     let (begins, completes) = legal-parts b.block prefix rest legal in
     let after = run b (prefix ++ rest) legal (total_of b other) other prefix rest refl (ahead b low known other prefix rest h legal less so) in
-    let size : length (other ++ rest) ≡ length b.block = omega (arith, length-append other rest, length-append prefix rest, in_use-length b low known other prefix h, completes.1) in
+    let size : length (other ++ rest) ≡ length b.block = omega (arith, length-append other rest, length-append prefix rest, set-length b.block other prefix h.same_set h.begins h.other_begins, completes.1) in
     let stays : total_of b prefix ≤ total_of b (prefix ++ rest) = total-stays b (prefix ++ rest) legal prefix rest refl in
     (order-legal b.block (other ++ rest) (after.begins, size), omega (arith, after.total, total_below low (total_of b prefix) (total_of b other) (total_of b (prefix ++ rest)) h.total stays less))
 
@@ -172,40 +150,6 @@ next-comes b low known prefix n left =
     }
 
 -- CLAMPED
-
--- a load waits for stores, a store for all references
-pair-none : (m : Memory) → memory_pair m memory.None ≡ false
-pair-none memory.None = refl
-pair-none memory.Load = refl
-pair-none memory.Store = refl
-
-pair-load : (m : Memory) → memory_pair m memory.Load ≡ stores m
-pair-load memory.None = refl
-pair-load memory.Load = refl
-pair-load memory.Store = refl
-
-pair-store : (m : Memory) → memory_pair m memory.Store ≡ touches m
-pair-store memory.None = refl
-pair-store memory.Load = refl
-pair-store memory.Store = refl
-
-abbrev wait_for : (Memory → Bool) → List Point → ℕ
-wait_for test s = greatest (λ (p : Point). cond (test p.row.memory) (p.start + 1) 0) s
-
-wait-same : (test other : Memory → Bool) → ((m : Memory) → test m ≡ other m) → (s : List Point) → wait_for test s ≡ wait_for other s
-wait-same test other same s =
-    greatest-same (λ (p : Point). cond (test p.row.memory) (p.start + 1) 0) (λ (p : Point). cond (other p.row.memory) (p.start + 1) 0) s (λ p _. ap (λ t. cond {A = ℕ} t (p.start + 1) 0) (same p.row.memory))
-
-wait-none : (s : List Point) → wait_for (λ k. memory_pair k memory.None) s ≡ 0
-wait-none [] = refl
-wait-none (p ∷ s) = rw (pair-none p.row.memory) (omega (arith, wait-none s))
-
-memory-clamped : (m : Memory) (q s : List Point) (c start : ℕ) → references_wait q ≤ max (references_wait s) c → stores_wait q ≤ max (stores_wait s) c → c ≤ start → wait_for (λ k. memory_pair k m) q ≤ max (wait_for (λ k. memory_pair k m) s) start
-memory-clamped memory.None q s c start refs stored late = omega (arith, wait-none q)
-memory-clamped memory.Load q s c start refs stored late =
-    omega (arith, wait-same (λ k. memory_pair k memory.Load) stores pair-load s, wait-same (λ k. memory_pair k memory.Load) stores pair-load q)
-memory-clamped memory.Store q s c start refs stored late =
-    omega (arith, wait-same (λ k. memory_pair k memory.Store) touches pair-store s, wait-same (λ k. memory_pair k memory.Store) touches pair-store q)
 
 pub clamped-finds : (b : Problem) (q s : List Point) (n : ℕ) → IsNoLater b (clamp_at (next s)) q s → FindsNoLater b q s (point_of b s n).issue (point_of b s n).start n
 clamped-finds b q s n h =

@@ -7,9 +7,7 @@ pub mod Soonest
 pub mod TableArcs
 pub mod Steps
 pub mod FoundedLines
-pub mod PushedInUse
 pub mod InUse
-pub mod InUseTrees
 pub mod ClosedTrees
 pub mod Tails
 pub mod PathWords

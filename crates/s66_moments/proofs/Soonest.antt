@@ -1,10 +1,9 @@
 -- A moment comes no sooner than if its instruction came next, and no later than the total.
-use Rattle.std.proofs.Common.{ℕ, ◌+◌, ◌≤◌, ◌<◌, ◌≡◌, Bool, true, false, cond, ◌&&◌, max, List, [], ◌∷◌, ◌++◌, ap, arith, eqb, subst}
+use Rattle.std.proofs.Common.{ℕ, ◌+◌, ◌≤◌, ◌≡◌, Bool, true, false, cond, ◌&&◌, List, [], ◌∷◌, ◌++◌, ap, arith, eqb, subst}
 use Rattle.s66_isa.specs.declared.reg.Reg.{Reg}
-use Rattle.s66_isa.specs.Lists.{greatest, tally, Among}
-use Rattle.s66_isa.specs.Table.{Row, Write, same_reg, has_reg, memory_pair}
-use Rattle.s66_isa.proofs.Lists.{greatest-le, le-greatest, greatest-le-greatest}
-use Rattle.s66_model.specs.Timing.{Problem, Point, row_at, copies, done_at, done_of, last_done, end_of, slot_of, busy_at, issue_of, start_of, readers_wait, point, point_of, points_after, points_of, total_of}
+use Rattle.s66_isa.specs.Lists.{greatest, tally}
+use Rattle.s66_isa.specs.Table.{Row, has_reg, memory_pair}
+use Rattle.s66_model.specs.Timing.{Problem, Point, row_at, done_at, done_of, last_done, end_of, slot_of, busy_at, point_of, points_after, points_of, total_of}
 use Rattle.s66_model.specs.LegalOrder.{IsLegal, is_remaining}
 use Rattle.s66_model.specs.Dominance.{place_in_word}
 use Rattle.s66_moments.specs.declared.moment.Stage.{Stage}
@@ -12,9 +11,9 @@ use Rattle.s66_moments.specs.declared.moment.Stage.TheVariants.{Issue, Start, Do
 use Rattle.s66_moments.specs.declared.moment.Moment.TheVariants.{At}
 use Rattle.s66_moments.specs.Moments.{stage_time, time_of, soonest}
 use Rattle.s66_model.proofs.Remaining.{remaining-parts}
-use Rattle.s66_model.proofs.Issue.{issue-is, done_at-le}
+use Rattle.s66_model.proofs.Issue.{done_at-le}
 use Rattle.s66_model.proofs.PointTimes.{good-at, points_after-append, greatest-stays, next-le-issue, issue-le-start, hold-le-free, point_of-row}
-use Rattle.s66_model.proofs.PushedBoth.{pad, slot-is, results-le, free-le}
+use Rattle.s66_model.proofs.PushedBoth.{FindsBelow, pad, slot-is, issue-below, start-below, done-below, free-below}
 use Rattle.s66_model.proofs.ChainBound.{last-is_greatest}
 use Rattle.s66_moments.proofs.Placed.{placed, points-split, time_at-placed}
 use Rattle.s66_moments.proofs.FactLaws.{later-place}
@@ -57,52 +56,26 @@ module _ (b : Problem) (prefix front : List ℕ) (n : ℕ) where
   abbrev later : List Point
   later = points_after b now front
 
-  issue-sooner : (point_of b now n).issue ≤ (point_of b later n).issue
-  unfolding point
-  issue-sooner =
-      let r : Row = row_at b n in
-      let t = issue_of b later r in
-      let is = issue-is b later r in
-      let slot : slot_of now r.parcels ≤ t = omega (arith, slot-stays b now front r.parcels, is.late) in
-      let free : tally (busy_at r.kind t) now < copies b r.kind = omega (arith, tally-stays b (busy_at r.kind t) now front, is.passes.0) in
-      let by : (w : Write) → Among w r.writes → done_of now w.reg ≤ t = λ w among.
-      omega (arith, greatest-stays b (λ (p : Point). done_at p w.reg) now front, greatest-le (λ (p : Point). done_at p w.reg) t later (λ p in_later. is.passes.1 p in_later w among)) in
-      (issue-is b now r).least t slot (free, λ p in_now w among. omega (arith, by w among, le-greatest (λ (v : Point). done_at v w.reg) p now in_now))
-
   last-later : (x : Reg) → last_done x later ≡ done_of later x
   last-later x = subst (λ s. last_done x s ≡ done_of s x) (points_after-append b [] prefix front) (last-is_greatest b (prefix ++ front) x)
 
-  start-sooner : (point_of b now n).start ≤ (point_of b later n).start
-  unfolding point start_of
-  start-sooner =
-      let r : Row = row_at b n in
-      omega (
-        arith,
-        issue-sooner,
-        greatest-stays b (λ (p : Point). cond (memory_pair p.row.memory r.memory) (p.start + 1) 0) now front,
-        greatest-le-greatest (λ x. last_done x now) (λ x. last_done x later) (λ x. omega (arith, last-is_greatest b prefix x, last-later x, greatest-stays b (λ (p : Point). done_at p x) now front)) r.reads,
-      )
+  sooner : FindsBelow b now later (point_of b later n).issue (point_of b later n).start n
+  sooner = record {
+    writers = λ w _. omega (arith, greatest-stays b (λ (p : Point). done_at p w.reg) now front);
+    busy = λ t _. omega (arith, tally-stays b (busy_at (row_at b n).kind t) now front);
+    operands = λ x _. omega (arith, greatest-stays b (λ (p : Point). done_at p x) now front);
+    memory = omega (arith, greatest-stays b (λ (p : Point). cond (memory_pair p.row.memory (row_at b n).memory) (p.start + 1) 0) now front);
+    readers = λ w _. omega (arith, greatest-stays b (λ (p : Point). cond (has_reg w.reg p.row.reads) (p.start + 1) 0) now front);
+  }
 
-  readers-sooner : (x : Reg) → readers_wait now x ≤ max (readers_wait later x) 0
-  readers-sooner x = omega (arith, greatest-stays b (λ (p : Point). cond (has_reg x p.row.reads) (p.start + 1) 0) now front)
-
-  done-sooner : (x : Reg) → done_at (point_of b now n) x ≤ done_at (point_of b later n) x
-  unfolding point
-  done-sooner x =
-      let r : Row = row_at b n in
-      results-le (λ reg _. same_reg reg x) 0 now later (start_of b later r) (start_of b now r) readers-sooner start-sooner r.writes (λ w _. omega arith)
-
-  free-sooner : (point_of b now n).free ≤ (point_of b later n).free
-  unfolding point
-  free-sooner =
-      let r : Row = row_at b n in
-      free-le 0 now later (start_of b later r) (start_of b now r) r.hold readers-sooner start-sooner r.writes (λ w _. omega arith)
+  slot-sooner : slot_of now (row_at b n).parcels ≤ slot_of later (row_at b n).parcels
+  slot-sooner = slot-stays b now front (row_at b n).parcels
 
   stage-sooner : (stage : Stage) → stage_time stage (point_of b now n) ≤ stage_time stage (point_of b later n)
-  stage-sooner Issue = issue-sooner
-  stage-sooner Start = start-sooner
-  stage-sooner (Done x) = done-sooner x
-  stage-sooner Free = free-sooner
+  stage-sooner Issue = issue-below b now later n sooner slot-sooner
+  stage-sooner Start = start-below b now later n sooner slot-sooner (last-is_greatest b prefix) last-later
+  stage-sooner (Done x) = done-below b now later n sooner slot-sooner (last-is_greatest b prefix) last-later x
+  stage-sooner Free = free-below b now later n sooner slot-sooner (last-is_greatest b prefix) last-later
 
 stage-le-end : (b : Problem) (s : List Point) (n : ℕ) (stage : Stage) → stage_time stage (point_of b s n) ≤ end_of (point_of b s n)
 stage-le-end b s n Issue = omega (arith, issue-le-start b s n, hold-le-free b s n)
