@@ -6,7 +6,7 @@ use crate::lookers::Lookers;
 use arrayvec::ArrayVec;
 use s66_dep::Set;
 use s66_facts::Facts;
-use s66_isa::{BLOCK_LIMIT, Profile, Row};
+use s66_isa::{BLOCK_LIMIT, Kind, Profile, Row, kind_number};
 use s66_line::Block;
 use s66_time::rows_of;
 
@@ -66,6 +66,11 @@ impl Known {
             Some(place) if place < BLOCK_LIMIT => self.before[place],
             _ => Set::empty(),
         }
+    }
+
+    /// The numbers that take a unit of a kind.
+    pub fn takers(&self, kind: Kind) -> Set {
+        self.lookers.takers[kind_number(kind)]
     }
 
     /// The numbers of the block that aren't in a set.

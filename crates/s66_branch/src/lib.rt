@@ -3,8 +3,10 @@
 #![tactic(auto)]
 
 mod allowed;
+mod begun;
 mod kept;
 mod known;
+mod loads;
 mod lookers;
 mod nodes;
 mod open;

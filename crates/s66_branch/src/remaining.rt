@@ -17,6 +17,24 @@ enum Look {
     Result(usize),
 }
 
+/// When an instruction with this row issues after the prefix of a clock if it comes next, where a unit of its kind is free from then on.
+pub fn next_issue(clock: &Clock<'_>, row: &Row, free: u32) -> u32 {
+    let mut issue = clock.slot(row.parcels).max(free);
+    for write in row.writes.as_slice() {
+        issue = issue.max(clock.done_of(write.reg));
+    }
+    issue
+}
+
+/// From when on its operands are there, and memory for its reference.
+pub fn operands(clock: &Clock<'_>, row: &Row) -> u32 {
+    let mut time = clock.memory_wait(row.memory);
+    for register in row.reads.as_slice() {
+        time = time.max(clock.done_of(*register));
+    }
+    time
+}
+
 /// The numbers that remain after a prefix, which has this clock.
 #[derive(Clone, Copy, Debug)]
 pub struct Remaining<'s, 'a> {
@@ -55,23 +73,13 @@ impl<'s, 'a> Remaining<'s, 'a> {
 
     /// The soonest issue of n, which has this row: as if it came next, but not before its turn.
     fn issue(&self, n: u8, row: &Row) -> u32 {
-        let mut issue = self
-            .turn(n)
-            .max(self.clock.slot(row.parcels))
-            .max(self.clock.soonest_free(row.kind));
-        for write in row.writes.as_slice() {
-            issue = issue.max(self.clock.done_of(write.reg));
-        }
-        issue
+        let free = self.clock.soonest_free(row.kind);
+        self.turn(n).max(next_issue(self.clock, row, free))
     }
 
     /// Its soonest start.
     fn start(&self, n: u8, row: &Row) -> u32 {
-        let mut start = self.issue(n, row).max(self.clock.memory_wait(row.memory));
-        for register in row.reads.as_slice() {
-            start = start.max(self.clock.done_of(*register));
-        }
-        start
+        self.issue(n, row).max(operands(self.clock, row))
     }
 
     /// When its result in the register of an index is done at the soonest; its soonest start if it has none there.

@@ -6,12 +6,13 @@ ghost use Rattle.s66_branch.specs.Branching.{IsNoSlower};
 
 use crate::kept::{Kept, Key, Sought};
 use crate::known::Known;
+use crate::loads::Loads;
 use crate::nodes::{Fate, Node, Nodes, ROOT};
 use crate::open::{Next, Open};
 use crate::remaining::Remaining;
 use crate::trail::Trail;
 use crate::waits::{Waits, word};
-use crate::writer::written;
+use crate::writer::{Leaves, written};
 use s66_facts::Facts;
 use s66_isa::{BLOCK_LIMIT, Profile};
 use s66_line::Block;
@@ -62,6 +63,7 @@ enum Found {
 struct Search<'a> {
     trail: Trail<'a>,
     known: Known,
+    loads: Loads,
     nodes: Nodes,
     open: Open,
     kept: Kept,
@@ -208,7 +210,21 @@ impl<'a> Search<'a> {
         Ok(true)
     }
 
-    /// Splits an open node, unless a prefix that was met since then dominates it, and returns whether it could.
+    /// What closes an open node at which the trail is, if anything does now: a prefix that was met since then and dominates it, or a load.
+    fn closed(&mut self, sought: &Sought) -> Option<Fate>
+        ensures { IsNoSlower self.old self.new }
+    {
+        if let Some(fate) = self.dominated(sought) {
+            return Some(fate);
+        }
+        let clock = self.trail.prefix.clock();
+        if self.loads.close(&self.known, clock, self.low) {
+            return Some(Fate::Closed);
+        }
+        None
+    }
+
+    /// Splits an open node, unless something closes it now, and returns whether it could.
     fn take(&mut self, next: &Next) -> Result<bool, AllocError>
         ensures { IsNoSlower self.old self.new }
     {
@@ -219,7 +235,7 @@ impl<'a> Search<'a> {
             return Ok(false);
         }
         let sought = self.sought(next.node, own.place, next.floor);
-        if let Some(fate) = self.dominated(&sought) {
+        if let Some(fate) = self.closed(&sought) {
             self.nodes.set_fate(next.node, fate);
             return Ok(true);
         }
@@ -284,9 +300,11 @@ pub fn branch(
     ensures problem { IfOk result (λ branched. branched.best.problem ≡ best.problem) }
     ensures total { IfOk result (λ branched. total_of branched.best.problem branched.best.numbers ≤ total_of best.problem best.numbers) }
 {
+    let known = Known::new(block, profile, facts);
     let mut search = Search {
         trail: Trail::new(Prefix::new(block, profile, tails)),
-        known: Known::new(block, profile, facts),
+        loads: Loads::of(alloc, &known, profile, tails)?,
+        known,
         nodes: Nodes::new(alloc)?,
         open: Open::new(alloc),
         kept: Kept::new(alloc, profile),
@@ -299,12 +317,19 @@ pub fn branch(
     let bound = search.run()?;
     let Search {
         mut trail,
+        known,
+        mut loads,
         nodes,
         splits,
         best,
         ..
     } = search;
-    let tree = written(alloc, &mut trail, &nodes, bound, limits.first_line)?;
+    let leaves = Leaves {
+        known: &known,
+        loads: &mut loads,
+        low: bound,
+    };
+    let tree = written(alloc, &mut trail, &nodes, leaves, limits.first_line)?;
     Ok(Branched {
         best,
         splits,

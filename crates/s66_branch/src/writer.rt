@@ -1,8 +1,9 @@
 //! The tree of a search as the lines of a certificate.
 
-ghost use Rattle.std.specs.Prelude.{◌≡◌, IfSome};
-ghost use Rattle.s66_tree.specs.Lines.{vertex_of, IsShort};
+ghost use Rattle.std.specs.Prelude.{◌≡◌};
 
+use crate::known::Known;
+use crate::loads::Loads;
 use crate::nodes::{Fate, Node, Nodes, ROOT};
 use crate::trail::Trail;
 use s66_isa::BLOCK_LIMIT;
@@ -87,31 +88,48 @@ fn next_of(nodes: &Nodes, index: u32, fate: Fate) -> Option<u32> {
     }
 }
 
-/// The line of a prefix that a bound closes, if one is so great at least, or of a whole order.
-fn closing(prefix: &Prefix<'_>, low: u32) -> Option<TreeLine<'static>>
-    ensures { IfSome result (λ line. IsShort (vertex_of line)) }
-{
-    if prefix.is_complete() {
-        return Some(TreeLine::Whole);
+/// By what leaves close their prefixes.
+#[derive(Debug, Drop)]
+pub struct Leaves<'s> {
+    pub known: &'s Known,
+    pub loads: &'s mut Loads,
+    /// What each has to show at least, in minor cycles.
+    pub low: u32,
+}
+
+impl Leaves<'_> {
+    /// Writes the leaf of a prefix, if it has one: it is a whole order, a bound is so great at least, or a load closes it.
+    fn write(&mut self, prefix: &Prefix<'_>, tree: &mut Tree) -> Result<bool, AllocError> {
+        if prefix.is_complete() {
+            tree.push(TreeLine::Whole)?;
+            return Ok(true);
+        }
+        if let Some(line) = prefix.leaf(self.low) {
+            tree.push(line)?;
+            return Ok(true);
+        }
+        let Some(load) = self.loads.closing(self.known, prefix.clock(), self.low) else {
+            return Ok(false);
+        };
+        tree.push(TreeLine::LoadFrom(load.after, load.numbers.as_slice()))?;
+        Ok(true)
     }
-    prefix.leaf(low)
 }
 
 /// What a tree is written from.
 #[derive(Debug, Drop)]
-struct Writer<'n> {
+struct Writer<'n, 's> {
     nodes: &'n Nodes,
     /// The number of each node's line in the document.
     lines: Vec<u32>,
-    /// What each leaf has to show at least, in minor cycles.
-    low: u32,
+    leaves: Leaves<'s>,
     tree: Tree,
 }
 
-impl Writer<'_> {
+impl Writer<'_, '_> {
     /// The number of the line of the node that dominates another, and leans on none.
     fn line_of(&self, node: u32) -> u32 {
-        let dominator = self.nodes.dominator(node, self.low);
+        let dominator = self.nodes.dominator(node, self.leaves.low);
         self.lines.get(dominator as usize).copied().unwrap_or(0)
     }
 
@@ -127,7 +145,7 @@ impl Writer<'_> {
             Fate::Turned(missing) => {
                 self.tree.push(TreeLine::Turned(missing, node.number))?;
             }
-            Fate::Dominated { floor, .. } if u32::from(floor) < self.low => {
+            Fate::Dominated { floor, .. } if u32::from(floor) < self.leaves.low => {
                 let line = self.line_of(index);
                 self.tree.push(TreeLine::AtLine(line))?;
             }
@@ -135,25 +153,22 @@ impl Writer<'_> {
                 if !trail.go_to(self.nodes, index) {
                     return Ok(false);
                 }
-                let Some(line) = closing(&trail.prefix, self.low) else {
-                    return Ok(false);
-                };
-                self.tree.push(line)?;
+                return self.leaves.write(&trail.prefix, &mut self.tree);
             }
         }
         Ok(true)
     }
 }
 
-/// The tree of these nodes in preorder, each of whose leaves shows that no order which begins so takes less than `low`, in minor
-/// cycles; None if a leaf doesn't. The tree's first line has the number `first_line` in its document.
+/// The tree of these nodes in preorder, each with its leaf; None if one has none. The tree's first line has the number `first_line` in its
+/// document.
 ///
 /// `Err` is out of memory.
 pub fn written(
     alloc: Global,
     trail: &mut Trail<'_>,
     nodes: &Nodes,
-    low: u32,
+    leaves: Leaves<'_>,
     first_line: u32,
 ) -> Result<Option<Tree>, AllocError>
     ensures { trail.new ≡ trail.old }
@@ -161,7 +176,7 @@ pub fn written(
     let mut writer = Writer {
         nodes,
         lines: lines_of(alloc, nodes, first_line)?,
-        low,
+        leaves,
         tree: Tree::new(alloc),
     };
     let mut next = Some(ROOT);
