@@ -1,6 +1,6 @@
 -- Lines that leave no tree to come are those of one whole tree.
 use Rattle.std.proofs.Common.{ℕ, suc, zero, ◌+◌, ◌-◌, ◌≡◌, ◌≤◌, ◌∙◌, List, [], ◌∷◌, length, arith, refl, sym, subst, ap}
-use Rattle.s66_model.specs.DominatedLeaves.{Ending, Bounding, Dominated, Next, Turned, AtLine}
+use Rattle.s66_model.specs.DominatedLeaves.{Ending, Bounding, Dominated, Next, Turned, AtLine, LoadFrom}
 use Rattle.s66_model.specs.Tree.{Vertex, AtTerminal, AtSplit, splits as count_of}
 use Rattle.s66_tree.specs.Lines.{has_dominated_line}
 use Rattle.s66_cert.specs.declared.limits.TheConstants.{SPLIT_LIMIT}
@@ -30,6 +30,7 @@ leaf-more all rest left splits (Dominated name) is h = absurd is
 leaf-more all rest left splits (Next number) is h = record { leave = λ more. h.leave (is, more); count = h.count; plain = h.plain }
 leaf-more all rest left splits (Turned first second) is h = record { leave = λ more. h.leave (is, more); count = h.count; plain = h.plain }
 leaf-more all rest left splits (AtLine line) is h = record { leave = λ more. h.leave (is, more); count = h.count; plain = h.plain }
+leaf-more all rest left splits (LoadFrom after numbers) is h = record { leave = λ more. h.leave (is, more); count = h.count; plain = h.plain }
 
 split-more : (all rest : List (Vertex Ending)) (left splits : ℕ) (numbers : List ℕ) → IsAllowed (AtSplit numbers) → AreLeft all (AtSplit numbers ∷ rest) (suc left) splits → AreLeft all rest (length numbers + left) (splits + 1)
 split-more all rest left splits numbers is h =

@@ -1,7 +1,7 @@
 -- Used by contracts: lines of a tree that a certificate with fact lines may have.
 use Rattle.std.specs.Prelude.{◌≡◌, ◌≤◌, false, List}
 use Rattle.s66_isa.specs.declared.limits.TheConstants.{BLOCK_LIMIT}
-use Rattle.s66_model.specs.DominatedLeaves.{Ending, Bounding, Dominated, Next, Turned, AtLine}
+use Rattle.s66_model.specs.DominatedLeaves.{Ending, Bounding, Dominated, Next, Turned, AtLine, LoadFrom}
 use Rattle.s66_model.specs.Tree.{Vertex, AtTerminal, AtSplit, flat, splits}
 use Rattle.s66_cert.specs.declared.limits.TheConstants.{SPLIT_LIMIT}
 use Rattle.s66_cert.specs.Document.{AreNumbers, IsLeafLine, TreeFits, has_dominated}
@@ -25,3 +25,4 @@ IsAllowed (AtTerminal (Dominated name)) = ⊥
 IsAllowed (AtTerminal (Next number)) = IsLeafLine BLOCK_LIMIT (Next number)
 IsAllowed (AtTerminal (Turned first second)) = IsLeafLine BLOCK_LIMIT (Turned first second)
 IsAllowed (AtTerminal (AtLine line)) = IsLeafLine BLOCK_LIMIT (AtLine line)
+IsAllowed (AtTerminal (LoadFrom after numbers)) = IsLeafLine BLOCK_LIMIT (LoadFrom after numbers)

@@ -9,7 +9,7 @@ ghost use Rattle.s66_cert.specs.NodePlaces.{sibling_count};
 ghost use Rattle.s66_deep.specs.Trees.{AreOfTree, IsAllowed};
 
 use crate::ranges::{are_numbers, is_number};
-use s66_cert::{LINE_LIMIT, SPLIT_LIMIT, Tree, TreeLine};
+use s66_cert::{LINE_LIMIT, SPLIT_LIMIT, TIME_LIMIT, Tree, TreeLine};
 
 /// How many trees follow a line as its children, if it may stand in the tree of a certificate with fact lines: it splits, or is a leaf
 /// of a kind that has no name.
@@ -22,6 +22,9 @@ fn children_of(line: TreeLine<'_>) -> Option<usize>
         TreeLine::Next(n) if is_number(n) => Some(0),
         TreeLine::Turned(m, n) if is_number(m) && is_number(n) => Some(0),
         TreeLine::AtLine(line) if 1 <= line && line <= LINE_LIMIT => Some(0),
+        TreeLine::LoadFrom(after, numbers) if after <= TIME_LIMIT && are_numbers(numbers) => {
+            Some(0)
+        }
         TreeLine::Whole | TreeLine::Load(_) | TreeLine::Parcels => Some(0),
         _ => None,
     }

@@ -82,6 +82,10 @@ fn push_tree_line(alloc: Global, text: &mut Vec<u8>, line: TreeLine) -> Result<(
         TreeLine::Next(n) => push_line(alloc, text, "E", &[n]),
         TreeLine::Turned(m, n) => push_line(alloc, text, "R", &[m, n]),
         TreeLine::AtLine(line) => push(text, format!(in alloc; "N {line}\n")?.as_str()),
+        TreeLine::LoadFrom(after, numbers) => {
+            let after = format!(in alloc; "L {after}")?;
+            push_line(alloc, text, after.as_str(), numbers)
+        }
         // a tree of version 4 has none
         TreeLine::Chain(_) | TreeLine::Dominated(_) => push(text, "?\n"),
     }

@@ -21,7 +21,7 @@ use Rattle.s66_model.specs.Dominance.{Clamp, DominatesBy, clamp_at, no_clamp}
 use Rattle.s66_model.specs.declared.rule.Rule.{Rule}
 use Rattle.s66_model.specs.declared.rule.Rule.TheVariants.{NoneNamed, WrittenEarlier, ClampedStanding}
 use Rattle.s66_model.specs.Tree.{Tree, Alone, Parted, Siblings, NoMore, Unsplit, Split, SiblingsHold, TreeHolds, Vertex, AtTerminal, AtSplit, flat, flat_siblings, splits, tree_values}
-use Rattle.s66_model.specs.DominatedLeaves.{Ending, Bounding, Dominated, Next, Turned, AtLine, DominatesByRule, EndingShows, MayBeDominated, ShowsBy}
+use Rattle.s66_model.specs.DominatedLeaves.{Ending, Bounding, Dominated, Next, Turned, AtLine, LoadFrom, DominatesByRule, EndingShows, MayBeDominated, ShowsBy}
 use Rattle.s66_model.proofs.AnswerBound.{answer-shown}
 use Rattle.s66_model.proofs.Beginnings.{beginning-front, length-rising}
 use Rattle.s66_model.proofs.Dominating.{length-same}
@@ -134,6 +134,7 @@ module _ (b : Problem) (few : length b.block ≤ BLOCK_LIMIT) where
     ending-line prefix n (Next number) begins is = absurd is
     ending-line prefix n (Turned first second) begins is = absurd is
     ending-line prefix n (AtLine line) begins is = absurd is
+    ending-line prefix n (LoadFrom after numbers) begins is = absurd is
 
     siblings-fit : (siblings : Siblings Ending) (prefix ns : List ℕ) → SiblingsHold b.block (MayEnd rule b tree) prefix ns siblings → IsBeginning b.block prefix → AreReady b prefix ns → SiblingsFit BLOCK_LIMIT ns siblings
     siblings-fit NoMore prefix [] h begins are = tt
@@ -164,6 +165,7 @@ module _ (b : Problem) (few : length b.block ≤ BLOCK_LIMIT) where
   tree-fits rule (Alone (Next number)) h = absurd h
   tree-fits rule (Alone (Turned first second)) h = absurd h
   tree-fits rule (Alone (AtLine line)) h = absurd h
+  tree-fits rule (Alone (LoadFrom after numbers)) h = absurd h
   tree-fits rule (Parted numbers siblings) h =
       (subst (λ ms. AreNumbers BLOCK_LIMIT ms) (sym h.1) (ready-numbers b.block few [] tt h.0), siblings-fit rule (Parted numbers siblings) siblings [] numbers h.2 tt (split-ready b [] numbers h.1))
 
@@ -176,6 +178,7 @@ dominated-parts (AtTerminal (Dominated name) ∷ vertices) more h = absurd (cc)
 dominated-parts (AtTerminal (Next number) ∷ vertices) more h = dominated-parts vertices more h
 dominated-parts (AtTerminal (Turned first second) ∷ vertices) more h = dominated-parts vertices more h
 dominated-parts (AtTerminal (AtLine line) ∷ vertices) more h = dominated-parts vertices more h
+dominated-parts (AtTerminal (LoadFrom after numbers) ∷ vertices) more h = dominated-parts vertices more h
 dominated-parts (AtSplit numbers ∷ vertices) more h = dominated-parts vertices more h
 
 dominated-neither : (vertices more : List (Vertex Ending)) → has_dominated_line vertices ≡ false → has_dominated_line more ≡ false → has_dominated_line (vertices ++ more) ≡ false
@@ -185,6 +188,7 @@ dominated-neither (AtTerminal (Dominated name) ∷ vertices) more h none = absur
 dominated-neither (AtTerminal (Next number) ∷ vertices) more h none = dominated-neither vertices more h none
 dominated-neither (AtTerminal (Turned first second) ∷ vertices) more h none = dominated-neither vertices more h none
 dominated-neither (AtTerminal (AtLine line) ∷ vertices) more h none = dominated-neither vertices more h none
+dominated-neither (AtTerminal (LoadFrom after numbers) ∷ vertices) more h none = dominated-neither vertices more h none
 dominated-neither (AtSplit numbers ∷ vertices) more h none = dominated-neither vertices more h none
 
 -- what holds at the terminals if none is dominated
@@ -215,6 +219,7 @@ module _ (b : Problem) (tree : Tree Ending) where
   siblings-none (Unsplit (Next number) siblings) prefix (n ∷ ns) h = absurd h.0
   siblings-none (Unsplit (Turned first second) siblings) prefix (n ∷ ns) h = absurd h.0
   siblings-none (Unsplit (AtLine line) siblings) prefix (n ∷ ns) h = absurd h.0
+  siblings-none (Unsplit (LoadFrom after numbers) siblings) prefix (n ∷ ns) h = absurd h.0
   siblings-none (Split numbers sub siblings) prefix [] h = absurd h
   siblings-none (Split numbers sub siblings) prefix (n ∷ ns) h =
       dominated-neither (flat_siblings sub) (flat_siblings siblings) (siblings-none sub (prefix ++ n ∷ []) numbers h.2) (siblings-none siblings prefix ns h.3)
@@ -225,6 +230,7 @@ none-dominated b (Alone (Dominated name)) h = absurd h.0
 none-dominated b (Alone (Next number)) h = absurd h
 none-dominated b (Alone (Turned first second)) h = absurd h
 none-dominated b (Alone (AtLine line)) h = absurd h
+none-dominated b (Alone (LoadFrom after numbers)) h = absurd h
 none-dominated b (Parted numbers siblings) h = siblings-none b (Parted numbers siblings) siblings [] numbers h.2
 
 -- no leaf is of the kinds that come with fact lines
@@ -235,6 +241,7 @@ factual-neither (AtTerminal (Dominated name) ∷ vertices) more h none = factual
 factual-neither (AtTerminal (Next number) ∷ vertices) more h none = absurd (cc)
 factual-neither (AtTerminal (Turned first second) ∷ vertices) more h none = absurd (cc)
 factual-neither (AtTerminal (AtLine line) ∷ vertices) more h none = absurd (cc)
+factual-neither (AtTerminal (LoadFrom after numbers) ∷ vertices) more h none = absurd (cc)
 factual-neither (AtSplit numbers ∷ vertices) more h none = factual-neither vertices more h none
 
 module _ (rule : Rule) (b : Problem) (tree : Tree Ending) where
@@ -246,6 +253,7 @@ module _ (rule : Rule) (b : Problem) (tree : Tree Ending) where
   siblings-plain (Unsplit (Next number) siblings) prefix (n ∷ ns) h = absurd h.0
   siblings-plain (Unsplit (Turned first second) siblings) prefix (n ∷ ns) h = absurd h.0
   siblings-plain (Unsplit (AtLine line) siblings) prefix (n ∷ ns) h = absurd h.0
+  siblings-plain (Unsplit (LoadFrom after numbers) siblings) prefix (n ∷ ns) h = absurd h.0
   siblings-plain (Split numbers sub siblings) prefix [] h = absurd h
   siblings-plain (Split numbers sub siblings) prefix (n ∷ ns) h =
       factual-neither (flat_siblings sub) (flat_siblings siblings) (siblings-plain sub (prefix ++ n ∷ []) numbers h.2) (siblings-plain siblings prefix ns h.3)
@@ -256,6 +264,7 @@ none-factual rule b (Alone (Dominated name)) h = refl
 none-factual rule b (Alone (Next number)) h = absurd h
 none-factual rule b (Alone (Turned first second)) h = absurd h
 none-factual rule b (Alone (AtLine line)) h = absurd h
+none-factual rule b (Alone (LoadFrom after numbers)) h = absurd h
 none-factual rule b (Parted numbers siblings) h = siblings-plain rule b (Parted numbers siblings) siblings [] numbers h.2
 
 -- the rule of a document names nodes if a leaf is dominated
@@ -278,6 +287,7 @@ same-shown rule b low tree at (Dominated name) none h = absurd (cc)
 same-shown rule b low tree at (Next number) none h = h
 same-shown rule b low tree at (Turned first second) none h = h
 same-shown rule b low tree at (AtLine line) none h = h
+same-shown rule b low tree at (LoadFrom after numbers) none h = h
 
 -- by which the tree shows its bound
 shows-by : (rule : Rule) (b : Problem) (low : ℕ) (tree : Tree Ending) (dominated : Bool) → has_dominated tree ≡ dominated → ShowsBy rule b low [] tree →
