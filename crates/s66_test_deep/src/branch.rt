@@ -1,4 +1,4 @@
-use crate::blocks::{BEST_TIMES, as_written, instrs_of};
+use crate::blocks::{BEST_TIMES, TWO_BOOLEANS, as_written, instrs_of};
 use crate::text::{Claimed, NONE, tree_text, verdict_on};
 use s66_branch::{Branched, Limits, branch};
 use s66_checker::Verdict;
@@ -144,5 +144,23 @@ fn shows_less_by_fewer_splits(rt: HostRuntime) -> Result<(), Fail> {
         let block = only_block(&source).expect(&rt, "one block");
         check_cut_off(&rt, code, block, best)?;
     }
+    Ok(())
+}
+
+/// Longest paths show 12 after the first instruction. But the two that need the only Boolean unit have it for 4 each then, from 4 on, and 4
+/// are left after either: 16.
+#[test]
+fn closes_a_prefix_by_a_load(rt: HostRuntime) -> Result<(), Fail> {
+    let source = read_source(rt.alloc(), TWO_BOOLEANS.as_bytes())?;
+    let block = only_block(&source).expect(&rt, "one block");
+    let profile = Profile::standard();
+    let finder = Finder::new(rt.alloc(), instrs_of(block).as_slice(), &profile);
+    let branched = search(&rt, block, &finder, 16, SPLITS)?;
+    check_tree(&rt, TWO_BOOLEANS, &finder, &branched)?;
+    let Some(tree) = &branched.tree else {
+        panic!(rt; "a tree")
+    };
+    let lines = tree_text(rt.alloc(), tree)?;
+    assert_eq!(rt; lines.as_slice(), b"S 1\nL 4 2 3\n");
     Ok(())
 }
