@@ -9,7 +9,7 @@ use Rattle.s66_model.specs.LegalOrder.{IsBeginning, IsIncomplete}
 use Rattle.s66_model.specs.Digits.{HaveDigits}
 use Rattle.s66_model.specs.Dominance.{IsSameSet}
 use Rattle.s66_model.specs.NodeNames.{node_named}
-use Rattle.s66_model.specs.DominatedLeaves.{Ending, Bounding, Dominated, Next, Turned, AtLine, IsEarlier, may_be_named, DominatesByRule, MayBeDominated, EndingShows}
+use Rattle.s66_model.specs.DominatedLeaves.{Ending, Bounding, Dominated, Next, Turned, AtLine, LoadFrom, IsEarlier, may_be_named, DominatesByRule, MayBeDominated, EndingShows}
 use Rattle.s66_model.specs.Tree.{AtTerminal}
 use Rattle.s66_cert.specs.Document.{Document, is_factual}
 use Rattle.s66_checker.specs.declared.verdict.Reason.TheVariants as fault
@@ -112,3 +112,4 @@ ending-shows d at (Dominated name) may begins = dominated-shows d at name begins
 ending-shows d at (Next number) may begins = absurd (true≢false may)
 ending-shows d at (Turned first second) may begins = absurd (true≢false may)
 ending-shows d at (AtLine line) may begins = absurd (true≢false may)
+ending-shows d at (LoadFrom after numbers) may begins = absurd (true≢false may)

@@ -19,7 +19,7 @@ use Rattle.s66_moments.specs.declared.moment.Moment.TheVariants.{At, End}
 use Rattle.s66_moments.specs.Moments.{is_moment, has_stage}
 use Rattle.s66_moments.specs.Networks.{tail, soonest_path}
 use Rattle.s66_moments.specs.FactLines.{facts_after}
-use Rattle.s66_moments.specs.Known.{Known, known_first, line_of, span, arcs_of, next_value}
+use Rattle.s66_moments.specs.Known.{Known, line_of, span, arcs_of, next_value}
 use Rattle.s66_moments.proofs.KnownLines.{after-sound, span-tail}
 use Rattle.s66_cert.specs.Document.{Document}
 use Rattle.s66_facts.specs.Ground.{Ground, known_of as known_in}
@@ -35,6 +35,17 @@ has-tails d g knows taken =
     let b : Problem = problem_of d in
     let all : TailsAre b (known_of d) = span-tail b (facts_after [] (map (line_of b) (facts_of d))) (known_of d) (after-sound b d.bound (facts_of d) taken).1 in
     subst (λ (p : Problem). TailsAre p (known_in g)) (sym knows.problem) (subst (λ (k : Known). TailsAre b k) (sym knows.known) all)
+
+moment-is : (b : Problem) (n : ℕ) → IsNumber b n → (stage : Stage) → has_stage (row_at b n) stage ≡ true → is_moment b (At n stage) ≡ true
+moment-is b n is_n stage has = and_from (is_remaining b.block [] n) (has_stage (row_at b n) stage) (and_from (leb 1 n && leb n (length b.block)) true (and_from (leb 1 n) (leb n (length b.block)) (le-leb 1 n is_n.0) (le-leb n (length b.block) is_n.1)) refl) has
+
+-- from its issue and its start
+module _ (g : Ground) (tails : HasTails g) (times : List Times) (are : AreTails g times) (n : ℕ) (is_n : IsNumber g.problem n) where
+  pub issue-tail : (times_at times n).issue ≡ Some (tail g.problem (arcs_of g.problem (known_in g)) (At n Issue))
+  issue-tail = (are n is_n).issue ∙ tails (At n Issue) (moment-is g.problem n is_n Issue refl)
+
+  pub start-tail : (times_at times n).start ≡ Some (tail g.problem (arcs_of g.problem (known_in g)) (At n Start))
+  start-tail = (are n is_n).start ∙ tails (At n Start) (moment-is g.problem n is_n Start refl)
 
 -- A BOUND IS REACHED
 
@@ -84,11 +95,8 @@ module _ (g : Ground) (tails : HasTails g) (times : List Times) (are : AreTails 
   is_n : IsNumber b n
   is_n = (let (low, high, new) = remaining-parts b.block prefix n remains in (low, high))
 
-  moment-is : (stage : Stage) → has_stage (row_at b n) stage ≡ true → is_moment b (At n stage) ≡ true
-  moment-is stage has = and_from (is_remaining b.block [] n) (has_stage (row_at b n) stage) (and_from (leb 1 n && leb n (length b.block)) true (and_from (leb 1 n) (leb n (length b.block)) (le-leb 1 n is_n.0) (le-leb n (length b.block) is_n.1)) refl) has
-
   path-is : (stage : Stage) (path : Option ℕ) → has_stage (row_at b n) stage ≡ true → path ≡ span b (arcs_of b (known_in g)) (At n stage) End → path ≡ Some (after (At n stage))
-  path-is stage path has is = is ∙ tails (At n stage) (moment-is stage has)
+  path-is stage path has is = is ∙ tails (At n stage) (moment-is b n is_n stage has)
 
   reached-is : (time : ℕ) (stage : Stage) (path : Option ℕ) → has_stage (row_at b n) stage ≡ true → path ≡ span b (arcs_of b (known_in g)) (At n stage) End → is_reached bound time path ≡ leb bound (time + after (At n stage))
   reached-is time stage path has is = ap (is_reached bound time) (path-is stage path has is)

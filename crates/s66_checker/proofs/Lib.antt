@@ -26,5 +26,6 @@ pub mod DominatedLines
 pub mod TreeClaims
 pub mod LineNodes
 pub mod LineClaims
+pub mod LoadsLeft
 pub mod TakenLines
 pub mod KnownTails

@@ -7,20 +7,21 @@ use Rattle.s66_model.specs.Timing.{Problem}
 use Rattle.s66_model.specs.LegalOrder.{IsBeginning, is_remaining}
 use Rattle.s66_model.specs.Tree.{Vertex, AtTerminal, TreeHolds}
 use Rattle.s66_model.specs.NodeNames.{node_named}
-use Rattle.s66_model.specs.DominatedLeaves.{Ending, Bounding, Dominated, Next, Turned, AtLine, is_standing, may_be_named, DominatesByRule}
+use Rattle.s66_model.specs.DominatedLeaves.{Ending, Bounding, Dominated, Next, Turned, AtLine, LoadFrom, is_standing, may_be_named, DominatesByRule}
 use Rattle.s66_model.proofs.TreesHold.{tree-weaken, seen-holds}
 use Rattle.s66_moments.specs.declared.fact_line.FactLine.{FactLine}
 use Rattle.s66_moments.specs.Facts.{Fact}
 use Rattle.s66_moments.specs.FactLines.{facts_after}
 use Rattle.s66_moments.specs.Networks.{IsKnown}
-use Rattle.s66_moments.specs.Known.{Known, line_of, known_first, known_after, are_taken, next_value, is_turned}
+use Rattle.s66_moments.specs.Known.{Known, line_of, known_first, known_after, are_taken, next_value, is_turned, is_loaded}
 use Rattle.s66_moments.specs.LineTrees.{LineEnding, is_closed, LineEndingShows, ShowsByLines}
 use Rattle.s66_moments.proofs.InUse.{clamped-in_use}
 use Rattle.s66_moments.proofs.KnownLines.{IsSound, after-sound, next-too_late, turned-too_late}
+use Rattle.s66_moments.proofs.LoadLeaves.{loaded-closed}
 use Rattle.s66_cert.specs.Document.{Document}
 use Rattle.s66_checker.specs.declared.verdict.Reason.TheVariants as fault
 use Rattle.s66_checker.specs.Dominating.{is_beginning, is_same_set, dominates_in_use}
-use Rattle.s66_checker.specs.Verdict.{problem_of, known_of, node_on, is_complete, is_name_at, name_of, at_line_fault, next_fault, turned_fault, line_fault}
+use Rattle.s66_checker.specs.Verdict.{problem_of, known_of, node_on, is_complete, is_name_at, name_of, at_line_fault, next_fault, turned_fault, load_from_fault, line_fault}
 use Rattle.s66_checker.specs.TrueClaims.{line_ending, line_tree}
 use Rattle.s66_checker.proofs.Faultless.{passed, is_incomplete-Decides, leaf-shows}
 use Rattle.s66_checker.proofs.DominatedLines.{dominated-shows}
@@ -65,6 +66,13 @@ module _ (d : Document) (lines : List FactLine) (some : d.facts ≡ Some lines) 
       let two = (passed (not turned) (Some fault.Pair) None None (λ h. (cc))).0 one.1 in
       (tt, turned-too_late b facts (known_after (known_first b) lines) sound d.bound at m n (subst (λ (k : Known). is_turned b k at m n ≡ true) known-is (not-false turned two.0)))
 
+  load_from-shows : (at : List ℕ) (after : ℕ) (ns : List ℕ) → load_from_fault d at after ns ≡ None → Shows at (line_ending d (LoadFrom after ns))
+  load_from-shows at after ns h =
+      let loaded : Bool = is_loaded b (known_of d) at d.bound after ns in
+      let one = (passed (is_complete b at) (Some fault.Place) (cond (not loaded) (Some fault.Loaded) None) None (λ h. (cc))).0 h in
+      let two = (passed (not loaded) (Some fault.Loaded) None None (λ h. (cc))).0 one.1 in
+      loaded-closed b facts (known_after (known_first b) lines) sound at d.bound after ns (subst (λ (k : Known). is_loaded b k at d.bound after ns ≡ true) known-is (not-false loaded two.0))
+
   -- DOMINATED LEAVES
 
   abbrev May : List ℕ → Type 0
@@ -105,6 +113,7 @@ module _ (d : Document) (lines : List FactLine) (some : d.facts ≡ Some lines) 
     ending-line at (Next number) h = next-shows at number h.1
     ending-line at (Turned first second) h = turned-shows at first second h.1
     ending-line at (AtLine line) h = at_line-shows at line h.0 h.1
+    ending-line at (LoadFrom after numbers) h = load_from-shows at after numbers h.1
 
   pub shown-by_lines : TreeHolds b.block (λ at ending. IsBeginning b.block at × (line_fault d at (AtTerminal ending) ≡ None)) [] d.tree → ShowsByLines ClampedStanding b d.bound (map (line_of b) lines) [] (line_tree d)
   shown-by_lines holds = (

@@ -8,7 +8,7 @@ use Rattle.s66_isa.specs.Table.{numbers}
 use Rattle.s66_model.specs.LegalOrder.{is_ready, ready}
 use Rattle.s66_model.specs.Tree.{Tree, Alone, Parted, Siblings, NoMore, Unsplit, Split, Vertex, SiblingsHold, TreeHolds}
 use Rattle.s66_model.specs.NodeNames.{terminal_at, sibling_at, node_named}
-use Rattle.s66_model.specs.DominatedLeaves.{Ending, Bounding, Dominated, Next, Turned, AtLine, is_standing}
+use Rattle.s66_model.specs.DominatedLeaves.{Ending, Bounding, Dominated, Next, Turned, AtLine, LoadFrom, is_standing}
 use Rattle.s66_model.specs.Stated.{siblings_seen, tree_seen}
 use Rattle.s66_model.proofs.Remaining.{filter-among}
 use Rattle.s66_moments.proofs.Tails.{split-among}
@@ -36,6 +36,7 @@ module _ (d : Document) where
   closed-terminal (Next number) at [] = refl
   closed-terminal (Turned first second) at [] = refl
   closed-terminal (AtLine line) at [] = refl
+  closed-terminal (LoadFrom after numbers) at [] = refl
 
   closed-siblings : (siblings : Siblings Ending) (prefix ns path : List ℕ) → is_closed (sibling_at ns (siblings_seen seen prefix ns siblings) path) ≡ is_standing (sibling_at ns siblings path)
   closed-siblings siblings prefix ns [] = refl

@@ -1,7 +1,6 @@
 -- The verdict on fact lines is yes exactly when each is taken after those before it, and what comes later is yes.
 use Rattle.std.proofs.Common.{ℕ, suc, ◌≡◌, ◌↔◌, true, false, true≢false, List, [], ◌∷◌, refl, sym, inl, inr}
-use Rattle.std.proofs.lemmas.Bool.{cases_Bool, and_parts, and_from}
-use Rattle.s66_model.specs.Timing.{Problem}
+use Rattle.std.proofs.lemmas.Bool.{cases_Bool, and_parts}
 use Rattle.s66_moments.specs.declared.fact_line.FactLine.{FactLine}
 use Rattle.s66_moments.specs.Known.{Known, is_taken, with_line, are_taken, known_after}
 use Rattle.s66_cert.specs.Document.{Document}

@@ -9,7 +9,7 @@ use Rattle.s66_model.specs.declared.rule.Rule.{Rule}
 use Rattle.s66_model.specs.declared.rule.Rule.TheVariants.{ClampedStanding}
 use Rattle.s66_model.specs.Leaves.{Leaf, Whole, Chain, Load, Parcels}
 use Rattle.s66_model.specs.Tree.{Tree, Alone, Parted, Siblings, NoMore, Unsplit, Split}
-use Rattle.s66_model.specs.DominatedLeaves.{Ending, Bounding, Dominated, Next, Turned, AtLine}
+use Rattle.s66_model.specs.DominatedLeaves.{Ending, Bounding, Dominated, Next, Turned, AtLine, LoadFrom}
 use Rattle.s66_model.specs.Examples.{late_reader_tree, increments_tree, increments_load}
 use Rattle.s66_moments.specs.declared.moment.Stage.TheVariants.{Issue}
 use Rattle.s66_moments.specs.declared.moment.Moment.TheVariants.{At, End}
@@ -169,6 +169,46 @@ abbrev pub booleans_between : ℕ → ℕ → Document
 booleans_between after wait =
     with_facts (codes "BX1 X2*X3" ∷ codes "BX4 X1*X1" ∷ codes "BX5 X1*X1" ∷ codes "FX6 X4+X5" ∷ []) (1 ∷ 2 ∷ 3 ∷ 4 ∷ []) 16 16
     (load_fact (At 1 Issue) End after wait (2 ∷ 3 ∷ []) ∷ []) (Alone (Next 1))
+
+-- after 1 units do all that these numbers need of them, from a minor cycle on at the soonest
+abbrev pub after_the_first : List (List ℕ) → ℕ → ℕ → ℕ → List ℕ → Document
+after_the_first block time bound after numbers =
+    with_facts block (1 ∷ 2 ∷ 3 ∷ 4 ∷ []) time bound [] (Parted (1 ∷ []) (Unsplit (LoadFrom after numbers) NoMore))
+
+-- 2 and 3 need the only Boolean unit and X1, which are theirs from 4 on, and 8 are left from the issue of either
+abbrev pub booleans_left : ℕ → ℕ → List ℕ → Document
+booleans_left bound after numbers =
+    after_the_first (codes "BX1 X2*X3" ∷ codes "BX4 X1*X1" ∷ codes "BX5 X1*X1" ∷ codes "FX6 X4+X5" ∷ []) 16 bound after numbers
+
+-- nothing waits for 2
+abbrev pub one_is_added : ℕ → Document
+one_is_added bound =
+    after_the_first (codes "BX1 X2*X3" ∷ codes "BX4 X1*X1" ∷ codes "BX5 X1*X1" ∷ codes "FX6 X5+X5" ∷ []) 16 bound 4 (2 ∷ 3 ∷ [])
+
+-- 2 and 3 may issue at 1, and X1 is there at 10
+abbrev pub waits_for_the_product : Document
+waits_for_the_product =
+    after_the_first (codes "FX1 X2*X3" ∷ codes "BX4 X1*X1" ∷ codes "BX5 X1*X1" ∷ codes "FX6 X4+X5" ∷ []) 22 22 10 (2 ∷ 3 ∷ [])
+
+-- 12 are left from the issue of 1 and of 2, since a product is written later over what each reads
+abbrev pub before_their_writers : Document
+before_their_writers =
+    with_facts (codes "BX1 X2" ∷ codes "BX3 X4" ∷ codes "FX2 X5*X6" ∷ codes "FX4 X5*X6" ∷ []) (1 ∷ 3 ∷ 2 ∷ 4 ∷ []) 16 16 []
+    (Alone (LoadFrom 0 (1 ∷ 2 ∷ [])))
+
+-- two Multiply units do 33 for three
+abbrev pub multiplies_left : ℕ → Document
+multiplies_left bound =
+    with_facts (codes "FX1 X2*X3" ∷ codes "FX4 X5*X6" ∷ codes "FX0 X7*X7" ∷ []) (1 ∷ 2 ∷ 3 ∷ []) 22 bound [] (Alone (LoadFrom 0 (1 ∷ 2 ∷ 3 ∷ [])))
+
+-- 1 3 2 names 1 2 3, on line 14, where the Add unit does all from 11 on
+abbrev pub booleans_named : Document
+booleans_named =
+    with_facts (codes "BX1 X2*X3" ∷ codes "BX4 X1*X1" ∷ codes "BX5 X1*X1" ∷ codes "FX6 X4+X5" ∷ []) (1 ∷ 2 ∷ 3 ∷ 4 ∷ []) 16 16 []
+    (Parted (1 ∷ [])
+    (Split (2 ∷ 3 ∷ [])
+    (Split (3 ∷ []) (Unsplit (LoadFrom 11 (4 ∷ [])) NoMore) (Split (2 ∷ []) (Unsplit (AtLine 14) NoMore) NoMore))
+    NoMore))
 
 -- 1 2, on line 12, and 2 1, on line 15
 abbrev pub increments_named : Ending → Ending → Document

@@ -1,7 +1,7 @@
 -- To be believed: the numbers by which reasons are printed. No reason has 7.
 use Rattle.std.specs.Prelude.{ℕ}
 use Rattle.s66_checker.specs.declared.verdict.Reason.{Reason}
-use Rattle.s66_checker.specs.declared.verdict.Reason.TheVariants.{Order, Time, Children, Chain, Value, Place, Bound, Name, Dominance, Fact, Event, Pair}
+use Rattle.s66_checker.specs.declared.verdict.Reason.TheVariants.{Order, Time, Children, Chain, Value, Place, Bound, Name, Dominance, Fact, Event, Pair, Loaded}
 
 abbrev pub number_of : Reason → ℕ
 number_of Order = 1
@@ -16,3 +16,4 @@ number_of Dominance = 10
 number_of Fact = 11
 number_of Event = 12
 number_of Pair = 13
+number_of Loaded = 14

@@ -1,26 +1,27 @@
 -- To be believed: when what a document claims is true.
-use Rattle.std.specs.Prelude.{◌≡◌, ◌≤◌, List, [], Option, None, Some, map}
+use Rattle.std.specs.Prelude.{◌≡◌, ◌≤◌, List, [], ◌∷◌, Option, None, Some, map}
 use Rattle.s66_model.specs.declared.rule.Rule.TheVariants.{ClampedStanding}
 use Rattle.s66_model.specs.Timing.{total_of}
 use Rattle.s66_model.specs.LegalOrder.{IsLegal}
 use Rattle.s66_model.specs.Tree.{Tree}
 use Rattle.s66_model.specs.Stated.{tree_seen}
-use Rattle.s66_model.specs.DominatedLeaves.{Ending, Bounding, Dominated, Next, Turned, AtLine, ShowsBy}
+use Rattle.s66_model.specs.DominatedLeaves.{Ending, Bounding, Dominated, Next, Turned, AtLine, LoadFrom, ShowsBy}
 use Rattle.s66_moments.specs.declared.fact_line.FactLine.{FactLine}
-use Rattle.s66_moments.specs.Known.{line_of}
+use Rattle.s66_moments.specs.Known.{line_of, load_of}
 use Rattle.s66_moments.specs.LineTrees.{LineEnding, AtLeaf, AtLines, DominatedBy, ShowsByLines}
 use Rattle.s66_cert.specs.Document.{Document}
 use Rattle.s66_checker.specs.Verdict.{problem_of, node_on, name_of}
 
 -- WITH FACT LINES
 
--- what closes a prefix: a leaf that bounds, the facts alone, or a node that dominates it
+-- what closes a prefix: a leaf that bounds, the facts, alone or with a load after the prefix, or a node that dominates it
 abbrev pub line_ending : Document → Ending → LineEnding
 line_ending d (Bounding leaf) = AtLeaf leaf
 line_ending d (Dominated name) = DominatedBy name
 line_ending d (Next number) = AtLines []
 line_ending d (Turned first second) = AtLines []
 line_ending d (AtLine line) = DominatedBy (name_of (node_on d line))
+line_ending d (LoadFrom after numbers) = AtLines (load_of (problem_of d) d.bound after numbers ∷ [])
 
 abbrev pub line_tree : Document → Tree LineEnding
 line_tree d = tree_seen (λ at. line_ending d) [] d.tree

@@ -11,9 +11,9 @@ use Rattle.s66_model.specs.LegalOrder.{is_remaining, ready}
 use Rattle.s66_model.specs.Leaves.{Leaf, Whole, Chain, Load, Parcels, value, is_linked}
 use Rattle.s66_model.specs.Tree.{Vertex, AtTerminal, AtSplit}
 use Rattle.s66_model.specs.NodeNames.{node_named}
-use Rattle.s66_model.specs.DominatedLeaves.{Ending, Bounding, Dominated, Next, Turned, AtLine, is_standing, may_be_named}
+use Rattle.s66_model.specs.DominatedLeaves.{Ending, Bounding, Dominated, Next, Turned, AtLine, LoadFrom, is_standing, may_be_named}
 use Rattle.s66_moments.specs.declared.fact_line.FactLine.{FactLine}
-use Rattle.s66_moments.specs.Known.{Known, known_first, with_line, known_after, is_taken, next_value, is_turned}
+use Rattle.s66_moments.specs.Known.{Known, known_first, with_line, known_after, is_taken, next_value, is_turned, is_loaded}
 use Rattle.s66_cert.specs.Document.{Document, tree_placed}
 use Rattle.s66_checker.specs.declared.verdict.Verdict.{Verdict}
 use Rattle.s66_checker.specs.declared.verdict.Verdict.TheVariants.{Yes, No}
@@ -155,6 +155,13 @@ turned_fault d at m n =
     else (if not (is_turned (problem_of d) (known_of d) at m n) then Some fault.Pair
     else None)
 
+-- these numbers remain, and what they need of the units of their kind, from `after` on, takes the bound at least
+abbrev pub load_from_fault : Document → List ℕ → ℕ → List ℕ → Option Reason
+load_from_fault d at after numbers =
+    if is_complete (problem_of d) at then Some fault.Place
+    else (if not (is_loaded (problem_of d) (known_of d) at d.bound after numbers) then Some fault.Loaded
+    else None)
+
 -- FAULTS OF A LINE
 
 -- a split's children are exactly the ready numbers, rising
@@ -165,6 +172,7 @@ line_fault d at (AtTerminal (Dominated name)) = dominated_fault d at name
 line_fault d at (AtTerminal (Next number)) = next_fault d at number
 line_fault d at (AtTerminal (Turned first second)) = turned_fault d at first second
 line_fault d at (AtTerminal (AtLine line)) = at_line_fault d at line
+line_fault d at (AtTerminal (LoadFrom after numbers)) = load_from_fault d at after numbers
 
 -- THE VERDICT, with the number of the line
 

@@ -7,9 +7,10 @@ ghost use Rattle.s66_model.specs.declared.rule.Rule.TheVariants.{NoneNamed, Writ
 ghost use Rattle.s66_model.specs.Examples.{standard_problem, late_reader, three_increments, packing_gap, two_gaps, booleans_and_sets, late_result, later_gap, fourth_bounding, fourth_split, increments_tree, increments_load};
 ghost use Rattle.s66_model.specs.Leaves.{Whole, Chain, Load, Parcels};
 ghost use Rattle.s66_model.specs.Tree.{Alone, Parted, NoMore, Unsplit, Split};
-ghost use Rattle.s66_model.specs.DominatedLeaves.{Bounding, Dominated, Next, Turned, AtLine};
+ghost use Rattle.s66_model.specs.DominatedLeaves.{Bounding, Dominated, Next, Turned, AtLine, LoadFrom};
 ghost use Rattle.s66_moments.specs.declared.fact_line.FactLine.TheVariants.{Pair};
 ghost use Rattle.s66_moments.specs.Examples as in_use;
+ghost use Rattle.s66_moments.specs.Known.{is_loaded};
 ghost use Rattle.s66_moments.specs.Examples.{known_of};
 ghost use Rattle.s66_cert.specs.Examples as examples;
 ghost use Rattle.s66_cert.specs.Examples.{after_one, with_times, with_order, with_chain, with_tree, with_name};
@@ -17,7 +18,7 @@ ghost use Rattle.s66_checker.specs.declared.verdict.Verdict.TheVariants.{Yes, No
 ghost use Rattle.s66_checker.specs.declared.verdict.Reason.TheVariants as fault;
 ghost use Rattle.s66_checker.specs.Verdict.{verdict};
 ghost use Rattle.s66_checker.specs.Dominating.{dominates_by, dominates_in_use};
-ghost use Rattle.s66_checker.specs.Examples.{refused_order, slow_one_load, multiplies_at_once, load_and_multiplies, multiplies_split, second_line, third_line, last_leaf, late_naming, late_order, late_misplaced, increments, four_increments, three_sums, two_sums, first_of_two, after_pair, at_the_end, booleans_between, increments_named, waits_for_the_unit, waits_for_x1, two_parcels_beside};
+ghost use Rattle.s66_checker.specs.Examples.{refused_order, slow_one_load, multiplies_at_once, load_and_multiplies, multiplies_split, second_line, third_line, last_leaf, late_naming, late_order, late_misplaced, increments, four_increments, three_sums, two_sums, first_of_two, after_pair, at_the_end, booleans_between, increments_named, booleans_left, one_is_added, waits_for_the_product, before_their_writers, multiplies_left, booleans_named, waits_for_the_unit, waits_for_x1, two_parcels_beside};
 
 /// Verdicts on the worked documents: a leaf of each kind, and whole orders alone.
 pub fn verdict_examples()
@@ -132,6 +133,28 @@ pub fn fact_leaf_examples()
     ensures turned_at_a_whole_order { verdict (at_the_end (Turned 1 2)) ≡ No 14 fault.Place }
     ensures line_at_a_whole_order { verdict (at_the_end (AtLine 11)) ≡ No 14 fault.Place }
     ensures whole_order { verdict (at_the_end (Bounding Whole)) ≡ Yes 15 15 }
+{}
+
+/// Verdicts on leaves by what units do for some numbers that remain, from a minor cycle on.
+pub fn load_leaf_examples()
+    ensures two_booleans { verdict (booleans_left 16 4 (2 ∷ 3 ∷ [])) ≡ Yes 16 16 }
+    ensures no_more { is_loaded (standard_problem in_use.booleans_between) (known_of in_use.booleans_between []) (1 ∷ []) 17 4 (2 ∷ 3 ∷ []) ≡ false }
+    ensures may_begin_sooner { verdict (booleans_left 16 5 (2 ∷ 3 ∷ [])) ≡ No 12 fault.Loaded }
+    ensures from_sooner_on { verdict (booleans_left 16 3 (2 ∷ 3 ∷ [])) ≡ No 12 fault.Loaded }
+    ensures below_the_time { verdict (booleans_left 15 3 (2 ∷ 3 ∷ [])) ≡ Yes 16 15 }
+    ensures nothing { verdict (booleans_left 16 4 []) ≡ No 12 fault.Loaded }
+    ensures not_rising { verdict (booleans_left 16 4 (3 ∷ 2 ∷ [])) ≡ No 12 fault.Loaded }
+    ensures number_twice { verdict (booleans_left 16 4 (2 ∷ 2 ∷ [])) ≡ No 12 fault.Loaded }
+    ensures placed_number { verdict (booleans_left 16 4 (1 ∷ 2 ∷ [])) ≡ No 12 fault.Loaded }
+    ensures another_kind { verdict (booleans_left 10 1 (2 ∷ 4 ∷ [])) ≡ No 12 fault.Loaded }
+    ensures nothing_after_the_first { verdict (one_is_added 13) ≡ No 12 fault.Loaded }
+    ensures as_long_as_after_the_first { verdict (one_is_added 12) ≡ Yes 16 12 }
+    ensures from_the_start { verdict waits_for_the_product ≡ Yes 22 22 }
+    ensures from_the_issue { verdict before_their_writers ≡ Yes 16 16 }
+    ensures two_units_rounded_up { verdict (multiplies_left 17) ≡ Yes 22 17 }
+    ensures above_two_units { verdict (multiplies_left 18) ≡ No 10 fault.Loaded }
+    ensures at_a_whole_order { verdict (at_the_end (LoadFrom 0 (3 ∷ []))) ≡ No 14 fault.Place }
+    ensures named { verdict booleans_named ≡ Yes 16 16 }
 {}
 
 /// Verdicts on dominated leaves that name the line of a node.

@@ -8,11 +8,12 @@ ghost use Rattle.s66_model.specs.Leaves.{Whole, Chain, Load, Parcels};
 ghost use Rattle.s66_checker.specs.declared.verdict.Reason.TheVariants as fault;
 ghost use Rattle.s66_cert.specs.DocumentParts.{document_of};
 ghost use Rattle.s66_checker.specs.KeptKnown.{KnowsAll};
-ghost use Rattle.s66_checker.specs.Verdict.{problem_of, is_complete, leaf_fault, dominated_fault, at_line_fault, next_fault, turned_fault};
+ghost use Rattle.s66_checker.specs.Verdict.{problem_of, is_complete, leaf_fault, dominated_fault, at_line_fault, next_fault, turned_fault, load_from_fault};
 
 use crate::in_use::dominates_in_use;
 use crate::known::Known;
 use crate::leaf::{chain_value, load, parcels, ready};
+use crate::loaded::is_loaded;
 use crate::name::{is_name, is_name_at};
 use crate::prefix::Prefix;
 use crate::verdict::Reason;
@@ -54,6 +55,9 @@ impl Prefix {
             TreeLine::AtLine(line) => at_line_fault(self, named, document, known, line),
             TreeLine::Next(n) => next_fault(self, document, known, n),
             TreeLine::Turned(first, second) => turned_fault(self, document, known, first, second),
+            TreeLine::LoadFrom(after, numbers) => {
+                load_from_fault(self, document, known, after, numbers)
+            }
         }
     }
 }
@@ -225,5 +229,28 @@ fn turned_fault(
         None
     } else {
         Some(Reason::Pair)
+    }
+}
+
+/// The fault of a leaf that says that units do what remains of these numbers from a minor cycle on at the soonest, and so take the
+/// bound.
+fn load_from_fault(
+    prefix: &Prefix,
+    document: &Document,
+    known: &Known,
+    after: u32,
+    numbers: &[u8],
+) -> Option<Reason>
+    requires problem { prefix.now.problem ≡ problem_of (document_of document.now) }
+    requires known { KnowsAll (document_of document.now) known.now }
+    ensures { result ≡ load_from_fault (document_of document.now) prefix.now.numbers after numbers.now }
+{
+    if is_complete(prefix) {
+        return Some(Reason::Place);
+    }
+    if is_loaded(prefix, known, document.bound(), after, numbers) {
+        None
+    } else {
+        Some(Reason::Loaded)
     }
 }

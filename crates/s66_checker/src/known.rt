@@ -11,7 +11,7 @@ ghost use Rattle.s66_checker.specs.KeptKnown.{KnowsAll, AreTaken, IsUntaken, is_
 use crate::point::KeptPoint;
 use crate::prefix::Prefix;
 use s66_cert::{Document, FactLine};
-use s66_facts::{Facts, Times};
+use s66_facts::{Facts, Times, times_at};
 use s66_isa::{BLOCK_LIMIT, Instr, Profile, Write};
 use std::marker::Model;
 
@@ -118,10 +118,13 @@ impl Model for Known {
 }
 
 impl Known {
-    ghost use Rattle.std.specs.Prelude.{◌≡◌, ◌≤◌, ◌&&◌, IfOk, IfErr, OnOk, nat_le, length, true};
+    ghost use Rattle.std.specs.Prelude.{◌≡◌, ◌≤◌, ◌&&◌, IfOk, IfErr, OnOk, Some, nat_le, length, true};
     ghost use Rattle.s66_isa.specs.declared.limits.TheConstants.{BLOCK_LIMIT};
     ghost use Rattle.s66_model.specs.LegalOrder.{is_remaining};
-    ghost use Rattle.s66_moments.specs.Known.{next_value, is_turned};
+    ghost use Rattle.s66_moments.specs.declared.moment.Stage.TheVariants.{Issue, Start};
+    ghost use Rattle.s66_moments.specs.declared.moment.Moment.TheVariants.{At};
+    ghost use Rattle.s66_moments.specs.Networks.{tail};
+    ghost use Rattle.s66_moments.specs.Known.{arcs_of, next_value, is_turned};
 
     /// What is known after the fact lines of a document of this block under this profile. If one of them isn't shown by what is known
     /// before it, the number of the first such line in the document.
@@ -143,6 +146,15 @@ impl Known {
         }
         let tails = facts.tails();
         Ok(Known { facts, tails })
+    }
+
+    /// The longest paths from the moments of an instruction to the end.
+    pub(crate) fn tails(&self, n: u8) -> Times
+        requires { (1 ≤ n) × (n ≤ length self.now.problem.block) }
+        ensures issue { result.issue ≡ Some (tail self.now.problem (arcs_of self.now.problem (known_in self.now)) (At n Issue)) }
+        ensures start { result.start ≡ Some (tail self.now.problem (arcs_of self.now.problem (known_in self.now)) (At n Start)) }
+    {
+        times_at(&self.tails, n)
     }
 
     /// Whether an instruction that remains takes a bound at least if it comes next: one of its moments, with the longest path from

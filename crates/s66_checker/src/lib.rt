@@ -16,12 +16,13 @@
 //! What each instruction depends on is tested pair by pair, and stored in a word (`needs`, `marks`). One prefix is pushed and
 //! popped along the tree (`prefix`, `walk`), with its points and what they leave for the next instruction (`past`, `words`,
 //! `timing`). Another goes to the nodes that are named (`name`). What both leave decides whether it dominates (`dominance`,
-//! `falling`, `in_use`), and what is known after the fact lines whether a leaf is right by facts (`known`).
+//! `falling`, `in_use`), and what is known after the fact lines whether a leaf is right by facts (`known`, `loaded`).
 //!
 //! A block takes time for each of its pairs once. A line of the tree takes a time linear in the block's length, on the average
 //! over all lines, whatever the profile. A node that is named is found by a jump for each earlier sibling on the way. A leaf that
 //! names a line of a node that doesn't dominate clamped takes a look at each number that remains, and for those that find something
-//! later as if they came next, at each other number.
+//! later as if they came next, at each other number. A leaf by a load times each of its numbers once, which takes some looks at each
+//! number that is placed if their kind has three or more copies.
 #![tactic(auto)]
 
 mod check;
@@ -34,6 +35,7 @@ mod known;
 mod laws;
 mod leaf;
 mod links;
+mod loaded;
 mod marks;
 mod name;
 mod needs;
@@ -49,8 +51,8 @@ mod words;
 pub use check::verify;
 pub use examples::{
     dominated_examples, dominating_examples, fact_examples, fact_leaf_examples, fault_examples,
-    in_use_examples, leaf_examples, line_name_examples, profile_examples, split_examples,
-    verdict_examples,
+    in_use_examples, leaf_examples, line_name_examples, load_leaf_examples, profile_examples,
+    split_examples, verdict_examples,
 };
 pub use laws::{dominating_law, yes_law};
 pub use verdict::{Reason, Verdict};

@@ -38,6 +38,9 @@ pub enum Reason {
     Event,
     /// The first instruction is placed, or the second isn't, or the first isn't known to stand before it.
     Pair,
+    /// Instructions that don't rise in number, remain, and need units of one kind; or one may begin its use sooner, or what they need of
+    /// the units doesn't take the bound.
+    Loaded,
 }
 
 impl Reason {
@@ -58,6 +61,7 @@ impl Reason {
             Reason::Fact => 11,
             Reason::Event => 12,
             Reason::Pair => 13,
+            Reason::Loaded => 14,
         }
     }
 }
