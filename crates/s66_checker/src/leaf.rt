@@ -92,7 +92,7 @@ fn remaining_work(prefix: &Prefix, kind: Kind) -> u32
 }
 
 /// How long `copies` units work, if the work is divided among them: rounded up.
-pub fn over(work: u32, copies: u32) -> u32
+pub(crate) fn over(work: u32, copies: u32) -> u32
     requires copies { (1 ≤ copies) × (copies ≤ 100) }
     requires work { work + 100 < 2 ^ 32 }
     ensures value { result ≡ over work copies }

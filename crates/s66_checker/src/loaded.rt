@@ -12,19 +12,8 @@ ghost use Rattle.s66_facts.specs.Ground.{known_of as known_in};
 use crate::known::Known;
 use crate::leaf::over;
 use crate::prefix::Prefix;
+use s66_facts::are_rising;
 use s66_isa::{Kind, is_same_kind};
-
-/// Whether each of these numbers is less than the next one.
-fn are_rising(numbers: &[u8]) -> bool
-    ensures { result ≡ are_rising numbers.now }
-{
-    for place in 1..numbers.len() {
-        if numbers[place - 1] >= numbers[place] {
-            return false;
-        }
-    }
-    true
-}
 
 /// Whether each of these numbers remains.
 fn are_remaining(prefix: &Prefix, numbers: &[u8]) -> bool

@@ -38,8 +38,8 @@ pub enum Reason {
     Event,
     /// The first instruction is placed, or the second isn't, or the first isn't known to stand before it.
     Pair,
-    /// Instructions that don't rise in number, remain, and need units of one kind; or one may begin its use sooner, or what they need of
-    /// the units doesn't take the bound.
+    /// The numbers of a load don't rise, don't all remain or aren't of one kind; or one of them may begin its use sooner, or what they need
+    /// of the units doesn't take the bound.
     Loaded,
 }
 

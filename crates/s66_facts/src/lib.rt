@@ -17,5 +17,6 @@ mod times;
 
 pub use facts::Facts;
 pub use limits::FACT_LIMIT;
+pub use loads::are_rising;
 pub use marks::Marks;
 pub use times::{Times, times_at};

@@ -82,7 +82,7 @@ fn are_numbers(graph: &Graph, numbers: &[u8]) -> bool
 }
 
 /// Whether each of these numbers is less than the next one.
-fn are_rising(numbers: &[u8]) -> bool
+pub fn are_rising(numbers: &[u8]) -> bool
     ensures { result ≡ are_rising numbers.now }
 {
     for place in 1..numbers.len() {
