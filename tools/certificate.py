@@ -22,8 +22,9 @@ MOST_BYTES = 199  # of an instruction
 MOST_FACTS = 4096  # fact lines of a document
 MOST_LINES = 200_000_000  # of a document
 VERSIONS = {f"S66 CERTIFICATE {version}": version for version in (1, 2, 3, 4)}
-# The tree lines with numbers: which a version has, the greatest number, and how many there are at least and at most.
-NUMBERED = {1: ["S", "C"], 2: ["S", "C", "D"], 3: ["S", "C", "D"], 4: ["S", "C", "E", "R", "N"]}
+# The tree lines with numbers: which a version has, the greatest number, and how many there are at least and at most. An L line
+# has them after a minor cycle.
+NUMBERED = {1: ["S", "C"], 2: ["S", "C", "D"], 3: ["S", "C", "D"], 4: ["S", "C", "E", "R", "N", "L"]}
 SHAPES = {**dict.fromkeys("SCD", (MOST, 1, MOST)), "E": (MOST, 1, 1), "R": (MOST, 2, 2), "N": (MOST_LINES, 1, 1)}
 
 TIMES = "boolean shift normalise add longadd multiply divide population increment load".split()
@@ -32,7 +33,7 @@ UNITS = "BOOLEAN SHIFT ADD LONGADD MULTIPLY DIVIDE INCREMENT".split()
 # The reasons.
 NOT_LEGAL, NOT_THE_TIME, NOT_THE_READY, NO_CHAIN, BELOW_BOUND, NOT_HERE = 1, 2, 3, 4, 5, 6
 ABOVE_TIME, NOT_TO_BE_NAMED, NOT_DOMINATED = 8, 9, 10
-NO_FACT, NOT_TOO_LATE, NOT_TURNED = 11, 12, 13
+NO_FACT, NOT_TOO_LATE, NOT_TURNED, NOT_LEFT = 11, 12, 13, 14
 
 # What the text of an instruction spells: its unit, which of a profile's times the unit works, its parcels, the registers
 # that it reads, the results that the unit holds, the result that is fetched from memory, and whether it loads or stores. B0
@@ -108,7 +109,8 @@ Load = namedtuple("Load", "begin end after wait numbers")
 # with the number of the line.
 Document = namedtuple("Document", "version profile block time bound order facts tree")
 # A line of a tree: its kind, the numbers or the unit that it names, of an S line the first line of each tree after it, and its
-# way from the tree's first line: the last number of its prefix and the way before that; that of the first line is nothing.
+# way from the tree's first line: the last number of its prefix and the way before that; that of the first line is nothing. The
+# names of an L line begin with its minor cycle.
 TreeLine = namedtuple("TreeLine", "kind names children way")
 
 
@@ -145,10 +147,17 @@ class Reader:
         line = self.line()
         return line.startswith("I ") and instruction_of(line[2:]) or self.fail()
 
+    def load_numbers(self, line, word, times):
+        """The numbers of a line of a load: so many minor cycles, and after them the numbers of instructions."""
+        numbers = self.numbers(line, word, 0, MOST_TIME, times + 1, times + MOST)
+        if not all(1 <= n <= MOST for n in numbers[times:]):
+            self.fail()
+        return numbers
+
     def load(self, line):
         word, begin, end, *rest = line.split(" ") if line.count(" ") > 2 else self.fail()
-        after, wait, *numbers = self.numbers(" ".join([word, *rest]), "A", 0, MOST_TIME, 3, 2 + MOST)
-        if begin not in FROM or end not in TO or not all(1 <= n <= MOST for n in numbers):
+        after, wait, *numbers = self.load_numbers(" ".join([word, *rest]), "A", 2)
+        if begin not in FROM or end not in TO:
             self.fail()
         return Load(FROM[begin], TO[end], after, wait, numbers)
 
@@ -163,7 +172,8 @@ class Reader:
         line = self.line()
         kind, _, rest = line.partition(" ")
         if kind in NUMBERED[version]:
-            return TreeLine(kind, self.numbers(line, kind, 1, *SHAPES[kind]), [], way)
+            names = self.load_numbers(line, kind, 1) if kind == "L" else self.numbers(line, kind, 1, *SHAPES[kind])
+            return TreeLine(kind, names, [], way)
         if line in ("T", "P") or kind == "U" and rest in UNITS:
             return TreeLine(kind, rest, [], way)
         return self.fail()
@@ -457,14 +467,15 @@ class Known:
         is_up = begin == ORIGIN or end == END or begin[1] in self.before.get(end[1], ())
         return is_up and begin in self.arcs and end in self.arcs
 
-    def is_loaded(self, load):
-        """Whether units of one kind are in use between two moments as a load line says."""
+    def is_in_use(self, load, heads, tails):
+        """Whether units of one kind are in use between two moments as a load says: with how long after the first each other
+        moment comes at least, and how long before the second.
+        """
         block, numbers = self.problem.block, load.numbers
-        if numbers != [n for n in block if n in numbers] or not self.leads_up(load.begin, load.end):
+        if numbers != [n for n in block if n in numbers]:
             return False
         uses, units = {n: self.problem.holds[n] + 1 for n in numbers}, {block[n].unit for n in numbers}
         time = -(-sum(uses.values()) // self.problem.profile[block[numbers[0]].unit])  # rounded up
-        heads, tails = self.paths_from(load.begin), self.paths_to(load.end)
 
         def is_between(n, use):
             """Whether a use from an issue or a start on is late enough, and leaves enough to the end."""
@@ -472,6 +483,11 @@ class Known:
             return any(use + load.wait <= load.after + time + tails[m] for m in moments)
 
         return len(units) == 1 and all(is_between(n, use) for n, use in uses.items())
+
+    def is_loaded(self, load):
+        """Whether a load line is right."""
+        leads_up = self.leads_up(load.begin, load.end)
+        return leads_up and self.is_in_use(load, self.paths_from(load.begin), self.paths_to(load.end))
 
     def add_fact(self, fact):
         """Whether a fact line is right; what it says is then known."""
@@ -487,11 +503,22 @@ class Known:
     def tails(self):
         return self.paths_to(END)
 
-    def next_value(self, prefix, n):
-        """The greatest of the moments of an instruction, if it comes next, each with the longest path to the end."""
+    def next_moments(self, prefix, n):
+        """When each of the moments of an instruction is, if it comes next."""
         point = self.problem.followed_by(prefix, n)[-1]
         times = {"issue": point.issue, "start": point.start, **point.done, "free": point.free}
-        return max(time + self.tails[stage, n] for stage, time in times.items())
+        return {(stage, n): time for stage, time in times.items()}
+
+    def next_value(self, prefix, n):
+        """The greatest of the moments of an instruction, if it comes next, each with the longest path to the end."""
+        return max(time + self.tails[moment] for moment, time in self.next_moments(prefix, n).items())
+
+    def is_left(self, prefix, load):
+        """Whether units of one kind have to do after a prefix what a load from the origin to the end says."""
+        if not set(load.numbers) <= set(self.problem.remaining(prefix)):
+            return False
+        heads = {moment: time for n in load.numbers for moment, time in self.next_moments(prefix, n).items()}
+        return self.is_in_use(load, heads, self.tails)
 
     def turn(self, prefix, n):
         """No order that has this prefix issues an instruction sooner: what remains and stands before it takes its parcels."""
@@ -569,6 +596,9 @@ def line_fault(known, document, prefix, line):
     if line.kind == "R":
         y, x = line.names
         return None if y in remaining and x not in remaining and y in known.before.get(x, ()) else NOT_TURNED
+    if line.kind == "L":
+        after, *numbers = line.names
+        return None if known.is_left(prefix, Load(ORIGIN, END, after, document.bound, numbers)) else NOT_LEFT
     value = problem.value(prefix, line)
     if value is None:
         return NO_CHAIN
