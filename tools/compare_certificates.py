@@ -159,7 +159,8 @@ class Maker:
             Problem(find_facts.profile_of(profile), block),
             int(lines[begin - 2].split(" ")[1]),
             splits=self.any.choice([20, 200]),
-            leaves="".join(self.any.sample("RUPEN", 5)),
+            leaves=find_facts.any_leaves(self.any),
+            least=self.any.choice([0, 0, 1, 1, 2, 3]),
         )
         if self.any.random() < 0.8:
             finder.find_facts(has_loads=self.any.random() < 0.7)
@@ -178,7 +179,7 @@ class Maker:
                 break
         for one in many:
             if self.any.random() < 0.7:
-                self.any.choice([self.change_fact, self.change_leaf])(one)
+                self.any.choice([self.change_fact, self.change_leaf, self.change_load])(one)
         return many, block
 
     def fact(self, count):
@@ -196,9 +197,10 @@ class Maker:
         if kind in "ERN":
             few = [self.any.randint(*((8, 40) if kind == "N" else (1, count))) for _ in range(2 if kind == "R" else 1)]
             return " ".join([kind, *map(str, few)])
-        if kind in "CD":
+        if kind in "CDL":
             some = self.any.sample(range(1, count + 1), self.any.randint(1, min(3, count)))
-            return " ".join([kind, *map(str, sorted(some) if self.any.random() < 0.9 else some)])
+            after = [self.any.randint(0, 12)] if kind == "L" else []
+            return " ".join([kind, *map(str, after + (sorted(some) if self.any.random() < 0.9 else some))])
         return f"U {self.any.choice(UNITS[:7])}" if kind == "U" else kind
 
     def change_version(self, lines):
@@ -213,7 +215,7 @@ class Maker:
             changed = self.any.choice(near * 10 + NUMBERS)
             lines[place] = lines[place][: chosen.start()] + changed + lines[place][chosen.end() :]
 
-    def exchange_numbers(self, lines, pattern="(ORDER|S|C|D|F|A|R) .* "):
+    def exchange_numbers(self, lines, pattern="(ORDER|S|C|D|F|A|R|L) .* "):
         place = self.place(lines, pattern)
         fields = lines[place].split(" ")
         places = range(len(fields))[1 if self.any.random() < 0.9 else 0 :] or [0]  # seldom the word
@@ -225,7 +227,7 @@ class Maker:
         self.exchange_numbers(lines, "D .* ")
 
     def change_length(self, lines):
-        place = self.place(lines, "(ORDER|S|C|D|F|A|E|R|N|PROFILE) ")
+        place = self.place(lines, "(ORDER|S|C|D|F|A|E|R|N|L|PROFILE) ")
         fields = lines[place].split(" ")
         at = self.any.randrange(len(fields))
         lines[place] = " ".join(fields[:at] + self.any.choice([[], [fields[at]] * 2]) + fields[at + 1 :])
@@ -243,8 +245,28 @@ class Maker:
         lines.insert(place, lines[place])
 
     def change_leaf(self, lines):
-        kinds = {"1": "CCCUUUPPT", "4": "CUPTEEERRRNNN"}.get(lines[0][-1:], "CCUUPTDDD")
-        lines[self.place(lines, "[CUPTDERN]( |$)")] = self.leaf(5, kinds)
+        kinds = {"1": "CCCUUUPPT", "4": "CUPTEEERRRNNNLLL"}.get(lines[0][-1:], "CCUUPTDDD")
+        lines[self.place(lines, "[CUPTDERNL]( |$)")] = self.leaf(5, kinds)
+
+    def change_load(self, lines):
+        """Changes an L line: its minor cycle, or its numbers, to one more, one twice, one less, or two exchanged."""
+        place = self.place(lines, r"L \d+( \d+)+$")
+        if not lines[place].startswith("L "):
+            return self.change_leaf(lines)
+        after, *numbers = map(int, lines[place].split(" ")[1:])
+        block = range(1, 1 + sum(line.startswith("I ") for line in lines))
+        change, at = self.any.randrange(5), self.any.randrange(len(numbers))
+        if change == 0:
+            after = max(0, after + self.any.choice([-2, -1, 1, 2]))
+        elif change == 1:
+            numbers = sorted([*numbers, self.any.choice([n for n in block if n not in numbers] or numbers)])
+        elif change == 2:
+            numbers.insert(at, numbers[at])
+        elif change == 3:
+            del numbers[at]
+        else:
+            numbers[at], numbers[0] = numbers[0], numbers[at]
+        lines[place] = " ".join(map(str, ["L", after, *numbers]))
 
     def change_fact(self, lines):
         """Adds, drops or changes a fact line, or exchanges two."""
@@ -285,7 +307,7 @@ class Maker:
                 lines[place] = f"BOUND {self.any.randint(max(0, min(least, written)), written)}"
             elif line.startswith("ORDER "):
                 lines[place] = " ".join(["ORDER", *(str(n) for n in range(1, len(block) + 1))])
-            elif line.split(" ")[0] in ("C", "U", "P", "E") and self.any.random() < 0.5:
+            elif line.split(" ")[0] in ("C", "U", "P", "E", "L") and self.any.random() < 0.5:
                 lines[place] = self.leaf(len(block))
 
     def damaged(self, lines, block):
@@ -294,7 +316,7 @@ class Maker:
             self.weaken(lines, self.time_of(*block))
         often = [self.change_number, self.exchange_numbers, self.exchange_in_name] * 2
         often += [self.change_leaf] * 4 + [self.change_instruction] * 2
-        often += ([self.change_fact] * 3 + [self.change_anchor]) * 2 if lines[0].endswith("4") else []
+        often += ([self.change_fact] * 3 + [self.change_anchor, self.change_load]) * 2 if lines[0].endswith("4") else []
         seldom = [self.change_length, self.exchange_lines, self.drop_line, self.double_line]
         seldom += [self.change_byte, self.change_version]
         for damage in self.any.choices(often + seldom, k=self.any.choice([0, 0, 1, 1, 1, 2])):

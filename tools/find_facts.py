@@ -13,9 +13,10 @@ import json
 import sys
 
 import certificate
-from certificate import FROM, TO, Known, Load, Pair, Problem
+from certificate import END, FROM, ORIGIN, TO, Known, Load, Pair, Problem
 
 PROFILE = dict(zip(certificate.TIMES + certificate.UNITS, [3, 3, 4, 4, 3, 10, 29, 8, 3, 8, 1, 1, 1, 1, 2, 1, 2]))
+LEAVES = "RUPENL"  # the kinds of leaves, T left out
 ANCHOR_TEXTS = {moment: text for text, moment in {**FROM, **TO}.items()}
 
 
@@ -38,17 +39,23 @@ def legal_orders(problem, prefix=()):
         yield from legal_orders(problem, problem.followed_by(prefix, n))
 
 
+def any_leaves(chance):
+    """The kinds of leaves in any order, half of the time L first."""
+    leaves = chance.sample(LEAVES, len(LEAVES))
+    return sorted(leaves, key="L".__ne__) if chance.random() < 0.5 else leaves
+
+
 class TooManySplits(Exception):
     """A tree has more splits than it may."""
 
 
 class Finder:
     """Looks for fact lines and a tree that show a bound. A line of the tree is its kind and what it names; an N line names the
-    place of a line of the tree.
+    place of a line of the tree. A prefix of fewer numbers than `least` has no leaf.
     """
 
-    def __init__(self, problem, bound, splits=10_000, leaves="RUPEN"):
-        self.problem, self.bound, self.splits, self.leaves = problem, bound, splits, leaves
+    def __init__(self, problem, bound, splits=10_000, leaves=LEAVES, least=0):
+        self.problem, self.bound, self.splits, self.leaves, self.least = problem, bound, splits, leaves, least
         self.known, self.facts = Known(problem, bound), []
 
     def add(self, fact):
@@ -67,22 +74,38 @@ class Finder:
         moments = [[m for m in anchors.values() if m in self.known.arcs] for anchors in (FROM, TO)]
         return [(begin, end) for begin, end in itertools.product(*moments) if self.known.leads_up(begin, end)]
 
-    def load_between(self, begin, end, unit):
-        """The load of a kind of unit that says most between two moments, or nothing if the longest path says as much."""
-        heads, tails = self.known.paths_from(begin), self.known.paths_to(end)
+    def loads(self, begin, end, unit, heads, tails):
+        """The loads of a kind of unit between two moments: with how long after the first each other moment comes at least, and
+        how long before the second. From each beginning on they have what leaves so much to the end, or more.
+        """
         uses, ways = {}, []  # a way: a number, how long after the first moment its use begins, and before the last one it ends
         for n in [n for n, own in self.problem.block.items() if own.unit == unit]:
             uses[n] = self.problem.holds[n] + 1
             for moment in (("issue", n), ("start", n)):
                 if moment in heads and moment in tails:
                     ways.append((n, heads[moment], tails[moment] - uses[n]))
-        loads, copies = [], self.problem.profile[unit]
         for after, left in itertools.product({after for _, after, _ in ways}, {left for _, _, left in ways}):
             numbers = sorted({n for n, head, tail in ways if head >= after and tail >= left})
-            wait = after + left - (-sum(uses[n] for n in numbers) // copies)
-            if len(numbers) > copies and wait > heads.get(end, 0):
-                loads.append(Load(begin, end, after, wait, numbers))
-        return max(loads, key=lambda load: (load.wait, -len(load.numbers)), default=None)
+            wait = after + left - (-sum(uses[n] for n in numbers) // self.problem.profile[unit])
+            if numbers:
+                yield Load(begin, end, after, wait, numbers)
+
+    def load_between(self, begin, end, unit):
+        """The load of a kind of unit that says most between two moments, or nothing if the longest path says as much."""
+        heads, tails = self.known.paths_from(begin), self.known.paths_to(end)
+        loads = self.loads(begin, end, unit, heads, tails)
+        more = [load for load in loads if len(load.numbers) > self.problem.profile[unit] and load.wait > heads.get(end, 0)]
+        return max(more, key=lambda load: (load.wait, -len(load.numbers)), default=None)
+
+    def next_moments(self, prefix):
+        """When each moment of what remains is, if its instruction comes next."""
+        moments = [self.known.next_moments(prefix, n) for n in self.problem.remaining(prefix)]
+        return {moment: time for times in moments for moment, time in times.items()}
+
+    def loads_left(self, prefix):
+        """The loads of all kinds of unit after a prefix, to the end."""
+        heads = self.next_moments(prefix)
+        return [load for unit in certificate.UNITS for load in self.loads(ORIGIN, END, unit, heads, self.known.tails)]
 
     def find_facts(self, has_loads=True):
         """Adds facts until there are no more."""
@@ -96,6 +119,8 @@ class Finder:
 
     def leaf(self, prefix, closed):
         """A leaf for a prefix that isn't complete, or nothing; closed are the nodes of its numbers that it may name."""
+        if len(prefix) < self.least:
+            return None
         numbers = [point.number for point in prefix]
         remaining = self.problem.remaining(prefix)
         turned = [("R", y, x) for x in numbers for y in remaining if y in self.known.before[x]]
@@ -103,7 +128,8 @@ class Finder:
         parcels = [("P",)] if self.problem.parcels(prefix) >= self.bound else []
         late = [("E", n) for n in remaining if self.known.next_value(prefix, n) >= self.bound]
         named = [("N", place) for node, place in closed if self.known.dominates(node, prefix)]
-        kinds = {"R": turned, "U": loaded, "P": parcels, "E": late, "N": named}
+        left = [("L", load.after, *load.numbers) for load in self.loads_left(prefix) if load.wait >= self.bound]
+        kinds = {"R": turned, "U": loaded, "P": parcels, "E": late, "N": named, "L": left}
         return next((leaf for kind in self.leaves for leaf in kinds[kind]), None)
 
     def find_tree(self):
@@ -129,7 +155,7 @@ class Finder:
         """Leaves out the facts without which the tree grows no larger; the lines of the tree."""
         tree = self.find_tree()
         for fact in list(reversed(self.facts)) if tree else []:
-            fewer = Finder(self.problem, self.bound, self.splits, self.leaves)
+            fewer = Finder(self.problem, self.bound, self.splits, self.leaves, self.least)
             if all([fewer.add(other) for other in self.facts if other is not fact]):
                 smaller = fewer.find_tree()
                 if smaller and len(smaller) <= len(tree):

@@ -7,12 +7,14 @@ It tries N blocks of 3 to 7 instructions, 300 unless given, half of them under a
 timed. tools/certificate.py has to say YES to the document that tools/find_facts.py finds for the best time. For a greater
 bound there must be no tree, and no YES to that document with the greater bound and damages. And what fact lines say for a
 greater bound, found ones and random ones, has to be so in each order that takes less: pairs, the longest path between any
-two moments, and the values of E lines at its prefixes. Where a beginning dominates another in use by such fact lines,
+two moments, and the values of E lines at its prefixes. By such fact lines no L line after a beginning, found or random, may say
+more than all take that complete the beginning below the bound. Where a beginning dominates another in use by such fact lines,
 whatever completes the other below the bound has to complete it so too. Each fault is printed with its block. The same seed
 makes the same blocks.
 """
 import argparse
 import collections
+import functools
 import io
 import itertools
 import random
@@ -22,13 +24,14 @@ import sys
 import certificate
 from certificate import END, ORIGIN, Known, Load, Pair, Problem
 from compare_certificates import CONSTANTS, INSTRUCTIONS
-from find_facts import PROFILE, Finder, document, legal_orders
+from find_facts import PROFILE, Finder, any_leaves, document, legal_orders
 
 FEW = """
 FXi Xj*Xk|FXi Xj/Xk|FXi Xj+Xk|IXi Xj+Xk|BXi Xj+Xk|BXi Xj|LXi Bj,Xk|NXi Bj,Xk|SAi Aj+Bk|SAi Bj+Bk|SXi Xj+Bk|SBi Bj+Bk|SXi Bj+K
 """.strip().split("|")
 MOST_ORDERS = 1000  # of a block
 MOST_PAIRS = 30  # of beginnings, of a block
+BEGINNINGS = 10  # of a block, after which loads are tried
 
 
 def verdict(lines):
@@ -53,6 +56,14 @@ def numbers_of(points):
     return tuple(point.number for point in points)
 
 
+def longest(load, is_right):
+    """A load that says as much as is right."""
+    for step in (128, 64, 32, 16, 8, 4, 2, 1):
+        longer = load._replace(wait=load.wait + step)
+        load = longer if is_right(longer) else load
+    return load
+
+
 class Trial:
     """A random block, with all its orders."""
 
@@ -75,24 +86,27 @@ class Trial:
         template = self.any.choice(templates).replace("K", self.any.choice(CONSTANTS[:3]))
         return re.sub("[ijk]", lambda _: str(self.any.randrange(registers)), template)
 
+    def load(self, begin, end, numbers, heads, is_right):
+        """A random load between two moments of some of these numbers, most often of one kind. It says as much as is right, and
+        begins about when they do: heads say how long after the first moment each other comes at least.
+        """
+        unit = self.problem.block[self.any.choice(numbers)].unit
+        alike = [n for n in numbers if self.problem.block[n].unit == unit or self.any.random() < 0.1]
+        copies = alike * 2 if self.any.random() < 0.1 else alike  # with these a number may be there twice
+        some, stage = sorted(self.any.sample(copies, self.any.randint(1, len(alike)))), self.any.choice(["issue", "start"])
+        after = min(heads.get((stage, n), 0) for n in some) + self.any.choice([0, 0, 0, 1, 2, -1])
+        return longest(Load(begin, end, max(0, after), 0, some), is_right)
+
     def fact(self, finder):
-        """A random fact line. A load says as much as the checker takes."""
+        """A random fact line."""
         if self.any.random() < 0.2:
             return Pair(*self.any.choices(list(self.problem.block), k=2))
         begin, end = self.any.choice(finder.anchors())
-        unit = self.any.choice([own.unit for own in self.problem.block.values()])
-        alike = [n for n, own in self.problem.block.items() if own.unit == unit or self.any.random() < 0.1]
-        numbers = sorted(self.any.sample(alike, self.any.randint(1, len(alike))))
-        least = min(finder.known.paths_from(begin).get(("issue", n), 0) for n in numbers)
-        load = Load(begin, end, max(0, least + self.any.choice([0, 0, 0, 1, 2, -1])), 0, numbers)
-        for step in (128, 64, 32, 16, 8, 4, 2, 1):
-            longer = load._replace(wait=load.wait + step)
-            load = longer if finder.known.is_loaded(longer) else load
-        return load
+        return self.load(begin, end, list(self.problem.block), finder.known.paths_from(begin), finder.known.is_loaded)
 
     def facts_for(self, bound):
         """A finder with facts for a bound, found ones and random ones."""
-        finder = Finder(self.problem, bound, leaves="".join(self.any.sample("RUPEN", 5)))
+        finder = Finder(self.problem, bound, leaves=any_leaves(self.any), least=self.any.choice([0, 0, 1, 2]))
         if self.any.random() < 0.5:
             finder.find_facts(self.any.random() < 0.7)
         for _ in range(self.any.choice([0, 5, 20])):
@@ -150,6 +164,7 @@ class Trial:
             counts.update("for greater bounds " + type(fact).__name__ for fact in finder.facts)
         yield from self.wrong_claims(lines, counts)
         yield from self.wrong_dominance(counts)
+        yield from self.wrong_loads(counts)
 
     def pairs(self):
         """Some pairs of different beginnings with the same numbers, each with the orders that have the second."""
@@ -178,6 +193,29 @@ class Trial:
                 yield f"{numbers_of(node)} dominates {numbers_of(prefix)} in use, for the bound {known.bound}"
             if is_clamped and not blank.dominates(node, prefix):
                 yield f"{numbers_of(node)} dominates {numbers_of(prefix)} clamped, and not in use"
+
+    def loads_left(self, finder, prefix, is_right):
+        """Loads after a beginning that say as much as is right: of each kind from each moment on, and random ones."""
+        loads, remaining, heads = {}, self.problem.remaining(prefix), finder.next_moments(prefix)
+        for load in sorted(finder.loads_left(prefix), key=lambda load: load.wait):
+            loads[self.problem.block[load.numbers[0]].unit, load.after] = load
+        for _ in range(5):
+            numbers = remaining if self.any.random() < 0.8 else list(self.problem.block)
+            yield self.load(ORIGIN, END, numbers, heads, is_right)
+        yield from (longest(load._replace(wait=0), is_right) for load in loads.values())
+
+    def wrong_loads(self, counts):
+        """Loads after beginnings that say more than some order takes that begins so, and takes less than the bound."""
+        finder = self.facts_for(self.problem.total(self.any.choice(self.orders)) + 1)
+        for order in self.any.choices(self.orders, k=BEGINNINGS):
+            prefix = order[: self.any.randrange(len(order))]
+            best = next(other for other in self.orders if numbers_of(other[: len(prefix)]) == numbers_of(prefix))
+            least = self.problem.total(best)
+            for load in self.loads_left(finder, prefix, functools.partial(finder.known.is_left, prefix)):
+                counts.update({"loads after beginnings": load.wait > 0, "such loads, the least total": load.wait == least})
+                if least < min(load.wait, finder.bound):
+                    told = f"more than {numbers_of(best)} takes, for the bound {finder.bound}"
+                    yield f"{load} after {numbers_of(prefix)} says {told}"
 
     def wrong_claims(self, lines, counts):
         """Yes to a document with a greater bound, and the time of an order that takes as long."""
