@@ -179,7 +179,7 @@ class Maker:
                 break
         for one in many:
             if self.any.random() < 0.7:
-                self.any.choice([self.change_fact, self.change_leaf, self.change_load])(one)
+                self.any.choice([self.change_fact, self.change_leaf, self.change_load, self.change_load])(one)
         return many, block
 
     def fact(self, count):
@@ -257,7 +257,7 @@ class Maker:
         block = range(1, 1 + sum(line.startswith("I ") for line in lines))
         change, at = self.any.randrange(5), self.any.randrange(len(numbers))
         if change == 0:
-            after = max(0, after + self.any.choice([-2, -1, 1, 2]))
+            after = max(0, after + self.any.choice([-1, 1, 1, 2]))
         elif change == 1:
             numbers = sorted([*numbers, self.any.choice([n for n in block if n not in numbers] or numbers)])
         elif change == 2:
@@ -307,7 +307,7 @@ class Maker:
                 lines[place] = f"BOUND {self.any.randint(max(0, min(least, written)), written)}"
             elif line.startswith("ORDER "):
                 lines[place] = " ".join(["ORDER", *(str(n) for n in range(1, len(block) + 1))])
-            elif line.split(" ")[0] in ("C", "U", "P", "E", "L") and self.any.random() < 0.5:
+            elif line.split(" ")[0] in ("C", "U", "P", "E") and self.any.random() < 0.5:
                 lines[place] = self.leaf(len(block))
 
     def damaged(self, lines, block):

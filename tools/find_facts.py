@@ -128,7 +128,8 @@ class Finder:
         parcels = [("P",)] if self.problem.parcels(prefix) >= self.bound else []
         late = [("E", n) for n in remaining if self.known.next_value(prefix, n) >= self.bound]
         named = [("N", place) for node, place in closed if self.known.dominates(node, prefix)]
-        left = [("L", load.after, *load.numbers) for load in self.loads_left(prefix) if load.wait >= self.bound]
+        loads = [load for load in self.loads_left(prefix) if load.wait >= self.bound]
+        left = [("L", load.after, *load.numbers) for load in sorted(loads, key=lambda load: load.wait)]  # a narrow one first
         kinds = {"R": turned, "U": loaded, "P": parcels, "E": late, "N": named, "L": left}
         return next((leaf for kind in self.leaves for leaf in kinds[kind]), None)
 
