@@ -161,6 +161,6 @@ fn closes_a_prefix_by_a_load(rt: HostRuntime) -> Result<(), Fail> {
         panic!(rt; "a tree")
     };
     let lines = tree_text(rt.alloc(), tree)?;
-    assert_eq!(rt; lines.as_slice(), b"S 1\nL 4 2 3\n");
+    assert_eq!(rt; lines.as_slice(), b"S 1\nL 4 2 3\n".as_slice());
     Ok(())
 }
