@@ -3,22 +3,19 @@
 ghost use Rattle.std.specs.Prelude.{◌≤◌, length};
 ghost use Rattle.s66_isa.specs.declared.limits.TheConstants.{BLOCK_LIMIT};
 
-use crate::ground::Ground;
-use crate::known::Known;
 use crate::limits::{PASSES_LIMIT, ROUNDS_LIMIT, WAIT_LIMIT};
 use crate::lines::{copies_of, copy_of_line};
 use crate::load::{Best, Load};
 use crate::needed::needed_of;
-use crate::network::Network;
 use crate::pairs::Forced;
 use crate::sketch::Sketch;
-use crate::spans::{FROM_ORIGIN, Spans, TO_END, at_issue};
 use crate::taken::{Taken, word};
 use crate::ways::Ways;
 use s66_dep::Set;
 use s66_facts::{Facts, Times};
 use s66_isa::{BLOCK_LIMIT, Instr, KINDS, Kind, Profile};
 use s66_moments::{FactLine, LoadLine, Moment, Stage};
+use s66_network::{FROM_ORIGIN, Ground, Known, Network, Spans, TO_END, at_issue};
 use s66_paths::Tails;
 use std::alloc::{AllocError, Global};
 
@@ -107,10 +104,11 @@ impl Finder {
     pub fn new(alloc: Global, block: &[Instr], profile: &Profile) -> Finder
         requires { length block.now ≤ BLOCK_LIMIT }
     {
+        let ground = Ground::of(block, profile);
         Finder {
             alloc,
-            ground: Ground::of(block, profile),
-            taken: Taken::new(block, profile),
+            taken: Taken::new(&ground),
+            ground,
             lines: Vec::new(alloc),
             ways: Ways::new(alloc),
         }
@@ -189,7 +187,7 @@ impl Finder {
             return self.duplicate();
         }
         let lines = self.lines.as_slice();
-        let known = Known::of(self.ground.first_known().facts());
+        let known = Known::of(Taken::new(&self.ground).facts());
         let first = Sketch::of(self.alloc, &self.ground, known)?;
         let places = needed_of(self.alloc, first, lines, bound)?;
         let mut other = self.without_lines();
@@ -209,7 +207,7 @@ impl Finder {
         Finder {
             alloc: self.alloc,
             ground: self.ground.duplicate(),
-            taken: self.ground.first_known(),
+            taken: Taken::new(&self.ground),
             lines: Vec::new(self.alloc),
             ways: Ways::new(self.alloc),
         }

@@ -3,18 +3,13 @@
 #![tactic(auto)]
 
 mod finder;
-mod ground;
-mod known;
 mod limits;
 mod lines;
 mod load;
 mod needed;
-mod network;
-mod nodes;
 mod pairs;
 mod shares;
 mod sketch;
-mod spans;
 mod taken;
 mod ways;
 

@@ -1,9 +1,9 @@
 //! Instructions of a kind between two places, of which a load line may speak.
 
-use crate::spans::{Spans, at_issue, at_start};
 use arrayvec::ArrayVec;
 use s66_dep::Set;
 use s66_isa::{BLOCK_LIMIT, Row};
+use s66_network::{Spans, at_issue, at_start};
 
 /// What may be said of a load: its instructions begin so late, and so much is left after them; the wait follows.
 #[derive(Clone, Copy, Debug, Default)]

@@ -1,11 +1,8 @@
 //! Which pairs are forced in all orders that take less than a bound.
 
-use crate::ground::Ground;
-use crate::known::{Known, set_of, turned};
-use crate::network::{Network, Paths};
-use crate::nodes::{free, issue, time_at};
 use s66_dep::Set;
 use s66_isa::{BLOCK_LIMIT, Row, is_same_kind};
+use s66_network::{Ground, Known, Network, Paths, free, issue, set_of, time_at, turned};
 
 /// The numbers that have to stand after each, and before each; what is of n is at n - 1.
 #[derive(Debug, Drop)]

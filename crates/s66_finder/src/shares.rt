@@ -1,7 +1,7 @@
 //! Whether a load may say more than a wait: a quick look, which few loads pass.
 
 use crate::load::{Load, use_time};
-use crate::spans::{at_issue, at_start};
+use s66_network::{at_issue, at_start};
 use std::alloc::{AllocError, Global};
 
 /// What an instruction may add to a load.

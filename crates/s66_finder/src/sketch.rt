@@ -1,13 +1,10 @@
 //! What is known of a block after some lines, found quickly.
 
-use crate::ground::Ground;
-use crate::known::Known;
 use crate::load::use_time;
-use crate::network::{Network, Paths, node_of};
-use crate::nodes::{Times, issue, start, time_at};
 use crate::pairs::is_late;
 use s66_isa::BLOCK_LIMIT;
 use s66_moments::{FactLine, KnownArc, LoadLine, Moment};
+use s66_network::{Ground, Known, Network, Paths, Times, issue, node_of, start, time_at};
 use std::alloc::{AllocError, Global};
 
 /// What is known of a block after some lines, as `Facts` knows it but by few arcs. Nothing is promised of it.

@@ -1,13 +1,13 @@
 //! What is known of a block, and how many lines it took.
 
 ghost use Rattle.std.specs.Prelude.{◌≤◌, ◌<◌, ◌+◌, IsTrue, not, length};
-ghost use Rattle.s66_isa.specs.declared.limits.TheConstants.{BLOCK_LIMIT};
 ghost use Rattle.s66_facts.specs.declared.limits.TheConstants.{FACT_LIMIT};
 ghost use Rattle.s66_facts.specs.Ground.{known_of};
 
 use s66_facts::{FACT_LIMIT, Facts};
-use s66_isa::{BLOCK_LIMIT, Instr, Profile};
+use s66_isa::BLOCK_LIMIT;
 use s66_moments::FactLine;
+use s66_network::Ground;
 
 /// What is known, and how many lines were taken, of which some are load lines.
 #[derive(Debug, Drop)]
@@ -39,11 +39,9 @@ fn take(facts: &mut Facts, bound: u32, line: &FactLine) -> bool
 
 impl Taken {
     /// Of a block by dependence alone.
-    pub fn new(block: &[Instr], profile: &Profile) -> Taken
-        requires { length block.now ≤ BLOCK_LIMIT }
-    {
+    pub fn new(ground: &Ground) -> Taken {
         Taken {
-            facts: Facts::new(block, profile),
+            facts: Facts::new(ground.block(), ground.profile()),
             lines: 0,
         }
     }

@@ -3,9 +3,9 @@
 use crate::limits::WAIT_LIMIT;
 use crate::load::{Best, Load, Way, use_time};
 use crate::shares::Shares;
-use crate::spans::{at_issue, at_start};
 use s66_dep::Set;
 use s66_isa::BLOCK_LIMIT;
+use s66_network::{at_issue, at_start};
 use std::alloc::{AllocError, Global};
 
 /// Moves the way at a position to before those that have less left.

@@ -11,7 +11,7 @@ pub const ORIGIN: usize = 0;
 /// The end.
 pub const END: usize = 1;
 
-/// How long the longest path is to each of them or from it; `None` if there is none.
+/// How long the longest path is to each of them or from it, in minor cycles; `None` if there is none.
 pub type Times = [Option<u32>; NODE_COUNT];
 
 /// The issue of a number.

@@ -24,7 +24,7 @@ pub struct Network {
     arcs: Vec<Arc>,
 }
 
-/// The longest paths from the origin to each node, and from each to the end.
+/// The longest paths from the origin to each node, and from each to the end, in minor cycles.
 #[derive(Clone, Copy, Debug)]
 pub struct Paths {
     pub heads: Times,
@@ -97,7 +97,7 @@ fn belongs_to(from: &Moment, to: &Moment, n: u8) -> bool {
 }
 
 impl Network {
-    /// Of a block by what is known of it.
+    /// Of a block by what is known of it, with the arcs of the load lines among these. `Err` is out of memory.
     pub fn of(
         alloc: Global,
         ground: &Ground,
@@ -272,7 +272,7 @@ impl Network {
         self.arcs.len()
     }
 
-    /// Adds the arc of a load after all that lead to its node and before all that lead from there.
+    /// Adds the arc of a load after all that lead to its node and before all that lead from there. `Err` is out of memory.
     pub fn insert(&mut self, load: &KnownArc) -> Result<(), AllocError> {
         let to = node_of(&load.to);
         let place = self.count_before(to).min(self.arcs.len());
@@ -287,7 +287,7 @@ impl Network {
         Ok(())
     }
 
-    /// The same.
+    /// The same. `Err` is out of memory.
     pub fn duplicate(&self, alloc: Global) -> Result<Network, AllocError> {
         let mut arcs = Vec::new(alloc);
         arcs.extend_from_slice(self.arcs.as_slice())?;

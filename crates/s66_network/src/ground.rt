@@ -3,7 +3,6 @@
 ghost use Rattle.std.specs.Prelude.{◌≤◌, length};
 ghost use Rattle.s66_isa.specs.declared.limits.TheConstants.{BLOCK_LIMIT};
 
-use crate::taken::Taken;
 use arrayvec::ArrayVec;
 use s66_dep::Set;
 use s66_isa::{BLOCK_LIMIT, Instr, KIND_COUNT, KINDS, Kind, Profile, Row, kind_number};
@@ -95,9 +94,16 @@ impl Ground {
         }
     }
 
-    /// What is known of the block by dependence alone.
-    pub fn first_known(&self) -> Taken {
-        Taken::new(self.block.as_slice(), &self.profile)
+    /// The block's instructions.
+    pub fn block(&self) -> &[Instr]
+        ensures { length result.now ≤ BLOCK_LIMIT }
+    {
+        self.block.as_slice()
+    }
+
+    /// The profile.
+    pub fn profile(&self) -> &Profile {
+        &self.profile
     }
 
     /// The rows; that of number n is at n - 1.

@@ -19,7 +19,7 @@ pub const TO_END: usize = 1;
 /// The longest paths from one place to each.
 type Row = [Option<u32>; PLACE_COUNT];
 
-/// The longest paths from each place to each.
+/// The longest paths from each place to each, in minor cycles.
 #[derive(Debug, Drop)]
 pub struct Spans {
     rows: Vec<[Option<u32>; PLACE_COUNT]>,
@@ -67,7 +67,7 @@ fn extend(row: &mut Row, from: usize, wait: u32, after: &Row) {
 }
 
 impl Spans {
-    /// Of a network of numbers up to a count.
+    /// Of a network of numbers up to a count. `Err` is out of memory.
     pub fn of(alloc: Global, network: &Network, count: u8) -> Result<Spans, AllocError> {
         let mut rows = Vec::new(alloc);
         for place in 0..2 * (count as usize + 1) {
