@@ -10,6 +10,7 @@ mod needed;
 mod pairs;
 mod shares;
 mod sketch;
+mod sort;
 mod taken;
 mod ways;
 

@@ -1,6 +1,7 @@
 //! Whether a load may say more than a wait: a quick look, which few loads pass.
 
 use crate::load::{Load, use_time};
+use crate::sort::sort;
 use s66_network::{at_issue, at_start};
 use std::alloc::{AllocError, Global};
 
@@ -34,24 +35,6 @@ fn time_of(shares: &[Share], copies: u32) -> u32 {
         sum = sum.saturating_add(share.amount);
     }
     use_time(sum, copies)
-}
-
-/// Moves the share at a position to before those after which less is left.
-fn sink(shares: &mut [Share], position: usize) {
-    for back in 0..position {
-        let place = position - back;
-        if place >= shares.len() || shares[place - 1].left() >= shares[place].left() {
-            return;
-        }
-        shares.swap(place - 1, place);
-    }
-}
-
-/// Sorts shares by what is left after them, the most first.
-fn sort(shares: &mut [Share]) {
-    for position in 1..shares.len() {
-        sink(shares, position);
-    }
 }
 
 /// Whether some of these that begin so late may say more than a wait. They are sorted, and all together take so long.
@@ -127,7 +110,7 @@ impl Shares {
         if self.shares.len() <= copies as usize {
             return false;
         }
-        sort(self.shares.as_mut_slice());
+        sort(self.shares.as_mut_slice(), |share| share.left());
         let shares = self.shares.as_slice();
         let longest = time_of(shares, copies);
         for share in shares {

@@ -3,28 +3,11 @@
 use crate::limits::WAIT_LIMIT;
 use crate::load::{Best, Load, Way, use_time};
 use crate::shares::Shares;
+use crate::sort::sort;
 use s66_dep::Set;
 use s66_isa::BLOCK_LIMIT;
 use s66_network::{at_issue, at_start};
 use std::alloc::{AllocError, Global};
-
-/// Moves the way at a position to before those that have less left.
-fn sink(ways: &mut [Way], position: usize) {
-    for back in 0..position {
-        let place = position - back;
-        if place >= ways.len() || ways[place - 1].left >= ways[place].left {
-            return;
-        }
-        ways.swap(place - 1, place);
-    }
-}
-
-/// Sorts ways by what is left, the most first.
-fn sort(ways: &mut [Way]) {
-    for position in 1..ways.len() {
-        sink(ways, position);
-    }
-}
 
 /// The best of those that begin so late, or what was better. The ways are sorted, and all their uses together take no longer than this.
 fn best_after(ways: &[Way], copies: u32, longest: u32, after: u32, best: Best) -> Best {
@@ -85,7 +68,7 @@ impl Ways {
             self.add(load.way(n, at_issue(n)))?;
             self.add(load.way(n, at_start(n)))?;
         }
-        sort(self.ways.as_mut_slice());
+        sort(self.ways.as_mut_slice(), |way| way.left);
         Ok(())
     }
 
