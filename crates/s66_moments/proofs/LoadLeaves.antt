@@ -35,11 +35,12 @@ module _ (b : Problem) (facts : List Fact) (known : Known) (sound : IsSound b fa
     left-leads : (n : ℕ) (stage : Stage) → is_remaining b.block prefix n ≡ true → has_stage (row_at b n) stage ≡ true → is_left_from b known prefix bound after time stage n ≡ true →
         (t : ℕ) × Leads b now Origin after (At n stage) × Leads b now (At n stage) t End × ((row_at b n).hold + 1 + bound ≤ after + time + t)
     left-leads n stage remains there h =
-        let (begins, enough) = and_parts (leb after (soonest b prefix n stage)) (leb ((row_at b n).hold + 1 + bound) (after + time + tail b arcs (At n stage))) h in
-        (tail b arcs (At n stage),
-        shorter b now n stage after (soonest b prefix n stage) (leb-true after (soonest b prefix n stage) begins) (soonest-leads b bound facts prefix n stage remains),
-        tail-leads b bound facts prefix arcs (At n stage) (arcs-steps b facts known sound) (left-moment b bound facts prefix n stage (remains, there)),
-        leb-true ((row_at b n).hold + 1 + bound) (after + time + tail b arcs (At n stage)) enough)
+        let (begins, enough) = and_parts (leb after (soonest b prefix n stage)) (leb ((row_at b n).hold + 1 + bound) (after + time + tail b arcs (At n stage))) h in (
+          tail b arcs (At n stage),
+          shorter b now n stage after (soonest b prefix n stage) (leb-true after (soonest b prefix n stage) begins) (soonest-leads b bound facts prefix n stage remains),
+          tail-leads b bound facts prefix arcs (At n stage) (arcs-steps b facts known sound) (left-moment b bound facts prefix n stage (remains, there)),
+          leb-true ((row_at b n).hold + 1 + bound) (after + time + tail b arcs (At n stage)) enough,
+        )
 
     left-between : (n : ℕ) → is_left b known prefix kind bound after time n ≡ true →
         IsNumber b n × (same_kind (row_at b n).kind kind ≡ true) × IsBetween b now Origin End after bound time (use_of b n)

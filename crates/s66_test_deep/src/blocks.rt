@@ -14,6 +14,9 @@ use s66_time::{Timed, time_of};
 /// Every order takes 16, though its longest path takes 12: two instructions that wait for X1 need the only Boolean unit.
 pub const TWO_BOOLEANS: &str = "  BX1 X2*X3\n  BX4 X1*X1\n  BX5 X1*X1\n  FX6 X4+X5\n";
 
+/// No order takes less than 21: the last waits for two of three instructions that need the only Boolean unit.
+pub const THREE_BOOLEANS: &str = "  BX7 X2\n  SX1 B1\n  BX4 X1\n  BX5 X1\n  FX6 X4*X5\n";
+
 /// No order takes less than 31: either of the two sums may come first, and needs the only Add unit before the other.
 pub const TWO_SUMS: &str =
     "  SA1 A1+B1\n  SA2 A2+B1\n  FX3 X1*X0\n  FX4 X2*X0\n  FX6 X3+X5\n  FX7 X4+X5\n  SA6 A6+B1\n  SA7 A7+B1\n";
@@ -35,6 +38,7 @@ pub const TWENTY_FOUR: &str =
 pub const BEST_TIMES: &[(&str, u32)] = &[
     (ONE_LOAD, 12),
     (TWO_BOOLEANS, 16),
+    (THREE_BOOLEANS, 21),
     (MULTIPLIES, 22),
     (TWO_SUMS, 31),
     (SIXTEEN, 60),
