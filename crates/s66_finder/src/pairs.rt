@@ -1,7 +1,7 @@
 //! Which pairs are forced in all orders that take less than a bound.
 
 use s66_dep::Set;
-use s66_isa::{BLOCK_LIMIT, Row, is_same_kind};
+use s66_isa::{BLOCK_LIMIT, is_same_kind};
 use s66_network::{Ground, Known, Network, Paths, free, issue, set_of, time_at, turned};
 
 /// The numbers that have to stand after each, and before each; what is of n is at n - 1.
@@ -20,15 +20,6 @@ struct Looks<'a> {
     bound: u32,
 }
 
-/// The row of a number.
-fn row_of(rows: &[Row], n: u8) -> Option<&Row> {
-    if n == 0 {
-        None
-    } else {
-        rows.get(n as usize - 1)
-    }
-}
-
 /// Whether two paths, one after the other, take so long at least.
 fn reaches(bound: u32, head: Option<u32>, wait: u32, tail: Option<u32>) -> bool {
     match (head, tail) {
@@ -39,8 +30,7 @@ fn reaches(bound: u32, head: Option<u32>, wait: u32, tail: Option<u32>) -> bool 
 
 /// Whether m would come too late for a bound if n stood before it: by parcels, or by the only unit of their kind.
 pub fn is_late(ground: &Ground, paths: &Paths, bound: u32, m: u8, n: u8) -> bool {
-    let rows = ground.rows();
-    let (Some(row), Some(other)) = (row_of(rows, n), row_of(rows, m)) else {
+    let (Some(row), Some(other)) = (ground.row(n), ground.row(m)) else {
         return false;
     };
     let tail = time_at(&paths.tails, issue(m));

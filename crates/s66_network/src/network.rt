@@ -31,15 +31,6 @@ pub struct Paths {
     pub tails: Times,
 }
 
-/// The row of a number.
-fn row_of(ground: &Ground, n: u8) -> Option<&Row> {
-    if n == 0 {
-        None
-    } else {
-        ground.rows().get(n as usize - 1)
-    }
-}
-
 /// Whether an instruction writes a register.
 fn writes(row: &Row, register: Reg) -> bool {
     for write in row.writes.as_slice() {
@@ -53,7 +44,7 @@ fn writes(row: &Row, register: Reg) -> bool {
 /// The last number before n that writes a register, in the block's own order; 0 if none does.
 fn last_writer(ground: &Ground, n: u8, register: Reg) -> u8 {
     for back in 1..n {
-        if let Some(row) = row_of(ground, n - back)
+        if let Some(row) = ground.row(n - back)
             && writes(row, register)
         {
             return n - back;
@@ -128,7 +119,7 @@ impl Network {
         lines: &[FactLine],
         n: u8,
     ) -> Result<(), AllocError> {
-        let Some(row) = row_of(ground, n) else {
+        let Some(row) = ground.row(n) else {
             return Ok(());
         };
         self.add(ORIGIN, 0, issue(n))?;
@@ -146,7 +137,7 @@ impl Network {
     fn add_parcels(&mut self, ground: &Ground, known: &Known, n: u8) -> Result<(), AllocError> {
         for m in known.before(n).numbers().as_slice() {
             if known.after(*m).both(&known.before(n)).count() == 0
-                && let Some(row) = row_of(ground, *m)
+                && let Some(row) = ground.row(*m)
             {
                 self.add(issue(*m), row.parcels, issue(n))?;
             }
@@ -173,7 +164,7 @@ impl Network {
         to: usize,
     ) -> Result<(), AllocError> {
         let writer = last_writer(ground, n, register);
-        match row_of(ground, writer) {
+        match ground.row(writer) {
             None => Ok(()),
             Some(row) => self.add(done(row, writer, register), 0, to),
         }
@@ -193,7 +184,7 @@ impl Network {
 
     /// To the start of n.
     fn add_start(&mut self, ground: &Ground, n: u8) -> Result<(), AllocError> {
-        let Some(row) = row_of(ground, n) else {
+        let Some(row) = ground.row(n) else {
             return Ok(());
         };
         self.add(issue(n), 0, start(n))?;
@@ -210,7 +201,7 @@ impl Network {
     /// To the start of n from the last store before it, and from the loads since then if it is a store.
     fn add_memory(&mut self, ground: &Ground, n: u8, is_store: bool) -> Result<(), AllocError> {
         for back in 1..n {
-            let memory = match row_of(ground, n - back) {
+            let memory = match ground.row(n - back) {
                 None => Memory::None,
                 Some(row) => row.memory,
             };
@@ -225,7 +216,7 @@ impl Network {
 
     /// To the results of n and to the free of its unit, and from there to the end.
     fn add_results(&mut self, ground: &Ground, n: u8) -> Result<(), AllocError> {
-        let Some(row) = row_of(ground, n) else {
+        let Some(row) = ground.row(n) else {
             return Ok(());
         };
         self.add(start(n), row.hold.saturating_add(1), free(n))?;
@@ -250,7 +241,7 @@ impl Network {
         to: usize,
     ) -> Result<(), AllocError> {
         for back in 1..n {
-            if let Some(row) = row_of(ground, n - back) {
+            if let Some(row) = ground.row(n - back) {
                 if has_register(row.reads.as_slice(), register) {
                     self.add(start(n - back), 1, to)?;
                 }
