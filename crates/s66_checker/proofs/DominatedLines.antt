@@ -1,7 +1,7 @@
 -- A dominated leaf is without fault exactly when the node that it names dominates, by the rule.
-use Rattle.std.proofs.Common.{ℕ, ◌<◌, ◌≤◌, ◌≡◌, ◌≢◌, ◌⊎◌, ◌↔◌, ◌==◌, ◌&&◌, ◌||◌, Bool, true, false, true≢false, cond, not, List, [], ◌∷◌, length, take, get_or, None, Some, Decides, ltb, refl, sym, inl, inr, arith, zero, suc}
-use Rattle.std.proofs.lemmas.Bool.{eqb-true, eq-eqb, ne_eqb, ltb-true, lt-ltb, le-ltb, not-true, not-false, not_from_true, not_from_false}
-use Rattle.std.proofs.lemmas.Bool.Decides.{Decides-and, Decides-or}
+use Rattle.std.proofs.Common.{ℕ, ◌≡◌, ◌↔◌, Bool, true, false, true≢false, cond, not, List, [], None, Some, Decides, refl, sym}
+use Rattle.std.proofs.lemmas.Bool.{not-true, not-false, not_from_true, not_from_false}
+use Rattle.std.proofs.lemmas.Bool.Decides.{Decides-and}
 use Rattle.s66_model.specs.declared.rule.Rule.{Rule}
 use Rattle.s66_model.specs.declared.rule.Rule.TheVariants.{NoneNamed, WrittenEarlier, ClampedStanding}
 use Rattle.s66_model.specs.Timing.{Problem}
@@ -9,49 +9,17 @@ use Rattle.s66_model.specs.LegalOrder.{IsBeginning, IsIncomplete}
 use Rattle.s66_model.specs.Digits.{HaveDigits}
 use Rattle.s66_model.specs.Dominance.{IsSameSet}
 use Rattle.s66_model.specs.NodeNames.{node_named}
-use Rattle.s66_model.specs.DominatedLeaves.{Ending, Bounding, Dominated, Next, Turned, AtLine, LoadFrom, IsEarlier, may_be_named, DominatesByRule, MayBeDominated, EndingShows}
+use Rattle.s66_model.specs.DominatedLeaves.{Ending, Bounding, Dominated, Next, Turned, AtLine, LoadFrom, may_be_named, DominatesByRule, MayBeDominated, EndingShows}
 use Rattle.s66_model.specs.Tree.{AtTerminal}
 use Rattle.s66_cert.specs.Document.{Document, is_factual}
 use Rattle.s66_checker.specs.declared.verdict.Reason.TheVariants as fault
-use Rattle.s66_checker.specs.Dominating.{dominates_by}
-use Rattle.s66_checker.specs.Verdict.{problem_of, is_complete, is_earlier, is_early_enough, is_name, dominated_fault, line_fault}
-use Rattle.s66_checker.proofs.Faultless.{passed, goes_on-Decides, is_incomplete-Decides, leaf-shows}
-use Rattle.s66_checker.proofs.AheadOf.{same_set-Decides}
+use Rattle.s66_replay.specs.Dominating.{dominates_by}
+use Rattle.s66_checker.specs.Verdict.{problem_of, is_complete, is_early_enough, is_name, dominated_fault, line_fault}
+use Rattle.s66_replay.proofs.GoingTo.{goes_on-Decides}
+use Rattle.s66_checker.proofs.Faultless.{passed, is_incomplete-Decides, leaf-shows}
+use Rattle.s66_replay.proofs.AheadOf.{same_set-Decides}
+use Rattle.s66_replay.proofs.Earlier.{is_earlier-Decides}
 use Rattle.s66_checker.proofs.DominanceTests.{written-Decides, clamped-Decides, document-digits}
-
--- EARLIER
-
-is_earlier-Decides : (ns ms : List ℕ) → Decides (is_earlier ns ms) (IsEarlier ns ms)
-is_earlier-Decides [] ms = ((λ h. absurd (true≢false (sym h))), λ h. absurd h)
-is_earlier-Decides (n ∷ ns) [] = ((λ h. absurd (true≢false (sym h))), λ h. absurd h)
-is_earlier-Decides (n ∷ ns) (m ∷ ms) =
-    Decides-or (ltb n m) (n == m && is_earlier ns ms) (ltb-true n m, lt-ltb n m)
-    (Decides-and (n == m) (is_earlier ns ms) (eqb-true n m, eq-eqb n m) (is_earlier-Decides ns ms))
-
--- the first place where they differ decides
-pub differ-tells : (k : ℕ) (ns ms : List ℕ) → k < length ns → k < length ms → take k ns ≡ take k ms → get_or ns k 0 ≢ get_or ms k 0 → ltb (get_or ns k 0) (get_or ms k 0) ≡ is_earlier ns ms
-differ-tells k [] ms within other same differ = absurd (omega (arith, within))
-differ-tells k (n ∷ ns) [] within other same differ = absurd (omega (arith, other))
-differ-tells zero (n ∷ ns) (m ∷ ms) within other same differ = rw (ne_eqb n m differ) (or_false (ltb n m))
-  where
-    or_false : (test : Bool) → test ≡ (test || false)
-    or_false true = refl
-    or_false false = refl
-differ-tells (suc k) (n ∷ ns) (m ∷ ms) within other same differ =
-    let e : n ≡ m = cc in
-    let rest : take k ns ≡ take k ms = cc in
-    rw (le-ltb n m (omega (arith, e)), eq-eqb n m e) (differ-tells k ns ms (omega (arith, within)) (omega (arith, other)) rest differ)
-
--- and if there is none they aren't
-pub same-never : (k : ℕ) (ns ms : List ℕ) → (length ns ≤ k) ⊎ (length ms ≤ k) → take k ns ≡ take k ms → false ≡ is_earlier ns ms
-same-never k [] ms short same = refl
-same-never k (n ∷ ns) [] short same = refl
-same-never zero (n ∷ ns) (m ∷ ms) short same = absurd (elim short [ inl h ↦ omega (arith, h) | inr h ↦ omega (arith, h) ])
-same-never (suc k) (n ∷ ns) (m ∷ ms) short same =
-    let e : n ≡ m = cc in
-    let rest : take k ns ≡ take k ms = cc in
-    let less : (length ns ≤ k) ⊎ (length ms ≤ k) = elim short [ inl h ↦ inl (omega (arith, h)) | inr h ↦ inr (omega (arith, h)) ] in
-    rw (le-ltb n m (omega (arith, e)), eq-eqb n m e) (same-never k ns ms less rest)
 
 -- BY A RULE
 

@@ -7,7 +7,7 @@ use Rattle.std.specs.Prelude.{nat_lt, ◌==◌}
 use Rattle.s66_isa.specs.declared.instr.Instr.{Instr}
 use Rattle.s66_isa.specs.Lists.{Among}
 use Rattle.s66_model.specs.Timing.{Problem}
-use Rattle.s66_model.specs.LegalOrder.{IsLegal, is_ready, is_remaining, ready, GoesOn, IsBeginning, IsIncomplete}
+use Rattle.s66_model.specs.LegalOrder.{IsLegal, is_ready, is_remaining, ready, IsBeginning, IsIncomplete}
 use Rattle.s66_model.specs.Leaves.{Leaf, Whole, Chain, Load, Parcels, value, MayStand, IsWalk, IsChain, is_linked}
 use Rattle.s66_model.specs.Tree.{LeafShows, AtSplit}
 use Rattle.s66_cert.specs.Document.{Document}
@@ -15,7 +15,8 @@ use Rattle.s66_model.proofs.LegalOrders.{order-legal, legal-order}
 use Rattle.s66_model.proofs.Beginnings.{beginning-front}
 use Rattle.s66_model.proofs.Remaining.{ready-among, step-begins}
 use Rattle.s66_checker.specs.declared.verdict.Reason.TheVariants as fault
-use Rattle.s66_checker.specs.Dominating.{is_beginning_after}
+use Rattle.s66_replay.specs.Dominating.{is_beginning_after}
+use Rattle.s66_replay.proofs.GoingTo.{goes_on-Decides}
 use Rattle.s66_checker.specs.Verdict.{problem_of, is_legal_order, is_walk, has_links, is_complete, is_at_its_place, leaf_fault, line_fault}
 
 -- no fault if the test fails, and none after it
@@ -24,11 +25,6 @@ passed true fault later none other = ((λ h. absurd (other h)), λ h. absurd (tr
 passed false fault later none other = ((λ h. (refl, h)), λ h. h.1)
 
 -- LEGAL ORDERS
-
-pub goes_on-Decides : (block : List Instr) (prefix ns : List ℕ) → Decides (is_beginning_after block prefix ns) (GoesOn block prefix ns)
-goes_on-Decides block prefix [] = ((λ h. tt), λ h. refl)
-goes_on-Decides block prefix (n ∷ ns) =
-    Decides-and (is_ready block prefix n) (is_beginning_after block (prefix ++ n ∷ []) ns) ((λ h. h), λ h. h) (goes_on-Decides block (prefix ++ n ∷ []) ns)
 
 pub is_legal_order-Decides : (block : List Instr) (order : List ℕ) → Decides (is_legal_order block order) (IsLegal block order)
 is_legal_order-Decides block order =

@@ -20,7 +20,7 @@ use Rattle.s66_moments.proofs.KnownLines.{IsSound, after-sound, next-too_late, t
 use Rattle.s66_moments.proofs.LoadLeaves.{loaded-closed}
 use Rattle.s66_cert.specs.Document.{Document}
 use Rattle.s66_checker.specs.declared.verdict.Reason.TheVariants as fault
-use Rattle.s66_checker.specs.Dominating.{is_beginning, is_same_set, dominates_in_use}
+use Rattle.s66_replay.specs.Dominating.{is_beginning, is_same_set, dominates_in_use}
 use Rattle.s66_checker.specs.Verdict.{problem_of, known_of, node_on, is_complete, is_name_at, name_of, at_line_fault, next_fault, turned_fault, load_from_fault, line_fault}
 use Rattle.s66_checker.specs.TrueClaims.{line_ending, line_tree}
 use Rattle.s66_checker.proofs.Faultless.{passed, is_incomplete-Decides, leaf-shows}

@@ -1,11 +1,7 @@
 pub mod Reasons
-pub mod Dominating
 pub mod Verdict
 pub mod TrueClaims
-pub mod Checked
 pub mod Walk
 pub mod Examples
-pub mod KeptPrefix
-pub mod PastWords
-pub mod Marked
 pub mod KeptKnown
+pub mod NamedNodes

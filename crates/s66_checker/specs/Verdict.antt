@@ -1,5 +1,5 @@
 -- To be believed: the verdict on a document: yes, or its first fault.
-use Rattle.std.specs.Prelude.{ℕ, suc, ◌+◌, ◌-◌, ◌==◌, ◌&&◌, ◌||◌, if◌then◌else◌, Bool, true, false, not, List, [], ◌∷◌, Option, None, Some, length, map, nat_le, nat_lt, slice_get, unwrap_or}
+use Rattle.std.specs.Prelude.{ℕ, suc, ◌+◌, ◌-◌, ◌==◌, ◌&&◌, if◌then◌else◌, Bool, true, false, not, List, [], ◌∷◌, Option, None, Some, length, map, nat_le, nat_lt, slice_get, unwrap_or}
 use Rattle.std.specs.Str.{bytes_eq}
 use Rattle.s66_isa.specs.declared.instr.Instr.{Instr}
 use Rattle.s66_isa.specs.Profiles.{profile_of}
@@ -19,7 +19,7 @@ use Rattle.s66_checker.specs.declared.verdict.Verdict.{Verdict}
 use Rattle.s66_checker.specs.declared.verdict.Verdict.TheVariants.{Yes, No}
 use Rattle.s66_checker.specs.declared.verdict.Reason.{Reason}
 use Rattle.s66_checker.specs.declared.verdict.Reason.TheVariants as fault
-use Rattle.s66_checker.specs.Dominating.{is_beginning, is_same_set, dominates_by, dominates_in_use}
+use Rattle.s66_replay.specs.Dominating.{is_beginning, is_same_set, is_earlier, dominates_by, dominates_in_use}
 
 -- ITS BLOCK, under its own profile
 
@@ -96,12 +96,6 @@ leaf_fault b bound prefix leaf =
     else None))
 
 -- FAULTS OF A DOMINATED LEAF
-
--- smaller at the first place where they differ
-abbrev pub is_earlier : List ℕ → List ℕ → Bool
-is_earlier [] ms = false
-is_earlier (n ∷ ns) [] = false
-is_earlier (n ∷ ns) (m ∷ ms) = nat_lt n m || (n == m && is_earlier ns ms)
 
 -- if the rule wants an earlier one
 abbrev pub is_early_enough : Rule → List ℕ → List ℕ → Bool

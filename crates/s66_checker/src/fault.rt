@@ -6,58 +6,51 @@ ghost use Rattle.s66_isa.specs.declared.limits.TheConstants.{BLOCK_LIMIT};
 ghost use Rattle.s66_model.specs.LegalOrder.{ready};
 ghost use Rattle.s66_model.specs.Leaves.{Whole, Chain, Load, Parcels};
 ghost use Rattle.s66_checker.specs.declared.verdict.Reason.TheVariants as fault;
+ghost use Rattle.s66_tree.specs.Lines.{vertex_of};
 ghost use Rattle.s66_cert.specs.DocumentParts.{document_of};
 ghost use Rattle.s66_checker.specs.KeptKnown.{KnowsAll};
-ghost use Rattle.s66_checker.specs.Verdict.{problem_of, is_complete, leaf_fault, dominated_fault, at_line_fault, next_fault, turned_fault, load_from_fault};
+ghost use Rattle.s66_checker.specs.Verdict.{problem_of, is_complete, line_fault, leaf_fault, dominated_fault, at_line_fault, next_fault, turned_fault, load_from_fault};
 
 use crate::in_use::dominates_in_use;
 use crate::known::Known;
 use crate::leaf::{chain_value, load, parcels, ready};
 use crate::loaded::is_loaded;
 use crate::name::{is_name, is_name_at};
-use crate::prefix::Prefix;
 use crate::verdict::Reason;
 use s66_cert::{Document, TreeLine};
 use s66_isa::Kind;
 use s66_model::Rule;
+use s66_replay::Prefix;
 
-impl Prefix {
-    ghost use Rattle.std.specs.Prelude.{◌≡◌};
-    ghost use Rattle.s66_tree.specs.Lines.{vertex_of};
-    ghost use Rattle.s66_cert.specs.DocumentParts.{document_of};
-    ghost use Rattle.s66_checker.specs.KeptKnown.{KnowsAll};
-    ghost use Rattle.s66_checker.specs.Verdict.{problem_of, line_fault};
-
-    /// What is wrong with a line of a document's tree at the prefix, if anything is. A leaf's value has to reach the bound, and
-    /// the node that a dominated leaf names has to dominate; a leaf by facts has to be right by what is known after all fact lines.
-    /// The other prefix goes to the node.
-    pub(crate) fn fault(
-        &self,
-        named: &mut Prefix,
-        document: &Document,
-        known: &Known,
-        line: TreeLine<'_>,
-    ) -> Option<Reason>
-        requires problem { self.now.problem ≡ problem_of (document_of document.now) }
-        requires same { named.old.problem ≡ self.now.problem }
-        requires known { KnowsAll (document_of document.now) known.now }
-        ensures value { result ≡ line_fault (document_of document.now) self.now.numbers (vertex_of line.entry) }
-        ensures same { named.new.problem ≡ named.old.problem }
-    {
-        let bound = document.bound();
-        match line {
-            TreeLine::Split(children) => split_fault(self, children),
-            TreeLine::Whole => whole_fault(self, bound),
-            TreeLine::Chain(numbers) => chain_fault(self, bound, numbers),
-            TreeLine::Load(kind) => load_fault(self, bound, kind),
-            TreeLine::Parcels => parcels_fault(self, bound),
-            TreeLine::Dominated(name) => dominated_fault(self, named, document, name),
-            TreeLine::AtLine(line) => at_line_fault(self, named, document, known, line),
-            TreeLine::Next(n) => next_fault(self, document, known, n),
-            TreeLine::Turned(first, second) => turned_fault(self, document, known, first, second),
-            TreeLine::LoadFrom(after, numbers) => {
-                load_from_fault(self, document, known, after, numbers)
-            }
+/// What is wrong with a line of a document's tree at the prefix, if anything is. A leaf's value has to reach the bound, and
+/// the node that a dominated leaf names has to dominate; a leaf by facts has to be right by what is known after all fact lines.
+/// The other prefix goes to the node.
+pub(crate) fn line_fault(
+    prefix: &Prefix,
+    named: &mut Prefix,
+    document: &Document,
+    known: &Known,
+    line: TreeLine<'_>,
+) -> Option<Reason>
+    requires problem { prefix.now.problem ≡ problem_of (document_of document.now) }
+    requires same { named.old.problem ≡ prefix.now.problem }
+    requires known { KnowsAll (document_of document.now) known.now }
+    ensures value { result ≡ line_fault (document_of document.now) prefix.now.numbers (vertex_of line.entry) }
+    ensures same { named.new.problem ≡ named.old.problem }
+{
+    let bound = document.bound();
+    match line {
+        TreeLine::Split(children) => split_fault(prefix, children),
+        TreeLine::Whole => whole_fault(prefix, bound),
+        TreeLine::Chain(numbers) => chain_fault(prefix, bound, numbers),
+        TreeLine::Load(kind) => load_fault(prefix, bound, kind),
+        TreeLine::Parcels => parcels_fault(prefix, bound),
+        TreeLine::Dominated(name) => dominated_fault(prefix, named, document, name),
+        TreeLine::AtLine(line) => at_line_fault(prefix, named, document, known, line),
+        TreeLine::Next(n) => next_fault(prefix, document, known, n),
+        TreeLine::Turned(first, second) => turned_fault(prefix, document, known, first, second),
+        TreeLine::LoadFrom(after, numbers) => {
+            load_from_fault(prefix, document, known, after, numbers)
         }
     }
 }

@@ -8,11 +8,10 @@ ghost use Rattle.s66_facts.specs.Ground.{known_of as known_in};
 ghost use Rattle.s66_checker.specs.Verdict.{problem_of, facts_of};
 ghost use Rattle.s66_checker.specs.KeptKnown.{KnowsAll, AreTaken, IsUntaken, is_reached, is_result_late, is_point_late};
 
-use crate::point::KeptPoint;
-use crate::prefix::Prefix;
 use s66_cert::{Document, FactLine};
 use s66_facts::{Facts, Times, times_at};
 use s66_isa::{BLOCK_LIMIT, Instr, Profile, Write};
+use s66_replay::{KeptPoint, Prefix};
 use std::marker::Model;
 
 /// The fact lines of a document; none in versions 1 to 3.

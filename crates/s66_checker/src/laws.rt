@@ -13,7 +13,7 @@ ghost use Rattle.s66_moments.specs.declared.fact_line.FactLine.{FactLine};
 ghost use Rattle.s66_moments.specs.FactLines.{facts_after};
 ghost use Rattle.s66_moments.specs.InUse.{DominatesInUse};
 ghost use Rattle.s66_moments.specs.Known.{Known, line_of, known_first, known_after, are_taken};
-ghost use Rattle.s66_checker.specs.Dominating.{dominates_by, dominates_in_use};
+ghost use Rattle.s66_replay.specs.Dominating.{dominates_by, dominates_in_use};
 ghost use Rattle.s66_checker.specs.TrueClaims.{IsTrueClaim};
 
 /// If the verdict on a document is yes, with its time and its bound, what it claims is true; without fact lines it is yes exactly

@@ -10,13 +10,13 @@
 //!
 //! It shares nothing with the search that made the certificate: no clock, no marks, no sets of dependences, no bounds, no ledger.
 //! So a mistake there, or in what is proved of it, doesn't come back here as a yes. It uses the table of instructions
-//! (`s66_isa`), the definitions of the model (`s66_model`), what fact lines give of a block (`s66_moments`, `s66_facts`), and
-//! documents, their trees and their texts (`s66_cert`, `s66_tree`, `s66_line`). It allocates nothing.
+//! (`s66_isa`), the definitions of the model (`s66_model`), beginnings of orders that are worked out anew (`s66_replay`), what fact
+//! lines give of a block (`s66_moments`, `s66_facts`), and documents, their trees and their texts (`s66_cert`, `s66_tree`,
+//! `s66_line`). It allocates nothing.
 //!
-//! What each instruction depends on is tested pair by pair, and stored in a word (`needs`, `marks`). One prefix is pushed and
-//! popped along the tree (`prefix`, `walk`), with its points and what they leave for the next instruction (`past`, `words`,
-//! `timing`). Another goes to the nodes that are named (`name`). What both leave decides whether it dominates (`dominance`,
-//! `falling`, `in_use`), and what is known after the fact lines whether a leaf is right by facts (`known`, `loaded`).
+//! One prefix is pushed and popped along the tree (`walk`). Another goes to the nodes that are named (`name`). What both leave decides
+//! whether it dominates, clamped or in use (`in_use`), and what is known after the fact lines whether a leaf is right by facts (`known`,
+//! `loaded`).
 //!
 //! A block takes time for each of its pairs once. A line of the tree takes a time linear in the block's length, on the average
 //! over all lines, whatever the profile. A node that is named is found by a jump for each earlier sibling on the way. A leaf that
@@ -26,9 +26,7 @@
 #![tactic(auto)]
 
 mod check;
-mod dominance;
 mod examples;
-mod falling;
 mod fault;
 mod in_use;
 mod known;
@@ -36,17 +34,9 @@ mod laws;
 mod leaf;
 mod links;
 mod loaded;
-mod marks;
 mod name;
-mod needs;
-mod past;
-mod point;
-mod prefix;
-mod result;
-mod timing;
 mod verdict;
 mod walk;
-mod words;
 
 pub use check::verify;
 pub use examples::{

@@ -6,14 +6,14 @@ ghost use Rattle.s66_model.specs.DominatedLeaves.{is_standing, may_be_named};
 ghost use Rattle.s66_tree.specs.Lines.{vertex_of};
 ghost use Rattle.s66_cert.specs.DocumentParts.{document_of};
 ghost use Rattle.s66_checker.specs.Verdict.{problem_of, is_early_enough, is_name, is_name_at, name_of, node_on};
-ghost use Rattle.s66_checker.specs.KeptPrefix.{IsNodeOn};
+ghost use Rattle.s66_checker.specs.NamedNodes.{IsNodeOn};
 
 use crate::known::fact_lines;
-use crate::prefix::Prefix;
 use arrayvec::ArrayVec;
 use s66_cert::{Document, TreeLine};
 use s66_isa::BLOCK_LIMIT;
 use s66_model::Rule;
+use s66_replay::Prefix;
 
 /// Whether the node of this line is no dominated leaf.
 fn is_standing(line: TreeLine<'_>) -> bool

@@ -7,10 +7,11 @@ ghost use Rattle.s66_cert.specs.Document.{tree_placed};
 ghost use Rattle.s66_checker.specs.Verdict.{problem_of, tree_line_number, lines_verdict};
 ghost use Rattle.s66_checker.specs.Walk.{coming, coming_after, HasReady};
 
+use crate::fault::line_fault;
 use crate::known::{Known, fact_lines};
-use crate::prefix::Prefix;
 use crate::verdict::Verdict;
 use s66_cert::{Document, TreeLine};
+use s66_replay::Prefix;
 
 /// The least number above another that is ready after the prefix: one look at a word for each number above it.
 fn next_ready(prefix: &Prefix, n: u8) -> Option<u8>
@@ -73,7 +74,7 @@ pub(crate) fn tree_verdict(
     let mut lines = document.tree();
     let mut number = u32::from(prefix.count()) + 7 + fact_lines(document).len() as u32;
     while let Some(line) = lines.next() {
-        if let Some(reason) = prefix.fault(&mut named, document, known, line) {
+        if let Some(reason) = line_fault(&prefix, &mut named, document, known, line) {
             return Verdict::No {
                 line: number,
                 reason,

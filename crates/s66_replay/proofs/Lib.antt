@@ -1,0 +1,16 @@
+pub mod Reversed
+pub mod KeptPoints
+pub mod Issues
+pub mod ReadyByNeeds
+pub mod PrefixSteps
+pub mod WordsOfPoints
+pub mod MarkBits
+pub mod NoLater
+pub mod FreeUnits
+pub mod WordsNoLater
+pub mod AheadOf
+pub mod GoingTo
+pub mod UnitsNoLater
+pub mod TwoPrefixes
+pub mod FoundNoLater
+pub mod Earlier

@@ -1,0 +1,5 @@
+pub mod Dominating
+pub mod Checked
+pub mod KeptPrefix
+pub mod PastWords
+pub mod Marked

@@ -1,0 +1,65 @@
+ghost use Rattle.std.specs.Prelude.{ℕ, ◌≡◌, ◌≤◌, ◌==◌, ◌||◌, ◌&&◌, not, ◌↔◌, IsTrue, true, false};
+ghost use Rattle.s66_isa.specs.declared.limits.TheConstants.{BLOCK_LIMIT};
+ghost use Rattle.s66_replay.specs.Marked.{is_marked};
+
+use s66_isa::BLOCK_LIMIT;
+
+// one word has a bit for each number of a block
+const _: () = prove!(BLOCK_LIMIT == u128::BITS as usize);
+
+/// Which numbers of a block are marked, in one word.
+#[derive(Clone, Copy, Debug, Default, Drop)]
+pub struct Marks {
+    /// Bit n - 1 is set if n is marked.
+    bits: u128,
+}
+
+impl Marks {
+    /// None is marked.
+    pub fn none() -> Marks
+        ensures { (m : ℕ) → is_marked result m ≡ false }
+    {
+        Marks { bits: 0 }
+    }
+
+    /// The same, and n is marked.
+    pub fn with(self, n: u8) -> Marks
+        requires { (1 ≤ n) × (n ≤ BLOCK_LIMIT) }
+        ensures { (m : ℕ) → 1 ≤ m → is_marked result m ≡ (m == n || is_marked self m) }
+    {
+        Marks {
+            bits: self.bits | (1 << (n - 1)),
+        }
+    }
+
+    /// The same, and n isn't marked.
+    pub fn without(self, n: u8) -> Marks
+        requires { (1 ≤ n) × (n ≤ BLOCK_LIMIT) }
+        ensures { (m : ℕ) → 1 ≤ m → m ≤ BLOCK_LIMIT → is_marked result m ≡ (not (m == n) && is_marked self m) }
+    {
+        Marks {
+            bits: self.bits & !(1 << (n - 1)),
+        }
+    }
+
+    /// Whether n is marked.
+    pub fn has(&self, n: u8) -> bool
+        requires { (1 ≤ n) × (n ≤ BLOCK_LIMIT) }
+        ensures { result ≡ is_marked self.now n }
+    {
+        (self.bits >> (n - 1)) & 1 == 1
+    }
+
+    /// Whether each number that is marked here is marked there.
+    pub fn are_within(&self, other: &Marks) -> bool
+        ensures { IsTrue result ↔ ((m : ℕ) → 1 ≤ m → m ≤ BLOCK_LIMIT → is_marked self.now m ≡ true → is_marked other.now m ≡ true) }
+    {
+        self.bits & other.bits == self.bits
+    }
+    /// Whether the same numbers are marked.
+    pub fn are_same(&self, other: &Marks) -> bool
+        ensures { IsTrue result ↔ ((m : ℕ) → 1 ≤ m → m ≤ BLOCK_LIMIT → is_marked self.now m ≡ is_marked other.now m) }
+    {
+        self.bits == other.bits
+    }
+}
