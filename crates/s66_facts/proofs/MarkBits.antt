@@ -2,7 +2,7 @@
 use Rattle.std.proofs.Common.{ℕ, ◌+◌, ◌-◌, ◌*◌, ◌%◌, ◌^◌, ◌≤◌, ◌<◌, ◌≡◌, ◌↔◌, true, ◌||◌, ◌&&◌, not, ◌==◌, IsTrue, bit_and, bit_or, eqb-true, eq-eqb, ne_eqb, refl, sym, ap, ◌∙◌, inl, inr, arith}
 use Rattle.std.specs.Int.{w128, bit_at, bit_not}
 use Rattle.std.proofs.lemmas.Bool.{cases_eq, cases_lt}
-use Rattle.std.proofs.lemmas.Nat.Bits.{bit_at-lt, bit_at_and, bit_at_not, bit_at_above, bit_at_or, bit_at_set_same, bit_at_set_other, same_from_bits}
+use Rattle.std.proofs.lemmas.Nat.Bits.{bit_at-lt, bit_at_and, bit_at_not, bit_at_above, bit_at_or, bit_at_set_same, bit_at_set_other, bit_at_clear_same, bit_at_clear_other, same_from_bits}
 use Rattle.s66_isa.specs.declared.limits.TheConstants.{BLOCK_LIMIT}
 use Rattle.s66_facts.specs.Marked.{is_marked}
 use Rattle.s66_facts.specs.declared.marks.Marks.{Marks}
@@ -15,6 +15,17 @@ marked-with old new n m low high first is =
           ∙ sym (rw (eq-eqb m n here) refl)
       | inr apart ↦
           ap (λ bits. bit_at bits (m - 1) == 1) is ∙ ap (λ bit. bit == 1) (bit_at_set_other w128 old.bits (n - 1) (omega arith) (m - 1) (λ e. apart (omega (arith, e))))
+          ∙ sym (rw (ne_eqb m n apart) refl)
+    ]
+
+pub marked-without : (old new : Marks) (n m : ℕ) → old.bits < 2 ^ 128 → 1 ≤ n → n ≤ BLOCK_LIMIT → 1 ≤ m → m ≤ BLOCK_LIMIT → new.bits ≡ bit_and old.bits (bit_not w128 (1 * 2 ^ (n - 1) % 2 ^ 128)) → is_marked new m ≡ (not (m == n) && is_marked old m)
+marked-without old new n m fits low high first last is =
+    elim (cases_eq m n) [
+      | inl here ↦
+          ne_eqb (bit_at new.bits (m - 1)) 1 (λ e. omega (arith, e, ap (λ k. bit_at new.bits (k - 1)) here, ap (λ bits. bit_at bits (n - 1)) is, bit_at_clear_same w128 old.bits (n - 1) (omega arith)))
+          ∙ sym (rw (eq-eqb m n here) refl)
+      | inr apart ↦
+          ap (λ bits. bit_at bits (m - 1) == 1) is ∙ ap (λ bit. bit == 1) (bit_at_clear_other w128 old.bits (n - 1) (omega arith) (m - 1) (omega arith) (λ e. apart (omega (arith, e))))
           ∙ sym (rw (ne_eqb m n apart) refl)
     ]
 
@@ -40,6 +51,26 @@ marks-within own other fits =
                 | inr ge ↦ absurd (omega (arith, one, bit_at_above own.bits BLOCK_LIMIT i fits ge))
               ]
           | inr clear ↦ grind (arith, clear, bit_at_and own.bits other.bits i, bit_at-lt own.bits i)
+        ]
+
+-- the bits are the same if the marks are
+pub marks-same : (own other : Marks) → own.bits < 2 ^ 128 → other.bits < 2 ^ 128 → IsTrue (own.bits == other.bits) ↔ ((m : ℕ) → 1 ≤ m → m ≤ BLOCK_LIMIT → is_marked own m ≡ is_marked other m)
+marks-same own other fits room = (
+  λ same m low high. ap (λ bits. bit_at bits (m - 1) == 1) (eqb-true own.bits other.bits same),
+  λ each. eq-eqb own.bits other.bits (same_from_bits own.bits other.bits (bits each)),
+)
+  where
+    one : (a b : ℕ) → a < 2 → b < 2 → (a == 1) ≡ (b == 1) → a ≡ b
+    one a b la lb same = grind (arith, la, lb, same)
+
+    bits : ((m : ℕ) → 1 ≤ m → m ≤ BLOCK_LIMIT → is_marked own m ≡ is_marked other m) → (i : ℕ) → bit_at own.bits i ≡ bit_at other.bits i
+    bits each i =
+        elim (cases_lt i BLOCK_LIMIT) [
+          | inl lt ↦
+              let e : i + 1 - 1 ≡ i = omega arith in
+              one (bit_at own.bits i) (bit_at other.bits i) (bit_at-lt own.bits i) (bit_at-lt other.bits i)
+              (ap (λ k. bit_at own.bits k == 1) (sym e) ∙ each (i + 1) (omega arith) (omega (arith, lt)) ∙ ap (λ k. bit_at other.bits k == 1) e)
+          | inr ge ↦ bit_at_above own.bits BLOCK_LIMIT i fits ge ∙ sym (bit_at_above other.bits BLOCK_LIMIT i room ge)
         ]
 
 pub marked-both : (own other : Marks) (m : ℕ) → is_marked (record { bits = bit_or own.bits other.bits }) m ≡ (is_marked own m || is_marked other m)

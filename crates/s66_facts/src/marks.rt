@@ -41,6 +41,16 @@ impl Marks {
         }
     }
 
+    /// The same, and n isn't marked.
+    pub fn without(self, n: u8) -> Marks
+        requires { (1 ≤ n) × (n ≤ BLOCK_LIMIT) }
+        ensures { (m : ℕ) → 1 ≤ m → m ≤ BLOCK_LIMIT → is_marked result m ≡ (not (m == n) && is_marked self m) }
+    {
+        Marks {
+            bits: self.bits & !(1 << (n - 1)),
+        }
+    }
+
     /// The same, without all that are marked there.
     pub fn without_all(self, other: Marks) -> Marks
         ensures { (m : ℕ) → 1 ≤ m → m ≤ BLOCK_LIMIT → is_marked result m ≡ (is_marked self m && not (is_marked other m)) }
@@ -63,5 +73,12 @@ impl Marks {
         ensures { IsTrue result ↔ ((m : ℕ) → 1 ≤ m → m ≤ BLOCK_LIMIT → is_marked self.now m ≡ true → is_marked other.now m ≡ true) }
     {
         self.bits & other.bits == self.bits
+    }
+
+    /// Whether the same numbers are marked.
+    pub fn are_same(&self, other: &Marks) -> bool
+        ensures { IsTrue result ↔ ((m : ℕ) → 1 ≤ m → m ≤ BLOCK_LIMIT → is_marked self.now m ≡ is_marked other.now m) }
+    {
+        self.bits == other.bits
     }
 }

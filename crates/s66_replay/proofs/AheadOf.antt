@@ -12,9 +12,9 @@ use Rattle.s66_model.specs.Timing.{Problem, points_of, total_of}
 use Rattle.s66_model.specs.LegalOrder.{GoesOn, IsBeginning}
 use Rattle.s66_model.specs.Dominance.{Clamp, no_clamp, IsSameSet}
 use Rattle.s66_model.proofs.LegalOrders.{ready-parts}
+use Rattle.s66_facts.specs.Marked.{is_marked}
+use Rattle.s66_facts.specs.declared.marks.Marks.{Marks}
 use Rattle.s66_replay.specs.Dominating.{is_no_later, is_same_set, is_beginning, is_ahead, dominates_by}
-use Rattle.s66_replay.specs.Marked.{is_marked}
-use Rattle.s66_replay.specs.declared.marks.Marks.{Marks}
 use Rattle.s66_replay.proofs.GoingTo.{goes_on-Decides}
 
 -- ONE SET

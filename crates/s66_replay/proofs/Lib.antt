@@ -4,7 +4,6 @@ pub mod Issues
 pub mod ReadyByNeeds
 pub mod PrefixSteps
 pub mod WordsOfPoints
-pub mod MarkBits
 pub mod NoLater
 pub mod FreeUnits
 pub mod WordsNoLater

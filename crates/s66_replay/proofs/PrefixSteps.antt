@@ -12,9 +12,9 @@ use Rattle.s66_model.specs.LegalOrder.{IsBeginning, is_ready}
 use Rattle.s66_model.proofs.LegalOrders.{ready-parts, has_push-same, has_push-other, GoesOn-append}
 use Rattle.s66_model.proofs.PointTimes.{points_after-append, points_after-length}
 use Rattle.s66_model.proofs.Remaining.{step-begins}
+use Rattle.s66_facts.specs.Marked.{is_marked}
+use Rattle.s66_facts.specs.declared.marks.Marks.{Marks}
 use Rattle.s66_replay.specs.KeptPrefix.{with_profile, AreNeeds, AreTimed, IsPrefix}
-use Rattle.s66_replay.specs.Marked.{is_marked}
-use Rattle.s66_replay.specs.declared.marks.Marks.{Marks}
 use Rattle.s66_replay.proofs.Reversed.{reverse-last}
 use Rattle.s66_replay.proofs.ReadyByNeeds.{beginning-few}
 

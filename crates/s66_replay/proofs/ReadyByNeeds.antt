@@ -10,8 +10,8 @@ use Rattle.s66_model.specs.Dependence.{depends}
 use Rattle.s66_model.specs.LegalOrder.{IsBeginning, needs_met}
 use Rattle.s66_model.proofs.LegalOrders.{needs-each, each-needs, depends-from, depends-lt}
 use Rattle.s66_model.proofs.Beginnings.{beginning-front}
-use Rattle.s66_replay.specs.Marked.{is_marked}
-use Rattle.s66_replay.specs.declared.marks.Marks.{Marks}
+use Rattle.s66_facts.specs.Marked.{is_marked}
+use Rattle.s66_facts.specs.declared.marks.Marks.{Marks}
 
 -- a beginning has no more numbers than its block
 pub beginning-few : (block : List Instr) (prefix : List ℕ) → IsBeginning block prefix → length prefix ≤ length block

@@ -10,10 +10,10 @@ use Rattle.s66_model.specs.declared.rule.Rule.TheVariants.{WrittenEarlier, Clamp
 use Rattle.s66_model.specs.Timing.{Problem, Point, points_of, next, total_of}
 use Rattle.s66_model.specs.LegalOrder.{IsBeginning}
 use Rattle.s66_model.specs.Dominance.{Clamp, no_clamp, clamp_at}
+use Rattle.s66_facts.specs.Marked.{is_marked}
+use Rattle.s66_facts.specs.declared.marks.Marks.{Marks}
 use Rattle.s66_replay.specs.Dominating.{is_no_later, is_same_set, dominates_by}
 use Rattle.s66_replay.specs.KeptPrefix.{IsPrefix}
-use Rattle.s66_replay.specs.Marked.{is_marked}
-use Rattle.s66_replay.specs.declared.marks.Marks.{Marks}
 use Rattle.s66_replay.proofs.AheadOf.{set-stated, ahead-is, written-late, written-is}
 
 -- what a prefix keeps of its numbers

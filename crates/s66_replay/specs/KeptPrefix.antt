@@ -8,8 +8,8 @@ use Rattle.s66_model.specs.Timing.{Problem, Point, points_of}
 use Rattle.s66_model.specs.Dependence.{depends}
 use Rattle.s66_model.specs.LegalOrder.{IsBeginning}
 use Rattle.s66_isa.specs.declared.limits.TheConstants.{BLOCK_LIMIT}
-use Rattle.s66_replay.specs.Marked.{is_marked}
-use Rattle.s66_replay.specs.declared.marks.Marks.{Marks}
+use Rattle.s66_facts.specs.Marked.{is_marked}
+use Rattle.s66_facts.specs.declared.marks.Marks.{Marks}
 
 -- the most minor cycles that an order of a block takes: each instruction adds at most 104
 abbrev pub TOTAL_LIMIT : ℕ

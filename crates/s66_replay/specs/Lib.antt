@@ -2,4 +2,3 @@ pub mod Dominating
 pub mod Checked
 pub mod KeptPrefix
 pub mod PastWords
-pub mod Marked

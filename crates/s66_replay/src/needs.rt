@@ -3,11 +3,11 @@
 ghost use Rattle.std.specs.Prelude.{ℕ, ◌≡◌, ◌+◌, ◌≤◌, ◌<◌, length};
 ghost use Rattle.s66_model.specs.Dependence.{share, depends};
 ghost use Rattle.s66_isa.specs.declared.limits.TheConstants.{BLOCK_LIMIT};
+ghost use Rattle.s66_facts.specs.Marked.{is_marked};
 ghost use Rattle.s66_replay.specs.KeptPrefix.{AreNeeds};
-ghost use Rattle.s66_replay.specs.Marked.{is_marked};
 
-use crate::marks::Marks;
 use arrayvec::ArrayVec;
+use s66_facts::Marks;
 use s66_isa::{BLOCK_LIMIT, Instr, Memory, Reg, has_register, is_memory_conflict};
 use std::marker::Model;
 

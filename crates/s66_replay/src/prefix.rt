@@ -3,12 +3,12 @@ ghost use Rattle.s66_isa.specs.Table.{row};
 ghost use Rattle.s66_isa.specs.declared.limits.TheConstants.{BLOCK_LIMIT};
 
 use crate::dominance::is_no_later;
-use crate::marks::Marks;
 use crate::needs::{Numbers, needs_of_all};
 use crate::past::Past;
 use crate::point::KeptPoint;
 use crate::timing::{next, next_point};
 use arrayvec::ArrayVec;
+use s66_facts::Marks;
 use s66_isa::{BLOCK_LIMIT, Instr, Kind, Profile, Row};
 use s66_model::Rule;
 use std::marker::Model;
@@ -55,8 +55,8 @@ impl Prefix {
     ghost use Rattle.s66_model.specs.Dependence.{depends};
     ghost use Rattle.s66_isa.specs.Lists.{has};
     ghost use Rattle.s66_moments.specs.Known.{is_number};
+    ghost use Rattle.s66_facts.specs.Marked.{is_marked};
     ghost use Rattle.s66_replay.specs.KeptPrefix.{AreTimed};
-    ghost use Rattle.s66_replay.specs.Marked.{is_marked};
     ghost use Rattle.s66_replay.specs.Dominating.{is_beginning, is_same_set, is_earlier, dominates_by};
 
     /// Before the first instruction of a block, under a profile. Each pair of its instructions is looked at once.

@@ -1,8 +1,8 @@
 use Rattle.std.proofs.Common.{ℕ, ◌≡◌, ◌≤◌, ◌<◌, ◌+◌, length, get_or}
 use Rattle.s66_isa.specs.declared.limits.TheConstants.{BLOCK_LIMIT}
 use Rattle.s66_model.specs.Dependence.{depends}
-use Rattle.s66_replay.specs.Marked.{is_marked}
-use Rattle.s66_replay.specs.declared.marks.Marks.{Marks}
+use Rattle.s66_facts.specs.Marked.{is_marked}
+use Rattle.s66_facts.specs.declared.marks.Marks.{Marks}
 use Rattle.s66_replay.proofs.needs.needs_of_all.Given as goal
 
 abbrev pub invariant-loop-position : goal.invariant-loop-position

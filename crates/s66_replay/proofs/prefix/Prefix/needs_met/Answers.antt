@@ -1,8 +1,8 @@
 use Rattle.std.proofs.Common.{ℕ, ◌≡◌, ◌≤◌, length, subst}
 use Rattle.s66_isa.specs.Lists.{has}
 use Rattle.s66_isa.specs.declared.limits.TheConstants.{BLOCK_LIMIT}
+use Rattle.s66_facts.specs.Marked.{is_marked}
 use Rattle.s66_replay.specs.Checked.{Checked}
-use Rattle.s66_replay.specs.Marked.{is_marked}
 use Rattle.s66_replay.proofs.ReadyByNeeds.{met-by}
 use Rattle.s66_replay.proofs.prefix.Prefix.needs_met.Goals as goal
 
