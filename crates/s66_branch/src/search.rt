@@ -281,8 +281,10 @@ impl<'a> Search<'a> {
 /// for a greater time stays so when a faster order is met.
 ///
 /// A child of a split costs a push, an undo, a few looks for each word of its clock that is late, and at most 64 comparisons with others
-/// of the same numbers; for each word that is later in one of them, once a look at each instruction that remains and waits for it. To
-/// write it costs a push and an undo once more, and if it is closed by a path a look at each number that remains.
+/// of the same numbers; for each word that is later in one of them, once a look at each instruction that remains and waits for it. A
+/// prefix whose turn comes costs these comparisons again, and for each kind of unit a few looks at each instruction that remains, and one
+/// more for each minor cycle at which another one may begin. To write it costs a push and an undo once more, and if it is closed by a path
+/// a look at each number that remains, by a load those for each kind.
 ///
 /// # Errors
 ///
