@@ -19,7 +19,7 @@ marked-more (mark.Dominated count) numbers more h = rw (take-append-le count num
 marked-more (mark.Next number) numbers more h = refl
 marked-more (mark.Turned first second) numbers more h = refl
 marked-more (mark.AtLine line) numbers more h = refl
-marked-more (mark.LoadFrom after count) numbers more h = rw (take-append-le count numbers more h) refl
+marked-more (mark.LoadFrom count after) numbers more h = rw (take-append-le count numbers more h) refl
 
 -- a leaf is dominated if a mark is
 pub dominated_marks : (ms : List Mark) (numbers : List ℕ) → has_dominated_line (vertices_of ms numbers) ≡ some_of is_dominated ms
@@ -33,7 +33,7 @@ dominated_marks (mark.Dominated count ∷ ms) numbers = refl
 dominated_marks (mark.Next number ∷ ms) numbers = dominated_marks ms (drop 0 numbers)
 dominated_marks (mark.Turned first second ∷ ms) numbers = dominated_marks ms (drop 0 numbers)
 dominated_marks (mark.AtLine line ∷ ms) numbers = dominated_marks ms (drop 0 numbers)
-dominated_marks (mark.LoadFrom after count ∷ ms) numbers = dominated_marks ms (drop count numbers)
+dominated_marks (mark.LoadFrom count after ∷ ms) numbers = dominated_marks ms (drop count numbers)
 
 take-take : (n : ℕ) (xs : List ℕ) → take n (take n xs) ≡ take n xs
 take-take zero xs = refl
@@ -50,7 +50,7 @@ marked-taken (mark.Dominated count) numbers = rw (take-take count numbers) refl
 marked-taken (mark.Next number) numbers = refl
 marked-taken (mark.Turned first second) numbers = refl
 marked-taken (mark.AtLine line) numbers = refl
-marked-taken (mark.LoadFrom after count) numbers = rw (take-take count numbers) refl
+marked-taken (mark.LoadFrom count after) numbers = rw (take-take count numbers) refl
 
 -- without the first line and its numbers
 pub counted-rest : (m : Mark) (ms : List Mark) (numbers : List ℕ) → HaveTheirNumbers (m ∷ ms) numbers → HaveTheirNumbers ms (drop (number_count m) numbers)

@@ -18,7 +18,7 @@ number_count (mark.Dominated count) = count
 number_count (mark.Next number) = 0
 number_count (mark.Turned first second) = 0
 number_count (mark.AtLine line) = 0
-number_count (mark.LoadFrom after count) = count
+number_count (mark.LoadFrom count after) = count
 
 abbrev pub is_dominated : Mark → Bool
 is_dominated (mark.Split count) = false
@@ -30,7 +30,7 @@ is_dominated (mark.Dominated count) = true
 is_dominated (mark.Next number) = false
 is_dominated (mark.Turned first second) = false
 is_dominated (mark.AtLine line) = false
-is_dominated (mark.LoadFrom after count) = false
+is_dominated (mark.LoadFrom count after) = false
 
 -- with its numbers, the first of these
 abbrev pub marked : Mark → List ℕ → Vertex Ending
@@ -43,7 +43,7 @@ marked (mark.Dominated count) numbers = AtTerminal (Dominated (take count number
 marked (mark.Next number) numbers = AtTerminal (Next number)
 marked (mark.Turned first second) numbers = AtTerminal (Turned first second)
 marked (mark.AtLine line) numbers = AtTerminal (AtLine line)
-marked (mark.LoadFrom after count) numbers = AtTerminal (LoadFrom after (take count numbers))
+marked (mark.LoadFrom count after) numbers = AtTerminal (LoadFrom after (take count numbers))
 
 -- the numbers of the lines come one after the other
 abbrev pub vertices_of : List Mark → List ℕ → List (Vertex Ending)

@@ -44,7 +44,8 @@ pub(crate) enum Mark {
     Next(u8),
     Turned(u8, u8),
     AtLine(u32),
-    LoadFrom(u32, u8),
+    // the short one first, so that a mark takes eight bytes
+    LoadFrom(u8, u32),
 }
 
 impl Mark {
@@ -60,7 +61,7 @@ impl Mark {
             Mark::Split(count)
             | Mark::Chain(count)
             | Mark::Dominated(count)
-            | Mark::LoadFrom(_, count) => count as usize,
+            | Mark::LoadFrom(count, _) => count as usize,
             _ => 0,
         }
     }
@@ -86,7 +87,7 @@ impl Mark {
             Mark::Next(number) => TreeLine::Next(number),
             Mark::Turned(first, second) => TreeLine::Turned(first, second),
             Mark::AtLine(line) => TreeLine::AtLine(line),
-            Mark::LoadFrom(after, _) => TreeLine::LoadFrom(after, numbers),
+            Mark::LoadFrom(_, after) => TreeLine::LoadFrom(after, numbers),
         }
     }
 }
@@ -189,7 +190,7 @@ impl KeptLines {
             TreeLine::Turned(first, second) => self.append(Mark::Turned(first, second), &[]),
             TreeLine::AtLine(line) => self.append(Mark::AtLine(line), &[]),
             TreeLine::LoadFrom(after, numbers) => {
-                self.append(Mark::LoadFrom(after, numbers.len() as u8), numbers)
+                self.append(Mark::LoadFrom(numbers.len() as u8, after), numbers)
             }
         }
     }
