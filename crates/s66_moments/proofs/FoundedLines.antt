@@ -1,7 +1,8 @@
 -- What lines are founded on gives their facts, and so for each time that is less.
-use Rattle.std.proofs.Common.{ℕ, ◌+◌, ◌-◌, ◌/◌, ◌≤◌, ◌<◌, ◌≡◌, true, List, [], ◌∷◌, length, map, refl, sym, ap, arith, inl, inr, subst, ◌∙◌}
+use Rattle.std.proofs.Common.{ℕ, ◌+◌, ◌-◌, ◌≤◌, ◌<◌, ◌≡◌, true, min, List, [], ◌∷◌, length, map, refl, sym, ap, arith, inl, inr, subst, ◌∙◌}
+use Rattle.std.proofs.lemmas.List.{length-map}
 use Rattle.s66_isa.specs.declared.instr.Kind.{Kind}
-use Rattle.s66_isa.specs.Lists.{weigh, Among}
+use Rattle.s66_isa.specs.Lists.{least, weigh, Among}
 use Rattle.s66_isa.specs.Table.{same_kind}
 use Rattle.s66_model.specs.Timing.{Problem, Point, row_at, copies, total_of}
 use Rattle.s66_model.specs.LegalOrder.{IsLegal}
@@ -9,12 +10,30 @@ use Rattle.s66_moments.specs.declared.moment.Stage.TheVariants.{Issue, Start, Fr
 use Rattle.s66_moments.specs.declared.moment.Moment.{Moment}
 use Rattle.s66_moments.specs.declared.moment.Moment.TheVariants.{Origin, At, End}
 use Rattle.s66_moments.specs.Moments.{time_of}
-use Rattle.s66_moments.specs.Facts.{Fact, Arc, Before, Begins, AreSo, Follows, IsNumber, Work, AreOnce, IsWithin}
+use Rattle.s66_moments.specs.Facts.{Fact, Arc, Before, Begins, AreSo, Follows, IsNumber, Work, shared_time, AreOnce, IsWithin}
 use Rattle.s66_moments.specs.Paths.{Leads}
 use Rattle.s66_moments.specs.FactLines.{Use, Line, ForcedPair, LoadArc, fact_of, IsForced, use_time, IsBetween, AreBetween, IsFounded, AreFounded, facts_after}
 use Rattle.s66_moments.proofs.LoadArcs.{load-arc}
 use Rattle.s66_moments.proofs.FactLaws.{among-so, issue-start, start-free, forced-parcels, forced-unit, prefix-time_at}
 use Rattle.s66_moments.proofs.Steps.{leads-so}
+
+-- AMOUNTS
+
+weigh-map : {X : Type 0} (f : X → ℕ) (xs : List X) → weigh f xs ≡ weigh (λ (k : ℕ). k) (map f xs)
+weigh-map f [] = refl
+weigh-map f (x ∷ xs) = ap (λ k. f x + k) (weigh-map f xs)
+
+least-map : {X : Type 0} (f : X → ℕ) (xs : List X) → least f xs ≡ least (λ (k : ℕ). k) (map f xs)
+least-map f [] = refl
+least-map f (x ∷ []) = refl
+least-map f (x ∷ (y ∷ ys)) = ap (min (f x)) (least-map f (y ∷ ys))
+
+-- the same amounts take the same time
+shared-map : {X : Type 0} (f : X → ℕ) (xs : List X) (units : ℕ) → shared_time f xs units ≡ shared_time (λ (k : ℕ). k) (map f xs) units
+shared-map f xs units = rw (weigh-map f xs, least-map f xs, sym (length-map xs f)) refl
+
+shared-same : {X Y : Type 0} (f : X → ℕ) (g : Y → ℕ) (xs : List X) (ys : List Y) (units : ℕ) → map f xs ≡ map g ys → shared_time f xs units ≡ shared_time g ys units
+shared-same f g xs ys units same = shared-map f xs units ∙ ap (λ ks. shared_time (λ (k : ℕ). k) ks units) same ∙ sym (shared-map g ys units)
 
 -- LINES
 
@@ -98,14 +117,14 @@ module _ (b : Problem) (low : ℕ) (known : List Fact) where
         placed-free order legal so =
             (let (rest, e) = among-so b order (Begins prefix) known among so in prefix-time_at b order legal prefix rest e u.number (λ (p : Point). p.free) there)
 
-    all-within : (uses : List Use) → AreBetween b known kind e f h wait time uses → (works : List Work) × (map (λ (x : Work). x.number) works ≡ map (λ (u : Use). u.number) uses) × (weigh (λ (x : Work). x.amount) works ≡ weigh (λ (u : Use). u.amount) uses) × ((x : Work) → Among x works → IsWithin b low known kind e h f q v x)
+    all-within : (uses : List Use) → AreBetween b known kind e f h wait time uses → (works : List Work) × (map (λ (x : Work). x.number) works ≡ map (λ (u : Use). u.number) uses) × (map (λ (x : Work). x.amount) works ≡ map (λ (u : Use). u.amount) uses) × ((x : Work) → Among x works → IsWithin b low known kind e h f q v x)
     all-within [] between = ([], refl, refl, λ x among. absurd among)
     all-within (u ∷ us) between =
         let (x, number, amount, within) = one-within u between.0 between.1 between.2 in
         let (works, numbers, amounts, all) = all-within us between.3 in (
           x ∷ works,
           ap (λ k. k ∷ map (λ (y : Work). y.number) works) number ∙ ap (λ ks. u.number ∷ ks) numbers,
-          omega (arith, amount, amounts),
+          ap (λ k. k ∷ map (λ (y : Work). y.amount) works) amount ∙ ap (λ ks. u.amount ∷ ks) amounts,
           λ y among. elim among [
             | inl here ↦ subst (λ z. IsWithin b low known kind e h f q v z) (sym here) within
             | inr past ↦ all y past
@@ -122,7 +141,7 @@ module _ (b : Problem) (low : ℕ) (known : List Fact) where
       let (works, numbers, amounts, all) = all-within kind e f h wait time (u ∷ us) between in
       let once2 : AreOnce (map (λ (x : Work). x.number) works) = subst AreOnce (sym numbers) once in
       let arc = load-arc b low known kind e f h (wait - (h + time)) (h + time - wait) works (some-works u.number (map (λ (w : Use). w.number) us) works numbers) once2 all order legal less so in
-      omega (arith, arc, ap (λ k. (k + (copies b kind - 1)) / copies b kind) amounts)
+      omega (arith, arc, shared-same (λ (x : Work). x.amount) (λ (v : Use). v.amount) works (u ∷ us) (copies b kind) amounts)
 
   pub line-follows : (line : Line) → IsFounded b low known line → Follows b low known (fact_of line)
   line-follows (ForcedPair y x) founded = pair-follows y x founded

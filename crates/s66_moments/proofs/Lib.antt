@@ -1,5 +1,6 @@
 pub mod Placed
 pub mod UnitWindows
+pub mod WholeUses
 pub mod LoadArcs
 pub mod FactLaws
 pub mod BaseArcs
@@ -19,5 +20,6 @@ pub mod Rings
 pub mod NextLeaves
 pub mod Spans
 pub mod KnownLines
+pub mod LeastUse
 pub mod LoadLeaves
 pub mod Turns

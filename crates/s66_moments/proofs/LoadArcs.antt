@@ -1,7 +1,8 @@
--- Work of one kind between two moments takes its sum over the copies, rounded up.
-use Rattle.std.proofs.Common.{ℕ, ◌+◌, ◌-◌, ◌*◌, ◌≤◌, ◌<◌, ◌≡◌, true, cond, List, [], ◌∷◌, length, map, refl, arith, inl, inr, eqb, subst}
+-- Work of one kind between two moments takes its sum over the copies, rounded up, and as many whole works as one copy has.
+use Rattle.std.proofs.Common.{ℕ, zero, suc, ◌+◌, ◌-◌, ◌*◌, ◌≤◌, ◌<◌, ◌≡◌, true, cond, List, [], ◌∷◌, length, map, refl, arith, inl, inr, eqb, subst}
+use Rattle.std.proofs.lemmas.Bool.{cases_lt}
 use Rattle.s66_isa.specs.declared.instr.Kind.{Kind}
-use Rattle.s66_isa.specs.Lists.{weigh, tally, has, Among}
+use Rattle.s66_isa.specs.Lists.{least, weigh, tally, has, Among}
 use Rattle.s66_isa.specs.Table.{same_kind}
 use Rattle.s66_model.specs.Timing.{Problem, Point, copies, point_of, points_of, total_of}
 use Rattle.s66_model.specs.LegalOrder.{IsLegal}
@@ -10,12 +11,30 @@ use Rattle.s66_moments.specs.declared.moment.Stage.TheVariants.{Issue, Free}
 use Rattle.s66_moments.specs.declared.moment.Moment.{Moment}
 use Rattle.s66_moments.specs.declared.moment.Moment.TheVariants.{At}
 use Rattle.s66_moments.specs.Moments.{time_of}
-use Rattle.s66_moments.specs.Facts.{Fact, Arc, AreSo, Follows, Work, AreOnce, IsWithin}
+use Rattle.s66_moments.specs.Facts.{Fact, Arc, AreSo, Follows, Work, load_time, AreOnce, IsWithin}
+use Rattle.s66_isa.proofs.Lists.{least-le}
 use Rattle.s66_model.proofs.Issue.{some_copies}
 use Rattle.s66_model.proofs.LoadBound.{over-le}
 use Rattle.s66_model.proofs.PointTimes.{point_of-row, point_of-number}
 use Rattle.s66_moments.proofs.Placed.{placed, point-among, time_at-placed}
 use Rattle.s66_moments.proofs.UnitWindows.{works_at, works-run, work_between, between-le, either, has-one, some-le}
+use Rattle.s66_moments.proofs.WholeUses.{looks, looks-le, held-looked}
+
+-- some of what each number does of something is no more than all that is done of it
+works-le : (given : Work → ℕ) (done : Point → ℕ) (s : List Point) (works : List Work) → AreOnce (map (λ (x : Work). x.number) works) → ((x : Work) → Among x works → (p : Point) × Among p s × (p.number ≡ x.number) × (given x ≤ done p)) → weigh given works ≤ weigh (λ (p : Point). cond (has p.number (map (λ (x : Work). x.number) works)) (done p) 0) s
+works-le given done s [] once there = omega arith
+works-le given done s (x ∷ works) once there =
+    let (p, among, is, much) = there x (inl refl) in
+    let here : done p ≤ weigh (λ (q : Point). cond (eqb q.number x.number) (done q) 0) s = subst (λ n. done p ≤ weigh (λ (q : Point). cond (eqb q.number n) (done q) 0) s) is (has-one done p s among) in
+    omega (arith, much, here, works-le given done s works once.1 (λ y in_works. there y (inr in_works)), either done x.number (map (λ (y : Work). y.number) works) s once.0)
+
+one-each : (works : List Work) → weigh (λ (x : Work). 1) works ≡ length works
+one-each [] = refl
+one-each (x ∷ works) = omega (arith, one-each works)
+
+-- if so many whole ones don't fit, less don't
+over-whole : (k a z v : ℕ) → z < a + suc k * suc v → z ≤ a + k * suc v + v
+over-whole k a z v less = (let more : suc k * suc v ≡ k * suc v + suc v = grind arith in omega (arith, more, less))
 
 -- in one order, between the times a and z
 module _ (b : Problem) (kind : Kind) (order : List ℕ) (legal : IsLegal b.block order) (a z : ℕ) where
@@ -26,13 +45,6 @@ module _ (b : Problem) (kind : Kind) (order : List ℕ) (legal : IsLegal b.block
   abbrev DoesThere : Work → Type 0
   DoesThere x = (p : Point) × Among p (points_of b order) × (p.number ≡ x.number) × (x.amount ≤ done_by p)
 
-  works-le : (works : List Work) → AreOnce (map (λ (x : Work). x.number) works) → ((x : Work) → Among x works → DoesThere x) → weigh (λ (x : Work). x.amount) works ≤ weigh (λ (p : Point). cond (has p.number (map (λ (x : Work). x.number) works)) (done_by p) 0) (points_of b order)
-  works-le [] once there = omega arith
-  works-le (x ∷ works) once there =
-      let (p, among, is, much) = there x (inl refl) in
-      let here : done_by p ≤ weigh (λ (q : Point). cond (eqb q.number x.number) (done_by q) 0) (points_of b order) = subst (λ n. done_by p ≤ weigh (λ (q : Point). cond (eqb q.number n) (done_by q) 0) (points_of b order)) is (has-one done_by p (points_of b order) among) in
-      omega (arith, much, here, works-le works once.1 (λ y in_works. there y (inr in_works)), either done_by x.number (map (λ (y : Work). y.number) works) (points_of b order) once.0)
-
   never-more : (t : ℕ) → tally (works_at kind t) (points_of b order) ≤ copies b kind
   never-more t = works-run b kind [] order t (omega arith)
 
@@ -40,7 +52,32 @@ module _ (b : Problem) (kind : Kind) (order : List ℕ) (legal : IsLegal b.block
   works-fit works once there le =
       let e : a + (z - a) ≡ z = omega arith in
       let most : weigh done_by (points_of b order) ≤ copies b kind * (z - a) = subst (λ y. weigh (work_between kind a y) (points_of b order) ≤ copies b kind * (z - a)) e (between-le kind (points_of b order) (copies b kind) never-more a (z - a)) in
-      omega (arith, over-le (weigh (λ (x : Work). x.amount) works) (copies b kind) (z - a) (some_copies b.profile kind) (omega (arith, works-le works once there, some-le done_by (map (λ (x : Work). x.number) works) (points_of b order), most)))
+      omega (arith, over-le (weigh (λ (x : Work). x.amount) works) (copies b kind) (z - a) (some_copies b.profile kind) (omega (arith, works-le (λ (x : Work). x.amount) done_by (points_of b order) works once there, some-le done_by (map (λ (x : Work). x.number) works) (points_of b order), most)))
+
+  -- before the last one of k + 1 stretches is over, units do no more works as long as one than k times as many as there are
+  few-fit : (works : List Work) → AreOnce (map (λ (x : Work). x.number) works) → ((x : Work) → Among x works → DoesThere x) → (v k : ℕ) → ((x : Work) → Among x works → suc v ≤ x.amount) → z ≤ a + k * suc v + v → over (length works) (copies b kind) ≤ k
+  few-fit works once there v k long late =
+      let seen : weigh (λ (x : Work). 1) works ≤ weigh (λ (p : Point). cond (has p.number (map (λ (x : Work). x.number) works)) (looks kind a v k p) 0) (points_of b order) =
+      works-le (λ (x : Work). 1) (looks kind a v k) (points_of b order) works once
+      (λ x among. let (p, in_s, is, much) = there x among in (p, in_s, is, held-looked kind a v k z p (omega (arith, much, long x among)) late)) in
+      over-le (length works) (copies b kind) k (some_copies b.profile kind)
+      (omega (arith, one-each works, seen, some-le (looks kind a v k) (map (λ (x : Work). x.number) works) (points_of b order), looks-le kind (points_of b order) (copies b kind) never-more a v k))
+
+  pub whole-fit : (works : List Work) → AreOnce (map (λ (x : Work). x.number) works) → ((x : Work) → Among x works → DoesThere x) → a ≤ z → over (length works) (copies b kind) * least (λ (x : Work). x.amount) works + a ≤ z
+  whole-fit works once there le = by (over (length works) (copies b kind)) (least (λ (x : Work). x.amount) works) refl refl
+    where
+      by : (k u : ℕ) → over (length works) (copies b kind) ≡ k → least (λ (x : Work). x.amount) works ≡ u → k * u + a ≤ z
+      by zero u is_k is_u = omega (arith, le)
+      by (suc k) zero is_k is_u = omega (arith, le)
+      by (suc k) (suc v) is_k is_u =
+          elim (cases_lt z (a + suc k * suc v)) [
+            | inl less ↦
+                absurd (omega (arith, is_k, few-fit works once there v k (λ x among. omega (arith, is_u, least-le (λ (y : Work). y.amount) x works among)) (over-whole k a z v less)))
+            | inr fits ↦ omega (arith, fits)
+          ]
+
+  pub shared-fit : (works : List Work) → AreOnce (map (λ (x : Work). x.number) works) → ((x : Work) → Among x works → DoesThere x) → a ≤ z → load_time b kind works + a ≤ z
+  shared-fit works once there le = omega (arith, works-fit works once there le, whole-fit works once there le)
 
 -- what is between in its own words is between by the times of its point
 does-there : (b : Problem) (low : ℕ) (facts : List Fact) (kind : Kind) (e : Moment) (h : ℕ) (f : Moment) (q v : ℕ) (x : Work) → IsWithin b low facts kind e h f q v x →
@@ -60,11 +97,11 @@ does-there b low facts kind e h f q v x within order legal less so =
     ((p, point-among b order legal front rest x.number is, point_of-number b (points_of b front) x.number, much), omega (arith, i2, i4), omega (arith, i4))
 
 pub load-arc : (b : Problem) (low : ℕ) (facts : List Fact) (kind : Kind) (e f : Moment) (h q v : ℕ) (works : List Work) → 0 < length works → AreOnce (map (λ (x : Work). x.number) works) → ((x : Work) → Among x works → IsWithin b low facts kind e h f q v x) →
-    Follows b low facts (Arc e (h + over (weigh (λ (x : Work). x.amount) works) (copies b kind) + q) f v)
+    Follows b low facts (Arc e (h + load_time b kind works + q) f v)
 load-arc b low facts kind e f h q v [] some once within order legal less so = absurd (omega (arith, some))
 load-arc b low facts kind e f h q v (y ∷ works) some once within order legal less so =
     let a : ℕ = time_of b order e + h in
     let z : ℕ = time_of b order f + v - q in
     let (there, le, late) = does-there b low facts kind e h f q v y (within y (inl refl)) order legal less so in
-    let fit = works-fit b kind order legal a z (y ∷ works) once (λ x among. (does-there b low facts kind e h f q v x (within x among) order legal less so).0) le in
+    let fit = shared-fit b kind order legal a z (y ∷ works) once (λ x among. (does-there b low facts kind e h f q v x (within x among) order legal less so).0) le in
     omega (arith, fit, late)

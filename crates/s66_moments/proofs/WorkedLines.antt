@@ -65,7 +65,7 @@ until_free = ((refl, (refl, tt)), ((lit≤ tt, lit≤ tt), refl, inr (inr (inl (
 
 -- TWO COPIES
 
-pub two_copies : IsFounded multiply_problem 17 [] two_copies_line
+pub two_copies : IsFounded multiply_problem 22 [] two_copies_line
 unfolding row conflict issue_of start_of point
 two_copies = ((refl, (refl, (refl, tt))), ((lit≤ tt, lit≤ tt), refl, inl (11, lit≤ tt, (hop 0 (At 1 Issue) ∷ [], (inl (tt, refl, refl), refl), lit≤ tt), (hop 0 (At 1 Start) ∷ hop 11 (At 1 Free) ∷ hop 0 End ∷ [], (inl (inl refl, refl, refl), (inl (inl refl, refl, refl), (inl (tt, refl, refl), refl))), lit≤ tt), lit≤ tt), ((lit≤ tt, lit≤ tt), refl, inl (11, lit≤ tt, (hop 0 (At 2 Issue) ∷ [], (inl (tt, refl, refl), refl), lit≤ tt), (hop 0 (At 2 Start) ∷ hop 11 (At 2 Free) ∷ hop 0 End ∷ [], (inl (inl refl, refl, refl), (inl (inl refl, refl, refl), (inl (tt, refl, refl), refl))), lit≤ tt), lit≤ tt), ((lit≤ tt, lit≤ tt), refl, inl (11, lit≤ tt, (hop 0 (At 3 Issue) ∷ [], (inl (tt, refl, refl), refl), lit≤ tt), (hop 0 (At 3 Start) ∷ hop 11 (At 3 Free) ∷ hop 0 End ∷ [], (inl (inl refl, refl, refl), (inl (inl refl, refl, refl), (inl (tt, refl, refl), refl))), lit≤ tt), lit≤ tt), tt))))
 

@@ -66,9 +66,9 @@ load_line = LoadArc Boolean Origin End 4 16 (use_of 2 4 ∷ use_of 3 4 ∷ [])
 abbrev pub inner_line : Line
 inner_line = LoadArc Boolean (At 1 Start) (At 4 Start) 4 11 (use_of 2 4 ∷ use_of 3 4 ∷ [])
 
--- three uses of 11 by two Multiply units take 17
+-- one of two Multiply units has two of three uses of 11 at least
 abbrev pub two_copies_line : Line
-two_copies_line = LoadArc Multiply Origin End 0 17 (use_of 1 11 ∷ use_of 2 11 ∷ use_of 3 11 ∷ [])
+two_copies_line = LoadArc Multiply Origin End 0 22 (use_of 1 11 ∷ use_of 2 11 ∷ use_of 3 11 ∷ [])
 
 -- the end comes 12 after the origin, since each use lasts until its unit is free
 abbrev pub until_free_line : Line

@@ -1,15 +1,14 @@
 -- To be believed: lines that each give a fact of all legal orders that take less than a time, and on what they are founded: on what is known before them, and on that time.
 use Rattle.std.specs.Prelude.{ℕ, ◌+◌, ◌≡◌, ◌≢◌, ◌≤◌, ◌⊎◌, true, List, [], ◌∷◌, map}
 use Rattle.s66_isa.specs.declared.instr.Kind.{Kind}
-use Rattle.s66_isa.specs.Lists.{weigh, has, Among}
+use Rattle.s66_isa.specs.Lists.{has, Among}
 use Rattle.s66_isa.specs.Table.{same_kind}
 use Rattle.s66_model.specs.Timing.{Problem, row_at, copies}
-use Rattle.s66_model.specs.Leaves.{over}
 use Rattle.s66_moments.specs.declared.moment.Stage.TheVariants.{Issue, Start, Free}
 use Rattle.s66_moments.specs.declared.moment.Moment.{Moment}
 use Rattle.s66_moments.specs.declared.moment.Moment.TheVariants.{Origin, At, End}
 use Rattle.s66_moments.specs.Moments.{time_of}
-use Rattle.s66_moments.specs.Facts.{Fact, Arc, Before, Begins, IsNumber, IsOnlyUnit, AreOnce}
+use Rattle.s66_moments.specs.Facts.{Fact, Arc, Before, Begins, IsNumber, IsOnlyUnit, shared_time, AreOnce}
 use Rattle.s66_moments.specs.Paths.{Leads}
 
 -- for how long the unit of a number is in use between two moments
@@ -44,9 +43,9 @@ IsForced b low known m n = (n ≢ m) × IsNumber b n × IsNumber b m × (IsLateB
 
 -- LOAD ARCS
 
--- what is used, over the copies of the kind, rounded up
+-- what is used, shared by the copies of the kind
 abbrev pub use_time : Problem → Kind → List Use → ℕ
-use_time b kind uses = over (weigh (λ (u : Use). u.amount) uses) (copies b kind)
+use_time b kind uses = shared_time (λ (u : Use). u.amount) uses (copies b kind)
 
 -- no longer than the instruction has the unit
 abbrev pub IsHeld : Problem → Use → Type 0

@@ -1,7 +1,7 @@
 -- To be believed: facts of an order, and which facts all legal orders have that take less than a time and have some facts already.
-use Rattle.std.specs.Prelude.{ℕ, ◌+◌, ◌≡◌, ◌≤◌, ◌<◌, true, false, List, [], ◌∷◌, ◌++◌, length}
+use Rattle.std.specs.Prelude.{ℕ, ◌+◌, ◌*◌, ◌≡◌, ◌≤◌, ◌<◌, true, false, max, List, [], ◌∷◌, ◌++◌, length}
 use Rattle.s66_isa.specs.declared.instr.Kind.{Kind}
-use Rattle.s66_isa.specs.Lists.{weigh, has}
+use Rattle.s66_isa.specs.Lists.{least, weigh, has}
 use Rattle.s66_isa.specs.Table.{same_kind}
 use Rattle.s66_model.specs.Timing.{Problem, row_at, copies, total_of}
 use Rattle.s66_model.specs.LegalOrder.{IsLegal}
@@ -52,9 +52,14 @@ pub record Work : Type 0 where
   pub from : Moment
   pub more : ℕ
 
--- all works, over the copies of the kind, rounded up
+-- For how long so many units have work if they share these amounts, each of which is one unit's own: their sum over the units, rounded
+-- up. And one unit has as many of them at least as there are over the units, rounded up, and each is at least the least.
+abbrev pub shared_time : {X : Type 0} → (amount : X → ℕ) → List X → (units : ℕ) → ℕ
+shared_time amount xs units = max (over (weigh amount xs) units) (over (length xs) units * least amount xs)
+
+-- all works, shared by the copies of the kind
 abbrev pub load_time : Problem → Kind → List Work → ℕ
-load_time b kind works = over (weigh (λ (u : Work). u.amount) works) (copies b kind)
+load_time b kind works = shared_time (λ (u : Work). u.amount) works (copies b kind)
 
 -- none of the numbers is there twice
 abbrev pub AreOnce : List ℕ → Type 0

@@ -124,7 +124,7 @@ pub fn line_examples()
     ensures from_the_start { IsFounded (standard_problem booleans_between) 16 [] load_line }
     ensures between_two_moments { IsFounded (standard_problem booleans_between) 16 [] inner_line }
     ensures until_free { IsFounded (standard_problem booleans_between) 16 [] until_free_line }
-    ensures from_the_issue_by_two_copies { IsFounded multiply_problem 17 [] two_copies_line }
+    ensures from_the_issue_by_two_copies { IsFounded multiply_problem 22 [] two_copies_line }
     ensures still_used { IsFounded (standard_problem two_free_adds) 10 (Begins (1 ∷ []) ∷ []) still_line }
     ensures late_by_parcels { IsFounded (standard_problem first_of_two) 15 [] (ForcedPair 1 2) }
     ensures late_by_the_unit { IsFounded (standard_problem two_sums) 11 [] (ForcedPair 3 2) }
@@ -212,8 +212,9 @@ pub fn fact_line_examples()
     ensures not_of_none { is_loaded_after booleans_between 0 [] (1 ∷ []) 0 [] ≡ false }
     ensures loaded_from_the_start { is_loaded_after two_copies_of_a_quotient 37 [] (1 ∷ []) 29 (2 ∷ 3 ∷ []) ≡ true }
     ensures it_takes_37 { total_of (standard_problem two_copies_of_a_quotient) (1 ∷ 2 ∷ 3 ∷ []) ≡ 37 }
-    ensures two_units_share { is_loaded_after three_increments 6 [] [] 0 (1 ∷ 2 ∷ 3 ∷ []) ≡ true }
-    ensures two_units_share_no_more { is_loaded_after three_increments 7 [] [] 0 (1 ∷ 2 ∷ 3 ∷ []) ≡ false }
+    ensures one_of_two_units_has_two { is_loaded_after three_increments 8 [] [] 0 (1 ∷ 2 ∷ 3 ∷ []) ≡ true }
+    ensures and_no_more { is_loaded_after three_increments 9 [] [] 0 (1 ∷ 2 ∷ 3 ∷ []) ≡ false }
+    ensures each_unit_has_one { is_loaded_after three_increments 5 [] [] 0 (1 ∷ 2 ∷ []) ≡ false }
     ensures loaded_by_a_pair { is_loaded_after two_free_adds 10 (Pair 1 2 ∷ []) [] 0 (1 ∷ []) ≡ true }
     ensures not_without_the_pair { is_loaded_after two_free_adds 10 [] [] 0 (1 ∷ []) ≡ false }
     ensures start_by_what_stands_before { start_after waits_for_two_parcels [] (1 ∷ 2 ∷ []) 4 ≡ 7 }

@@ -62,7 +62,8 @@ pub fn prefix_law()
 {}
 
 /// If units of one kind do some works between two moments, the second comes later by the sum of the works over the copies of the
-/// kind, rounded up, for any number of copies. Each instruction counts once, and there is one at least.
+/// kind, rounded up, for any number of copies, and by as many of the least work as there are works over the copies, rounded up. Each
+/// instruction counts once, and there is one at least.
 pub fn load_arc_law()
     ensures { (b : Problem) (low : ℕ) (known : List Fact) (kind : Kind) (e f : Moment) (h q v : ℕ) (works : List Work) →
         0 < length works → AreOnce (map (λ (u : Work). u.number) works) →
