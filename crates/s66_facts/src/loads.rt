@@ -2,8 +2,9 @@
 
 ghost use Rattle.std.specs.Prelude.{◌+◌, ◌*◌, ◌^◌, ◌≡◌, ◌≤◌, ◌<◌, ◌&&◌, true, Some, length, map, nat_lt};
 ghost use Rattle.s66_isa.specs.declared.limits.TheConstants.{BLOCK_LIMIT};
-ghost use Rattle.s66_isa.specs.Lists.{every, weigh};
+ghost use Rattle.s66_isa.specs.Lists.{every, least, weigh};
 ghost use Rattle.s66_model.specs.Timing.{row_at};
+ghost use Rattle.s66_model.specs.Leaves.{over};
 ghost use Rattle.s66_moments.specs.Facts.{IsNumber};
 ghost use Rattle.s66_moments.specs.Moments.{is_moment};
 ghost use Rattle.s66_moments.specs.FactLines.{Use, use_time};
@@ -116,15 +117,42 @@ fn amounts(graph: &Graph, numbers: &[u8]) -> u64
     sum
 }
 
-/// How long the units of a kind have work, if the amounts are divided among them: rounded up.
+/// The least amount of them.
+fn least_amount(graph: &Graph, numbers: &[u8]) -> u64
+    requires some { 0 < length numbers.now }
+    requires numbers { every (is_number graph.now.problem) numbers.now ≡ true }
+    ensures value { result ≡ least (λ (u : Use). u.amount) (map (use_of graph.now.problem) numbers.now) }
+    ensures at_most { result ≤ 2 ^ 32 }
+{
+    let mut low = amount(graph, numbers[0]);
+    for n in numbers {
+        low = low.min(amount(graph, *n));
+    }
+    low
+}
+
+/// What one of so many units has of this at least, if they share it: rounded up.
+fn over(work: u64, copies: u32) -> u64
+    requires copies { 1 ≤ copies }
+    requires work { work ≤ 2 ^ 62 }
+    ensures value { result ≡ over work copies }
+    ensures at_most { result ≤ work }
+{
+    (work + (copies as u64 - 1)) / copies as u64
+}
+
+/// How long the units of a kind have work: if they share the amounts, and since one of them has as many whole ones as it has at least.
 fn use_time(graph: &Graph, kind: Kind, numbers: &[u8]) -> u64
+    requires some { 0 < length numbers.now }
     requires few { length numbers.now ≤ BLOCK_LIMIT }
     requires numbers { every (is_number graph.now.problem) numbers.now ≡ true }
     ensures value { result ≡ use_time graph.now.problem kind (map (use_of graph.now.problem) numbers.now) }
     ensures at_most { result ≤ 2 ^ 40 }
 {
-    let copies = graph.copies(kind) as u64;
-    (amounts(graph, numbers) + (copies - 1)) / copies
+    let copies = graph.copies(kind);
+    let shared = over(amounts(graph, numbers), copies);
+    let whole = over(numbers.len() as u64, copies) * least_amount(graph, numbers);
+    shared.max(whole)
 }
 
 /// Whether there is a path, and it takes so long at least.
