@@ -196,10 +196,10 @@ before_their_writers =
     with_facts (codes "BX1 X2" ∷ codes "BX3 X4" ∷ codes "FX2 X5*X6" ∷ codes "FX4 X5*X6" ∷ []) (1 ∷ 3 ∷ 2 ∷ 4 ∷ []) 16 16 []
     (Alone (LoadFrom 0 (1 ∷ 2 ∷ [])))
 
--- two Multiply units do 33 for three
-abbrev pub multiplies_left : ℕ → Document
-multiplies_left bound =
-    with_facts (codes "FX1 X2*X3" ∷ codes "FX4 X5*X6" ∷ codes "FX0 X7*X7" ∷ []) (1 ∷ 2 ∷ 3 ∷ []) 22 bound [] (Alone (LoadFrom 0 (1 ∷ 2 ∷ 3 ∷ [])))
+-- two Multiply units for three, each for 11; the leaf has these numbers
+abbrev pub multiplies_left : ℕ → List ℕ → Document
+multiplies_left bound numbers =
+    with_facts (codes "FX1 X2*X3" ∷ codes "FX4 X5*X6" ∷ codes "FX0 X7*X7" ∷ []) (1 ∷ 2 ∷ 3 ∷ []) 22 bound [] (Alone (LoadFrom 0 numbers))
 
 -- 1 3 2 names 1 2 3, on line 14, where the Add unit does all from 11 on
 abbrev pub booleans_named : Document

@@ -151,8 +151,9 @@ pub fn load_leaf_examples()
     ensures as_long_as_after_the_first { verdict (one_is_added 12) ≡ Yes 16 12 }
     ensures from_the_start { verdict waits_for_the_product ≡ Yes 22 22 }
     ensures from_the_issue { verdict before_their_writers ≡ Yes 16 16 }
-    ensures two_units_rounded_up { verdict (multiplies_left 17) ≡ Yes 22 17 }
-    ensures above_two_units { verdict (multiplies_left 18) ≡ No 10 fault.Loaded }
+    ensures two_units_share { verdict (multiplies_left 17 (1 ∷ 2 ∷ 3 ∷ [])) ≡ Yes 22 17 }
+    ensures one_of_two_units_has_two { verdict (multiplies_left 22 (1 ∷ 2 ∷ 3 ∷ [])) ≡ Yes 22 22 }
+    ensures each_of_two_has_one { verdict (multiplies_left 12 (1 ∷ 2 ∷ [])) ≡ No 10 fault.Loaded }
     ensures at_a_whole_order { verdict (at_the_end (LoadFrom 0 (3 ∷ []))) ≡ No 14 fault.Place }
     ensures named { verdict booleans_named ≡ Yes 16 16 }
 {}

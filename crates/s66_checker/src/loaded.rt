@@ -2,7 +2,7 @@
 
 ghost use Rattle.std.specs.Prelude.{◌≡◌, ◌≤◌, ◌<◌, ◌+◌, ◌*◌, ◌^◌, ◌&&◌, Some, true, nat_le, length, map};
 ghost use Rattle.s66_isa.specs.declared.limits.TheConstants.{BLOCK_LIMIT};
-ghost use Rattle.s66_isa.specs.Lists.{every, weigh};
+ghost use Rattle.s66_isa.specs.Lists.{every, least, weigh};
 ghost use Rattle.s66_model.specs.Timing.{row_at};
 ghost use Rattle.s66_model.specs.LegalOrder.{is_remaining};
 ghost use Rattle.s66_moments.specs.FactLines.{Use, use_time};
@@ -50,14 +50,33 @@ fn amounts(prefix: &Prefix, numbers: &[u8]) -> u32
     sum
 }
 
-/// The same over the units of a kind, rounded up.
+/// For how long each of these has it at least.
+fn least_amount(prefix: &Prefix, numbers: &[u8]) -> u32
+    requires some { 0 < length numbers.now }
+    requires remain { every (is_remaining prefix.now.problem.block prefix.now.numbers) numbers.now ≡ true }
+    ensures value { result ≡ least (λ (u : Use). u.amount) (map (use_of prefix.now.problem) numbers.now) }
+    ensures at_most { result ≤ 101 }
+{
+    let mut low = amount(prefix, numbers[0]);
+    for n in numbers {
+        low = low.min(amount(prefix, *n));
+    }
+    low
+}
+
+/// For how long the units of a kind have work: if they share all that, rounded up, and since one of them has as many of the numbers as it
+/// has at least.
 fn use_time(prefix: &Prefix, kind: Kind, numbers: &[u8]) -> u32
+    requires some { 0 < length numbers.now }
     requires few { length numbers.now ≤ BLOCK_LIMIT }
     requires remain { every (is_remaining prefix.now.problem.block prefix.now.numbers) numbers.now ≡ true }
     ensures value { result ≡ use_time prefix.now.problem kind (map (use_of prefix.now.problem) numbers.now) }
-    ensures at_most { result ≤ 101 * BLOCK_LIMIT + 100 }
+    ensures at_most { result ≤ 101 * (BLOCK_LIMIT + 100) }
 {
-    over(amounts(prefix, numbers), prefix.copies(kind))
+    let copies = prefix.copies(kind);
+    let shared = over(amounts(prefix, numbers), copies);
+    let whole = over(numbers.len() as u32, copies) * least_amount(prefix, numbers);
+    shared.max(whole)
 }
 
 /// Whether a use begins at `after` at the soonest, and the longest path from there to the end, added to `until`, reaches `low`.
