@@ -1,6 +1,6 @@
 //! Whether a load may say more than a wait: a quick look, which few loads pass.
 
-use crate::load::{Load, use_time};
+use crate::load::{Amounts, Load};
 use crate::sort::sort;
 use s66_network::{at_issue, at_start};
 use std::alloc::{AllocError, Global};
@@ -28,18 +28,18 @@ impl Share {
     }
 }
 
-/// How long so many units have work by all of these.
-fn time_of(shares: &[Share], copies: u32) -> u32 {
-    let mut sum = 0u32;
+/// How long so many units have work by any of these at most.
+fn longest_time(shares: &[Share], copies: u32) -> u32 {
+    let mut amounts = Amounts::default();
     for share in shares {
-        sum = sum.saturating_add(share.amount);
+        amounts = amounts.with(share.amount);
     }
-    use_time(sum, copies)
+    amounts.longest_time(copies)
 }
 
-/// Whether some of these that begin so late may say more than a wait. They are sorted, and all together take so long.
+/// Whether some of these that begin so late may say more than a wait. They are sorted, and any of them take no longer than this.
 fn pass_after(shares: &[Share], copies: u32, longest: u32, after: u32, wait: u32) -> bool {
-    let mut sum = 0u32;
+    let mut amounts = Amounts::default();
     for share in shares {
         let room = wait as i64 - after as i64 - share.tail as i64 + share.amount as i64;
         // after those that follow no more is left
@@ -47,8 +47,8 @@ fn pass_after(shares: &[Share], copies: u32, longest: u32, after: u32, wait: u32
             return false;
         }
         if share.head >= after {
-            sum = sum.saturating_add(share.amount);
-            if use_time(sum, copies) as i64 > room {
+            amounts = amounts.with(share.amount);
+            if amounts.longest_time(copies) as i64 > room {
                 return true;
             }
         }
@@ -84,9 +84,9 @@ impl Shares {
         Ok(())
     }
 
-    /// How long so many units have work by all of them.
-    pub fn time(&self, copies: u32) -> u32 {
-        time_of(self.shares.as_slice(), copies)
+    /// How long so many units have work by any of them at most.
+    pub fn longest_time(&self, copies: u32) -> u32 {
+        longest_time(self.shares.as_slice(), copies)
     }
 
     /// Leaves out those that are in no load which says more than a wait. All uses of such a load lie between the two places, with what
@@ -95,7 +95,7 @@ impl Shares {
         // less time is taken by the others, so that more may be left out then
         for _ in 0..self.shares.len() {
             let count = self.shares.len();
-            let least = wait as i64 - self.time(copies) as i64;
+            let least = wait as i64 - self.longest_time(copies) as i64;
             self.shares.retain(|share| share.beside() > least);
             if self.shares.len() == count {
                 return;
@@ -112,7 +112,7 @@ impl Shares {
         }
         sort(self.shares.as_mut_slice(), |share| share.left());
         let shares = self.shares.as_slice();
-        let longest = time_of(shares, copies);
+        let longest = longest_time(shares, copies);
         for share in shares {
             if pass_after(shares, copies, longest, share.head, wait) {
                 return true;

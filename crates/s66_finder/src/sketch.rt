@@ -1,6 +1,6 @@
 //! What is known of a block after some lines, found quickly.
 
-use crate::load::use_time;
+use crate::load::Amounts;
 use crate::pairs::is_late;
 use s66_isa::BLOCK_LIMIT;
 use s66_moments::{FactLine, KnownArc, LoadLine, Moment};
@@ -142,15 +142,15 @@ impl<'a> Sketch<'a> {
 
     /// How long the units have work by all of these, which need one of the same kind.
     fn time_of(&self, numbers: &[u8]) -> u32 {
-        let mut sum = 0u32;
+        let mut amounts = Amounts::default();
         let mut copies = 1;
         for n in numbers {
-            sum = sum.saturating_add(self.amount(*n));
+            amounts = amounts.with(self.amount(*n));
             if let Some(row) = self.ground.row(*n) {
                 copies = self.ground.copies(row.kind);
             }
         }
-        use_time(sum, copies)
+        amounts.time(copies)
     }
 
     /// The longest paths from a moment.

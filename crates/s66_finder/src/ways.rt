@@ -1,7 +1,7 @@
 //! The load line that says most between two places.
 
 use crate::limits::WAIT_LIMIT;
-use crate::load::{Best, Load, Way, use_time};
+use crate::load::{Amounts, Best, Load, Way};
 use crate::shares::Shares;
 use crate::sort::sort;
 use s66_dep::Set;
@@ -9,11 +9,11 @@ use s66_isa::BLOCK_LIMIT;
 use s66_network::{at_issue, at_start};
 use std::alloc::{AllocError, Global};
 
-/// The best of those that begin so late, or what was better. The ways are sorted, and all their uses together take no longer than this.
+/// The best of those that begin so late, or what was better. The ways are sorted, and any of their uses take no longer than this.
 fn best_after(ways: &[Way], copies: u32, longest: u32, after: u32, best: Best) -> Best {
     let mut best = best;
     let mut seen = Set::empty();
-    let mut sum = 0u32;
+    let mut amounts = Amounts::default();
     for way in ways {
         // those that follow have no more left
         if (after as i64 + longest as i64).saturating_add(way.left) <= best.wait {
@@ -22,8 +22,8 @@ fn best_after(ways: &[Way], copies: u32, longest: u32, after: u32, best: Best) -
         let n = way.number;
         if way.head >= after && !seen.has(n) && n >= 1 && n as usize <= BLOCK_LIMIT {
             seen = seen.with(n);
-            sum = sum.saturating_add(way.amount);
-            let wait = (after as i64 + use_time(sum, copies) as i64).saturating_add(way.left);
+            amounts = amounts.with(way.amount);
+            let wait = (after as i64 + amounts.time(copies) as i64).saturating_add(way.left);
             if wait > best.wait {
                 best = Best {
                     after,
@@ -77,7 +77,7 @@ impl Ways {
     /// `Err` is out of memory.
     pub fn best(&mut self, load: &Load, wait: u32) -> Result<Option<Best>, AllocError> {
         self.shares.find(load)?;
-        let longest = self.shares.time(load.copies);
+        let longest = self.shares.longest_time(load.copies);
         if !self.shares.may_pass(load.copies, wait) {
             return Ok(None);
         }
