@@ -6,7 +6,7 @@ use s66_finder::Finder;
 use s66_isa::Profile;
 use s66_line::Block;
 use s66_source::read_source;
-use s66_test_blocks::only_block;
+use s66_test_blocks::{MULTIPLIES, only_block};
 use std::alloc::AllocError;
 use std::process::Abort;
 use std::test::Fail;
@@ -140,8 +140,8 @@ fn check_cut_off<R: AllocGlobal + Abort>(
 #[test]
 fn shows_less_by_fewer_splits(rt: HostRuntime) -> Result<(), Fail> {
     for &(code, best) in BEST_TIMES {
-        // a load shows the best time of this one without a split
-        if code == TWO_BOOLEANS {
+        // a load shows the best time of these without a split
+        if code == TWO_BOOLEANS || code == MULTIPLIES {
             continue;
         }
         let source = read_source(rt.alloc(), code.as_bytes())?;
