@@ -332,6 +332,11 @@ class Problem:
         work += sum(self.holds[n] + 1 for n in remaining if self.block[n].unit == unit)
         return begin + -(-work // self.profile[unit])  # rounded up
 
+    def use_time(self, unit, uses):
+        """How long the units of a kind are in use: if they share all uses, and since one has as many whole ones as any has at least."""
+        copies = self.profile[unit]
+        return max(-(-sum(uses) // copies), -(-len(uses) // copies) * min(uses))  # rounded up
+
     def parcels(self, prefix):
         """The parcels that remain; of the last instruction not its parcels but its tail, whichever is the last."""
         remaining = self.remaining(prefix)
@@ -475,7 +480,7 @@ class Known:
         if numbers != [n for n in block if n in numbers]:
             return False
         uses, units = {n: self.problem.holds[n] + 1 for n in numbers}, {block[n].unit for n in numbers}
-        time = -(-sum(uses.values()) // self.problem.profile[block[numbers[0]].unit])  # rounded up
+        time = self.problem.use_time(block[numbers[0]].unit, list(uses.values()))
 
         def is_between(n, use):
             """Whether a use from an issue or a start on is late enough, and leaves enough to the end."""

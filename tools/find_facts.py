@@ -86,8 +86,8 @@ class Finder:
                     ways.append((n, heads[moment], tails[moment] - uses[n]))
         for after, left in itertools.product({after for _, after, _ in ways}, {left for _, _, left in ways}):
             numbers = sorted({n for n, head, tail in ways if head >= after and tail >= left})
-            wait = after + left - (-sum(uses[n] for n in numbers) // self.problem.profile[unit])
             if numbers:
+                wait = after + left + self.problem.use_time(unit, [uses[n] for n in numbers])
                 yield Load(begin, end, after, wait, numbers)
 
     def load_between(self, begin, end, unit):
