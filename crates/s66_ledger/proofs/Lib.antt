@@ -22,3 +22,4 @@ pub mod TakingBack
 pub mod TimedWholes
 pub mod ParentPaths
 pub mod WholeOffers
+pub mod Reordered

@@ -33,8 +33,9 @@ impl Model for Answer {
 }
 
 impl Answer {
-    ghost use Rattle.std.specs.Prelude.{◌≡◌, ◌≤◌, ◌↔◌, IsTrue, IfOk};
+    ghost use Rattle.std.specs.Prelude.{◌≡◌, ◌≤◌, ◌<◌, ◌↔◌, IsTrue, IfOk};
     ghost use Rattle.s66_line.specs.Block.{instrs_of};
+    ghost use Rattle.s66_model.specs.Timing.{total_of};
     ghost use Rattle.s66_model.specs.Tree.{flat};
     ghost use Rattle.s66_model.specs.Answer.{IsAnswer, IsBestAnswer, source_time};
     ghost use Rattle.s66_model.specs.BestAndBound.{IsBound};
@@ -46,6 +47,45 @@ impl Answer {
         ensures { result.now ≡ record { block = self.now.problem.block; numbers = (answer_of self.now).order } }
     {
         self.best.order()
+    }
+
+    /// The order with its times.
+    pub fn best(&self) -> &Timed
+        ensures { result.now ≡ record { problem = self.now.problem; numbers = (answer_of self.now).order } }
+    {
+        &self.best
+    }
+
+    /// The same answer with another order that takes as long, where that is less than the source order takes.
+    pub fn with_order(self, timed: Timed) -> Answer
+        requires problem { timed.problem ≡ self.problem }
+        requires time { total_of timed.problem timed.numbers ≡ (answer_of self).time }
+        requires faster { (answer_of self).time < source_time self.problem }
+        ensures order { (answer_of result).order ≡ timed.numbers }
+        ensures rule { result.rule ≡ self.rule }
+        ensures problem { result.problem ≡ self.problem }
+        ensures budget { result.budget ≡ self.budget }
+    {
+        // proof only: it is legal
+        let _legal = timed.order();
+        let Answer {
+            rule,
+            source,
+            budget,
+            nodes,
+            bound,
+            splits,
+            ..
+        } = self;
+        Answer {
+            rule,
+            source,
+            best: timed,
+            budget,
+            nodes,
+            bound,
+            splits,
+        }
     }
 
     /// The rule of its dominated leaves.

@@ -1,0 +1,22 @@
+use Rattle.std.proofs.Common.{◌≡◌, ◌<◌, ◌∙◌, ap, subst, sym}
+use Rattle.s66_model.specs.LegalOrder.{IsLegal}
+use Rattle.s66_model.specs.Timing.{Problem, total_of}
+use Rattle.s66_model.specs.Answer.{source_time}
+use Rattle.s66_ledger.specs.Answers.{AnswerOf, IsKeptAnswer, answer_of, ended_of}
+use Rattle.s66_ledger.proofs.Reordered.{reordered}
+use Rattle.s66_ledger.proofs.answer.Answer.with_order.Goals as goal
+
+pub invariant_of-result : goal.invariant_of-result
+invariant_of-result c =
+    let s = c.self.inside in
+    let b = s.best.problem in
+    let nodes = s.nodes.items in
+    let other = c.args.timed.numbers in
+    let own : c.args.timed.problem ≡ b = c.requires.problem ∙ sym (ap (λ (a : AnswerOf). a.problem) c.self.view_is) in
+    let legal : IsLegal b.block other = subst (λ (p : Problem). IsLegal p.block other) own c.order-legal.ensures.legal in
+    let same : total_of b other ≡ total_of b s.best.numbers =
+    subst (λ (p : Problem). total_of p other ≡ total_of b s.best.numbers) own (c.requires.time ∙ sym (ap (λ (a : AnswerOf). (answer_of a).time) c.self.view_is))
+    in
+    let faster : total_of b s.best.numbers < source_time b = subst (λ (a : AnswerOf). (answer_of a).time < source_time a.problem) (sym c.self.view_is) c.requires.faster in
+    subst (λ (p : Problem). IsKeptAnswer (ended_of s.rule p s.budget nodes other s.splits) nodes s.bound s.source) (sym own)
+    (reordered s.rule b s.budget nodes s.best.numbers other s.splits s.bound s.source c.self.invariant legal same faster)
