@@ -1,0 +1,10 @@
+use Rattle.std.proofs.Common.{◌≡◌, length}
+use Rattle.s66_near.proofs.draft.Draft.move_back.Given as goal
+
+abbrev pub invariant-loop-place : goal.invariant-loop-place
+invariant-loop-place l =
+    record {
+      problem : l.self.walk.problem ≡ l.fn.self.walk.problem;
+      as_many : length l.self.numbers.items ≡ length l.fn.self.numbers.items;
+      as_long : length l.numbers.items ≡ length l.fn.self.numbers.items;
+    }

@@ -1,0 +1,5 @@
+use Rattle.std.proofs.Common.{◌≡◌}
+use Rattle.s66_near.proofs.nearest.settled.Given as goal
+
+abbrev pub invariant-loop : goal.invariant-loop
+invariant-loop l = l.draft.walk.problem ≡ l.fn.walk.problem

@@ -1,0 +1,153 @@
+//! An order that is changed step by step.
+
+ghost use Rattle.std.specs.Prelude.{◌≡◌, ◌+◌, ◌<◌, ◌≤◌, IfSome, length};
+ghost use Rattle.s66_isa.specs.declared.limits.TheConstants.{BLOCK_LIMIT};
+
+use crate::pairs::exchange;
+use arrayvec::ArrayVec;
+use s66_isa::BLOCK_LIMIT;
+use s66_node::{Walk, copy_of};
+
+/// How often a changed order is timed at most.
+const TRIES_LIMIT: u32 = 2_000;
+
+/// An order of a walk's block, and what it takes.
+#[derive(Debug, Drop)]
+pub(crate) struct Draft<'a> {
+    /// By which others are timed.
+    pub(crate) walk: Walk<'a>,
+    pub(crate) numbers: ArrayVec<u8, BLOCK_LIMIT>,
+    /// How many pairs of the numbers stand in reverse.
+    pub(crate) pairs: u32,
+    /// In minor cycles.
+    total: u32,
+    /// How often others are timed still, at most.
+    tries: u32,
+}
+
+/// What a list of numbers is.
+#[derive(Clone, Copy, Debug, PartialEq, Eq)]
+enum Tried {
+    Illegal,
+    OtherTime,
+    AsFast,
+}
+
+impl<'a> Draft<'a> {
+    pub(crate) fn new(walk: Walk<'a>, numbers: &[u8], pairs: u32, total: u32) -> Draft<'a>
+        requires { length numbers.now ≤ BLOCK_LIMIT }
+        ensures { result.walk.problem ≡ walk.entry.problem }
+    {
+        Draft {
+            walk,
+            numbers: copy_of(numbers),
+            pairs,
+            total,
+            tries: TRIES_LIMIT,
+        }
+    }
+
+    fn tried(&mut self, numbers: &[u8]) -> Tried
+        ensures problem { self.new.walk.problem ≡ self.old.walk.problem }
+        ensures same { self.new.numbers ≡ self.old.numbers }
+    {
+        self.tries = self.tries.saturating_sub(1);
+        if !self.walk.try_go_to(numbers) {
+            return Tried::Illegal;
+        }
+        if self.walk.floor_value() == self.total {
+            Tried::AsFast
+        } else {
+            Tried::OtherTime
+        }
+    }
+
+    /// Takes these numbers, which have so many pairs in reverse, if they have fewer and are a legal order that is as fast. False if
+    /// they are seen to be in no legal order.
+    fn take(&mut self, numbers: &[u8], pairs: u32) -> bool
+        requires length { length numbers.now ≡ length self.old.numbers.items }
+        requires few { length numbers.now ≤ BLOCK_LIMIT }
+        ensures problem { self.new.walk.problem ≡ self.old.walk.problem }
+        ensures length { length self.new.numbers.items ≡ length self.old.numbers.items }
+    {
+        if self.pairs <= pairs || self.tries == 0 {
+            return true;
+        }
+        match self.tried(numbers) {
+            Tried::Illegal => false,
+            Tried::OtherTime => true,
+            Tried::AsFast => {
+                self.numbers = copy_of(numbers);
+                self.pairs = pairs;
+                true
+            }
+        }
+    }
+
+    /// Moves the number at a place towards the front, to where the fewest pairs stand in reverse.
+    fn move_forward(&mut self, from: usize)
+        requires { from < length self.old.numbers.items }
+        ensures problem { self.new.walk.problem ≡ self.old.walk.problem }
+        ensures length { length self.new.numbers.items ≡ length self.old.numbers.items }
+    {
+        let mut numbers = copy_of(self.numbers.as_slice());
+        let mut pairs = self.pairs;
+        for step in 0..from {
+            pairs = exchange(numbers.as_mut_slice(), from - 1 - step, pairs);
+            if !self.take(numbers.as_slice(), pairs) {
+                return;
+            }
+        }
+    }
+
+    /// Moves the number at a place towards the end, to where the fewest pairs stand in reverse.
+    fn move_back(&mut self, from: usize)
+        requires { from < length self.old.numbers.items }
+        ensures problem { self.new.walk.problem ≡ self.old.walk.problem }
+        ensures length { length self.new.numbers.items ≡ length self.old.numbers.items }
+    {
+        let mut numbers = copy_of(self.numbers.as_slice());
+        let mut pairs = self.pairs;
+        for place in from + 1..self.numbers.len() {
+            pairs = exchange(numbers.as_mut_slice(), place - 1, pairs);
+            if !self.take(numbers.as_slice(), pairs) {
+                return;
+            }
+        }
+    }
+
+    fn place_of(&self, number: u8) -> Option<usize>
+        ensures { IfSome result (λ place. place < length self.now.numbers.items) }
+    {
+        for place in 0..self.numbers.len() {
+            if self.numbers[place] == number {
+                return Some(place);
+            }
+        }
+        None
+    }
+
+    /// Takes a number out and puts it where the fewest pairs stand in reverse.
+    fn settle(&mut self, number: u8)
+        ensures problem { self.new.walk.problem ≡ self.old.walk.problem }
+        ensures length { length self.new.numbers.items ≡ length self.old.numbers.items }
+    {
+        let Some(place) = self.place_of(number) else {
+            return;
+        };
+        let pairs = self.pairs;
+        self.move_forward(place);
+        if self.pairs == pairs {
+            self.move_back(place);
+        }
+    }
+
+    /// Settles each number, the lowest first.
+    pub(crate) fn settle_all(&mut self)
+        ensures { self.new.walk.problem ≡ self.old.walk.problem }
+    {
+        for index in 0..self.numbers.len() {
+            self.settle((index + 1) as u8);
+        }
+    }
+}

@@ -1,0 +1,59 @@
+//! Numbers taken out of an order one by one and put nearer to their places.
+
+ghost use Rattle.std.specs.Prelude.{◌≡◌, ◌≤◌};
+ghost use Rattle.s66_line.specs.Block.{instrs_of};
+ghost use Rattle.s66_model.specs.Timing.{total_of};
+ghost use Rattle.s66_near.specs.Reversed.{reversed};
+
+use crate::draft::Draft;
+use crate::pairs::pairs_in_reverse;
+use s66_line::Block;
+use s66_node::Walk;
+use s66_time::Timed;
+
+/// How often all numbers are settled at most.
+const ROUNDS_LIMIT: u32 = 64;
+
+/// Settles all numbers of an order until none moves. The walk may be anywhere.
+fn settled<'a>(walk: Walk<'a>, timed: &Timed, pairs: u32) -> Draft<'a>
+    ensures { result.walk.problem ≡ walk.entry.problem }
+{
+    let mut draft = Draft::new(walk, timed.order().numbers(), pairs, timed.total());
+    for _ in 0..ROUNDS_LIMIT {
+        let before = draft.pairs;
+        draft.settle_all();
+        if draft.pairs == before {
+            break;
+        }
+    }
+    draft
+}
+
+/// A legal order of the block that takes as long as this one, with no more pairs of instructions in reverse of the source: this one, or
+/// what it becomes as each instruction in turn is taken out and put where the fewest pairs stand in reverse, until none moves.
+///
+/// Each place that is tried costs an undo and a push for each instruction from there on. Nothing is allocated.
+pub fn nearer(block: &Block, timed: &Timed) -> Timed
+    requires { timed.now.problem.block ≡ instrs_of block.now }
+    ensures problem { result.problem ≡ timed.now.problem }
+    ensures time { total_of result.problem result.numbers ≡ total_of timed.now.problem timed.now.numbers }
+    ensures nearer { reversed result.numbers ≤ reversed timed.now.numbers }
+{
+    let total = timed.total();
+    let pairs = pairs_in_reverse(timed.order().numbers());
+    let Draft {
+        mut walk,
+        numbers,
+        ..
+    } = settled(Walk::new(block, timed.profile()), timed, pairs);
+    let numbers = numbers.as_slice();
+    if walk.try_go_to(numbers)
+        && walk.is_complete()
+        && walk.floor_value() == total
+        && pairs_in_reverse(numbers) <= pairs
+    {
+        walk.timed()
+    } else {
+        timed.duplicate()
+    }
+}
