@@ -1,5 +1,5 @@
 -- What facts show is an answer to the block.
-use Rattle.std.proofs.Common.{◌≡◌, ◌≤◌, ◌∙◌, List, true, ap, inr, refl, subst, sym}
+use Rattle.std.proofs.Common.{◌≡◌, ◌≤◌, ◌∙◌, List, true, ap, arith, inr, refl, subst, sym}
 use Rattle.std.specs.Option.{is_some}
 use Rattle.s66_isa.specs.declared.limits.TheConstants.{BLOCK_LIMIT}
 use Rattle.s66_isa.specs.declared.instr.Instr.{Instr}
@@ -8,7 +8,9 @@ use Rattle.s66_isa.specs.Table.{numbers}
 use Rattle.s66_line.specs.Block.{instrs_of, Block}
 use Rattle.s66_model.specs.Answer.{source_time}
 use Rattle.s66_model.specs.LegalOrder.{IsLegal}
-use Rattle.s66_model.specs.Timing.{total_of}
+use Rattle.s66_model.specs.Timing.{Problem, total_of}
+use Rattle.s66_time.specs.TimedOrder.{TimedOrder}
+use Rattle.s66_deep.specs.Orders.{IsGood}
 use Rattle.s66_cert.specs.Document.{Document, IsDocument}
 use Rattle.s66_cert.specs.DocumentParts.{Parts, document_of}
 use Rattle.s66_checker.specs.Verdict.{verdict}
@@ -55,4 +57,21 @@ module _ (strategy : Strategy) (p : Profile) (block : Block) (c : Candidate) (l 
         document = same-document;
         order = shown.order ∙ whole ∙ ap (λ (d : Parts). record { block = instrs_of block; numbers = d.numbers }) back;
         source = shown.source ∙ is.source;
+      }
+
+-- AN ORDER THAT TAKES AS LONG as a good one, and is that one if it takes as long as the source order
+
+module _ (b : Problem) (t u : TimedOrder) (problem : u.problem ≡ t.problem) (time : total_of u.problem u.numbers ≡ total_of t.problem t.numbers) where
+  pub as-long : t.problem ≡ b → total_of b u.numbers ≡ total_of b t.numbers
+  as-long own =
+      subst (λ (q : Problem). total_of b u.numbers ≡ total_of q t.numbers) own
+      (subst (λ (q : Problem). total_of q u.numbers ≡ total_of t.problem t.numbers) (problem ∙ own) time)
+
+  pub as-good : IsGood b t → (source_time t.problem ≡ total_of t.problem t.numbers → u.numbers ≡ t.numbers) → IsGood b u
+  as-good good first =
+      let same = as-long good.problem in
+      record {
+        problem = problem ∙ good.problem;
+        source = omega (arith, same, good.source);
+        first = λ e. first (subst (λ (q : Problem). source_time q ≡ total_of q t.numbers) (sym good.problem) (e ∙ same)) ∙ good.first (e ∙ same);
       }

@@ -4,6 +4,8 @@ ghost use Rattle.std.specs.Prelude.{◌≡◌, ◌≤◌, true, IfOk, IfSome};
 ghost use Rattle.s66_line.specs.Block.{instrs_of};
 ghost use Rattle.s66_cert.specs.declared.limits.TheConstants.{TIME_LIMIT};
 ghost use Rattle.s66_deep.specs.Orders.{IsLooked};
+ghost use Rattle.s66_model.specs.Answer.{source_time};
+ghost use Rattle.s66_model.specs.Timing.{total_of};
 ghost use Rattle.s66_program.specs.declared.answers.Found.TheVariants.{Searched};
 ghost use Rattle.s66_text.specs.Answers.{problem_of};
 ghost use Rattle.s66_program.specs.Output.{IsSearchWithin};
@@ -17,6 +19,7 @@ use s66_dep::Order;
 use s66_isa::{BLOCK_LIMIT, Profile};
 use s66_ledger::Answer;
 use s66_line::Block;
+use s66_near::nearer;
 use s66_pool::{Free, run_from};
 use s66_time::Timed;
 use std::alloc::{AllocError, Global};
@@ -187,6 +190,49 @@ fn search<R: AllocGlobal + Threads + Wait + Sync>(
     run_from(rt, block, profile, strategy.search, first, &Free)
 }
 
+/// An answer with an order that is nearer to the source and takes as long, if one is found.
+fn nearest(block: &Block, answer: Answer) -> Answer
+    requires { answer.problem.block ≡ instrs_of block.now }
+    ensures rule { result.rule ≡ answer.rule }
+    ensures problem { result.problem ≡ answer.problem }
+    ensures budget { result.budget ≡ answer.budget }
+{
+    if answer.source() <= answer.time() {
+        return answer;
+    }
+    let timed = nearer(block, answer.best());
+    answer.with_order(timed)
+}
+
+/// What a search of the block's orders finds.
+fn found_by_search<R: AllocGlobal + Threads + Wait + Sync>(
+    rt: &R,
+    block: &Block,
+    profile: &Profile,
+    strategy: Strategy,
+    first: Option<&Timed>,
+) -> Result<Found, AllocError>
+    requires { IsSearchWithin strategy.search.workers strategy.search.nodes }
+    ensures { IfOk result (IsFor strategy profile.now block.now) }
+{
+    let answer = search(rt, block, profile, strategy, first)?;
+    Ok(Found::Searched(nearest(block, answer)))
+}
+
+/// An order that is nearer to the source and takes as long, if one is found; `source` is what the source order takes, in minor cycles.
+fn nearest_order(block: &Block, best: Timed, source: u32) -> Timed
+    requires block { best.problem.block ≡ instrs_of block.now }
+    requires source { source ≡ source_time best.problem }
+    ensures problem { result.problem ≡ best.problem }
+    ensures time { total_of result.problem result.numbers ≡ total_of best.problem best.numbers }
+    ensures first { source_time best.problem ≡ total_of best.problem best.numbers → result.numbers ≡ best.numbers }
+{
+    if source <= best.total() {
+        return best;
+    }
+    nearer(block, &best)
+}
+
 /// A search from the best order so far, and what is shown by facts of what it finds, if that is more.
 fn search_on<R: AllocGlobal + Threads + Wait + Sync>(
     rt: &R,
@@ -201,7 +247,8 @@ fn search_on<R: AllocGlobal + Threads + Wait + Sync>(
     requires fit { IsFit shows }
     ensures { IfOk result (IsFor strategy profile.now block.now) }
 {
-    let answer = search(rt, block, profile, strategy, Some(best))?;
+    let found = search(rt, block, profile, strategy, Some(best))?;
+    let answer = nearest(block, found);
     // so its time is one that a document may claim
     prove!(block.count() <= BLOCK_LIMIT);
     if shows.bound <= answer.bound() {
@@ -244,15 +291,16 @@ fn answer_by<R: AllocGlobal + Threads + Wait + Sync>(
     if bound < best.total() {
         return search_on(rt, block, profile, strategy, &best, shows);
     }
+    let near = nearest_order(block, best, source);
     let candidate = Candidate {
-        order: best.order().duplicate(),
-        time: best.total(),
+        order: near.order().duplicate(),
+        time: near.total(),
         source,
         splits,
     };
     match shown_by(rt.alloc(), block, profile, candidate, shows)? {
         Some(shown) => Ok(Found::Shown(shown)),
-        None => Ok(Found::Searched(search(rt, block, profile, strategy, Some(&best))?)),
+        None => found_by_search(rt, block, profile, strategy, Some(&near)),
     }
 }
 
@@ -269,7 +317,7 @@ fn deep_answer<R: AllocGlobal + Threads + Wait + Sync>(
 {
     match look_at(rt.alloc(), block, profile, strategy.search.nodes)? {
         Some(looked) => answer_by(rt, block, profile, strategy, looked),
-        None => Ok(Found::Searched(search(rt, block, profile, strategy, None)?)),
+        None => found_by_search(rt, block, profile, strategy, None),
     }
 }
 
@@ -293,5 +341,5 @@ pub fn answer_to<R: AllocGlobal + Threads + Wait + Sync>(
     if strategy.deep && !answer.is_best() {
         return deep_answer(rt, block, profile, strategy);
     }
-    Ok(Found::Searched(answer))
+    Ok(Found::Searched(nearest(block, answer)))
 }

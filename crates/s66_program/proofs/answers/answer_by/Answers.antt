@@ -9,7 +9,7 @@ use Rattle.s66_program.specs.declared.answers.Candidate.{Candidate}
 use Rattle.s66_program.specs.declared.documents.Shows.{Shows}
 use Rattle.s66_text.specs.Answers.{IsEnough, problem_of}
 use Rattle.s66_program.specs.Stored.{IsShownBy, claimed}
-use Rattle.s66_program.proofs.ByFacts.{IsCandidate, shown-claimed}
+use Rattle.s66_program.proofs.ByFacts.{IsCandidate, as-good, as-long, shown-claimed}
 use Rattle.s66_program.proofs.answers.answer_by.Goals as goal
 
 pub returns-in-Some : goal.returns-in-Some
@@ -20,29 +20,32 @@ returns-in-Some g c =
     let b : Problem = problem_of p block in
     let looked = c.args.looked in
     let is = c.requires.looked in
-    let good = is.best in
+    let near = c.nearest_order-near.result in
+    let nearer = c.nearest_order-near.ensures in
+    let good = as-good b looked.best near nearer.problem nearer.time is.best nearer.first in
+    let same = as-long b looked.best near nearer.problem nearer.time is.best.problem in
     let shows : Shows = record { bound = looked.bound; lines = looked.lines; tree = looked.tree } in
     let candidate : Candidate = record { order = c.duplicate.result; time = c.total-2.result; source = looked.source; splits = looked.splits } in
     let s = c.in-Some.shown in
     let shown : IsShownBy p block candidate shows s = subst (λ o. IfSome o (IsShownBy p block candidate shows)) c.in-Some.is c.in_ok-shown.ensures in
-    let order : c.duplicate.result ≡ record { block = looked.best.problem.block; numbers = looked.best.numbers } = c.duplicate.ensures ∙ c.order.ensures.value in
-    let numbers : c.duplicate.result.numbers ≡ looked.best.numbers = ap (λ (o : Ordered). o.numbers) order in
-    let total : c.total-2.result ≡ total_of b looked.best.numbers = c.total-2.ensures.value ∙ ap (λ (q : Problem). total_of q looked.best.numbers) good.problem in
+    let order : c.duplicate.result ≡ record { block = near.problem.block; numbers = near.numbers } = c.duplicate.ensures ∙ c.order.ensures.value in
+    let numbers : c.duplicate.result.numbers ≡ near.numbers = ap (λ (o : Ordered). o.numbers) order in
+    let total : c.total-2.result ≡ total_of b near.numbers = c.total-2.ensures.value ∙ ap (λ (q : Problem). total_of q near.numbers) good.problem in
     let right : IsCandidate p block candidate =
     record {
       of_block = ap (λ (o : Ordered). o.block) order ∙ ap (λ (q : Problem). q.block) good.problem;
-      legal = subst (λ ns. IsLegal (instrs_of block) ns) (sym numbers) (subst (λ (q : Problem). IsLegal q.block looked.best.numbers) good.problem c.order.ensures.legal);
+      legal = subst (λ ns. IsLegal (instrs_of block) ns) (sym numbers) (subst (λ (q : Problem). IsLegal q.block near.numbers) good.problem c.order.ensures.legal);
       time = total ∙ ap (total_of b) (sym numbers);
       within = omega (arith, total, good.source);
       first = λ same. numbers ∙ good.first (same ∙ total);
       source = is.source;
     }
     in
-    let first : c.total.result ≡ total_of b looked.best.numbers = c.total.ensures.value ∙ ap (λ (q : Problem). total_of q looked.best.numbers) good.problem in
+    let first : c.total.result ≡ total_of b looked.best.numbers = c.total.ensures.value ∙ ap (λ (q : Problem). total_of q looked.best.numbers) is.best.problem in
     let time : s.document.time ≡ c.total-2.result = ap (λ (d : Parts). d.time) shown.document in
     let bound : s.document.bound ≡ looked.bound = ap (λ (d : Parts). d.bound) shown.document in
     let counted : splits (tree_of_lines s.document.vertices) ≡ splits (tree_of_lines looked.tree) = ap (λ (d : Parts). splits (tree_of_lines d.vertices)) shown.document in
     let enough : IsEnough strategy.search b (claimed s) =
-    inl (omega (arith, bound, time, total, first, is.bound, c.if-bound-total.false), shown.splits ∙ is.splits.0 ∙ sym counted, omega (arith, shown.splits, is.splits.1))
+    inl (omega (arith, bound, time, total, same, first, is.bound, c.if-bound-total.false), shown.splits ∙ is.splits.0 ∙ sym counted, omega (arith, shown.splits, is.splits.1))
     in
     shown-claimed strategy p block candidate shows s shown c.requires.deep right enough

@@ -11,18 +11,19 @@ use Rattle.s66_ledger.specs.Answers.{answer_of}
 use Rattle.s66_cert.specs.DocumentParts.{Parts}
 use Rattle.s66_program.specs.declared.answers.Candidate.{Candidate}
 use Rattle.s66_text.specs.Answers.{IsEnough, problem_of}
-use Rattle.s66_program.specs.Stored.{IsShownBy, claimed}
+use Rattle.s66_program.specs.declared.answers.Found.TheVariants.{Searched}
+use Rattle.s66_program.specs.Stored.{IsFor, IsShownBy, claimed}
 use Rattle.s66_program.proofs.SearchAnswers.{search-answers}
 use Rattle.s66_program.proofs.ByFacts.{IsCandidate, shown-claimed}
 use Rattle.s66_program.proofs.answers.search_on.Goals as goal
 
 pub shown_by-requires-clause-time : goal.shown_by-requires-clause-time
 shown_by-requires-clause-time g c =
-    let found = c.in_ok-answer.answer in
+    let found = c.nearest-answer.result in
     let a = answer_of found in
     let is = c.time.ensures.answer in
     let few : length found.problem.block ≤ BLOCK_LIMIT =
-    subst (λ (q : Problem). length q.block ≤ BLOCK_LIMIT) (sym c.in_ok-answer.ensures.1) (omega (arith, c.count.ensures.value, c.count.ensures.few))
+    subst (λ (q : Problem). length q.block ≤ BLOCK_LIMIT) (sym (c.nearest-answer.ensures.problem ∙ c.in_ok-found.ensures.1)) (omega (arith, c.count.ensures.value, c.count.ensures.few))
     in
     omega (arith, c.time.ensures.value, is.time, total-le found.problem a.order, (legal-order found.problem.block a.order is.legal).1, few)
 
@@ -32,9 +33,11 @@ returns-in-Some g c =
     let p = c.args.profile.now in
     let block = c.args.block.now in
     let b : Problem = problem_of p block in
-    let found = c.in_ok-answer.answer in
+    let found = c.nearest-answer.result in
     let a = answer_of found in
-    let for = c.in_ok-answer.ensures in
+    let near = c.nearest-answer.ensures in
+    let searched = c.in_ok-found.ensures in
+    let for : IsFor strategy p block (Searched found) = (near.rule ∙ searched.0, near.problem ∙ searched.1, near.budget ∙ searched.2) in
     let is = search-answers strategy p block found for c.time.ensures.answer in
     let candidate : Candidate = record { order = c.duplicate.result; time = c.time.result; source = c.source.result; splits = c.splits.result } in
     let s = c.in-Some.shown in
