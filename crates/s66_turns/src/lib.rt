@@ -1,0 +1,7 @@
+//! Pieces of work that workers take in turn, each in a thread of its own.
+#![tactic(auto)]
+
+mod share;
+mod turns;
+
+pub use turns::{Task, make_each};
