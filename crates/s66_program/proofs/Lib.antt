@@ -5,3 +5,4 @@ pub mod Fronts
 pub mod KeptInput
 pub mod RefusedInput
 pub mod SearchAnswers
+pub mod AtATime

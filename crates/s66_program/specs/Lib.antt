@@ -5,3 +5,4 @@ pub mod Output
 pub mod Run
 pub mod Program
 pub mod Examples
+pub mod AtATime

@@ -11,6 +11,7 @@ ghost use Rattle.s66_text.specs.Answers.{problem_of};
 ghost use Rattle.s66_program.specs.Output.{IsSearchWithin};
 ghost use Rattle.s66_program.specs.Stored.{IsFit, IsFor, IsShownBy};
 
+use crate::alone::run_alone;
 use crate::documents::{Shows, document_by, document_of, is_accepted};
 use s66_cert::Document;
 use s66_command::Strategy;
@@ -30,7 +31,7 @@ use std::thread::Threads;
 const SHORT_LIMIT: usize = 24;
 
 /// An answer that facts show, by a document which the checker accepts.
-#[derive(Debug, Drop)]
+#[derive(Drop)]
 pub struct ByFacts {
     order: Order,
     document: Document,
@@ -137,7 +138,7 @@ impl Found {
 }
 
 /// An order, what it takes and what the source order takes, in minor cycles, and how often orders were split to find it.
-#[derive(Debug, Drop)]
+#[derive(Drop)]
 struct Candidate {
     order: Order,
     time: u32,
@@ -176,9 +177,9 @@ fn shown_by(
     }))
 }
 
-/// A search of the block's orders.
-fn search<R: AllocGlobal + Threads + Wait + Sync>(
-    rt: &R,
+/// A search of the block's orders by the calling thread.
+fn search(
+    alloc: Global,
     block: &Block,
     profile: &Profile,
     strategy: Strategy,
@@ -187,7 +188,7 @@ fn search<R: AllocGlobal + Threads + Wait + Sync>(
     requires { IsSearchWithin strategy.search.workers strategy.search.nodes }
     ensures { IfOk result (λ answer. IsFor strategy profile.now block.now (Searched answer)) }
 {
-    run_from(rt, block, profile, strategy.search, first, &Free)
+    run_alone(alloc, block, profile, strategy.search, first)
 }
 
 /// An answer with an order that is nearer to the source and takes as long, if one is found.
@@ -205,8 +206,8 @@ fn nearest(block: &Block, answer: Answer) -> Answer
 }
 
 /// What a search of the block's orders finds.
-fn found_by_search<R: AllocGlobal + Threads + Wait + Sync>(
-    rt: &R,
+fn found_by_search(
+    alloc: Global,
     block: &Block,
     profile: &Profile,
     strategy: Strategy,
@@ -215,7 +216,7 @@ fn found_by_search<R: AllocGlobal + Threads + Wait + Sync>(
     requires { IsSearchWithin strategy.search.workers strategy.search.nodes }
     ensures { IfOk result (IsFor strategy profile.now block.now) }
 {
-    let answer = search(rt, block, profile, strategy, first)?;
+    let answer = search(alloc, block, profile, strategy, first)?;
     Ok(Found::Searched(nearest(block, answer)))
 }
 
@@ -234,8 +235,8 @@ fn nearest_order(block: &Block, best: Timed, source: u32) -> Timed
 }
 
 /// A search from the best order so far, and what is shown by facts of what it finds, if that is more.
-fn search_on<R: AllocGlobal + Threads + Wait + Sync>(
-    rt: &R,
+fn search_on(
+    alloc: Global,
     block: &Block,
     profile: &Profile,
     strategy: Strategy,
@@ -247,7 +248,7 @@ fn search_on<R: AllocGlobal + Threads + Wait + Sync>(
     requires fit { IsFit shows }
     ensures { IfOk result (IsFor strategy profile.now block.now) }
 {
-    let found = search(rt, block, profile, strategy, Some(best))?;
+    let found = search(alloc, block, profile, strategy, Some(best))?;
     let answer = nearest(block, found);
     // so its time is one that a document may claim
     prove!(block.count() <= BLOCK_LIMIT);
@@ -260,15 +261,15 @@ fn search_on<R: AllocGlobal + Threads + Wait + Sync>(
         source: answer.source(),
         splits: answer.splits(),
     };
-    match shown_by(rt.alloc(), block, profile, candidate, shows)? {
+    match shown_by(alloc, block, profile, candidate, shows)? {
         Some(shown) => Ok(Found::Shown(shown)),
         None => Ok(Found::Searched(answer)),
     }
 }
 
 /// An answer by what is found before the search: by facts alone if these show that the order is best.
-fn answer_by<R: AllocGlobal + Threads + Wait + Sync>(
-    rt: &R,
+fn answer_by(
+    alloc: Global,
     block: &Block,
     profile: &Profile,
     strategy: Strategy,
@@ -289,7 +290,7 @@ fn answer_by<R: AllocGlobal + Threads + Wait + Sync>(
     } = looked;
     let shows = Shows { bound, lines, tree };
     if bound < best.total() {
-        return search_on(rt, block, profile, strategy, &best, shows);
+        return search_on(alloc, block, profile, strategy, &best, shows);
     }
     let near = nearest_order(block, best, source);
     let candidate = Candidate {
@@ -298,15 +299,15 @@ fn answer_by<R: AllocGlobal + Threads + Wait + Sync>(
         source,
         splits,
     };
-    match shown_by(rt.alloc(), block, profile, candidate, shows)? {
+    match shown_by(alloc, block, profile, candidate, shows)? {
         Some(shown) => Ok(Found::Shown(shown)),
-        None => found_by_search(rt, block, profile, strategy, Some(&near)),
+        None => found_by_search(alloc, block, profile, strategy, Some(&near)),
     }
 }
 
-/// What is found of a block with facts first.
-fn deep_answer<R: AllocGlobal + Threads + Wait + Sync>(
-    rt: &R,
+/// What is found of a block with facts first, in a long one, by the calling thread alone.
+fn deep_answer(
+    alloc: Global,
     block: &Block,
     profile: &Profile,
     strategy: Strategy,
@@ -315,14 +316,38 @@ fn deep_answer<R: AllocGlobal + Threads + Wait + Sync>(
     requires deep { strategy.deep ≡ true }
     ensures { IfOk result (IsFor strategy profile.now block.now) }
 {
-    match look_at(rt.alloc(), block, profile, strategy.search.nodes)? {
-        Some(looked) => answer_by(rt, block, profile, strategy, looked),
-        None => found_by_search(rt, block, profile, strategy, None),
+    match look_at(alloc, block, profile, strategy.search.nodes)? {
+        Some(looked) => answer_by(alloc, block, profile, strategy, looked),
+        None => found_by_search(alloc, block, profile, strategy, None),
     }
 }
 
-/// What is answered for a block under a profile: what a search of its orders finds, or with facts first, if these show more. In a short
-/// block facts are looked for only if a search doesn't find the best order, since most are searched sooner than that.
+/// What is answered for a block under a profile with facts, by the calling thread alone: in a short block facts are looked for only if
+/// a search doesn't find the best order, since most are searched sooner than that.
+///
+/// `Err` is out of memory.
+pub fn answer_alone(
+    alloc: Global,
+    block: &Block,
+    profile: &Profile,
+    strategy: Strategy,
+) -> Result<Found, AllocError>
+    requires search { IsSearchWithin strategy.search.workers strategy.search.nodes }
+    requires deep { strategy.deep ≡ true }
+    ensures { IfOk result (IsFor strategy profile.now block.now) }
+{
+    if SHORT_LIMIT < block.count() {
+        return deep_answer(alloc, block, profile, strategy);
+    }
+    let answer = search(alloc, block, profile, strategy, None)?;
+    if !answer.is_best() {
+        return deep_answer(alloc, block, profile, strategy);
+    }
+    Ok(Found::Searched(nearest(block, answer)))
+}
+
+/// What is answered for a block under a profile: with facts by `answer_alone`, and else what a search of its orders by all workers
+/// finds.
 ///
 /// `Err` is out of memory.
 pub fn answer_to<R: AllocGlobal + Threads + Wait + Sync>(
@@ -334,12 +359,9 @@ pub fn answer_to<R: AllocGlobal + Threads + Wait + Sync>(
     requires { IsSearchWithin strategy.search.workers strategy.search.nodes }
     ensures { IfOk result (IsFor strategy profile.now block.now) }
 {
-    if strategy.deep && SHORT_LIMIT < block.count() {
-        return deep_answer(rt, block, profile, strategy);
+    if strategy.deep {
+        return answer_alone(rt.alloc(), block, profile, strategy);
     }
-    let answer = search(rt, block, profile, strategy, None)?;
-    if strategy.deep && !answer.is_best() {
-        return deep_answer(rt, block, profile, strategy);
-    }
+    let answer = run_from(rt, block, profile, strategy.search, None, &Free)?;
     Ok(Found::Searched(nearest(block, answer)))
 }

@@ -61,7 +61,7 @@ pub fn document_of(
 }
 
 /// What fact lines and a tree are to show: that no order takes less than a bound.
-#[derive(Debug, Drop)]
+#[derive(Drop)]
 pub struct Shows {
     /// In minor cycles.
     pub bound: u32,

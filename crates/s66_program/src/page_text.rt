@@ -17,7 +17,7 @@ use std::sync::Wait;
 use std::thread::Threads;
 
 /// What searches find for all blocks, and how they ended.
-#[derive(Debug, Drop)]
+#[derive(Drop)]
 struct AllFound {
     found: Vec<Found>,
     status: Status,

@@ -13,7 +13,7 @@ use Rattle.s66_program.proofs.ByFacts.{IsCandidate, as-good, as-long, shown-clai
 use Rattle.s66_program.proofs.answers.answer_by.Goals as goal
 
 pub returns-in-Some : goal.returns-in-Some
-returns-in-Some g c =
+returns-in-Some c =
     let strategy = c.args.strategy in
     let p = c.args.profile.now in
     let block = c.args.block.now in

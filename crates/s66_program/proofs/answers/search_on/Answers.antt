@@ -18,7 +18,7 @@ use Rattle.s66_program.proofs.ByFacts.{IsCandidate, shown-claimed}
 use Rattle.s66_program.proofs.answers.search_on.Goals as goal
 
 pub shown_by-requires-clause-time : goal.shown_by-requires-clause-time
-shown_by-requires-clause-time g c =
+shown_by-requires-clause-time c =
     let found = c.nearest-answer.result in
     let a = answer_of found in
     let is = c.time.ensures.answer in
@@ -28,7 +28,7 @@ shown_by-requires-clause-time g c =
     omega (arith, c.time.ensures.value, is.time, total-le found.problem a.order, (legal-order found.problem.block a.order is.legal).1, few)
 
 pub returns-in-Some : goal.returns-in-Some
-returns-in-Some g c =
+returns-in-Some c =
     let strategy = c.args.strategy in
     let p = c.args.profile.now in
     let block = c.args.block.now in

@@ -2,7 +2,7 @@ use Rattle.std.proofs.Common.{sym, subst, List, ◌++◌}
 use Rattle.s66_source.specs.Printed.{Placed}
 use Rattle.s66_text.specs.PlacedAnswers.{AreAllPlaced}
 use Rattle.s66_text.proofs.PlacedAnswers.{goes-on, placed-all}
-use Rattle.s66_program.proofs.order_text.search_all.Goals as goal
+use Rattle.s66_program.proofs.order_text.search_in_turn.Goals as goal
 
 pub loop-block-init : goal.loop-block-init
 loop-block-init g c = λ rest are. subst (λ (ps : List Placed). AreAllPlaced c.args.strategy c.args.profile.now c.args.trace c.args.blocks.now (ps ++ rest)) (sym c.new-found.ensures.items) are
