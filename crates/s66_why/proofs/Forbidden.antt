@@ -118,7 +118,7 @@ first-held b s p t is pl positive late =
             | inl f ↦
                 let all : copies b p.row.kind ≤ tally (busy_at p.row.kind t) s =
                 elim (cases_le (copies b p.row.kind) (tally (busy_at p.row.kind t) s)) [ inl most ↦ most | inr free ↦ absurd (no (free, before)) ] in
-                here unit (sym (named ∙ or_else-second results unit zero)) (f.point, f.among, f.number, kept (Takes p.row.kind) f.point (refl, busy-before p.row.kind t f.point f.lets, all))
+                here unit (sym (named ∙ or_else-second results unit zero)) (f.point, f.among, f.number, kept (Takes p.row.kind) f.point (refl, busy-before p.row.kind t f.point f.lets, eqb-true f.point.free (t + 1) (and_parts (same_kind f.point.row.kind p.row.kind) (f.point.free == t + 1) f.lets).1, all))
             | inr n ↦
                 let fewer : tally (busy_at p.row.kind t) s ≤ tally (busy_at p.row.kind (t + 1)) s =
                 tally-le (busy_at p.row.kind t) (busy_at p.row.kind (t + 1)) s (λ q among. busy-on p.row.kind t q (n.none q among)) in
@@ -178,15 +178,13 @@ third-held : (b : Problem) (s : List Point) (p : Point) (w : Write) (t : ℕ) �
 third-held b s p w t is pl positive among late =
     let d : ResultAt = result_at s p.start w in
     let made : Among d p.results = subst (Among d) (sym pl.results) (among-map (result_at s p.start) w p.row.writes among) in
-    let reg : Among w.reg (map (λ (e : ResultAt). e.reg) p.results) = among-map (λ (e : ResultAt). e.reg) d p.results made in
     let end : d.time ≡ t + 1 = omega (arith, is, late) in
-    let time : Among (t + 1) (map (λ (e : ResultAt). e.time) p.results) = subst (λ k. Among k (map (λ (e : ResultAt). e.time) p.results)) end (among-map (λ (e : ResultAt). e.time) d p.results made) in
     let named : third_holder s w ≡ holder (Reads w.reg) (t + 1) s = ap (λ k. holder (Reads w.reg) k s) is in
     elim (found-or-none (Reads w.reg) (t + 1) s positive) [
       | inl f ↦
           let parts = and_parts (has_reg w.reg f.point.row.reads) (f.point.start + 1 == t + 1) f.lets in
           subst (IsHeldBy b s p Third (p.start + w.latency) (t + 1)) (sym named)
-          (f.point, f.among, f.number, ((reg, parts.0, omega (arith, eqb-true (f.point.start + 1) (t + 1) parts.1)), time))
+          (f.point, f.among, f.number, ((w, among, refl, refl), (d, made, refl, omega (arith, end)), parts.0, omega (arith, eqb-true (f.point.start + 1) (t + 1) parts.1)))
       | inr n ↦
           let passes = greatest-passes (λ (q : Point). has_reg w.reg q.row.reads) (λ (q : Point). q.start + 1) (t + 1) s (omega arith) (sym is) in
           absurd (true≢false (sym (and_from (has_reg w.reg passes.0.row.reads) (passes.0.start + 1 == t + 1) passes.2 (eq-eqb (passes.0.start + 1) (t + 1) passes.3)) ∙ n.none passes.0 passes.1))

@@ -12,7 +12,8 @@ use Rattle.s66_why.specs.declared.stretch.Stretch.{Stretch}
 -- FIRST ORDER: at t, q has yet to write a register that p writes, or it takes one of the units, none of which is free
 abbrev pub KeepsFromIssue : Problem → List Point → Point → ℕ → Cause → Point → Type 0
 KeepsFromIssue b s p t (Writes r) q = Among r (map (λ (w : Write). w.reg) p.row.writes) × (t < done_at q r)
-KeepsFromIssue b s p t (Takes kind) q = (kind ≡ p.row.kind) × (busy_at kind t q ≡ true) × (copies b kind ≤ tally (busy_at kind t) s)
+KeepsFromIssue b s p t (Takes kind) q =
+    (kind ≡ p.row.kind) × (busy_at kind t q ≡ true) × (q.free ≡ t + 1) × (copies b kind ≤ tally (busy_at kind t) s)
 KeepsFromIssue b s p t cause q = ⊥
 
 -- SECOND ORDER: at t, q has yet to write a register that p reads, whose latest writer it is, or a reference has yet to follow that of q
@@ -21,17 +22,20 @@ KeepsFromStart s p t (Writes r) q = Among r p.row.reads × (t < done_at q r) × 
 KeepsFromStart s p t (References memory) q = (memory ≡ p.row.memory) × (memory_pair q.row.memory memory ≡ true) × (t < q.start + 1)
 KeepsFromStart s p t cause q = ⊥
 
--- THIRD ORDER: at t, q has yet to read the register of a result
-abbrev pub KeepsResult : Point → ℕ → Cause → Point → Type 0
-KeepsResult p t (Reads r) q = Among r (map (λ (d : ResultAt). d.reg) p.results) × (has_reg r q.row.reads ≡ true) × (t < q.start + 1)
-KeepsResult p t cause q = ⊥
+-- THIRD ORDER: p makes a result by from, and q reads its register at t, after which it is done
+abbrev pub KeepsResult : Point → (from t : ℕ) → Cause → Point → Type 0
+KeepsResult p from t (Reads r) q =
+    ((w : Write) × Among w p.row.writes × (w.reg ≡ r) × (from ≡ p.start + w.latency))
+    × ((d : ResultAt) × Among d p.results × (d.reg ≡ r) × (d.time ≡ t + 1))
+    × (has_reg r q.row.reads ≡ true) × (q.start ≡ t)
+KeepsResult p from t cause q = ⊥
 
 -- the instruction p, after the points s, is kept back by q until the end of the stretch, a minor cycle before which a rule forbids it
 abbrev pub IsKeptBack : Problem → List Point → Point → Conflict → (from to : ℕ) → Cause → Point → Type 0
 IsKeptBack b s p First from to cause q =
     (from ≡ slot_of s p.row.parcels) × (to ≡ p.issue) × (CanIssue b s p.row (to - 1) → ⊥) × KeepsFromIssue b s p (to - 1) cause q
 IsKeptBack b s p Second from to cause q = (from ≡ p.issue) × (to ≡ p.start) × KeepsFromStart s p (to - 1) cause q
-IsKeptBack b s p Third from to cause q = KeepsResult p (to - 1) cause q × Among to (map (λ (d : ResultAt). d.time) p.results)
+IsKeptBack b s p Third from to cause q = KeepsResult p from (to - 1) cause q
 
 -- the stretch is such a one, and its holder an earlier instruction
 abbrev pub IsForbidden : Problem → List Point → Point → Stretch → Type 0
