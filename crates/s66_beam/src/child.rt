@@ -2,7 +2,7 @@ use crate::merit::Merit;
 use s66_dep::Set;
 
 /// A beginning that goes on from one that is kept by a number.
-#[derive(Clone, Copy, Debug)]
+#[derive(Clone, Copy)]
 pub struct Child {
     pub merit: Merit,
     /// The set of its numbers.
@@ -13,7 +13,7 @@ pub struct Child {
 }
 
 /// The place of a child in the order of merit.
-#[derive(Clone, Copy, Debug, PartialEq, Eq, PartialOrd, Ord)]
+#[derive(Clone, Copy, PartialEq, Eq, PartialOrd, Ord)]
 pub struct Rank {
     pub merit: Merit,
     /// The index of the child.

@@ -10,7 +10,7 @@ use s66_time::{Mark, dominates_clamped};
 use std::alloc::{AllocError, Global};
 
 /// A beginning that is kept.
-#[derive(Debug, Drop)]
+#[derive(Drop)]
 pub struct Kept {
     pub numbers: ArrayVec<u8, BLOCK_LIMIT>,
     placed: Set,
@@ -18,7 +18,7 @@ pub struct Kept {
 }
 
 /// What a beginning of some numbers is compared by with another of the same.
-#[derive(Clone, Copy, Debug)]
+#[derive(Clone, Copy)]
 struct Seen {
     placed: Set,
     mark: Mark,

@@ -6,7 +6,7 @@ use s66_time::Clock;
 const LATE_SHARE: u32 = 32;
 
 /// How promising a beginning is: less is better, and what comes first decides first.
-#[derive(Clone, Copy, Debug, PartialEq, Eq, PartialOrd, Ord)]
+#[derive(Clone, Copy, PartialEq, Eq, PartialOrd, Ord)]
 pub struct Merit {
     /// In minor cycles; by tails that are right, no completion takes less.
     pub floor: u32,

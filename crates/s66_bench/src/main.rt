@@ -21,7 +21,7 @@ use std::{env, io};
 use tree::{Counts, grow};
 
 /// What is run, and how often.
-#[derive(Clone, Copy, Debug)]
+#[derive(Clone, Copy)]
 enum Mode {
     /// A new clock, onto which the block is pushed in source order, or its first number alone, as often as the count says.
     Push { is_whole: bool, rounds: u32 },

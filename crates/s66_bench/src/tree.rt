@@ -4,7 +4,7 @@ use s66_node::{Priority, Walk, schedule_rest};
 use std::alloc::{AllocError, Global};
 
 /// How many beginnings a tree splits, how many pushes that takes, and the least total that it finds.
-#[derive(Clone, Copy, Debug, Default)]
+#[derive(Clone, Copy, Default)]
 pub struct Counts {
     pub splits: u32,
     pub pushes: usize,

@@ -15,7 +15,7 @@ use s66_time::Clock;
 use std::marker::Model;
 
 /// What the lower bounds of all beginnings of a block have in common, worked out once.
-#[derive(Debug, Drop)]
+#[derive(Drop)]
 pub struct Bounds<'a> {
     block: &'a Block<'a>,
     profile: Profile,

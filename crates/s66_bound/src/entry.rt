@@ -14,7 +14,7 @@ use s66_isa::{
 use s66_line::Block;
 
 /// What the bounds know of an instruction under a profile, worked out once. Times are in minor cycles.
-#[derive(Debug, Drop)]
+#[derive(Drop)]
 pub struct Entry {
     pub kind: Kind,
     pub parcels: u32,

@@ -2,7 +2,7 @@ use arrayvec::ArrayVec;
 use s66_isa::{BLOCK_LIMIT, Kind};
 
 /// A lower bound of the total of every legal order that begins with a prefix. Values are in minor cycles.
-#[derive(Debug, Drop)]
+#[derive(Drop)]
 pub enum Leaf {
     /// The prefix is a whole order: its total.
     Whole {
@@ -42,7 +42,7 @@ impl Leaf {
 }
 
 /// A greatest chain: instructions that wait for one another, by rising number, and its value in minor cycles.
-#[derive(Debug, Drop)]
+#[derive(Drop)]
 pub struct ChainLeaf {
     pub numbers: ArrayVec<u8, BLOCK_LIMIT>,
     pub value: u32,

@@ -23,7 +23,7 @@ use s66_isa::{
 };
 
 /// What bounds look up of the numbers of a block; the word of n is at place n - 1. Times are in minor cycles.
-#[derive(Debug, Drop)]
+#[derive(Drop)]
 pub struct Tables {
     /// All numbers of the block.
     pub all: Set,

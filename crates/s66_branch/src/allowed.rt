@@ -21,7 +21,7 @@ const _: () = prove!(WORD_COUNT == u64::BITS as usize);
 /// How late the words of another prefix with the same numbers may be for it to dominate one. A word may be as late as that of this
 /// prefix, or as the soonest moment at which an instruction that remains looks at it. That moment is worked out once a later word comes;
 /// until then the next slot stands for it, which is no later.
-#[derive(Clone, Copy, Debug)]
+#[derive(Clone, Copy)]
 pub struct Allowed {
     words: [u16; WORD_COUNT],
     /// The bit of a place is set if the soonest look at its word is worked out.

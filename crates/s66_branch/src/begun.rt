@@ -4,7 +4,7 @@ use arrayvec::ArrayVec;
 use s66_isa::BLOCK_LIMIT;
 
 /// A use of a unit by an instruction that remains, in minor cycles.
-#[derive(Clone, Copy, Debug, Default)]
+#[derive(Clone, Copy, Default)]
 pub struct Begun {
     pub number: u8,
     /// When it begins if the instruction comes next.
@@ -16,14 +16,14 @@ pub struct Begun {
 }
 
 /// Some of the uses that begin: among so many first ones those that begin at a minor cycle or later.
-#[derive(Clone, Copy, Debug)]
+#[derive(Clone, Copy)]
 pub struct Chosen {
     pub after: u32,
     count: usize,
 }
 
 /// Some uses of one kind of unit.
-#[derive(Clone, Copy, Debug)]
+#[derive(Clone, Copy)]
 struct Work {
     count: u32,
     /// How long they are together, and the least of them.

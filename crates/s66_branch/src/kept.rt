@@ -25,7 +25,7 @@ const LOOK_LIMIT: usize = 64;
 const KEPT_LIMIT: usize = 262_144;
 
 /// What is compared of two prefixes before their words.
-#[derive(Clone, Copy, Debug)]
+#[derive(Clone, Copy)]
 pub struct Key {
     /// The set of its numbers.
     pub pushed: Set,
@@ -40,14 +40,14 @@ pub struct Key {
 }
 
 /// A prefix that is kept: its key, and the place of the next one in its list.
-#[derive(Clone, Copy, Debug)]
+#[derive(Clone, Copy)]
 struct Entry {
     key: Key,
     next: u32,
 }
 
 /// A prefix as it is looked for.
-#[derive(Clone, Copy, Debug)]
+#[derive(Clone, Copy)]
 pub struct Sought {
     pub key: Key,
     /// What each completion of it takes at least, in minor cycles.
@@ -58,7 +58,7 @@ pub struct Sought {
 /// Prefixes, each in the list of the hash of its set, some 170 bytes each, and some 380 more with its mark. At most 262,144 are kept.
 ///
 /// Nothing is promised of what is in which list: who looks for a set compares it with that of each entry.
-#[derive(Debug, Drop)]
+#[derive(Drop)]
 pub struct Kept {
     entries: Vec<Entry>,
     waits: Vec<Waits>,

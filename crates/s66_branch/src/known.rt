@@ -11,7 +11,7 @@ use s66_line::Block;
 use s66_time::rows_of;
 
 /// The instructions of a block under a profile, and which is known to stand before which.
-#[derive(Debug, Drop)]
+#[derive(Drop)]
 pub struct Known {
     rows: ArrayVec<Row, BLOCK_LIMIT>,
     /// All numbers of the block.

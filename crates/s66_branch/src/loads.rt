@@ -11,21 +11,21 @@ use s66_time::Clock;
 use std::alloc::{AllocError, Global};
 
 /// With what an instruction begins to use its unit.
-#[derive(Clone, Copy, Debug)]
+#[derive(Clone, Copy)]
 enum Begin {
     Issue,
     Start,
 }
 
 /// When an instruction issues and starts if it comes next, in minor cycles.
-#[derive(Clone, Copy, Debug, Default)]
+#[derive(Clone, Copy, Default)]
 struct Head {
     issue: u32,
     start: u32,
 }
 
 /// What an instruction needs of a unit, in minor cycles.
-#[derive(Clone, Copy, Debug)]
+#[derive(Clone, Copy)]
 struct Use {
     number: u8,
     /// For how long it has the unit.
@@ -35,7 +35,7 @@ struct Use {
 }
 
 /// The uses of one kind of unit, those first after which most is left.
-#[derive(Debug, Drop)]
+#[derive(Drop)]
 struct Uses {
     kind: Kind,
     copies: u32,
@@ -44,7 +44,7 @@ struct Uses {
 }
 
 /// A load that closes a prefix: these numbers of one kind remain and rise, and none of them uses its unit sooner if it comes next.
-#[derive(Debug, Drop)]
+#[derive(Drop)]
 pub struct Load {
     /// In minor cycles.
     pub after: u32,
@@ -52,7 +52,7 @@ pub struct Load {
 }
 
 /// What the instructions of a block need of units of each kind.
-#[derive(Debug, Drop)]
+#[derive(Drop)]
 pub struct Loads {
     uses: Vec<Uses>,
     /// Room for the heads of what remains of a kind, that of n at place n - 1.

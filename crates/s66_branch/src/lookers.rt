@@ -4,7 +4,7 @@ use s66_dep::Set;
 use s66_isa::{KIND_COUNT, Memory, REGISTER_COUNT, Row, kind_number};
 
 /// The numbers of a block by what they look at.
-#[derive(Debug, Drop)]
+#[derive(Drop)]
 pub struct Lookers {
     /// Those that write each register, by its index.
     pub writers: [Set; REGISTER_COUNT],

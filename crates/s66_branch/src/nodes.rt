@@ -8,7 +8,7 @@ use std::alloc::{AllocError, Global};
 pub const ROOT: u32 = 0;
 
 /// What became of a prefix.
-#[derive(Clone, Copy, Debug)]
+#[derive(Clone, Copy)]
 pub enum Fate {
     /// It is to be split, unless its floor turns out too great.
     Open,
@@ -23,7 +23,7 @@ pub enum Fate {
 }
 
 /// A prefix that a search has met: that of its parent, and one number more.
-#[derive(Clone, Copy, Debug)]
+#[derive(Clone, Copy)]
 pub struct Node {
     /// The index of the parent; the root is its own.
     pub parent: u32,
@@ -36,7 +36,7 @@ pub struct Node {
 }
 
 /// The nodes, in sixteen bytes each. A parent stands before its children, and these stand side by side.
-#[derive(Debug, Drop)]
+#[derive(Drop)]
 pub struct Nodes {
     nodes: Vec<Node>,
 }

@@ -5,7 +5,7 @@ use std::collections::BinaryHeap;
 
 /// Which open prefix is split first: that of the greatest turn. It has the least floor, and of equal ones it is the longest, and of
 /// these the newest.
-#[derive(Clone, Copy, Debug, PartialEq, Eq, PartialOrd, Ord)]
+#[derive(Clone, Copy, PartialEq, Eq, PartialOrd, Ord)]
 struct Turn {
     /// The greatest number less the floor, in minor cycles.
     earliness: u32,
@@ -15,13 +15,13 @@ struct Turn {
 }
 
 /// The open prefixes, by their turns.
-#[derive(Debug, Drop)]
+#[derive(Drop)]
 pub struct Open {
     turns: BinaryHeap<Turn>,
 }
 
 /// A prefix that is to be split next, and its floor, in minor cycles.
-#[derive(Clone, Copy, Debug)]
+#[derive(Clone, Copy)]
 pub struct Next {
     pub node: u32,
     pub floor: u32,

@@ -7,7 +7,7 @@ use s66_isa::Row;
 use s66_time::Clock;
 
 /// When an instruction looks at a word.
-#[derive(Clone, Copy, Debug)]
+#[derive(Clone, Copy)]
 enum Look {
     /// As it issues.
     Issue,
@@ -36,7 +36,7 @@ pub fn operands(clock: &Clock<'_>, row: &Row) -> u32 {
 }
 
 /// The numbers that remain after a prefix, which has this clock.
-#[derive(Clone, Copy, Debug)]
+#[derive(Clone, Copy)]
 pub struct Remaining<'s, 'a> {
     known: &'s Known,
     pub clock: &'s Clock<'a>,

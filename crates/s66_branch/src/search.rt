@@ -27,7 +27,7 @@ use std::marker::Model;
 const LOOKS: u64 = BLOCK_LIMIT as u64 + 1;
 
 /// What a search of all legal orders came to.
-#[derive(Debug, Drop)]
+#[derive(Drop)]
 pub struct Branched {
     /// The fastest order that it met; the one that it was given if none is faster.
     pub best: Timed,
@@ -41,7 +41,7 @@ pub struct Branched {
 }
 
 /// How far a search goes.
-#[derive(Clone, Copy, Debug)]
+#[derive(Clone, Copy)]
 pub struct Limits {
     /// It seeks orders that take less than this, in minor cycles.
     pub below: u32,
@@ -52,14 +52,14 @@ pub struct Limits {
 }
 
 /// What a prefix is found to be: its fate, and if it is open its floor, in minor cycles.
-#[derive(Clone, Copy, Debug)]
+#[derive(Clone, Copy)]
 enum Found {
     Is(Fate),
     IsOpen(u32),
 }
 
 /// A search under way.
-#[derive(Debug, Drop)]
+#[derive(Drop)]
 struct Search<'a> {
     trail: Trail<'a>,
     known: Known,

@@ -13,7 +13,7 @@ use std::marker::Model;
 const TRAIL_LIMIT: usize = BLOCK_LIMIT + 1;
 
 /// A prefix, and the nodes below the root of those that it begins with, the last of which is its own.
-#[derive(Debug, Drop)]
+#[derive(Drop)]
 pub struct Trail<'a> {
     pub prefix: Prefix<'a>,
     nodes: ArrayVec<u32, TRAIL_LIMIT>,

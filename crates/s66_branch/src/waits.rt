@@ -23,7 +23,7 @@ pub const WORD_COUNT: usize = READERS_AT + REGISTER_COUNT;
 
 /// Minor cycles for which instructions wait: for each register when its last result is done, and one after the last start of its readers;
 /// one after the last start of a store and of any reference to memory; and of each kind from when on all units are free, and one is.
-#[derive(Clone, Copy, Debug)]
+#[derive(Clone, Copy)]
 pub struct Waits {
     pub words: [u16; WORD_COUNT],
 }

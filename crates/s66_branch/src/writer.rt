@@ -89,7 +89,7 @@ fn next_of(nodes: &Nodes, index: u32, fate: Fate) -> Option<u32> {
 }
 
 /// By what leaves close their prefixes.
-#[derive(Debug, Drop)]
+#[derive(Drop)]
 pub struct Leaves<'s> {
     pub known: &'s Known,
     pub loads: &'s mut Loads,
@@ -117,7 +117,7 @@ impl Leaves<'_> {
 }
 
 /// What a tree is written from.
-#[derive(Debug, Drop)]
+#[derive(Drop)]
 struct Writer<'n, 's> {
     nodes: &'n Nodes,
     /// The number of each node's line in the document.

@@ -18,7 +18,7 @@ use std::{env, io};
 pub(crate) type Answered = [usize; 4];
 
 /// A call of the libraries.
-#[derive(Clone, Copy, Debug)]
+#[derive(Clone, Copy)]
 enum Call {
     ReadSource,
     PrintSource,

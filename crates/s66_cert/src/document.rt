@@ -8,7 +8,7 @@ use s66_tree::{Tree, TreeLine, TreeLines};
 use std::marker::Model;
 
 /// What a document says.
-#[derive(Debug, Drop)]
+#[derive(Drop)]
 pub struct Claim {
     /// Which nodes its leaves may name. Without fact lines it is `NoneNamed` exactly when no leaf of the tree is dominated, with them
     /// `ClampedStanding`.
@@ -39,7 +39,7 @@ impl Model for Claim {
 
 /// A certificate: what it claims of a block under a profile, and a tree that shows it. It is one whole tree of at most
 /// `SPLIT_LIMIT` splits, and every number is in its range; whether the claim is true is for a checker to say.
-#[derive(Debug, Drop)]
+#[derive(Drop)]
 pub struct Document {
     rule: Rule,
     facts: Option<Vec<FactLine>>,

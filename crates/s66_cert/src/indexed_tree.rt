@@ -42,7 +42,7 @@ fn end_behind(ends: &[u32], count: usize, place: usize) -> usize
 }
 
 /// The lines of a tree in preorder, and where the tree of each ends, so that nodes are found by jumps.
-#[derive(Debug, Drop)]
+#[derive(Drop)]
 pub(crate) struct IndexedTree {
     lines: KeptLines,
     ends: Vec<u32>,

@@ -5,7 +5,7 @@ use std::alloc::{AllocError, Global};
 use std::marker::Model;
 
 /// The text of an instruction in what is read, with the instruction.
-#[derive(Clone, Copy, Debug)]
+#[derive(Clone, Copy)]
 pub(crate) struct ReadText<'a> {
     pub bytes: &'a [u8],
     pub instr: Instr,
@@ -13,7 +13,7 @@ pub(crate) struct ReadText<'a> {
 }
 
 /// The text of an instruction, with the instruction, so that nobody has to decode it again.
-#[derive(Debug, Drop)]
+#[derive(Drop)]
 pub struct InstructionText {
     bytes: Vec<u8>,
     instr: Instr,

@@ -6,7 +6,7 @@ use s66_moments::FactLine;
 use s66_tree::TreeLine;
 
 /// What a line of a document says.
-#[derive(Debug, Drop)]
+#[derive(Drop)]
 pub(crate) enum LineOf<'a> {
     /// Whether a document of the version may have fact lines, and its rule.
     Header { facts: bool, rule: Rule },

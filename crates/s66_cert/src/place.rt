@@ -1,5 +1,5 @@
 /// Which line of a document comes next.
-#[derive(Clone, Copy, Debug)]
+#[derive(Clone, Copy)]
 pub(crate) enum Place {
     AtHeader,
     AtProfile,

@@ -79,7 +79,7 @@ fn has_room(facts: &Option<Vec<FactLine>>) -> bool
 }
 
 /// What was made of the lines of documents so far.
-#[derive(Debug, Drop)]
+#[derive(Drop)]
 pub(crate) struct Reader {
     /// How many lines were read.
     pub lines: u64,

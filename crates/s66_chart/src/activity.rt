@@ -22,7 +22,7 @@ pub const IDLE: u8 = b'.';
 
 /// What a row shows, in minor cycles: when an instruction issues, when its unit starts and has worked, and when its last result is
 /// done.
-#[derive(Clone, Copy, Debug)]
+#[derive(Clone, Copy)]
 pub struct Activity {
     pub issue: usize,
     pub start: usize,

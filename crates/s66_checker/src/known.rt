@@ -97,7 +97,7 @@ fn is_point_late(bound: u32, point: &KeptPoint, writes: &[Write], tails: &Times)
 }
 
 /// What is known of a block after fact lines, with the longest path from each moment to the end.
-#[derive(Debug, Drop)]
+#[derive(Drop)]
 pub(crate) struct Known {
     facts: Facts,
     /// Those of number n are at n - 1.

@@ -1,7 +1,7 @@
 use crate::strategy::Strategy;
 
 /// What the program is asked for.
-#[derive(Clone, Copy, Debug, PartialEq, Eq)]
+#[derive(Clone, Copy, PartialEq, Eq)]
 pub enum Command<'a> {
     /// The times of each block of a source, as it was written.
     Time {

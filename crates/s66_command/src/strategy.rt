@@ -1,7 +1,7 @@
 use s66_model::Options;
 
 /// How the best order of a block is looked for.
-#[derive(Clone, Copy, Debug, PartialEq, Eq)]
+#[derive(Clone, Copy, PartialEq, Eq)]
 pub struct Strategy {
     /// How its orders are searched.
     pub search: Options,

@@ -26,21 +26,21 @@ const BEAMS_LIMIT: u32 = 4;
 const HALVES_LIMIT: u32 = 8;
 
 /// The best order, and the fact lines for orders that take less.
-#[derive(Debug, Drop)]
+#[derive(Drop)]
 pub(crate) struct Lined {
     pub(crate) best: Timed,
     pub(crate) below: Finder,
 }
 
 /// A bound of all orders, in minor cycles, and a finder whose lines show it by one leaf.
-#[derive(Debug, Drop)]
+#[derive(Drop)]
 pub(crate) struct Bound {
     pub(crate) value: u32,
     pub(crate) finder: Finder,
 }
 
 /// The best order, fact lines for orders that take no more than it or less, and what such lines show.
-#[derive(Debug, Drop)]
+#[derive(Drop)]
 pub(crate) struct Halved {
     pub(crate) best: Timed,
     pub(crate) below: Finder,

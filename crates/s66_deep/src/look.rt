@@ -21,7 +21,7 @@ use s66_time::Timed;
 use std::alloc::{AllocError, Global};
 
 /// What is found of a block before its orders are searched.
-#[derive(Debug, Drop)]
+#[derive(Drop)]
 pub struct Looked {
     /// The best order that was found.
     pub best: Timed,

@@ -42,7 +42,7 @@ fn faster_schedule(walk: &mut Walk<'_>, best: Timed, priority: Priority) -> Time
 }
 
 /// The fastest of the source order and two list schedules.
-#[derive(Debug, Drop)]
+#[derive(Drop)]
 pub(crate) struct Scheduled {
     pub(crate) best: Timed,
     /// What the source order takes, in minor cycles.

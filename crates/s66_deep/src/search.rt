@@ -25,7 +25,7 @@ const RAISES_LIMIT: u32 = 128;
 const HEAD_LINES: u32 = 6;
 
 /// What shows a bound, as a certificate has it: fact lines, a tree, and how often that splits.
-#[derive(Debug, Drop)]
+#[derive(Drop)]
 pub(crate) struct Written {
     pub(crate) bound: u32,
     pub(crate) lines: Vec<FactLine>,
@@ -34,21 +34,21 @@ pub(crate) struct Written {
 }
 
 /// What may be shown of all orders: by fact lines and one leaf, or by a tree.
-#[derive(Debug, Drop)]
+#[derive(Drop)]
 pub(crate) enum Shown {
     ByLeaf(Bound),
     ByTree(Written),
 }
 
 /// The best order, and what may be shown of all.
-#[derive(Debug, Drop)]
+#[derive(Drop)]
 pub(crate) struct Searched {
     pub(crate) best: Timed,
     pub(crate) shown: Shown,
 }
 
 /// What a search of so many splits found: the best order, and what its tree shows, if it has one.
-#[derive(Debug, Drop)]
+#[derive(Drop)]
 struct Tried {
     best: Timed,
     splits: u32,

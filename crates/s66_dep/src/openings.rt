@@ -15,7 +15,7 @@ use std::marker::Model;
 ///
 /// One depends on another directly if it depends on it, and nothing else on which it depends does. When the other is placed, only
 /// such can become ready by it: any other that depends on it still waits for what is between them.
-#[derive(Debug, Drop)]
+#[derive(Drop)]
 pub struct Openings {
     dependences: Dependences,
     /// For each number those that depend on it directly.

@@ -11,7 +11,7 @@ const _: () = prove!(BLOCK_LIMIT == 2 * u64::BITS as usize);
 
 /// A set of instruction numbers of a block, in two words.
 /// A block of up to 64 instructions has nothing in the high one, and costs little more than one word does.
-#[derive(Clone, Copy, Debug, Default, PartialEq, Eq)]
+#[derive(Clone, Copy, Default, PartialEq, Eq)]
 pub struct Set {
     /// Bit n - 1 is set if n is there, from 1 to 64.
     low: u64,

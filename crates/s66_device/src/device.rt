@@ -45,7 +45,7 @@ pub trait Sink {
 }
 
 /// A reader of std as a feed.
-#[derive(Debug, Drop)]
+#[derive(Drop)]
 pub struct OverRead<R> {
     inner: R,
     reads: u64,
@@ -101,7 +101,7 @@ impl<R: Read> Feed for OverRead<R> {
 }
 
 /// A writer of std as a sink: a write that takes no byte of some has failed.
-#[derive(Debug, Drop)]
+#[derive(Drop)]
 pub struct OverWrite<W> {
     inner: W,
     failed: u64,

@@ -15,7 +15,7 @@ use std::marker::Model;
 
 /// A block under a profile, and what is known of all its legal orders that take less than a time: which number stands before which, and
 /// how much later some moments come than others.
-#[derive(Debug, Drop)]
+#[derive(Drop)]
 pub struct Facts {
     graph: Graph,
     /// The longest paths from the origin; those of number n are at n - 1.

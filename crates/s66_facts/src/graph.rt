@@ -15,7 +15,7 @@ use s66_moments::{KnownArc, Moment};
 use std::marker::Model;
 
 /// A block under a profile, and what is known of it.
-#[derive(Debug, Drop)]
+#[derive(Drop)]
 pub(crate) struct Graph {
     block: ArrayVec<Instr, BLOCK_LIMIT>,
     profile: Profile,

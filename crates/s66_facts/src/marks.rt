@@ -8,7 +8,7 @@ use s66_isa::BLOCK_LIMIT;
 const _: () = prove!(BLOCK_LIMIT == u128::BITS as usize);
 
 /// Which numbers of a block are marked, in one word.
-#[derive(Clone, Copy, Debug, Default, Drop)]
+#[derive(Clone, Copy, Default, Drop)]
 pub struct Marks {
     /// Bit n - 1 is set if n is marked.
     bits: u128,

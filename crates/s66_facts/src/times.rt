@@ -12,7 +12,7 @@ use s66_isa::{BLOCK_LIMIT, Reg, Row, Write, has_register, is_same_register};
 use s66_moments::{Moment, Stage};
 
 /// How long the longest path is that leads to each moment of an instruction, or from there; `None` if none does.
-#[derive(Clone, Copy, Debug, Drop, PartialEq, Eq)]
+#[derive(Clone, Copy, Drop, PartialEq, Eq)]
 pub struct Times {
     pub issue: Option<u64>,
     pub start: Option<u64>,

@@ -20,7 +20,7 @@ use s66_paths::Tails;
 use std::alloc::{AllocError, Global};
 
 /// What is found of a block's legal orders.
-#[derive(Debug, Drop)]
+#[derive(Drop)]
 pub struct Finder {
     alloc: Global,
     ground: Ground,
@@ -73,7 +73,7 @@ fn tails_of(times: &Times) -> Tails {
 }
 
 /// A load line as it was found, and the numbers of a kind from which its own are.
-#[derive(Clone, Copy, Debug)]
+#[derive(Clone, Copy)]
 struct Found {
     best: Best,
     kind: Kind,

@@ -6,7 +6,7 @@ use s66_isa::{BLOCK_LIMIT, Row};
 use s66_network::{Spans, at_issue, at_start};
 
 /// What may be said of a load: its instructions begin so late, and so much is left after them; the wait follows.
-#[derive(Clone, Copy, Debug, Default)]
+#[derive(Clone, Copy)]
 pub struct Best {
     pub after: u32,
     pub left: i64,
@@ -14,7 +14,7 @@ pub struct Best {
 }
 
 /// How an instruction may use its unit between two places.
-#[derive(Clone, Copy, Debug)]
+#[derive(Clone, Copy)]
 pub struct Way {
     pub number: u8,
     /// How long it has its unit.
@@ -26,7 +26,7 @@ pub struct Way {
 }
 
 /// Instructions that need units of a kind between two places.
-#[derive(Clone, Copy, Debug)]
+#[derive(Clone, Copy)]
 pub struct Load<'a> {
     pub rows: &'a [Row],
     pub spans: &'a Spans,
@@ -38,7 +38,7 @@ pub struct Load<'a> {
 }
 
 /// How long some instructions have units of one kind.
-#[derive(Clone, Copy, Debug, Default)]
+#[derive(Clone, Copy, Default)]
 pub struct Amounts {
     count: u32,
     sum: u32,

@@ -6,7 +6,7 @@ use s66_moments::FactLine;
 use std::alloc::{AllocError, Global};
 
 /// Whether a bound needs some of a part's lines.
-#[derive(Clone, Copy, Debug)]
+#[derive(Clone, Copy)]
 enum Need {
     /// That has to be tried.
     Untried,
@@ -16,7 +16,7 @@ enum Need {
 }
 
 /// Lines next to each other, of which it isn't decided yet whether they are needed.
-#[derive(Debug, Drop)]
+#[derive(Drop)]
 struct Part<'a> {
     /// What is known before them.
     before: Sketch<'a>,
@@ -27,7 +27,7 @@ struct Part<'a> {
 }
 
 /// Lines that are dropped, part by part from the last one, if a bound doesn't need them.
-#[derive(Debug, Drop)]
+#[derive(Drop)]
 struct Dropping<'a> {
     alloc: Global,
     lines: &'a [FactLine],

@@ -5,14 +5,14 @@ use s66_isa::{BLOCK_LIMIT, is_same_kind};
 use s66_network::{Ground, Known, Network, Paths, free, issue, set_of, time_at, turned};
 
 /// The numbers that have to stand after each, and before each; what is of n is at n - 1.
-#[derive(Debug, Drop)]
+#[derive(Drop)]
 pub struct Forced {
     after: [Set; BLOCK_LIMIT],
     before: [Set; BLOCK_LIMIT],
 }
 
 /// What pairs are forced by.
-#[derive(Debug, Drop)]
+#[derive(Drop)]
 struct Looks<'a> {
     ground: &'a Ground,
     known: &'a Known,

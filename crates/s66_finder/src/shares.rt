@@ -6,7 +6,7 @@ use s66_network::{at_issue, at_start};
 use std::alloc::{AllocError, Global};
 
 /// What an instruction may add to a load.
-#[derive(Clone, Copy, Debug)]
+#[derive(Clone, Copy)]
 struct Share {
     /// How long it has its unit.
     amount: u32,
@@ -57,7 +57,7 @@ fn pass_after(shares: &[Share], copies: u32, longest: u32, after: u32, wait: u32
 }
 
 /// What the instructions of a load may add. The room is kept from one load to the next.
-#[derive(Debug, Drop)]
+#[derive(Drop)]
 pub struct Shares {
     shares: Vec<Share>,
 }

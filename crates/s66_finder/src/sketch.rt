@@ -8,7 +8,7 @@ use s66_network::{Ground, Known, Network, Paths, Times, issue, node_of, start, t
 use std::alloc::{AllocError, Global};
 
 /// What is known of a block after some lines, as `Facts` knows it but by few arcs. Nothing is promised of it.
-#[derive(Debug, Drop)]
+#[derive(Drop)]
 pub struct Sketch<'a> {
     alloc: Global,
     ground: &'a Ground,
@@ -19,7 +19,7 @@ pub struct Sketch<'a> {
 }
 
 /// The use of units by the instructions of a load line, which all have to be over in a time.
-#[derive(Debug, Drop)]
+#[derive(Drop)]
 struct Uses<'a> {
     load: &'a LoadLine,
     /// How long the units have work.

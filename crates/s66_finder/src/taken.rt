@@ -10,7 +10,7 @@ use s66_moments::FactLine;
 use s66_network::Ground;
 
 /// What is known, and how many lines were taken, of which some are load lines.
-#[derive(Debug, Drop)]
+#[derive(Drop)]
 pub struct Taken {
     facts: Facts,
     lines: usize,

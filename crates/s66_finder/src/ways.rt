@@ -37,7 +37,7 @@ fn best_after(ways: &[Way], copies: u32, longest: u32, after: u32, best: Best) -
 }
 
 /// The ways of a load. The room is kept from one load to the next.
-#[derive(Debug, Drop)]
+#[derive(Drop)]
 pub struct Ways {
     shares: Shares,
     ways: Vec<Way>,

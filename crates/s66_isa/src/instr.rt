@@ -12,7 +12,7 @@ use arrayvec::ArrayVec;
 use std::marker::Model;
 
 /// A kind of functional unit. The tenth unit of the machine, Branch, is not used.
-#[derive(Clone, Copy, Debug, PartialEq, Eq)]
+#[derive(Clone, Copy)]
 pub enum Kind {
     Boolean,
     Shift,
@@ -38,7 +38,7 @@ pub const KINDS: [Kind; KIND_COUNT] = [
 ];
 
 /// How an instruction references memory.
-#[derive(Clone, Copy, Debug, PartialEq, Eq)]
+#[derive(Clone, Copy)]
 pub enum Memory {
     None,
     Load,
@@ -46,7 +46,7 @@ pub enum Memory {
 }
 
 /// Which registers the operand of an operation names, by the digits i, j and k of the instruction.
-#[derive(Clone, Copy, Debug)]
+#[derive(Clone, Copy)]
 pub enum Operands {
     Constant,
     Xi,
@@ -115,7 +115,7 @@ pub fn is_memory_conflict(a: Memory, b: Memory) -> bool
 /// What each operation reads, writes and uses is the table of instructions of the CDC 6400/6500/6600 Computer Systems Reference
 /// Manual, publication 60100000. The value of a constant is not kept, and a digit that the form lacks is 0 in what is read from a
 /// source, so there two instructions are equal if operation and registers agree.
-#[derive(Clone, Copy, Debug, PartialEq, Eq)]
+#[derive(Clone, Copy, PartialEq, Eq)]
 pub struct Instr {
     op: Op,
     i: u8,

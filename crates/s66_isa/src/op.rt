@@ -4,7 +4,7 @@ ghost use Rattle.s66_isa.specs.Table.{IsCode};
 use std::marker::Model;
 
 /// An operation, by its octal code: one of the 55 of the table, which are 0o10 to 0o77 but for 0o46.
-#[derive(Clone, Copy, Debug, PartialEq, Eq)]
+#[derive(Clone, Copy, PartialEq, Eq)]
 pub struct Op {
     code: u8,
 }

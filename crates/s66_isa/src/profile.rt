@@ -7,7 +7,7 @@ use crate::limits::{PROFILE_LENGTH, PROFILE_LIMIT};
 ///
 /// `normalise` is for 0o24 and 0o25, `population` for 0o47, `load` for the X result of a load; every other time is that
 /// of its kind.
-#[derive(Clone, Copy, Debug, PartialEq, Eq)]
+#[derive(Clone, Copy, PartialEq, Eq)]
 pub struct Profile {
     pub boolean: u32,
     pub shift: u32,

@@ -7,7 +7,7 @@ use std::marker::Model;
 pub const REGISTER_COUNT: usize = 24;
 
 /// A bank of eight registers.
-#[derive(Clone, Copy, Debug, Default, PartialEq, Eq)]
+#[derive(Clone, Copy, Default, PartialEq, Eq)]
 pub enum Bank {
     A,
     B,
@@ -16,7 +16,7 @@ pub enum Bank {
 }
 
 /// A register: its bank, and its digit 0 to 7. It is stored as its index, so that a look at a word of it works nothing out.
-#[derive(Clone, Copy, Debug, Default, PartialEq, Eq)]
+#[derive(Clone, Copy, Default, PartialEq, Eq)]
 pub struct Reg {
     /// 0 to 23: A0 to A7, then B0 to B7, then X0 to X7.
     index: u8,

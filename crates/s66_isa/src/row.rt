@@ -9,7 +9,7 @@ use arrayvec::ArrayVec;
 use std::marker::Model;
 
 /// All that timing under a profile needs of an instruction, as the table has it.
-#[derive(Debug, Drop)]
+#[derive(Drop)]
 pub struct Row {
     pub kind: Kind,
     /// 1 or 2.

@@ -8,7 +8,7 @@ use s66_node::State;
 /// What a ledger's history has of one event, with its reply. Workers count from 1, nodes from 0; times are in minor cycles.
 ///
 /// Some entries have bytes of the history besides, and say how many.
-#[derive(Clone, Copy, Debug, PartialEq, Eq)]
+#[derive(Clone, Copy, PartialEq, Eq)]
 pub enum Entry {
     /// `splits` splits of the budget went to the worker.
     Grant {

@@ -4,7 +4,7 @@ use crate::entry::Entry;
 use std::alloc::Global;
 
 /// What a ledger stores of its events.
-#[derive(Debug, Drop)]
+#[derive(Drop)]
 pub struct History {
     /// An entry for each event, the oldest first.
     pub entries: Vec<Entry>,

@@ -11,7 +11,7 @@ use s66_time::Timed;
 use std::alloc::AllocError;
 
 /// An event of a ledger. Workers count from 1; nodes are named by their numbers, which count from 0.
-#[derive(Debug, Drop)]
+#[derive(Drop)]
 pub enum Event {
     /// The worker asks for splits of the budget.
     Grant { w: u8 },

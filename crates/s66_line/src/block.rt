@@ -10,7 +10,7 @@ use std::alloc::{AllocError, Global};
 use std::marker::Model;
 
 /// A straight-line block: 1 to `BLOCK_LIMIT` instructions of one run, numbered from 1 in source order; it borrows the source.
-#[derive(Debug, Drop)]
+#[derive(Drop)]
 pub struct Block<'a> {
     label: &'a [u8],
     entries: Vec<Entry<'a>>,

@@ -12,7 +12,7 @@ use crate::operand::{decode, operation_of};
 use s66_isa::Instr;
 
 /// What a line is.
-#[derive(Clone, Copy, Debug)]
+#[derive(Clone, Copy)]
 pub enum Class {
     Comment,
     /// A line that is copied as it stands, and ends a run.
@@ -68,7 +68,7 @@ fn class_by_operation(located: bool, bytes: &[u8]) -> Class
 }
 
 /// A line with its class; if that is Instruction or Pad, its label and its bytes from the operation on.
-#[derive(Clone, Copy, Debug)]
+#[derive(Clone, Copy)]
 pub struct Classified<'a> {
     pub class: Class,
     pub label: &'a [u8],

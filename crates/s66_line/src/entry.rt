@@ -3,7 +3,7 @@ use std::marker::Model;
 
 /// An instruction of a block, its line in the source, from 1, and the bytes of that line from its operation on, which
 /// spell the instruction.
-#[derive(Debug, Drop)]
+#[derive(Drop)]
 pub struct Entry<'a> {
     pub instr: Instr,
     pub line: u32,

@@ -3,7 +3,7 @@ ghost use Rattle.std.specs.List.{prefix_len};
 ghost use Rattle.s66_line.specs.Fields.{is_blank, upper_byte, body, skip_blanks, word, after_word, blanks, is_comment, from_location, location, from_operation, from_operand, label_bytes, continues};
 
 /// The fields of a line that is no comment; a field that is not there is empty.
-#[derive(Clone, Copy, Debug)]
+#[derive(Clone, Copy)]
 pub struct Fields<'a> {
     pub location: &'a [u8],
     /// The location, with the blank before it if it begins in column 2.

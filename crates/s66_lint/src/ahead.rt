@@ -1,5 +1,5 @@
 /// What comes after a line.
-#[derive(Clone, Copy, Debug, PartialEq, Eq)]
+#[derive(Clone, Copy)]
 pub struct Ahead {
     /// An instruction of the same run.
     pub run_goes_on: bool,

@@ -1,5 +1,5 @@
 /// What may be wrong with a line, in the order in which the findings of one line are listed.
-#[derive(Clone, Copy, Debug, PartialEq, Eq)]
+#[derive(Clone, Copy)]
 pub enum Finding {
     /// It is refused.
     BadOperand,

@@ -36,7 +36,7 @@ fn next_ahead(aheads: &mut Vec<Ahead>) -> Ahead
 }
 
 /// What is found in a source.
-#[derive(Debug, Drop)]
+#[derive(Drop)]
 pub struct Findings {
     /// A line for each line that is refused and for each that may not do what was meant.
     pub text: Vec<u8>,

@@ -5,7 +5,7 @@ ghost use Rattle.s66_lint.specs.Kept.{gap_after, no_gap, run_by};
 use s66_line::Class;
 
 /// What lines that aren't kept say of what comes after the line before them.
-#[derive(Clone, Copy, Debug, PartialEq, Eq)]
+#[derive(Clone, Copy)]
 pub struct Gap {
     /// Whether an instruction of the run that is open before them comes, if they decide it.
     pub run_goes_on: Option<bool>,

@@ -84,7 +84,7 @@ fn told_of(index: u32, line: &Seen) -> Option<Tells>
 }
 
 /// A line that is kept.
-#[derive(Debug, Drop)]
+#[derive(Drop)]
 pub struct Kept<'a> {
     number: u32,
     /// How many instructions of its run come before it.
@@ -163,7 +163,7 @@ impl<'a> Kept<'a> {
 }
 
 /// The lines that are kept of those so far.
-#[derive(Debug, Drop)]
+#[derive(Drop)]
 pub(crate) struct KeptLines<'a> {
     pub(crate) lines: Vec<Kept<'a>>,
     /// The lines after the last of them.

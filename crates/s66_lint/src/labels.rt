@@ -32,7 +32,7 @@ fn label_set(alloc: Global, labels: &[&[u8]]) -> Result<BTreeSet<Vec<u8>>, Alloc
 }
 
 /// The labels of code of a source, in upper case; they are made a set when one is first asked for.
-#[derive(Debug, Drop)]
+#[derive(Drop)]
 pub(crate) struct Labels<'a> {
     alloc: Global,
     labels: &'a [&'a [u8]],

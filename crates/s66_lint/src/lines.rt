@@ -52,7 +52,7 @@ fn push_label<'a>(
 }
 
 /// What is gathered of the lines of a source so far.
-#[derive(Debug, Drop)]
+#[derive(Drop)]
 pub(crate) struct Lines<'a> {
     pub(crate) kept: KeptLines<'a>,
     /// The labels of code, as they stand.

@@ -15,7 +15,7 @@ use s66_line::{Class, fields_of, is_comment_line, is_continuation, split_word};
 use std::alloc::{AllocError, Global};
 
 /// What is known of the lines from one on.
-#[derive(Clone, Copy, Debug, PartialEq, Eq)]
+#[derive(Clone, Copy)]
 pub struct Rest {
     /// An instruction of the run that is open before them comes.
     pub run_goes_on: bool,

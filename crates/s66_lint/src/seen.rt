@@ -2,7 +2,7 @@ use crate::sight::Sight;
 use std::marker::Model;
 
 /// A line as it is seen, without the carriage returns at its end.
-#[derive(Debug, Drop)]
+#[derive(Drop)]
 pub struct Seen<'a> {
     sight: Sight,
     body: &'a [u8],

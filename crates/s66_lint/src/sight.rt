@@ -4,7 +4,7 @@ ghost use Rattle.s66_lint.specs.Findings.{sight_of};
 use s66_line::{Class, LINE_BYTES_LIMIT, classify};
 
 /// How a line is seen.
-#[derive(Clone, Copy, Debug)]
+#[derive(Clone, Copy)]
 pub enum Sight {
     /// It is too long, and so it isn't read.
     TooLong,

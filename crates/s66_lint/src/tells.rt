@@ -7,7 +7,7 @@ use crate::operation::{begins_definition, counts_lines, ends_definition, is_slip
 use s66_line::{fields_of, operation_and_operand};
 
 /// What the operation and the operand of a body tell that is neither code nor a comment nor a continuation.
-#[derive(Clone, Copy, Debug, PartialEq, Eq)]
+#[derive(Clone, Copy)]
 pub struct Tells {
     /// It begins like an operation of the instruction table, and is none.
     pub is_slip: bool,

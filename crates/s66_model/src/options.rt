@@ -1,7 +1,7 @@
 use crate::rule::Rule;
 
 /// How a block's orders are searched.
-#[derive(Clone, Copy, Debug, PartialEq, Eq)]
+#[derive(Clone, Copy, PartialEq, Eq)]
 pub struct Options {
     /// How many workers search, 1 to `WORKERS_LIMIT`.
     pub workers: u8,

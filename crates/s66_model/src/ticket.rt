@@ -3,7 +3,7 @@ use s66_isa::BLOCK_LIMIT;
 use std::marker::Model;
 
 /// A node that a ledger handed out, with its prefix. It can't be copied; dropped, it leaves its node out.
-#[derive(Debug, Drop)]
+#[derive(Drop)]
 pub struct Ticket {
     node: u32,
     prefix: ArrayVec<u8, BLOCK_LIMIT>,

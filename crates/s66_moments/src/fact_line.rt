@@ -3,7 +3,7 @@ use arrayvec::ArrayVec;
 use s66_isa::BLOCK_LIMIT;
 
 /// A line of a certificate that gives a fact of all legal orders that take less than its bound.
-#[derive(Debug, Drop)]
+#[derive(Drop)]
 pub enum FactLine {
     /// The first number stands before the second.
     Pair(u8, u8),
@@ -13,7 +13,7 @@ pub enum FactLine {
 
 /// Instructions of one kind of unit begin their use of it at least `after` minor cycles after a moment, and have to be over before
 /// another. So this one comes later, by `wait` minor cycles at least.
-#[derive(Debug, Drop)]
+#[derive(Drop)]
 pub struct LoadLine {
     pub from: Moment,
     pub to: Moment,
@@ -24,7 +24,7 @@ pub struct LoadLine {
 }
 
 /// How much later one moment comes at least than another, in minor cycles.
-#[derive(Clone, Copy, Debug)]
+#[derive(Clone, Copy)]
 pub struct KnownArc {
     pub from: Moment,
     pub wait: u32,

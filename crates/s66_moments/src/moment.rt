@@ -2,7 +2,7 @@ use s66_isa::Reg;
 
 /// What happens to an instruction in its time: it issues to its unit, it starts with its operands, its result in a register is done,
 /// and its unit is free (Reference Manual, functional units and reservation control).
-#[derive(Clone, Copy, Debug, PartialEq, Eq)]
+#[derive(Clone, Copy)]
 pub enum Stage {
     Issue,
     Start,
@@ -11,7 +11,7 @@ pub enum Stage {
 }
 
 /// A moment of an order, in minor cycles from its origin.
-#[derive(Clone, Copy, Debug, PartialEq, Eq)]
+#[derive(Clone, Copy)]
 pub enum Moment {
     /// The origin, 0.
     Origin,

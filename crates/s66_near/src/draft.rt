@@ -12,7 +12,7 @@ use s66_node::{Walk, copy_of};
 const TRIES_LIMIT: u32 = 2_000;
 
 /// An order of a walk's block, and what it takes.
-#[derive(Debug, Drop)]
+#[derive(Drop)]
 pub(crate) struct Draft<'a> {
     /// By which others are timed.
     pub(crate) walk: Walk<'a>,
@@ -26,7 +26,7 @@ pub(crate) struct Draft<'a> {
 }
 
 /// What a list of numbers is.
-#[derive(Clone, Copy, Debug, PartialEq, Eq)]
+#[derive(Clone, Copy)]
 enum Tried {
     Illegal,
     OtherTime,

@@ -8,7 +8,7 @@ use s66_dep::Set;
 use s66_isa::{BLOCK_LIMIT, Instr, KIND_COUNT, KINDS, Kind, Profile, Row, kind_number};
 
 /// A block under a profile, its rows, and its units.
-#[derive(Debug, Drop)]
+#[derive(Drop)]
 pub struct Ground {
     block: ArrayVec<Instr, BLOCK_LIMIT>,
     profile: Profile,

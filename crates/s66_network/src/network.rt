@@ -11,7 +11,7 @@ use s66_moments::{FactLine, KnownArc, Moment, Stage};
 use std::alloc::{AllocError, Global};
 
 /// How much later one node comes at least than another, in minor cycles.
-#[derive(Clone, Copy, Debug)]
+#[derive(Clone, Copy)]
 struct Arc {
     from: usize,
     wait: u32,
@@ -19,13 +19,13 @@ struct Arc {
 }
 
 /// The arcs of a block by what is known: all that lead to a node stand before all that lead from there.
-#[derive(Debug, Drop)]
+#[derive(Drop)]
 pub struct Network {
     arcs: Vec<Arc>,
 }
 
 /// The longest paths from the origin to each node, and from each to the end, in minor cycles.
-#[derive(Clone, Copy, Debug)]
+#[derive(Clone, Copy)]
 pub struct Paths {
     pub heads: Times,
     pub tails: Times,

@@ -20,7 +20,7 @@ pub const TO_END: usize = 1;
 type Row = [Option<u32>; PLACE_COUNT];
 
 /// The longest paths from each place to each, in minor cycles.
-#[derive(Debug, Drop)]
+#[derive(Drop)]
 pub struct Spans {
     rows: Vec<[Option<u32>; PLACE_COUNT]>,
 }

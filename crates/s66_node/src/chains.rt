@@ -9,7 +9,7 @@ const FIRST_LISTS: usize = 64;
 /// Lists of the places of a table, each place in the list of a hash. A place that leaves its list is used again.
 ///
 /// Nothing is promised of what is in which list: who looks for something in one looks at what each place has.
-#[derive(Debug, Drop)]
+#[derive(Drop)]
 pub struct Chains {
     /// The first place of each list.
     firsts: Vec<u32>,

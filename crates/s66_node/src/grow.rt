@@ -25,7 +25,7 @@ const FIRST_NODES: usize = 64;
 
 /// A tree by its nodes in preorder, what its dominated nodes have besides, how many of its nodes are split, and the first of the
 /// least of its whole orders.
-#[derive(Debug, Drop)]
+#[derive(Drop)]
 pub(crate) struct Grown {
     pub nodes: Vec<Node>,
     pub dominances: Vec<Dominance>,
@@ -34,7 +34,7 @@ pub(crate) struct Grown {
 }
 
 /// What a prefix has that isn't split. A value is that of its floor, in minor cycles.
-#[derive(Debug, Drop)]
+#[derive(Drop)]
 pub(crate) enum Unsplit {
     /// Its floor is its leaf.
     Leaf { value: u32 },
@@ -61,7 +61,7 @@ impl Unsplit {
 }
 
 /// A node that is split, by its place, and the last numbers of its children that are still to come.
-#[derive(Clone, Copy, Debug, Default)]
+#[derive(Clone, Copy, Default)]
 pub(crate) struct OpenSplit {
     pub node: u32,
     pub left: Set,

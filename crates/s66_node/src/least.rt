@@ -16,7 +16,7 @@ pub trait Least {
 }
 
 /// A best time that doesn't change.
-#[derive(Clone, Copy, Debug, Drop, PartialEq, Eq)]
+#[derive(Clone, Copy, Drop, PartialEq, Eq)]
 pub struct Constant(pub u32);
 
 impl Least for Constant {

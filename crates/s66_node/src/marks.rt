@@ -30,7 +30,7 @@ const LIST_LIMIT: u32 = 64;
 const TABLE_LIMIT: usize = 65_536;
 
 /// A beginning of the block's legal orders that others may be compared with.
-#[derive(Debug, Drop)]
+#[derive(Drop)]
 pub struct Entry {
     /// The set of its numbers.
     pushed: Set,
@@ -42,7 +42,7 @@ pub struct Entry {
 ///
 /// At most 65,536 are kept in all, or the table's own limit if that is less; of those that are compared clamped, at most 64 of
 /// one set. If memory runs out, or a limit is reached, a mark isn't kept.
-#[derive(Debug, Drop)]
+#[derive(Drop)]
 pub struct Marks<'a> {
     block: &'a Block<'a>,
     profile: Profile,

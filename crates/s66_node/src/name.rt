@@ -25,7 +25,7 @@ impl Place {
 }
 
 /// A node that dominates a prefix.
-#[derive(Debug, Drop)]
+#[derive(Drop)]
 pub struct Name {
     /// Its numbers.
     pub numbers: ArrayVec<u8, BLOCK_LIMIT>,
@@ -51,7 +51,7 @@ impl Name {
 }
 
 /// What a dominated node of a piece has besides.
-#[derive(Debug, Drop)]
+#[derive(Drop)]
 pub struct Dominance {
     /// The value of its floor, in minor cycles.
     pub floor: u32,

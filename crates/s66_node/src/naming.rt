@@ -50,7 +50,7 @@ pub trait Naming {
 }
 
 /// No node is known.
-#[derive(Debug, Drop)]
+#[derive(Drop)]
 pub(crate) struct NoNames;
 
 impl Naming for NoNames {

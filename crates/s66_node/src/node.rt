@@ -32,7 +32,7 @@ impl State {
 ///
 /// A piece's nodes are in preorder, from its root on, and each names its parent by the place among them. Once they are in a ledger,
 /// they name it by its number there.
-#[derive(Clone, Copy, Debug)]
+#[derive(Clone, Copy)]
 pub struct Node {
     /// 0 of the first node.
     pub parent: u32,

@@ -10,7 +10,7 @@ use std::boxed::Box;
 use std::marker::Model;
 
 /// What a piece is a tree over: a prefix of the legal orders of a block, timed under a profile.
-#[derive(Debug, Drop)]
+#[derive(Drop)]
 pub(crate) struct Origin {
     pub source: Order,
     pub profile: Profile,
@@ -19,7 +19,7 @@ pub(crate) struct Origin {
 
 /// A tree over a prefix of a block's legal orders: splits with exactly the ready numbers, leaves that are floors, dominated leaves
 /// with names as its rule asks, and a frontier.
-#[derive(Debug, Drop)]
+#[derive(Drop)]
 pub struct Piece {
     pub(crate) rule: Rule,
     // boxed, so that a move of a piece is cheap

@@ -11,7 +11,7 @@ use s66_isa::{BLOCK_LIMIT, Reg};
 use s66_time::{Timed, time_of};
 
 /// What comes first in a list schedule.
-#[derive(Clone, Copy, Debug, PartialEq, Eq)]
+#[derive(Clone, Copy)]
 pub enum Priority {
     /// What would start first if it waited for no memory.
     Start,
@@ -20,7 +20,7 @@ pub enum Priority {
 }
 
 /// A number that is ready, and what decides whether it comes next: when it would come, and its longest tail, in minor cycles.
-#[derive(Clone, Copy, Debug)]
+#[derive(Clone, Copy)]
 struct Candidate {
     number: u8,
     time: u32,

@@ -24,7 +24,7 @@ pub(crate) fn common_length(left: &[u8], right: &[u8]) -> usize
 }
 
 /// A front of a walk's prefix, with what is ready after it.
-#[derive(Clone, Copy, Debug)]
+#[derive(Clone, Copy)]
 struct ReadyFront {
     /// How many numbers it has.
     count: usize,
@@ -36,7 +36,7 @@ struct ReadyFront {
 
 /// A walk over the beginnings of a block's legal orders. It is at a prefix, which grows and shrinks by a number at its end, and
 /// it has the prefix's floor and what is ready after it.
-#[derive(Debug, Drop)]
+#[derive(Drop)]
 pub struct Walk<'a> {
     pub(crate) clock: Clock<'a>,
     bounds: Bounds<'a>,

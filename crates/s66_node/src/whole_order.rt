@@ -8,7 +8,7 @@ use arrayvec::ArrayVec;
 use s66_isa::BLOCK_LIMIT;
 
 /// A whole order and its total in minor cycles.
-#[derive(Debug, Drop)]
+#[derive(Drop)]
 pub(crate) struct WholeOrder {
     pub numbers: ArrayVec<u8, BLOCK_LIMIT>,
     pub total: u32,

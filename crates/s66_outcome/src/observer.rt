@@ -8,7 +8,7 @@ pub trait Observer {
 }
 
 /// The observer that says nothing.
-#[derive(Clone, Copy, Debug, PartialEq, Eq)]
+#[derive(Clone, Copy)]
 pub struct Silent;
 
 impl Observer for Silent {

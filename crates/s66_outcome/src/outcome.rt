@@ -23,7 +23,7 @@ pub enum Status {
 }
 
 /// What a command writes, and how it ends.
-#[derive(Debug, Drop)]
+#[derive(Drop)]
 pub struct Output {
     pub text: Vec<u8>,
     pub status: Status,

@@ -2,7 +2,7 @@ use s66_dep::Order;
 use std::marker::Model;
 
 /// What was found for a block: an order, and what every order takes at least, in minor cycles of 100 ns.
-#[derive(Debug, Drop)]
+#[derive(Drop)]
 pub struct Found {
     pub order: Order,
     pub bound: u32,

@@ -13,7 +13,7 @@ use s66_time::Timer;
 use std::alloc::AllocError;
 
 /// What a page has of each block: its row in the list of blocks, or its orders.
-#[derive(Clone, Copy, Debug)]
+#[derive(Clone, Copy)]
 enum Part {
     Row,
     Orders,

@@ -58,7 +58,7 @@ fn push_row_head(
 }
 
 /// How a stretch is shown: by a bar, or in words.
-#[derive(Clone, Copy, Debug)]
+#[derive(Clone, Copy)]
 enum Shown {
     Bar,
     Words,

@@ -1,5 +1,5 @@
 /// What the list of blocks shows of a block; times are in minor cycles of 100 ns.
-#[derive(Clone, Copy, Debug)]
+#[derive(Clone, Copy)]
 pub struct Summary {
     /// The number of the block, from 1.
     pub number: usize,

@@ -10,7 +10,7 @@ use s66_why::PlacedInstr;
 
 /// An instruction of a timed order as it is drawn: its number, the kind of its unit, and in minor cycles when it issues and starts,
 /// how long its last result takes, when that is done, when its unit is free, and how long that works.
-#[derive(Clone, Copy, Debug, Drop)]
+#[derive(Clone, Copy, Drop)]
 pub struct Work {
     pub number: u8,
     pub kind: Kind,

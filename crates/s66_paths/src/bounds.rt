@@ -10,7 +10,7 @@ use s66_time::{Clock, rows_of};
 use std::marker::Model;
 
 /// What the greatest paths after all beginnings of a block have in common, worked out once from what follows each moment.
-#[derive(Debug, Drop)]
+#[derive(Drop)]
 pub struct PathBounds<'a> {
     block: &'a Block<'a>,
     profile: Profile,

@@ -6,7 +6,7 @@ ghost use Rattle.s66_paths.specs.Classes.{in_class, uses, is_first, is_second};
 use s66_isa::{Kind, Memory, Reg, Row, Write, has_register, is_same_kind, is_same_register};
 
 /// What an instruction does with a register.
-#[derive(Clone, Copy, Debug)]
+#[derive(Clone, Copy)]
 pub enum Role {
     Writes,
     Reads,
@@ -17,7 +17,7 @@ pub enum Role {
 }
 
 /// Instructions that wait for one word of a clock.
-#[derive(Clone, Copy, Debug)]
+#[derive(Clone, Copy)]
 pub enum Class {
     /// Those of two parcels, for their slot.
     Long,

@@ -1,7 +1,7 @@
 use s66_dep::Set;
 
 /// What remains after a beginning, by rank: a caller keeps it from push to push.
-#[derive(Clone, Copy, Debug)]
+#[derive(Clone, Copy)]
 pub struct Left {
     /// The ranks by what follows the issue.
     pub(crate) by_issue: Set,

@@ -20,7 +20,7 @@ use s66_dep::{Ranking, Set};
 use s66_isa::{BLOCK_LIMIT, KIND_COUNT, Kind, REGISTER_COUNT, Reg, Row};
 
 /// What the greatest paths of a block look up. Words are in minor cycles; that of n is at place n - 1.
-#[derive(Debug, Drop)]
+#[derive(Drop)]
 pub struct PathTables {
     /// All numbers of the block.
     pub all: Set,

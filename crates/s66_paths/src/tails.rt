@@ -6,7 +6,7 @@ use crate::limits::TAIL_LIMIT;
 use s66_isa::BLOCK_LIMIT;
 
 /// What follows the stages of an instruction: by how many minor cycles the end comes later at least than each.
-#[derive(Clone, Copy, Debug, Default)]
+#[derive(Clone, Copy, Default)]
 pub struct Tails {
     /// After it issues.
     pub issue: u32,
@@ -21,7 +21,7 @@ pub struct Tails {
 }
 
 /// What the words of a clock are waited for with: an issue, a start, and the two results.
-#[derive(Clone, Copy, Debug)]
+#[derive(Clone, Copy)]
 pub enum Part {
     Issue,
     Start,

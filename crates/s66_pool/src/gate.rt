@@ -8,7 +8,7 @@ pub trait Gate {
 }
 
 /// The gate that is always open.
-#[derive(Clone, Copy, Debug, PartialEq, Eq)]
+#[derive(Clone, Copy)]
 pub struct Free;
 
 impl Gate for Free {

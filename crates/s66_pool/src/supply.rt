@@ -6,7 +6,7 @@ use s66_ledger::{Ledger, Ticket};
 use std::alloc::AllocError;
 
 /// What a worker needs in a turn at the lock.
-#[derive(Clone, Copy, Debug, PartialEq, Eq)]
+#[derive(Clone, Copy)]
 pub struct Needs {
     /// Splits, since its allowance is spent.
     pub splits: bool,

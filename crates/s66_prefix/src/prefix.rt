@@ -22,7 +22,7 @@ fn common_length(left: &[u8], right: &[u8]) -> usize {
 }
 
 /// A beginning of a block's legal orders, to which a number is pushed and from which the last one is undone, with its bounds.
-#[derive(Debug, Drop)]
+#[derive(Drop)]
 pub struct Prefix<'a> {
     clock: Clock<'a>,
     paths: PathBounds<'a>,

@@ -15,7 +15,7 @@ use std::marker::Model;
 pub type Numbers = ArrayVec<u8, BLOCK_LIMIT>;
 
 /// An instruction with what its dependences rest on, worked out once.
-#[derive(Debug, Drop)]
+#[derive(Drop)]
 struct Effects {
     instr: Instr,
     reads: ArrayVec<Reg, 4>,

@@ -10,7 +10,7 @@ use std::marker::Model;
 ///
 /// Besides the points it stores the words that they leave, and those before each point. A push copies them and a pop takes them
 /// back whole, so that neither takes longer the more is placed.
-#[derive(Debug, Drop)]
+#[derive(Drop)]
 pub struct Past {
     /// The oldest first.
     points: ArrayVec<KeptPoint, BLOCK_LIMIT>,

@@ -9,7 +9,7 @@ use s66_isa::{Kind, Memory, Reg, Row, is_memory_conflict, is_same_kind, is_same_
 use std::marker::Model;
 
 /// An instruction at its place in an order: its number, its row, its parcel from 0, and its times in minor cycles.
-#[derive(Debug, Drop)]
+#[derive(Drop)]
 pub struct KeptPoint {
     pub number: u8,
     pub row: Row,

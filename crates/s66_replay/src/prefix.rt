@@ -14,7 +14,7 @@ use s66_model::Rule;
 use std::marker::Model;
 
 /// The beginning of an order of a block that a checker has reached, with the times of its instructions under its profile.
-#[derive(Debug, Drop)]
+#[derive(Drop)]
 pub struct Prefix {
     block: ArrayVec<Instr, BLOCK_LIMIT>,
     profile: Profile,

@@ -6,7 +6,7 @@ use s66_isa::Reg;
 use std::marker::Model;
 
 /// A result: its register, the minor cycle in which it is done, and whether the unit holds it.
-#[derive(Clone, Copy, Debug, Default, Drop)]
+#[derive(Clone, Copy, Default, Drop)]
 pub struct KeptResult {
     pub reg: Reg,
     pub time: u32,

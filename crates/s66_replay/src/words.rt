@@ -12,7 +12,7 @@ use crate::result::KeptResult;
 use s66_isa::{KIND_COUNT, Memory, REGISTER_COUNT, Reg, kind_number};
 
 /// A word for each register, by its index.
-#[derive(Clone, Copy, Debug, Drop)]
+#[derive(Clone, Copy, Drop)]
 pub struct RegisterWords {
     pub words: [u32; REGISTER_COUNT],
 }
@@ -65,7 +65,7 @@ impl RegisterWords {
 }
 
 /// When the units of a kind are free.
-#[derive(Clone, Copy, Debug, Drop)]
+#[derive(Clone, Copy, Drop)]
 pub struct FreeTimes {
     /// When all are.
     pub all: u32,
@@ -86,7 +86,7 @@ impl FreeTimes {
 }
 
 /// The words of what is placed.
-#[derive(Clone, Copy, Debug, Drop)]
+#[derive(Clone, Copy, Drop)]
 pub struct Words {
     /// When the last result in each register is done.
     pub done: RegisterWords,

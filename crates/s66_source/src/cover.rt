@@ -1,5 +1,5 @@
 /// What an operation of the assembler covers that counts the lines after it.
-#[derive(Clone, Copy, Debug, PartialEq, Eq)]
+#[derive(Clone, Copy)]
 pub enum Cover {
     Nothing,
     /// This many lines more, one at least; comments and continuations aren't counted.

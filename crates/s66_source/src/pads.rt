@@ -3,7 +3,7 @@ use std::marker::Model;
 
 /// The lines of the `NO`s of a source, from 1. Which of them are left out when it is printed is known once their run ends or has
 /// an instruction.
-#[derive(Debug, Drop)]
+#[derive(Drop)]
 pub(crate) struct Pads {
     /// Those of runs with an instruction, which are left out.
     dropped: Vec<u32>,

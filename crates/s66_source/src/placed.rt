@@ -3,7 +3,7 @@ use s66_isa::BLOCK_LIMIT;
 use std::marker::Model;
 
 /// How a block is to be printed, and what is reported of it; times are in minor cycles of 100 ns.
-#[derive(Debug, Drop)]
+#[derive(Drop)]
 pub struct Placed {
     /// The numbers of its instructions, from 1, in the order in which they are printed.
     pub order: ArrayVec<u8, BLOCK_LIMIT>,

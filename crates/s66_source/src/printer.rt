@@ -37,7 +37,7 @@ fn push_in_place(
 
 /// What is left to print of a source. The report of a block is printed in the place of its first instruction, and its
 /// instructions in that of the last one, so that its notes come between them as they are met.
-#[derive(Debug, Drop)]
+#[derive(Drop)]
 struct Printer<'s, 'a> {
     /// The blocks whose last instruction is among the lines to come.
     blocks: &'s [Block<'a>],

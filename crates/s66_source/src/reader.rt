@@ -22,7 +22,7 @@ use std::alloc::{AllocError, Global};
 use std::mem;
 
 /// What was made of the lines of a source so far.
-#[derive(Debug, Drop)]
+#[derive(Drop)]
 pub struct Reader<'a> {
     pub blocks: Vec<Block<'a>>,
     /// The label of the run until its first block is ended, empty from then on.

@@ -12,7 +12,7 @@ use std::alloc::Global;
 use std::marker::Model;
 
 /// A source that was read: a text that is accepted, and its blocks, which borrow from it.
-#[derive(Debug, Drop)]
+#[derive(Drop)]
 pub struct Source<'a> {
     text: &'a [u8],
     cut: bool,

@@ -18,7 +18,7 @@ use s66_line::{
 pub const DEFINITIONS: [&[u8]; 3] = [b"MACRO", b"MACROE", b"OPDEF"];
 
 /// What stands from one line of a source to the next.
-#[derive(Clone, Copy, Debug, PartialEq, Eq)]
+#[derive(Clone, Copy)]
 pub struct Standing {
     /// Whether a switch `*S66 OFF` came before, and no switch `*S66 ON` after it.
     pub off: bool,

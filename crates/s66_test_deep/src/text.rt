@@ -12,7 +12,7 @@ use std::process::Abort;
 pub const NONE: usize = usize::MAX;
 
 /// What a document of a block under the standard profile claims of an order and of all orders.
-#[derive(Clone, Copy, Debug)]
+#[derive(Clone, Copy)]
 pub struct Claimed<'a> {
     pub code: &'a str,
     pub timed: &'a Timed,

@@ -59,7 +59,7 @@ fn piece_by<R: AllocGlobal + Abort, L: Least>(
 }
 
 /// A node of a piece without dominated leaves, by what its tree says there.
-#[derive(Clone, Copy, Debug, PartialEq, Eq)]
+#[derive(Clone, Copy, PartialEq, Eq)]
 enum Line {
     Split(Set),
     Leaf(u32),
@@ -97,7 +97,7 @@ fn lines_of<R: AllocGlobal + Abort>(rt: &R, piece: &Piece) -> Result<Vec<Line>, 
 
 /// Checks the lines of a piece.
 fn check_lines<R: AllocGlobal + Abort>(rt: &R, piece: &Piece, lines: &[Line]) -> Result<(), Fail> {
-    assert_eq!(rt; lines_of(rt, piece)?.as_slice(), lines);
+    assert!(rt; lines_of(rt, piece)?.as_slice() == lines);
     Ok(())
 }
 
@@ -133,7 +133,7 @@ fn expands_by_a_constant(rt: HostRuntime) -> Result<(), Fail> {
         let same = piece_of(&rt, MULTIPLIES, &[], best, 1)?;
         check_lines(&rt, &piece, lines_of(&rt, &same)?.as_slice())?;
         assert_eq!(rt; piece.splits(), same.splits());
-        assert_eq!(rt; constant, Constant(best));
+        assert!(rt; constant == Constant(best));
     }
     Ok(())
 }

@@ -89,7 +89,7 @@ pub fn new_ledger<'a, R: AllocGlobal + Abort>(rt: &R, block: &'a Block<'a>) -> L
 /// Checks that the ledger's history is `HISTORY` with its bytes. The piece's three nodes were open in it.
 fn check_history<R: Abort>(rt: &R, ledger: &Ledger) {
     let history = ledger.history();
-    assert_eq!(rt; history.entries.as_slice(), HISTORY);
+    assert!(rt; history.entries.as_slice() == HISTORY);
     assert_eq!(rt; history.bytes.as_slice(), BYTES);
     assert_eq!(rt; ledger.made(3), Some(State::Open));
     assert_eq!(rt; ledger.made(4), None);

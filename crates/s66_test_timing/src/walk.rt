@@ -108,11 +108,11 @@ impl<'a> Walk<'a> {
             for digit in 0..8u8 {
                 let register = Reg::new(bank, digit);
                 let done = self.plain.done_of(register);
-                assert_eq!(rt; self.clock.done_of(register), done, "{register:?}");
+                assert_eq!(rt; self.clock.done_of(register), done, "{digit}");
             }
         }
         for kind in KINDS {
-            assert_eq!(rt; self.clock.busy(kind), self.plain.busy(kind), "{kind:?}");
+            assert_eq!(rt; self.clock.busy(kind), self.plain.busy(kind));
         }
     }
 }

@@ -15,7 +15,7 @@ use s66_time::Timer;
 use std::alloc::{AllocError, Global};
 
 /// What is printed of each block as it was written.
-#[derive(Clone, Copy, Debug, PartialEq, Eq)]
+#[derive(Clone, Copy)]
 pub enum Listing {
     Times {
         /// Whether each instruction is printed.

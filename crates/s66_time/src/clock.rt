@@ -18,7 +18,7 @@ use std::marker::Model;
 /// number is pushed at its end, and the last one is undone.
 ///
 /// It stores a few words in place of the points, so that a push and an undo take a time that doesn't grow with the beginning.
-#[derive(Debug, Drop)]
+#[derive(Drop)]
 pub struct Clock<'a> {
     block: &'a Block<'a>,
     profile: Profile,

@@ -7,7 +7,7 @@ ghost use Rattle.s66_time.specs.declared.limits.TheConstants.{COPIES_LIMIT};
 use s66_isa::{KIND_COUNT, Kind, Profile, kind_number};
 
 /// How many units a profile has of each kind, by the kind's number.
-#[derive(Debug, Drop)]
+#[derive(Drop)]
 pub struct Copies {
     counts: [u32; KIND_COUNT],
     ghost some: { (i : ℕ) → i < KIND_COUNT → 1 ≤ get_or counts i 0 },

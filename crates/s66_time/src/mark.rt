@@ -18,7 +18,7 @@ use s66_isa::Profile;
 /// What decides, of a beginning, how soon each of its completions can be done, in minor cycles.
 ///
 /// It is small enough to be stored by the ten thousand, and takes no memory beside itself.
-#[derive(Clone, Copy, Debug, Drop)]
+#[derive(Clone, Copy, Drop)]
 pub struct Mark {
     /// The first slot after the last issue.
     pub(crate) next: u16,

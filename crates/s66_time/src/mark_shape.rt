@@ -9,7 +9,7 @@ use crate::copies::Copies;
 use s66_isa::{KIND_COUNT, Kind, Row, kind_number};
 
 /// How many free times of each kind a mark keeps, by the kind's number.
-#[derive(Debug, Drop)]
+#[derive(Drop)]
 pub struct MarkShape {
     kept: [u8; KIND_COUNT],
     ghost few: { weigh (kept_in kept) all_kinds ≤ BLOCK_LIMIT },

@@ -11,7 +11,7 @@ use s66_dep::Set;
 use s66_isa::{Memory, Row};
 
 /// What a clock stores in one word each.
-#[derive(Clone, Copy, Debug, Default, Drop)]
+#[derive(Clone, Copy, Default, Drop)]
 pub struct Progress {
     /// One minor cycle after the last start of a reference to memory; 0 if there is none.
     pub refs: u32,

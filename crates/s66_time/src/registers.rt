@@ -16,7 +16,7 @@ use s66_isa::{REGISTER_COUNT, Reg, Registers, Write};
 ///
 /// An instruction has two results at most: they are taken one by one and not in a loop, so that the compiler keeps them out of
 /// memory.
-#[derive(Debug, Drop)]
+#[derive(Drop)]
 pub struct RegisterWords {
     pub words: [u32; REGISTER_COUNT],
 }

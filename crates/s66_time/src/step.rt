@@ -6,7 +6,7 @@ ghost use Rattle.s66_time.specs.declared.limits.TheConstants.{UNIT_LIMIT};
 use crate::progress::Progress;
 
 /// A word of a register before it was written.
-#[derive(Clone, Copy, Debug)]
+#[derive(Clone, Copy)]
 pub struct Saved {
     /// The register's index.
     pub place: u8,
@@ -22,7 +22,7 @@ impl Default for Saved {
 }
 
 /// What a push wrote over, which its undo puts back.
-#[derive(Debug, Drop)]
+#[derive(Drop)]
 pub struct Step {
     /// The number that was pushed.
     pub number: u8,

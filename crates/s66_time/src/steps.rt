@@ -9,7 +9,7 @@ use std::marker::Model;
 
 /// What the pushes of a clock wrote over, the oldest first. A step that is taken back stays in its place until another is written
 /// over it, so that nothing has to be blanked.
-#[derive(Debug, Drop)]
+#[derive(Drop)]
 pub struct Steps {
     places: ArrayVec<Step, BLOCK_LIMIT>,
     /// How many of the places are of steps that aren't taken back.

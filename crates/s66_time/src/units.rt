@@ -9,7 +9,7 @@ use crate::limits::{COPIES_LIMIT, UNIT_LIMIT};
 use s66_isa::{KINDS, Kind, Profile, kind_number};
 
 /// A word for each unit: when it is free. Those of a kind are together, from a multiple of `COPIES_LIMIT` on.
-#[derive(Debug, Drop)]
+#[derive(Drop)]
 pub struct UnitWords {
     pub words: [u32; UNIT_LIMIT],
 }

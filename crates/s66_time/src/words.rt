@@ -17,7 +17,7 @@ use crate::units::UnitWords;
 use s66_isa::{KIND_COUNT, Memory, Profile, Row, kind_number};
 
 /// The words of a clock.
-#[derive(Debug, Drop)]
+#[derive(Drop)]
 pub struct Words {
     /// When the last of a register's writers is done.
     pub done: RegisterWords,

@@ -8,7 +8,7 @@ use std::alloc::{AllocError, Global};
 use std::marker::Model;
 
 /// What a line of a tree says.
-#[derive(Clone, Copy, Debug)]
+#[derive(Clone, Copy)]
 pub enum TreeLine<'a> {
     /// The prefix is split, and goes on with each of these numbers.
     Split(&'a [u8]),
@@ -33,7 +33,7 @@ pub enum TreeLine<'a> {
 }
 
 /// What a line of a tree says except its numbers, with how many it has.
-#[derive(Clone, Copy, Debug)]
+#[derive(Clone, Copy)]
 pub(crate) enum Mark {
     Split(u8),
     Whole,
@@ -119,7 +119,7 @@ fn line_at<'a>(marks: &[Mark], numbers: &'a [u8], begins: &[usize], place: usize
 }
 
 /// The lines of a tree in preorder, in sixteen bytes a line and one a number.
-#[derive(Debug, Drop)]
+#[derive(Drop)]
 pub struct KeptLines {
     marks: Vec<Mark>,
     numbers: Vec<u8>,
@@ -237,7 +237,7 @@ impl KeptLines {
 }
 
 /// The lines of a tree in preorder, in twenty bytes a line and one a number.
-#[derive(Debug, Drop)]
+#[derive(Drop)]
 pub struct Tree {
     lines: KeptLines,
     /// Room for the places at which the trees of the lines end.
@@ -313,7 +313,7 @@ impl Tree {
 }
 
 /// The lines of a tree that are still to be read, in preorder.
-#[derive(Debug, Drop)]
+#[derive(Drop)]
 pub struct TreeLines<'a> {
     marks: &'a [Mark],
     numbers: &'a [u8],

@@ -4,7 +4,7 @@ ghost use Rattle.s66_why.specs.Why.{lower, sooner, or_else, nobody};
 use s66_isa::{Kind, Memory, Reg};
 
 /// What an earlier instruction has still to do for which another waits.
-#[derive(Clone, Copy, Debug, PartialEq, Eq)]
+#[derive(Clone, Copy)]
 pub enum Cause {
     /// It writes this register, which the other reads or writes too.
     Writes(Reg),
@@ -19,7 +19,7 @@ pub enum Cause {
 }
 
 /// What is waited for, and the number of the instruction that it is of; 0 is none.
-#[derive(Clone, Copy, Debug, PartialEq, Eq)]
+#[derive(Clone, Copy)]
 pub struct Holder {
     pub cause: Cause,
     pub number: u8,

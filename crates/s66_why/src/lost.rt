@@ -6,7 +6,7 @@ ghost use Rattle.s66_why.specs.declared.stretch.Conflict.{Conflict as ConflictOf
 use crate::stretch::{Conflict, Stretch};
 
 /// How many minor cycles the stretches of each conflict are long, in sum.
-#[derive(Clone, Copy, Debug, Default, Drop)]
+#[derive(Clone, Copy, Drop)]
 pub struct Lost {
     pub first: usize,
     pub second: usize,

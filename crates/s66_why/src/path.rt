@@ -11,7 +11,7 @@ use arrayvec::ArrayVec;
 use s66_isa::{BLOCK_LIMIT, Write, is_same_register};
 
 /// With which instruction the path goes on, from the latest back.
-#[derive(Clone, Copy, Debug, PartialEq, Eq)]
+#[derive(Clone, Copy)]
 pub enum Link {
     /// This one.
     Held(Holder),

@@ -11,7 +11,7 @@ use s66_isa::{Reg, Registers, Row, is_memory_conflict, is_same_kind, is_same_reg
 use std::marker::Model;
 
 /// A result: its register, the minor cycle in which it is done, and whether the unit holds it.
-#[derive(Clone, Copy, Debug, Default, Drop)]
+#[derive(Clone, Copy, Default, Drop)]
 pub struct ResultAt {
     pub reg: Reg,
     pub time: u32,
@@ -53,7 +53,7 @@ impl ResultAt {
 }
 
 /// An instruction at its place in a timed order: its parcel from 0, and its times in minor cycles.
-#[derive(Debug, Drop)]
+#[derive(Drop)]
 pub struct PlacedInstr {
     pub number: u8,
     pub row: Row,

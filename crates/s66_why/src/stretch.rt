@@ -7,7 +7,7 @@ use crate::placed::{PlacedInstr, readers_wait};
 use s66_isa::Write;
 
 /// Thornton's orders of conflict.
-#[derive(Clone, Copy, Debug, PartialEq, Eq)]
+#[derive(Clone, Copy)]
 pub enum Conflict {
     /// An instruction can't issue.
     First,
@@ -18,7 +18,7 @@ pub enum Conflict {
 }
 
 /// The minor cycles from one to another in which an instruction is kept back.
-#[derive(Clone, Copy, Debug, Drop)]
+#[derive(Clone, Copy, Drop)]
 pub struct Stretch {
     pub number: u8,
     pub conflict: Conflict,

@@ -6,7 +6,7 @@ use std::marker::Model;
 
 /// The octal code and the digits that an operand chooses. It is plain: that they are those of an instruction is known of the
 /// operation and its operand together, and is required where they become one.
-#[derive(Clone, Copy, Debug)]
+#[derive(Clone, Copy)]
 pub(crate) struct Encoding {
     code: u8,
     i: u8,

@@ -12,7 +12,7 @@ use crate::operand::set::set;
 use s66_isa::{Bank, Instr};
 
 /// Which operands an operation takes, with the octal codes that they choose from.
-#[derive(Clone, Copy, Debug)]
+#[derive(Clone, Copy)]
 pub(crate) enum Syntax {
     Boolean,
     /// Shifted by a constant, or by a B register.

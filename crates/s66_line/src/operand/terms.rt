@@ -79,7 +79,7 @@ fn is_sign(byte: u8) -> bool
 }
 
 /// What is among the terms of an operand.
-#[derive(Debug, Drop)]
+#[derive(Drop)]
 pub(crate) struct Terms {
     pub(crate) has_constant: bool,
     /// The registers in order, each with whether a minus comes before it.
