@@ -15,7 +15,7 @@ How much four workers can gain depends on the machine: four processors may be tw
 that is too slow for four. So the same is printed of four processes at once, each a search by one worker. They share nothing, and wait
 for nobody: four workers can hardly gain more.
 
-What a worker costs beside a search without (the lock, the history, a thread) is measured with the crate s66_bench, which searches by
+What a worker costs beside a search without (the lock, the history, a thread) is measured with the crate s66_tools, which searches by
 one worker and without; `rt run` proves and builds it where that is needed. Both search with fewer splits, in turns and on
 one processor, so that they find the machine at one pace.
 
@@ -55,7 +55,7 @@ def order(program, workers, processes=1):
 
 
 def bench(program, mode):
-    """A process of s66_bench, with one worker or none."""
+    """A process of s66_tools, with one worker or none."""
     return Search((program, mode, str(SHORT_BUDGET)), SHORT_BUDGET, 1, 1, rb"\d+ (\d+)")
 
 
@@ -142,7 +142,7 @@ def main():
     parser.add_argument("--rounds", type=int, default=7, help="runs of each search on each block, 7 if left out")
     parser.add_argument("program", nargs="?", default=PROGRAM)
     asked = parser.parse_args()
-    benches = build("s66_bench", ["tree", "1"])
+    benches = build("s66_tools", ["tree", "1"])
     for length, seeds in SEEDS.items():
         texts = [block_from(seed, length) for seed in seeds]
         measure(length, texts, asked.program, asked.rounds)

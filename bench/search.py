@@ -6,7 +6,7 @@
                                               included, and the seconds of a source of 1,000 blocks of 4 to 20 instructions by
                                               one worker and by four
 
-The program is the crate s66_bench, and for `order` s66_main, which `rt run` proves and builds where that is needed.
+The program is the crate s66_tools, and for `order` s66_main, which `rt run` proves and builds where that is needed.
 Instructions are those of valgrind's callgrind, and what is the same in two runs is taken off by their difference. The blocks
 are random and of all sorts; a fixed seed makes them.
 """
@@ -117,7 +117,7 @@ def main():
         for workers in (1, 4):
             tell_mixed(program, workers)
         return
-    program = build("s66_bench", ["tree", "1"])
+    program = build("s66_tools", ["tree", "1"])
     for length in LENGTHS:
         texts = list(blocks_of(length))
         tell_steps(program, length, texts)

@@ -1,16 +1,16 @@
 #!/usr/bin/env python3
 """Refuses a program what it asks of the C library, one request at a time, and checks its answers.
 
-    tools/refused.py PROGRAM [CALLS] [--quick]
+    tools/refused.py PROGRAM [TOOLS] [--quick]
 
-PROGRAM is the built program, CALLS that of s66_calls, which makes the calls of the libraries. A row is a call: a subcommand
-on an input, or one of CALLS. It is run with ample memory first, and that has to give the row's status. Then it is run
+PROGRAM is the built program, TOOLS that of s66_tools, which makes the calls of the libraries. A row is a call: a subcommand
+on an input, or a call of TOOLS. It is run with ample memory first, and that has to give the row's status. Then it is run
 
 - with only the Nth request for memory refused, and with all from the Nth on, for each N up to one that isn't reached: it ends
   as with ample memory, or with status 4, no output and OUT OF MEMORY, and nothing else; or with BAD PROFILE alone, without
   what is wrong with the profile;
 - with each thread refused in turn, and with all: it ends as with ample memory;
-- unless it is one of CALLS, with the Nth read failing, whole or after reads of one byte each: status 6, no output and READ
+- unless it is a call of TOOLS, with the Nth read failing, whole or after reads of one byte each: status 6, no output and READ
   FAILED; and with reads of one byte each: as with ample memory;
 - with the Nth write failing, whole or after writes of one byte each, or taking nothing: status 6, a beginning of the output
   and WRITE FAILED; and with writes of one byte each: as with ample memory;
@@ -190,14 +190,14 @@ class Row:
         yield from (f"  wrong: {line}" for line in self.wrong)
 
 
-def table_of(program, calls, runner):
-    """The rows of the program, and those of CALLS, which lists its calls when it is given none."""
+def table_of(program, tools, runner):
+    """The rows of the program, and those of TOOLS, which lists its calls when none is named."""
     yield from (([program, *words], given.encode(), statuses) for words, given, statuses in rows())
     documents = list(documents_of(program))
     yield from (([program, "check"], text.encode(), {0}) for text in documents)
     yield [program, "check"], documents[0].replace("BOUND", "BOUND ").encode(), {3}
-    for name in runner.run([calls], b"")[0][1].decode().split() if calls else ():
-        yield [calls, name], b"", {0}
+    for name in runner.run([tools, "call"], b"")[0][1].decode().split() if tools else ():
+        yield [tools, "call", name], b"", {0}
 
 
 def library_in(folder):
@@ -215,7 +215,7 @@ def main(arguments):
     if not 1 <= len(names) <= 2 or names[0].startswith("-"):
         print(__doc__.strip())
         return 2
-    program, calls = [os.path.abspath(name) for name in names] + [None] * (2 - len(names))
+    program, tools = [os.path.abspath(name) for name in names] + [None] * (2 - len(names))
     step = 10 if len(names) < len(arguments) else 1
     with tempfile.TemporaryDirectory() as folder:
         library = library_in(folder)
@@ -230,7 +230,7 @@ def main(arguments):
             return sum(row.answers.values()), len(row.wrong)
 
         with concurrent.futures.ThreadPoolExecutor(os.cpu_count()) as pool:
-            table = table_of(program, calls, Runner(library, os.path.join(folder, "counts")))
+            table = table_of(program, tools, Runner(library, os.path.join(folder, "counts")))
             checks = [pool.submit(check, place, *row) for place, row in enumerate(table)]
             right, wrong = map(sum, zip(*[it.result() for it in checks]))
     print(f"{right} passed, {wrong} failed (runs of {len(checks)} calls)")

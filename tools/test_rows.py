@@ -4,7 +4,7 @@
     tools/test_rows.py PROGRAM
 
 The rows are the tables of s66_test_program: ROWS of each file of src/rows/, BAD of src/rows/profile.rt, ENDS of src/rows/page.rt,
-REPEATED and ORDERED of src/rows.rt. Each row that ends otherwise than it says is printed. The status is 1 if there is one.
+REPEATED and ORDERED of src/rows.rt. Blocks that other tests have too are in src/blocks.rt of s66_test_search. Each row that ends otherwise than it says is printed. The status is 1 if there is one.
 """
 import glob
 import os
@@ -12,7 +12,8 @@ import re
 import subprocess
 import sys
 
-SOURCES = os.path.join(os.path.dirname(os.path.dirname(os.path.abspath(__file__))), "crates/s66_test_program/src")
+CRATES = os.path.join(os.path.dirname(os.path.dirname(os.path.abspath(__file__))), "crates")
+SOURCES = os.path.join(CRATES, "s66_test_program/src")
 TOKEN = re.compile(r'//[^\n]*|"(?:[^"\\]|\\.)*"|&\[|[^/"&]+|.', re.DOTALL)
 CONSTANT = re.compile(r"\bconst (\w+):[^=]*=([^;]*);")
 PLACE = re.compile(r"'(\d+)'")
@@ -90,8 +91,9 @@ def main(arguments):
         print(__doc__.strip())
         return 2
     program = os.path.abspath(arguments[0])
-    shared = constants_of(os.path.join(SOURCES, "running.rt"), {})
-    shared.update(constants_of(os.path.join(SOURCES, "rows.rt"), shared))
+    shared = constants_of(os.path.join(CRATES, "s66_test_search/src/blocks.rt"), {})
+    for name in "running.rt", "rows.rt":
+        shared.update(constants_of(os.path.join(SOURCES, name), shared))
     faults = [row_fault(program, *row) for row in rows_of(shared)]
     faults += [page_fault(program, *row) for row in constants_of(os.path.join(SOURCES, "rows/page.rt"), shared)["ENDS"]]
     faults += [order_fault(program, shared, *row) for row in shared["ORDERED"]]

@@ -5,8 +5,6 @@ mod error;
 mod examples;
 mod hint;
 mod profile;
-#[cfg(test)]
-mod tests;
 
 pub use error::ProfileError;
 pub use examples::{hint_examples, profile_examples, refusal_examples};

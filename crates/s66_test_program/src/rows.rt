@@ -1,4 +1,5 @@
 use crate::running::{LINT, ORDER, ORDER_TRACE, TIME, check, run};
+use s66_test_search::{ONE_LOAD, PACKING_GAP};
 use std::process::Abort;
 use std::sync::Wait;
 use std::test::Fail;
@@ -25,15 +26,7 @@ pub(crate) type Row = (
     &'static str,
 );
 
-pub(crate) const ONE_LOAD: &str = "  SA1 A1+B1\n  BX6 X1\n  BX7 X2\n";
-
-pub(crate) const PACKING_GAP: &str = "  BX7 X2\n  LX3 1\n  IX4 X5+X6\n  SA1 A1+100\n";
-
 pub(crate) const B0: &str = "  NX1 B0,X2\n  SB0 5\n  SX3 B0\n";
-
-pub(crate) const THREE_MULTIPLIES: &str = "  FX1 X2*X3\n  FX4 X5*X6\n  FX0 X7*X7\n";
-
-pub(crate) const THIRD_ORDER: &str = "  FX1 X2/X3\n  BX4 X1*X5\n  SX5 B1\n";
 
 pub(crate) const STORE_THEN_LOAD: &str = "  SA6 A6+B1\n  SA1 A2+B2\n";
 

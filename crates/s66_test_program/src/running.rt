@@ -2,7 +2,6 @@ ghost use Rattle.std.specs.Prelude.{◌-◌, ◌^◌, ◌<◌};
 
 use s66_device::{Feed, OverRead, OverWrite};
 use s66_program::{Observer, Silent, run_program};
-use std::alloc::AllocError;
 use std::process::Abort;
 use std::sync::Wait;
 use std::thread::Threads;

@@ -1,7 +1,7 @@
+use crate::commands::check_output;
 use crate::running::run;
-use s66_device::{OverRead, OverWrite};
 use s66_model::{Options, Rule};
-use s66_program::{Command, Status, Strategy, command_of, run_command};
+use s66_program::{Command, Status, Strategy, command_of};
 use std::test::Fail;
 
 /// Words, and the status: 0 of help, 2 of words that are no command.
@@ -539,18 +539,10 @@ fn reads_words(rt: HostRuntime) -> Result<(), Fail> {
 
 #[test]
 fn runs_a_command(rt: HostRuntime) {
-    let mut reader = OverRead::new(b"  BX1 X2+X3\n".as_slice());
-    let mut writer = OverWrite::new(Vec::new(rt.alloc()));
-    let result = run_command(
-        &rt,
-        Command::Deps {
-            cut: false,
-            block: None,
-        },
-        &mut reader,
-        &mut writer,
-    );
-    assert!(rt; result == Ok(Status::Done));
-    let written = writer.into_inner();
-    assert!(rt; written.as_slice() == b"BLOCK 1 LINE 1 COUNT 1 DEPENDENCES 0\n".as_slice());
+    let command = Command::Deps {
+        cut: false,
+        block: None,
+    };
+    let output = "BLOCK 1 LINE 1 COUNT 1 DEPENDENCES 0\n";
+    check_output(&rt, command, "  BX1 X2+X3\n", Status::Done, output);
 }

@@ -1,10 +1,11 @@
 ghost use Rattle.std.specs.Prelude.{ℕ, ◌≡◌, ◌≤◌};
 
+use crate::blocks::{MULTIPLIES, ONE_LOAD, SEVEN_MULTIPLIES, only_block};
 use s66_dep::{Set, is_beginning};
 use s66_isa::{BLOCK_LIMIT, Profile};
+use s66_line::Block;
 use s66_node::{Constant, Least, Node, Piece, State, expand, expand_with};
 use s66_source::read_source;
-use s66_test_blocks::{MULTIPLIES, ONE_LOAD, SEVEN_MULTIPLIES, only_block};
 use std::process::Abort;
 use std::test::Fail;
 
@@ -28,8 +29,21 @@ impl Least for Falling {
     }
 }
 
-/// What a prefix of a source's only block gives, for a best time and a number of splits that are allowed.
-fn piece_of<R: AllocGlobal + Abort>(
+/// What a prefix of a block gives, for a best time and a number of splits that are allowed.
+pub fn piece_of<R: AllocGlobal + Abort>(
+    rt: &R,
+    block: &Block,
+    prefix: &[u8],
+    best: u32,
+    allowance: u32,
+) -> Piece {
+    assert!(rt; is_beginning(block, prefix));
+    let profile = Profile::standard();
+    expand(rt.alloc(), block, &profile, prefix, best, allowance).expect(rt, "memory")
+}
+
+/// What a prefix of a source's only block gives.
+fn piece_in<R: AllocGlobal + Abort>(
     rt: &R,
     code: &str,
     prefix: &[u8],
@@ -38,10 +52,7 @@ fn piece_of<R: AllocGlobal + Abort>(
 ) -> Result<Piece, Fail> {
     let source = read_source(rt.alloc(), code.as_bytes())?;
     let block = only_block(&source).expect(rt, "one block");
-    assert!(rt; is_beginning(block, prefix));
-    let profile = Profile::standard();
-    let piece = expand(rt.alloc(), block, &profile, prefix, best, allowance)?;
-    Ok(piece)
+    Ok(piece_of(rt, block, prefix, best, allowance))
 }
 
 /// What the empty prefix of a source's only block gives, by a best time that is read before each split.
@@ -112,13 +123,13 @@ fn check_timed<R: Abort>(rt: &R, piece: &Piece, numbers: &[u8], total: u32) {
 #[test]
 fn expands_prefixes(rt: HostRuntime) -> Result<(), Fail> {
     let open = Line::Open(17);
-    let split = piece_of(&rt, MULTIPLIES, &[], 22, 1)?;
+    let split = piece_in(&rt, MULTIPLIES, &[], 22, 1)?;
     assert_eq!(rt; split.splits(), 1);
     check_lines(&rt, &split, &[Line::Split(Set::up_to(3)), open, open, open])?;
     assert!(rt; split.timed().is_none());
-    let leaf = piece_of(&rt, MULTIPLIES, &[], 17, 1)?;
+    let leaf = piece_in(&rt, MULTIPLIES, &[], 17, 1)?;
     check_lines(&rt, &leaf, &[Line::Leaf(17)])?;
-    let whole = piece_of(&rt, MULTIPLIES, &[1, 2, 3], 22, 0)?;
+    let whole = piece_in(&rt, MULTIPLIES, &[1, 2, 3], 22, 0)?;
     check_lines(&rt, &whole, &[Line::Leaf(22)])?;
     check_timed(&rt, &whole, &[1, 2, 3], 22);
     Ok(())
@@ -130,7 +141,7 @@ fn expands_by_a_constant(rt: HostRuntime) -> Result<(), Fail> {
     for best in [22, 17] {
         let mut constant = Constant(best);
         let piece = piece_by(&rt, MULTIPLIES, &mut constant, 1)?;
-        let same = piece_of(&rt, MULTIPLIES, &[], best, 1)?;
+        let same = piece_in(&rt, MULTIPLIES, &[], best, 1)?;
         check_lines(&rt, &piece, lines_of(&rt, &same)?.as_slice())?;
         assert_eq!(rt; piece.splits(), same.splits());
         assert!(rt; constant == Constant(best));
@@ -172,7 +183,7 @@ fn expands_to_whole_orders(rt: HostRuntime) -> Result<(), Fail> {
         Line::Split(two),
         Line::Leaf(13),
     ];
-    let piece = piece_of(&rt, ONE_LOAD, &[], 17, 100)?;
+    let piece = piece_in(&rt, ONE_LOAD, &[], 17, 100)?;
     assert_eq!(rt; piece.splits(), 6);
     check_lines(&rt, &piece, &lines)?;
     check_timed(&rt, &piece, &[1, 3, 2], 12);
@@ -182,7 +193,7 @@ fn expands_to_whole_orders(rt: HostRuntime) -> Result<(), Fail> {
 /// A piece may be as large as its tree.
 #[test]
 fn expands_to_many_orders(rt: HostRuntime) -> Result<(), Fail> {
-    let piece = piece_of(&rt, SEVEN_MULTIPLIES, &[], 44, 10_000)?;
+    let piece = piece_in(&rt, SEVEN_MULTIPLIES, &[], 44, 10_000)?;
     assert_eq!(rt; piece.splits(), 8660);
     assert_eq!(rt; piece.nodes().len(), 8660 + 5040);
     Ok(())

@@ -1,17 +1,11 @@
+use crate::blocks::{SEVEN_ALIKE, THREE_ALIKE, only_block};
 use s66_isa::Profile;
 use s66_ledger::Ledger;
 use s66_line::Block;
 use s66_model::Rule;
 use s66_source::read_source;
-use s66_test_blocks::only_block;
 use std::process::Abort;
 use std::test::Fail;
-
-/// Every order takes 8.
-pub const THREE_ALIKE: &str = "  SB0 B1\n  SB0 B1\n  SB0 B1\n";
-
-/// Every order takes 16.
-const SEVEN_ALIKE: &str = "  SB0 B1\n  SB0 B1\n  SB0 B1\n  SB0 B1\n  SB0 B1\n  SB0 B1\n  SB0 B1\n";
 
 /// More splits than any of the searches takes.
 const BUDGET: u32 = 10_000;

@@ -2,9 +2,10 @@
 ghost use Rattle.std.specs.Prelude.{◌≡◌, ◌≤◌, All};
 ghost use Rattle.s66_ledger.specs.Steps.{worker_of};
 
-use crate::hub::{claim_root, grant, open_hub, put_seat, take_seat};
+use crate::blocks::{MULTIPLIES, ONE_LOAD, as_written, only_block};
+use crate::expansion::piece_of;
+use crate::hub::{claim_root, grant, open_hub, put_seat, take_seat, timed_of};
 use crate::ledger::{claim_node, new_ledger, reply};
-use s66_dep::{Order, is_beginning};
 use s66_isa::Profile;
 use s66_ledger::{Event, Ledger, Reply};
 use s66_line::Block;
@@ -12,26 +13,11 @@ use s66_model::{Options, Rule};
 use s66_node::{Piece, expand, expand_dominated};
 use s66_pool::{Free, Hub, Seat, work};
 use s66_source::read_source;
-use s66_test_blocks::{MULTIPLIES, ONE_LOAD, only_block};
-use s66_time::{Timed, time_of};
+use s66_time::Timed;
 use std::process::Abort;
 use std::sync::Wait;
 use std::test::Fail;
 use std::thread::Threads;
-
-/// The piece of the root for a best time, of at most `allowance` splits.
-fn root_piece<R: AllocGlobal + Abort>(rt: &R, block: &Block, best: u32, allowance: u32) -> Piece {
-    assert!(rt; is_beginning(block, &[]));
-    expand(
-        rt.alloc(),
-        block,
-        &Profile::standard(),
-        &[],
-        best,
-        allowance,
-    )
-    .expect(rt, "memory")
-}
 
 /// Finishes a search of three multiplies, and checks its time, bound and splits.
 fn check_finished<R: AllocGlobal + Abort>(rt: &R, ledger: Ledger, stated: (u32, u32, u32), at: u32)
@@ -52,11 +38,11 @@ fn event_at<R: AllocGlobal + Abort>(rt: &R, block: &Block, place: u32) -> Event
         2 => Event::Graft {
             w: 1,
             node: 0,
-            piece: root_piece(rt, block, 22, 1),
+            piece: piece_of(rt, block, &[], 22, 1),
         },
         3 => Event::Offer {
             w: 2,
-            timed: time_of(block, &Profile::standard(), &Order::source(block)),
+            timed: as_written(block, &Profile::standard()),
         },
         4 => Event::Grant { w: 2 },
         5 => Event::Claim { w: 2 },
@@ -126,7 +112,7 @@ fn check_piece<R: AllocGlobal + Abort>(rt: &R, block: &Block, best: u32) {
     let mut ledger = new_ledger(rt, block);
     assert_eq!(rt; ledger.grant(2), Ok(10));
     let root = claim_node(rt, &mut ledger, 1, &[]);
-    let piece = root_piece(rt, block, best, 10);
+    let piece = piece_of(rt, block, &[], best, 10);
     assert!(rt; ledger.graft(2, root, piece).is_ok());
     check_finished(rt, ledger, (22, 22, 10), best);
 }
@@ -142,7 +128,7 @@ fn refuses_splits_without_an_allowance(rt: HostRuntime) -> Result<(), Fail> {
 fn check_refusal<R: AllocGlobal + Abort>(rt: &R, block: &Block) {
     let mut ledger = new_ledger(rt, block);
     let root = claim_node(rt, &mut ledger, 1, &[]);
-    let piece = root_piece(rt, block, 22, 1);
+    let piece = piece_of(rt, block, &[], 22, 1);
     let node = root.node();
     let refused = reply(rt, &mut ledger, Event::Graft { w: 1, node, piece });
     assert_eq!(rt; refused, Reply::OverAllowance);
@@ -190,16 +176,10 @@ fn hand_out<R: AllocGlobal + Abort>(rt: &R, ledger: &mut Ledger)
 {
     assert_eq!(rt; ledger.grant(1), Ok(10));
     claim_node(rt, ledger, 1, &[]);
-    let piece = root_piece(rt, ledger.block(), 16, 1);
+    let piece = piece_of(rt, ledger.block(), &[], 16, 1);
     graft(rt, ledger, 0, piece);
     claim_node(rt, ledger, 2, &[1]);
     claim_node(rt, ledger, 1, &[3]);
-}
-
-/// A piece of 3 of one load, for the time of the source order.
-fn late_piece<R: AllocGlobal + Abort>(rt: &R, block: &Block) -> Piece {
-    assert!(rt; is_beginning(block, &[3]));
-    expand(rt.alloc(), block, &Profile::standard(), &[3], 16, 9).expect(rt, "memory")
 }
 
 /// Offers an order, and checks the answer.
@@ -216,10 +196,9 @@ fn offer<R: Abort>(rt: &R, ledger: &mut Ledger, w: u8, timed: Timed, answer: Rep
 fn check_old_piece<R: AllocGlobal + Abort>(rt: &R, block: &Block) {
     let mut ledger = new_ledger(rt, block);
     hand_out(rt, &mut ledger);
-    let piece = late_piece(rt, block);
+    let piece = piece_of(rt, block, &[3], 16, 9);
     let slower = piece.timed().expect(rt, "a whole order").duplicate();
-    let best = Order::new(block, &[1, 3, 2]).expect(rt, "a legal order");
-    let faster = time_of(block, &Profile::standard(), &best);
+    let faster = timed_of(rt, block, &[1, 3, 2]);
     offer(rt, &mut ledger, 2, faster, Reply::Lower);
     offer(rt, &mut ledger, 1, slower, Reply::NotLower(12));
     graft(rt, &mut ledger, 2, piece);
@@ -262,12 +241,12 @@ fn check_others<R: AllocGlobal + Abort>(rt: &R, block: &Block, other: &Block) {
     let mut ledger = new_ledger(rt, block);
     assert_eq!(rt; ledger.grant(1), Ok(10));
     claim_node(rt, &mut ledger, 1, &[]);
-    check_other_piece(rt, &mut ledger, root_piece(rt, other, 22, 10));
+    check_other_piece(rt, &mut ledger, piece_of(rt, other, &[], 22, 10));
     let piece = expand(alloc, block, &slower, &[], 40, 10).expect(rt, "memory");
     check_other_piece(rt, &mut ledger, piece);
     let piece = expand_dominated(alloc, block, &profile, &[], 22, 10).expect(rt, "memory");
     check_other_piece(rt, &mut ledger, piece);
-    let timed = time_of(other, &profile, &Order::source(other));
+    let timed = as_written(other, &profile);
     let refused = reply(rt, &mut ledger, Event::Offer { w: 1, timed });
     assert_eq!(rt; refused, Reply::OtherBlock);
     check_finished(rt, ledger, (22, 22, 10), 0);

@@ -1,14 +1,15 @@
 ghost use Rattle.std.specs.Prelude.{◌≡◌, ◌≤◌, All};
 ghost use Rattle.s66_model.specs.declared.limits.TheConstants.{BUDGET_LIMIT};
 
-use s66_dep::{Order, is_beginning};
+use crate::blocks::{MULTIPLIES, ONE_LOAD, only_block};
+use crate::expansion::piece_of;
+use s66_dep::Order;
 use s66_isa::Profile;
 use s66_ledger::{GraftError, Ledger, Offered, Ticket};
 use s66_line::Block;
-use s66_node::{Piece, expand};
+use s66_node::Piece;
 use s66_pool::{Hub, Needs, Seat, SeatsMissing, Supply};
 use s66_source::read_source;
-use s66_test_blocks::{MULTIPLIES, ONE_LOAD, only_block};
 use s66_time::{Timed, time_of};
 use std::process::Abort;
 use std::sync::Wait;
@@ -193,27 +194,6 @@ fn seat_is_missing(rt: HostRuntime) -> Result<(), Fail> {
     Ok(())
 }
 
-/// A piece of a claimed node, of at most this number of splits.
-fn piece_of<R: AllocGlobal + Abort>(
-    rt: &R,
-    block: &Block,
-    ticket: &Ticket,
-    best: u32,
-    allowance: u32,
-) -> Piece {
-    let prefix = ticket.prefix();
-    assert!(rt; is_beginning(block, prefix));
-    expand(
-        rt.alloc(),
-        block,
-        &Profile::standard(),
-        prefix,
-        best,
-        allowance,
-    )
-    .expect(rt, "memory")
-}
-
 /// Grafts a piece at a node that is out, and then one at the same node.
 fn graft_twice<'a, R: AllocGlobal + Abort + Wait>(
     rt: &R,
@@ -225,8 +205,8 @@ fn graft_twice<'a, R: AllocGlobal + Abort + Wait>(
 {
     assert_eq!(rt; grant(rt, hub, seat), 10);
     let root = claim_root(rt, hub, seat);
-    let piece = piece_of(rt, block, &root, 22, 1);
-    let again = piece_of(rt, block, &root, 22, 1);
+    let piece = piece_of(rt, block, root.prefix(), 22, 1);
+    let again = piece_of(rt, block, root.prefix(), 22, 1);
     assert!(rt; hub.graft(rt, seat, root, piece).is_ok());
     let mut claimed = Vec::new(rt.alloc());
     let refused = hub.graft_and_supply(rt, seat, 0, &again, BOTH, &mut claimed);
@@ -284,10 +264,10 @@ fn spend_two<'a, R: AllocGlobal + Abort + Wait>(
 {
     assert_eq!(rt; grant(rt, hub, seat), 10);
     let root = claim_root(rt, hub, seat);
-    let piece = piece_of(rt, block, &root, 22, 1);
+    let piece = piece_of(rt, block, root.prefix(), 22, 1);
     let child = graft_claiming(rt, hub, seat, 0, &piece, NODES, (None, 3));
     assert_eq!(rt; child.prefix().len(), 1);
-    let piece = piece_of(rt, block, &child, 22, 1);
+    let piece = piece_of(rt, block, child.prefix(), 22, 1);
     let mut claimed = Vec::new(rt.alloc());
     let after = hub.graft_and_supply(rt, seat, child.node(), &piece, BOTH, &mut claimed);
     let spent = Supply {
@@ -312,7 +292,7 @@ fn ask_for_splits<'a, R: AllocGlobal + Abort + Wait>(
     requires { seat.old.hub ≡ hub.now.id }
 {
     let node = claim_all(rt, hub, seat, 2).expect(rt, "an open node");
-    let piece = piece_of(rt, block, &node, 22, 0);
+    let piece = piece_of(rt, block, node.prefix(), 22, 0);
     graft_claiming(rt, hub, seat, node.node(), &piece, BOTH, (Some(8), 1));
     assert_eq!(rt; seat.splits(), 0);
 }
@@ -335,7 +315,7 @@ fn pieces_are_grafted(rt: HostRuntime) -> Result<(), Fail> {
 }
 
 /// An order of the block with its times.
-fn timed_of<R: Abort>(rt: &R, block: &Block, numbers: &[u8]) -> Timed {
+pub fn timed_of<R: Abort>(rt: &R, block: &Block, numbers: &[u8]) -> Timed {
     let order = Order::new(block, numbers).expect(rt, "a legal order");
     time_of(block, &Profile::standard(), &order)
 }
@@ -367,7 +347,7 @@ fn offer_while_out<'a, R: AllocGlobal + Abort + Wait>(
 {
     let root = claim_root(rt, hub, other);
     assert_eq!(rt; hub.best(rt, other), 16);
-    let piece = piece_of(rt, block, &root, 16, 0);
+    let piece = piece_of(rt, block, root.prefix(), 16, 0);
     let best = timed_of(rt, block, &[1, 3, 2]);
     offer(rt, hub, seat, best, Offered::Lower);
     graft_claiming(rt, hub, other, root.node(), &piece, NODES, (None, 1));

@@ -1,11 +1,11 @@
 ghost use Rattle.std.specs.Prelude.{◌≡◌, ◌+◌, ◌≤◌, ◌<◌, []};
 
+use crate::blocks::{MULTIPLIES, only_block};
 use crate::ledger::{claim_node, new_ledger, split_root};
 use s66_ledger::Ledger;
 use s66_line::Block;
 use s66_source::read_source;
 use s66_steal::{Lane, PASS_LIMIT, Pass, Thief, lane};
-use s66_test_blocks::{MULTIPLIES, only_block};
 use std::process::Abort;
 use std::test::Fail;
 

@@ -1,14 +1,13 @@
 ghost use Rattle.std.specs.Prelude.{◌≡◌, ◌≤◌};
 ghost use Rattle.s66_ledger.specs.Steps.{worker_of};
 
-use s66_dep::{Order, is_beginning};
+use crate::blocks::{MULTIPLIES, as_written, only_block};
+use crate::expansion::piece_of;
 use s66_isa::Profile;
 use s66_ledger::{Entry, Event, Ledger, Offered, Reply, Ticket};
 use s66_line::Block;
-use s66_node::{Piece, State, expand};
+use s66_node::State;
 use s66_source::read_source;
-use s66_test_blocks::{MULTIPLIES, only_block};
-use s66_time::{Timed, time_of};
 use std::process::Abort;
 use std::test::Fail;
 
@@ -105,17 +104,6 @@ fn readings(ledger: &Ledger) -> (u32, u32, u32, usize) {
     )
 }
 
-/// The root's piece of one split.
-fn root_piece<R: AllocGlobal + Abort>(rt: &R, block: &Block) -> Piece {
-    assert!(rt; is_beginning(block, &[]));
-    expand(rt.alloc(), block, &Profile::standard(), &[], 22, 1).expect(rt, "memory")
-}
-
-/// The source order with its times.
-fn source_order(block: &Block) -> Timed {
-    time_of(block, &Profile::standard(), &Order::source(block))
-}
-
 /// Claims a node for a worker, and checks its prefix.
 pub fn claim_node<R: Abort>(rt: &R, ledger: &mut Ledger, w: u8, prefix: &[u8]) -> Ticket
     requires { (1 ≤ w) × (w ≤ ledger.old.workers) }
@@ -136,7 +124,7 @@ pub fn split_root<R: AllocGlobal + Abort>(rt: &R, ledger: &mut Ledger)
     assert_eq!(rt; ledger.grant(1), Ok(BUDGET));
     let root = claim_node(rt, ledger, 1, &[]);
     assert_eq!(rt; readings(ledger), (22, 17, 0, 0));
-    let piece = root_piece(rt, ledger.block());
+    let piece = piece_of(rt, ledger.block(), &[], 22, 1);
     assert!(rt; ledger.graft(1, root, piece).is_ok());
     assert_eq!(rt; readings(ledger), (22, 17, 1, 3));
 }
@@ -146,7 +134,7 @@ fn claim_child<R: Abort>(rt: &R, ledger: &mut Ledger)
     requires { 2 ≤ ledger.old.workers }
     ensures { ledger.new.workers ≡ ledger.old.workers }
 {
-    let timed = source_order(ledger.block());
+    let timed = as_written(ledger.block(), &Profile::standard());
     assert_eq!(rt; ledger.offer(2, timed), Ok(Offered::NotLower { least: 22 }));
     assert_eq!(rt; ledger.grant(2), Ok(0));
     let child = claim_node(rt, ledger, 2, &[3]);
@@ -186,8 +174,8 @@ fn check_replies<R: AllocGlobal + Abort>(rt: &R, ledger: &mut Ledger)
     requires { 2 ≤ ledger.old.workers }
     ensures { ledger.new.workers ≡ ledger.old.workers }
 {
-    let piece = root_piece(rt, ledger.block());
-    let timed = source_order(ledger.block());
+    let piece = piece_of(rt, ledger.block(), &[], 22, 1);
+    let timed = as_written(ledger.block(), &Profile::standard());
     let replies = [
         reply(rt, ledger, Event::Grant { w: 1 }),
         reply(rt, ledger, Event::Claim { w: 1 }),

@@ -1,8 +1,8 @@
+use crate::blocks::{MULTIPLIES, ONE_LOAD, only_block};
 use s66_isa::Profile;
 use s66_line::Block;
 use s66_node::{Priority, Walk, schedule_rest};
 use s66_source::read_source;
-use s66_test_blocks::{MULTIPLIES, ONE_LOAD, only_block};
 use std::process::Abort;
 use std::test::Fail;
 

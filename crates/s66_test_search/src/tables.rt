@@ -3,7 +3,7 @@ ghost use Rattle.std.specs.Prelude.{◌≡◌, ◌≤◌};
 ghost use Rattle.s66_isa.specs.Table.{standard};
 ghost use Rattle.s66_line.specs.Block.{instrs_of};
 
-use crate::finish::THREE_ALIKE;
+use crate::blocks::{THREE_ALIKE, only_block};
 use crate::ledger::reply;
 use s66_dep::is_beginning;
 use s66_isa::Profile;
@@ -12,7 +12,6 @@ use s66_line::Block;
 use s66_model::Rule;
 use s66_node::{Constant, Marks, Piece, Walk};
 use s66_source::read_source;
-use s66_test_blocks::only_block;
 use std::process::Abort;
 use std::test::Fail;
 

@@ -2,6 +2,7 @@ ghost use Rattle.std.specs.Prelude.{◌≤◌};
 ghost use Rattle.s66_model.specs.declared.limits.TheConstants.{BUDGET_LIMIT};
 ghost use Rattle.s66_model.specs.declared.limits.TheConstants.{WORKERS_LIMIT};
 
+use crate::blocks::{MULTIPLIES, SEVEN_ALIKE, SEVEN_MULTIPLIES, only_block};
 use crate::gates::{Claimants, Filling, Held, Meeting};
 use crate::hub::open_hub;
 use s66_isa::Profile;
@@ -10,7 +11,6 @@ use s66_line::Block;
 use s66_model::{BUDGET_LIMIT, Options, Rule};
 use s66_pool::{FIRST_SPLITS, Free, Gate, Hub, Seat, run, work};
 use s66_source::read_source;
-use s66_test_blocks::{MULTIPLIES, SEVEN_MULTIPLIES, only_block};
 use std::process::Abort;
 use std::sync::Wait;
 use std::test::Fail;
@@ -223,10 +223,7 @@ fn grafted_nodes_are_named(rt: HostRuntime) -> Result<(), Fail> {
     check_named(&rt, block, 4)
 }
 
-/// Every order takes 16, and the first beginning that is known of a set of numbers dominates all others: one split for each set.
-const SEVEN_ALIKE: &str = "  SB0 B1\n  SB0 B1\n  SB0 B1\n  SB0 B1\n  SB0 B1\n  SB0 B1\n  SB0 B1\n";
-
-/// How many sets lack some of the seven.
+/// How many sets lack some of the seven that don't differ: one split for each.
 const SETS: u32 = 127;
 
 /// A worker names the nodes of its earlier pieces, so that it splits none of a set twice. Two name each other's: they may split

@@ -1,5 +1,6 @@
-use crate::rows::{ONE_LOAD, PACKING_GAP, Row, THIRD_ORDER};
+use crate::rows::Row;
 use crate::running::CHART;
+use s66_test_search::{ONE_LOAD, PACKING_GAP, THIRD_ORDER};
 
 pub(crate) const ROWS: &[Row] = &[
     ("empty input", CHART, "", 0, ""),

@@ -1,5 +1,6 @@
-use crate::rows::{B0, ONE_LOAD, Row, STORE_THEN_LOAD, UNPACK_THEN_SHIFT};
+use crate::rows::{B0, Row, STORE_THEN_LOAD, UNPACK_THEN_SHIFT};
 use crate::running::DEPS;
+use s66_test_search::ONE_LOAD;
 
 pub(crate) const ROWS: &[Row] = &[
     ("empty input", DEPS, "", 0, ""),

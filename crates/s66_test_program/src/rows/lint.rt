@@ -1,5 +1,6 @@
-use crate::rows::{MIXED_SOURCE, ONE_LOAD, Row};
+use crate::rows::{MIXED_SOURCE, Row};
 use crate::running::LINT;
+use s66_test_search::ONE_LOAD;
 
 pub(crate) const ROWS: &[Row] = &[
     ("empty input", LINT, "", 0, ""),

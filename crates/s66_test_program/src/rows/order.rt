@@ -1,5 +1,6 @@
-use crate::rows::{MIXED_SOURCE, ONE_LOAD, Row, STORE_THEN_LOAD, THIRD_ORDER, THREE_MULTIPLIES};
+use crate::rows::{MIXED_SOURCE, Row, STORE_THEN_LOAD};
 use crate::running::{CHECK, ORDER, ORDER_TRACE};
+use s66_test_search::{MULTIPLIES, ONE_LOAD, THIRD_ORDER};
 
 const COMMENT: &str =
     "*A COMMENT OF TWO HUNDRED BYTES A COMMENT OF TWO HUNDRED BYTES A COMMENT OF TWO HUNDRED BYTES A COMMENT OF TWO HUNDRED BYTES A COMMENT OF TWO HUNDRED BYTES A COMMENT OF TWO HUNDRED BYTES A COMMENT OF \n";
@@ -90,21 +91,21 @@ pub(crate) const ROWS: &[Row] = &[
             "0",
             "--trace",
         ],
-        THREE_MULTIPLIES,
+        MULTIPLIES,
         7,
         "* BLOCK 1 COUNT 3 SOURCE 22 TIME 22 AT LEAST 17\n* SPLITS 0\n          FX1 X2*X3\n          FX4 X5*X6\n          FX0 X7*X7\n",
     ),
     (
         "three multiplies",
         ORDER_TRACE,
-        THREE_MULTIPLIES,
+        MULTIPLIES,
         0,
         "* BLOCK 1 COUNT 3 SOURCE 22 TIME 22 BEST\n* SPLITS 10\n          FX1 X2*X3\n          FX4 X5*X6\n          FX0 X7*X7\n",
     ),
     (
         "three multiplies, one split short",
         &["s66", "order", "--workers", "1", "--nodes", "9", "--trace"],
-        THREE_MULTIPLIES,
+        MULTIPLIES,
         7,
         "* BLOCK 1 COUNT 3 SOURCE 22 TIME 22 AT LEAST 17\n* SPLITS 9\n          FX1 X2*X3\n          FX4 X5*X6\n          FX0 X7*X7\n",
     ),

@@ -1,5 +1,6 @@
-use crate::rows::{ONE_LOAD, Row, THREE_MULTIPLIES};
+use crate::rows::Row;
 use crate::running::PAGE;
+use s66_test_search::{MULTIPLIES, ONE_LOAD};
 
 /// Runs as `Row`, whose text is how the page ends, from the head of its list of blocks on.
 pub(crate) const ENDS: &[Row] = &[
@@ -20,7 +21,7 @@ pub(crate) const ENDS: &[Row] = &[
     (
         "three multiplies, one split short, page",
         &["s66", "page", "--workers", "1", "--nodes", "9"],
-        THREE_MULTIPLIES,
+        MULTIPLIES,
         7,
         "<tr><th>BLOCK<th>LINE<th>COUNT<th>SOURCE<th>TIME<th>BOUND\n<tr><td><a href='#b1'>1</a><td>1<td>3<td>22<td>22<td>AT LEAST 17\n</table>\n<h2 id='b1'> BLOCK 1 LINE 1 COUNT 3 SOURCE 22 TIME 22 AT LEAST 17 <a href='#top'>&#8593;</a></h2>\n<h3>As it is written: 22 minor cycles</h3>\n<table class='order' style='--w:62em'>\n<tr class='ruler'><th><td><svg><text x='0em' y='12'>0</text><text x='10em' y='12'>10</text><text x='20em' y='12'>20</text></svg>\n<tr class='path'><th>  1  FX1 X2*X3<td><svg><rect class='MULTIPLY' x='0em' width='10em'><title>ISSUE 0 START 0 DONE 10 FREE 11</title></rect><text x='10em' y='12' dx='2'></text></svg>\n<tr><th>  2  FX4 X5*X6<td><svg><rect class='MULTIPLY' x='1em' width='10em'><title>ISSUE 1 START 1 DONE 11 FREE 12</title></rect><text x='11em' y='12' dx='2'></text></svg>\n<tr class='path'><th>  3  FX0 X7*X7<td><svg><rect class='FIRST' x='2em' width='9em'><title>FIRST 2 TO 11: MULTIPLY taken by 1</title></rect><rect class='MULTIPLY' x='11em' width='10em'><title>ISSUE 11 START 11 DONE 21 FREE 22</title></rect><text x='21em' y='12' dx='2'> <tspan class='FIRST'>MULTIPLY taken by 1</tspan></text></svg>\n<tr class='unit'><th>     MULTIPLY TAKEN 100 % WORKS 90 %<td><svg><rect class='taken' x='0em' width='11em'><title>1</title></rect><rect class='MULTIPLY' x='0em' width='10em'><title>1</title></rect><text x='0em' y='12'>1</text><rect class='taken' x='11em' width='11em'><title>3</title></rect><rect class='MULTIPLY' x='11em' width='10em'><title>3</title></rect><text x='11em' y='12'>3</text></svg>\n<tr class='unit'><th>     MULTIPLY TAKEN 50 % WORKS 45 %<td><svg><rect class='taken' x='1em' width='11em'><title>2</title></rect><rect class='MULTIPLY' x='1em' width='10em'><title>2</title></rect><text x='1em' y='12'>2</text></svg>\n</table>\n<pre>  3 FIRST 2 TO 11 UNIT MULTIPLY BY 1\nPATH 1 3\nLOST FIRST 9 SECOND 0 THIRD 0\n</pre>\n",
     ),

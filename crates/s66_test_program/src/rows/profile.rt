@@ -1,5 +1,6 @@
-use crate::rows::{ONE_LOAD, Row, THREE_MULTIPLIES};
+use crate::rows::Row;
 use crate::running::CHECK;
+use s66_test_search::{MULTIPLIES, ONE_LOAD};
 
 const ONE_BOOLEAN: &str = "  BX1 X2+X3\n";
 
@@ -45,14 +46,14 @@ pub(crate) const ROWS: &[Row] = &[
             "--profile",
             "{\"units_multiply\":3}",
         ],
-        THREE_MULTIPLIES,
+        MULTIPLIES,
         0,
         "* BLOCK 1 COUNT 3 SOURCE 13 TIME 13 BEST\n* SPLITS 0\n          FX1 X2*X3\n          FX4 X5*X6\n          FX0 X7*X7\n",
     ),
     (
         "three multiplies in three units, proved",
         &["s66", "prove", "--profile", "{\"units_multiply\":3}"],
-        THREE_MULTIPLIES,
+        MULTIPLIES,
         0,
         THREE_UNITS,
     ),

@@ -1,13 +1,12 @@
-use crate::rows::{MIXED_SOURCE, Row, THREE_MULTIPLIES};
+use crate::rows::{MIXED_SOURCE, Row};
 use crate::running::SUM;
+use s66_test_search::{MULTIPLIES, THREE_ALIKE};
 
 /// Blocks that save 1, 4, 4 and 0 minor cycles.
 const FOUR_BLOCKS: &str =
     "  NX1 B0,X2\n  SB0 5\n  SX3 B0\n  ZR X1,L\n  SA1 A1+B1\n  BX6 X1\n  BX7 X2\n  EQ L\n  BX7 X2\n  LX3 1\n  IX4 X5+X6\n  SA1 A1+100\n+ BX1 X2\n";
 
 /// Orders of which one is as good as any other.
-const THREE_ALIKE: &str = "  SB0 B1\n  SB0 B1\n  SB0 B1\n";
-
 pub(crate) const ROWS: &[Row] = &[
     (
         "empty input",
@@ -40,7 +39,7 @@ pub(crate) const ROWS: &[Row] = &[
     (
         "three multiplies, one split short",
         &["s66", "sum", "--workers", "1", "--nodes", "9"],
-        THREE_MULTIPLIES,
+        MULTIPLIES,
         7,
         "BLOCK 1 LINE 1 COUNT 3 SOURCE 22 TIME 22 AT LEAST 17\nTOTAL BLOCKS 1 SOURCE 22 TIME 22 BEST 0\n",
     ),
@@ -82,7 +81,7 @@ pub(crate) const ROWS: &[Row] = &[
     (
         "three multiplies in three units",
         &["s66", "sum", "--profile", "{\"units_multiply\":3}"],
-        THREE_MULTIPLIES,
+        MULTIPLIES,
         0,
         "BLOCK 1 LINE 1 COUNT 3 SOURCE 13 TIME 13 BEST\nTOTAL BLOCKS 1 SOURCE 13 TIME 13 BEST 1\n",
     ),

@@ -1,8 +1,6 @@
-use crate::rows::{
-    B0, MIXED_SOURCE, ONE_LOAD, PACKING_GAP, Row, STORE_THEN_LOAD, THIRD_ORDER, THREE_MULTIPLIES,
-    UNPACK_THEN_SHIFT,
-};
+use crate::rows::{B0, MIXED_SOURCE, Row, STORE_THEN_LOAD, UNPACK_THEN_SHIFT};
 use crate::running::{TIME, TRACE};
+use s66_test_search::{MULTIPLIES, ONE_LOAD, PACKING_GAP, THIRD_ORDER};
 
 pub(crate) const ROWS: &[Row] = &[
     ("empty input", TIME, "", 0, ""),
@@ -30,7 +28,7 @@ pub(crate) const ROWS: &[Row] = &[
     (
         "three multiplies",
         TIME,
-        THREE_MULTIPLIES,
+        MULTIPLIES,
         0,
         "BLOCK 1 LINE 1 COUNT 3 PARCELS 3 NO 0 TIME 22\n",
     ),

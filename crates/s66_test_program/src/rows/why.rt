@@ -1,5 +1,6 @@
-use crate::rows::{ONE_LOAD, PACKING_GAP, Row, STORE_THEN_LOAD, THIRD_ORDER, THREE_MULTIPLIES};
+use crate::rows::{Row, STORE_THEN_LOAD};
 use crate::running::WHY;
+use s66_test_search::{MULTIPLIES, ONE_LOAD, PACKING_GAP, THIRD_ORDER};
 
 /// A linear interpolation, from its entry on the second line.
 const LERP: &str =
@@ -73,7 +74,7 @@ pub(crate) const ROWS: &[Row] = &[
     (
         "three multiplies, why, one split short",
         &["s66", "why", "--order", "--workers", "1", "--nodes", "9"],
-        THREE_MULTIPLIES,
+        MULTIPLIES,
         7,
         "BLOCK 1 LINE 1 TIME 22\n  3 FIRST 2 TO 11 UNIT MULTIPLY BY 1\nPATH 1 3\nLOST FIRST 9 SECOND 0 THIRD 0\n",
     ),

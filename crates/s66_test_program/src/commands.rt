@@ -1,0 +1,77 @@
+ghost use Rattle.s66_program.specs.Output.{IsSearchWithin, IsWithinLimits};
+
+use s66_device::{OverRead, OverWrite};
+use s66_model::{Options, Rule};
+use s66_program::{Command, Fault, Status, Strategy, run_command};
+use std::process::Abort;
+use std::sync::Wait;
+use std::thread::Threads;
+
+/// A search by workers, of at most so many splits, by a rule.
+fn search_by(workers: u8, nodes: u32, rule: Rule) -> Strategy
+    requires { IsSearchWithin workers nodes }
+    ensures { IsSearchWithin result.search.workers result.search.nodes }
+{
+    Strategy {
+        search: Options {
+            workers,
+            nodes,
+            rule,
+        },
+        deep: false,
+    }
+}
+
+/// `order --trace` by such a search.
+pub fn order_by(workers: u8, nodes: u32, rule: Rule) -> Command<'static>
+    requires { IsSearchWithin workers nodes }
+    ensures { IsWithinLimits result }
+{
+    Command::Order {
+        cut: false,
+        strategy: search_by(workers, nodes, rule),
+        trace: true,
+        profile: None,
+    }
+}
+
+/// `prove` by such a search.
+pub fn prove_by(workers: u8, nodes: u32, rule: Rule) -> Command<'static>
+    requires { IsSearchWithin workers nodes }
+    ensures { IsWithinLimits result }
+{
+    Command::Prove {
+        cut: false,
+        strategy: search_by(workers, nodes, rule),
+        profile: None,
+    }
+}
+
+/// The result of a command at a text, and what it wrote.
+pub fn run<R: AllocGlobal + Threads + Wait + Sync>(
+    rt: &R,
+    command: Command,
+    text: &[u8],
+) -> (Result<Status, Fault>, Vec<u8>)
+    requires { IsWithinLimits command }
+{
+    let mut reader = OverRead::new(text);
+    let mut writer = OverWrite::new(Vec::new(rt.alloc()));
+    let result = run_command(rt, command, &mut reader, &mut writer);
+    (result, writer.into_inner())
+}
+
+/// Checks how a command ends at a text, and what it writes.
+pub fn check_output<R: AllocGlobal + Abort + Threads + Wait + Sync>(
+    rt: &R,
+    command: Command,
+    text: &str,
+    status: Status,
+    output: &str,
+)
+    requires { IsWithinLimits command }
+{
+    let (result, written) = run(rt, command, text.as_bytes());
+    assert_eq!(rt; result, Ok(status), "{text}");
+    assert_eq!(rt; written.as_slice(), output.as_bytes(), "{text}");
+}

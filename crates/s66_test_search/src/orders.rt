@@ -1,0 +1,45 @@
+use crate::blocks::{ONE_LOAD, only_block};
+use s66_dep::{NotLegal, Order};
+use s66_line::Block;
+use s66_source::read_source;
+use std::test::Fail;
+
+/// Numbers, and the place that is returned if they are no legal order of one load.
+const PLACES: &[(&[u8], Option<usize>)] = &[
+    (&[1, 2, 3], None),
+    (&[1, 3, 2], None),
+    (&[2, 1, 3], Some(1)),
+    (&[1, 3], Some(3)),
+    (&[1, 3, 3], Some(3)),
+    (&[1, 2, 3, 1], Some(4)),
+    (&[0], Some(1)),
+    (&[], Some(1)),
+];
+
+/// The place that is returned for some numbers if they are no legal order.
+fn refused_place(block: &Block, numbers: &[u8]) -> Option<usize> {
+    match Order::new(block, numbers) {
+        Ok(_) => None,
+        Err(NotLegal { at }) => Some(at),
+    }
+}
+
+#[test]
+fn takes_legal_orders(rt: HostRuntime) -> Result<(), Fail> {
+    let source = read_source(rt.alloc(), ONE_LOAD.as_bytes())?;
+    let block = only_block(&source).expect(&rt, "one block");
+    for &(numbers, place) in PLACES {
+        assert_eq!(rt; refused_place(block, numbers), place);
+    }
+    Ok(())
+}
+
+#[test]
+fn shows_refusals(rt: HostRuntime) -> Result<(), Fail> {
+    let shown = format!(in rt.alloc(); "{}", NotLegal { at: 3 })?;
+    assert_eq!(rt;
+        shown.as_str(),
+        "no legal order: place 3 has no number, or one that is not ready there"
+    );
+    Ok(())
+}

@@ -1,0 +1,94 @@
+use crate::blocks::{MULTIPLIES, ONE_LOAD, only_block};
+use crate::plain_paths::{plain_floor, plain_tails};
+use crate::walk::{push_ready, undo_last};
+use s66_isa::{BLOCK_LIMIT, Profile};
+use s66_line::Block;
+use s66_paths::{PathBounds, Tails};
+use s66_source::read_source;
+use s66_time::Clock;
+use std::process::Abort;
+use std::test::Fail;
+
+/// How many numbers are tried, most of them in vain.
+const TRIES: usize = 4000;
+
+/// The only Add unit is free one minor cycle after X1 is there.
+const TWO_ADDS: &str = "  FX1 X2+X3\n  FX4 X1+X5\n";
+
+/// Loads, stores, both results of a normalise, all kinds of units, and registers that are written and read often.
+const MIXED: &str =
+    "  SA1 A1+B1\n  SA2 A2+B1\n  FX3 X1*X2\n  NX4 B2,X3\n  BX6 X4\n  SA6 A6+B2\n  SA1 A1+B2\n  FX1 X1/X3\n  IX7 X1+X4\n  SA7 A7+100\n  LX1 3\n  SB2 B2+1\n  FX4 X1+X2\n  PX5 B2,X4\n  CX3 X5\n  SA5 A5+B1\n  FX2 X5*X1\n  BX7 X2\n  SA7 A7+B1\n  SX1 B2\n";
+
+/// Walks at random through the beginnings of a block's orders, and checks each.
+fn check_block<R: Abort>(rt: &R, block: &Block, profile: &Profile) {
+    let tails = plain_tails(block, profile);
+    let bounds = PathBounds::new(block, profile, &tails);
+    let mut clock = Clock::new(block, profile);
+    let mut random = 12345u32;
+    assert_eq!(rt; bounds.floor(&clock), plain_floor(&clock, &tails));
+    for _ in 0..TRIES {
+        random = random.wrapping_mul(1_103_515_245).wrapping_add(12345);
+        let n = ((random >> 16) % 24) as u8;
+        let is_changed = if n == 0 {
+            undo_last(&mut clock)
+        } else {
+            push_ready(&mut clock, n)
+        };
+        if is_changed {
+            assert_eq!(rt; bounds.floor(&clock), plain_floor(&clock, &tails));
+        }
+    }
+}
+
+/// What follows the stages of the two additions, worked out by hand.
+fn tails_of_two_adds() -> [Tails; BLOCK_LIMIT] {
+    let mut tails = [Tails::default(); BLOCK_LIMIT];
+    tails[0] = Tails {
+        issue: 10,
+        start: 10,
+        first: 6,
+        second: 0,
+        free: 5,
+    };
+    tails[1] = Tails {
+        issue: 5,
+        start: 5,
+        first: 1,
+        second: 0,
+        free: 0,
+    };
+    tails
+}
+
+/// Both end at 10, the total of the only order.
+fn check_two_adds<R: Abort>(rt: &R, block: &Block) {
+    let profile = Profile::standard();
+    assert_eq!(rt; block.count(), 2);
+    let bounds = PathBounds::new(block, &profile, &tails_of_two_adds());
+    let mut clock = Clock::new(block, &profile);
+    assert_eq!(rt; bounds.floor(&clock), 10);
+    assert_eq!(rt; bounds.leaf(&clock), 1);
+    assert!(rt; push_ready(&mut clock, 1));
+    assert_eq!(rt; bounds.floor(&clock), 10);
+    assert_eq!(rt; bounds.leaf(&clock), 2);
+    assert!(rt; push_ready(&mut clock, 2));
+    assert_eq!(rt; bounds.floor(&clock), 0);
+    assert_eq!(rt; clock.total(), 10);
+}
+
+#[test]
+fn two_adds(rt: HostRuntime) -> Result<(), Fail> {
+    let source = read_source(rt.alloc(), TWO_ADDS.as_bytes())?;
+    check_two_adds(&rt, only_block(&source).expect(&rt, "one block"));
+    Ok(())
+}
+
+#[test]
+fn as_the_plain_form(rt: HostRuntime) -> Result<(), Fail> {
+    for text in [ONE_LOAD, MULTIPLIES, TWO_ADDS, MIXED] {
+        let source = read_source(rt.alloc(), text.as_bytes())?;
+        let block = only_block(&source).expect(&rt, "one block");
+        check_block(&rt, block, &Profile::standard());
+    }
+    Ok(())
+}

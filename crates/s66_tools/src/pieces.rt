@@ -1,0 +1,53 @@
+//! Expansions of a block's empty prefix.
+
+use crate::calls::Answered;
+use crate::sources::{block_of, source_of};
+use s66_dep::is_beginning;
+use s66_isa::Profile;
+use s66_node::{Constant, Piece, expand, expand_dominated, expand_with};
+use s66_test_search::{MULTIPLIES, THREE_ALIKE};
+use std::alloc::{AllocError, Global};
+
+/// A best time that no order of the blocks reaches, so that whole trees are grown.
+const ABOVE_ALL: u32 = 40;
+
+/// More splits than the trees have.
+const SPLITS: u32 = 100;
+
+/// How many splits and nodes a piece has, and the time of its best order.
+fn answered(piece: &Piece) -> Answered {
+    let time = match piece.timed() {
+        Some(timed) => timed.total() as usize,
+        None => 0,
+    };
+    [piece.splits() as usize, piece.nodes().len(), time, 0]
+}
+
+/// A piece for a best time.
+pub fn expanded(alloc: Global) -> Result<Answered, AllocError> {
+    let source = source_of(alloc, MULTIPLIES)?;
+    let block = block_of(&source)?;
+    let profile = Profile::standard();
+    prove!(is_beginning(block, &[]));
+    let piece = expand(alloc, block, &profile, &[], ABOVE_ALL, SPLITS)?;
+    Ok(answered(&piece))
+}
+
+/// A piece for a best time that is read anew.
+pub fn expanded_with(alloc: Global) -> Result<Answered, AllocError> {
+    let source = source_of(alloc, MULTIPLIES)?;
+    let block = block_of(&source)?;
+    let profile = Profile::standard();
+    let mut least = Constant(ABOVE_ALL);
+    let piece = expand_with(alloc, block, &profile, &[], &mut least, SPLITS)?;
+    Ok(answered(&piece))
+}
+
+/// A piece with dominated leaves.
+pub fn expanded_dominated(alloc: Global) -> Result<Answered, AllocError> {
+    let source = source_of(alloc, THREE_ALIKE)?;
+    let block = block_of(&source)?;
+    let profile = Profile::standard();
+    let piece = expand_dominated(alloc, block, &profile, &[], ABOVE_ALL, SPLITS)?;
+    Ok(answered(&piece))
+}
