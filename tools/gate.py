@@ -4,12 +4,15 @@
     tools/gate.py LOG [ARGUMENT..]   runs `rt ci ARGUMENT..` here, writes what it says to LOG, and then prints the table
     tools/gate.py --table LOG        prints the table of a log that was written so
 
-The table has the processor minutes of each crate: its check, the proof of its tests, and its must-fail edits, for which the
-crate is checked once more. They are sampled from the processes of the run, twice a second. The status is that of `rt ci`, and
-1 if an edit was refused only because a proof file names what the edit took away: such an edit shows nothing of a contract.
+The table has the processor seconds of each crate: its check, the proof of its tests, and its must-fail edits, for which the
+crate is checked once more. They are sampled from the processes of the run, twice a second, and those of the C compiler and of
+what is run aren't among them. Below it is the sum, in processor minutes, and that of all that the run did. The status is that of
+`rt ci`, and 1 if an edit was refused only because a proof file names what the edit took away: such an edit shows nothing of a
+contract.
 """
 import os
 import re
+import resource
 import subprocess
 import sys
 import threading
@@ -104,12 +107,26 @@ def run(log, arguments):
         sampler.join()
         for (crate, kind), seconds in sorted(sampler.sums().items()):
             file.write(f"gate: {crate} {kind} {seconds:.1f}\n")
+        used = resource.getrusage(resource.RUSAGE_CHILDREN)
+        file.write(f"gate: processors {used.ru_utime + used.ru_stime:.1f}\n")
         file.write(f"gate: clock {time.time() - begun:.1f}\n")
     return status
 
 
-def minutes(seconds):
-    return f"{seconds / 60:.1f}" if seconds else ""
+def row(name, functions, cost, edits):
+    """A row of the table: what a crate cost in all, or all crates."""
+    check, tests, of_edits = (f"{cost[kind]:.0f}" if cost.get(kind) else "" for kind in KINDS)
+    return f"| {name} | {functions} | {check} | {tests} | {edits or ''} | {of_edits} | {sum(cost.values()):.0f} |"
+
+
+def sum_lines(text, seconds):
+    """The lines below the table: processor minutes, and those by the clock."""
+    whole = dict(re.findall(r"^gate: (processors|clock) ([\d.]+)$", text, re.M))
+    yield f"\nProcessor minutes of the table: {seconds / 60:.1f}"
+    if "processors" in whole:
+        yield f"Processor minutes of the run: {float(whole['processors']) / 60:.1f}"
+    if "clock" in whole:
+        yield f"By the clock: {float(whole['clock']) / 60:.1f} minutes on {os.cpu_count()} processors"
 
 
 def table(log):
@@ -123,16 +140,11 @@ def table(log):
     edits = {}
     for crate in re.findall(r"must-fail (\w+)/\S+\.edit: ", text):
         edits[crate] = edits.get(crate, 0) + 1
-    rows = ["| Crate | Functions | Check | Tests | Edits | Their minutes | In all |", "|---|---|---|---|---|---|---|"]
-    for crate, cost in costs.items():
-        cells = [functions.get(crate, ""), minutes(cost.get("check")), minutes(cost.get("tests")), str(edits.get(crate, ""))]
-        rows.append(f"| `{crate}` | {' | '.join(cells)} | {minutes(cost.get('edits'))} | {minutes(sum(cost.values()))} |")
-    sums = [sum(cost.get(kind, 0) for cost in costs.values()) for kind in KINDS]
-    count = sum(map(int, functions.values()))
-    rows.append(f"| all | {count} | {minutes(sums[0])} | {minutes(sums[1])} | {sum(edits.values())} | {minutes(sums[2])} | {minutes(sum(sums))} |")
-    clock = re.search(r"^gate: clock ([\d.]+)$", text, re.M)
-    if clock:
-        rows.append(f"\nBy the clock: {minutes(float(clock[1]))} minutes on {os.cpu_count()} processors.")
+    rows = ["| Crate | Functions | Check | Tests | Edits | Their seconds | In all |", "|---|---|---|---|---|---|---|"]
+    rows += [row(f"`{crate}`", functions.get(crate, ""), cost, edits.get(crate)) for crate, cost in costs.items()]
+    whole = {kind: sum(cost.get(kind, 0) for cost in costs.values()) for kind in KINDS}
+    rows.append(row("all", sum(map(int, functions.values())), whole, sum(edits.values())))
+    rows += sum_lines(text, sum(whole.values()))
     return "\n".join(rows), [line for line in text.splitlines() if SHOWS_NOTHING in line]
 
 
