@@ -16,7 +16,7 @@ that is too slow for four. So the same is printed of four processes at once, eac
 for nobody: four workers can hardly gain more.
 
 What a worker costs beside a search without (the lock, the history, a thread) is measured with the crate s66_tools, which searches by
-one worker and without; `rt run` proves and builds it where that is needed. Both search with fewer splits, in turns and on
+one worker and without; it is proved and built first where that is needed. Both search with fewer splits, in turns and on
 one processor, so that they find the machine at one pace.
 
 A worker that finds the ledger's lock taken looks for it for a while, and then asks the kernel to let other threads run; so does
@@ -142,7 +142,7 @@ def main():
     parser.add_argument("--rounds", type=int, default=7, help="runs of each search on each block, 7 if left out")
     parser.add_argument("program", nargs="?", default=PROGRAM)
     asked = parser.parse_args()
-    benches = build("s66_tools", ["tree", "1"])
+    benches = build("s66_tools")
     for length, seeds in SEEDS.items():
         texts = [block_from(seed, length) for seed in seeds]
         measure(length, texts, asked.program, asked.rounds)

@@ -6,7 +6,7 @@
                                               included, and the seconds of a source of 1,000 blocks of 4 to 20 instructions by
                                               one worker and by four
 
-The program is the crate s66_tools, and for `order` s66_main, which `rt run` proves and builds where that is needed.
+The program is the crate s66_tools, and for `order` s66_main, which is proved and built first where that is needed.
 Instructions are those of valgrind's callgrind, and what is the same in two runs is taken off by their difference. The blocks
 are random and of all sorts; a fixed seed makes them.
 """
@@ -19,19 +19,17 @@ import time
 
 from speed import ALL, TOP, instructions
 
-CRATES = os.path.join(TOP, "crates")
+BUILD = 'root=$1; . "$root/tools/build.sh"; is_current "$2" || { make_room && build "$2"; }'
 LENGTHS = [24, 40, 64]
 BLOCKS = 4
 ROUNDS = 50
 
 
-def build(name, words):
-    """The built program of a crate."""
-    crate = os.path.join(CRATES, name)
-    said = subprocess.run(["rt", "run", "--"] + words, cwd=crate, stdin=subprocess.DEVNULL, capture_output=True)
-    if said.returncode != 0:
-        raise SystemExit(said.stderr.decode())
-    return os.path.join(crate, "out", name)
+def build(name):
+    """The program of a crate, proved and built as ./s66 does it."""
+    if subprocess.run(["sh", "-c", BUILD, "bench", TOP, name], stdin=subprocess.DEVNULL).returncode != 0:
+        raise SystemExit(1)
+    return os.path.join(TOP, "crates", name, "out", name)
 
 
 def block_of(rng, length):
@@ -111,13 +109,13 @@ def main():
     parser.add_argument("what", nargs="?", choices=["order"], help="the search itself, and nothing of its parts")
     asked = parser.parse_args()
     if asked.what == "order":
-        program = build("s66_main", ["time"])
+        program = build("s66_main")
         for length in LENGTHS:
             tell_order(program, length, list(blocks_of(length)), asked.budget)
         for workers in (1, 4):
             tell_mixed(program, workers)
         return
-    program = build("s66_tools", ["tree", "1"])
+    program = build("s66_tools")
     for length in LENGTHS:
         texts = list(blocks_of(length))
         tell_steps(program, length, texts)
