@@ -11,7 +11,7 @@ use Rattle.atomic_table.specs.Table.{State, Me, keeps, takes, gives, Allows, Spl
 use Rattle.atomic_table.proofs.Lists.{at_set, set_here, set_else, set_again, at_longer}
 use Rattle.s66_isa.proofs.Lists.{weigh-append, tally-append}
 use Rattle.s66_model.specs.Accounts.{Summary, SeatRecord, Agrees, opened}
-use Rattle.s66_lock.specs.SeatViews.{View, Stage, Idle, Founding, Holding, idle, holding, founding, first_of, rest_of, books_of, found_at, first_book, renewed, IsSameSearch, MayBecome}
+use Rattle.s66_lock.specs.SeatViews.{View, Stage, Idle, Founding, Holding, idle, holding, founding, first_of, rest_of, books_of, found_at, first_book, renewed, GoesOn, MayBecome}
 use Rattle.s66_lock.specs.LockTokens.{HaveEvery}
 use Rattle.s66_lock.specs.Locked.{AllAgree, IsOnce, Has, IsFree, IsTaken, Locked, keep_least, read_best, keep_books, GaveFirst, FoundedAt}
 use Rattle.s66_lock.proofs.Seats.{inside, each-set, each-snoc, each-one, weigh-replaced, le-weigh_at, two-le-weigh, one_item}
@@ -32,8 +32,8 @@ other_stage s homes holder v e has is_idle = subst (λ (g : Stage). Has s homes 
 twice : (views : List View) (id other n : ℕ) (v u : View) → IsOnce views → get_elem? views id ≡ some v → get_elem? views other ≡ some u → other ≢ id → 1 ≤ among n v → 1 ≤ among n u → ⊥
 twice views id other n v u once at at' ne a b = omega (arith, two-le-weigh (among n) views id other v u at at' ne, once n)
 
-same_search : (s t u : Summary) → IsSameSearch s t → IsSameSearch t u → IsSameSearch s u
-same_search s t u a b = record { rule = b.rule ∙ a.rule; problem = b.problem ∙ a.problem; budget = b.budget ∙ a.budget; workers = b.workers ∙ a.workers }
+goes_on : (s t u : Summary) → GoesOn s t → GoesOn t u → GoesOn s u
+goes_on s t u a b = record { rule = b.rule ∙ a.rule; problem = b.problem ∙ a.problem; budget = b.budget ∙ a.budget; workers = b.workers ∙ a.workers; best = omega (arith, a.best, b.best) }
 
 module _ {X : Type 0} (summary : X → Summary) (key : X) where
   abbrev S : Type 0
@@ -122,7 +122,7 @@ module _ {X : Type 0} (summary : X → Summary) (key : X) where
       h.1
 
   -- the seat gives the value back, if its own seat records agree with it, and so do those of each other seat
-  gives_it : (slots id : ℕ) (y : Summary) (bs cs : List SeatRecord) (x : X) → slots ≡ 1 → IsSameSearch y (summary x)
+  gives_it : (slots id : ℕ) (y : Summary) (bs cs : List SeatRecord) (x : X) → slots ≡ 1 → GoesOn y (summary x)
       → ((n : ℕ) → books_of n cs ≡ books_of n bs) → All (Agrees (summary x)) cs
       → ((us : List SeatRecord) → ((n : ℕ) → books_of n bs + books_of n us ≤ 1) → All (Agrees y) us → All (Agrees (summary x)) us)
       → Allows (Locked summary key) slots id (holding y bs, (0, Some x) ∷ []) 0 (λ n. 0) (λ word after. after ≡ (idle cs, []))
@@ -133,7 +133,7 @@ module _ {X : Type 0} (summary : X → Summary) (key : X) where
       let it : o.view ≡ v = some-injective o.view v (sym o.at ∙ ap (λ k. get_elem? s.views k) (sym here) ∙ at) in
       let has : y ≡ o.found = subst (λ (u : View). Has o.found s.homes u.stage) it o.has in
       let was : AllAgree y s.views = subst (λ (z : Summary). AllAgree z s.views) (sym has) o.agree in
-      let of_key : IsSameSearch (summary key) y = subst (λ (z : Summary). IsSameSearch (summary key) z) (sym has) o.search in (
+      let of_key : GoesOn (summary key) y = subst (λ (z : Summary). GoesOn (summary key) z) (sym has) o.search in (
         w,
         gives,
         tt,
@@ -143,7 +143,7 @@ module _ {X : Type 0} (summary : X → Summary) (key : X) where
             value = x;
             word = ap (λ ws. set ws 0 0) o.word;
             home = one_item s.homes (some (Some x)) (long ∙ one);
-            search = same_search (summary key) y (summary x) of_key search;
+            search = goes_on (summary key) y (summary x) of_key search;
             agree = each-set (λ j u. All (Agrees (summary x)) u.books) s.views id w agree
                 (λ j u ne e. others u.books (λ n. omega (arith, two-le-weigh (among n) s.views id j v u at e ne, h.0 n)) (was j u e));
             idles = each-set (λ j u. u.stage ≡ Idle) s.views id w refl (λ j u ne e. o.others j u e (λ k. ne (k ∙ sym here)));
@@ -235,8 +235,8 @@ module _ {X : Type 0} (summary : X → Summary) (key : X) where
   settles : (slots id : ℕ) (y : Summary) (bs : List SeatRecord) (x : X) → slots ≡ 1 → y ≡ summary x → All (Agrees y) bs
       → Allows (Locked summary key) slots id (holding y bs, (0, Some x) ∷ []) 0 (λ n. 0) (λ word after. after ≡ (idle bs, []))
   settles slots id y bs x one is agree =
-      let P : Summary → Type 0 = λ z. IsSameSearch y z in
-      gives_it slots id y bs bs x one (subst P is record { rule = refl; problem = refl; budget = refl; workers = refl }) (λ n. refl) (subst (λ (z : Summary). All (Agrees z) bs) is agree)
+      let P : Summary → Type 0 = λ z. GoesOn y z in
+      gives_it slots id y bs bs x one (subst P is record { rule = refl; problem = refl; budget = refl; workers = refl; best = omega arith }) (λ n. refl) (subst (λ (z : Summary). All (Agrees z) bs) is agree)
       (λ us few agree'. subst (λ (z : Summary). All (Agrees z) us) is agree')
 
   pub opens : 0 < length (summary key).accounts → Locked summary key (opening (1 ∷ []) (None ∷ []) (founding (summary key)))
@@ -250,7 +250,7 @@ module _ {X : Type 0} (summary : X → Summary) (key : X) where
       at = refl;
       has = (refl, refl);
       some_book = some_opened y some_worker;
-      search = record { rule = refl; problem = refl; budget = refl; workers = refl };
+      search = record { rule = refl; problem = refl; budget = refl; workers = refl; best = omega arith };
       agree = each-one (λ j u. All (Agrees y) u.books) v (opened-agree y);
       others = each-one (λ j u. j ≢ 0 → u.stage ≡ Idle) v (λ ne. absurd (ne refl));
     },
@@ -258,7 +258,7 @@ module _ {X : Type 0} (summary : X → Summary) (key : X) where
 
   closes : (id : ℕ) (v : View) (ws : List ℕ) (xs : List (Option X)) → v.stage ≡ Idle → HaveEvery (length (summary key).accounts) v.books
       → Final (Seen (Locked summary key) id v) ws xs
-      → (x : X) × (get_elem? xs 0 ≡ some (Some x)) × IsSameSearch (summary key) (summary x) × All (Agrees (summary x)) v.books
+      → (x : X) × (get_elem? xs 0 ≡ some (Some x)) × GoesOn (summary key) (summary x) × All (Agrees (summary x)) v.books
   closes id v ws xs is_idle every f = let s : S = f.0 in let h = f.1.0 in let at = f.1.1 in ⊎_elim
       (λ (free : IsFree summary (summary key) s). (free.value, f.4 0 (Some free.value) (ap (λ hs. get_elem? hs 0) free.home), free.search, free.agree id v at))
       (λ (o : IsTaken (summary key) s).
@@ -285,7 +285,7 @@ module _ {X : Type 0} (summary : X → Summary) (key : X) where
             problem = refl;
             budget = refl;
             account = refl;
-            least = omega (arith, follows.lower, agrees.least);
+            least = omega (arith, follows.search.best, agrees.least);
           } in
           subst P (sym (written y (p ∷ []) is)) (gives_one slots id y p (renewed (summary x) p p.least) x one agrees follows refl now)
 
@@ -310,17 +310,17 @@ module _ {X : Type 0} (summary : X → Summary) (key : X) where
 
   module _ (id : ℕ) (m : Me (Option X) View) (ws : List ℕ) (xs : List (Option X)) (is : m ≡ (idle m.0.books, [])) (every : HaveEvery (length (summary key).accounts) m.0.books)
       (final : Final (Seen (Locked summary key) id m.0) ws xs) where
-    closed : (x : X) × (get_elem? xs 0 ≡ some (Some x)) × IsSameSearch (summary key) (summary x) × All (Agrees (summary x)) m.0.books
+    closed : (x : X) × (get_elem? xs 0 ≡ some (Some x)) × GoesOn (summary key) (summary x) × All (Agrees (summary x)) m.0.books
     closed = closes id m.0 ws xs (ap (λ (k : Me (Option X) View). k.0.stage) is) every final
 
     pub closed_once : (w : ℕ) → books_of w m.0.books ≤ 1
     closed_once w = omega (arith, le-weigh_at (among w) final.0.views id m.0 final.1.1, final.1.0.0 w)
 
-    pub closed_value : (y : X) → get_elem? xs 0 ≡ some (Some y) → IsSameSearch (summary key) (summary y) × All (Agrees (summary y)) m.0.books
+    pub closed_value : (y : X) → get_elem? xs 0 ≡ some (Some y) → GoesOn (summary key) (summary y) × All (Agrees (summary y)) m.0.books
     closed_value y at =
         let both : Some closed.0 ≡ Some y = some-injective (Some closed.0) (Some y) (sym closed.1 ∙ at) in
         let e : closed.0 ≡ y = cc in
-        (subst (λ (z : X). IsSameSearch (summary key) (summary z)) e closed.2, subst (λ (z : X). All (Agrees (summary z)) m.0.books) e closed.3)
+        (subst (λ (z : X). GoesOn (summary key) (summary z)) e closed.2, subst (λ (z : X). All (Agrees (summary z)) m.0.books) e closed.3)
 
     pub closed_some : get_elem? xs 0 ≡ some None → ⊥
     closed_some at = let e : Some closed.0 ≡ None = some-injective (Some closed.0) None (sym closed.1 ∙ at) in cc

@@ -7,7 +7,7 @@ use lib.ListN.{get_elem?}
 use Rattle.atomic_table.specs.Table.{State, Me, Step}
 use Rattle.s66_isa.specs.Lists.{weigh}
 use Rattle.s66_model.specs.Accounts.{Summary, SeatRecord, Agrees, opened}
-use Rattle.s66_lock.specs.SeatViews.{View, Stage, Idle, Founding, Holding, books_of, idle, holding, renewed, IsSameSearch}
+use Rattle.s66_lock.specs.SeatViews.{View, Stage, Idle, Founding, Holding, books_of, idle, holding, renewed, GoesOn}
 
 abbrev pub AllAgree : Summary → List View → Type 0
 AllAgree s views = (seat : ℕ) (v : View) → get_elem? views seat ≡ some v → All (Agrees s) v.books
@@ -27,7 +27,7 @@ pub record IsFree {X : Type 0} (summary : X → Summary) (about : Summary) (s : 
   pub value : X
   pub word : s.words ≡ 0 ∷ []
   pub home : s.homes ≡ some (Some value) ∷ []
-  pub search : IsSameSearch about (summary value)
+  pub search : GoesOn about (summary value)
   pub agree : AllAgree (summary value) s.views
   pub idles : (seat : ℕ) (v : View) → get_elem? s.views seat ≡ some v → v.stage ≡ Idle
 
@@ -40,7 +40,7 @@ pub record IsTaken {X : Type 0} (about : Summary) (s : State (Option X) View) : 
   pub at : get_elem? s.views holder ≡ some view
   pub has : Has found s.homes view.stage
   pub some_book : 0 < length view.books
-  pub search : IsSameSearch about found
+  pub search : GoesOn about found
   pub agree : AllAgree found s.views
   pub others : (seat : ℕ) (v : View) → get_elem? s.views seat ≡ some v → seat ≢ holder → v.stage ≡ Idle
 

@@ -45,17 +45,18 @@ books_of w books = tally (λ p. p.who == w) books
 
 -- SUMMARIES
 
--- of one search: neither rule nor problem nor budget nor the number of workers differs
-pub record IsSameSearch (s t : Summary) : Type 0 where
+-- the search goes on from one to the other: neither rule nor problem nor budget nor the number of workers differs, and the best time
+-- doesn't rise
+pub record GoesOn (s t : Summary) : Type 0 where
   pub rule : t.rule ≡ s.rule
   pub problem : t.problem ≡ s.problem
   pub budget : t.budget ≡ s.budget
   pub workers : length t.accounts ≡ length s.accounts
+  pub best : t.best ≤ s.best
 
 -- what a call of the worker may make of a summary: the seat records of all others still agree
 pub record MayBecome (who : ℕ) (s t : Summary) : Type 0 where
-  pub search : IsSameSearch s t
-  pub lower : t.best ≤ s.best
+  pub search : GoesOn s t
   pub others : (p : SeatRecord) → p.who ≢ who → Agrees s p → Agrees t p
 
 -- the worker's seat record, opened anew with this least time
