@@ -1,5 +1,6 @@
 pub mod Earlier
 pub mod Growing
+pub mod GrowTurns
 pub mod Leasts
 pub mod Nodes
 pub mod NamedSplits

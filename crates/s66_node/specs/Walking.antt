@@ -5,7 +5,7 @@ use Rattle.s66_isa.specs.Lists.{Among}
 use Rattle.s66_model.specs.declared.rule.Rule.{Rule}
 use Rattle.s66_model.specs.declared.rule.Rule.TheVariants.{WrittenEarlier}
 use Rattle.s66_model.specs.Timing.{Problem, total_of}
-use Rattle.s66_model.specs.LegalOrder.{IsBeginning, IsComplete, IsIncomplete, IsLegal, is_ready}
+use Rattle.s66_model.specs.LegalOrder.{IsBeginning, IsComplete, IsIncomplete, IsLegal, is_ready, ready}
 use Rattle.s66_model.specs.Leaves.{floor, floor_value}
 use Rattle.s66_model.specs.Tree.{Tree, Alone, Vertex, AtTerminal, flat, splits, split_at, tree_values}
 use Rattle.s66_model.specs.DominatedLeaves.{DominatesByRule}
@@ -120,12 +120,19 @@ IsLeast b orders (Some least) =
 abbrev pub names_of : Grown → List Named
 names_of grown = map named grown.dominances.items
 
+-- the prefixes of its nodes, and the lines of a tree over the root that they are
+abbrev pub grown_prefixes : List ℕ → Grown → List (List ℕ)
+grown_prefixes root grown = prefixes_over root grown.nodes.items
+
+abbrev pub grown_lines : Problem → List ℕ → Grown → List (Vertex Terminal)
+grown_lines b root grown = node_lines b (names_of grown) (grown_prefixes root grown) grown.nodes.items
+
 -- a tree was made over the root: by its nodes, with its splits and the first of the least of its whole orders
 pub record IsGrown (rule : Rule) (b : Problem) (best : Span) (allowance : ℕ) (root : List ℕ) (grown : Grown) (tree : Tree Terminal) : Type 0 where
   pub grows : TreeGrows b.block (IsDue b best.high) (IsLeft rule b best) root tree
   pub nodes : AreNodes b (names_of grown) root grown.nodes.items
-  pub prefixes : tree_prefixes root tree ≡ prefixes_over root grown.nodes.items
-  pub lines : flat tree ≡ node_lines b (names_of grown) (prefixes_over root grown.nodes.items) grown.nodes.items
+  pub prefixes : tree_prefixes root tree ≡ grown_prefixes root grown
+  pub lines : flat tree ≡ grown_lines b root grown
   pub splits : splits tree ≡ grown.splits
   pub least : IsLeast b (tree_values whole_at root tree) grown.least
   pub within : grown.splits ≤ allowance
@@ -135,6 +142,29 @@ pub record IsGrown (rule : Rule) (b : Problem) (best : Span) (allowance : ℕ) (
   pub names : NameSplits rule (split_at root tree) (flat tree)
 
 -- WHILE IT IS MADE
+
+pub record IsEmpty (grown : Grown) : Type 0 where
+  pub nodes : grown.nodes.items ≡ []
+  pub dominances : grown.dominances.items ≡ []
+  pub splits : grown.splits ≡ 0
+  pub least : grown.least ≡ None
+
+-- a prefix is put behind the others, with what was found of it since it isn't split
+pub record IsUnsplitPut (b : Problem) (at : List ℕ) (old : Grown) (parent number : ℕ) (u : Unsplit) (new : Grown) : Type 0 where
+  pub short : length at ≤ 255
+  pub node : IsPushed old.nodes.items old.dominances.items parent number (length at) u new.nodes.items new.dominances.items
+  pub splits : new.splits ≡ old.splits
+  pub least : (rule : Rule) (best : Span) (known found : List (List ℕ)) → IsFound rule b best at known u → IsLeast b found old.least → IsLeast b (found ++ whole_at at (terminal_by b at u)) new.least
+
+-- a prefix that is split is put behind the others, and its children are still to come
+pub record IsSplitPut (b : Problem) (at : List ℕ) (old : Grown) (parent number : ℕ) (new : Grown) (frame : OpenSplit) : Type 0 where
+  pub short : length at ≤ 255
+  pub node : new.nodes.items ≡ old.nodes.items ++ record { parent = parent; value = 0; number = number; depth = length at; made = state.Split; state = state.Split } ∷ []
+  pub dominances : new.dominances.items ≡ old.dominances.items
+  pub splits : new.splits ≡ old.splits + 1
+  pub least : new.least ≡ old.least
+  pub place : frame.node ≡ length old.nodes.items
+  pub left : numbers_in frame.left ≡ ready b.block at
 
 -- of frames with the last on top, the numbers still to come, those of the top first
 abbrev pub lefts : List OpenSplit → List (List ℕ)

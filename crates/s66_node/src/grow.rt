@@ -5,7 +5,7 @@ ghost use Rattle.s66_model.specs.Leaves.{floor_value};
 ghost use Rattle.s66_model.specs.Tree.{Tree};
 ghost use Rattle.s66_model.specs.Piece.{Terminal};
 ghost use Rattle.s66_model.specs.Expansion.{whole_at};
-ghost use Rattle.s66_node.specs.Walking.{Span, span, IsDue, IsFound, IsOpen, IsLeast, IsGrown, IsValued, IsPushed, terminal_by, state_by};
+ghost use Rattle.s66_node.specs.Walking.{Span, span, IsDue, IsFound, IsOpen, IsLeast, IsGrown, IsEmpty, IsValued, terminal_by};
 
 use crate::least::Least;
 use crate::name::{Dominance, Name};
@@ -89,23 +89,6 @@ fn keep_dominance(dominances: &mut Vec<Dominance>, unsplit: Unsplit) -> Result<u
             Ok(place)
         }
     }
-}
-
-/// Appends the node of a prefix that isn't split, and what it has besides if it is dominated.
-fn push_unsplit(
-    nodes: &mut Vec<Node>,
-    dominances: &mut Vec<Dominance>,
-    parent: u32,
-    number: u8,
-    depth: u8,
-    unsplit: Unsplit,
-) -> Result<(), AllocError>
-    ensures { OnOk result (IsPushed nodes.old.items dominances.old.items parent number depth unsplit nodes.new.items dominances.new.items) }
-{
-    let state = unsplit.state();
-    let value = keep_dominance(dominances, unsplit)?;
-    nodes.push(Node::new(parent, number, depth, value, state))?;
-    Ok(())
 }
 
 /// What the walk's prefix, whose floor has this value, has if it isn't split. That is its floor as leaf if the floor is at least
@@ -208,6 +191,63 @@ fn keep_whole(least: &mut Option<WholeOrder>, walk: &Walk<'_>, unsplit: &Unsplit
     }
 }
 
+impl Grown {
+    ghost use Rattle.std.specs.Prelude.{◌≡◌, ◌+◌, ◌<◌, ◌^◌, IfOk, OnOk};
+    ghost use Rattle.s66_node.specs.Walking.{IsEmpty, IsUnsplitPut, IsSplitPut};
+
+    /// No node yet.
+    fn empty(alloc: Global) -> Grown
+        ensures { IsEmpty result }
+    {
+        Grown {
+            nodes: Vec::new(alloc),
+            dominances: Vec::new(alloc),
+            splits: 0,
+            least: None,
+        }
+    }
+
+    /// Appends the node of the walk's prefix, which isn't split, with what it has. Its parent is at this place, and this is its last
+    /// number; both are 0 of the root.
+    fn push_unsplit(
+        &mut self,
+        walk: &Walk<'_>,
+        parent: u32,
+        number: u8,
+        unsplit: Unsplit,
+    ) -> Result<(), AllocError>
+        ensures { OnOk result (IsUnsplitPut walk.now.problem walk.now.numbers self.old parent number unsplit self.new) }
+    {
+        keep_whole(&mut self.least, walk, &unsplit);
+        let state = unsplit.state();
+        let value = keep_dominance(&mut self.dominances, unsplit)?;
+        self.nodes
+            .push(Node::new(parent, number, walk.depth(), value, state))?;
+        Ok(())
+    }
+
+    /// Appends the node of the walk's prefix, which is split, as `push_unsplit` does. All its children are still to come.
+    fn push_split(
+        &mut self,
+        walk: &mut Walk<'_>,
+        parent: u32,
+        number: u8,
+    ) -> Result<OpenSplit, AllocError>
+        requires { self.old.splits + 1 < 2 ^ 32 }
+        ensures same { walk.new ≡ walk.old }
+        ensures put { IfOk result (λ frame. IsSplitPut walk.old.problem walk.old.numbers self.old parent number self.new frame) }
+    {
+        let node = place_of(self.nodes.len())?;
+        self.nodes
+            .push(Node::new(parent, number, walk.depth(), 0, State::Split))?;
+        self.splits += 1;
+        Ok(OpenSplit {
+            node,
+            left: walk.ready(),
+        })
+    }
+}
+
 /// The tree over the walk's prefix, made depth first by rising number: at most `allowance` splits, each at an incomplete prefix
 /// whose floor is below the best time. A prefix is left open only after all of them. The best time is read at the walk's prefix,
 /// and before each split below it.
@@ -233,68 +273,67 @@ pub(crate) fn grow<L: Least, N: Naming>(
     ensures lowest { (L.lowest incumbent.new ≡ L.lowest incumbent.old) × (L.lowest incumbent.old ≤ L.kept incumbent.new) }
     ensures grown { IfOk result (λ grown. (tree : Tree Terminal) × IsGrown rule walk.old.problem (span (L.kept incumbent.old) (L.kept incumbent.new)) allowance walk.old.numbers grown tree) }
 {
+    let mut grown = Grown::empty(alloc);
+    grow_into(&mut grown, alloc, walk, incumbent, allowance, rule, names)?;
+    Ok(grown)
+}
+
+/// Makes the tree that `grow` returns, where there is no node yet.
+fn grow_into<L: Least, N: Naming>(
+    grown: &mut Grown,
+    alloc: Global,
+    walk: &mut Walk<'_>,
+    incumbent: &mut L,
+    allowance: u32,
+    rule: Rule,
+    names: &mut N,
+) -> Result<(), AllocError>
+    requires empty { IsEmpty grown.old }
+    requires suits { N.suits names.old walk.old.problem }
+    requires unknown { rule ≡ WrittenEarlier → N.names names.old ≡ [] }
+    ensures suits { N.suits names.new walk.old.problem }
+    ensures same { walk.new.problem ≡ walk.old.problem }
+    ensures falls { L.kept incumbent.new ≤ L.kept incumbent.old }
+    ensures lowest { (L.lowest incumbent.new ≡ L.lowest incumbent.old) × (L.lowest incumbent.old ≤ L.kept incumbent.new) }
+    ensures grown { OnOk result ((tree : Tree Terminal) × IsGrown rule walk.old.problem (span (L.kept incumbent.old) (L.kept incumbent.new)) allowance walk.old.numbers grown.new tree) }
+{
     // so each prefix has a frame
     prove!(walk.numbers().len() <= BLOCK_LIMIT);
-    let mut nodes = Vec::new(alloc);
-    let mut dominances = Vec::new(alloc);
-    let mut least = None;
-    let depth = walk.numbers().len() as u8;
     let value = walk.floor_value();
     let mut best = incumbent.least();
     if let Some(unsplit) = unsplit_by_floor(walk, value, best, 0 < allowance) {
-        keep_whole(&mut least, walk, &unsplit);
         names.keep_root(walk, rule, unsplit.state());
-        push_unsplit(&mut nodes, &mut dominances, 0, 0, depth, unsplit)?;
-        return Ok(Grown {
-            nodes,
-            dominances,
-            splits: 0,
-            least,
-        });
+        grown.push_unsplit(walk, 0, 0, unsplit)?;
+        return Ok(());
     }
-    nodes.reserve(FIRST_NODES)?;
     names.keep_root(walk, rule, State::Split);
-    let ready = walk.ready();
-    nodes.push(Node::new(0, 0, depth, 0, State::Split))?;
-    let mut splits = 1;
+    grown.nodes.reserve(FIRST_NODES)?;
     // of each prefix from the first one down to the walk's, the children that are still to come
     let mut frames: ArrayVec<OpenSplit, BLOCK_LIMIT> = ArrayVec::new();
-    frames.push(OpenSplit {
-        node: 0,
-        left: ready,
-    });
+    let root = grown.push_split(walk, 0, 0)?;
+    frames.push(root);
     while let Some(mut frame) = frames.pop() {
         if let Some(n) = frame.left.pop_first() {
             frames.push(frame);
             walk.push(n);
-            let depth = walk.numbers().len() as u8;
-            let line = nodes.len();
-            let may_split = splits < allowance;
+            let line = grown.nodes.len();
+            let may_split = grown.splits < allowance;
             let child = unsplit_child(
                 alloc, walk, &mut best, incumbent, line, may_split, rule, names,
             )?;
             match child {
                 Some(unsplit) => {
-                    keep_whole(&mut least, walk, &unsplit);
-                    push_unsplit(&mut nodes, &mut dominances, frame.node, n, depth, unsplit)?;
+                    grown.push_unsplit(walk, frame.node, n, unsplit)?;
                     walk.undo();
                 }
                 None => {
-                    let ready = walk.ready();
-                    let node = place_of(line)?;
-                    nodes.push(Node::new(frame.node, n, depth, 0, State::Split))?;
-                    frames.push(OpenSplit { node, left: ready });
-                    splits += 1;
+                    let below = grown.push_split(walk, frame.node, n)?;
+                    frames.push(below);
                 }
             }
         } else if !frames.is_empty() {
             walk.undo();
         }
     }
-    Ok(Grown {
-        nodes,
-        dominances,
-        splits,
-        least,
-    })
+    Ok(())
 }

@@ -196,6 +196,13 @@ impl<'a> Walk<'a> {
         self.numbers.as_slice()
     }
 
+    /// How many numbers the prefix has.
+    pub(crate) fn depth(&self) -> u8
+        ensures { result ≡ length self.now.numbers }
+    {
+        self.numbers.len() as u8
+    }
+
     /// Whether the prefix is a whole order.
     pub fn is_complete(&self) -> bool
         ensures complete { IsTrue result ↔ IsComplete self.now.problem.block self.now.numbers }
