@@ -1,3 +1,4 @@
+pub mod Onward
 pub mod Returned
 pub mod SeatEvents
 pub mod AfterCalls

@@ -214,12 +214,12 @@ pub here-after : (P : SeatOf → Type 0) (ms : List Member) (i : ℕ) (m : Membe
 here-after P ms i m this all = subst (λ (a : List SeatOf). All P a) (sym (map-set (λ (n : Member). n.seat) ms i m)) (All-set P (seats_of ms) i m.seat this all)
 
 -- as those of the members at the end, who have room beyond them
-pub returned : (back first now : List SeatOf) (before between after rest : List Member) (n : ℕ) → back ≡ seats_of (take n (after ++ rest)) → length before ≡ n → AreSameSeats first now → seats_of before ≡ now →
+pub returned : (back first : List SeatOf) (before between after rest : List Member) (n : ℕ) → back ≡ seats_of (take n (after ++ rest)) → length before ≡ n → seats_of before ≡ first →
     AreSameSeats (seats_of before) (seats_of between) → AreSameSeats (seats_of between) (seats_of after) → AreSameSeats first back
-returned back first now before between after rest n is count one seats two three =
-    let through = same-trans first (seats_of before) (seats_of after) (subst (λ (a : List SeatOf). AreSameSeats first a) (sym seats) one) (same-trans (seats_of before) (seats_of between) (seats_of after) two three) in
+returned back first before between after rest n is count seats one two =
+    let through = subst (λ (a : List SeatOf). AreSameSeats a (seats_of after)) seats (same-trans (seats_of before) (seats_of between) (seats_of after) one two) in
     let many : length after ≡ n =
-    sym (length-map after (λ (m : Member). m.seat)) ∙ (three.0 ∙ (two.0 ∙ (length-map before (λ (m : Member). m.seat) ∙ count))) in
+    sym (length-map after (λ (m : Member). m.seat)) ∙ (two.0 ∙ (one.0 ∙ (length-map before (λ (m : Member). m.seat) ∙ count))) in
     subst (λ (a : List SeatOf). AreSameSeats first a) (sym (is ∙ ap (λ (a : List Member). seats_of a) (take_at after rest n many))) through
 
 -- MEMBERS THAT HAVE WORKED

@@ -3,11 +3,12 @@ use Rattle.std.proofs.Common.{ℕ, zero, suc, ◌+◌, ◌≤◌, ◌<◌, ◌�
 use Rattle.std.proofs.lemmas.Bool.{cases_eq, eq-eqb, or_left, or_right}
 use Rattle.std.proofs.lemmas.List.{length-map}
 use Rattle.s66_isa.specs.Lists.{some_of, rising}
+use Rattle.s66_model.specs.Ledger.{best_time}
 use Rattle.s66_model.specs.Accounts.{Summary, account_of, opened}
 use Rattle.s66_model.proofs.Beginnings.{length-rising}
 use Rattle.s66_ledger.specs.Ledgers.{LedgerOf, account_summary, events_of}
 use Rattle.s66_pool.specs.Hubs.{HubOf, SeatOf, HaveSeats}
-use Rattle.s66_pool.specs.Workers.{AreSameSeats, IsSameSearch}
+use Rattle.s66_pool.specs.Workers.{AreSameSeats, GoesOn}
 
 have-seats-from : (f : ℕ → SeatOf) → ((n : ℕ) → (f n).book.who ≡ n) → (count low : ℕ) (back : List SeatOf) → AreSameSeats (map f (rising count low)) back →
     (w : ℕ) → low ≤ w → w < low + count → some_of (λ s. s.book.who == w) back ≡ true
@@ -31,7 +32,13 @@ pub have-seats : (hub : HubOf) (l : LedgerOf) (seats back : List SeatOf) → hub
 have-seats hub l seats back is dealt same w from within =
     have-seats-from (λ n. record { hub = hub.id; book = opened hub.summary n }) (λ n. refl) l.workers 1 back (subst (λ (items : List SeatOf). AreSameSeats items back) dealt same) w from (omega (arith, within, workers-counted hub.summary l is))
 
--- what is closed is a ledger of the search that was opened
-pub same-search : (s : Summary) (l closed : LedgerOf) → s ≡ account_summary l → closed.rule ≡ s.rule → closed.problem ≡ s.problem → closed.budget ≡ s.budget → closed.workers ≡ length s.accounts → IsSameSearch l closed
-same-search s l closed is by problem budget workers =
-    (problem ∙ ap (λ (x : Summary). x.problem) is, budget ∙ ap (λ (x : Summary). x.budget) is, workers ∙ workers-counted s l is, by ∙ ap (λ (x : Summary). x.rule) is)
+-- what is closed is the ledger of the search that was opened, gone on with
+pub closed-goes-on : (s : Summary) (l closed : LedgerOf) → s ≡ account_summary l → closed.rule ≡ s.rule → closed.problem ≡ s.problem → closed.budget ≡ s.budget → closed.workers ≡ length s.accounts
+    → best_time closed.problem closed.state ≤ s.best → GoesOn l closed
+closed-goes-on s l closed is by problem budget workers best = (
+  problem ∙ ap (λ (x : Summary). x.problem) is,
+  budget ∙ ap (λ (x : Summary). x.budget) is,
+  workers ∙ workers-counted s l is,
+  by ∙ ap (λ (x : Summary). x.rule) is,
+  omega (arith, best, ap (λ (x : Summary). x.best) is),
+)

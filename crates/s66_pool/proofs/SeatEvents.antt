@@ -21,12 +21,11 @@ number_within l found at p number is who =
     (omega (arith, is.worker.0, who), omega (arith, is.worker.1, who, count, ap (λ (k : LedgerOf). k.workers) at))
 
 pub follows-itself : (w : ℕ) (s : Summary) → MayBecome w s s
-follows-itself w s = record { search = record { rule = refl; problem = refl; budget = refl; workers = refl }; lower = omega arith; others = λ p ne is. is }
+follows-itself w s = record { search = record { rule = refl; problem = refl; budget = refl; workers = refl; best = omega arith }; others = λ p ne is. is }
 
 pub follows-on : (w : ℕ) (s t u : Summary) → MayBecome w s t → MayBecome w t u → MayBecome w s u
 follows-on w s t u f g = record {
-  search = record { rule = g.search.rule ∙ f.search.rule; problem = g.search.problem ∙ f.search.problem; budget = g.search.budget ∙ f.search.budget; workers = g.search.workers ∙ f.search.workers };
-  lower = omega (arith, f.lower, g.lower);
+  search = record { rule = g.search.rule ∙ f.search.rule; problem = g.search.problem ∙ f.search.problem; budget = g.search.budget ∙ f.search.budget; workers = g.search.workers ∙ f.search.workers; best = omega (arith, f.search.best, g.search.best) };
   others = λ p ne is. g.others p ne (f.others p ne is);
 }
 
@@ -38,7 +37,7 @@ renewed-agrees s t p is follows = record {
   problem = refl;
   budget = refl;
   account = refl;
-  least = omega (arith, is.least, follows.lower);
+  least = omega (arith, is.least, follows.search.best);
 }
 
 -- the seat record that agrees is the one that is opened, but for its least time
@@ -66,8 +65,13 @@ module _ (old new : LedgerOf) (p : SeatRecord) where
           let before = accounts-count old.rule old.problem old.budget old.workers (events_of old) old.state in
           let now = accounts-count new.rule new.problem new.budget new.workers (events_of new) new.state in
           record {
-            search = record { rule = h.5; problem = h.0; budget = h.1; workers = omega (arith, before, now, h.2) };
-            lower = omega (arith, step-falls old.rule old.problem old.state new.state event reply h.3, ap (λ (b : Problem). best_time b new.state) h.0);
+            search = record {
+              rule = h.5;
+              problem = h.0;
+              budget = h.1;
+              workers = omega (arith, before, now, h.2);
+              best = omega (arith, step-falls old.rule old.problem old.state new.state event reply h.3, ap (λ (b : Problem). best_time b new.state) h.0);
+            };
             others = λ q ne is. subst (λ (s : Summary). Agrees s q) (sym summary-after)
                 (agrees-other old.rule old.problem old.budget old.workers (events_of old) old.state event reply new.state q h.3 is (λ e. ne (sym e ∙ own)));
           }

@@ -3,9 +3,9 @@
 ghost use Rattle.std.specs.Prelude.{◌≡◌, ◌≤◌, IfSome};
 ghost use Rattle.s66_model.specs.Tree.{splits};
 ghost use Rattle.s66_node.specs.Pieces.{tree_of};
-ghost use Rattle.s66_pool.specs.Workers.{IsSameSearch};
+ghost use Rattle.s66_pool.specs.Workers.{GoesOn};
 
-use crate::search::offer_schedule;
+use crate::search::{offer, offer_schedule};
 use s66_ledger::{Ledger, Ticket, expand_by_rule, is_schedule_due};
 use s66_node::{Marks, Piece, Priority, Walk};
 use std::alloc::Global;
@@ -31,7 +31,7 @@ pub(crate) fn search_alone(
     requires marks { marks.old.problem ≡ ledger.old.problem }
     ensures walk { walk.new.problem ≡ walk.old.problem }
     ensures marks { marks.new.problem ≡ marks.old.problem }
-    ensures same { IsSameSearch ledger.old ledger.new }
+    ensures on { GoesOn ledger.old ledger.new }
 {
     let mut allowance = 0;
     for _ in 0..ROUNDS_LIMIT {
@@ -59,24 +59,48 @@ fn search_round(
     requires marks { marks.old.problem ≡ ledger.old.problem }
     ensures walk { walk.new.problem ≡ walk.old.problem }
     ensures marks { marks.new.problem ≡ marks.old.problem }
-    ensures same { IsSameSearch ledger.old ledger.new }
+    ensures on { GoesOn ledger.old ledger.new }
 {
     if *allowance == 0 {
-        *allowance = ledger.grant(1).unwrap_or(0);
+        *allowance = grant(ledger);
     }
     if *allowance == 0 {
         return false;
     }
-    let Ok(Some(ticket)) = ledger.claim(1) else {
+    let Some(ticket) = claim(ledger) else {
         return false;
     };
     match expand_below(alloc, ledger, walk, marks, ticket.prefix(), *allowance) {
         Some(piece) => take_in(ledger, marks, ticket, &piece, allowance),
         None => {
-            let _ = ledger.back(1, ticket);
+            give_back(ledger, ticket);
             false
         }
     }
+}
+
+/// A grant of splits; 0 if nothing is left of the budget, or if out of memory.
+fn grant(ledger: &mut Ledger<'_>) -> u32
+    requires { 1 ≤ ledger.old.workers }
+    ensures { GoesOn ledger.old ledger.new }
+{
+    ledger.grant(1).unwrap_or(0)
+}
+
+/// Claims the best open node. None if no node is open, or if out of memory.
+fn claim(ledger: &mut Ledger<'_>) -> Option<Ticket>
+    requires { 1 ≤ ledger.old.workers }
+    ensures { GoesOn ledger.old ledger.new }
+{
+    ledger.claim(1).unwrap_or(None)
+}
+
+/// Gives a node back. If out of memory, it stays out until the ledger is finished.
+fn give_back(ledger: &mut Ledger<'_>, ticket: Ticket)
+    requires { 1 ≤ ledger.old.workers }
+    ensures { GoesOn ledger.old ledger.new }
+{
+    let _ = ledger.back(1, ticket);
 }
 
 /// Expands a prefix if its floor is below the best time; None if it isn't, or if out of memory.
@@ -119,14 +143,14 @@ fn take_in(
     requires problem { piece.now.problem ≡ ledger.old.problem }
     requires within { splits (tree_of piece.now) ≤ allowance.old }
     ensures marks { marks.new.problem ≡ marks.old.problem }
-    ensures same { IsSameSearch ledger.old ledger.new }
+    ensures on { GoesOn ledger.old ledger.new }
 {
     // the offer first, so that no whole order is left open below the best time
     if offer_best(ledger, piece) && graft(ledger, marks, ticket.node(), piece) {
         *allowance -= piece.splits();
         return true;
     }
-    let _ = ledger.back(1, ticket);
+    give_back(ledger, ticket);
     false
 }
 
@@ -136,7 +160,7 @@ fn graft(ledger: &mut Ledger<'_>, marks: &mut Marks<'_>, node: u32, piece: &Piec
     requires rule { piece.now.rule ≡ ledger.old.rule }
     requires problem { piece.now.problem ≡ ledger.old.problem }
     ensures marks { marks.new.problem ≡ marks.old.problem }
-    ensures same { IsSameSearch ledger.old ledger.new }
+    ensures on { GoesOn ledger.old ledger.new }
 {
     let first = ledger.node_count();
     if ledger.graft_own(1, node, piece).is_err() {
@@ -149,12 +173,10 @@ fn graft(ledger: &mut Ledger<'_>, marks: &mut Marks<'_>, node: u32, piece: &Piec
 /// Offers the best of a piece's whole orders, if it has one below the best time; false if out of memory.
 fn offer_best(ledger: &mut Ledger<'_>, piece: &Piece) -> bool
     requires { 1 ≤ ledger.old.workers }
-    ensures { IsSameSearch ledger.old ledger.new }
+    ensures { GoesOn ledger.old ledger.new }
 {
     match piece.timed() {
-        Some(timed) if timed.total() < ledger.best() => {
-            ledger.offer(1, timed.duplicate()).is_ok()
-        }
+        Some(timed) if timed.total() < ledger.best() => { offer(ledger, timed.duplicate()).is_ok() }
         _ => true,
     }
 }

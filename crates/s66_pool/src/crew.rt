@@ -30,7 +30,7 @@ use std::thread::Threads;
 pub fn work<'a, R: AllocGlobal + Threads + Wait + Sync, G: Gate + Sync>(
     rt: &R,
     hub: &Hub<'a>,
-    seats: Vec<Seat<'a>>,
+    mut seats: Vec<Seat<'a>>,
     block: &Block,
     profile: &Profile,
     options: Options,
@@ -42,64 +42,75 @@ pub fn work<'a, R: AllocGlobal + Threads + Wait + Sync, G: Gate + Sync>(
     ensures err { IfErr result (λ e. AreSameSeats seats.entry.items e.1.items × All (λ s. s.hub ≡ hub.now.id) e.1.items) }
 {
     let mut none = Marks::new(rt.alloc(), block, profile);
-    work_by_marks(
+    match work_by_marks(
         rt,
         hub,
-        seats,
+        &mut seats,
         block,
         profile,
         options.rule,
         gate,
         &mut none,
-    )
+    ) {
+        Ok(()) => Ok(seats),
+        Err(refusal) => Err((refusal, seats)),
+    }
 }
 
 /// Lets workers work as `work` does, who know the nodes of a table at first. If any node may be named, that is empty afterwards.
 pub(crate) fn work_by_marks<'a, R: AllocGlobal + Threads + Wait + Sync, G: Gate + Sync>(
     rt: &R,
     hub: &Hub<'a>,
-    mut seats: Vec<Seat<'a>>,
+    seats: &mut Vec<Seat<'a>>,
     block: &Block,
     profile: &Profile,
     rule: Rule,
     gate: &G,
     grafted: &mut Marks<'_>,
-) -> Result<Vec<Seat<'a>>, (AllocError, Vec<Seat<'a>>)>
-    requires here { All (λ s. s.hub ≡ hub.now.id) seats.items }
+) -> Result<(), AllocError>
+    requires here { All (λ s. s.hub ≡ hub.now.id) seats.old.items }
     requires marks { grafted.old.problem ≡ record { block = instrs_of block.now; profile = profile.now } }
-    ensures ok { IfOk result (λ back. AreSameSeats seats.entry.items back.items) }
-    ensures here { IfOk result (λ back. All (λ s. s.hub ≡ hub.now.id) back.items) }
-    ensures err { IfErr result (λ e. AreSameSeats seats.entry.items e.1.items × All (λ s. s.hub ≡ hub.now.id) e.1.items) }
+    ensures same { AreSameSeats seats.old.items seats.new.items }
+    ensures here { All (λ s. s.hub ≡ hub.now.id) seats.new.items }
     ensures marks { grafted.new.problem ≡ grafted.old.problem }
 {
     if seats.is_empty() {
-        return Ok(seats);
+        return Ok(());
     }
     let alloc = rt.alloc();
     let workers = seats.len();
-    let Ok(marks) = SharedMarks::new(alloc, block, profile, rule) else {
-        return Err((AllocError, seats));
-    };
+    let marks = SharedMarks::new(alloc, block, profile, rule)?;
     marks.take_in(rt, grafted, rule);
-    let best = best_at_first(rt, hub, &mut seats);
-    let Ok((hint, hint_seats)) = Hint::new(alloc, best, workers) else {
-        return Err((AllocError, seats));
-    };
-    let Ok((lanes, thieves)) = lanes_for(alloc, workers) else {
-        return Err((AllocError, seats));
-    };
-    let Ok(locals) = locals_for(alloc, &hint, hint_seats, lanes, thieves.as_slice()) else {
-        return Err((AllocError, seats));
-    };
-    let Ok(mut members) = Vec::with_capacity(alloc, workers) else {
-        return Err((AllocError, seats));
-    };
-    seat_members(&mut members, &mut seats, locals);
+    let best = best_at_first(rt, hub, seats);
+    let (hint, hint_seats) = Hint::new(alloc, best, workers)?;
+    let (lanes, thieves) = lanes_for(alloc, workers)?;
+    let locals = locals_for(alloc, &hint, hint_seats, lanes, thieves.as_slice())?;
+    work_with(rt, hub, seats, locals, &marks, rule, gate)
+}
+
+/// Lets a worker work for each seat, with the local of its place. `Err` comes before a worker has started.
+fn work_with<'a, R: AllocGlobal + Threads + Wait + Sync, G: Gate + Sync>(
+    rt: &R,
+    hub: &Hub<'a>,
+    seats: &mut Vec<Seat<'a>>,
+    locals: Vec<Local<'_>>,
+    marks: &SharedMarks<'_>,
+    rule: Rule,
+    gate: &G,
+) -> Result<(), AllocError>
+    requires here { All (λ s. s.hub ≡ hub.now.id) seats.old.items }
+    requires count { length locals.items ≡ length seats.old.items }
+    requires placed { VictimsMatchLanes locals.items }
+    ensures same { AreSameSeats seats.old.items seats.new.items }
+    ensures here { All (λ s. s.hub ≡ hub.now.id) seats.new.items }
+{
+    let mut members = Vec::with_capacity(rt.alloc(), seats.len())?;
+    seat_members(&mut members, seats, locals);
     let places = members.as_mut_slice();
-    work_at_each(rt, hub, places, &marks, rule, gate);
+    work_at_each(rt, hub, places, marks, rule, gate);
     settle(rt, hub, places);
-    take_seats(&mut seats, members);
-    Ok(seats)
+    take_seats(seats, members);
+    Ok(())
 }
 
 /// The best time, which the first seat then knows.

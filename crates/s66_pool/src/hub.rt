@@ -36,6 +36,7 @@ pub struct SeatsMissing;
 impl<'a> Hub<'a> {
     ghost use Rattle.std.specs.Prelude.{◌≡◌, ◌≤◌, All, length, map, IfOk, IfErr};
     ghost use Rattle.s66_isa.specs.Lists.{weigh, rising};
+    ghost use Rattle.s66_model.specs.Ledger.{best_time};
     ghost use Rattle.s66_model.specs.Accounts.{Agrees, opened};
     ghost use Rattle.s66_ledger.specs.Ledgers.{account_summary};
     ghost use Rattle.s66_pool.specs.Hubs.{HaveSeats};
@@ -58,7 +59,7 @@ impl<'a> Hub<'a> {
         let (lock, mut founder) = Lock::found(alloc, value)?;
         for i in 0..workers {
             let token = lock.deal(&mut founder);
-            seats.push(Seat::new(i + 1, splits[i as usize], token))?;
+            seats.push_reserved(Seat::new(i + 1, splits[i as usize], token));
         }
         Ok((
             Hub {
@@ -82,6 +83,7 @@ impl<'a> Hub<'a> {
         ensures problem { IfOk result (λ l. l.problem ≡ self.entry.summary.problem) }
         ensures budget { IfOk result (λ l. l.budget ≡ self.entry.summary.budget) }
         ensures workers { IfOk result (λ l. l.workers ≡ length self.entry.summary.accounts) }
+        ensures best { IfOk result (λ l. best_time l.problem l.state ≤ self.entry.summary.best) }
         ensures agrees { IfOk result (λ l. All (λ s. Agrees (account_summary l) s.book) seats.entry.items) }
         ensures splits { IfOk result (λ l. weigh (λ s. s.book.account.splits) seats.entry.items ≡ l.state.spent) }
         ensures missing { IfErr result (λ e. (e.1 ≡ self.entry) × (e.2.items ≡ seats.entry.items) × ¬ HaveSeats (length self.entry.summary.accounts) seats.entry.items) }

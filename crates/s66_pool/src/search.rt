@@ -1,7 +1,7 @@
-ghost use Rattle.std.specs.Prelude.{◌≡◌, ◌≤◌, IfOk, OnErr, OnOk};
+ghost use Rattle.std.specs.Prelude.{◌≡◌, ◌≤◌, IfOk, IfSome, OnOk};
 ghost use Rattle.s66_line.specs.Block.{instrs_of};
 ghost use Rattle.s66_model.specs.declared.limits.TheConstants.{BUDGET_LIMIT, WORKERS_LIMIT};
-ghost use Rattle.s66_pool.specs.Workers.{IsSameSearch};
+ghost use Rattle.s66_pool.specs.Workers.{GoesOn, HasTaken, TakesNoLonger};
 
 use crate::alone::search_alone;
 use crate::crew::work_by_marks;
@@ -14,9 +14,19 @@ use s66_line::Block;
 use s66_model::{Options, Rule};
 use s66_node::{Marks, Priority, Walk, schedule_below};
 use s66_time::Timed;
-use std::alloc::AllocError;
+use std::alloc::{AllocError, Global};
 use std::sync::Wait;
 use std::thread::Threads;
+
+/// Offers an order as worker 1. One of another block or profile is left alone. `Err` is out of memory, and changes nothing.
+pub(crate) fn offer(ledger: &mut Ledger<'_>, timed: Timed) -> Result<(), AllocError>
+    requires { 1 ≤ ledger.old.workers }
+    ensures on { GoesOn ledger.old ledger.new }
+    ensures order { OnOk result (HasTaken ledger.new timed) }
+{
+    ledger.offer(1, timed)?;
+    Ok(())
+}
 
 /// Offers a list schedule from the walk's prefix on, if its time is below the best, as worker 1.
 pub(crate) fn offer_schedule(
@@ -26,24 +36,35 @@ pub(crate) fn offer_schedule(
 ) -> Result<(), AllocError>
     requires { 1 ≤ ledger.old.workers }
     ensures walk { walk.new.problem ≡ walk.old.problem }
-    ensures same { OnOk result (IsSameSearch ledger.old ledger.new) }
-    ensures err { OnErr result (IsSameSearch ledger.old ledger.new) }
+    ensures on { GoesOn ledger.old ledger.new }
 {
-    if let Some(timed) = schedule_below(walk, priority, ledger.best()) {
-        ledger.offer(1, timed)?;
+    match schedule_below(walk, priority, ledger.best()) {
+        Some(timed) => offer(ledger, timed),
+        None => Ok(()),
     }
-    Ok(())
 }
 
 /// Offers two list schedules of the whole block, so that the search begins with a good order. The walk is at the empty prefix.
 fn offer_schedules(ledger: &mut Ledger<'_>, walk: &mut Walk<'_>) -> Result<(), AllocError>
     requires { 1 ≤ ledger.old.workers }
     ensures walk { walk.new.problem ≡ walk.old.problem }
-    ensures same { OnOk result (IsSameSearch ledger.old ledger.new) }
+    ensures on { GoesOn ledger.old ledger.new }
 {
     offer_schedule(ledger, walk, Priority::Start)?;
     walk.go_to(&[]);
     offer_schedule(ledger, walk, Priority::Issue)
+}
+
+/// Offers an order, if there is one.
+fn offer_first(ledger: &mut Ledger<'_>, first: Option<&Timed>) -> Result<(), AllocError>
+    requires { 1 ≤ ledger.old.workers }
+    ensures on { GoesOn ledger.old ledger.new }
+    ensures order { OnOk result (IfSome first.entry (λ timed. HasTaken ledger.new timed.now)) }
+{
+    match first {
+        Some(timed) => offer(ledger, timed.duplicate()),
+        None => Ok(()),
+    }
 }
 
 /// Whether a search has something left for workers: an open node whose floor is below the best time, and splits.
@@ -51,8 +72,8 @@ fn is_unfinished(ledger: &Ledger<'_>) -> bool {
     ledger.splits() < ledger.budget() && ledger.bound() < ledger.best()
 }
 
-/// Lets workers search what is left, until there is nothing more for them to do; none starts if nothing is, or if there is a
-/// single one. They know the nodes of the table at first.
+/// Lets workers search what is left, until there is nothing more for them to do; none starts if nothing is. They know the nodes of
+/// the table at first.
 fn search_by_workers<'a, R: AllocGlobal + Threads + Wait + Sync, G: Gate + Sync>(
     rt: &R,
     ledger: Ledger<'a>,
@@ -64,17 +85,14 @@ fn search_by_workers<'a, R: AllocGlobal + Threads + Wait + Sync, G: Gate + Sync>
 ) -> Result<Ledger<'a>, AllocError>
     requires workers { 1 ≤ ledger.workers }
     requires marks { marks.old.problem ≡ record { block = instrs_of block.now; profile = profile.now } }
-    ensures same { IfOk result (λ searched. IsSameSearch ledger.entry searched) }
+    ensures on { IfOk result (λ searched. GoesOn ledger.entry searched) }
     ensures marks { marks.new.problem ≡ marks.old.problem }
 {
-    if ledger.workers() == 1 || !is_unfinished(&ledger) {
+    if !is_unfinished(&ledger) {
         return Ok(ledger);
     }
-    let (hub, seats) = Hub::new(rt.alloc(), ledger)?;
-    let seats = match work_by_marks(rt, &hub, seats, block, profile, rule, gate, marks) {
-        Ok(seats) => seats,
-        Err((refusal, _)) => return Err(refusal),
-    };
+    let (hub, mut seats) = Hub::new(rt.alloc(), ledger)?;
+    work_by_marks(rt, &hub, &mut seats, block, profile, rule, gate, marks)?;
     // every seat came back
     let Ok(ledger) = hub.close(seats) else {
         unreachable!()
@@ -82,15 +100,29 @@ fn search_by_workers<'a, R: AllocGlobal + Threads + Wait + Sync, G: Gate + Sync>
     Ok(ledger)
 }
 
-/// Offers an order as worker 1, if there is one. One of another block or profile is left alone.
-fn offer_first(ledger: &mut Ledger<'_>, first: Option<&Timed>) -> Result<(), AllocError>
-    requires { 1 ≤ ledger.old.workers }
-    ensures { OnOk result (IsSameSearch ledger.old ledger.new) }
+/// Searches the orders of a block in the calling thread alone, as `run_from` does with one worker: it starts no thread, and waits
+/// for nobody. Of the options the number of workers isn't read.
+///
+/// `Err` is out of memory.
+pub fn run_alone(
+    alloc: Global,
+    block: &Block,
+    profile: &Profile,
+    options: Options,
+    first: Option<&Timed>,
+) -> Result<Answer, AllocError>
+    requires { options.nodes ≤ BUDGET_LIMIT }
+    ensures rule { IfOk result (λ a. a.rule ≡ options.rule) }
+    ensures problem { IfOk result (λ a. a.problem ≡ record { block = instrs_of block.now; profile = profile.now }) }
+    ensures budget { IfOk result (λ a. a.budget ≡ options.nodes) }
+    ensures first { IfOk result (λ a. IfSome first.entry (λ timed. TakesNoLonger a timed.now)) }
 {
-    if let Some(timed) = first {
-        ledger.offer(1, timed.duplicate())?;
-    }
-    Ok(())
+    let mut walk = Walk::new(block, profile);
+    let mut ledger = Ledger::of_walk(alloc, &walk, options.rule, options.nodes, 1)?;
+    offer_schedules(&mut ledger, &mut walk)?;
+    offer_first(&mut ledger, first)?;
+    let mut marks = Marks::new(alloc, block, profile);
+    ledger.finish_with(alloc, &mut walk, &mut marks)
 }
 
 /// Searches the orders of a block, as `run_from` does without an order to begin with.
@@ -110,10 +142,11 @@ pub fn run<R: AllocGlobal + Threads + Wait + Sync, G: Gate + Sync>(
     run_from(rt, block, profile, options, None, gate)
 }
 
-/// Searches the orders of a block, and begins with the best of two list schedules and the order that is given, if one is. The first
-/// `FIRST_SPLITS` splits are the calling thread's, so that a short search starts no thread, and has one result whatever the number
-/// of workers. What is left then several workers search, each in a thread of its own if one can be made, and else one after the
-/// other; a single worker is the calling thread. However their steps fall, it returns an answer for `options.nodes` splits.
+/// Searches the orders of a block, and begins with the best of two list schedules and the order that is given, if one is; its answer
+/// takes no longer than that order, if this is one of the block under the profile. A single worker is the calling thread. If there
+/// are several, the first `FIRST_SPLITS` splits are still the calling thread's, so that a short search starts no thread, and has one
+/// result whatever the number of workers. What is left then they search, each in a thread of its own if one can be made, and else
+/// one after the other. However their steps fall, it returns an answer for `options.nodes` splits.
 ///
 /// `Err` is out of memory in the caller's own part.
 pub fn run_from<R: AllocGlobal + Threads + Wait + Sync, G: Gate + Sync>(
@@ -129,20 +162,18 @@ pub fn run_from<R: AllocGlobal + Threads + Wait + Sync, G: Gate + Sync>(
     ensures rule { IfOk result (λ a. a.rule ≡ options.rule) }
     ensures problem { IfOk result (λ a. a.problem ≡ record { block = instrs_of block.now; profile = profile.now }) }
     ensures budget { IfOk result (λ a. a.budget ≡ options.nodes) }
+    ensures first { IfOk result (λ a. IfSome first.entry (λ timed. TakesNoLonger a timed.now)) }
 {
     let alloc = rt.alloc();
+    if options.workers == 1 {
+        return run_alone(alloc, block, profile, options, first);
+    }
     let mut walk = Walk::new(block, profile);
     let mut ledger = Ledger::of_walk(alloc, &walk, options.rule, options.nodes, options.workers)?;
     offer_schedules(&mut ledger, &mut walk)?;
     offer_first(&mut ledger, first)?;
     let mut marks = Marks::new(alloc, block, profile);
-    // a single worker's steps are the same at the ledger's end, where nothing is recorded
-    let first_splits = if options.workers == 1 {
-        0
-    } else {
-        FIRST_SPLITS
-    };
-    search_alone(alloc, &mut ledger, &mut walk, &mut marks, first_splits);
+    search_alone(alloc, &mut ledger, &mut walk, &mut marks, FIRST_SPLITS);
     let rule = options.rule;
     let ledger = search_by_workers(rt, ledger, block, profile, rule, gate, &mut marks)?;
     ledger.finish_with(alloc, &mut walk, &mut marks)

@@ -1,6 +1,6 @@
 //! The marks of the nodes that all workers of a search have grafted, in parts, each of which one worker at a time may use.
 
-ghost use Rattle.std.specs.Prelude.{ℕ, ◌≡◌, ◌<◌, IfOk, IfSome};
+ghost use Rattle.std.specs.Prelude.{ℕ, ◌≡◌, ◌<◌, All, length, IfOk, IfSome};
 ghost use Rattle.s66_isa.specs.Lists.{has, Among};
 ghost use Rattle.s66_model.specs.LegalOrder.{IsIncomplete};
 ghost use Rattle.s66_model.specs.DominatedLeaves.{DominatesByRule};
@@ -94,6 +94,23 @@ pub(crate) fn name_in(
     }
 }
 
+/// So many parts, which have no mark.
+fn empty_parts<'b>(
+    alloc: Global,
+    block: &'b Block<'b>,
+    profile: &Profile,
+    count: usize,
+) -> Result<Vec<Marks<'b>>, AllocError>
+    ensures count { IfOk result (λ parts. length parts.items ≡ count) }
+    ensures own { IfOk result (λ parts. All (λ p. p.problem ≡ record { block = instrs_of block.now; profile = profile.now }) parts.items) }
+{
+    let mut parts = Vec::with_capacity(alloc, count)?;
+    for _ in 0..count {
+        parts.push_reserved(Marks::with_limit(alloc, block, profile, PART_LIMIT));
+    }
+    Ok(parts)
+}
+
 /// The marks of the nodes that all workers of a search have grafted.
 ///
 /// At most 65,536 are kept in all, in 64 parts. The set of a mark's numbers says in which part it is.
@@ -132,12 +149,8 @@ impl<'b> SharedMarks<'b> {
             Rule::ClampedStanding => PARTS,
             Rule::NoneNamed | Rule::WrittenEarlier => 1,
         };
-        let mut words = Vec::with_capacity(alloc, count)?;
-        let mut parts = Vec::with_capacity(alloc, count)?;
-        for _ in 0..count {
-            words.push_reserved(0);
-            parts.push_reserved(Marks::with_limit(alloc, block, profile, PART_LIMIT));
-        }
+        let words = vec![in alloc; 0; count]?;
+        let parts = empty_parts(alloc, block, profile, count)?;
         let key = Marks::new(alloc, block, profile);
         match Table::new(alloc, words.as_slice(), parts, &key) {
             Ok((table, _)) => Ok(SharedMarks {

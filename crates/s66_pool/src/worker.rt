@@ -65,16 +65,7 @@ pub(crate) fn work_at<'a, R: AllocGlobal + Wait, G: Gate>(
     ensures { IsSameMember member.old member.new }
 {
     let mut worker = Worker::new(site.rt.alloc(), site.rt, site.marks, site.rule);
-    let mut step = Step::Claim;
-    for _ in site.rt.forever() {
-        step = match step {
-            Step::Find => worker.find(site, member),
-            Step::Claim => worker.claim(site, member),
-            Step::Expand(ticket) => worker.expand(site, member, ticket),
-            Step::Wait => worker.wait_for_nodes(site),
-            Step::End => break,
-        };
-    }
+    worker.take_steps(site, member);
     give_lane_back(site, member);
     if worker.found_none() {
         site.searching.fetch_sub(1, Ordering::SeqCst);
@@ -96,6 +87,27 @@ impl<'s, 'b, R: AllocGlobal + Wait> Worker<'s, 'b, R> {
             allowance: 0,
             has_claimed: false,
             nones: 0,
+        }
+    }
+
+    /// Its steps, until there is nothing more for it to do.
+    fn take_steps<'a, G: Gate>(
+        &mut self,
+        site: &Site<'_, 'a, '_, R, G>,
+        member: &mut Member<'_, 'a>,
+    )
+        requires { member.old.seat.hub ≡ site.now.hub.now.id }
+        ensures { IsSameMember member.old member.new }
+    {
+        let mut step = Step::Claim;
+        for _ in site.rt.forever() {
+            step = match step {
+                Step::Find => self.find(site, member),
+                Step::Claim => self.claim(site, member),
+                Step::Expand(ticket) => self.expand(site, member, ticket),
+                Step::Wait => self.wait_for_nodes(site),
+                Step::End => break,
+            };
         }
     }
 
@@ -239,10 +251,27 @@ impl<'s, 'b, R: AllocGlobal + Wait> Worker<'s, 'b, R> {
         requires within { splits (tree_of piece.now) ≤ self.old.allowance }
         ensures { IsSameMember member.old member.new }
     {
-        if !offer_whole(site, member, piece) {
-            return give_back(site, &mut member.seat, ticket);
+        if offer_whole(site, member, piece) {
+            self.allowance -= piece.splits();
+            let before = member.seat.splits();
+            if let Some(step) = self.graft(site, member, ticket.node(), piece) {
+                return self.end_round(site, member, before, step);
+            }
         }
-        self.allowance -= piece.splits();
+        give_back(site, &mut member.seat, ticket)
+    }
+
+    /// Grafts a piece at its node, and in the same turn gets what it then needs. None if it isn't grafted.
+    fn graft<'a, G: Gate>(
+        &mut self,
+        site: &Site<'_, 'a, '_, R, G>,
+        member: &mut Member<'_, 'a>,
+        node: u32,
+        piece: &Piece,
+    ) -> Option<Step>
+        requires { member.old.seat.hub ≡ site.now.hub.now.id }
+        ensures { IsSameMember member.old member.new }
+    {
         let next = member.local.take_or_steal();
         let needs = Needs {
             splits: self.allowance == 0,
@@ -250,25 +279,19 @@ impl<'s, 'b, R: AllocGlobal + Wait> Worker<'s, 'b, R> {
         };
         let Ok(mut claimed) = room_for(site.rt.alloc(), needs) else {
             give_back_some(site, &mut member.seat, next);
-            return give_back(site, &mut member.seat, ticket);
+            return None;
         };
-        let before = member.seat.splits();
         site.gate.before_graft(member.seat.number());
-        let Ok(supply) = site.hub.graft_and_supply(
-            site.rt,
-            &mut member.seat,
-            ticket.node(),
-            piece,
-            needs,
-            &mut claimed,
-        )
+        let seat = &mut member.seat;
+        let Ok(supply) = site
+            .hub
+            .graft_and_supply(site.rt, seat, node, piece, needs, &mut claimed)
         else {
             give_back_some(site, &mut member.seat, next);
-            return give_back(site, &mut member.seat, ticket);
+            return None;
         };
-        self.expander.settle(ticket.node(), member.seat.attached);
-        let step = self.go_on(site, member, needs, supply, next, claimed);
-        self.end_round(site, member, before, step)
+        self.expander.settle(node, member.seat.attached);
+        Some(self.go_on(site, member, needs, supply, next, claimed))
     }
 
     /// Goes on after the turn of its graft, with the node that it had found before it or with those that it claimed in it.

@@ -11,7 +11,6 @@ ghost use Rattle.s66_text.specs.Answers.{problem_of};
 ghost use Rattle.s66_program.specs.Output.{IsSearchWithin};
 ghost use Rattle.s66_program.specs.Stored.{IsFit, IsFor, IsShownBy};
 
-use crate::alone::run_alone;
 use crate::documents::{Shows, document_by, document_of, is_accepted};
 use s66_cert::Document;
 use s66_command::Strategy;
@@ -21,7 +20,7 @@ use s66_isa::{BLOCK_LIMIT, Profile};
 use s66_ledger::Answer;
 use s66_line::Block;
 use s66_near::nearer;
-use s66_pool::{Free, run_from};
+use s66_pool::{Free, run_alone, run_from};
 use s66_time::Timed;
 use std::alloc::{AllocError, Global};
 use std::sync::Wait;

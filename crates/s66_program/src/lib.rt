@@ -1,7 +1,6 @@
 //! The program but for its process: what is read for a command, and what is written.
 #![tactic(auto)]
 
-mod alone;
 mod answers;
 mod documents;
 mod laws;

@@ -1,5 +1,5 @@
 use Rattle.std.proofs.Common.{◌≡◌}
-use Rattle.s66_pool.specs.Workers.{IsSameSearch}
+use Rattle.s66_pool.specs.Workers.{GoesOn}
 use Rattle.s66_pool.proofs.alone.search_alone.Given as goal
 
 abbrev pub invariant-loop : goal.invariant-loop
@@ -7,5 +7,5 @@ invariant-loop l =
     record {
       walk : l.walk.problem ≡ l.fn.walk.problem;
       marks : l.marks.problem ≡ l.fn.marks.problem;
-      same : IsSameSearch l.fn.ledger l.ledger;
+      on : GoesOn l.fn.ledger l.ledger;
     }

@@ -60,6 +60,10 @@ returns-clause-workers c =
     sym (accounts-count l.rule l.problem l.budget l.workers (events_of l) l.state) ∙ ap (λ (k : LedgerOf). length (account_summary k).accounts) c.into_inner-ledger.ensures
     ∙ c.close.ensures.search.workers ∙ ap (λ h. length h.summary.accounts) c.self.view_is
 
+pub returns-clause-best : goal.returns-clause-best
+returns-clause-best c =
+    omega (arith, c.close.ensures.search.best, ap (λ (k : LedgerOf). (account_summary k).best) c.into_inner-ledger.ensures, ap (λ h. h.summary.best) c.self.view_is)
+
 pub returns-clause-agrees : goal.returns-clause-agrees
 returns-clause-agrees c =
     let empty : length c.loop-seat.seats.items ≡ 0 = let n = c.in_default-pop.ensures.cases.0 in omega (arith, c.loop-seat.seats.ok) in

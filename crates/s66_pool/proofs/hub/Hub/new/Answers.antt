@@ -28,6 +28,7 @@ loop-i-init c =
     record {
       here = c.in_ok-lock.ensures.here;
       idles = idles _ _ c.in_ok-lock.ensures.books;
+      room = (c.in_ok-seats.ensures.len, c.in_ok-seats.ensures.exact);
       left = books ∙ ap (λ (k : ℕ). books_from s k 1) count;
       dealt = ap (λ (l : List SeatOf). l ++ seats_of z c.in_ok-lock.founder.me.0.books) none ∙ ap (seats_of z) books;
       all = subst (λ (l : List SeatOf). All (λ t. t.hub ≡ z) l) (sym none) (All-nil (λ t. t.hub ≡ z));
@@ -72,9 +73,10 @@ loop-i-preserved c =
     record {
       here = deal.here.0 ∙ was.here;
       idles = idles _ _ deal.rest;
+      room = (omega arith, omega arith);
       left = rest ∙ rest-left s c.workers-workers.result i ps c.loop-i-test.true was.left;
-      dealt = dealt s c.workers-workers.result i ps c.loop-i-test.true was.left z _ _ c.new-in-loop-i.result _ _ c.in_ok-push.ensures.items (c.new-in-loop-i.ensures ∙ (λ j. record { hub = id j; book = deal.dealt.1 j })) rest was.dealt;
-      all = all-here z _ _ c.new-in-loop-i.result c.in_ok-push.ensures.items (ap (λ (t : SeatOf). t.hub) c.new-in-loop-i.ensures ∙ id) was.all;
+      dealt = dealt s c.workers-workers.result i ps c.loop-i-test.true was.left z _ _ c.new-in-loop-i.result _ _ c.push_reserved.ensures.items (c.new-in-loop-i.ensures ∙ (λ j. record { hub = id j; book = deal.dealt.1 j })) rest was.dealt;
+      all = all-here z _ _ c.new-in-loop-i.result c.push_reserved.ensures.items (ap (λ (t : SeatOf). t.hub) c.new-in-loop-i.ensures ∙ id) was.all;
     }
 
 pub invariant_of-result : goal.invariant_of-result

@@ -1,4 +1,4 @@
-use Rattle.std.proofs.Common.{◌≡◌, ◌+◌, ◌-◌, ◌++◌, All}
+use Rattle.std.proofs.Common.{◌≡◌, ◌+◌, ◌-◌, ◌++◌, All, vec_len, vec_capacity}
 use Rattle.s66_ledger.specs.Ledgers.{account_summary}
 use Rattle.s66_lock.specs.SeatViews.{all_opened}
 use Rattle.s66_lock.specs.LockTokens.{IsIdle}
@@ -9,6 +9,7 @@ abbrev pub invariant-loop-i : goal.invariant-loop-i
 invariant-loop-i l = record {
   here : l.founder.table_id ≡ l.lock.table.shared.table_id;
   idles : IsIdle l.founder;
+  room : (vec_len l.seats ≡ l.i) × (vec_capacity l.seats ≡ l.workers);
   left : l.founder.me.0.books ≡ books_from (account_summary l.lock.table.shared.key.value) (l.workers - l.i) (l.i + 1);
   dealt : l.seats.items ++ seats_of l.lock.table.shared.table_id l.founder.me.0.books ≡ seats_of l.lock.table.shared.table_id (all_opened (account_summary l.lock.table.shared.key.value));
   all : All (λ s. s.hub ≡ l.lock.table.shared.table_id) l.seats.items;
