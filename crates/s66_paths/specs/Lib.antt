@@ -1,2 +1,1 @@
-pub mod PathTails
-pub mod Classes
+pub mod FollowingWords

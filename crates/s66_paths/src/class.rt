@@ -1,8 +1,3 @@
-ghost use Rattle.std.specs.Prelude.{◌≡◌, ◌&&◌, not};
-ghost use Rattle.s66_isa.specs.Lists.{some_of};
-ghost use Rattle.s66_isa.specs.Table.{same_reg, touches, stores, Write as WriteOf};
-ghost use Rattle.s66_paths.specs.Classes.{in_class, uses, is_first, is_second};
-
 use s66_isa::{Kind, Memory, Reg, Row, Write, has_register, is_same_kind, is_same_register};
 
 /// What an instruction does with a register.
@@ -32,9 +27,7 @@ pub enum Class {
 }
 
 /// Whether one of the results is in the register.
-fn is_written(writes: &[Write], register: Reg) -> bool
-    ensures { result ≡ some_of (λ (w : WriteOf). same_reg w.reg register) writes.now }
-{
+fn is_written(writes: &[Write], register: Reg) -> bool {
     for write in writes {
         if is_same_register(write.reg, register) {
             return true;
@@ -44,9 +37,7 @@ fn is_written(writes: &[Write], register: Reg) -> bool
 }
 
 /// Whether the first result is in the register.
-fn is_first(writes: &[Write], register: Reg) -> bool
-    ensures { result ≡ is_first register writes.now }
-{
+fn is_first(writes: &[Write], register: Reg) -> bool {
     if writes.is_empty() {
         return false;
     }
@@ -55,9 +46,7 @@ fn is_first(writes: &[Write], register: Reg) -> bool
 }
 
 /// Whether the second result is in the register.
-fn is_second(writes: &[Write], register: Reg) -> bool
-    ensures { result ≡ is_second register writes.now }
-{
+fn is_second(writes: &[Write], register: Reg) -> bool {
     if writes.len() < 2 {
         return false;
     }
@@ -66,9 +55,7 @@ fn is_second(writes: &[Write], register: Reg) -> bool
 }
 
 /// Whether an instruction has a role with a register.
-fn uses(row: &Row, role: Role, register: Reg) -> bool
-    ensures { result ≡ uses role register row.now }
-{
+fn uses(row: &Row, role: Role, register: Reg) -> bool {
     match role {
         Role::Writes => is_written(row.writes.as_slice(), register),
         Role::Reads => has_register(row.reads.as_slice(), register),
@@ -78,9 +65,7 @@ fn uses(row: &Row, role: Role, register: Reg) -> bool
 }
 
 /// Whether an instruction is in a class.
-pub fn is_in(row: &Row, class: &Class) -> bool
-    ensures { result ≡ in_class class.now row.now }
-{
+pub fn is_in(row: &Row, class: &Class) -> bool {
     match *class {
         Class::Long => row.parcels == 2,
         Class::Takes(kind) => is_same_kind(row.kind, kind),
@@ -91,9 +76,7 @@ pub fn is_in(row: &Row, class: &Class) -> bool
 }
 
 /// Whether it fetches from memory.
-fn is_load(memory: Memory) -> bool
-    ensures { result ≡ (touches memory && not (stores memory)) }
-{
+fn is_load(memory: Memory) -> bool {
     match memory {
         Memory::None | Memory::Store => false,
         Memory::Load => true,
@@ -101,9 +84,7 @@ fn is_load(memory: Memory) -> bool
 }
 
 /// Whether it stores.
-fn is_store(memory: Memory) -> bool
-    ensures { result ≡ stores memory }
-{
+fn is_store(memory: Memory) -> bool {
     match memory {
         Memory::None | Memory::Load => false,
         Memory::Store => true,

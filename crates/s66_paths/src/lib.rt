@@ -1,5 +1,5 @@
 //! A sharper lower bound of all orders that begin with what a clock has placed: the greatest path of what remains, by what follows
-//! each moment.
+//! each moment. Only that this is safe is proved: what it finds, a certificate shows.
 #![tactic(auto)]
 
 mod bounds;

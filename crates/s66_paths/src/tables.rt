@@ -1,23 +1,13 @@
-ghost use Rattle.std.specs.Prelude.{ℕ, ◌≡◌, ◌≤◌, ◌<◌, length, get_or};
-ghost use Rattle.s66_isa.specs.declared.instr.Kind.{Kind as KindOf};
+ghost use Rattle.std.specs.Prelude.{ℕ, ◌≤◌, length};
 ghost use Rattle.s66_isa.specs.declared.limits.TheConstants.{BLOCK_LIMIT};
-ghost use Rattle.s66_isa.specs.declared.reg.TheConstants.{REGISTER_COUNT};
-ghost use Rattle.s66_isa.specs.Lists.{has};
-ghost use Rattle.s66_isa.specs.Table.{Reg as RegOf, kind_number};
-ghost use Rattle.s66_model.specs.Digits.{HaveDigits};
-ghost use Rattle.s66_model.specs.Timing.{Problem};
-ghost use Rattle.s66_dep.specs.Members.{numbers_in, no_set};
-ghost use Rattle.s66_dep.specs.Ranks.{AreRanks, AreUpTo, IsRanking, AreAtMost};
-ghost use Rattle.s66_paths.specs.declared.class.Class.TheVariants.{Takes, Uses};
+ghost use Rattle.s66_dep.specs.Ranks.{AreUpTo, IsRanking, AreAtMost};
 ghost use Rattle.s66_paths.specs.declared.limits.TheConstants.{TAIL_LIMIT};
-ghost use Rattle.s66_paths.specs.PathTails.{AreSmall};
-ghost use Rattle.s66_paths.specs.Classes.{AreRows, AreThose, AreOfClass, AreFalling, HasAfter, IsTables, set_of, after};
+ghost use Rattle.s66_paths.specs.FollowingWords.{AreSmall, AreSmallWords, HasSmallWords, HasRanks};
 
 use crate::class::{Class, Role, is_in};
-use crate::limits::TAIL_LIMIT;
 use crate::tails::{Part, Tails};
 use s66_dep::{Ranking, Set};
-use s66_isa::{BLOCK_LIMIT, KIND_COUNT, Kind, REGISTER_COUNT, Reg, Row};
+use s66_isa::{BLOCK_LIMIT, KIND_COUNT, KINDS, REGISTER_COUNT, Reg, Row};
 
 /// What the greatest paths of a block look up. Words are in minor cycles; that of n is at place n - 1.
 #[derive(Drop)]
@@ -57,9 +47,8 @@ impl PathTables {
     pub fn of(rows: &[Row], tails: &[Tails; BLOCK_LIMIT]) -> PathTables
         requires few { length rows.now ≤ BLOCK_LIMIT }
         requires small { AreSmall tails.now }
-        requires known { (b : Problem) × AreRows b rows.now }
-        ensures tails { result.tails ≡ tails.now }
-        ensures tables { (b : Problem) → AreRows b rows.now → HaveDigits b.block → AreFalling b tails.now → IsTables b result }
+        ensures words { HasSmallWords result }
+        ensures ranks { HasRanks (length rows.now) result }
     {
         let by_issue = ranking_by(tails, Part::Issue, rows.len());
         let by_start = ranking_by(tails, Part::Start, rows.len());
@@ -70,8 +59,8 @@ impl PathTables {
             second: column(tails, Part::Second),
             long: class_ranks(rows, &by_issue, &Class::Long),
             takers: takers_of(rows, &by_issue),
-            writers: ranked(&users_of(rows, Role::Writes), &by_issue),
-            readers: ranked(&users_of(rows, Role::Reads), &by_start),
+            writers: user_ranks(rows, &by_issue, Role::Writes),
+            readers: user_ranks(rows, &by_start, Role::Reads),
             loads: class_ranks(rows, &by_start, &Class::Loads),
             stores: class_ranks(rows, &by_start, &Class::Stores),
             firsts: users_of(rows, Role::WritesFirst),
@@ -84,7 +73,8 @@ impl PathTables {
 
 /// What follows a part of each number.
 fn column(tails: &[Tails; BLOCK_LIMIT], part: Part) -> [u32; BLOCK_LIMIT]
-    ensures { HasAfter part tails.now result }
+    requires { AreSmall tails.now }
+    ensures { AreSmallWords result }
 {
     let mut words = [0; BLOCK_LIMIT];
     for place in 0..BLOCK_LIMIT {
@@ -97,7 +87,7 @@ fn column(tails: &[Tails; BLOCK_LIMIT], part: Part) -> [u32; BLOCK_LIMIT]
 fn ranking_by(tails: &[Tails; BLOCK_LIMIT], part: Part, count: usize) -> Ranking
     requires few { count ≤ BLOCK_LIMIT }
     requires small { AreSmall tails.now }
-    ensures ranking { IsRanking (after part tails.now) count result }
+    ensures ranking { (word : ℕ → ℕ) × IsRanking word count result }
     ensures at_most { AreAtMost TAIL_LIMIT result }
 {
     Ranking::of(&column(tails, part), count)
@@ -106,7 +96,7 @@ fn ranking_by(tails: &[Tails; BLOCK_LIMIT], part: Part, count: usize) -> Ranking
 /// The numbers of a class.
 fn those_of(rows: &[Row], class: &Class) -> Set
     requires { length rows.now ≤ BLOCK_LIMIT }
-    ensures { (b : Problem) → AreRows b rows.now → AreThose b class.now result }
+    ensures { AreUpTo (length rows.now) result }
 {
     let mut those = Set::empty();
     for place in 0..rows.len() {
@@ -117,10 +107,9 @@ fn those_of(rows: &[Row], class: &Class) -> Set
     those
 }
 
-/// The numbers that have a role with each register.
+/// The numbers that have a role with each register, by its index.
 fn users_of(rows: &[Row], role: Role) -> [Set; REGISTER_COUNT]
     requires { length rows.now ≤ BLOCK_LIMIT }
-    ensures { (b : Problem) → AreRows b rows.now → (x : RegOf) → x.digit ≤ 7 → AreThose b (Uses role x) (set_of result x) }
 {
     let mut users = [Set::empty(); REGISTER_COUNT];
     for index in 0..REGISTER_COUNT {
@@ -129,40 +118,35 @@ fn users_of(rows: &[Row], role: Role) -> [Set; REGISTER_COUNT]
     users
 }
 
-/// The ranks of the numbers of each set.
-fn ranked(sets: &[Set; REGISTER_COUNT], ranking: &Ranking) -> [Set; REGISTER_COUNT]
-    requires known { (word : ℕ → ℕ) × (count : ℕ) × IsRanking word count ranking.now × ((i : ℕ) → i < REGISTER_COUNT → AreUpTo count (get_or sets.now i no_set)) }
-    ensures { (word : ℕ → ℕ) (count : ℕ) → IsRanking word count ranking.now → ((i : ℕ) → i < REGISTER_COUNT → AreUpTo count (get_or sets.now i no_set)) → (i : ℕ) → i < REGISTER_COUNT → AreRanks word count (λ n. has n (numbers_in (get_or sets.now i no_set))) (get_or result i no_set) }
-{
-    let mut ranks = [Set::empty(); REGISTER_COUNT];
-    for index in 0..REGISTER_COUNT {
-        ranks[index] = ranking.ranks(&sets[index]);
-    }
-    ranks
-}
-
 /// The ranks of the numbers of a class.
 fn class_ranks(rows: &[Row], ranking: &Ranking, class: &Class) -> Set
     requires few { length rows.now ≤ BLOCK_LIMIT }
-    requires known { (b : Problem) × (word : ℕ → ℕ) × AreRows b rows.now × IsRanking word (length b.block) ranking.now }
-    ensures { (b : Problem) (word : ℕ → ℕ) → AreRows b rows.now → IsRanking word (length b.block) ranking.now → AreOfClass b word class.now result }
+    requires ranking { (word : ℕ → ℕ) × IsRanking word (length rows.now) ranking.now }
 {
     ranking.ranks(&those_of(rows, class))
+}
+
+/// The ranks of those that have a role with each register, by its index.
+fn user_ranks(rows: &[Row], ranking: &Ranking, role: Role) -> [Set; REGISTER_COUNT]
+    requires few { length rows.now ≤ BLOCK_LIMIT }
+    requires ranking { (word : ℕ → ℕ) × IsRanking word (length rows.now) ranking.now }
+{
+    let mut ranks = [Set::empty(); REGISTER_COUNT];
+    for index in 0..REGISTER_COUNT {
+        let class = Class::Uses(role, Reg::of_index(index as u8));
+        ranks[index] = class_ranks(rows, ranking, &class);
+    }
+    ranks
 }
 
 /// The ranks of those that take a unit of each kind, by its number.
 fn takers_of(rows: &[Row], ranking: &Ranking) -> [Set; KIND_COUNT]
     requires few { length rows.now ≤ BLOCK_LIMIT }
-    requires known { (b : Problem) × (word : ℕ → ℕ) × AreRows b rows.now × IsRanking word (length b.block) ranking.now }
-    ensures { (b : Problem) (word : ℕ → ℕ) → AreRows b rows.now → IsRanking word (length b.block) ranking.now → (kind : KindOf) → AreOfClass b word (Takes kind) (get_or result (kind_number kind) no_set) }
+    requires ranking { (word : ℕ → ℕ) × IsRanking word (length rows.now) ranking.now }
 {
-    [
-        class_ranks(rows, ranking, &Class::Takes(Kind::Boolean)),
-        class_ranks(rows, ranking, &Class::Takes(Kind::Shift)),
-        class_ranks(rows, ranking, &Class::Takes(Kind::Add)),
-        class_ranks(rows, ranking, &Class::Takes(Kind::LongAdd)),
-        class_ranks(rows, ranking, &Class::Takes(Kind::Multiply)),
-        class_ranks(rows, ranking, &Class::Takes(Kind::Divide)),
-        class_ranks(rows, ranking, &Class::Takes(Kind::Increment)),
-    ]
+    let mut ranks = [Set::empty(); KIND_COUNT];
+    for index in 0..KIND_COUNT {
+        ranks[index] = class_ranks(rows, ranking, &Class::Takes(KINDS[index]));
+    }
+    ranks
 }

@@ -1,6 +1,6 @@
-ghost use Rattle.std.specs.Prelude.{ℕ, ◌≡◌, get_or};
-ghost use Rattle.s66_paths.specs.PathTails.{no_tails};
-ghost use Rattle.s66_paths.specs.Classes.{part_of, cut};
+ghost use Rattle.std.specs.Prelude.{◌≤◌};
+ghost use Rattle.s66_paths.specs.declared.limits.TheConstants.{TAIL_LIMIT};
+ghost use Rattle.s66_paths.specs.FollowingWords.{IsSmall, AreSmall};
 
 use crate::limits::TAIL_LIMIT;
 use s66_isa::BLOCK_LIMIT;
@@ -32,7 +32,8 @@ pub enum Part {
 impl Tails {
     /// What follows a part.
     pub fn after(&self, part: Part) -> u32
-        ensures { result ≡ part_of part self.now }
+        requires { IsSmall self.now }
+        ensures { result ≤ TAIL_LIMIT }
     {
         match part {
             Part::Issue => self.issue,
@@ -44,7 +45,7 @@ impl Tails {
 
     /// The same, cut where it is more than the limit, or more than what follows the issue, as it is in no network.
     fn cut(&self) -> Tails
-        ensures { result ≡ cut self.now }
+        ensures { IsSmall result }
     {
         let issue = self.issue.min(TAIL_LIMIT);
         Tails {
@@ -59,7 +60,7 @@ impl Tails {
 
 /// What follows the stages of all numbers, each cut.
 pub fn cut_all(tails: &[Tails; BLOCK_LIMIT]) -> [Tails; BLOCK_LIMIT]
-    ensures { (i : ℕ) → get_or result i no_tails ≡ cut (get_or tails.now i no_tails) }
+    ensures { AreSmall result }
 {
     let mut those = [Tails::default(); BLOCK_LIMIT];
     for place in 0..BLOCK_LIMIT {

@@ -1,32 +1,24 @@
 //! The greatest path by the words of a clock: each with the greatest of what follows, of those that remain and wait for it. All
 //! values are in minor cycles.
 
-ghost use Rattle.std.specs.Prelude.{ℕ, ◌≡◌, ◌+◌, ◌-◌, ◌≤◌, max, IfSome, IfNone, [], List, get_or, length};
-ghost use Rattle.s66_isa.specs.Lists.{greatest, Among};
-ghost use Rattle.s66_isa.specs.Table.{all_kinds};
-ghost use Rattle.s66_line.specs.Block.{instrs_of};
-ghost use Rattle.s66_model.specs.LegalOrder.{remaining};
-ghost use Rattle.s66_model.specs.Timing.{Problem, points_of, slot_of, row_at, readers_wait};
-ghost use Rattle.s66_dep.specs.Members.{numbers_in};
-ghost use Rattle.s66_dep.specs.Ranks.{AreAtMost, IsRanking};
+ghost use Rattle.std.specs.Prelude.{◌+◌, ◌≤◌};
+ghost use Rattle.s66_dep.specs.Ranks.{AreAtMost};
 ghost use Rattle.s66_time.specs.declared.limits.TheConstants.{TOTAL_LIMIT};
-ghost use Rattle.s66_time.specs.Ticking.{points, problem_of};
 ghost use Rattle.s66_paths.specs.declared.limits.TheConstants.{TAIL_LIMIT};
-ghost use Rattle.s66_paths.specs.declared.class.Class.{Class as ClassOf};
-ghost use Rattle.s66_paths.specs.declared.tails.Part.TheVariants.{Issue};
-ghost use Rattle.s66_paths.specs.Classes.{after, class_value, unit_value, memory_value, result_value, readers_value, value_at, IsRaised, AreLeft, AreOfClass, IsTables, IsLeft, IsTop};
+ghost use Rattle.s66_paths.specs.FollowingWords.{AreSmallWords, HasSmallWords};
 
 use crate::left::Left;
 use crate::tables::PathTables;
+use crate::words::done_of;
 use s66_dep::{Ranking, Set};
 use s66_isa::{BLOCK_LIMIT, Kind, Memory, Reg, kind_number};
-use s66_time::{Clock, TOTAL_LIMIT};
+use s66_time::Clock;
 
 /// A value, or a word and what follows if that is greater, at one of those that remain of a class.
 fn raised(ranking: &Ranking, left: &Set, those: &Set, word: u32, top: u32, most: u32) -> u32
     requires small { AreAtMost TAIL_LIMIT ranking.now }
     requires early { (word ≤ TOTAL_LIMIT + 1) × (top ≤ TAIL_LIMIT) }
-    ensures { (b : Problem) (prefix : List ℕ) (class : ClassOf) (follows : ℕ → ℕ) → IsRanking follows (length b.block) ranking.now → AreLeft b follows prefix left.now → AreOfClass b follows class those.now → ((n : ℕ) → Among n (remaining b.block prefix) → follows n ≤ top) → result ≡ max most (class_value b prefix class word follows) }
+    ensures { most ≤ result }
 {
     // mostly the word is too early for this, whatever follows
     if word + top <= most {
@@ -47,10 +39,9 @@ fn with_unit(
     top: u32,
     most: u32,
 ) -> u32
-    requires tables { IsTables (problem_of clock.now) tables.now }
-    requires left { IsLeft (problem_of clock.now) tables.now.tails clock.now.numbers left.now }
-    requires top { IsTop (problem_of clock.now) tables.now.tails clock.now.numbers top }
-    ensures { result ≡ max most (unit_value (problem_of clock.now) tables.now.tails clock.now.numbers kind) }
+    requires words { HasSmallWords tables.now }
+    requires top { top ≤ TAIL_LIMIT }
+    ensures { most ≤ result }
 {
     let those = &tables.takers[kind_number(kind)];
     raised(
@@ -65,10 +56,9 @@ fn with_unit(
 
 /// A value, or what the units of any kind make.
 fn with_units(tables: &PathTables, clock: &Clock<'_>, left: &Left, top: u32, most: u32) -> u32
-    requires tables { IsTables (problem_of clock.now) tables.now }
-    requires left { IsLeft (problem_of clock.now) tables.now.tails clock.now.numbers left.now }
-    requires top { IsTop (problem_of clock.now) tables.now.tails clock.now.numbers top }
-    ensures { result ≡ max most (greatest (unit_value (problem_of clock.now) tables.now.tails clock.now.numbers) all_kinds) }
+    requires words { HasSmallWords tables.now }
+    requires top { top ≤ TAIL_LIMIT }
+    ensures { most ≤ result }
 {
     let increment = with_unit(tables, clock, left, Kind::Increment, top, most);
     let divide = with_unit(tables, clock, left, Kind::Divide, top, increment);
@@ -81,10 +71,9 @@ fn with_units(tables: &PathTables, clock: &Clock<'_>, left: &Left, top: u32, mos
 
 /// A value, or what the references to memory make.
 fn with_memory(tables: &PathTables, clock: &Clock<'_>, left: &Left, top: u32, most: u32) -> u32
-    requires tables { IsTables (problem_of clock.now) tables.now }
-    requires left { IsLeft (problem_of clock.now) tables.now.tails clock.now.numbers left.now }
-    requires top { IsTop (problem_of clock.now) tables.now.tails clock.now.numbers top }
-    ensures { result ≡ max most (memory_value (problem_of clock.now) tables.now.tails clock.now.numbers) }
+    requires words { HasSmallWords tables.now }
+    requires top { top ≤ TAIL_LIMIT }
+    ensures { most ≤ result }
 {
     let stored = clock.memory_wait(Memory::Load);
     let referenced = clock.memory_wait(Memory::Store);
@@ -109,13 +98,11 @@ fn with_result(
     top: u32,
     most: u32,
 ) -> u32
-    requires tables { IsTables (problem_of clock.now) tables.now }
-    requires left { IsLeft (problem_of clock.now) tables.now.tails clock.now.numbers left.now }
-    requires top { IsTop (problem_of clock.now) tables.now.tails clock.now.numbers top }
-    ensures { result ≡ max most (result_value (problem_of clock.now) tables.now.tails clock.now.numbers register) }
+    requires words { HasSmallWords tables.now }
+    requires top { top ≤ TAIL_LIMIT }
+    ensures { most ≤ result }
 {
-    prove!(clock.total() <= TOTAL_LIMIT);
-    let done = clock.done_of(register);
+    let done = done_of(clock, register);
     let index = register.index() as usize;
     let writers = &tables.writers[index];
     let readers = &tables.readers[index];
@@ -125,11 +112,10 @@ fn with_result(
 
 /// A value, or what the results in any register make. Only the registers are looked at that are so late that they can make more.
 fn with_results(tables: &PathTables, clock: &Clock<'_>, left: &Left, top: u32, most: u32) -> u32
-    requires tables { IsTables (problem_of clock.now) tables.now }
-    requires left { IsLeft (problem_of clock.now) tables.now.tails clock.now.numbers left.now }
-    requires top { IsTop (problem_of clock.now) tables.now.tails clock.now.numbers top }
+    requires words { HasSmallWords tables.now }
+    requires top { top ≤ TAIL_LIMIT }
     requires most { top ≤ most }
-    ensures { IsRaised most (result_value (problem_of clock.now) tables.now.tails clock.now.numbers) result }
+    ensures { most ≤ result }
 {
     let mut most = most;
     let mut late = clock.late(most - top);
@@ -141,9 +127,9 @@ fn with_results(tables: &PathTables, clock: &Clock<'_>, left: &Left, top: u32, m
 
 /// A value, or a word and what follows if that is greater, at one of these numbers; what follows n is at place n - 1.
 fn with_each(words: &[u32; BLOCK_LIMIT], numbers: &Set, word: u32, most: u32) -> u32
-    requires small { (i : ℕ) → get_or words.now i 0 ≤ TAIL_LIMIT }
+    requires small { AreSmallWords words.now }
     requires early { word ≤ TOTAL_LIMIT }
-    ensures { result ≡ max most (greatest (λ n. word + get_or words.now (n - 1) 0) (numbers_in numbers.now)) }
+    ensures { most ≤ result }
 {
     let mut rest = *numbers;
     let mut most = most;
@@ -155,9 +141,8 @@ fn with_each(words: &[u32; BLOCK_LIMIT], numbers: &Set, word: u32, most: u32) ->
 
 /// A value, or what the readers of a register make: a step for each that remains and writes it.
 fn with_reader(tables: &PathTables, clock: &Clock<'_>, rest: &Set, register: Reg, most: u32) -> u32
-    requires tables { IsTables (problem_of clock.now) tables.now }
-    requires rest { numbers_in rest.now ≡ remaining (instrs_of clock.now.block) clock.now.numbers }
-    ensures { result ≡ max most (readers_value (problem_of clock.now) tables.now.tails clock.now.numbers register) }
+    requires words { HasSmallWords tables.now }
+    ensures { most ≤ result }
 {
     let word = clock.readers_of(register);
     let index = register.index() as usize;
@@ -169,11 +154,10 @@ fn with_reader(tables: &PathTables, clock: &Clock<'_>, rest: &Set, register: Reg
 
 /// A value, or what the readers of any register make. Only the registers are looked at that are so late that they can make more.
 fn with_readers(tables: &PathTables, clock: &Clock<'_>, rest: &Set, top: u32, most: u32) -> u32
-    requires tables { IsTables (problem_of clock.now) tables.now }
-    requires rest { numbers_in rest.now ≡ remaining (instrs_of clock.now.block) clock.now.numbers }
-    requires top { IsTop (problem_of clock.now) tables.now.tails clock.now.numbers top }
+    requires words { HasSmallWords tables.now }
+    requires top { top ≤ TAIL_LIMIT }
     requires most { top ≤ most }
-    ensures { IsRaised most (readers_value (problem_of clock.now) tables.now.tails clock.now.numbers) result }
+    ensures { most ≤ result }
 {
     let mut most = most;
     let mut late = clock.late_readers(most - top);
@@ -185,12 +169,9 @@ fn with_readers(tables: &PathTables, clock: &Clock<'_>, rest: &Set, top: u32, mo
 
 /// The next slot and the greatest that follows an issue, or the slot of two parcels and the greatest that follows one of these.
 fn slot_value(tables: &PathTables, clock: &Clock<'_>, left: &Left, top: u32) -> u32
-    requires tables { IsTables (problem_of clock.now) tables.now }
-    requires left { IsLeft (problem_of clock.now) tables.now.tails clock.now.numbers left.now }
+    requires words { HasSmallWords tables.now }
     requires top { top ≤ TAIL_LIMIT }
-    requires met { (n : ℕ) × Among n (remaining (instrs_of clock.now.block) clock.now.numbers) × (top ≡ after Issue tables.now.tails n) }
-    requires most { IsTop (problem_of clock.now) tables.now.tails clock.now.numbers top }
-    ensures { result ≡ greatest (λ n. slot_of (points clock.now) (row_at (problem_of clock.now) n).parcels + after Issue tables.now.tails n) (remaining (instrs_of clock.now.block) clock.now.numbers) }
+    ensures { top ≤ result }
 {
     let ranking = &tables.by_issue;
     let most = clock.slot(1) + top;
@@ -206,9 +187,7 @@ fn slot_value(tables: &PathTables, clock: &Clock<'_>, left: &Left, top: u32) -> 
 
 /// The greatest path of what remains, 0 if nothing does: a few looks for each word of the clock that is late, and none at a number.
 pub fn greatest_value(tables: &PathTables, clock: &Clock<'_>, left: &Left) -> u32
-    requires tables { IsTables (problem_of clock.now) tables.now }
-    requires left { IsLeft (problem_of clock.now) tables.now.tails clock.now.numbers left.now }
-    ensures { result ≡ greatest (value_at (problem_of clock.now) tables.now.tails clock.now.numbers) (remaining (instrs_of clock.now.block) clock.now.numbers) }
+    requires { HasSmallWords tables.now }
 {
     let Some(top) = tables.by_issue.greatest(&left.by_issue) else {
         return 0;

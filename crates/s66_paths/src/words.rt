@@ -1,49 +1,46 @@
 //! What the words of a clock are for one instruction, as if it came next, in minor cycles.
 
-ghost use Rattle.std.specs.Prelude.{◌≡◌, ◌+◌, ◌≤◌};
-ghost use Rattle.s66_isa.specs.Lists.{greatest};
-ghost use Rattle.s66_isa.specs.Table.{Write as WriteOf};
-ghost use Rattle.s66_model.specs.Timing.{done_of};
+ghost use Rattle.std.specs.Prelude.{◌+◌, ◌≤◌};
 ghost use Rattle.s66_time.specs.declared.limits.TheConstants.{TOTAL_LIMIT};
-ghost use Rattle.s66_time.specs.Ticking.{points, problem_of};
-ghost use Rattle.s66_moments.specs.Networks.{issue_words, start_words};
-ghost use Rattle.s66_paths.specs.PathTails.{IsSmall};
-ghost use Rattle.s66_paths.specs.Classes.{result_words, value_by};
+ghost use Rattle.s66_paths.specs.FollowingWords.{IsSmall};
 
 use crate::tails::Tails;
 use s66_isa::{Reg, Row, Write};
 use s66_time::{Clock, TOTAL_LIMIT};
 
-/// When the last results in the registers are done that are written.
-fn last_written(clock: &Clock<'_>, writes: &[Write]) -> u32
-    ensures value { result ≡ greatest (λ (w : WriteOf). done_of (points clock.now) w.reg) writes.now }
-    ensures at_most { result ≤ TOTAL_LIMIT }
+/// When the last results in a register are done.
+pub fn done_of(clock: &Clock<'_>, register: Reg) -> u32
+    ensures { result ≤ TOTAL_LIMIT }
 {
     prove!(clock.total() <= TOTAL_LIMIT);
+    clock.done_of(register)
+}
+
+/// When the last results in the registers are done that are written.
+fn last_written(clock: &Clock<'_>, writes: &[Write]) -> u32
+    ensures { result ≤ TOTAL_LIMIT }
+{
     let mut last = 0u32;
     for write in writes {
-        last = last.max(clock.done_of(write.reg));
+        last = last.max(done_of(clock, write.reg));
     }
     last
 }
 
 /// When the last results in the registers are done that are read.
 fn last_read(clock: &Clock<'_>, reads: &[Reg]) -> u32
-    ensures value { result ≡ greatest (λ x. done_of (points clock.now) x) reads.now }
-    ensures at_most { result ≤ TOTAL_LIMIT }
+    ensures { result ≤ TOTAL_LIMIT }
 {
-    prove!(clock.total() <= TOTAL_LIMIT);
     let mut last = 0u32;
     for register in reads {
-        last = last.max(clock.done_of(*register));
+        last = last.max(done_of(clock, *register));
     }
     last
 }
 
 /// What the issue waits for: its slot, the registers that it writes, and a unit.
 fn issue_words(clock: &Clock<'_>, row: &Row) -> u32
-    ensures value { result ≡ issue_words (problem_of clock.now) (points clock.now) row.now }
-    ensures at_most { result ≤ TOTAL_LIMIT + 1 }
+    ensures { result ≤ TOTAL_LIMIT + 1 }
 {
     let written = last_written(clock, row.writes.as_slice());
     let free = clock.soonest_free(row.kind);
@@ -52,8 +49,7 @@ fn issue_words(clock: &Clock<'_>, row: &Row) -> u32
 
 /// What the start waits for: the registers that it reads, and memory.
 fn start_words(clock: &Clock<'_>, row: &Row) -> u32
-    ensures value { result ≡ start_words (points clock.now) row.now }
-    ensures at_most { result ≤ TOTAL_LIMIT }
+    ensures { result ≤ TOTAL_LIMIT }
 {
     last_read(clock, row.reads.as_slice()).max(clock.memory_wait(row.memory))
 }
@@ -61,7 +57,6 @@ fn start_words(clock: &Clock<'_>, row: &Row) -> u32
 /// The greatest of what the results wait for, two at most, each with what follows it.
 fn result_words(clock: &Clock<'_>, writes: &[Write], tails: &Tails) -> u32
     requires { IsSmall tails.now }
-    ensures { result ≡ result_words (points clock.now) tails.now writes.now }
 {
     if writes.is_empty() {
         return 0;
@@ -78,7 +73,6 @@ fn result_words(clock: &Clock<'_>, writes: &[Write], tails: &Tails) -> u32
 /// The greatest of all these words of an instruction, each with what follows.
 pub fn value_by(clock: &Clock<'_>, row: &Row, tails: &Tails) -> u32
     requires { IsSmall tails.now }
-    ensures { result ≡ value_by (problem_of clock.now) (points clock.now) row.now tails.now }
 {
     let issue = issue_words(clock, row) + tails.issue;
     let start = start_words(clock, row) + tails.start;
