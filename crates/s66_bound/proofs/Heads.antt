@@ -14,11 +14,6 @@ use Rattle.s66_dep.specs.Members.{numbers_in, no_set}
 use Rattle.s66_bound.specs.declared.tables.Tables.{Tables}
 use Rattle.s66_bound.specs.TableWords.{IsTables}
 
--- its rank is among those of a register if it reads or writes it
-pub has-users : (b : Problem) (t : Tables) (n : ℕ) (x : Reg) → IsTables b t → 1 ≤ n → n ≤ length b.block → x.digit ≤ 7 → has (get_or t.ranks (n - 1) 0) (numbers_in (get_or t.users_by_rank (index_of x) no_set)) ≡ uses (row_at b n) x
-has-users b t n x tables low high digit =
-    ap (λ r. has r (numbers_in (get_or t.users_by_rank (index_of x) no_set))) (tables.ranks n low high) ∙ (tables.users x digit).each n low high
-
 pub greatest-drop : {X : Type 0} (f : X → ℕ) (xs : List X) (i : ℕ) (d : X) → i < length xs → greatest f (drop i xs) ≡ max (f (get_or xs i d)) (greatest f (drop (i + 1) xs))
 greatest-drop f xs i d lt = at_drop_more (greatest f) xs i d lt
 

@@ -9,5 +9,4 @@ pub mod LongestWalks
 pub mod RemainingSums
 pub mod ValueBounds
 pub mod LeastWords
-pub mod RankOrder
 pub mod RanksHeld

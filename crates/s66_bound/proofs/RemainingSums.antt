@@ -15,8 +15,8 @@ use Rattle.s66_model.proofs.PointTimes.{good-at}
 use Rattle.s66_model.proofs.Remaining.{remaining-parts, remaining-among, among-remaining}
 use Rattle.s66_dep.specs.declared.set.Set.{Set}
 use Rattle.s66_dep.specs.Members.{numbers_in}
+use Rattle.s66_dep.specs.Ranks.{IsGreatestWord}
 use Rattle.s66_bound.specs.Ranks.{rank, AreRanks}
-use Rattle.s66_bound.specs.TableWords.{IsGreatestTail}
 
 among-left : (b : Problem) (prefix : List ℕ) (n : ℕ) → 1 ≤ n → n ≤ length b.block → not (has n prefix) ≡ true → Among n (remaining b.block prefix)
 among-left b prefix n low high stays =
@@ -73,7 +73,7 @@ abbrev pub is_user : Problem → Reg → ℕ → Bool
 is_user b x n = uses (row_at b n) x
 
 -- the chains from a register by the greatest longest tail of its users that remain
-pub by-greatest : (b : Problem) (prefix : List ℕ) (x : Reg) (done tail : ℕ) → done ≡ done_of (points_of b prefix) x → IsGreatestTail b (λ n. not (has n prefix) && is_user b x n) tail → done + tail ≡ chain_by b prefix x
+pub by-greatest : (b : Problem) (prefix : List ℕ) (x : Reg) (done tail : ℕ) → done ≡ done_of (points_of b prefix) x → IsGreatestWord (longest_tail b) (length b.block) (λ n. not (has n prefix) && is_user b x n) tail → done + tail ≡ chain_by b prefix x
 by-greatest b prefix x done tail is greatest_one =
     let f : ℕ → ℕ = λ n. cond (is_user b x n) (done_of (points_of b prefix) x + longest_tail b n) 0 in
     let (n, low, high, passes, own) = greatest_one.met in
@@ -103,7 +103,7 @@ by-none b prefix x set are none =
 
 -- THE GREATEST LONGEST TAIL
 
-pub tail-greatest : (b : Problem) (prefix : List ℕ) (tail : ℕ) → IsGreatestTail b (λ n. not (has n prefix)) tail → tail ≡ tail_remaining b prefix
+pub tail-greatest : (b : Problem) (prefix : List ℕ) (tail : ℕ) → IsGreatestWord (longest_tail b) (length b.block) (λ n. not (has n prefix)) tail → tail ≡ tail_remaining b prefix
 tail-greatest b prefix tail greatest_one =
     let (n, low, high, stays, own) = greatest_one.met in
     let reached : longest_tail b n ≤ tail_remaining b prefix = le-greatest (longest_tail b) n (remaining b.block prefix) (among-left b prefix n low high stays) in

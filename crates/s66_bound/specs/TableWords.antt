@@ -3,7 +3,7 @@ use Rattle.std.specs.Prelude.{ℕ, ◌+◌, ◌-◌, ◌≡◌, ◌≤◌, ◌<�
 use Rattle.std.specs.List.{filter}
 use Rattle.s66_isa.specs.declared.profile.Profile.{Profile}
 use Rattle.s66_isa.specs.declared.instr.Kind.{Kind}
-use Rattle.s66_isa.specs.Lists.{Among, has, weigh}
+use Rattle.s66_isa.specs.Lists.{Among, weigh}
 use Rattle.s66_isa.specs.Table.{Reg, kind_number, numbers}
 use Rattle.s66_isa.specs.Registers.{index_of}
 use Rattle.s66_isa.specs.declared.limits.TheConstants.{BLOCK_LIMIT}
@@ -17,7 +17,7 @@ use Rattle.s66_dep.specs.Members.{numbers_in, no_set}
 use Rattle.s66_time.specs.Ticking.{Ticking}
 use Rattle.s66_bound.specs.declared.tables.Tables.{Tables}
 use Rattle.s66_bound.specs.LeastWords.{AreEnds}
-use Rattle.s66_bound.specs.Ranks.{rank, AreRanks}
+use Rattle.s66_bound.specs.Ranks.{IsRanking, AreRanks}
 
 abbrev pub timed_by : Block → Profile → Problem
 timed_by block profile = record { block = instrs_of block; profile = profile }
@@ -42,19 +42,6 @@ pub record HasSingles (p : Profile) : Type 0 where
   pub longadd : p.units_longadd ≡ 1
   pub divide : p.units_divide ≡ 1
 
--- the longest tail of each number, at the place below its rank
-abbrev pub HasTails : Problem → List ℕ → Type 0
-HasTails b words = (n : ℕ) → 1 ≤ n → n ≤ length b.block → get_or words (rank b n - 1) 0 ≡ longest_tail b n
-
--- the numbers are the block's
-abbrev pub AreOfBlock : Problem → Set → Type 0
-AreOfBlock b set = (n : ℕ) → has n (numbers_in set) ≡ true → (1 ≤ n) × (n ≤ length b.block)
-
--- of the numbers of the block that pass, one has this longest tail, and none a longer one
-pub record IsGreatestTail (b : Problem) (test : ℕ → Bool) (tail : ℕ) : Type 0 where
-  pub met : (n : ℕ) × (1 ≤ n) × (n ≤ length b.block) × (test n ≡ true) × (tail ≡ longest_tail b n)
-  pub most : (n : ℕ) → 1 ≤ n → n ≤ length b.block → test n ≡ true → longest_tail b n ≤ tail
-
 -- the ranks of what reads or writes each register
 abbrev pub HasUsers : Problem → List Set → Type 0
 HasUsers b sets = (x : Reg) → x.digit ≤ 7 → AreRanks b (λ n. uses (row_at b n) x) (get_or sets (index_of x) no_set)
@@ -70,8 +57,7 @@ pub record IsTables (b : Problem) (t : Tables) : Type 0 where
   pub long : AreThose b (λ n. (row_at b n).parcels == 2) t.long
   pub longest : HasWords b (longest_tail b) t.longest
   pub spare : HasWords b (spare b) t.spare
-  pub ranks : HasWords b (rank b) t.ranks
-  pub tails : HasTails b t.tails
+  pub ranking : IsRanking b t.by_tail
   pub ends : AreEnds t.spare (length b.block) t.ends
   pub works : HasWorks b t.works
   pub singles : t.has_singles ≡ true → HasSingles b.profile

@@ -2,7 +2,6 @@ use crate::entry::{Entry, entries_of};
 use crate::floors::{floor_of, floor_of_value};
 use crate::leaf::{ChainLeaf, Leaf};
 use crate::printed::chain_numbers;
-use crate::ranks::ranks_of;
 use crate::tables::Tables;
 use crate::values::{
     chain_of, floor_value_of, load_of, parcels_of, remaining_numbers, remaining_ranks,
@@ -76,15 +75,14 @@ impl<'a> Bounds<'a> {
         ensures value { result ≡ rank self.now n }
         ensures range { (1 ≤ result) × (result ≤ BLOCK_LIMIT) }
     {
-        prove!(self.block.count() <= BLOCK_LIMIT);
-        self.tables.ranks[n as usize - 1]
+        self.tables.by_tail.rank(n)
     }
 
     /// The ranks of all numbers of the block: of what remains after the empty prefix.
     pub fn all_ranks(&self) -> Set
         ensures { AreRanksLeft self.now [] result }
     {
-        ranks_of(&self.tables.ranks, &self.tables.all)
+        self.tables.by_tail.ranks(&self.tables.all)
     }
 
     /// The greatest value of a chain, in minor cycles.

@@ -9,7 +9,6 @@ mod longest;
 mod numbers;
 mod once;
 mod printed;
-mod ranks;
 mod tables;
 mod values;
 

@@ -27,7 +27,7 @@ fn head_of(tables: &Tables, clock: &Clock<'_>, number: u8) -> u32
     requires number { (1 ≤ number) × (number ≤ length (instrs_of clock.now.block)) }
     ensures { result ≡ head (points clock.now) (row_at (problem_of clock.now) number) }
 {
-    let rank = tables.ranks[number as usize - 1];
+    let rank = tables.by_tail.rank(number);
     let mut head = clock.next();
     for register in tables.written.as_slice() {
         if tables.users_by_rank[register.index() as usize].has(rank) {

@@ -9,15 +9,14 @@ ghost use Rattle.s66_model.specs.Leaves.{uses};
 ghost use Rattle.s66_model.specs.Tails.{spare, HasWords, HasWritten};
 ghost use Rattle.s66_bound.specs.InstructionCosts.{AreCosts};
 ghost use Rattle.s66_bound.specs.declared.entry.Entry.{Entry as EntryOf};
-ghost use Rattle.s66_bound.specs.Ranks.{rank};
+ghost use Rattle.s66_bound.specs.Ranks.{IsRanking};
 ghost use Rattle.s66_bound.specs.TableWords.{AreThose, AreRegisters, HasSingles, HasWorks, HasUsers, IsTables};
 
 use crate::entry::Entry;
 use crate::longest::longest_tails;
 use crate::numbers::ends_of;
-use crate::ranks::{ranks_by_number, ranks_of, tails_by_rank};
 use arrayvec::ArrayVec;
-use s66_dep::Set;
+use s66_dep::{Ranking, Set};
 use s66_isa::{
     BLOCK_LIMIT, KIND_COUNT, Profile, REGISTER_COUNT, Reg, Write, is_same_register, kind_number,
 };
@@ -33,10 +32,8 @@ pub struct Tables {
     pub longest: [u32; BLOCK_LIMIT],
     /// By how much its own tail is longer than its parcels.
     pub spare: [u32; BLOCK_LIMIT],
-    /// The rank of each number by its longest tail: rank 1 has the greatest.
-    pub ranks: [u8; BLOCK_LIMIT],
-    /// The longest tail of the number of each rank, at the place below the rank.
-    pub tails: [u32; BLOCK_LIMIT],
+    /// The numbers by longest tail: rank 1 has the greatest.
+    pub by_tail: Ranking,
     /// The numbers of the least spare.
     pub ends: Set,
     /// Of each kind, by its number, for how long the instructions take a unit, summed: each for its hold and one.
@@ -58,16 +55,15 @@ impl Tables {
     {
         let longest = longest_tails(entries);
         let spare = spares(entries);
-        let ranks = ranks_by_number(&longest, entries.len());
+        let by_tail = Ranking::of(&longest, entries.len());
         Tables {
             all: Set::up_to(entries.len()),
             long: long_numbers(entries),
-            tails: tails_by_rank(&longest, &ranks, entries.len()),
             ends: ends_of(&spare, entries.len()),
-            users_by_rank: users_by_rank(entries, &ranks),
+            users_by_rank: users_by_rank(entries, &by_tail),
             longest,
             spare,
-            ranks,
+            by_tail,
             works: works_by_kind(entries),
             has_singles: has_singles(profile),
             written: written_registers(entries),
@@ -150,14 +146,14 @@ fn register_at(index: usize) -> Reg
 }
 
 /// The ranks of the numbers that read or write each register, by its index.
-fn users_by_rank(entries: &[Entry], ranks: &[u8; BLOCK_LIMIT]) -> [Set; REGISTER_COUNT]
+fn users_by_rank(entries: &[Entry], ranking: &Ranking) -> [Set; REGISTER_COUNT]
     requires few { length entries.now ≤ BLOCK_LIMIT }
-    requires known { (b : Problem) × AreCosts b entries.now × HasWords b (rank b) ranks.now }
-    ensures { (b : Problem) → AreCosts b entries.now → HasWords b (rank b) ranks.now → HasUsers b result }
+    requires known { (b : Problem) × AreCosts b entries.now × IsRanking b ranking.now }
+    ensures { (b : Problem) → AreCosts b entries.now → IsRanking b ranking.now → HasUsers b result }
 {
     let mut users = [Set::empty(); REGISTER_COUNT];
     for index in 0..REGISTER_COUNT {
-        users[index] = ranks_of(ranks, &users_of(entries, register_at(index)));
+        users[index] = ranking.ranks(&users_of(entries, register_at(index)));
     }
     users
 }

@@ -11,11 +11,10 @@ ghost use Rattle.s66_model.specs.Tails.{tail_remaining, chain_by};
 ghost use Rattle.s66_dep.specs.Members.{numbers_in};
 ghost use Rattle.s66_time.specs.declared.limits.TheConstants.{COPIES_LIMIT, TOTAL_LIMIT};
 ghost use Rattle.s66_time.specs.Ticking.{problem_of};
-ghost use Rattle.s66_bound.specs.Ranks.{AreRanks, AreRanksLeft};
-ghost use Rattle.s66_bound.specs.TableWords.{AreRemaining, HasSingles, HasTails, IsGreatestTail, IsTables};
+ghost use Rattle.s66_bound.specs.Ranks.{AreRanksLeft};
+ghost use Rattle.s66_bound.specs.TableWords.{AreRemaining, HasSingles, IsTables};
 
 use crate::numbers::least_of;
-use crate::ranks::ranks_of;
 use crate::tables::Tables;
 use s66_dep::Set;
 use s66_isa::{Kind, Reg, kind_number};
@@ -35,17 +34,7 @@ pub fn remaining_ranks(tables: &Tables, clock: &Clock<'_>, rest: &Set) -> Set
     requires rest { AreRemaining clock.now rest.now }
     ensures { AreRanksLeft (problem_of clock.now) clock.now.numbers result }
 {
-    ranks_of(&tables.ranks, rest)
-}
-
-/// The greatest longest tail of the numbers of these ranks: that of the first.
-fn first_tail(tables: &Tables, ranks: &Set) -> Option<u32>
-    ensures some { (b : Problem) (test : ℕ → Bool) → HasTails b tables.now.tails → AreRanks b test ranks.now → IfSome result (λ tail. IsGreatestTail b test tail) }
-    ensures none { IfNone result (numbers_in ranks.now ≡ []) }
-{
-    let mut rest = *ranks;
-    let first = rest.pop_first()?;
-    Some(tables.tails[first as usize - 1])
+    tables.by_tail.ranks(rest)
 }
 
 /// The greatest of the longest tails of the numbers that remain.
@@ -54,7 +43,7 @@ fn greatest_tail(tables: &Tables, clock: &Clock<'_>, ranks: &Set) -> u32
     requires ranks { AreRanksLeft (problem_of clock.now) clock.now.numbers ranks.now }
     ensures { result ≡ tail_remaining (problem_of clock.now) clock.now.numbers }
 {
-    match first_tail(tables, ranks) {
+    match tables.by_tail.greatest(ranks) {
         Some(tail) => tail,
         None => 0,
     }
@@ -69,7 +58,7 @@ fn chain_by(tables: &Tables, clock: &Clock<'_>, ranks: &Set, register: Reg) -> u
     ensures { result ≡ chain_by (problem_of clock.now) clock.now.numbers register }
 {
     let users = ranks.both(&tables.users_by_rank[register.index() as usize]);
-    match first_tail(tables, &users) {
+    match tables.by_tail.greatest(&users) {
         Some(tail) => clock.done_of(register) + tail,
         None => 0,
     }

@@ -7,6 +7,7 @@ use Rattle.s66_isa.specs.declared.instr.Instr.{Instr}
 use Rattle.s66_line.specs.Block.{instrs_of}
 use Rattle.s66_isa.specs.declared.limits.TheConstants.{BLOCK_LIMIT}
 use Rattle.s66_model.specs.Timing.{Problem}
+use Rattle.s66_model.specs.Tails.{longest_tail}
 use Rattle.s66_isa.specs.Lists.{has}
 use Rattle.s66_model.specs.LegalOrder.{IsBeginning, IsFront, IsIncomplete, is_ready, ready}
 use Rattle.s66_model.specs.Dependence.{all_needs}
@@ -17,9 +18,9 @@ use Rattle.s66_dep.proofs.LongestBeginning.{beginning-few, front-take, push-read
 use Rattle.s66_dep.specs.declared.set.Set.{Set}
 use Rattle.s66_dep.specs.Members.{numbers_in}
 use Rattle.s66_dep.proofs.Opened.{count-needs}
+use Rattle.s66_dep.proofs.RankOrder.{ranks-same, ranks-with, ranks-without}
 use Rattle.s66_time.specs.Ticking.{Ticking, problem_of}
 use Rattle.s66_bound.specs.Ranks.{rank, AreRanksLeft}
-use Rattle.s66_bound.proofs.RankOrder.{ranks-same, ranks-with, ranks-without}
 use Rattle.s66_node.specs.declared.walk.ReadyFront.{ReadyFront}
 use Rattle.s66_node.specs.Walked.{Walked, IsWalked, IsReadyFront}
 
@@ -89,9 +90,9 @@ module _ (c : Ticking) (b : Problem) (d : List (List ℕ)) (ns : List ℕ) (left
       ((m : ℕ) → has m (numbers_in less) ≡ (has m (numbers_in left) && not (has m (numbers_in placed)))) → AreRanksLeft b (c.numbers ++ n ∷ []) less
   ranks-push n r none placed less is here nothing adds takes =
       let (low, high) = push-ranked n is in
-      ranks-same b (λ m. not (has m c.numbers) && not (eqb m n)) (λ m. not (has m (c.numbers ++ n ∷ []))) less
+      ranks-same (longest_tail b) (length b.block) (λ m. not (has m c.numbers) && not (eqb m n)) (λ m. not (has m (c.numbers ++ n ∷ []))) less
       (λ m from to. apart (has m c.numbers) (eqb m n) ∙ ap not (sym (has-push m n c.numbers)))
-      (ranks-without b (λ m. not (has m c.numbers)) n left less low high h.ranks (λ m.
+      (ranks-without (longest_tail b) (length b.block) (λ m. not (has m c.numbers)) n left less low high h.ranks (λ m.
       takes m ∙ ap (λ x. has m (numbers_in left) && not x) (adds m ∙ (ap (λ x. eqb m r || x) (ap (has m) nothing) ∙ (or-false (eqb m r) ∙ ap (eqb m) here)))))
     where
       apart : (x y : Bool) → (not x && not y) ≡ not (y || x)
@@ -189,9 +190,9 @@ module _ (c : Ticking) (b : Problem) (d : List (List ℕ)) (ns : List ℕ) (left
     pub ranks-undo : (r : ℕ) (more : Set) → r ≡ rank b n → ((m : ℕ) → has m (numbers_in more) ≡ (eqb m r || has m (numbers_in left))) → AreRanksLeft b ns2 more
     ranks-undo r more here adds =
         let (low, high, new) = last-parts in
-        ranks-same b (λ m. eqb m n || not (has m c.numbers)) (λ m. not (has m ns2)) more
+        ranks-same (longest_tail b) (length b.block) (λ m. eqb m n || not (has m c.numbers)) (λ m. not (has m ns2)) more
         (λ m from to. back m new)
-        (ranks-with b (λ m. not (has m c.numbers)) n left more low high h.ranks (λ m. adds m ∙ ap (λ k. eqb m k || has m (numbers_in left)) here))
+        (ranks-with (longest_tail b) (length b.block) (λ m. not (has m c.numbers)) n left more low high h.ranks (λ m. adds m ∙ ap (λ k. eqb m k || has m (numbers_in left)) here))
       where
         back : (m : ℕ) → has n ns2 ≡ false → (eqb m n || not (has m c.numbers)) ≡ not (has m ns2)
         back m new =

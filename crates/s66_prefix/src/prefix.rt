@@ -35,13 +35,13 @@ pub struct Prefix<'a> {
 
 impl<'a> Model for Prefix<'a> {
     ghost use Rattle.s66_time.specs.Ticking.{problem_of};
-    ghost use Rattle.s66_prefix.specs.Prefixes.{Begun, IsBegun, HasLeft};
+    ghost use Rattle.s66_prefix.specs.Prefixes.{Begun, IsBegun};
 
     ghost Value = { Begun };
 
     ghost view = { λ p. record { problem = problem_of p.clock; numbers = p.clock.numbers } };
 
-    ghost invariant = { λ p. IsBegun p.clock p.bounds p.openings p.numbers.items × HasLeft p.clock p.paths p.left };
+    ghost invariant = { λ p. IsBegun p.clock p.bounds p.paths p.openings p.numbers.items };
 }
 
 impl<'a> Prefix<'a> {

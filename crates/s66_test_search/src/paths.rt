@@ -1,9 +1,13 @@
+ghost use Rattle.std.specs.Prelude.{◌≡◌, length};
+ghost use Rattle.s66_line.specs.Block.{instrs_of};
+
 use crate::blocks::{MULTIPLIES, ONE_LOAD, only_block};
-use crate::plain_paths::{plain_floor, plain_tails};
+use crate::plain_paths::{plain_floor, plain_leaf, plain_tails};
 use crate::walk::{push_ready, undo_last};
+use s66_dep::Set;
 use s66_isa::{BLOCK_LIMIT, Profile};
 use s66_line::Block;
-use s66_paths::{PathBounds, Tails};
+use s66_paths::{Left, PathBounds, Tails};
 use s66_source::read_source;
 use s66_time::Clock;
 use std::process::Abort;
@@ -19,23 +23,56 @@ const TWO_ADDS: &str = "  FX1 X2+X3\n  FX4 X1+X5\n";
 const MIXED: &str =
     "  SA1 A1+B1\n  SA2 A2+B1\n  FX3 X1*X2\n  NX4 B2,X3\n  BX6 X4\n  SA6 A6+B2\n  SA1 A1+B2\n  FX1 X1/X3\n  IX7 X1+X4\n  SA7 A7+100\n  LX1 3\n  SB2 B2+1\n  FX4 X1+X2\n  PX5 B2,X4\n  CX3 X5\n  SA5 A5+B1\n  FX2 X5*X1\n  BX7 X2\n  SA7 A7+B1\n  SX1 B2\n";
 
+/// Checks the floor, worked out anew and from what a walk keeps, and the number that has it.
+fn check_floors<R: Abort>(
+    rt: &R,
+    bounds: &PathBounds,
+    clock: &Clock,
+    left: &Left,
+    tails: &[Tails; BLOCK_LIMIT],
+) {
+    let floor = plain_floor(clock, tails);
+    assert_eq!(rt; bounds.floor(clock), floor);
+    assert_eq!(rt; bounds.floor_by_ranks(clock, left), floor);
+    assert_eq!(rt; bounds.leaf(clock), plain_leaf(clock, tails));
+}
+
+/// Takes out of what remains what is pushed now and wasn't before, and puts back what was and isn't.
+fn keep_left(bounds: &PathBounds, block: &Block, left: &mut Left, before: &Set, pushed: &Set)
+    requires { bounds.now ≡ length (instrs_of block.now) }
+{
+    prove!(block.count() <= BLOCK_LIMIT);
+    for place in 0..block.count() {
+        let n = (place + 1) as u8;
+        if pushed.has(n) && !before.has(n) {
+            bounds.take_out(left, n);
+        }
+        if before.has(n) && !pushed.has(n) {
+            bounds.put_back(left, n);
+        }
+    }
+}
+
 /// Walks at random through the beginnings of a block's orders, and checks each.
 fn check_block<R: Abort>(rt: &R, block: &Block, profile: &Profile) {
     let tails = plain_tails(block, profile);
     let bounds = PathBounds::new(block, profile, &tails);
     let mut clock = Clock::new(block, profile);
+    let mut left = bounds.all_left();
     let mut random = 12345u32;
-    assert_eq!(rt; bounds.floor(&clock), plain_floor(&clock, &tails));
+    check_floors(rt, &bounds, &clock, &left, &tails);
     for _ in 0..TRIES {
         random = random.wrapping_mul(1_103_515_245).wrapping_add(12345);
         let n = ((random >> 16) % 24) as u8;
+        let before = clock.pushed();
         let is_changed = if n == 0 {
             undo_last(&mut clock)
         } else {
             push_ready(&mut clock, n)
         };
         if is_changed {
-            assert_eq!(rt; bounds.floor(&clock), plain_floor(&clock, &tails));
+            keep_left(&bounds, block, &mut left, &before, &clock.pushed());
+            check_floors(rt, &bounds, &clock, &left, &tails);
         }
     }
 }

@@ -166,3 +166,20 @@ pub fn plain_floor(clock: &Clock<'_>, tails: &[Tails; BLOCK_LIMIT]) -> u32 {
     }
     most
 }
+
+/// The least number that remains with this value; 0 if nothing remains.
+pub fn plain_leaf(clock: &Clock<'_>, tails: &[Tails; BLOCK_LIMIT]) -> u8 {
+    let block = clock.block();
+    prove!(block.count() <= BLOCK_LIMIT);
+    let floor = plain_floor(clock, tails);
+    let pushed = clock.pushed();
+    for place in 0..block.count() {
+        let n = (place + 1) as u8;
+        let row = Row::of(&block.instr(place + 1), clock.profile());
+        let own = tails[place];
+        if !pushed.has(n) && plain_value(clock, &row, &own) == floor {
+            return n;
+        }
+    }
+    0
+}

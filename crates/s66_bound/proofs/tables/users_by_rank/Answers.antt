@@ -1,4 +1,4 @@
-use Rattle.std.proofs.Common.{◌≡◌, length-set, sym, subst, arith, inl, inr, ◌∙◌}
+use Rattle.std.proofs.Common.{◌≡◌, length, length-set, refl, sym, subst, arith, inl, inr, ◌∙◌}
 use Rattle.std.proofs.lemmas.Bool.{cases_eq}
 use Rattle.std.proofs.lemmas.List.{get_or-set_other}
 use Rattle.std.proofs.lemmas.Grind.{get_or-set_at}
@@ -8,36 +8,37 @@ use Rattle.s66_isa.proofs.RegisterBits.{index-apart}
 use Rattle.s66_isa.proofs.SameRegister.{same_reg-true}
 use Rattle.s66_model.specs.Timing.{row_at}
 use Rattle.s66_model.specs.Leaves.{uses}
+use Rattle.s66_model.specs.Tails.{longest_tail}
 use Rattle.s66_dep.specs.Members.{no_set}
+use Rattle.s66_dep.proofs.RankOrder.{those-within, ranks-those}
 use Rattle.s66_bound.specs.Ranks.{AreRanks}
-use Rattle.s66_bound.proofs.RankOrder.{those-within, ranks-those}
 use Rattle.s66_bound.proofs.tables.users_by_rank.Goals as goal
 
-pub ranks_of-requires : goal.ranks_of-requires
-ranks_of-requires c =
-    let (b, are, words) = c.requires.known in
-    record { known = (b, words, omega (arith, are.count, c.requires.few), those-within b (λ n. uses (row_at b n) c.register_at.result) c.users_of.result (c.users_of.ensures b are)) }
+pub ranks-requires : goal.ranks-requires
+ranks-requires c =
+    let (b, are, ranking) = c.requires.known in
+    record { known = (longest_tail b, length b.block, ranking, those-within b.block (λ n. uses (row_at b n) c.register_at.result) c.users_of.result (c.users_of.ensures b are)) }
 
 pub loop-index-preserved : goal.loop-index-preserved
 loop-index-preserved c =
     let users = c.loop-index.users in
     let i = c.loop-index.index in
-    let more = c.ranks_of.result in
+    let more = c.ranks.result in
     let r = c.register_at.result in
     record {
       size = length-set users i more ∙ c.loop-index.invariant.size;
-      known = λ b are words x digit below.
+      known = λ b are ranking x digit below.
           elim (cases_eq (index_of x) i) [
             | inl here ↦
                 let same : r ≡ x = same_reg-true r x (index-apart r x c.register_at.ensures.digit digit (c.register_at.ensures.value ∙ sym here)) in
                 let those = c.users_of.ensures b are in
                 let ranks : AreRanks b (λ n. uses (row_at b n) r) more =
-                ranks-those b (λ n. uses (row_at b n) r) c.users_of.result more those (c.ranks_of.ensures b words (those-within b (λ n. uses (row_at b n) r) c.users_of.result those))
+                ranks-those (longest_tail b) (length b.block) b.block (λ n. uses (row_at b n) r) c.users_of.result more refl those (c.ranks.ensures (longest_tail b) (length b.block) ranking (those-within b.block (λ n. uses (row_at b n) r) c.users_of.result those))
                 in
                 subst (AreRanks b (λ n. uses (row_at b n) x)) (sym (get_or-set_at users i (index_of x) more no_set here (omega (arith, c.loop-index.invariant.size))))
                 (subst (λ (y : Reg). AreRanks b (λ n. uses (row_at b n) y) more) same ranks)
             | inr past ↦
                 subst (AreRanks b (λ n. uses (row_at b n) x)) (sym (get_or-set_other users i (index_of x) more no_set past))
-                (c.loop-index.invariant.known b are words x digit (omega (arith, past, below)))
+                (c.loop-index.invariant.known b are ranking x digit (omega (arith, past, below)))
           ];
     }

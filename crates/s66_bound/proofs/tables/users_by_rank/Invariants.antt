@@ -3,14 +3,13 @@ use Rattle.s66_isa.specs.Table.{Reg}
 use Rattle.s66_isa.specs.Registers.{index_of}
 use Rattle.s66_model.specs.Timing.{Problem, row_at}
 use Rattle.s66_model.specs.Leaves.{uses}
-use Rattle.s66_model.specs.Tails.{HasWords}
 use Rattle.s66_dep.specs.Members.{no_set}
 use Rattle.s66_bound.specs.InstructionCosts.{AreCosts}
-use Rattle.s66_bound.specs.Ranks.{rank, AreRanks}
+use Rattle.s66_bound.specs.Ranks.{IsRanking, AreRanks}
 use Rattle.s66_bound.proofs.tables.users_by_rank.Given as goal
 
 abbrev pub invariant-loop-index : goal.invariant-loop-index
 invariant-loop-index l = record {
   size : length l.users ≡ 24;
-  known : (b : Problem) → AreCosts b l.entries → HasWords b (rank b) l.ranks → (x : Reg) → x.digit ≤ 7 → index_of x < l.index → AreRanks b (λ n. uses (row_at b n) x) (get_or l.users (index_of x) no_set);
+  known : (b : Problem) → AreCosts b l.entries → IsRanking b l.ranking → (x : Reg) → x.digit ≤ 7 → index_of x < l.index → AreRanks b (λ n. uses (row_at b n) x) (get_or l.users (index_of x) no_set);
 }

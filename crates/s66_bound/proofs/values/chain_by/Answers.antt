@@ -1,16 +1,16 @@
-use Rattle.std.proofs.Common.{ℕ, ◌+◌, ◌≡◌, ◌≤◌, not, ◌&&◌, List, get_or, sym, subst, arith}
+use Rattle.std.proofs.Common.{ℕ, ◌+◌, ◌≡◌, ◌≤◌, not, ◌&&◌, List, length, get_or, sym, subst, arith}
 use Rattle.s66_isa.specs.Lists.{has}
 use Rattle.s66_isa.specs.Registers.{index_of}
 use Rattle.s66_isa.specs.Table.{Reg}
 use Rattle.s66_model.specs.Timing.{Problem}
-use Rattle.s66_model.specs.Tails.{chain_by}
+use Rattle.s66_model.specs.Tails.{longest_tail, chain_by}
 use Rattle.s66_model.proofs.FloorParts.{by-fits}
 use Rattle.s66_dep.specs.declared.set.Set.{Set}
 use Rattle.s66_dep.specs.Members.{numbers_in, no_set}
+use Rattle.s66_dep.proofs.RankOrder.{ranks-both}
 use Rattle.s66_time.specs.Ticking.{problem_of}
 use Rattle.s66_bound.specs.Ranks.{AreRanks}
 use Rattle.s66_bound.specs.TableWords.{HasUsers}
-use Rattle.s66_bound.proofs.RankOrder.{ranks-both}
 use Rattle.s66_bound.proofs.RemainingSums.{is_user, by-greatest, by-none}
 use Rattle.s66_bound.proofs.values.chain_by.Goals as goal
 
@@ -18,7 +18,7 @@ use Rattle.s66_bound.proofs.values.chain_by.Goals as goal
 users-are : (b : Problem) (prefix : List ℕ) (sets : List Set) (x : Reg) (i : ℕ) (ranks both : Set) → HasUsers b sets → i ≡ index_of x → x.digit ≤ 7 → AreRanks b (λ n. not (has n prefix)) ranks →
     ((r : ℕ) → has r (numbers_in both) ≡ (has r (numbers_in ranks) && has r (numbers_in (get_or sets i no_set)))) → AreRanks b (λ n. not (has n prefix) && is_user b x n) both
 users-are b prefix sets x i ranks both known here digit left joined =
-    ranks-both b (λ n. not (has n prefix)) (is_user b x) ranks (get_or sets i no_set) both left (subst (λ k. AreRanks b (is_user b x) (get_or sets k no_set)) (sym here) (known x digit)) joined
+    ranks-both (longest_tail b) (length b.block) (λ n. not (has n prefix)) (is_user b x) ranks (get_or sets i no_set) both left (subst (λ k. AreRanks b (is_user b x) (get_or sets k no_set)) (sym here) (known x digit)) joined
 
 module _ (c : goal.After-done_of) where
   sum-is : c.done_of.result + c.in-Some.tail ≡ chain_by (problem_of c.args.clock.now) c.args.clock.now.numbers c.args.register
@@ -27,7 +27,7 @@ module _ (c : goal.After-done_of) where
       let b = problem_of t in
       let x = c.args.register in
       by-greatest b t.numbers x c.done_of.result c.in-Some.tail c.done_of.ensures
-      (c.in-Some.ensures.some b (λ n. not (has n t.numbers) && is_user b x n) c.requires.tables.tails (users-are b t.numbers c.args.tables.now.users_by_rank x c.index.result c.args.ranks.now c.both-users.result c.requires.tables.users c.index.ensures.value c.index.ensures.digit c.requires.ranks c.both-users.ensures))
+      (c.in-Some.ensures.some (longest_tail b) (length b.block) (λ n. not (has n t.numbers) && is_user b x n) c.requires.tables.ranking (users-are b t.numbers c.args.tables.now.users_by_rank x c.index.result c.args.ranks.now c.both-users.result c.requires.tables.users c.index.ensures.value c.index.ensures.digit c.requires.ranks c.both-users.ensures))
 
 pub overflow_add-result : goal.overflow_add-result
 overflow_add-result c =

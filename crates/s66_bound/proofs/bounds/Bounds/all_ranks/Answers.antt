@@ -1,8 +1,21 @@
-use Rattle.s66_bound.proofs.RanksHeld.{held-known, held-all}
+use Rattle.std.proofs.Common.{[], length, subst}
+use Rattle.s66_model.specs.Timing.{Problem}
+use Rattle.s66_model.specs.Tails.{longest_tail}
+use Rattle.s66_bound.specs.Ranks.{AreRanksLeft}
+use Rattle.s66_bound.specs.TableWords.{timed_by}
+use Rattle.s66_bound.proofs.RanksHeld.{all-within, all-left}
 use Rattle.s66_bound.proofs.bounds.Bounds.all_ranks.Goals as goal
 
-pub ranks_of-requires : goal.ranks_of-requires
-ranks_of-requires c = record { known = held-known _ c.self.inside.tables c.self.invariant.1 }
+pub ranks-requires : goal.ranks-requires
+ranks-requires c =
+    let b = timed_by c.self.inside.block.now c.self.inside.profile in
+    let tables = c.self.invariant.1 in
+    record { known = (longest_tail b, length b.block, tables.ranking, all-within b c.self.inside.tables.all tables.all) }
 
 pub returns : goal.returns
-returns c = held-all _ c.args.self.now c.self.inside.tables c.ranks_of.result c.self.invariant.1 c.self.view_is c.ranks_of.ensures
+returns c =
+    let b = timed_by c.self.inside.block.now c.self.inside.profile in
+    let tables = c.self.invariant.1 in
+    let all = c.self.inside.tables.all in
+    subst (λ (x : Problem). AreRanksLeft x [] c.ranks.result) c.self.view_is
+    (all-left b all tables.all c.ranks.result (c.ranks.ensures (longest_tail b) (length b.block) tables.ranking (all-within b all tables.all)))

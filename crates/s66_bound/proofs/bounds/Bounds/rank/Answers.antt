@@ -1,5 +1,18 @@
-use Rattle.s66_bound.proofs.RanksHeld.{held-range}
+use Rattle.std.proofs.Common.{◌≤◌, length, ap, arith, ◌∙◌}
+use Rattle.s66_model.specs.Timing.{Problem}
+use Rattle.s66_model.specs.Tails.{longest_tail}
+use Rattle.s66_bound.specs.Ranks.{rank}
+use Rattle.s66_bound.specs.TableWords.{timed_by}
 use Rattle.s66_bound.proofs.bounds.Bounds.rank.Goals as goal
 
-pub returns-clause-range : goal.returns-clause-range
-returns-clause-range c = held-range _ c.args.self.now c.self.inside.tables c.args.n c.self.invariant.1 c.self.view_is c.requires
+pub rank-requires : goal.rank-requires
+rank-requires c =
+    let b = timed_by c.self.inside.block.now c.self.inside.profile in
+    let (low, within) = c.requires in
+    record { known = (longest_tail b, length b.block, c.self.invariant.1.ranking, low, omega (arith, within, ap (λ (x : Problem). length x.block) c.self.view_is)) }
+
+pub returns-clause-value : goal.returns-clause-value
+returns-clause-value c =
+    let b = timed_by c.self.inside.block.now c.self.inside.profile in
+    let high : c.args.n ≤ length b.block = omega (arith, c.requires.1, ap (λ (x : Problem). length x.block) c.self.view_is) in
+    c.rank.ensures.value (longest_tail b) (length b.block) c.self.invariant.1.ranking high ∙ ap (λ (x : Problem). rank x c.args.n) c.self.view_is

@@ -1,34 +1,40 @@
-use Rattle.std.proofs.Common.{sym, subst, arith, rules}
+use Rattle.std.proofs.Common.{ℕ, ◌-◌, ◌≡◌, List, length, get_or, sym, subst, arith, rules}
+use Rattle.s66_model.specs.Timing.{Problem}
+use Rattle.s66_model.specs.Tails.{longest_tail, HasWords}
+use Rattle.s66_dep.specs.declared.ranking.Ranking.{Ranking}
+use Rattle.s66_dep.specs.Ranks as by_word
+use Rattle.s66_dep.proofs.RankOrder.{ranking-same}
 use Rattle.s66_bound.specs.LeastWords.{AreEnds}
+use Rattle.s66_bound.specs.Ranks.{IsRanking}
 use Rattle.s66_bound.specs.TableWords.{HasSingles}
 use Rattle.s66_bound.proofs.tables.Tables.of.Goals as goal
 
-pub tails_by_rank-requires-clause-known : goal.tails_by_rank-requires-clause-known
-tails_by_rank-requires-clause-known c =
-    let (b, are) = c.requires.known in
-    (b, c.ranks_by_number-ranks.ensures b (c.longest_tails-longest.ensures b are) are.count, are.count)
+-- the words of the entries are the longest tails of the block
+by-tail : (b : Problem) (words : List ℕ) (count : ℕ) (ranking : Ranking) → HasWords b (longest_tail b) words → count ≡ length b.block → by_word.IsRanking (λ n. get_or words (n - 1) 0) count ranking → IsRanking b ranking
+by-tail b words count ranking longest all is =
+    subst (λ k. by_word.IsRanking (longest_tail b) k ranking) all
+    (ranking-same (λ n. get_or words (n - 1) 0) (longest_tail b) count (λ n low high. longest n low (omega (arith, high, all))) ranking is)
 
 pub users_by_rank-requires-clause-known : goal.users_by_rank-requires-clause-known
 users_by_rank-requires-clause-known c =
     let (b, are) = c.requires.known in
-    (b, are, c.ranks_by_number-ranks.ensures b (c.longest_tails-longest.ensures b are) are.count)
+    (b, are, by-tail b _ _ _ (c.longest_tails-longest.ensures b are) are.count c.of-by_tail.ensures.ranking)
 
 pub returns : goal.returns
 returns c = λ b same are.
     let longest = c.longest_tails-longest.ensures b are in
-    let ranks = c.ranks_by_number-ranks.ensures b longest are.count in
+    let ranking = by-tail b _ _ _ longest are.count c.of-by_tail.ensures.ranking in
     record {
       few = omega (arith, are.count, c.requires.few);
       all = search rules;
       long = c.long_numbers.ensures b are;
       longest = longest;
       spare = c.spares-spare.ensures b are;
-      ranks = ranks;
-      tails = c.tails_by_rank.ensures b longest ranks are.count;
+      ranking = ranking;
       ends = subst (λ k. AreEnds c.spares-spare.result k c.ends_of.result) are.count c.ends_of.ensures;
       works = c.works_by_kind.ensures b are;
       singles = λ has. subst HasSingles (sym same) (c.has_singles.ensures has);
-      users = c.users_by_rank.ensures b are ranks;
+      users = c.users_by_rank.ensures b are ranking;
       written = c.written_registers.ensures.written b are;
       registers = c.written_registers.ensures.registers;
     }

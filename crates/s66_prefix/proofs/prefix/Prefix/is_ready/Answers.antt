@@ -23,7 +23,7 @@ unplaced-free all placed n met new tells =
 pub needs-requires : goal.needs-requires
 needs-requires c =
     let block = instrs_of c.self.inside.clock.block in
-    (omega (arith, c.if-n-eq0.false), omega (arith, c.if-count-n.false, c.count.ensures.value, ap (λ block. length (instrs_of block)) c.block.ensures, ap (λ (x : Begun). length x.problem.block) c.self.view_is, ap (λ (ns : List (List ℕ)). length ns) (c.dependences.ensures ∙ c.self.invariant.0.needs), length-map (numbers block) (needs block), length-rising (length block) 1))
+    (omega (arith, c.if-n-eq0.false), omega (arith, c.if-count-n.false, c.count.ensures.value, ap (λ block. length (instrs_of block)) c.block.ensures, ap (λ (x : Begun). length x.problem.block) c.self.view_is, ap (λ (ns : List (List ℕ)). length ns) (c.dependences.ensures ∙ c.self.invariant.needs), length-map (numbers block) (needs block), length-rising (length block) 1))
 
 pub returns-clause-value : goal.returns-clause-value
 returns-clause-value c =
@@ -32,7 +32,7 @@ returns-clause-value c =
     let n : ℕ = c.args.n in
     let low : 1 ≤ n = omega (arith, c.if-n-eq0.false) in
     let high : n ≤ length block = omega (arith, c.if-count-n.false, c.count.ensures.value, ap (λ block. length (instrs_of block)) c.block.ensures, ap (λ (x : Begun). length x.problem.block) c.self.view_is) in
-    let needed = c.needs.ensures ∙ ap (λ (ns : List (List ℕ)). get_or ns (n - 1) []) (c.dependences.ensures ∙ c.self.invariant.0.needs) in
+    let needed = c.needs.ensures ∙ ap (λ (ns : List (List ℕ)). get_or ns (n - 1) []) (c.dependences.ensures ∙ c.self.invariant.needs) in
     sym (unplaced-free (all_needs block) placed n c.is_within.result (sym c.has.ensures ∙ c.if-has.false)
     (subst (λ ns. IsTrue c.is_within.result ↔ ((m : ℕ) → has m ns ≡ true → has m placed ≡ true)) needed c.is_within.ensures))
     ∙ (is_free-ready block placed n low high
