@@ -1,5 +1,6 @@
 -- What the program's command line is, a call of clap at a time.
-use Rattle.std.proofs.Common.{◌≡◌, ◌∙◌, ap, ap₂, true, false, ◌||◌, Option, Some}
+use Rattle.std.proofs.Common.{◌≡◌, ◌∙◌, ap, ap₂, true, false, ◌||◌, IfOk, IsOkAnd, Option, Some, Result, Ok, Err}
+use Rattle.std.specs.declared.alloc.AllocError.{AllocError}
 use Rattle.std.specs.Borrow.{Bor}
 use Rattle.clap.specs.Words.{AddsArg, AddsSubcommand, App, Rule, Text, rule_of, with_rule, with_subcommand}
 use Rattle.clap.specs.Simple.{app_of_fields}
@@ -38,3 +39,9 @@ pub with-subcommand : (a b : App) (c sub new : Command) → IsCommandOf a c → 
     IsCommandOf (with_subcommand a b.top) new
 with-subcommand a b c sub new is is-sub adds =
     (adds.shape is-sub.1 ∙ ap₂ with_subcommand is.0 (ap (λ (x : App). x.top) is-sub.0), adds.globals ∙ ap₂ (λ x y. x || y) is.1 is-sub.1)
+
+-- a subcommand that may not have been made: there is a command line with it only if it was
+pub with-made : (a b : App) (c new : Command) (made : Result Command AllocError) → IsCommandOf a c → IfOk made (IsCommandOf b) →
+    IsOkAnd made (λ sub. AddsSubcommand c sub new) → IsCommandOf (with_subcommand a b.top) new
+with-made a b c new (Ok sub) is is-sub adds = with-subcommand a b c sub new is is-sub adds
+with-made a b c new (Err e) is is-sub none = absurd none

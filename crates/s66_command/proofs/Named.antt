@@ -21,7 +21,7 @@ use Rattle.s66_model.specs.declared.limits.TheConstants.{BUDGET_LIMIT, WORKERS_L
 use Rattle.s66_model.specs.declared.rule.Rule.{Rule as LeafRule}
 use Rattle.s66_command.specs.declared.limits.TheConstants.{BLOCK_NUMBER_LIMIT, NODES_DEFAULT, WORKERS_DEFAULT}
 use Rattle.s66_command.specs.declared.strategy.Strategy.{Strategy}
-use Rattle.s66_command.specs.FoundOptions.{IsBlockFound, IsFlagFound, IsNumber, IsNumberFound, IsOrderFound, IsReadAs, IsRuleFound, IsStrategyFound}
+use Rattle.s66_command.specs.FoundOptions.{IsBlockFound, IsFlagFound, IsNumber, IsNumberFound, IsOrderFound, IsReadAs, IsRuleFound, IsStrategyFound, IsTaken}
 use Rattle.s66_command.specs.Usage.{AsksFor, GivesBlock, GivesOrder, GivesProfile, GivesSearch, IsNumberIn, gives_two, has_option, option_text, rule_given, rule_unless_two, s66_app, subcommand_name}
 use Rattle.s66_command.proofs.Faults.{first-none, full, second-none}
 use Rattle.s66_command.proofs.Flags.{HasFlag, flag-is}
@@ -215,10 +215,6 @@ named words none =
 
 -- WHAT CLAP ANSWERED
 
--- the words have no fault, and the matches are theirs
-abbrev pub IsTaken : ArgMatches → List Text → Type 0
-IsTaken m words = (fault_of s66_app words ≡ []) × (subcommand_rows_of m ≡ subcommand_of s66_app words)
-
 pub taken : (m : ArgMatches) (a : App) (words : List Text) → a ≡ s66_app → (is_simple_and_free a ≡ true → fault_of a words ≡ []) → HasMatchesOf a words m → IsTaken m words
 taken m a words is kinds matches = (
   subst (λ (b : App). is_simple_and_free b ≡ true → fault_of b words ≡ []) is kinds refl,
@@ -252,7 +248,7 @@ abbrev pub IsMatched : Found → List Text → Shape → Type 0
 IsMatched found words s = (rest : List Text) × (rows_of found ≡ rows_after s.rules [] rest) × (subcommand_of s66_app words ≡ Some (s.name, rows_of found))
     × (level_fault s [] nothing_held rest false [] ≡ [])
 
-pub matched : (m : ArgMatches) (words : List Text) (found : Found) (s : Shape) → IsTaken m words → subcommand_name words ≡ Some s.name →
+matched : (m : ArgMatches) (words : List Text) (found : Found) (s : Shape) → IsTaken m words → subcommand_name words ≡ Some s.name →
     subcommand_at s.name ≡ Some s → Some (rows_of found) ≡ option_map (λ p. p.1) (subcommand_rows_of m) → IsMatched found words s
 matched m words found s is name at rows =
     let met = named words is.0 in
@@ -264,6 +260,14 @@ matched m words found s is name at rows =
       met.2 ∙ ap (λ n. Some (n, rows_after met.0.rules [] met.1)) same-name ∙ ap (λ r. Some (s.name, r)) (sym same-rows),
       subst (λ (t : Shape). level_fault t [] nothing_held met.1 false [] ≡ []) same-shape met.5,
     )
+
+-- the subcommand of this shape is the one that clap gives
+pub met : (m : ArgMatches) (words : List Text) (given : Text) (found : Found) (s : Shape) → IsTaken m words → Some given ≡ subcommand_name_of m →
+    Some (rows_of found) ≡ option_map (λ p. p.1) (subcommand_rows_of m) → given ≡ s.name → subcommand_at s.name ≡ Some s →
+    AsksFor words s.name × IsMatched found words s
+met m words given found s is gives rows same at =
+    let asks = asks-for m words given s.name is gives same in
+    (asks, matched m words found s is asks.1 at rows)
 
 -- the options have the flag of this name
 abbrev pub HasFlagOf : Text → List Rule → Type 0

@@ -1,5 +1,5 @@
 -- Words that clap does not take are refused, and so are those that give two flags which exclude one another.
-use Rattle.std.proofs.Common.{◌≡◌, inl, inr, true, refl, subst, List, []}
+use Rattle.std.proofs.Common.{◌≡◌, inl, inr, true, refl, sym, subst, IsErrAnd, List, [], MatchResult, Result, Ok, Err}
 use Rattle.clap.specs.Words.{App, HasKind, Text, fault_of, is_simple_and_free, kind_of}
 use Rattle.clap.specs.declared.error.Error.{Error}
 use Rattle.clap.specs.declared.error.kind.ErrorKind.TheVariants.{ArgumentConflict}
@@ -25,3 +25,9 @@ refused-two (Help text) words none two (inl help) = cc
 refused-two (Help text) words none two (inr version) = cc
 refused-two (Bad text) words none two is = inr (none, two)
 refused-two OutOfMemory words none two is = tt
+
+-- a refusal that is handed on
+pub handed-on : {T : Type 0} (result : Result T Usage) (usage : Usage) (words : List Text) (P : T → Type 0) → IsErrAnd result (λ e. e ≡ usage) →
+    Refuses words usage → MatchResult result P (Refuses words)
+handed-on (Ok x) usage words P none refuses = absurd none
+handed-on (Err e) usage words P same refuses = subst (Refuses words) (sym same) refuses

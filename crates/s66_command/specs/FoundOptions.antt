@@ -1,14 +1,20 @@
--- Used by contracts within the crate alone: the options of a search, as clap found them among the words of a subcommand.
-use Rattle.std.specs.Prelude.{◌≡◌, ◌≤◌, if◌then◌else◌, ℕ, Bool, true, false, Option, None, Some, codes, pos}
+-- Used by contracts within the crate alone: what clap found among the words, and the options of a search as it found them among those
+-- of a subcommand.
+use Rattle.std.specs.Prelude.{◌≡◌, ◌≤◌, if◌then◌else◌, ℕ, Bool, List, [], true, false, Option, None, Some, codes, pos}
 use Rattle.std.specs.Option.{option_map_or}
 use Rattle.clap.specs.Values.{IsSignedIn}
-use Rattle.clap.specs.Words.{Text, one_text, without_minus}
+use Rattle.clap.specs.Words.{Text, fault_of, one_text, subcommand_of, subcommand_rows_of, without_minus}
+use Rattle.clap.specs.declared.parser.matches.ArgMatches.{ArgMatches}
 use Rattle.clap.specs.declared.parser.matches.Found.{Found}
 use Rattle.s66_model.specs.declared.limits.TheConstants.{BUDGET_LIMIT, WORKERS_LIMIT}
 use Rattle.s66_model.specs.declared.rule.Rule.{Rule as LeafRule}
 use Rattle.s66_command.specs.declared.limits.TheConstants.{BLOCK_NUMBER_LIMIT, NODES_DEFAULT, WORKERS_DEFAULT}
 use Rattle.s66_command.specs.declared.strategy.Strategy.{Strategy}
-use Rattle.s66_command.specs.Usage.{IsNumberIn, number_in, rule_unless_two}
+use Rattle.s66_command.specs.Usage.{IsNumberIn, number_in, rule_unless_two, s66_app}
+
+-- the words have no fault, and the matches are theirs
+abbrev pub IsTaken : ArgMatches → List Text → Type 0
+IsTaken m words = (fault_of s66_app words ≡ []) × (subcommand_rows_of m ≡ subcommand_of s66_app words)
 
 -- the text, if there is one, is a number from the least to the most
 abbrev pub IsNumber : (least most : ℕ) → Option Text → Type 0

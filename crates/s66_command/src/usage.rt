@@ -1,7 +1,7 @@
-ghost use Rattle.std.specs.Prelude.{◌≡◌, IfOk, IfErr, List, map};
-ghost use Rattle.clap.specs.Words.{Text, app_of, found_of, kind_of, new_app};
+ghost use Rattle.std.specs.Prelude.{◌≡◌, IfOk, IfErr, IsOkAnd, List, MatchResult, None, Some, map};
+ghost use Rattle.clap.specs.Words.{AddsSubcommand, Text, app_of, found_of, kind_of, new_app};
 ghost use Rattle.clap.specs.declared.error.kind.ErrorKind.TheVariants.{ArgumentConflict};
-ghost use Rattle.s66_command.specs.FoundOptions.{AreNodesFound, AreWorkersFound, IsBlockFound, IsOrderFound, IsStrategyFound};
+ghost use Rattle.s66_command.specs.FoundOptions.{AreNodesFound, AreWorkersFound, IsBlockFound, IsOrderFound, IsStrategyFound, IsTaken};
 ghost use Rattle.s66_command.specs.Usage.{Asks, IsArgumentOf, IsCommandOf, IsUsageOf, Refuses, block_rule, chart_app, check_app, deps_app, flag_rule, lint_app, nodes_rule, order_app, page_app, profile_rule, prove_app, rule_unless_two, s66_app, search_app, source_app, sum_app, time_app, why_app, workers_rule};
 ghost use Rattle.s66_command.specs.declared.usage.Usage.TheVariants.{OutOfMemory};
 
@@ -425,27 +425,37 @@ fn sum_command<'a>(alloc: Global) -> Result<Command<'a>, AllocError>
     ))
 }
 
+/// A command line with one subcommand more, if memory was enough for that one.
+fn with_subcommand<'a>(
+    command: Command<'a>,
+    subcommand: Result<Command<'a>, AllocError>,
+) -> Result<Command<'a>, AllocError>
+    ensures { IfOk result (λ more. IsOkAnd subcommand.entry (λ added. AddsSubcommand command.entry added more)) }
+{
+    command.subcommand(subcommand?)
+}
+
 /// The command line of the program, which usage and help call s66 whatever the program's file is named.
 fn program<'a>(alloc: Global) -> Result<Command<'a>, AllocError>
     ensures { IfOk result (λ c. app_of c ≡ s66_app) }
 {
-    Command::new(alloc, "s66")
+    let program = Command::new(alloc, "s66")
         .bin_name("s66")?
         .version(VERSION)
         .about(
             "Times, draws, orders and proves straight-line blocks of COMPASS code for the CDC 6600",
         )
-        .subcommand_required(true)
-        .subcommand(time_command(alloc)?)?
-        .subcommand(deps_command(alloc)?)?
-        .subcommand(chart_command(alloc)?)?
-        .subcommand(why_command(alloc)?)?
-        .subcommand(page_command(alloc)?)?
-        .subcommand(order_command(alloc)?)?
-        .subcommand(prove_command(alloc)?)?
-        .subcommand(check_command(alloc))?
-        .subcommand(lint_command(alloc))?
-        .subcommand(sum_command(alloc)?)
+        .subcommand_required(true);
+    let program = with_subcommand(program, time_command(alloc))?;
+    let program = with_subcommand(program, deps_command(alloc))?;
+    let program = with_subcommand(program, chart_command(alloc))?;
+    let program = with_subcommand(program, why_command(alloc))?;
+    let program = with_subcommand(program, page_command(alloc))?;
+    let program = with_subcommand(program, order_command(alloc))?;
+    let program = with_subcommand(program, prove_command(alloc))?;
+    let program = program.subcommand(check_command(alloc))?;
+    let program = program.subcommand(lint_command(alloc))?;
+    with_subcommand(program, sum_command(alloc))
 }
 
 /// How many workers search, by the words of a subcommand that searches.
@@ -509,7 +519,7 @@ fn order_in(matches: &ArgMatches, strategy: Strategy) -> Option<Strategy>
 }
 
 /// The mistake of words that give a subcommand two of the flags `--dominate`, `--dominate-tree` and `--deep`, or all three.
-fn two_given(alloc: Global, matches: &ArgMatches, mut command: Command<'_>) -> Usage
+fn two_given(alloc: Global, matches: &ArgMatches, command: &mut Command<'_>) -> Usage
     ensures { IsUsageOf ArgumentConflict result }
 {
     let dominate = matches.get_flag("dominate");
@@ -526,88 +536,96 @@ fn two_given(alloc: Global, matches: &ArgMatches, mut command: Command<'_>) -> U
     }
 }
 
+/// How a subcommand that searches is to look for the best order by its words. Two of the flags `--dominate`, `--dominate-tree` and
+/// `--deep` are a mistake, which its own command line tells.
+fn strategy_or_mistake<'a, F: FnOnce(Global) -> Result<Command<'a>, AllocError>>(
+    alloc: Global,
+    matches: &ArgMatches,
+    subcommand: F,
+) -> Result<Strategy, Usage>
+    requires { F.IsAlwaysCallable subcommand }
+    ensures ok { IfOk result (λ strategy. IsStrategyFound (found_of matches.now) (Some strategy)) }
+    ensures err { IfErr result (λ usage. IsStrategyFound (found_of matches.now) None × IsUsageOf ArgumentConflict usage) }
+{
+    match strategy_in(matches) {
+        Some(strategy) => Ok(strategy),
+        None => {
+            let mut command = subcommand(alloc)?;
+            Err(two_given(alloc, matches, &mut command))
+        }
+    }
+}
+
+/// The command that the words give as clap took them.
+fn asked<'a>(alloc: Global, matches: &ArgMatches<'a>) -> Result<Asked<'a>, Usage>
+    requires { (words : List Text) × IsTaken matches.now words }
+    ensures { (words : List Text) → IsTaken matches.now words → MatchResult result (Asks words) (Refuses words) }
+{
+    let Some((name, given)) = matches.subcommand() else {
+        unreachable!()
+    };
+    match name {
+        "time" => Ok(Asked::Time {
+            cut: given.get_flag("cut"),
+            trace: given.get_flag("trace"),
+            block: block_in(given),
+            profile: given.get_str("profile"),
+        }),
+        "deps" => Ok(Asked::Deps {
+            cut: given.get_flag("cut"),
+            block: block_in(given),
+        }),
+        "chart" => Ok(Asked::Chart {
+            cut: given.get_flag("cut"),
+            text: given.get_flag("text"),
+            block: block_in(given),
+            profile: given.get_str("profile"),
+        }),
+        "why" => {
+            let strategy = strategy_or_mistake(alloc, given, why_command)?;
+            Ok(Asked::Why {
+                cut: given.get_flag("cut"),
+                order: order_in(given, strategy),
+                block: block_in(given),
+                profile: given.get_str("profile"),
+            })
+        }
+        "page" => Ok(Asked::Page {
+            strategy: strategy_or_mistake(alloc, given, page_command)?,
+            cut: given.get_flag("cut"),
+            block: block_in(given),
+            profile: given.get_str("profile"),
+        }),
+        "order" => Ok(Asked::Order {
+            strategy: strategy_or_mistake(alloc, given, order_command)?,
+            cut: given.get_flag("cut"),
+            trace: given.get_flag("trace"),
+            profile: given.get_str("profile"),
+        }),
+        "prove" => Ok(Asked::Prove {
+            strategy: strategy_or_mistake(alloc, given, prove_command)?,
+            cut: given.get_flag("cut"),
+            profile: given.get_str("profile"),
+        }),
+        "check" => Ok(Asked::Check),
+        "lint" => Ok(Asked::Lint),
+        "sum" => Ok(Asked::Sum {
+            strategy: strategy_or_mistake(alloc, given, sum_command)?,
+            cut: given.get_flag("cut"),
+            trace: given.get_flag("trace"),
+            profile: given.get_str("profile"),
+        }),
+        _ => unreachable!(),
+    }
+}
+
 /// The command that the words give, of which the first is the program's name.
 pub fn command_of<'a, S: AsStr>(alloc: Global, words: &'a [S]) -> Result<Asked<'a>, Usage>
     ensures ok { IfOk result (λ command. Asks (map S.text words.entry.now) command) }
     ensures err { IfErr result (λ usage. Refuses (map S.text words.entry.now) usage) }
 {
-    let matches = match program(alloc)?.try_get_matches_from(words) {
-        Ok(matches) => matches,
-        Err(error) => return Err(usage_of(alloc, &error)),
-    };
-    match matches.subcommand() {
-        Some(("time", time)) => Ok(Asked::Time {
-            cut: time.get_flag("cut"),
-            trace: time.get_flag("trace"),
-            block: block_in(time),
-            profile: time.get_str("profile"),
-        }),
-        Some(("deps", deps)) => Ok(Asked::Deps {
-            cut: deps.get_flag("cut"),
-            block: block_in(deps),
-        }),
-        Some(("chart", chart)) => Ok(Asked::Chart {
-            cut: chart.get_flag("cut"),
-            text: chart.get_flag("text"),
-            block: block_in(chart),
-            profile: chart.get_str("profile"),
-        }),
-        Some(("order", order)) => {
-            let Some(strategy) = strategy_in(order) else {
-                return Err(two_given(alloc, order, order_command(alloc)?));
-            };
-            Ok(Asked::Order {
-                cut: order.get_flag("cut"),
-                strategy,
-                trace: order.get_flag("trace"),
-                profile: order.get_str("profile"),
-            })
-        }
-        Some(("prove", prove)) => {
-            let Some(strategy) = strategy_in(prove) else {
-                return Err(two_given(alloc, prove, prove_command(alloc)?));
-            };
-            Ok(Asked::Prove {
-                cut: prove.get_flag("cut"),
-                strategy,
-                profile: prove.get_str("profile"),
-            })
-        }
-        Some(("check", _)) => Ok(Asked::Check),
-        Some(("lint", _)) => Ok(Asked::Lint),
-        Some(("sum", sum)) => {
-            let Some(strategy) = strategy_in(sum) else {
-                return Err(two_given(alloc, sum, sum_command(alloc)?));
-            };
-            Ok(Asked::Sum {
-                cut: sum.get_flag("cut"),
-                strategy,
-                trace: sum.get_flag("trace"),
-                profile: sum.get_str("profile"),
-            })
-        }
-        Some(("page", page)) => {
-            let Some(strategy) = strategy_in(page) else {
-                return Err(two_given(alloc, page, page_command(alloc)?));
-            };
-            Ok(Asked::Page {
-                cut: page.get_flag("cut"),
-                strategy,
-                block: block_in(page),
-                profile: page.get_str("profile"),
-            })
-        }
-        Some(("why", why)) => {
-            let Some(strategy) = strategy_in(why) else {
-                return Err(two_given(alloc, why, why_command(alloc)?));
-            };
-            Ok(Asked::Why {
-                cut: why.get_flag("cut"),
-                order: order_in(why, strategy),
-                block: block_in(why),
-                profile: why.get_str("profile"),
-            })
-        }
-        _ => unreachable!(),
+    match program(alloc)?.try_get_matches_from(words) {
+        Ok(matches) => asked(alloc, &matches),
+        Err(error) => Err(usage_of(alloc, &error)),
     }
 }

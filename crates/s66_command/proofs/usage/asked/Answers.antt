@@ -1,0 +1,159 @@
+use Rattle.std.proofs.Common.{rules, codes, inl, inr, refl}
+use Rattle.clap.specs.Words.{found_of}
+use Rattle.s66_command.specs.Usage.{Asks}
+use Rattle.s66_command.proofs.Named.{asks-for, block-of, flag-of, met, name-known, order-of, order-options, page-options, profile-of, prove-options, search-of, sum-options, two-of, why-options}
+use Rattle.s66_command.proofs.Refused.{handed-on, refused-two}
+use Rattle.s66_command.proofs.usage.asked.Goals as goal
+
+pub unreachable-requires : goal.unreachable-requires
+unreachable-requires c =
+    let (words, is) = c.requires in
+    name-known c.args.matches.now words _ is c.in_default.ensures.name
+
+pub unreachable-requires-in_default-name : goal.unreachable-requires-in_default-name
+unreachable-requires-in_default-name c =
+    let (words, is) = c.requires in
+    elim (name-known c.args.matches.now words _ is c.in-Some.ensures.name) [
+      | inl e ↦ search rules
+      | inr (inl e) ↦ search rules
+      | inr (inr (inl e)) ↦ search rules
+      | inr (inr (inr (inl e))) ↦ search rules
+      | inr (inr (inr (inr (inl e)))) ↦ search rules
+      | inr (inr (inr (inr (inr (inl e))))) ↦ search rules
+      | inr (inr (inr (inr (inr (inr (inl e)))))) ↦ search rules
+      | inr (inr (inr (inr (inr (inr (inr (inl e))))))) ↦ search rules
+      | inr (inr (inr (inr (inr (inr (inr (inr (inl e)))))))) ↦ search rules
+      | inr (inr (inr (inr (inr (inr (inr (inr (inr (inl e))))))))) ↦ search rules
+      | inr (inr (inr (inr (inr (inr (inr (inr (inr (inr none))))))))) ↦ none
+    ]
+
+pub returns-in-time : goal.returns-in-time
+returns-in-time c words is =
+    let found = found_of c.in-Some.given.now in
+    let there = met c.args.matches.now words _ found _ is c.in-Some.ensures.name c.in-Some.ensures.rows c.in-time.is refl in (
+      there.0,
+      flag-of words found c.get_flag.result _ (codes "cut") there.1 ((inl refl, (inr refl, (inr refl, (inr refl, (inr refl, tt))))), refl) (c.get_flag.ensures.value, c.get_flag.ensures.other),
+      flag-of words found c.get_flag-in-time.result _ (codes "trace") there.1 ((inr refl, (inr refl, (inl refl, (inr refl, (inr refl, tt))))), refl) (c.get_flag-in-time.ensures.value, c.get_flag-in-time.ensures.other),
+      block-of words found c.block_in.result _ there.1 (inr refl, (inr refl, (inr refl, (inl refl, (inr refl, tt))))) c.block_in.ensures,
+      profile-of words found _ c.get_str.result there.1 c.get_str.ensures,
+    )
+
+pub returns-in-deps : goal.returns-in-deps
+returns-in-deps c words is =
+    let found = found_of c.in-Some.given.now in
+    let there = met c.args.matches.now words _ found _ is c.in-Some.ensures.name c.in-Some.ensures.rows c.in-deps.is refl in (
+      there.0,
+      flag-of words found c.get_flag-in-deps.result _ (codes "cut") there.1 ((inl refl, (inr refl, (inr refl, tt))), refl) (c.get_flag-in-deps.ensures.value, c.get_flag-in-deps.ensures.other),
+      block-of words found c.block_in-in-deps.result _ there.1 (inr refl, (inl refl, (inr refl, tt))) c.block_in-in-deps.ensures,
+    )
+
+pub returns-in-chart : goal.returns-in-chart
+returns-in-chart c words is =
+    let found = found_of c.in-Some.given.now in
+    let there = met c.args.matches.now words _ found _ is c.in-Some.ensures.name c.in-Some.ensures.rows c.in-chart.is refl in (
+      there.0,
+      flag-of words found c.get_flag-in-chart.result _ (codes "cut") there.1 ((inl refl, (inr refl, (inr refl, (inr refl, (inr refl, tt))))), refl) (c.get_flag-in-chart.ensures.value, c.get_flag-in-chart.ensures.other),
+      flag-of words found c.get_flag-in-chart-2.result _ (codes "text") there.1 ((inr refl, (inr refl, (inl refl, (inr refl, (inr refl, tt))))), refl) (c.get_flag-in-chart-2.ensures.value, c.get_flag-in-chart-2.ensures.other),
+      block-of words found c.block_in-in-chart.result _ there.1 (inr refl, (inr refl, (inr refl, (inl refl, (inr refl, tt))))) c.block_in-in-chart.ensures,
+      profile-of words found _ c.get_str-in-chart.result there.1 c.get_str-in-chart.ensures,
+    )
+
+pub returns-in_err-strategy-in-why : goal.returns-in_err-strategy-in-why
+returns-in_err-strategy-in-why c words is =
+    let found = found_of c.in-Some.given.now in
+    let there = met c.args.matches.now words _ found _ is c.in-Some.ensures.name c.in-Some.ensures.rows c.in-why.is refl in
+    let mistake = c.in_err-strategy-in-why.ensures.err in
+    handed-on c.from_residual.result c.in_err-strategy-in-why.field-0.0 words (Asks words) c.from_residual.ensures.1
+    (refused-two c.in_err-strategy-in-why.field-0.0 words there.0.0 (two-of words found _ there.1 why-options mistake.0) mistake.1)
+
+pub returns-in_ok-strategy-in-why : goal.returns-in_ok-strategy-in-why
+returns-in_ok-strategy-in-why c words is =
+    let found = found_of c.in-Some.given.now in
+    let there = met c.args.matches.now words _ found _ is c.in-Some.ensures.name c.in-Some.ensures.rows c.in-why.is refl in (
+      there.0,
+      flag-of words found c.get_flag-in-why.result _ (codes "cut") there.1 ((inl refl, (inr refl, (inr refl, (inr refl, (inr refl, (inr refl, (inr refl, (inr refl, (inr refl, (inr refl, tt)))))))))), refl) (c.get_flag-in-why.ensures.value, c.get_flag-in-why.ensures.other),
+      order-of words found c.in_ok-strategy-in-why.strategy c.order_in.result _ there.1 ((inr refl, (inr refl, (inr refl, (inr refl, (inr refl, (inr refl, (inr refl, (inl refl, (inr refl, (inr refl, tt)))))))))), refl) (search-of words found c.in_ok-strategy-in-why.strategy _ there.1 why-options c.in_ok-strategy-in-why.ensures.ok) c.order_in.ensures,
+      block-of words found c.block_in-in-why.result _ there.1 (inr refl, (inr refl, (inr refl, (inr refl, (inr refl, (inr refl, (inr refl, (inr refl, (inl refl, (inr refl, tt)))))))))) c.block_in-in-why.ensures,
+      profile-of words found _ c.get_str-in-why.result there.1 c.get_str-in-why.ensures,
+    )
+
+pub returns-in_err-strategy_or_mistake-in-page : goal.returns-in_err-strategy_or_mistake-in-page
+returns-in_err-strategy_or_mistake-in-page c words is =
+    let found = found_of c.in-Some.given.now in
+    let there = met c.args.matches.now words _ found _ is c.in-Some.ensures.name c.in-Some.ensures.rows c.in-page.is refl in
+    let mistake = c.in_err-strategy_or_mistake-in-page.ensures.err in
+    handed-on c.from_residual-in_err-strategy_or_mistake-in-page.result c.in_err-strategy_or_mistake-in-page.field-0.0 words (Asks words) c.from_residual-in_err-strategy_or_mistake-in-page.ensures.1
+    (refused-two c.in_err-strategy_or_mistake-in-page.field-0.0 words there.0.0 (two-of words found _ there.1 page-options mistake.0) mistake.1)
+
+pub returns-in_ok-strategy_or_mistake-in-page : goal.returns-in_ok-strategy_or_mistake-in-page
+returns-in_ok-strategy_or_mistake-in-page c words is =
+    let found = found_of c.in-Some.given.now in
+    let there = met c.args.matches.now words _ found _ is c.in-Some.ensures.name c.in-Some.ensures.rows c.in-page.is refl in (
+      there.0,
+      flag-of words found c.get_flag-in-page.result _ (codes "cut") there.1 ((inl refl, (inr refl, (inr refl, (inr refl, (inr refl, (inr refl, (inr refl, (inr refl, (inr refl, tt))))))))), refl) (c.get_flag-in-page.ensures.value, c.get_flag-in-page.ensures.other),
+      search-of words found c.in_ok-strategy_or_mistake-in-page.field-0 _ there.1 page-options c.in_ok-strategy_or_mistake-in-page.ensures.ok,
+      block-of words found c.block_in-in-page.result _ there.1 (inr refl, (inr refl, (inr refl, (inr refl, (inr refl, (inr refl, (inr refl, (inl refl, (inr refl, tt))))))))) c.block_in-in-page.ensures,
+      profile-of words found _ c.get_str-in-page.result there.1 c.get_str-in-page.ensures,
+    )
+
+pub returns-in_err-strategy_or_mistake-in-order : goal.returns-in_err-strategy_or_mistake-in-order
+returns-in_err-strategy_or_mistake-in-order c words is =
+    let found = found_of c.in-Some.given.now in
+    let there = met c.args.matches.now words _ found _ is c.in-Some.ensures.name c.in-Some.ensures.rows c.in-order.is refl in
+    let mistake = c.in_err-strategy_or_mistake-in-order.ensures.err in
+    handed-on c.from_residual-in_err-strategy_or_mistake-in-order.result c.in_err-strategy_or_mistake-in-order.field-0.0 words (Asks words) c.from_residual-in_err-strategy_or_mistake-in-order.ensures.1
+    (refused-two c.in_err-strategy_or_mistake-in-order.field-0.0 words there.0.0 (two-of words found _ there.1 order-options mistake.0) mistake.1)
+
+pub returns-in_ok-strategy_or_mistake-in-order : goal.returns-in_ok-strategy_or_mistake-in-order
+returns-in_ok-strategy_or_mistake-in-order c words is =
+    let found = found_of c.in-Some.given.now in
+    let there = met c.args.matches.now words _ found _ is c.in-Some.ensures.name c.in-Some.ensures.rows c.in-order.is refl in (
+      there.0,
+      flag-of words found c.get_flag-in-order.result _ (codes "cut") there.1 ((inl refl, (inr refl, (inr refl, (inr refl, (inr refl, (inr refl, (inr refl, (inr refl, (inr refl, tt))))))))), refl) (c.get_flag-in-order.ensures.value, c.get_flag-in-order.ensures.other),
+      search-of words found c.in_ok-strategy_or_mistake-in-order.field-0 _ there.1 order-options c.in_ok-strategy_or_mistake-in-order.ensures.ok,
+      flag-of words found c.get_flag-in-order-2.result _ (codes "trace") there.1 ((inr refl, (inr refl, (inr refl, (inr refl, (inr refl, (inr refl, (inr refl, (inl refl, (inr refl, tt))))))))), refl) (c.get_flag-in-order-2.ensures.value, c.get_flag-in-order-2.ensures.other),
+      profile-of words found _ c.get_str-in-order.result there.1 c.get_str-in-order.ensures,
+    )
+
+pub returns-in_err-strategy_or_mistake-in-prove : goal.returns-in_err-strategy_or_mistake-in-prove
+returns-in_err-strategy_or_mistake-in-prove c words is =
+    let found = found_of c.in-Some.given.now in
+    let there = met c.args.matches.now words _ found _ is c.in-Some.ensures.name c.in-Some.ensures.rows c.in-prove.is refl in
+    let mistake = c.in_err-strategy_or_mistake-in-prove.ensures.err in
+    handed-on c.from_residual-in_err-strategy_or_mistake-in-prove.result c.in_err-strategy_or_mistake-in-prove.field-0.0 words (Asks words) c.from_residual-in_err-strategy_or_mistake-in-prove.ensures.1
+    (refused-two c.in_err-strategy_or_mistake-in-prove.field-0.0 words there.0.0 (two-of words found _ there.1 prove-options mistake.0) mistake.1)
+
+pub returns-in_ok-strategy_or_mistake-in-prove : goal.returns-in_ok-strategy_or_mistake-in-prove
+returns-in_ok-strategy_or_mistake-in-prove c words is =
+    let found = found_of c.in-Some.given.now in
+    let there = met c.args.matches.now words _ found _ is c.in-Some.ensures.name c.in-Some.ensures.rows c.in-prove.is refl in (
+      there.0,
+      flag-of words found c.get_flag-in-prove.result _ (codes "cut") there.1 ((inl refl, (inr refl, (inr refl, (inr refl, (inr refl, (inr refl, (inr refl, (inr refl, tt)))))))), refl) (c.get_flag-in-prove.ensures.value, c.get_flag-in-prove.ensures.other),
+      search-of words found c.in_ok-strategy_or_mistake-in-prove.field-0 _ there.1 prove-options c.in_ok-strategy_or_mistake-in-prove.ensures.ok,
+      profile-of words found _ c.get_str-in-prove.result there.1 c.get_str-in-prove.ensures,
+    )
+
+pub returns-in_err-strategy_or_mistake-in-sum : goal.returns-in_err-strategy_or_mistake-in-sum
+returns-in_err-strategy_or_mistake-in-sum c words is =
+    let found = found_of c.in-Some.given.now in
+    let there = met c.args.matches.now words _ found _ is c.in-Some.ensures.name c.in-Some.ensures.rows c.in-sum.is refl in
+    let mistake = c.in_err-strategy_or_mistake-in-sum.ensures.err in
+    handed-on c.from_residual-in_err-strategy_or_mistake-in-sum.result c.in_err-strategy_or_mistake-in-sum.field-0.0 words (Asks words) c.from_residual-in_err-strategy_or_mistake-in-sum.ensures.1
+    (refused-two c.in_err-strategy_or_mistake-in-sum.field-0.0 words there.0.0 (two-of words found _ there.1 sum-options mistake.0) mistake.1)
+
+pub returns-in_ok-strategy_or_mistake-in-sum : goal.returns-in_ok-strategy_or_mistake-in-sum
+returns-in_ok-strategy_or_mistake-in-sum c words is =
+    let found = found_of c.in-Some.given.now in
+    let there = met c.args.matches.now words _ found _ is c.in-Some.ensures.name c.in-Some.ensures.rows c.in-sum.is refl in (
+      there.0,
+      flag-of words found c.get_flag-in-sum.result _ (codes "cut") there.1 ((inl refl, (inr refl, (inr refl, (inr refl, (inr refl, (inr refl, (inr refl, (inr refl, (inr refl, tt))))))))), refl) (c.get_flag-in-sum.ensures.value, c.get_flag-in-sum.ensures.other),
+      search-of words found c.in_ok-strategy_or_mistake-in-sum.field-0 _ there.1 sum-options c.in_ok-strategy_or_mistake-in-sum.ensures.ok,
+      flag-of words found c.get_flag-in-sum-2.result _ (codes "trace") there.1 ((inr refl, (inr refl, (inr refl, (inr refl, (inr refl, (inr refl, (inr refl, (inl refl, (inr refl, tt))))))))), refl) (c.get_flag-in-sum-2.ensures.value, c.get_flag-in-sum-2.ensures.other),
+      profile-of words found _ c.get_str-in-sum.result there.1 c.get_str-in-sum.ensures,
+    )
+
+pub returns-in-check : goal.returns-in-check
+returns-in-check c words is = asks-for c.args.matches.now words _ (codes "check") is c.in-Some.ensures.name c.in-check.is
+
+pub returns-in-lint : goal.returns-in-lint
+returns-in-lint c words is = asks-for c.args.matches.now words _ (codes "lint") is c.in-Some.ensures.name c.in-lint.is
