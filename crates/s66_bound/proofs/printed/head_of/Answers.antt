@@ -1,4 +1,4 @@
-use Rattle.std.proofs.Common.{ℕ, ◌-◌, ◌≡◌, ◌≤◌, ◌<◌, get_or, sym, subst, ap, arith, ◌∙◌, length}
+use Rattle.std.proofs.Common.{ℕ, ◌≡◌, ◌≤◌, ◌<◌, get_or, sym, subst, ap, arith, ◌∙◌, length}
 use Rattle.std.proofs.lemmas.List.{drop_all}
 use Rattle.s66_isa.specs.Lists.{greatest, has}
 use Rattle.s66_isa.specs.Registers.{index_of}
