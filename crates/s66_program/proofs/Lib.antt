@@ -3,6 +3,6 @@ pub mod ByFacts
 pub mod FactDocuments
 pub mod Fronts
 pub mod KeptInput
+pub mod KeptParts
 pub mod RefusedInput
 pub mod SearchAnswers
-pub mod AtATime

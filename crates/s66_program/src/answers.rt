@@ -345,8 +345,7 @@ pub fn answer_alone(
     Ok(Found::Searched(nearest(block, answer)))
 }
 
-/// What is answered for a block under a profile: with facts by `answer_alone`, and else what a search of its orders by all workers
-/// finds.
+/// What is answered for a block under a profile by a search of its orders, which all workers share.
 ///
 /// `Err` is out of memory.
 pub fn answer_to<R: AllocGlobal + Threads + Wait + Sync>(
@@ -358,9 +357,6 @@ pub fn answer_to<R: AllocGlobal + Threads + Wait + Sync>(
     requires { IsSearchWithin strategy.search.workers strategy.search.nodes }
     ensures { IfOk result (IsFor strategy profile.now block.now) }
 {
-    if strategy.deep {
-        return answer_alone(rt.alloc(), block, profile, strategy);
-    }
     let answer = run_from(rt, block, profile, strategy.search, None, &Free)?;
     Ok(Found::Searched(nearest(block, answer)))
 }

@@ -3,6 +3,7 @@
 
 mod answers;
 mod documents;
+mod kept;
 mod laws;
 mod limits;
 mod order_text;

@@ -1,5 +1,5 @@
-ghost use Rattle.std.specs.Prelude.{◌≡◌, IfOk, IfErr, IfSome};
-ghost use Rattle.s66_program.specs.Output.{IsOutput, IsSearchWithin, IsWaitsOutput, IsWithinLimits};
+ghost use Rattle.std.specs.Prelude.{◌≡◌, true, IfOk, IfErr, IfSome};
+ghost use Rattle.s66_program.specs.Output.{IsOutput, IsSearchWithin, IsWaitsOutput, IsWithinLimits, is_cut, reads_source};
 ghost use Rattle.s66_program.specs.Run.{IsRefusal};
 
 use crate::order_text::order_output;
@@ -15,6 +15,23 @@ use s66_text::{Listing, check_output, lint_output, listing_output};
 use std::alloc::AllocError;
 use std::sync::Wait;
 use std::thread::Threads;
+
+/// Whether a command reads a source with `--cut`.
+fn is_cut(command: Command) -> bool
+    ensures { result ≡ is_cut command.entry }
+{
+    match command {
+        Command::Time { cut, .. }
+        | Command::Deps { cut, .. }
+        | Command::Chart { cut, .. }
+        | Command::Why { cut, .. }
+        | Command::Page { cut, .. }
+        | Command::Order { cut, .. }
+        | Command::Prove { cut, .. }
+        | Command::Sum { cut, .. } => cut,
+        Command::Check | Command::Lint => false,
+    }
+}
 
 /// What the instructions of a source's blocks wait for, or of the only one that is printed: as it was written, or in the best order
 /// that is found so.
@@ -35,6 +52,71 @@ fn waits_output<R: AllocGlobal + Threads + Wait + Sync, O: Observer>(
     }
 }
 
+/// What a command that reads a source writes for one under a profile. `Err` is out of memory.
+fn output_of<R: AllocGlobal + Threads + Wait + Sync, O: Observer>(
+    rt: &R,
+    command: Command,
+    profile: &Profile,
+    source: &Source,
+    observer: &mut O,
+) -> Result<Output, AllocError>
+    requires within { IsWithinLimits command }
+    requires reads { reads_source command ≡ true }
+    requires cut { source.now.cut ≡ is_cut command }
+    ensures { IfOk result (λ output. IsOutput profile.now command.entry source.now.text output.text.items output.status) }
+{
+    let alloc = rt.alloc();
+    match command {
+        Command::Time { trace, block, .. } => {
+            listing_output(alloc, profile, &Listing::Times { trace }, block, source)
+        }
+        Command::Deps { block, .. } => {
+            listing_output(alloc, profile, &Listing::Dependences, block, source)
+        }
+        Command::Chart { text, block, .. } => {
+            listing_output(alloc, profile, &Listing::Chart { text }, block, source)
+        }
+        Command::Why { order, block, .. } => {
+            waits_output(rt, source, order, block, profile, observer)
+        }
+        Command::Page {
+            strategy,
+            block,
+            ..
+        } => page_output(rt, source, block, profile, strategy, observer),
+        Command::Order {
+            strategy,
+            trace,
+            ..
+        } => order_output(rt, source, profile, strategy, trace, observer),
+        Command::Prove { strategy, .. } => prove_output(rt, source, profile, strategy, observer),
+        Command::Sum {
+            strategy,
+            trace,
+            ..
+        } => sum_output(rt, source, profile, strategy, trace, observer),
+        Command::Check | Command::Lint => unreachable!(),
+    }
+}
+
+/// What a command that reads a source writes for an input under a profile, or why the input was refused.
+fn source_output<R: AllocGlobal + Threads + Wait + Sync, O: Observer>(
+    rt: &R,
+    command: Command,
+    profile: &Profile,
+    input: &[u8],
+    observer: &mut O,
+) -> Result<Output, Fault>
+    requires within { IsWithinLimits command }
+    requires reads { reads_source command ≡ true }
+    ensures ok { IfOk result (λ output. IsOutput profile.now command.entry input.now output.text.items output.status) }
+    ensures err { IfErr result (IsRefusal command.entry input.now) }
+{
+    let source = read_source_with(rt.alloc(), is_cut(command), input)?;
+    let output = output_of(rt, command, profile, &source, observer)?;
+    Ok(output)
+}
+
 /// What a command writes for an input under a profile, or why the input was refused; no other fault than `Source`, `Document` and
 /// `Memory`. The observer is called as the work goes on, and not at the end.
 pub fn output_for<R: AllocGlobal + Threads + Wait + Sync, O: Observer>(
@@ -49,110 +131,9 @@ pub fn output_for<R: AllocGlobal + Threads + Wait + Sync, O: Observer>(
     ensures err { IfErr result (IsRefusal command.entry input.now) }
 {
     let alloc = rt.alloc();
-    let output = match command {
-        Command::Time {
-            cut,
-            trace,
-            block,
-            ..
-        } => {
-            let listing = Listing::Times { trace };
-            listing_output(
-                alloc,
-                profile,
-                &listing,
-                block,
-                &read_source_with(alloc, cut, input)?,
-            )?
-        }
-        Command::Deps { cut, block } => {
-            let listing = Listing::Dependences;
-            listing_output(
-                alloc,
-                profile,
-                &listing,
-                block,
-                &read_source_with(alloc, cut, input)?,
-            )?
-        }
-        Command::Chart {
-            cut,
-            text,
-            block,
-            ..
-        } => {
-            let listing = Listing::Chart { text };
-            listing_output(
-                alloc,
-                profile,
-                &listing,
-                block,
-                &read_source_with(alloc, cut, input)?,
-            )?
-        }
-        Command::Why {
-            cut,
-            order,
-            block,
-            ..
-        } => waits_output(
-            rt,
-            &read_source_with(alloc, cut, input)?,
-            order,
-            block,
-            profile,
-            observer,
-        )?,
-        Command::Page {
-            cut,
-            strategy,
-            block,
-            ..
-        } => page_output(
-            rt,
-            &read_source_with(alloc, cut, input)?,
-            block,
-            profile,
-            strategy,
-            observer,
-        )?,
-        Command::Order {
-            cut,
-            strategy,
-            trace,
-            ..
-        } => order_output(
-            rt,
-            &read_source_with(alloc, cut, input)?,
-            profile,
-            strategy,
-            trace,
-            observer,
-        )?,
-        Command::Prove { cut, strategy, .. } => {
-            prove_output(
-                rt,
-                &read_source_with(alloc, cut, input)?,
-                profile,
-                strategy,
-                observer,
-            )?
-        }
-        Command::Check => check_output(alloc, input, observer)?,
-        Command::Lint => lint_output(alloc, input)?,
-        Command::Sum {
-            cut,
-            strategy,
-            trace,
-            ..
-        } => sum_output(
-            rt,
-            &read_source_with(alloc, cut, input)?,
-            profile,
-            strategy,
-            trace,
-            observer,
-        )?,
-    };
-    Ok(output)
+    match command {
+        Command::Check => Ok(check_output(alloc, input, observer)?),
+        Command::Lint => Ok(lint_output(alloc, input)?),
+        _ => source_output(rt, command, profile, input, observer),
+    }
 }

@@ -1,5 +1,6 @@
-use Rattle.std.proofs.Common.{List, ◌≡◌, ◌++◌, ◌∙◌, ap, ap₂, subst, sym}
+use Rattle.std.proofs.Common.{List, ◌≡◌, ◌++◌, ◌∙◌, ap, ap₂, if◌then◌else◌, refl, subst, sym}
 use Rattle.s66_line.specs.Block.{Block}
+use Rattle.s66_outcome.specs.declared.outcome.Status.TheVariants.{Done, Bounded}
 use Rattle.s66_page.specs.Found.{AreOf}
 use Rattle.s66_page.specs.Page.{page_text}
 use Rattle.s66_text.specs.Answers.{Answer, AreAnswers}
@@ -7,14 +8,19 @@ use Rattle.s66_text.specs.OrderText.{status_of}
 use Rattle.s66_text.specs.PageText.{all_found}
 use Rattle.s66_text.specs.Shown.{before}
 use Rattle.s66_text.proofs.FoundAnswers.{found-of}
+use Rattle.s66_text.proofs.InTurn.{founds}
+use Rattle.s66_program.specs.Kept.{found_part}
+use Rattle.s66_program.proofs.KeptParts.{kept-whole}
 use Rattle.s66_program.proofs.page_text.page_output.Goals as goal
 
 pub push_page-requires-clause-found : goal.push_page-requires-clause-found
 push_page-requires-clause-found g c =
     let blocks = c.shown-blocks.result.now in
     let strategy = c.args.strategy in
-    let (answers, are, is, ends) = c.in_ok-all.ensures in
-    subst (AreOf blocks) (sym (c.as_slice.ensures.value ∙ is)) (found-of strategy c.args.profile.now blocks answers are)
+    let p = c.args.profile.now in
+    let all = c.in_ok-all.all in
+    let (answers, are, is, best) = kept-whole found_part strategy p founds (λ n. refl) (λ n b bs a more. refl) 0 blocks all.parts.items all.all_best c.in_ok-all.ensures in
+    subst (AreOf blocks) (sym (c.as_slice.ensures.value ∙ is)) (found-of strategy p blocks answers are)
 
 pub returns : goal.returns
 returns g c =
@@ -25,14 +31,16 @@ returns g c =
     let n = c.blocks_before.result in
     let found = c.as_slice.result.now in
     let page = c.push_page.new.out.items in
-    let (answers, are, is, ends) = c.in_ok-all.ensures in
+    let all = c.in_ok-all.all in
+    let (answers, are, is, best) = kept-whole found_part strategy p founds (λ n. refl) (λ n b bs a more. refl) 0 blocks all.parts.items all.all_best c.in_ok-all.ensures in
     let text : page ≡ page_text p (before only) blocks (all_found blocks answers) =
     c.in_ok-push_page.ensures.text ∙ ap (λ xs. xs ++ page_text c.new-timer.result n blocks found) c.new-text.ensures.items
     ∙ ap₂ (λ q fs. page_text q n blocks fs) c.new-timer.ensures (c.as_slice.ensures.value ∙ is) ∙ ap (λ k. page_text p k blocks (all_found blocks answers)) c.blocks_before.ensures.value
-    in (
+    in
+    let ends : c.status_by.result ≡ status_of answers = c.status_by.ensures ∙ ap (λ b. if b then Done else Bounded) best in (
       c.blocks-2.result.now,
       c.blocks-2.ensures,
       subst
-          (λ (bs : List Block). (given : List Answer) × AreAnswers strategy p bs given × (page ≡ page_text p (before only) bs (all_found bs given)) × (c.in_ok-all.all.status ≡ status_of given))
+          (λ (bs : List Block). (given : List Answer) × AreAnswers strategy p bs given × (page ≡ page_text p (before only) bs (all_found bs given)) × (c.status_by.result ≡ status_of given))
           c.shown-blocks.ensures (answers, are, text, ends),
     )

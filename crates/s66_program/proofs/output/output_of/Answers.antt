@@ -1,0 +1,20 @@
+use Rattle.std.proofs.Common.{◌≡◌, ◌∙◌, Bool, IfOk, ap, subst, sym}
+use Rattle.s66_command.specs.declared.command.Command.{Command}
+use Rattle.s66_outcome.specs.declared.outcome.Output.{Output}
+use Rattle.s66_source.specs.LeftAlone.{Reading}
+use Rattle.s66_text.specs.PageText.{IsPageOutput}
+use Rattle.s66_program.specs.Output.{IsOutput, is_cut}
+use Rattle.s66_program.proofs.output.output_of.Goals as goal
+
+-- a source by its parts
+by-parts : (source : Reading) (cut : Bool) → source.cut ≡ cut → source ≡ record { cut = cut; text = source.text }
+by-parts source cut same = ap (λ (b : Bool). record { cut = b; text = source.text }) same
+
+pub returns-in-Page : goal.returns-in-Page
+returns-in-Page g c =
+    let p = c.args.profile.now in
+    let source = c.args.source.now in
+    let page = c.in-Page in
+    let same : source ≡ record { cut = page.cut; text = source.text } = by-parts source page.cut (c.requires.cut ∙ ap is_cut page.is) in
+    let wrote = subst (λ (s : Reading). IfOk c.page_output.result (λ (output : Output). IsPageOutput page.strategy p page.block s output.text.items output.status)) same c.page_output.ensures in
+    subst (λ (command : Command). IfOk c.page_output.result (λ (output : Output). IsOutput p command source.text output.text.items output.status)) (sym page.is) wrote

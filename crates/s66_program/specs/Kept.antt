@@ -1,0 +1,54 @@
+-- Used by contracts within the crate alone: what is kept of answers to blocks, a part of each, one after the other.
+use Rattle.std.specs.Prelude.{ℕ, ◌+◌, ◌≡◌, ◌==◌, ◌&&◌, Bool, true, List, [], ◌∷◌, ◌++◌, slice_index_or}
+use Rattle.s66_isa.specs.declared.profile.Profile.{Profile}
+use Rattle.s66_line.specs.Block.{Block}
+use Rattle.s66_source.specs.Printed.{Placed}
+use Rattle.s66_cert.specs.Document.{document_text}
+use Rattle.s66_command.specs.declared.strategy.Strategy.{Strategy}
+use Rattle.s66_page.specs.Found.{Found}
+use Rattle.s66_text.specs.Answers.{Answer, AreAnswers, IsAnswer, document_under}
+use Rattle.s66_text.specs.OrderText.{all_best, placed_by}
+use Rattle.s66_text.specs.PageText.{found_by}
+use Rattle.s66_program.specs.declared.kept.Kept.{Kept}
+
+-- PARTS of an answer to the n-th block, from 1
+
+abbrev pub document_part : Strategy → Profile → ℕ → Block → Answer → List ℕ
+document_part strategy p n block a = document_text (document_under strategy.search.rule p block a)
+
+abbrev pub found_part : ℕ → Block → Answer → List Found
+found_part n block a = found_by block a ∷ []
+
+abbrev pub placed_part : Bool → Profile → ℕ → Block → Answer → List Placed
+placed_part trace p n block a = placed_by p trace block a ∷ []
+
+-- WHAT IS KEPT
+
+-- the parts of answers to these blocks, before which n come
+abbrev pub all_parts : {X : Type 0} → (ℕ → Block → Answer → List X) → ℕ → List Block → List Answer → List X
+all_parts part n (block ∷ blocks) (a ∷ answers) = part (n + 1) block a ++ all_parts part (n + 1) blocks answers
+all_parts part n blocks answers = []
+
+-- the part of an answer to the n-th block was appended, and the answer is best or not
+abbrev pub IsKept : {X : Type 0} → (ℕ → Block → Answer → List X) → Strategy → Profile → ℕ → Block → (old new : List X) → Bool → Type 0
+IsKept part strategy p n block old new best = (a : Answer) × IsAnswer strategy p block a × (new ≡ old ++ part n block a) × (best ≡ (a.bound == a.time))
+
+-- these are the parts of answers to the blocks, before which n come, and all answers are best or not
+abbrev pub AreKept : {X : Type 0} → (ℕ → Block → Answer → List X) → Strategy → Profile → ℕ → List Block → List X → Bool → Type 0
+AreKept part strategy p n blocks kept best =
+    (answers : List Answer) × AreAnswers strategy p blocks answers × (kept ≡ all_parts part n blocks answers) × (best ≡ all_best answers)
+
+-- EACH BY ITSELF
+
+-- it was kept of the block at a place of these, before which n come
+abbrev pub IsKeptAt : {X : Type 0} → (ℕ → Block → Answer → List X) → Strategy → Profile → ℕ → List Block → ℕ → Kept X → Type 0
+IsKeptAt part strategy p n blocks i kept = (d : Block) → IsKept part strategy p (n + i + 1) (slice_index_or blocks i d) [] kept.parts.items kept.all_best
+
+-- what was kept of each, one after the other
+abbrev pub parts_in : {X : Type 0} → List (Kept X) → List X
+parts_in [] = []
+parts_in (kept ∷ each) = kept.parts.items ++ parts_in each
+
+abbrev pub are_best : {X : Type 0} → List (Kept X) → Bool
+are_best [] = true
+are_best (kept ∷ each) = kept.all_best && are_best each
