@@ -27,6 +27,8 @@ mod rows;
 #[cfg(test)]
 mod running;
 #[cfg(test)]
+mod turns;
+#[cfg(test)]
 mod verdicts;
 #[cfg(test)]
 mod words;
