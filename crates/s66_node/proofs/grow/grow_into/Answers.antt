@@ -74,6 +74,40 @@ push-requires-in-Some-pop_first-2 g c =
     subst (λ (p : Problem). is_ready p.block lf.walk.numbers c.in-Some-pop_first.n ≡ true) (sym lf.invariant.problem)
     (child-ready c.args.rule b high c.args.allowance root lf.walk.numbers lf.frames.items c.pop.new.self.items c.in-Some-pop.frame lf.grown lf.best (g.N.Naming.names lf.names) lf.invariant.grows c.in-Some-pop.ensures.items c.in-Some-pop_first.n (numbers_in c.pop_first.new.self) c.in-Some-pop_first.ensures.some)
 
+pub unsplit_child-requires-clause-kept : goal.unsplit_child-requires-clause-kept
+unsplit_child-requires-clause-kept g c = c.loop-frame.invariant.kept
+
+pub unsplit_child-requires-clause-suits : goal.unsplit_child-requires-clause-suits
+unsplit_child-requires-clause-suits g c = subst (λ (p : Problem). g.N.Naming.suits c.loop-frame.names p) (sym (ap (λ (w : Walked). w.problem) c.push-in-Some-pop_first-2.ensures ∙ c.loop-frame.invariant.problem)) c.loop-frame.invariant.suits
+
+pub returns-in_err-child-clause-suits : goal.returns-in_err-child-clause-suits
+returns-in_err-child-clause-suits g c = subst (λ (p : Problem). g.N.Naming.suits c.unsplit_child.new.names p) (ap (λ (w : Walked). w.problem) c.push-in-Some-pop_first-2.ensures ∙ c.loop-frame.invariant.problem) c.unsplit_child.ensures.suits
+
+pub returns-in_err-child-clause-same : goal.returns-in_err-child-clause-same
+returns-in_err-child-clause-same g c = ap (λ (w : Walked). w.problem) c.push-in-Some-pop_first-2.ensures ∙ c.loop-frame.invariant.problem
+
+pub returns-in_err-child-clause-falls : goal.returns-in_err-child-clause-falls
+returns-in_err-child-clause-falls g c = omega (arith, c.unsplit_child.ensures.kept, c.unsplit_child.ensures.falls, c.loop-frame.invariant.falls)
+
+pub returns-in_err-child-clause-lowest : goal.returns-in_err-child-clause-lowest
+returns-in_err-child-clause-lowest g c =
+    let was = c.loop-frame.invariant.lowest in
+    (c.unsplit_child.ensures.lowest.0 ∙ was.0, omega (arith, c.unsplit_child.ensures.lowest.1 (omega (arith, was.0, was.1)), was.0, c.unsplit_child.ensures.kept))
+
+pub returns-in_err-push_unsplit-in-Some-child-clause-suits : goal.returns-in_err-push_unsplit-in-Some-child-clause-suits
+returns-in_err-push_unsplit-in-Some-child-clause-suits g c = subst (λ (p : Problem). g.N.Naming.suits c.unsplit_child.new.names p) (ap (λ (w : Walked). w.problem) c.push-in-Some-pop_first-2.ensures ∙ c.loop-frame.invariant.problem) c.unsplit_child.ensures.suits
+
+pub returns-in_err-push_unsplit-in-Some-child-clause-same : goal.returns-in_err-push_unsplit-in-Some-child-clause-same
+returns-in_err-push_unsplit-in-Some-child-clause-same g c = ap (λ (w : Walked). w.problem) c.push-in-Some-pop_first-2.ensures ∙ c.loop-frame.invariant.problem
+
+pub returns-in_err-push_unsplit-in-Some-child-clause-falls : goal.returns-in_err-push_unsplit-in-Some-child-clause-falls
+returns-in_err-push_unsplit-in-Some-child-clause-falls g c = omega (arith, c.unsplit_child.ensures.kept, c.unsplit_child.ensures.falls, c.loop-frame.invariant.falls)
+
+pub returns-in_err-push_unsplit-in-Some-child-clause-lowest : goal.returns-in_err-push_unsplit-in-Some-child-clause-lowest
+returns-in_err-push_unsplit-in-Some-child-clause-lowest g c =
+    let was = c.loop-frame.invariant.lowest in
+    (c.unsplit_child.ensures.lowest.0 ∙ was.0, omega (arith, c.unsplit_child.ensures.lowest.1 (omega (arith, was.0, was.1)), was.0, c.unsplit_child.ensures.kept))
+
 pub loop-frame-smaller-in-Some-child : goal.loop-frame-smaller-in-Some-child
 loop-frame-smaller-in-Some-child g c =
     let lf = c.loop-frame in
@@ -116,6 +150,20 @@ loop-frame-preserved-in-Some-child g c =
           n frame c.in-Some-pop_first.ensures.some refl new c.unsplit_child.new.best c.unsplit_child.ensures.falls lf.invariant.falls (g.N.Naming.names c.unsplit_child.new.names) c.push-in-Some-pop_first.new.self.items c.undo.new.self.numbers
           u put found same (λ is lt. left is (lt-ltb lf.grown.splits c.args.allowance lt)) c.push-in-Some-pop_first.ensures.items up;
     }
+
+pub returns-in_err-below-in-None-clause-suits : goal.returns-in_err-below-in-None-clause-suits
+returns-in_err-below-in-None-clause-suits g c = subst (λ (p : Problem). g.N.Naming.suits c.unsplit_child.new.names p) (ap (λ (w : Walked). w.problem) c.push-in-Some-pop_first-2.ensures ∙ c.loop-frame.invariant.problem) c.unsplit_child.ensures.suits
+
+pub returns-in_err-below-in-None-clause-same : goal.returns-in_err-below-in-None-clause-same
+returns-in_err-below-in-None-clause-same g c = ap (λ (w : Walked). w.problem) c.push_split-in-None.ensures.same ∙ ap (λ (w : Walked). w.problem) c.push-in-Some-pop_first-2.ensures ∙ c.loop-frame.invariant.problem
+
+pub returns-in_err-below-in-None-clause-falls : goal.returns-in_err-below-in-None-clause-falls
+returns-in_err-below-in-None-clause-falls g c = omega (arith, c.unsplit_child.ensures.kept, c.unsplit_child.ensures.falls, c.loop-frame.invariant.falls)
+
+pub returns-in_err-below-in-None-clause-lowest : goal.returns-in_err-below-in-None-clause-lowest
+returns-in_err-below-in-None-clause-lowest g c =
+    let was = c.loop-frame.invariant.lowest in
+    (c.unsplit_child.ensures.lowest.0 ∙ was.0, omega (arith, c.unsplit_child.ensures.lowest.1 (omega (arith, was.0, was.1)), was.0, c.unsplit_child.ensures.kept))
 
 pub push-requires-in-None : goal.push-requires-in-None
 push-requires-in-None g c =
@@ -211,6 +259,18 @@ loop-frame-preserved g c =
       grows = ends c.args.rule c.args.walk.now.problem (g.L.Least.kept c.args.incumbent.now) c.args.allowance c.args.walk.now.numbers lf.walk.numbers lf.frames.items c.pop.new.self.items c.in-Some-pop.frame lf.grown lf.best (g.N.Naming.names lf.names) was.grows c.in-Some-pop.ensures.items
           c.in_default-pop_first.ensures.none (is-empty c.pop.new.self.items (sym c.is_empty.ensures ∙ c.if-not-is_empty.false));
     }
+
+pub returns-clause-suits : goal.returns-clause-suits
+returns-clause-suits g c = c.loop-frame.invariant.suits
+
+pub returns-clause-same : goal.returns-clause-same
+returns-clause-same g c = c.loop-frame.invariant.problem
+
+pub returns-clause-falls : goal.returns-clause-falls
+returns-clause-falls g c = omega (arith, c.loop-frame.invariant.kept, c.loop-frame.invariant.falls)
+
+pub returns-clause-lowest : goal.returns-clause-lowest
+returns-clause-lowest g c = (c.loop-frame.invariant.lowest.0, omega (arith, c.loop-frame.invariant.lowest.1, c.loop-frame.invariant.kept))
 
 pub returns-clause-grown : goal.returns-clause-grown
 returns-clause-grown g c =
