@@ -6,10 +6,13 @@ In a crate's folder:
     ../../tools/cost.py [--anew] [--top N] [--find WORD] [-- COMMAND..]
 
 runs `rt check --jobs 1`, or COMMAND, and notes the processor time that it has used whenever it keeps a module in
-out/incremental: the difference to the module before is what this module cost. A module that an earlier check kept is not
-made again and costs nothing, so after an edit the list has what the edit touched. `--anew` removes what is kept first, and
-lists the whole crate. An interrupt, or SIGTERM, ends the command and lists what it made. What stands before the first module,
-"the start", reads the crates below, and builds those that have changed.
+out/incremental: the difference to the module before is what this module cost. What stands before the first one, "the start",
+reads the crates below, and builds those that have changed. A module that an earlier check kept is not made again and costs
+nothing, so after an edit the list has what the edit touched.
+
+`--anew` removes what is kept first, and lists the whole crate. Where another checkout on this machine has proved the very same
+files, `rt` says that it begins with what that one kept: change a comment before. An interrupt, or SIGTERM, ends the command
+and lists what it made.
 
 Processor seconds hardly depend on what else runs, the time by the clock does. Several jobs run side by side, and a module
 would pay for those of the others: let it be one.
@@ -130,6 +133,8 @@ def main():
     signal.signal(signal.SIGTERM, signal.default_int_handler)
     if not os.path.isdir("src"):
         parser.error("the current folder is no crate's")
+    if given.anew:
+        shutil.rmtree(FOLDER, ignore_errors=True)
     if given.anew:
         shutil.rmtree(FOLDER, ignore_errors=True)
     status, seconds, costs = costs_of(given.command or ["rt", "check", "--jobs", "1"])
