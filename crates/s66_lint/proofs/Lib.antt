@@ -1,9 +1,1 @@
-pub mod Operations
-pub mod OperandNames
-pub mod LinesAhead
-pub mod LabelSets
-pub mod KeptLines
-pub mod SeenLines
-pub mod FoundLines
-pub mod ListedLines
-pub mod FindingsLaw
+mod Listings

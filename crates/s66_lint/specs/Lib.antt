@@ -1,7 +1,1 @@
-pub mod Findings
-pub mod Listed
-pub mod Parts
-pub mod LabelSet
-pub mod Kept
-pub mod Pass
-pub mod Rest
+pub mod Listing

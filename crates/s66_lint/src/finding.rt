@@ -1,18 +1,38 @@
 /// What may be wrong with a line, in the order in which the findings of one line are listed.
 #[derive(Clone, Copy)]
-pub enum Finding {
+pub enum Rule {
+    /// It is too long.
+    TooLong,
     /// It is refused.
     BadOperand,
     /// Its operation begins like one of the instruction table, and is none.
     NotAnInstruction,
-    /// It is a directive, and stands between two instructions of one block.
+    /// An instruction stands in its location field, in column 1 or 2.
+    InColumn1,
+    InColumn2,
+    /// It is a directive within a block.
     Directive,
-    /// It begins a definition that has an instruction.
+    /// It begins a definition, or an `ECHO`, that holds an instruction.
     HasABody,
+    /// It defines an operation that the table has.
+    Redefines,
+    /// It loads the word of an instruction.
+    LoadsCode,
     /// It stores into the word of an instruction.
     StoresIntoCode,
+    /// It stands for its place in the word of the line before it; or the line after it stands in its word, and may come into the
+    /// other half of it.
+    JoinsAWord,
     /// It counts words of code.
     CountsWords,
-    /// It counts the lines after it.
+    /// It counts lines after it, of which one is an instruction.
     CountsLines,
+}
+
+/// What was found in a line, with up to two words of it.
+#[derive(Clone, Copy)]
+pub(crate) struct Finding<'a> {
+    pub(crate) rule: Rule,
+    pub(crate) first: &'a [u8],
+    pub(crate) second: &'a [u8],
 }

@@ -1,83 +1,119 @@
-ghost use Rattle.std.specs.Prelude.{ℕ, List, ◌≡◌, IfOk};
-ghost use Rattle.s66_line.specs.Fields.{upper};
-ghost use Rattle.s66_source.specs.Counts.{is_one_of};
-ghost use Rattle.s66_lint.specs.LabelSet.{has_name};
-ghost use Rattle.s66_lint.specs.Kept.{upper_names};
-
-use crate::operation::upper_case_byte;
+use crate::deck::Deck;
+use crate::line::Line;
 use std::alloc::{AllocError, Global};
-use std::collections::BTreeSet;
-use std::marker::Model;
+use std::collections::BTreeMap;
 
-/// The bytes, each letter in upper case.
-fn upper_case(alloc: Global, bytes: &[u8]) -> Result<Vec<u8>, AllocError>
-    ensures { IfOk result (λ letters. letters.items ≡ upper bytes.now) }
-{
-    let mut letters = Vec::new(alloc);
-    for byte in bytes {
-        letters.push(upper_case_byte(*byte))?;
-    }
-    Ok(letters)
+/// What is known of a name in location fields.
+#[derive(Clone, Copy)]
+pub(crate) struct Label {
+    /// It is an address.
+    pub(crate) is_address: bool,
+    /// It stands in a word of code.
+    pub(crate) is_code: bool,
+    /// No word of code in which it stands can change.
+    pub(crate) is_held: bool,
+    /// It is that of a word of its own with code directly behind it, or before it.
+    is_before_code: bool,
+    is_behind_code: bool,
+    /// A line may change from it to the next name.
+    pub(crate) leads_to_change: bool,
 }
 
-/// These labels as a set, in upper case.
-fn label_set(alloc: Global, labels: &[&[u8]]) -> Result<BTreeSet<Vec<u8>>, AllocError>
-    ensures { IfOk result (λ names. (name : List ℕ) → has_name names name ≡ is_one_of (upper_names labels.now) name) }
-{
-    let mut names = BTreeSet::new(alloc);
-    for label in labels {
-        names.insert(upper_case(alloc, *label)?)?;
+impl Label {
+    /// Of a name that stands nowhere.
+    fn of_nothing() -> Label {
+        Label {
+            is_address: false,
+            is_code: false,
+            is_held: true,
+            is_before_code: false,
+            is_behind_code: false,
+            leads_to_change: false,
+        }
     }
-    Ok(names)
+
+    /// Of a name that stands in the line at this index.
+    fn at(deck: &Deck, at: usize, line: &Line) -> Label {
+        let is_read = !line.is_off && !deck.before(at).in_definition;
+        let code = if is_read {
+            deck.code_named(at, line)
+        } else {
+            None
+        };
+        let is_entry = is_read && code.is_none();
+        Label {
+            is_address: code.is_some() || line.has_address(),
+            is_code: code.is_some(),
+            is_held: match code {
+                Some(code) => deck.after(code).is_held,
+                None => true,
+            },
+            is_before_code: is_entry && is_before_code(deck, at, line),
+            is_behind_code: is_entry && line.is_one_word() && deck.is_code(deck.before(at).last),
+            leads_to_change: deck.after(at).leads_to_change,
+        }
+    }
+
+    /// Of a name that stands where each of the two does.
+    fn with(&self, other: &Label) -> Label {
+        Label {
+            is_address: self.is_address || other.is_address,
+            is_code: self.is_code || other.is_code,
+            is_held: self.is_held && other.is_held,
+            is_before_code: self.is_before_code || other.is_before_code,
+            is_behind_code: self.is_behind_code || other.is_behind_code,
+            leads_to_change: self.leads_to_change || other.leads_to_change,
+        }
+    }
+
+    /// Whether words of code lie behind it, or before it, that a number added to it, or subtracted from it, counts.
+    pub(crate) fn is_entry(&self, is_subtracted: bool) -> bool {
+        !self.is_code
+            && if is_subtracted {
+                self.is_behind_code
+            } else {
+                self.is_before_code
+            }
+    }
 }
 
-/// The labels of code of a source, in upper case; they are made a set when one is first asked for.
+/// Whether the word that a line of its own makes has code directly behind it.
+fn is_before_code(deck: &Deck, at: usize, line: &Line) -> bool {
+    let Some(next) = deck.line(deck.after(at).next_statement) else {
+        return false;
+    };
+    line.is_one_word() && next.is_code() && (line.is_jump() || next.name().is_empty())
+}
+
+/// The names in the location fields of a source.
 #[derive(Drop)]
 pub(crate) struct Labels<'a> {
-    alloc: Global,
-    labels: &'a [&'a [u8]],
-    names: Option<BTreeSet<Vec<u8>>>,
-}
-
-impl<'a> Model for Labels<'a> {
-    ghost use Rattle.std.specs.Prelude.{ℕ, List};
-    ghost use Rattle.s66_lint.specs.Kept.{upper_names};
-    ghost use Rattle.s66_lint.specs.LabelSet.{AreNames};
-
-    ghost Value = { List (List ℕ) };
-
-    ghost view = { λ l. upper_names l.labels.now };
-
-    ghost invariant = { λ l. AreNames l.names (upper_names l.labels.now) };
+    labels: BTreeMap<&'a [u8], Label>,
 }
 
 impl<'a> Labels<'a> {
-    ghost use Rattle.std.specs.Prelude.{◌≡◌, IfOk};
-    ghost use Rattle.s66_source.specs.Counts.{is_one_of};
-    ghost use Rattle.s66_lint.specs.Kept.{upper_names};
-
-    /// Of these labels, as they stand.
-    pub(crate) fn of(alloc: Global, labels: &'a [&'a [u8]]) -> Labels<'a>
-        ensures { result ≡ upper_names labels.now }
-    {
-        Labels {
-            alloc,
-            labels,
-            names: None,
+    pub(crate) fn of(alloc: Global, deck: &Deck<'a>) -> Result<Labels<'a>, AllocError> {
+        let mut labels = Labels {
+            labels: BTreeMap::new(alloc),
+        };
+        for (at, line) in deck.lines().iter().enumerate() {
+            if !line.name().is_empty() {
+                labels.put(line.name(), &Label::at(deck, at, line))?;
+            }
         }
+        Ok(labels)
     }
 
-    /// Whether a name in upper case is one of them.
-    pub(crate) fn has(&mut self, name: &[u8]) -> Result<bool, AllocError>
-        ensures known { IfOk result (λ known. known ≡ is_one_of self.old name.now) }
-        ensures same { self.new ≡ self.old }
-    {
-        if let Some(names) = &self.names {
-            return Ok(names.contains(name));
+    fn put(&mut self, name: &'a [u8], label: &Label) -> Result<(), AllocError> {
+        let known = self.get(name).with(label);
+        let _before = self.labels.insert(name, known)?;
+        Ok(())
+    }
+
+    pub(crate) fn get(&self, name: &'a [u8]) -> Label {
+        match self.labels.get(&name) {
+            Some(label) => *label,
+            None => Label::of_nothing(),
         }
-        let names = label_set(self.alloc, self.labels)?;
-        let known = names.contains(name);
-        self.names = Some(names);
-        Ok(known)
     }
 }

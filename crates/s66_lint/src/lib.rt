@@ -1,24 +1,24 @@
 //! What may be wrong with the lines of a source.
 #![tactic(auto)]
 
-mod ahead;
+mod after;
+mod before;
+mod bodies;
+mod counts;
+mod deck;
 mod finding;
-mod finding_text;
 mod findings;
-mod found;
-mod gap;
-mod kept;
+mod form;
+mod joining;
 mod labels;
-mod laws;
-mod lines;
-mod names;
+mod line;
+mod listing;
 mod operand;
-mod operation;
-mod rest;
-mod seen;
-mod sight;
-mod tells;
+mod operations;
+mod rules;
+mod run;
+mod spelling;
+mod word;
 
-pub use finding::Finding;
-pub use findings::{Findings, findings_in};
-pub use laws::{findings_examples, findings_law, order_examples};
+pub use finding::Rule;
+pub use findings::findings_in;

@@ -1,82 +1,133 @@
-ghost use Rattle.std.specs.Prelude.{◌≡◌, true};
-ghost use Rattle.s66_line.specs.Operand.{is_sign};
-ghost use Rattle.s66_lint.specs.Findings.{begins_number, ends_name, ends_term, has_star_from, term_ends};
-ghost use Rattle.s66_lint.specs.Kept.{may_count_at, may_count_from};
+use crate::spelling::is_register;
+use s66_source::{are_digits, is_decimal_digit};
+use std::alloc::{AllocError, Global};
 
-use s66_source::is_decimal_digit;
-
-pub(crate) fn is_sign(byte: u8) -> bool
-    ensures { result ≡ is_sign byte }
-{
+fn is_sign(byte: u8) -> bool {
     byte == b'+' || byte == b'-'
 }
 
 /// Whether a byte ends a name in an operand.
-pub(crate) fn ends_name(byte: u8) -> bool
-    ensures { result ≡ ends_name byte }
-{
-    matches!(byte, b'+' | b'-' | b'*' | b'/' | b',' | b'(' | b')' | b'=')
+pub(crate) fn ends_name(byte: u8) -> bool {
+    is_sign(byte) || byte == b'*' || ends_sum(byte)
 }
 
-pub(crate) fn begins_number(bytes: &[u8]) -> bool
-    ensures { result ≡ begins_number bytes.now }
-{
+/// Whether a byte ends a sum in an operand.
+pub(crate) fn ends_sum(byte: u8) -> bool {
+    matches!(byte, b',' | b'/' | b'(' | b')')
+}
+
+/// A term of a sum, in upper case.
+#[derive(Clone, Copy)]
+pub(crate) struct Term<'a> {
+    pub(crate) is_subtracted: bool,
+    pub(crate) bytes: &'a [u8],
+}
+
+impl<'a> Term<'a> {
+    /// Whether it adds words to an address: it is a symbol, or a number other than 0; and neither a register nor an address of
+    /// its own, as `*` and the literal `=1` are.
+    pub(crate) fn counts(&self) -> bool {
+        match self.bytes {
+            [] | [b'=' | b'*' | b'$', ..] => false,
+            _ => !is_register(self.bytes) && !is_zero(digits_of(self.bytes)),
+        }
+    }
+
+    pub(crate) fn is_one(&self) -> bool {
+        is_one(digits_of(self.bytes))
+    }
+
+    /// Whether it is the address of the line itself.
+    pub(crate) fn is_here(&self) -> bool {
+        matches!(self.bytes, b"*" | b"*L" | b"*O" | b"*P" | b"$")
+    }
+
+    /// Whether it makes an address no address of code.
+    pub(crate) fn is_high(&self) -> bool {
+        matches!(self.bytes, b"1S17" | b"400000B")
+    }
+}
+
+/// The digits of a number, which the letter of its base may follow; none of what is no number.
+fn digits_of(bytes: &[u8]) -> &[u8] {
+    let digits = match bytes {
+        [digits @ .., b'B' | b'D' | b'O'] => digits,
+        _ => bytes,
+    };
+    if are_digits(digits) { digits } else { &[] }
+}
+
+fn is_zero(digits: &[u8]) -> bool {
+    !digits.is_empty() && digits.iter().all(|digit| *digit == b'0')
+}
+
+fn is_one(digits: &[u8]) -> bool {
+    match digits {
+        [zeros @ .., b'1'] => zeros.iter().all(|digit| *digit == b'0'),
+        _ => false,
+    }
+}
+
+/// The terms of a sum; none of what is no sum.
+pub(crate) fn terms_of<'a>(alloc: Global, sum: &'a [u8]) -> Result<Vec<Term<'a>>, AllocError> {
+    let (mut is_subtracted, unsigned) = match sum {
+        [b'+', rest @ ..] => (false, rest),
+        [b'-', rest @ ..] => (true, rest),
+        _ => (false, sum),
+    };
+    let mut terms = Vec::new(alloc);
+    let mut end: usize = 0;
+    for bytes in unsigned.split(|byte| is_sign(*byte)) {
+        if bytes.is_empty() {
+            return Ok(Vec::new(alloc));
+        }
+        terms.push(Term {
+            is_subtracted,
+            bytes,
+        })?;
+        end = end.saturating_add(bytes.len());
+        is_subtracted = matches!(unsigned.get(end), Some(b'-'));
+        end = end.saturating_add(1);
+    }
+    Ok(terms)
+}
+
+/// Whether an operand in upper case is a sum of registers, or none: an instruction with it has one parcel.
+pub(crate) fn has_registers_alone(operand: &[u8]) -> bool {
+    let unsigned = match operand {
+        [b'+' | b'-', rest @ ..] => rest,
+        _ => operand,
+    };
+    let mut is_sum = true;
+    let mut has_constant = false;
+    for term in unsigned.split(|byte| is_sign(*byte)) {
+        is_sum = is_sum && !term.is_empty();
+        has_constant = has_constant || !is_register(term);
+    }
+    !is_sum || !has_constant
+}
+
+/// Whether a line of `EQU` with this operand gives its name to a word near it: after it, or `Some(true)` before it.
+pub(crate) fn is_before(operand: &[u8]) -> Option<bool> {
+    match operand {
+        b"*" => Some(false),
+        [b'*', b'+', digits @ ..] if is_numeral(digits) => Some(false),
+        [b'*', b'-', digits @ ..] if is_numeral(digits) => Some(true),
+        _ => None,
+    }
+}
+
+fn is_numeral(bytes: &[u8]) -> bool {
     match bytes {
-        [byte, ..] => is_decimal_digit(*byte),
+        [first, ..] => is_decimal_digit(*first) && are_digits(bytes),
         [] => false,
     }
 }
 
-/// Whether a byte ends a term of an operand.
-fn ends_term(byte: u8) -> bool
-    ensures { result ≡ ends_term byte }
-{
-    is_sign(byte) || byte == b','
-}
-
-fn term_ends(bytes: &[u8]) -> bool
-    ensures { result ≡ term_ends bytes.now }
-{
-    match bytes {
-        [byte, ..] => ends_term(*byte),
-        [] => true,
+/// An operand without the plus signs in front.
+pub(crate) fn without_plus(operand: &[u8]) -> &[u8] {
+    match operand.iter().position(|byte| *byte != b'+') {
+        Some(first) => &operand[first..],
+        None => &[],
     }
-}
-
-/// Whether bytes of an operand begin with a star as a term begins, or with a sign before a number; `here` if a term begins.
-fn may_count_at(here: bool, bytes: &[u8]) -> bool
-    ensures { result ≡ may_count_at here bytes.now }
-{
-    match bytes {
-        [byte, rest @ ..] => here && *byte == b'*' || is_sign(*byte) && begins_number(rest),
-        [] => false,
-    }
-}
-
-/// Whether an operand may count words: whether it has a star or a number where one that does has them.
-pub(crate) fn may_count_words(operand: &[u8]) -> bool
-    ensures { result ≡ may_count_from true operand.now }
-{
-    let mut here = true;
-    for at in 0..operand.len() {
-        if may_count_at(here, &operand[at..]) {
-            return true;
-        }
-        here = ends_term(operand[at]);
-    }
-    false
-}
-
-/// Whether one of the terms of an operand is a star.
-pub(crate) fn has_star(operand: &[u8]) -> bool
-    ensures { result ≡ has_star_from true operand.now }
-{
-    let mut here = true;
-    for at in 0..operand.len() {
-        if here && operand[at] == b'*' && term_ends(&operand[at + 1..]) {
-            return true;
-        }
-        here = ends_term(operand[at]);
-    }
-    false
 }

@@ -1,11 +1,11 @@
 -- Operands cut at commas and other bytes, and the numbers that their digits spell.
 use Rattle.std.proofs.Common.{◌≡◌, ◌≤◌, ◌<◌, ◌+◌, ◌-◌, ◌*◌, ◌==◌, ℕ, zero, suc, Bool, true, false, if◌then◌else◌, min, Option, None, Some, List, [], ◌∷◌, length, nat_lt, take, drop, get_or, drop-cons, add-one, refl, sym, ap, ◌∙◌, arith}
 use Rattle.std.proofs.lemmas.Bool.{and_parts, false_from_ne_true}
-use Rattle.s66_line.specs.Fields.{after_word, from_operand, from_operation, is_blank, skip_blanks, word}
-use Rattle.s66_line.proofs.LineFields.{from_operation_within, word-length}
+use Rattle.s66_line.specs.Fields.{after_word, from_operand, from_operation, is_blank, skip_blanks}
+use Rattle.s66_line.proofs.LineFields.{from_operation_within}
 use Rattle.memchr.specs.Find.{IsFirstByte, is_byte}
 use Rattle.s66_isa.specs.Lists.{every}
-use Rattle.s66_source.specs.Counts.{after_byte, after_comma, before_comma, counting_operand, spelled_after}
+use Rattle.s66_source.specs.Counts.{after_byte, after_comma, before_comma, counting_text, spelled_after}
 
 -- THE FIRST OF SOME BYTE
 
@@ -95,14 +95,13 @@ after_word-length (b ∷ bytes) =
     elim (is_blank b) as (λ t. length (if t then b ∷ bytes else after_word bytes) ≤ suc (length bytes))
     [ true ↦ omega arith | false ↦ (let h = after_word-length bytes in omega (arith, h)) ]
 
-operand-length : (near : Bool) (line : List ℕ) → length (if near then word (from_operand line) else []) ≤ length line - 1
-operand-length false line = omega arith
-operand-length true line =
-    let whole = word-length (from_operand line) in
+text-length : (near : Bool) (line : List ℕ) → length (if near then from_operand line else []) ≤ length line - 1
+text-length false line = omega arith
+text-length true line =
     let blanks = skip_blanks-length (after_word (from_operation line)) in
     let after = after_word-length (from_operation line) in
     let from = from_operation_within line in
-    omega (arith, whole, blanks, after, from)
+    omega (arith, blanks, after, from)
 
-pub counting_operand-length : (line : List ℕ) → length (counting_operand line) ≤ length line - 1
-counting_operand-length line = operand-length (nat_lt (length line - length (from_operand line)) 29) line
+pub counting_text-length : (line : List ℕ) → length (counting_text line) ≤ length line - 1
+counting_text-length line = text-length (nat_lt (length line - length (from_operand line)) 29) line

@@ -18,3 +18,4 @@ pub mod SpelledLaw
 pub mod Standings
 pub mod CutLaw
 pub mod Counted
+mod OpenLines

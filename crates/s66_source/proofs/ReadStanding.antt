@@ -9,7 +9,7 @@ use Rattle.s66_line.specs.declared.class.Class.{Class}
 use Rattle.s66_line.specs.declared.class.Class.TheVariants.{Other, Refused}
 use Rattle.s66_line.specs.Block.{Block, line_of}
 use Rattle.s66_line.proofs.LineFields.{indented_no}
-use Rattle.s66_source.specs.Counts.{counting_operand, is_covering}
+use Rattle.s66_source.specs.Counts.{counting_text, is_covering}
 use Rattle.s66_source.specs.LeftAlone.{Flagged, after_body, after_line, after_operation, class_at, has_operation, is_alone, is_continued, is_directive, is_held, is_switch, is_off_switch, is_on_switch, is_refused, flagged_from, off_after, with_operation}
 use Rattle.s66_source.specs.Printed.{Placed, block_text, copied_text, text_of_lines}
 use Rattle.s66_source.specs.Roles.{is_copied, is_other_class}
@@ -154,8 +154,7 @@ no_switch second b line other =
     [ true ↦ refl | false ↦ rw (no_star b other) refl ]
 
 no_directive : (b : ℕ) (line : List ℕ) → (b == 42) ≡ false → is_directive (b ∷ line) ≡ false
-no_directive b [] other = refl
-no_directive b (c ∷ line) other = rw other refl
+no_directive b line other = rw other refl
 
 unflagged-by : (cut : Bool) (line : List ℕ) → is_comment line ≡ false → (is_off_switch line || (cut && is_directive line)) ≡ false
 unflagged-by cut [] h = absurd (true≢false h)
@@ -171,7 +170,7 @@ pub comment-stays : (cut : Bool) (s : Standing) (line : List ℕ) → is_holding
 comment-stays cut s line free unflagged comment =
     let none : has_operation (body line) ≡ false = ap (λ is. not (is || continues (body line))) comment in
     let same : with_operation cut s (body line) ≡ s =
-    ap (λ t. if t then after_operation s (upper (operation (body line))) (upper (counting_operand (body line))) else s) (and_right cut (has_operation (body line)) none) in
+    ap (λ t. if t then after_operation s (upper (operation (body line))) (upper (counting_text (body line))) else s) (and_right cut (has_operation (body line)) none) in
     let off : off_after s.off (body line) ≡ s.off =
     same-off (is_on_switch (body line)) s.off (is_off_switch (body line)) (or_parts s.off _ free).0 (or_parts (is_off_switch (body line)) _ unflagged).0 in
     ap₂ (λ (t : Standing) (off : Bool). record t { off = off }) same off

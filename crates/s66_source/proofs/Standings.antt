@@ -1,10 +1,10 @@
 -- What stands from one line to the next, and what leaves it as it is.
-use Rattle.std.proofs.Common.{◌≡◌, ◌==◌, ◌&&◌, ◌||◌, inl, inr, not, ℕ, zero, suc, min, Bool, true, false, if◌then◌else◌, List, [], ◌∷◌, ◌≤◌, Option, None, Some, nat_lt, length, get_or, take, codes, refl, sym, ap, ap₂, subst, ◌∙◌, arith}
+use Rattle.std.proofs.Common.{◌≡◌, ◌==◌, ◌-◌, ◌&&◌, ◌||◌, inl, inr, not, ℕ, zero, suc, min, Bool, true, false, if◌then◌else◌, List, [], ◌∷◌, ◌≤◌, Option, None, Some, nat_lt, length, get_or, take, codes, refl, sym, ap, ap₂, subst, ◌∙◌, arith}
 use Rattle.std.specs.Prelude.{◌⊎◌, bytes_eq, is_some}
 use Rattle.std.specs.Char.{to_ascii_uppercase}
 use Rattle.std.specs.List.{prefix_len}
 use Rattle.std.proofs.lemmas.Slice.Eq.{bytes_eq-Decides}
-use Rattle.std.proofs.lemmas.Bool.{and_parts, eqb-true, or_cases, or_left, or_parts, or_from, false_from_ne_true, not_from_true, true≢false}
+use Rattle.std.proofs.lemmas.Bool.{and_parts, eqb-true, ltb-false, or_cases, or_left, or_parts, or_from, false_from_ne_true, not_from_true, true≢false}
 use Rattle.std.proofs.lemmas.List.{length-take, take-take, take_all}
 use Rattle.s66_isa.specs.declared.instr.Instr.{Instr}
 use Rattle.s66_isa.specs.Lists.{every, some_of}
@@ -15,11 +15,11 @@ use Rattle.s66_line.proofs.UpperCase.{length-upper}
 use Rattle.s66_line.specs.Operand.{is_octal, operation_of, instr_of}
 use Rattle.s66_line.specs.declared.class.Class.{Class}
 use Rattle.s66_line.specs.declared.class.Class.TheVariants.{Comment, Other, Refused, Pad}
-use Rattle.s66_source.specs.Counts.{count_down, counted_after_one, counted_after_two, counted_alone, counting_operand, cover_of, is_covering, is_one_of, longer, range_ends}
+use Rattle.s66_source.specs.Counts.{count_down, counted_after_one, counted_after_two, counted_alone, counting_text, cover_of, covered_after, is_covering, is_one_of, nothing_covered, range_ends, repetitions_after}
 use Rattle.s66_source.specs.LeftAlone.{after_line, after_operation, bodies_after, class_at, definitions, has_operation, is_alone, is_directive, is_held, is_switch, is_off_switch, is_on_switch, is_refused, with_operation}
 use Rattle.s66_source.specs.Roles.{is_comment_class}
-use Rattle.s66_source.specs.declared.cover.Cover.{Cover}
-use Rattle.s66_source.specs.declared.cover.Cover.TheVariants.{Nothing, Lines, ToItsEnd}
+use Rattle.s66_source.specs.declared.cover.Cover.TheVariants.{Nothing}
+use Rattle.s66_source.specs.declared.cover.Covered.{Covered}
 use Rattle.s66_source.specs.declared.standing.Standing.{Standing}
 
 -- THE NAMES of operations that cover lines, or begin or end something
@@ -50,10 +50,10 @@ bodies-stay : (n : ℕ) (name : List ℕ) → is_one_of definitions name ≡ fal
 bodies-stay zero name begins ends = rw begins refl
 bodies-stay (suc n) name begins ends = rw (begins, ends) refl
 
-longer-nothing : (cover : Cover) → longer cover Nothing ≡ cover
-longer-nothing Nothing = refl
-longer-nothing (Lines n) = refl
-longer-nothing ToItsEnd = refl
+repetitions-stay : (n : ℕ) (name : List ℕ) → bytes_eq name (codes "ECHO") ≡ false → bytes_eq name (codes "DUP") ≡ false → bytes_eq name (codes "ENDD") ≡ false →
+    repetitions_after n name false ≡ n
+repetitions-stay zero name echo dup ends = rw echo refl
+repetitions-stay (suc n) name echo dup ends = rw (echo, dup, ends) refl
 
 -- what is none of them counts a line down that is covered, and does no more
 only-counts : (s : Standing) (name operand : List ℕ) → is_named name ≡ false → after_operation s name operand ≡ record s { cover = count_down s.cover false }
@@ -70,10 +70,15 @@ only-counts s name operand none =
     let ends_body : bytes_eq name (codes "ENDM") ≡ false = (or_parts (bytes_eq name (codes "ENDM")) false endm).0 in
     let nothing : cover_of name operand ≡ Nothing = rw (alone, one, two, echo, ifc) refl in
     let bodies : bodies_after s.bodies name ≡ s.bodies = bodies-stay s.bodies name begins ends_body in
-    let same : (if s.bodies == 0 then longer (count_down s.cover false) Nothing else count_down s.cover false) ≡ count_down s.cover false =
-    elim (s.bodies == 0) as (λ t. (if t then longer (count_down s.cover false) Nothing else count_down s.cover false) ≡ count_down s.cover false)
-    [ true ↦ longer-nothing (count_down s.cover false) | false ↦ refl ] in
-    rw (bodies, ends, nothing) (ap (λ cover. record s { cover = cover }) same)
+    let dup : bytes_eq name (codes "DUP") ≡ false = (or_parts (bytes_eq name (codes "DUP")) _ one).0 in
+    let endd : bytes_eq name (codes "ENDD") ≡ false = (or_parts (bytes_eq name (codes "ENDD")) _ ends).0 in
+    let outside : covered_after s.cover name (cover_of name operand) ≡ count_down s.cover false =
+    rw (nothing, ends) (ap (λ repetitions. record { lines = s.cover.lines - 1; to_end = s.cover.to_end && not false; repetitions = repetitions }) (repetitions-stay s.cover.repetitions name echo dup endd)) in
+    let within : count_down s.cover (is_one_of range_ends name) ≡ count_down s.cover false = ap (count_down s.cover) ends in
+    let same : (if s.bodies == 0 then covered_after s.cover name (cover_of name operand) else count_down s.cover (is_one_of range_ends name)) ≡ count_down s.cover false =
+    elim (s.bodies == 0) as (λ t. (if t then covered_after s.cover name (cover_of name operand) else count_down s.cover (is_one_of range_ends name)) ≡ count_down s.cover false)
+    [ true ↦ outside | false ↦ within ] in
+    ap₂ (λ (bodies : ℕ) (cover : Covered). record { off = s.off; bodies = bodies; cover = cover }) bodies same
 
 -- how they begin, but for those of IF and its kin
 abbrev beginnings : List (List ℕ)
@@ -158,7 +163,7 @@ one-more (suc n) name =
 pub bodies-grow : (cut : Bool) (s : Standing) (line : List ℕ) → (after_line cut s line).bodies ≤ suc s.bodies
 bodies-grow cut s line =
     let name : List ℕ = upper (operation (body line)) in
-    let operand : List ℕ = upper (counting_operand (body line)) in
+    let operand : List ℕ = upper (counting_text (body line)) in
     elim (cut && has_operation (body line)) as (λ t. (if t then after_operation s name operand else s).bodies ≤ suc s.bodies)
     [ true ↦ one-more s.bodies name | false ↦ omega arith ]
 
@@ -183,16 +188,21 @@ pub code-line : (after : Bool) (line : List ℕ) → is_code (class_of after lin
 code-line after line h =
     code-line-by after (is_located (body line)) (is_comment (body line)) (continues (body line)) (body line) (upper (operation (body line))) (upper (operand (body line))) refl refl h
 
-no-cover : (cover : Cover) → is_covering cover ≡ false → cover ≡ Nothing
-no-cover Nothing h = refl
-no-cover (Lines n) h = cc
-no-cover ToItsEnd h = cc
+none-over : (n : ℕ) → nat_lt 0 n ≡ false → n ≡ 0
+none-over n h = let none = ltb-false 0 n h in omega (arith, none)
+
+no-cover : (cover : Covered) → is_covering cover ≡ false → cover ≡ nothing_covered
+no-cover cover h =
+    let (lines, more) = or_parts (nat_lt 0 cover.lines) _ h in
+    let (to_end, repetitions) = or_parts cover.to_end _ more in
+    ap₂ (λ (lines : ℕ) (to_end : Bool). record { lines = lines; to_end = to_end; repetitions = cover.repetitions }) (none-over cover.lines lines) to_end
+    ∙ ap (λ repetitions. record { lines = 0; to_end = false; repetitions = repetitions }) (none-over cover.repetitions repetitions)
 
 -- a line that is not left alone comes under no definition and no count
 record IsPlain (cut : Bool) (s : Standing) (line : List ℕ) : Type 0 where
   on : s.off ≡ false
   no_switch : is_off_switch (body line) ≡ false
-  uncovered : cut ≡ true → s.cover ≡ Nothing
+  uncovered : cut ≡ true → s.cover ≡ nothing_covered
 
 plain-line : (cut continued : Bool) (s : Standing) (line : List ℕ) → is_alone cut s line continued ≡ false → IsPlain cut s line
 plain-line cut continued s line h =
@@ -214,12 +224,12 @@ pub same-off : (on_switch off off_switch : Bool) → off ≡ false → off_switc
 same-off true off off_switch none no_switch = sym none
 same-off false off off_switch none no_switch = rw (none, no_switch) refl
 
-same-open : (s : Standing) (name operand : List ℕ) → may_be_code name ≡ true → s.cover ≡ Nothing → after_operation s name operand ≡ s
+same-open : (s : Standing) (name operand : List ℕ) → may_be_code name ≡ true → s.cover ≡ nothing_covered → after_operation s name operand ≡ s
 same-open s name operand code nothing =
     only-counts s name operand (none-in (λ word. not (may_be_code word)) all_names name (not_from_true (may_be_code name) code) refl)
     ∙ ap (λ cover. record s { cover = cover }) (ap (λ cover. count_down cover false) nothing ∙ sym nothing)
 
-same-operation : (cut has : Bool) (s : Standing) (name operand : List ℕ) → (has ≡ true → may_be_code name ≡ true) → (cut ≡ true → s.cover ≡ Nothing) →
+same-operation : (cut has : Bool) (s : Standing) (name operand : List ℕ) → (has ≡ true → may_be_code name ≡ true) → (cut ≡ true → s.cover ≡ nothing_covered) →
     (if cut && has then after_operation s name operand else s) ≡ s
 same-operation false has s name operand code none = refl
 same-operation true false s name operand code none = refl
@@ -229,7 +239,7 @@ same-operation true true s name operand code none = same-open s name operand (co
 stays-plain : (cut : Bool) (s : Standing) (line : List ℕ) → IsPlain cut s line → (has_operation (body line) ≡ true → may_be_code (upper (operation (body line))) ≡ true) → after_line cut s line ≡ s
 stays-plain cut s line h code =
     let same : with_operation cut s (body line) ≡ s =
-    same-operation cut (has_operation (body line)) s (upper (operation (body line))) (upper (counting_operand (body line))) code h.uncovered in
+    same-operation cut (has_operation (body line)) s (upper (operation (body line))) (upper (counting_text (body line))) code h.uncovered in
     ap₂ (λ (t : Standing) (off : Bool). record t { off = off }) same (same-off (is_on_switch (body line)) s.off (is_off_switch (body line)) h.on h.no_switch)
 
 -- a comment has no operation

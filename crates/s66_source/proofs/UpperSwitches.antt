@@ -1,13 +1,13 @@
 -- Letters in upper case leave what is left alone as it is.
-use Rattle.std.proofs.Common.{◌≡◌, ◌-◌, ◌&&◌, ◌||◌, ℕ, Bool, true, false, if◌then◌else◌, List, [], ◌∷◌, codes, length, map, nat_lt, refl, sym, ap, ap₂, ◌∙◌, lit<}
+use Rattle.std.proofs.Common.{◌≡◌, ◌==◌, ◌-◌, ◌&&◌, ◌||◌, ℕ, Bool, true, false, if◌then◌else◌, List, [], ◌∷◌, codes, length, map, nat_lt, refl, sym, ap, ap₂, ◌∙◌, lit<}
 use Rattle.std.specs.Prelude.{bytes_eq}
 use Rattle.s66_line.specs.Class.{class_of}
-use Rattle.s66_line.specs.Fields.{after_word, body, from_operand, from_operation, skip_blanks, upper, word}
+use Rattle.s66_line.specs.Fields.{after_word, body, from_operand, from_operation, skip_blanks, upper, upper_byte, word}
 use Rattle.s66_line.specs.declared.class.Class.{Class}
 use Rattle.s66_line.specs.declared.class.Class.TheVariants.{Other}
-use Rattle.s66_line.proofs.UpperCase.{kept, length-upper, same-comment, same-continues, same-location, same-operand, same-operation, upper-after_word, upper-from_operation, upper-if, upper-skip_blanks, upper-trim, upper-twice, upper-word, upper_byte-twice}
+use Rattle.s66_line.proofs.UpperCase.{kept, length-upper, same-comment, same-continues, same-location, same-operand, same-operation, upper-after_word, upper-from_operation, upper-if, upper-skip_blanks, upper-trim, upper-twice, upper-word}
 use Rattle.s66_source.proofs.ReadBack.{class_of_body}
-use Rattle.s66_source.specs.Counts.{counting_operand, is_covering}
+use Rattle.s66_source.specs.Counts.{before_comma, counting_text, is_covering}
 use Rattle.s66_source.specs.LeftAlone.{Flagged, after_body, after_line, class_at, is_alone, is_continued, is_directive, is_switch, is_off_switch, is_on_switch, is_refused, flagged_from, with_operation}
 use Rattle.s66_source.specs.declared.standing.Standing.{Standing}
 
@@ -31,25 +31,34 @@ same-switch : (second line : List ℕ) → is_switch second (upper line) ≡ is_
 same-switch second line =
     ap₂ (λ first next. bytes_eq first (codes "*S66") && bytes_eq next second) (same-word line) (ap (λ l. upper (word l)) (upper-next_word line) ∙ same-word (skip_blanks (after_word line)))
 
+upper-before_comma : (bytes : List ℕ) → before_comma (upper bytes) ≡ upper (before_comma bytes)
+upper-before_comma [] = refl
+upper-before_comma (b ∷ bytes) =
+    ap (λ t. if t then [] else upper_byte b ∷ before_comma (upper bytes)) (kept b 44 (lit< tt))
+    ∙ ap (λ more. if b == 44 then [] else upper_byte b ∷ more) (upper-before_comma bytes)
+    ∙ sym (upper-if (b == 44) [] (b ∷ before_comma bytes))
+
 same-directive : (line : List ℕ) → is_directive (upper line) ≡ is_directive line
 same-directive [] = refl
-same-directive (s ∷ []) = refl
-same-directive (s ∷ b ∷ line) = rw (kept s 42 (lit< tt), upper_byte-twice b) refl
+same-directive (s ∷ line) =
+    let name : upper (before_comma (word (upper line))) ≡ upper (before_comma (word line)) =
+    ap (λ w. upper (before_comma w)) (upper-word line) ∙ ap upper (upper-before_comma (word line)) ∙ upper-twice (before_comma (word line)) in
+    rw (kept s 42 (lit< tt), name) refl
 
 -- WHAT AN OPERATION COVERS
 
 upper-from_operand : (line : List ℕ) → from_operand (upper line) ≡ upper (from_operand line)
 upper-from_operand line = ap (λ l. skip_blanks (after_word l)) (upper-from_operation line) ∙ upper-next_word (from_operation line)
 
-same-counting : (line : List ℕ) → upper (counting_operand (upper line)) ≡ upper (counting_operand line)
+same-counting : (line : List ℕ) → upper (counting_text (upper line)) ≡ upper (counting_text line)
 same-counting line =
     let rest : List ℕ = from_operand line in
     let near : Bool = nat_lt (length line - length rest) 29 in
-    ap (λ r. upper (if nat_lt (length (upper line) - length r) 29 then word r else [])) (upper-from_operand line)
-    ∙ ap₂ (λ m n. upper (if nat_lt (m - n) 29 then word (upper rest) else [])) (length-upper line) (length-upper rest)
-    ∙ upper-if near (word (upper rest)) []
-    ∙ ap (λ operand. if near then operand else []) (same-word rest)
-    ∙ sym (upper-if near (word rest) [])
+    ap (λ r. upper (if nat_lt (length (upper line) - length r) 29 then r else [])) (upper-from_operand line)
+    ∙ ap₂ (λ m n. upper (if nat_lt (m - n) 29 then upper rest else [])) (length-upper line) (length-upper rest)
+    ∙ upper-if near (upper rest) []
+    ∙ ap (λ text. if near then text else []) (upper-twice rest)
+    ∙ sym (upper-if near rest [])
 
 same-with_operation : (cut : Bool) (s : Standing) (line : List ℕ) → with_operation cut s (upper line) ≡ with_operation cut s line
 same-with_operation cut s line = rw (same-comment line, same-continues line, same-operation line, same-counting line) refl

@@ -1,9 +1,10 @@
 -- To be believed: which lines an operation of the assembler covers that counts the lines after it.
-use Rattle.std.specs.Prelude.{ℕ, zero, suc, Bool, true, false, ◌&&◌, ◌==◌, ◌+◌, ◌*◌, ◌-◌, if◌then◌else◌, min, max, List, [], ◌∷◌, Option, None, Some, codes, length, nat_le, nat_lt, bytes_eq}
+use Rattle.std.specs.Prelude.{ℕ, zero, suc, Bool, true, false, not, ◌&&◌, ◌||◌, ◌==◌, ◌+◌, ◌*◌, ◌-◌, if◌then◌else◌, min, max, List, [], ◌∷◌, Option, None, Some, codes, length, nat_le, nat_lt, bytes_eq, is_some}
 use Rattle.s66_isa.specs.Lists.{every, some_of}
-use Rattle.s66_line.specs.Fields.{from_operand, word}
+use Rattle.s66_line.specs.Fields.{from_operand, is_blank, word}
 use Rattle.s66_source.specs.declared.cover.Cover.{Cover}
 use Rattle.s66_source.specs.declared.cover.Cover.TheVariants.{Nothing, Lines, ToItsEnd}
+use Rattle.s66_source.specs.declared.cover.Covered.{Covered}
 use Rattle.s66_source.specs.declared.limits.TheConstants.{SOURCE_LINES_LIMIT}
 
 -- NAMES, in upper case
@@ -71,53 +72,77 @@ abbrev pub after_byte : ℕ → List ℕ → Option (List ℕ)
 after_byte d [] = None
 after_byte d (b ∷ bytes) = if b == d then Some bytes else after_byte d bytes
 
--- of what follows the strings of an IFC
+-- of the word that follows the strings of an IFC
+abbrev pub cover_after_third : List ℕ → Cover
+cover_after_third [] = Nothing
+cover_after_third (b ∷ count) = if b == 44 then cover_by_count count else ToItsEnd
+
 abbrev pub cover_after_strings : Option (List ℕ) → Cover
 cover_after_strings None = ToItsEnd
-cover_after_strings (Some []) = Nothing
-cover_after_strings (Some (b ∷ count)) = if b == 44 then cover_by_count count else ToItsEnd
+cover_after_strings (Some rest) = cover_after_third (word rest)
 
 -- of what follows the first string, whose ends this byte marks
 abbrev pub cover_after_string : ℕ → Option (List ℕ) → Cover
 cover_after_string d None = ToItsEnd
 cover_after_string d (Some rest) = cover_after_strings (after_byte d rest)
 
--- OPERATOR,/STRING/STRING/,COUNT, in which another byte may be in the place of the three that are alike
+-- OPERATOR,/STRING/STRING/,COUNT, in which another byte but a blank may be in the place of the three that are alike; the strings may
+-- hold blanks
 abbrev pub cover_by_strings : List ℕ → Cover
 cover_by_strings [] = ToItsEnd
-cover_by_strings (d ∷ rest) = cover_after_string d (after_byte d rest)
+cover_by_strings (d ∷ rest) = if is_blank d then ToItsEnd else cover_after_string d (after_byte d rest)
 
--- an operand that begins before column 30, in which a remark may begin
-abbrev pub counting_operand : List ℕ → List ℕ
-counting_operand line = if nat_lt (length line - length (from_operand line)) 29 then word (from_operand line) else []
+-- what follows the first comma of the word in front
+abbrev pub strings_in : List ℕ → List ℕ
+strings_in text = if is_some (after_byte 44 (word text)) then after_comma text else []
 
--- WHAT AN OPERATION COVERS, by its name in upper case and its operand
+-- a line from its operand on, if that begins before column 30, in which a remark may begin
+abbrev pub counting_text : List ℕ → List ℕ
+counting_text line = if nat_lt (length line - length (from_operand line)) 29 then from_operand line else []
+
+-- WHAT AN OPERATION COVERS, by its name in upper case and the text from its operand on
 
 abbrev pub cover_of : List ℕ → List ℕ → Cover
-cover_of name operand =
-    if is_one_of counted_alone name then cover_by_count operand
-    else (if is_one_of counted_after_one name then cover_by_count (after_comma operand)
-    else (if is_one_of counted_after_two name then cover_by_count (after_comma (after_comma operand))
-    else (if bytes_eq name (codes "ECHO") then cover_by_count (before_comma operand)
-    else (if bytes_eq name (codes "IFC") then cover_by_strings (after_comma operand)
+cover_of name text =
+    if is_one_of counted_alone name then cover_by_count (word text)
+    else (if is_one_of counted_after_one name then cover_by_count (after_comma (word text))
+    else (if is_one_of counted_after_two name then cover_by_count (after_comma (after_comma (word text)))
+    else (if bytes_eq name (codes "ECHO") then cover_by_count (before_comma (word text))
+    else (if bytes_eq name (codes "IFC") then cover_by_strings (strings_in text)
     else Nothing))))
+
+abbrev pub is_counting : Cover → Bool
+is_counting Nothing = false
+is_counting cover = true
 
 -- WHAT IS STILL COVERED after one line more
 
-abbrev pub is_covering : Cover → Bool
-is_covering Nothing = false
-is_covering cover = true
+abbrev pub nothing_covered : Covered
+nothing_covered = record { lines = 0; to_end = false; repetitions = 0 }
+
+abbrev pub is_covering : Covered → Bool
+is_covering c = nat_lt 0 c.lines || (c.to_end || nat_lt 0 c.repetitions)
 
 -- after a line, by whether its operation ends a part
-abbrev pub count_down : Cover → Bool → Cover
-count_down Nothing ends = Nothing
-count_down (Lines n) ends = lines_covered (n - 1)
-count_down ToItsEnd ends = if ends then Nothing else ToItsEnd
+abbrev pub count_down : Covered → Bool → Covered
+count_down c ends = record { lines = c.lines - 1; to_end = c.to_end && not ends; repetitions = c.repetitions }
 
--- what covers more
-abbrev pub longer : Cover → Cover → Cover
-longer ToItsEnd other = ToItsEnd
-longer cover ToItsEnd = ToItsEnd
-longer Nothing other = other
-longer cover Nothing = cover
-longer (Lines m) (Lines n) = Lines (max m n)
+-- with what an operation covers
+abbrev pub with_cover : Covered → Cover → Covered
+with_cover c Nothing = c
+with_cover c (Lines n) = record { lines = max c.lines n; to_end = c.to_end; repetitions = c.repetitions }
+with_cover c ToItsEnd = record { lines = c.lines; to_end = true; repetitions = c.repetitions }
+
+-- how many repetitions without a count are open after an operation, from the outermost ECHO on, which repeats lines with names in the
+-- places of others; no more than a source has lines
+abbrev pub repetitions_after : ℕ → List ℕ → Bool → ℕ
+repetitions_after zero name counts = if bytes_eq name (codes "ECHO") && not counts then 1 else 0
+repetitions_after (suc n) name counts =
+    if (bytes_eq name (codes "ECHO") || bytes_eq name (codes "DUP")) && not counts then min (suc (suc n)) SOURCE_LINES_LIMIT
+    else (if bytes_eq name (codes "ENDD") then n else suc n)
+
+-- after an operation outside of definitions, which covers this
+abbrev pub covered_after : Covered → List ℕ → Cover → Covered
+covered_after c name cover =
+    let counted = with_cover (count_down c (is_one_of range_ends name)) cover in
+    record { lines = counted.lines; to_end = counted.to_end; repetitions = repetitions_after c.repetitions name (is_counting cover) }

@@ -1,11 +1,10 @@
 -- To be believed: which lines of a source are left alone. Such a line is an Other line, whatever it holds.
-use Rattle.std.specs.Prelude.{ℕ, zero, suc, Bool, true, false, not, ◌&&◌, ◌||◌, ◌==◌, if◌then◌else◌, List, [], ◌∷◌, codes, nat_le, nat_lt, bytes_eq}
+use Rattle.std.specs.Prelude.{ℕ, zero, suc, Bool, true, false, not, ◌&&◌, ◌||◌, ◌==◌, if◌then◌else◌, List, [], ◌∷◌, codes, nat_lt, bytes_eq}
 use Rattle.s66_line.specs.Class.{class_of}
-use Rattle.s66_line.specs.Fields.{after_word, body, continues, is_comment, lines_of, operation, skip_blanks, upper, upper_byte, word}
+use Rattle.s66_line.specs.Fields.{after_word, body, continues, is_comment, lines_of, operation, skip_blanks, upper, word}
 use Rattle.s66_line.specs.declared.class.Class.{Class}
 use Rattle.s66_line.specs.declared.class.Class.TheVariants.{Other, Refused}
-use Rattle.s66_source.specs.Counts.{count_down, counting_operand, cover_of, is_covering, is_one_of, longer, range_ends}
-use Rattle.s66_source.specs.declared.cover.Cover.TheVariants.{Nothing}
+use Rattle.s66_source.specs.Counts.{before_comma, count_down, counting_text, cover_of, covered_after, is_covering, is_one_of, nothing_covered, range_ends}
 use Rattle.s66_source.specs.declared.standing.Standing.{Standing}
 
 -- a text, and whether it is read with `--cut`
@@ -29,13 +28,17 @@ is_off_switch line = is_switch (codes "OFF") line
 abbrev pub is_on_switch : List ℕ → Bool
 is_on_switch line = is_switch (codes "ON") line
 
-abbrev pub is_letter : ℕ → Bool
-is_letter b = nat_le 65 (upper_byte b) && nat_le (upper_byte b) 90
+-- the directives to programs that keep libraries of sources, as UPDATE and MODIFY
+abbrev pub directives : List (List ℕ)
+directives =
+    codes "ADDFILE" ∷ codes "BEFORE" ∷ codes "CALL" ∷ codes "CALLALL" ∷ codes "CALLC" ∷ codes "COMDECK" ∷ codes "COPY" ∷ codes "CWEOR" ∷ codes "DECK"
+    ∷ codes "DEFINE" ∷ codes "DELETE" ∷ codes "DO" ∷ codes "DONT" ∷ codes "ELSE" ∷ codes "ENDIF" ∷ codes "ENDTEXT" ∷ codes "IDENT" ∷ codes "IF"
+    ∷ codes "IFCALL" ∷ codes "INSERT" ∷ codes "MOVE" ∷ codes "NIFCALL" ∷ codes "READ" ∷ codes "RESTORE" ∷ codes "TEXT" ∷ codes "WEOR" ∷ codes "YANK" ∷ []
 
--- a comment that is a directive to a program that keeps libraries of sources: a letter follows the star
+-- a comment whose star one of them directly follows, in upper or in lower case, and then a blank, a comma or nothing
 abbrev pub is_directive : List ℕ → Bool
-is_directive (s ∷ b ∷ line) = s == 42 && is_letter b
-is_directive line = false
+is_directive [] = false
+is_directive (s ∷ line) = s == 42 && is_one_of directives (upper (before_comma (word line)))
 
 -- neither a comment nor a continuation, so that it may have an operation
 abbrev pub has_operation : List ℕ → Bool
@@ -49,7 +52,7 @@ is_refused class = false
 
 -- at the beginning of a source
 abbrev pub at_first : Standing
-at_first = record { off = false; bodies = 0; cover = Nothing }
+at_first = record { off = false; bodies = 0; cover = nothing_covered }
 
 -- the operations that begin a definition
 abbrev pub definitions : List (List ℕ)
@@ -60,24 +63,22 @@ abbrev pub bodies_after : ℕ → List ℕ → ℕ
 bodies_after zero name = if is_one_of definitions name then 1 else 0
 bodies_after (suc n) name = if is_one_of definitions name then suc (suc n) else (if bytes_eq name (codes "ENDM") then n else suc n)
 
--- after an operation and its operand; what a definition holds covers nothing yet
+-- after an operation and the text from its operand on; what a definition holds covers nothing yet
 abbrev pub after_operation : Standing → List ℕ → List ℕ → Standing
-after_operation s name operand =
+after_operation s name text =
     record {
       off = s.off;
       bodies = bodies_after s.bodies name;
-      cover =
-          if s.bodies == 0 then longer (count_down s.cover (is_one_of range_ends name)) (cover_of name operand)
-          else count_down s.cover (is_one_of range_ends name);
+      cover = if s.bodies == 0 then covered_after s.cover name (cover_of name text) else count_down s.cover (is_one_of range_ends name);
     }
 
 abbrev pub off_after : Bool → List ℕ → Bool
 off_after off line = if is_on_switch line then false else (off || is_off_switch line)
 
--- after the operation of a line; its operand is in upper case too, since letters may end the strings of an IFC
+-- after the operation of a line; the text after it is in upper case too, since letters may end the strings of an IFC
 abbrev pub with_operation : Bool → Standing → List ℕ → Standing
 with_operation cut s line =
-    if cut && has_operation line then after_operation s (upper (operation line)) (upper (counting_operand line)) else s
+    if cut && has_operation line then after_operation s (upper (operation line)) (upper (counting_text line)) else s
 
 -- after a line without the carriage returns at its end
 abbrev pub after_body : Bool → Standing → List ℕ → Standing

@@ -1,7 +1,8 @@
 ghost use Rattle.std.specs.Prelude.{ℕ, List, ◌≡◌, ◌≤◌, map, min, true, Some, None, option_map, length};
 ghost use Rattle.std.specs.Borrow.{Bor};
 ghost use Rattle.s66_isa.specs.Lists.{every};
-ghost use Rattle.s66_source.specs.Counts.{after_byte, after_comma, before_comma, counting_operand, cover_after_string, cover_after_strings, cover_by_count, cover_by_strings, cover_of, is_decimal, is_numeral, is_one_of, spelled_after};
+ghost use Rattle.s66_line.specs.Fields.{is_blank};
+ghost use Rattle.s66_source.specs.Counts.{after_byte, after_comma, before_comma, counting_text, cover_after_string, cover_after_strings, cover_after_third, cover_by_count, cover_by_strings, cover_of, is_decimal, is_numeral, is_one_of, spelled_after, strings_in};
 ghost use Rattle.s66_source.specs.declared.limits.TheConstants.{SOURCE_LINES_LIMIT};
 
 use crate::cover::Cover;
@@ -75,6 +76,12 @@ fn capped_number(digits: &[u8]) -> u32
     number
 }
 
+fn is_blank(byte: u8) -> bool
+    ensures { result ≡ is_blank byte }
+{
+    byte == b' ' || byte == b'\t'
+}
+
 fn cover_by_count(count: &[u8]) -> Cover
     ensures { result ≡ cover_by_count count.now }
 {
@@ -106,7 +113,7 @@ fn after_comma(bytes: &[u8]) -> &[u8]
 }
 
 /// The bytes before the first comma, or all.
-fn before_comma(bytes: &[u8]) -> &[u8]
+pub(crate) fn before_comma(bytes: &[u8]) -> &[u8]
     ensures { result.now ≡ before_comma bytes.now }
 {
     match memchr(b',', bytes) {
@@ -115,15 +122,27 @@ fn before_comma(bytes: &[u8]) -> &[u8]
     }
 }
 
-/// What an `IFC` covers, by what comes after its second string.
+/// What an `IFC` covers, by the word that follows its second string.
+fn cover_after_third(word: &[u8]) -> Cover
+    ensures { result ≡ cover_after_third word.now }
+{
+    match word {
+        [] => Cover::Nothing,
+        [b',', count @ ..] => cover_by_count(count),
+        _ => Cover::ToItsEnd,
+    }
+}
+
+/// What an `IFC` covers, by what comes after its second string, if that is found.
 fn cover_after_strings(rest: Option<&[u8]>) -> Cover
     ensures { result ≡ cover_after_strings (option_map (λ rest. rest.now) rest.entry) }
 {
     match rest {
         None => Cover::ToItsEnd,
-        Some([]) => Cover::Nothing,
-        Some([b',', count @ ..]) => cover_by_count(count),
-        Some(_) => Cover::ToItsEnd,
+        Some(rest) => {
+            let (word, _) = split_word(rest);
+            cover_after_third(word)
+        }
     }
 }
 
@@ -134,28 +153,43 @@ fn cover_by_strings(strings: &[u8]) -> Cover
     let [delimiter, rest @ ..] = strings else {
         return Cover::ToItsEnd;
     };
+    if is_blank(*delimiter) {
+        return Cover::ToItsEnd;
+    }
     match after_byte(*delimiter, rest) {
         None => Cover::ToItsEnd,
         Some(second) => cover_after_strings(after_byte(*delimiter, second)),
     }
 }
 
-/// The operand of a line that is no comment, if it begins before column 30.
-pub fn counting_operand(line: &[u8]) -> &[u8]
-    ensures { result.now ≡ counting_operand line.now }
+/// The strings of an `IFC`, of which this is the text from its operand on: what follows the first comma of the word in front.
+fn strings_in(text: &[u8]) -> &[u8]
+    ensures { result.now ≡ strings_in text.now }
 {
-    let rest = from_operand(line);
-    if line.len() - rest.len() >= REMARK_COLUMN {
-        return &[];
+    let (word, _) = split_word(text);
+    match after_byte(b',', word) {
+        Some(_) => after_comma(text),
+        None => &[],
     }
-    let (operand, _) = split_word(rest);
-    operand
 }
 
-/// What an operation covers, by its name in upper case and its operand.
-pub fn cover_of(name: &[u8], operand: &[u8]) -> Cover
-    ensures { result ≡ cover_of name.now operand.now }
+/// A line that is no comment from its operand on, if that begins before column 30.
+pub fn counting_text(line: &[u8]) -> &[u8]
+    ensures { result.now ≡ counting_text line.now }
 {
+    let text = from_operand(line);
+    if line.len() - text.len() >= REMARK_COLUMN {
+        &[]
+    } else {
+        text
+    }
+}
+
+/// What an operation covers, by its name in upper case and the text from its operand on.
+pub fn cover_of(name: &[u8], text: &[u8]) -> Cover
+    ensures { result ≡ cover_of name.now text.now }
+{
+    let (operand, _) = split_word(text);
     if is_one_of(&COUNTED_ALONE, name) {
         cover_by_count(operand)
     } else if is_one_of(&COUNTED_AFTER_ONE, name) {
@@ -165,7 +199,7 @@ pub fn cover_of(name: &[u8], operand: &[u8]) -> Cover
     } else if name == b"ECHO".as_slice() {
         cover_by_count(before_comma(operand))
     } else if name == b"IFC".as_slice() {
-        cover_by_strings(after_comma(operand))
+        cover_by_strings(strings_in(text))
     } else {
         Cover::Nothing
     }

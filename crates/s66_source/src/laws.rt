@@ -1,4 +1,4 @@
-ghost use Rattle.std.specs.Prelude.{◌≡◌, ◌≤◌, ℕ, List, ◌∷◌, ◌++◌, Some, None, Ok, Err, ◌≢◌, Bool, true, false, map, length, codes, [], not};
+ghost use Rattle.std.specs.Prelude.{◌≡◌, ◌≤◌, ℕ, List, ◌∷◌, ◌++◌, Some, None, Ok, Err, ◌≢◌, Bool, true, false, map, length, codes, [], not, replicate};
 ghost use Rattle.s66_isa.specs.Table.{instr, instr_at};
 ghost use Rattle.s66_isa.specs.Lists.{Among, tally, every};
 ghost use Rattle.s66_line.specs.Fields.{is_newline, upper, body, lines_of};
@@ -74,23 +74,28 @@ pub fn line_examples()
     ensures copied_outside { lines_that is_copied (plain outside_source) ≡ 1 ∷ 2 ∷ 3 ∷ 5 ∷ 8 ∷ [] }
 {}
 
-/// What operations cover, by their operands.
+/// What operations cover, by the text from their operands on.
 pub fn count_examples()
+    ensures alone { map (λ name. cover_of name (codes "1")) (codes "SKIP" ∷ codes "ELSE" ∷ codes "IFCP" ∷ codes "IFCP6" ∷ codes "IFCP7" ∷ codes "IFPP" ∷ codes "IFPP6" ∷ codes "IFPP7" ∷ []) ≡ replicate 8 (Lines 1) }
+    ensures after_one { map (λ name. cover_of name (codes "N,1")) (codes "DUP" ∷ codes "IFPL" ∷ codes "IFMI" ∷ []) ≡ replicate 3 (Lines 1) }
+    ensures after_two { map (λ name. cover_of name (codes "A,B,1")) (codes "IF" ∷ codes "IFEQ" ∷ codes "IFNE" ∷ codes "IFGT" ∷ codes "IFGE" ∷ codes "IFLT" ∷ codes "IFLE" ∷ []) ≡ replicate 7 (Lines 1) }
     ensures dup { map (cover_of (codes "DUP")) (codes "3,2" ∷ codes "N" ∷ codes "N,0" ∷ []) ≡ Lines 2 ∷ Nothing ∷ Nothing ∷ [] }
     ensures echo { map (cover_of (codes "ECHO")) (codes "2,P=(A,B)" ∷ codes ",P=(A,B)" ∷ []) ≡ Lines 2 ∷ Nothing ∷ [] }
     ensures compared { map (cover_of (codes "IFEQ")) (codes "A,B,2" ∷ codes "A,1" ∷ codes "A,B,N" ∷ []) ≡ Lines 2 ∷ Nothing ∷ ToItsEnd ∷ [] }
     ensures attribute { cover_of (codes "IF") (codes "DEF,A,4") ≡ Lines 4 }
     ensures strings { map (cover_of (codes "IFC")) (codes "EQ,/A,B/C/,3" ∷ codes "EQ,/A/B/" ∷ codes "EQ,AB" ∷ []) ≡ Lines 3 ∷ Nothing ∷ ToItsEnd ∷ [] }
+    ensures blanks { map (cover_of (codes "IFC")) (codes "EQ,* *A*,1" ∷ codes "EQ,*A B* *,0" ∷ codes "EQ,*A*B* ,1" ∷ codes "EQ,*A B*C,1" ∷ codes "EQ, *A*B*,1" ∷ codes "EQ *,A*B*" ∷ []) ≡ Lines 1 ∷ Nothing ∷ Nothing ∷ ToItsEnd ∷ ToItsEnd ∷ ToItsEnd ∷ [] }
     ensures positive { cover_of (codes "IFPL") (codes "N") ≡ Nothing }
     ensures negative { cover_of (codes "IFMI") (codes "N,10") ≡ Lines 10 }
     ensures otherwise { cover_of (codes "ELSE") (codes "2") ≡ Lines 2 }
     ensures skip { map (cover_of (codes "SKIP")) (codes "99999999999999999999" ∷ codes "0" ∷ []) ≡ Lines 20000 ∷ Nothing ∷ [] }
+    ensures no_number { map (cover_of (codes "SKIP")) (codes "1,2" ∷ codes "1  REMARK" ∷ []) ≡ ToItsEnd ∷ Lines 1 ∷ [] }
     ensures other { cover_of (codes "VFD") (codes "60/0") ≡ Nothing }
 {}
 
 /// Which lines of small sources are left alone: by switches, of which the last is to the end if no switch ends it; and with `--cut` in
-/// definitions, one in the other, under counts, of which a comment is none, directives, lines with an operand that is not taken,
-/// and what is continued. An operand in column 30 or later is a remark.
+/// definitions, one in the other, under counts, of which a comment is none and each has its own end, in repetitions by `ECHO`,
+/// directives, lines with an operand that is not taken, and what is continued. An operand in column 30 or later is a remark.
 pub fn left_alone_examples()
     ensures switches { map (λ (m : Flagged). m.alone) (flagged_lines (plain (codes "*S66 OFF  BY HAND\n  BX6 X1\n*s66 on\n  BX6 X1\n"))) ≡ true ∷ true ∷ true ∷ false ∷ [] }
     ensures switches_cut { map (λ (m : Flagged). m.alone) (flagged_lines (record { cut = true; text = codes "*S66 OFF  BY HAND\n  BX6 X1\n*s66 on\n  BX6 X1\n" })) ≡ true ∷ true ∷ true ∷ false ∷ [] }
@@ -100,6 +105,11 @@ pub fn left_alone_examples()
     ensures no_end { map (λ (m : Flagged). m.alone) (flagged_lines (record { cut = true; text = codes "M MACRO\n  BX6 X1\n  BX6 X1\n" })) ≡ false ∷ true ∷ true ∷ [] }
     ensures counted { map (λ (m : Flagged). m.alone) (flagged_lines (record { cut = true; text = codes "  DUP 2,2\n  BX6 X1\n* NOTE\n  BX6 X1\n  BX6 X1\n" })) ≡ false ∷ true ∷ true ∷ true ∷ false ∷ [] }
     ensures to_its_end { map (λ (m : Flagged). m.alone) (flagged_lines (record { cut = true; text = codes "  IFEQ A,B,N\n  BX6 X1\n  SA1 A1\n  ENDIF\n  BX6 X1\n" })) ≡ false ∷ true ∷ true ∷ true ∷ false ∷ [] }
+    ensures counted_around { map (λ (m : Flagged). m.alone) (flagged_lines (record { cut = true; text = codes "  DUP 2,5\n  IFEQ A,B,N\n  BX0 X1\n  ENDIF\n  SA1 A1\n  BX6 X1\n  BX7 X2\n" })) ≡ false ∷ true ∷ true ∷ true ∷ true ∷ true ∷ false ∷ [] }
+    ensures counted_within { map (λ (m : Flagged). m.alone) (flagged_lines (record { cut = true; text = codes "  SKIP N\n  IFCP 3\n  ENDIF\n  SA1 A1\n  BX6 X1\n  BX7 X2\n" })) ≡ false ∷ true ∷ true ∷ true ∷ true ∷ false ∷ [] }
+    ensures repeated { map (λ (m : Flagged). m.alone) (flagged_lines (record { cut = true; text = codes "  ECHO ,R=(B2,B3)\n  DUP 2\n  SX7 R\n  ENDD\n  SB3 B1\n  ENDD\n  SB1 1\n" })) ≡ false ∷ true ∷ true ∷ true ∷ true ∷ true ∷ false ∷ [] }
+    ensures repeated_alike { map (λ (m : Flagged). m.alone) (flagged_lines (record { cut = true; text = codes "  DUP 3\n  SX7 B1\n  ENDD\n  ENDD\n  SB1 1\n" })) ≡ false ∷ false ∷ false ∷ false ∷ false ∷ [] }
+    ensures directives { map (λ (m : Flagged). m.alone) (flagged_lines (record { cut = true; text = codes "*call COMX\n*IF,DEF,A\n*ENDIF\r\n*CALLS X\n*THE NEXT\n* IF A\n*\n" })) ≡ true ∷ true ∷ true ∷ false ∷ false ∷ false ∷ false ∷ [] }
     ensures directive { map (λ (m : Flagged). m.alone) (flagged_lines (record { cut = true; text = codes "  BX6 X1\n*IF DEF,A\n  BX6 X2\n" })) ≡ false ∷ true ∷ false ∷ [] }
     ensures bad_operand { map (λ (m : Flagged). m.alone) (flagged_lines (record { cut = true; text = codes "  BX6 X1\n  BX6 Q1\n" })) ≡ false ∷ true ∷ [] }
     ensures continued { map (λ (m : Flagged). m.alone) (flagged_lines (record { cut = true; text = codes "  BX6 X1\n, X2\n  BX6 X3\n" })) ≡ true ∷ true ∷ false ∷ [] }

@@ -15,8 +15,8 @@ mod reader;
 mod source;
 mod standing;
 
-pub use counts::{are_digits, counting_operand, cover_of, is_decimal_digit, is_one_of};
-pub use cover::Cover;
+pub use counts::{are_digits, counting_text, cover_of, is_decimal_digit, is_one_of};
+pub use cover::{Cover, Covered};
 pub use error::SourceError;
 pub use laws::{
     block_examples, case_law, copied_law, count_examples, cut_law, left_alone_examples,
@@ -27,4 +27,4 @@ pub use limits::SOURCE_LINES_LIMIT;
 pub use placed::Placed;
 pub use printer::print_source;
 pub use source::{Source, read_source, read_source_with};
-pub use standing::{DEFINITIONS, Standing, is_directive, is_switch};
+pub use standing::{Standing, is_directive, is_switch};

@@ -1,21 +1,21 @@
-ghost use Rattle.std.specs.Prelude.{◌≡◌, ◌≤◌, ◌<◌, ◌||◌, suc, true, bytes_eq, codes, length, take};
+ghost use Rattle.std.specs.Prelude.{◌≡◌, ◌≤◌, ◌<◌, ◌&&◌, ◌||◌, suc, true, bytes_eq, codes, length, take};
 ghost use Rattle.s66_line.specs.Class.{IsSpelled, class_of, is_code};
 ghost use Rattle.s66_line.specs.Fields.{body, from_operation, is_comment, label_bytes, operation, upper};
-ghost use Rattle.s66_source.specs.Counts.{counting_operand};
+ghost use Rattle.s66_source.specs.Counts.{counting_text};
 ghost use Rattle.s66_source.specs.Roles.{is_comment_class};
-ghost use Rattle.s66_source.specs.LeftAlone.{after_line, after_operation, at_first, bodies_after, class_at, is_alone, is_directive, is_held, is_switch, with_operation};
+ghost use Rattle.s66_source.specs.LeftAlone.{after_line, after_operation, at_first, bodies_after, class_at, is_alone, is_directive, is_held, is_refused, is_switch, with_operation};
 ghost use Rattle.s66_line.specs.declared.limits.TheConstants.{LINE_BYTES_LIMIT, TEXT_LIMIT};
 ghost use Rattle.s66_source.specs.declared.limits.TheConstants.{SOURCE_LINES_LIMIT};
 
-use crate::counts::{RANGE_ENDS, counting_operand, cover_of, is_one_of};
-use crate::cover::Cover;
+use crate::counts::{RANGE_ENDS, before_comma, counting_text, cover_of, is_one_of};
+use crate::cover::Covered;
 use crate::operation::{has_operation, is_ordinary, is_upper_case};
 use s66_line::{
     Class, Classified, body_of, classify, fields_of, operation_and_operand, split_word, upper_case,
 };
 
 /// The operations that begin a definition.
-pub const DEFINITIONS: [&[u8]; 3] = [b"MACRO", b"MACROE", b"OPDEF"];
+const DEFINITIONS: [&[u8]; 3] = [b"MACRO", b"MACROE", b"OPDEF"];
 
 /// What stands from one line of a source to the next.
 #[derive(Clone, Copy)]
@@ -24,8 +24,8 @@ pub struct Standing {
     pub off: bool,
     /// How many definitions are open.
     pub bodies: u32,
-    /// What is still covered by a count.
-    pub cover: Cover,
+    /// What is still covered by counts and repetitions.
+    pub cover: Covered,
 }
 
 /// Whether a word is this name, which is in upper case and short, but for the case of its letters.
@@ -36,12 +36,23 @@ fn is_name(word: &[u8], name: &[u8]) -> bool
     word.len() == name.len() && upper_case(word).as_slice() == name
 }
 
-/// Whether a body is a directive: a comment whose star is directly followed by a letter.
+/// The directives to programs that keep libraries of sources.
+const DIRECTIVES: [&[u8]; 27] = [
+    b"ADDFILE", b"BEFORE", b"CALL", b"CALLALL", b"CALLC", b"COMDECK", b"COPY", b"CWEOR", b"DECK",
+    b"DEFINE", b"DELETE", b"DO", b"DONT", b"ELSE", b"ENDIF", b"ENDTEXT", b"IDENT", b"IF",
+    b"IFCALL", b"INSERT", b"MOVE", b"NIFCALL", b"READ", b"RESTORE", b"TEXT", b"WEOR", b"YANK",
+];
+
+/// Whether a body is a directive: a comment whose star is directly followed by the name of one.
 pub fn is_directive(body: &[u8]) -> bool
+    requires { length body.now ≤ LINE_BYTES_LIMIT }
     ensures { result ≡ is_directive body.now }
 {
     match body {
-        [b'*', byte, ..] => byte.is_ascii_alphabetic(),
+        [b'*', rest @ ..] => {
+            let (word, _) = split_word(rest);
+            is_one_of(&DIRECTIVES, upper_case(before_comma(word)).as_slice())
+        }
         _ => false,
     }
 }
@@ -83,11 +94,12 @@ fn is_switch_line(line: &[u8], second: &[u8]) -> bool
     begins_switch(line) && is_switch(body_of(line), second)
 }
 
-/// Whether a line is a directive, as carriage returns at its end don't change.
+/// Whether a line is a directive.
 fn is_directive_line(line: &[u8]) -> bool
+    requires { length line.now ≤ LINE_BYTES_LIMIT }
     ensures { result ≡ is_directive (body line.now) }
 {
-    is_directive(line)
+    is_directive(body_of(line))
 }
 
 /// How many definitions are open after an operation, whose name is in upper case, if `bodies` were before it.
@@ -148,6 +160,13 @@ fn is_settled(class: &Class) -> bool
     class.is_code() || matches!(class, Class::Comment)
 }
 
+/// Whether a line of this class is left alone rather than refused.
+fn is_passed_over(cut: bool, class: &Class) -> bool
+    ensures { result ≡ (cut && is_refused class.now) }
+{
+    cut && matches!(class, Class::Refused)
+}
+
 impl Standing {
     /// Before the first line.
     pub fn at_first() -> Standing
@@ -156,12 +175,13 @@ impl Standing {
         Standing {
             off: false,
             bodies: 0,
-            cover: Cover::Nothing,
+            cover: Covered::nothing(),
         }
     }
 
     /// Whether the next line is left alone for what comes before and after it, and for being a switch or a directive.
     fn holds(&self, cut: bool, line: &[u8], continued: bool) -> bool
+        requires { length line.now ≤ LINE_BYTES_LIMIT }
         ensures { result ≡ is_held cut self.now line.now continued }
     {
         self.off
@@ -192,22 +212,21 @@ impl Standing {
             return LEFT_ALONE;
         }
         let classified = classify_line(after_code, line);
-        if cut && matches!(classified.class, Class::Refused) {
+        if is_passed_over(cut, &classified.class) {
             return LEFT_ALONE;
         }
         classified
     }
 
-    /// After an operation, whose name and operand are in upper case.
-    fn pass_named(&mut self, name: &[u8], operand: &[u8])
+    /// After an operation, whose name and the text from its operand on are in upper case.
+    fn pass_named(&mut self, name: &[u8], text: &[u8])
         requires { self.old.bodies < SOURCE_LINES_LIMIT }
-        ensures { self.new ≡ after_operation self.old name.now operand.now }
+        ensures { self.new ≡ after_operation self.old name.now text.now }
     {
-        let left = self.cover.count_down(is_one_of(&RANGE_ENDS, name));
         self.cover = if self.bodies == 0 {
-            left.longer(&cover_of(name, operand))
+            self.cover.after(name, &cover_of(name, text))
         } else {
-            left
+            self.cover.count_down(is_one_of(&RANGE_ENDS, name))
         };
         self.bodies = bodies_after(self.bodies, name);
     }
@@ -219,16 +238,16 @@ impl Standing {
         requires few { length body.now ≤ LINE_BYTES_LIMIT }
         requires bytes { bytes.now ≡ from_operation body.now }
         requires bodies { self.old.bodies < SOURCE_LINES_LIMIT }
-        ensures { self.new ≡ after_operation self.old (upper (operation body.now)) (upper (counting_operand body.now)) }
+        ensures { self.new ≡ after_operation self.old (upper (operation body.now)) (upper (counting_text body.now)) }
     {
         let (operation, _) = split_word(bytes);
-        let operand = counting_operand(body);
-        if is_upper_case(operation) && is_upper_case(operand) {
-            self.pass_named(operation, operand);
+        let text = counting_text(body);
+        if is_upper_case(operation) && is_upper_case(text) {
+            self.pass_named(operation, text);
         } else {
             self.pass_named(
                 upper_case(operation).as_slice(),
-                upper_case(operand).as_slice(),
+                upper_case(text).as_slice(),
             );
         }
     }

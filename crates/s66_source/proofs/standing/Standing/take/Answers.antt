@@ -1,4 +1,4 @@
-use Rattle.std.proofs.Common.{◌≡◌, ◌∙◌, ◌||◌, ℕ, Bool, true, false, List, if◌then◌else◌, codes, take, sym, ap}
+use Rattle.std.proofs.Common.{◌≡◌, ◌≤◌, ◌∙◌, ◌||◌, ℕ, suc, subst, Bool, true, false, List, if◌then◌else◌, codes, take, sym, ap}
 use Rattle.std.specs.Prelude.{bytes_eq}
 use Rattle.std.proofs.lemmas.Bool.{or_parts}
 use Rattle.s66_line.specs.Class.{class_of, is_code}
@@ -7,7 +7,7 @@ use Rattle.s66_line.specs.declared.class.Class.TheVariants.{Other}
 use Rattle.s66_source.specs.LeftAlone.{after_line, class_at, is_alone}
 use Rattle.s66_source.specs.Roles.{is_comment_class}
 use Rattle.s66_source.specs.declared.standing.Standing.{Standing}
-use Rattle.s66_source.proofs.Standings.{outside-alone, outside-after, settled-stays}
+use Rattle.s66_source.proofs.Standings.{bodies-grow, outside-alone, outside-after, settled-stays}
 use Rattle.s66_source.proofs.standing.Standing.take.Goals as goal
 
 abbrev is_open : Bool → Standing → List ℕ → Bool
@@ -34,3 +34,7 @@ pub returns-else-not-is_settled-clause-after : goal.returns-else-not-is_settled-
 returns-else-not-is_settled-clause-after c =
     sym (settled-stays c.args.cut c.args.continued c.args.after_code c.args.self.now c.args.line.now
     (ap (λ class. is_code class || is_comment_class class) (sym c.classify-classified.ensures.class) ∙ sym c.is_settled.ensures ∙ c.if-not-is_settled.false))
+
+pub returns-then-not-is_settled-clause-bodies : goal.returns-then-not-is_settled-clause-bodies
+returns-then-not-is_settled-clause-bodies c =
+    subst (λ (t : Standing). t.bodies ≤ suc c.args.self.now.bodies) (sym c.pass.ensures) (bodies-grow c.args.cut c.args.self.now c.args.line.now)

@@ -1,0 +1,61 @@
+use crate::line::Line;
+use crate::operations::ends_range;
+use s66_source::{Cover, counting_text, cover_of};
+
+/// The lines that the operation of a line counts.
+pub(crate) fn cover_by(line: &Line) -> Cover {
+    if line.operation().is_empty() {
+        return Cover::Nothing;
+    }
+    cover_of(line.operation(), counting_text(line.letters))
+}
+
+/// How far it is from a line to what an operation there may cover, in statements.
+#[derive(Clone, Copy)]
+pub(crate) struct Reach {
+    /// To the next instruction or pad.
+    code: Option<usize>,
+    /// To the next operation that ends what is covered without a known count.
+    end: Option<usize>,
+}
+
+impl Reach {
+    /// After the last line.
+    pub(crate) fn none() -> Reach {
+        Reach {
+            code: None,
+            end: None,
+        }
+    }
+
+    /// Whether an instruction or a pad is covered.
+    pub(crate) fn is_covered(&self, cover: Cover) -> bool {
+        let Some(code) = self.code else {
+            return false;
+        };
+        match cover {
+            Cover::Nothing => false,
+            Cover::Lines { count } => code <= count as usize,
+            Cover::ToItsEnd => match self.end {
+                Some(end) => code < end,
+                None => true,
+            },
+        }
+    }
+
+    /// From the statement before.
+    pub(crate) fn before(&self, line: &Line) -> Reach {
+        Reach {
+            code: next(line.is_instruction_or_pad() && !line.is_off, self.code),
+            end: next(ends_range(line.operation()), self.end),
+        }
+    }
+}
+
+/// How far it is from the statement before to what is this far, or one further if it is no such statement.
+fn next(is_here: bool, distance: Option<usize>) -> Option<usize> {
+    if is_here {
+        return Some(1);
+    }
+    Some(distance?.saturating_add(1))
+}

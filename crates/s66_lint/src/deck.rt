@@ -1,0 +1,187 @@
+use crate::after::{After, Rest};
+use crate::before::{Before, Standing};
+use crate::joining::{Joining, OpenWord};
+use crate::line::Line;
+use crate::operand::is_before;
+use crate::run::Runs;
+use s66_line::body_of;
+use s66_source::{SOURCE_LINES_LIMIT, is_switch};
+use std::alloc::{AllocError, Global};
+
+/// The lines of a source up to the limit.
+#[derive(Drop)]
+pub(crate) struct Lines<'a> {
+    pub(crate) lines: Vec<Line<'a>>,
+    /// How long the first line past them is, if there is one.
+    pub(crate) past: Option<usize>,
+}
+
+/// The text without the newline at its end.
+fn without_last_newline(text: &[u8]) -> &[u8] {
+    match text {
+        [rest @ .., b'\n'] => rest,
+        _ => text,
+    }
+}
+
+fn is_newline(byte: &u8) -> bool {
+    *byte == b'\n'
+}
+
+impl<'a> Lines<'a> {
+    ghost use Rattle.std.specs.Prelude.{◌≤◌, vec_len, IfOk};
+    ghost use Rattle.s66_source.specs.declared.limits.TheConstants.{SOURCE_LINES_LIMIT};
+
+    /// Reads a text, of which `letters` is the same in upper case.
+    pub(crate) fn of(
+        alloc: Global,
+        text: &'a [u8],
+        letters: &'a [u8],
+    ) -> Result<Lines<'a>, AllocError>
+        ensures { IfOk result (λ lines. vec_len lines.lines ≤ SOURCE_LINES_LIMIT) }
+    {
+        let mut lines = Vec::new(alloc);
+        let mut after = false;
+        let mut is_off = false;
+        if text.is_empty() {
+            return Ok(Lines { lines, past: None });
+        }
+        let rows = without_last_newline(text).split(is_newline);
+        for (row, upper) in rows.zip(without_last_newline(letters).split(is_newline)) {
+            if lines.len() >= SOURCE_LINES_LIMIT as usize {
+                return Ok(Lines {
+                    lines,
+                    past: Some(row.len()),
+                });
+            }
+            is_off = is_off || is_switch(body_of(row), b"OFF");
+            let line = Line::new(after, is_off, row, upper);
+            after = line.may_continue();
+            is_off = is_off && !is_switch(line.body, b"ON");
+            lines.push(line)?;
+        }
+        Ok(Lines { lines, past: None })
+    }
+}
+
+/// A source, with what is known of each line by those around it.
+#[derive(Drop)]
+pub(crate) struct Deck<'a> {
+    lines: &'a [Line<'a>],
+    runs: Runs,
+    before: Vec<Before>,
+    after: Vec<After>,
+    joining: Vec<Joining>,
+}
+
+impl<'a> Deck<'a> {
+    pub(crate) fn of(alloc: Global, lines: &'a [Line<'a>]) -> Result<Deck<'a>, AllocError> {
+        let mut deck = Deck {
+            lines,
+            runs: Runs::of(alloc, lines)?,
+            before: Vec::new(alloc),
+            after: Vec::new(alloc),
+            joining: Vec::new(alloc),
+        };
+        deck.look_back()?;
+        deck.look_ahead()?;
+        deck.look_at_words()?;
+        Ok(deck)
+    }
+
+    fn look_back(&mut self) -> Result<(), AllocError> {
+        let mut standing = Standing::at_first();
+        for line in self.lines {
+            let before = standing.take(self.before.len(), line);
+            self.before.push(before)?;
+        }
+        Ok(())
+    }
+
+    fn look_ahead(&mut self) -> Result<(), AllocError> {
+        let mut rest = Rest::at_end();
+        let mut at = self.lines.len();
+        for line in self.lines.iter().rev() {
+            at = at.saturating_sub(1);
+            let before = self.before(at);
+            let after = rest.take(at, line, &before, self.may_change(at, line));
+            self.after.push(after)?;
+        }
+        self.after.reverse();
+        Ok(())
+    }
+
+    fn look_at_words(&mut self) -> Result<(), AllocError> {
+        let mut word = OpenWord::new();
+        for line in self.lines {
+            let at = self.joining.len();
+            let joining = word.take(
+                line,
+                self.line(self.after(at).next),
+                self.may_change(at, line),
+            );
+            self.joining.push(joining)?;
+        }
+        Ok(())
+    }
+
+    pub(crate) fn lines(&self) -> &'a [Line<'a>] {
+        self.lines
+    }
+
+    /// What is known of the line at this index by those before it.
+    pub(crate) fn before(&self, at: usize) -> Before {
+        self.before.get(at).copied().unwrap_or(Before::nothing())
+    }
+
+    /// What is known of it by those after it.
+    pub(crate) fn after(&self, at: usize) -> After {
+        self.after.get(at).copied().unwrap_or(After::nothing())
+    }
+
+    /// How it may stand in a word with another line.
+    pub(crate) fn joining(&self, at: usize) -> Joining {
+        self.joining.get(at).copied().unwrap_or(Joining::none())
+    }
+
+    /// Whether the line at this index is of a run, and may come into another word, or go.
+    pub(crate) fn may_change(&self, at: usize, line: &Line) -> bool {
+        line.is_in_run() && self.runs.may_change(at)
+    }
+
+    /// Whether the comment at this index is within a block, or between the label of one and it.
+    pub(crate) fn is_within_block(&self, at: usize) -> bool {
+        self.runs.is_within_block(at)
+    }
+
+    /// The line at this index, if there is one.
+    pub(crate) fn line(&self, at: Option<usize>) -> Option<&'a Line<'a>> {
+        self.lines.get(at?)
+    }
+
+    /// The index of the line of code in whose word the name stands that the line at this index may have.
+    pub(crate) fn code_named(&self, at: usize, line: &Line) -> Option<usize> {
+        if line.is_code() {
+            return Some(at);
+        }
+        let is_before = match line.operation() {
+            b"EQU" | b"=" => is_before(line.words.operand)?,
+            _ if line.is_mark() => false,
+            _ => return None,
+        };
+        let near = if is_before {
+            self.before(at).last
+        } else {
+            self.after(at).next
+        };
+        if self.is_code(near) { near } else { None }
+    }
+
+    /// Whether the line at this index, if there is one, is code.
+    pub(crate) fn is_code(&self, at: Option<usize>) -> bool {
+        match self.line(at) {
+            Some(line) => line.is_code(),
+            None => false,
+        }
+    }
+}

@@ -1,0 +1,136 @@
+use crate::line::{Kind, Line};
+
+/// Which sizes the lines of the open word have that may change.
+#[derive(Clone, Copy)]
+struct Sizes {
+    pad: bool,
+    one_parcel: bool,
+    two_parcels: bool,
+}
+
+impl Sizes {
+    fn none() -> Sizes {
+        Sizes {
+            pad: false,
+            one_parcel: false,
+            two_parcels: false,
+        }
+    }
+
+    /// With a line of code that may change.
+    fn with(&self, line: &Line) -> Sizes {
+        let is_pad = matches!(line.kind, Kind::Pad);
+        let is_wide = !is_pad && line.has_two_parcels();
+        Sizes {
+            pad: self.pad || is_pad,
+            one_parcel: self.one_parcel || !is_pad && !is_wide,
+            two_parcels: self.two_parcels || is_wide,
+        }
+    }
+
+    fn are_several(&self) -> bool {
+        self.pad && (self.one_parcel || self.two_parcels) || self.one_parcel && self.two_parcels
+    }
+}
+
+/// The last statement that makes a word, as one after it sees it.
+#[derive(Clone, Copy)]
+struct Last {
+    is_other: bool,
+    /// A transfer of central memory: the half word behind it is its exit for a fault.
+    is_transfer: bool,
+    /// It fills one parcel of a half word that it stands in for its place.
+    is_half_filled: bool,
+}
+
+/// How a line may stand in a word with another.
+#[derive(Clone, Copy)]
+pub(crate) struct Joining {
+    /// It stands for its place in the word of the line before it.
+    pub(crate) joins: bool,
+    /// The next line is in its word, and what comes before it may move it in that.
+    pub(crate) slides: bool,
+}
+
+impl Joining {
+    pub(crate) fn none() -> Joining {
+        Joining {
+            joins: false,
+            slides: false,
+        }
+    }
+}
+
+/// The open word.
+#[derive(Drop)]
+pub(crate) struct OpenWord {
+    last: Last,
+    sizes: Sizes,
+}
+
+impl OpenWord {
+    /// Before the first line.
+    pub(crate) fn new() -> OpenWord {
+        OpenWord {
+            last: Last {
+                is_other: false,
+                is_transfer: false,
+                is_half_filled: false,
+            },
+            sizes: Sizes::none(),
+        }
+    }
+
+    /// How the next line stands in a word, by the next statement after it that makes one.
+    pub(crate) fn take(&mut self, line: &Line, next: Option<&Line>, may_change: bool) -> Joining {
+        if !line.is_statement() {
+            return Joining::none();
+        }
+        let follows = line.may_join() && self.last.is_half_filled;
+        let joins = follows || self.is_joined_by(line);
+        let stands = line.is_instruction_or_pad() && !line.is_off;
+        let joining = Joining {
+            joins: stands && may_change && (joins || line.operation() == b"SB0".as_slice()),
+            slides: self.sizes.are_several() && shares_word(line, next),
+        };
+        if !line.is_wordless() {
+            self.last = Last {
+                is_other: matches!(line.kind, Kind::Other),
+                is_transfer: is_transfer(line),
+                is_half_filled: stands && joins && !follows && !line.has_two_parcels(),
+            };
+            self.pass_word(line, may_change);
+        }
+        joining
+    }
+
+    fn is_joined_by(&self, line: &Line) -> bool {
+        line.joins() && self.last.is_other || line.may_join() && self.last.is_transfer
+    }
+
+    fn pass_word(&mut self, line: &Line, may_change: bool) {
+        if !line.is_code() || line.begins_word() {
+            self.sizes = Sizes::none();
+        }
+        if may_change {
+            self.sizes = self.sizes.with(line);
+        }
+    }
+}
+
+fn is_transfer(line: &Line) -> bool {
+    matches!(line.operation(), b"RE" | b"WE")
+}
+
+/// Whether a line leaves the second half of its word to the next.
+fn shares_word(line: &Line, next: Option<&Line>) -> bool {
+    let Some(next) = next else {
+        return false;
+    };
+    line.may_join()
+        && match line.operation() {
+            b"RJ" => next.joins(),
+            b"RE" | b"WE" => next.may_join(),
+            _ => false,
+        }
+}

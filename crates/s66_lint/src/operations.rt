@@ -1,0 +1,87 @@
+use s66_source::is_one_of;
+
+/// The branches.
+const BRANCHES: [&[u8]; 18] = [
+    b"RJ", b"JP", b"ZR", b"NZ", b"PL", b"NG", b"MI", b"IR", b"OR", b"DF", b"ID", b"EQ", b"NE",
+    b"GE", b"GT", b"LT", b"LE", b"XJ",
+];
+
+/// Those after which the next instruction may be executed, and transfers of central memory, which leave a half word of their own.
+const FALL_THROUGH: [&[u8]; 16] = [
+    b"ZR", b"NZ", b"PL", b"NG", b"MI", b"IR", b"OR", b"DF", b"ID", b"NE", b"GE", b"GT", b"LT",
+    b"LE", b"RE", b"WE",
+];
+
+/// What begins a definition.
+const DEFINITIONS: [&[u8]; 3] = [b"MACRO", b"MACROE", b"OPDEF"];
+
+/// What counts the lines after it.
+const COUNTING: [&[u8]; 20] = [
+    b"DUP", b"ECHO", b"IF", b"IFC", b"IFPL", b"IFMI", b"IFEQ", b"IFNE", b"IFGT", b"IFGE", b"IFLT",
+    b"IFLE", b"IFCP", b"IFCP6", b"IFCP7", b"IFPP", b"IFPP6", b"IFPP7", b"SKIP", b"ELSE",
+];
+
+/// Of these, those that evaluate an expression.
+const EVALUATING: [&[u8]; 8] = [
+    b"IFEQ", b"IFNE", b"IFGT", b"IFGE", b"IFLT", b"IFLE", b"IFPL", b"IFMI",
+];
+
+/// What ends the lines that an operation covers without a count.
+const RANGE_ENDS: [&[u8]; 4] = [b"ENDD", b"ENDIF", b"END", b"IDENT"];
+
+/// What else makes no word, and names no address.
+const WORDLESS: [&[u8]; 20] = [
+    b"=", b"EQU", b"SET", b"MAX", b"MIN", b"MICRO", b"DECMIC", b"OCTMIC", b"LOC", b"SPACE",
+    b"EJECT", b"TITLE", b"TTL", b"LIST", b"BASE", b"QUAL", b"CTEXT", b"ENDX", b"ENDD", b"ENDIF",
+];
+
+/// What names no address either, though words may be elsewhere after it.
+const WITHOUT_ADDRESS: [&[u8]; 11] = [
+    b"ENDM", b"IDENT", b"END", b"RMT", b"USE", b"COMMON", b"IRP", b"STOPDUP", b"OPSYN", b"CPSYN",
+    b"NIL",
+];
+
+/// Words of data and of what else follows code, before which the word of code ends.
+const DATA: [&[u8]; 8] = [
+    b"PS", b"BSS", b"BSSZ", b"CON", b"DATA", b"DIS", b"USE", b"END",
+];
+
+pub(crate) fn is_branch(operation: &[u8]) -> bool {
+    is_one_of(&BRANCHES, operation)
+}
+
+/// Whether a branch is conditional, but for an `EQ`, which its operand tells, or central memory is transferred.
+pub(crate) fn falls_through(operation: &[u8]) -> bool {
+    is_one_of(&FALL_THROUGH, operation)
+}
+
+pub(crate) fn begins_definition(operation: &[u8]) -> bool {
+    is_one_of(&DEFINITIONS, operation)
+}
+
+/// Whether an operation evaluates an expression to decide which lines are assembled.
+pub(crate) fn evaluates(operation: &[u8]) -> bool {
+    is_one_of(&EVALUATING, operation)
+}
+
+/// Whether an operation ends the lines that one without a known count covers.
+pub(crate) fn ends_range(operation: &[u8]) -> bool {
+    is_one_of(&RANGE_ENDS, operation)
+}
+
+/// Whether an operation makes no word.
+pub(crate) fn is_wordless(operation: &[u8]) -> bool {
+    is_one_of(&WORDLESS, operation) || is_one_of(&COUNTING, operation)
+}
+
+/// Whether the name in the location field of an operation is an address.
+pub(crate) fn has_address(operation: &[u8]) -> bool {
+    !(is_wordless(operation)
+        || begins_definition(operation)
+        || is_one_of(&WITHOUT_ADDRESS, operation))
+}
+
+/// Whether a word of code is full before an operation, so that nothing after it comes into that word.
+pub(crate) fn closes_word(operation: &[u8]) -> bool {
+    is_branch(operation) || is_one_of(&DATA, operation)
+}

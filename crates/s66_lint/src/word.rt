@@ -1,0 +1,76 @@
+use crate::line::{Kind, Line};
+use crate::operations::closes_word;
+
+/// How a word of code ends.
+#[derive(Clone, Copy)]
+enum End {
+    /// With the source, or before a line that begins a word.
+    Forced,
+    /// Before an operation after which nothing more comes into it.
+    Closed,
+    /// Before anything else.
+    Open,
+}
+
+/// The lines of code from one on that may come into one word.
+#[derive(Clone, Copy)]
+pub(crate) struct Word {
+    instructions: usize,
+    has_pads: bool,
+    end: End,
+}
+
+fn empty(end: End) -> Word {
+    Word {
+        instructions: 0,
+        has_pads: false,
+        end,
+    }
+}
+
+impl Word {
+    /// After the last line.
+    pub(crate) fn at_end() -> Word {
+        empty(End::Forced)
+    }
+
+    /// Whether their order can't change what the word holds: there is one of them at most, and pads only where they are filled in
+    /// again.
+    pub(crate) fn is_held(&self) -> bool {
+        match self.end {
+            End::Forced => self.instructions <= 1,
+            End::Closed => self.instructions == 0 || self.instructions == 1 && !self.has_pads,
+            End::Open => false,
+        }
+    }
+
+    /// With the statement before them.
+    pub(crate) fn with(&self, line: &Line) -> Word {
+        if matches!(line.kind, Kind::Pad) {
+            Word {
+                instructions: self.instructions,
+                has_pads: true,
+                end: self.end,
+            }
+        } else if line.is_code() {
+            Word {
+                instructions: self.instructions.saturating_add(1),
+                has_pads: self.has_pads,
+                end: self.end,
+            }
+        } else if closes_word(line.operation()) {
+            empty(End::Closed)
+        } else {
+            empty(End::Open)
+        }
+    }
+
+    /// What the lines before a statement see of the word that begins with it.
+    pub(crate) fn before(&self, line: &Line) -> Word {
+        if line.begins_word() {
+            empty(End::Forced)
+        } else {
+            *self
+        }
+    }
+}
