@@ -1,8 +1,11 @@
-ghost use Rattle.std.specs.Prelude.{◌≡◌, IfOk};
+ghost use Rattle.std.specs.Prelude.{◌≡◌, IfOk, is_err};
+ghost use Rattle.s66_source.specs.LeftAlone.{plain};
+ghost use Rattle.s66_source.specs.Source.{source_of};
 ghost use Rattle.s66_text.specs.LintText.{IsLintOutput, lint_status};
 
-use s66_lint::{Findings, findings_in};
+use s66_lint::findings_in;
 use s66_outcome::{Output, Status};
+use s66_source::{SourceError, read_source};
 use std::alloc::{AllocError, Global};
 
 /// How `lint` ends, by whether some line is refused and by its text.
@@ -18,11 +21,22 @@ fn lint_status(refused: bool, text: &[u8]) -> Status
     }
 }
 
+/// Whether some line of a source is refused.
+fn is_refused(alloc: Global, input: &[u8]) -> Result<bool, AllocError>
+    ensures { IfOk result (λ refused. refused ≡ is_err (source_of (plain input.now))) }
+{
+    match read_source(alloc, input) {
+        Ok(_) => Ok(false),
+        Err(SourceError::OutOfMemory) => Err(AllocError),
+        Err(_) => Ok(true),
+    }
+}
+
 /// What is stated of the lines of a source, which may be any text.
 pub fn lint_output(alloc: Global, input: &[u8]) -> Result<Output, AllocError>
     ensures { IfOk result (λ output. IsLintOutput input.now output.text.items output.status) }
 {
-    let Findings { text, refused } = findings_in(alloc, input)?;
-    let status = lint_status(refused, text.as_slice());
+    let text = findings_in(alloc, input)?;
+    let status = lint_status(is_refused(alloc, input)?, text.as_slice());
     Ok(Output { text, status })
 }

@@ -12,8 +12,10 @@ use std::alloc::{AllocError, Global};
 const SOURCE: &str =
     "  SA1 A1+B1\n  BX6 X1\n* NOTE\n  BX7 X2\nLOOP  NO\n  FX1 X2*X3\n  ZR X1,LOOP\n";
 
-/// Lines of each kind that is found: an operand that is refused, what isn't an instruction, and what counts lines.
-const SLIPS: &str = "  SA1 A1+B1\n  IX1 X2*X3\n  BX8 X1\n  DUP 3,2\n";
+/// Lines in which something is found: an operand that is refused, what isn't an instruction, what counts lines and words, and
+/// what redefines an instruction.
+const SLIPS: &str =
+    "L SA1 A1+B1\n  IX1 X2*X3\n  BX8 X1\n  DUP 3,2\n  SA6 L+1\n  BX6 X1\nRXX*X OPDEF I\n";
 
 /// A source that isn't refused.
 pub fn source_of<'t>(alloc: Global, code: &'t str) -> Result<Source<'t>, AllocError> {
@@ -66,5 +68,5 @@ pub fn printed(alloc: Global) -> Result<Answered, AllocError> {
 /// How many bytes the findings of a source are.
 pub fn found(alloc: Global) -> Result<Answered, AllocError> {
     let found = findings_in(alloc, SLIPS.as_bytes())?;
-    Ok([found.text.len(), 0, 0, 0])
+    Ok([found.len(), 0, 0, 0])
 }
