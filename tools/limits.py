@@ -24,7 +24,7 @@ import tempfile
 SEVEN = "".join(f"  FX{i} X7*X7\n" for i in range(7))  # 8,660 splits, all of which any search takes, and one best time: workers start
 SOURCE = f"LOOP   SA1 A1+B1\n  BX6 X1\n  ZR X1,LOOP\n{SEVEN}".encode()
 LONG = b"  SA1 A1+B1\n" * 20000
-SEARCHES = [["order", "--trace"], ["order", "--dominate-tree"], ["prove"], ["sum"], ["page"]]
+SEARCHES = [["order", "--trace"], ["order", "--deep"], ["order", "--dominate-tree"], ["prove"], ["sum"], ["page"]]
 USER = 65_520 + os.getpid() % 14  # one of the numbers that systems leave unused
 UNREAD = (6, b"", b"READ FAILED\n")
 UNWRITTEN = (6, b"", b"WRITE FAILED\n")

@@ -58,6 +58,9 @@ def searches():
     yield ["prove", "--deep", "--workers", "1", "--nodes", "20"], FIVE, {0, 7}
     for words in (["order", "--trace", "--workers", "2"], ["order", "--workers", "4"], ["sum", "--workers", "16"]):
         yield [*words, "--nodes", "2100"], SEVEN, {7}
+    # whole blocks by the workers
+    for words in (["order", "--trace"], ["sum"], ["prove"], ["page"], ["why", "--order"]):
+        yield [*words, "--deep", "--workers", "2"], SOURCE, {0}
 
 
 def rows():
@@ -113,7 +116,7 @@ class Row:
         seen, self.counts = runner.run(command, given)
         self.status, self.output, self.told = seen
         # a worker that ends early, or comes later than another, leaves other names for what is dominated
-        self.varies = command[1:2] == ["prove"] and any("dominate" in word or word == "--deep" for word in command)
+        self.varies = command[1:2] == ["prove"] and any("dominate" in word for word in command)
         self.meant = self.meaning(seen)
         self.ample = {"ample": lambda seen: self.meaning(seen) == self.meant}
         if self.status not in statuses:
