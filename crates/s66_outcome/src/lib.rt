@@ -2,15 +2,14 @@
 #![tactic(auto)]
 
 mod limits;
-mod observer;
 mod outcome;
 mod progress;
 mod reading;
 mod telling;
 
 pub use limits::{FEED_CALLS, FEED_ROOM};
-pub use observer::{Observer, Silent};
 pub use outcome::{Fault, Output, Status};
 pub use progress::Progress;
 pub use reading::read_all;
+pub use s66_turns::{Observer, Silent};
 pub use telling::{refuse_words, show_usage, tell_failure};

@@ -1,4 +1,4 @@
-use crate::observer::Observer;
+use s66_turns::Observer;
 use std::io::Write;
 use std::time::{Clock, Duration, Instant};
 

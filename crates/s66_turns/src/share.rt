@@ -1,7 +1,7 @@
 ghost use Rattle.std.specs.Prelude.{ℕ, ◌<◌, All};
 
+use crate::observer::Observer;
 use crate::turns::Task;
-use s66_outcome::Observer;
 use std::alloc::Global;
 use std::sync::atomic::{AtomicUsize, Ordering};
 

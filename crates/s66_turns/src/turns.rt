@@ -2,8 +2,8 @@ ghost use Rattle.std.specs.Prelude.{◌≡◌, ℕ, ◌<◌, ◌≤◌, All, IfO
 ghost use Rattle.s66_turns.specs.Turns.{AreMade, ArePut};
 ghost use denote.Param.Send.{IsSync, IsSend};
 
+use crate::observer::{Observer, Silent};
 use crate::share::{Made, make_share};
-use s66_outcome::{Observer, Silent};
 use std::alloc::{AllocError, Global};
 use std::sync::atomic::AtomicUsize;
 use std::thread;
