@@ -174,9 +174,10 @@ pub fn make_each<R: Threads + Sync, T: Send + Drop, W: Task<T> + Sync, O: Observ
     ensures made { IfOk result (λ all. AreMade (W.gives task.now) all.items) }
 {
     let others = workers.min(count).saturating_sub(1);
-    let mut places = places_for(alloc, count)?;
+    let mut empty = places_for(alloc, count)?;
     let (theirs, own) = share_out(rt, alloc, task, count, others, observer);
-    put_share(task, places.as_mut_slice(), own);
-    put_shares(task, places.as_mut_slice(), theirs);
-    take_all(alloc, task, places.as_mut_slice())
+    let places = empty.as_mut_slice();
+    put_share(task, places, own);
+    put_shares(task, places, theirs);
+    take_all(alloc, task, places)
 }

@@ -1,4 +1,4 @@
-use Rattle.std.proofs.Common.{ℕ, ◌<◌, All}
+use Rattle.std.proofs.Common.{◌<◌, All}
 use Rattle.s66_turns.proofs.share.make_share.Given as goal
 
 abbrev pub invariant-loop : goal.invariant-loop

@@ -5,7 +5,7 @@ use Rattle.s66_turns.proofs.turns.put_share.Given as goal
 abbrev pub invariant-loop-made : goal.invariant-loop-made
 invariant-loop-made g l = record {
   count : length l.places ≡ length l.fn.places;
-  within : All (λ m. (m.number < length l.places) × g.W.Task.gives l._task m.number m.value) l.share.items;
+  within : All (λ m. (m.number < length l.fn.places) × g.W.Task.gives l._task m.number m.value) l.share.items;
   put : ArePut (g.W.Task.gives l._task) l.places;
 }
 

@@ -5,7 +5,7 @@ use Rattle.s66_turns.proofs.turns.put_shares.Given as goal
 abbrev pub invariant-loop-share : goal.invariant-loop-share
 invariant-loop-share g l = record {
   count : length l.places ≡ length l.fn.places;
-  within : All (λ s. All (λ m. (m.number < length l.places) × g.W.Task.gives l.task m.number m.value) s.items) l.shares.items;
+  within : All (λ s. All (λ m. (m.number < length l.fn.places) × g.W.Task.gives l.task m.number m.value) s.items) l.shares.items;
   put : ArePut (g.W.Task.gives l.task) l.places;
 }
 

@@ -1,4 +1,4 @@
-use Rattle.std.proofs.Common.{◌≡◌, ◌<◌, All, length, vec_len}
+use Rattle.std.proofs.Common.{◌≡◌, length}
 use Rattle.s66_turns.specs.Turns.{AreMade, ArePut}
 use Rattle.s66_turns.proofs.turns.take_all.Given as goal
 
