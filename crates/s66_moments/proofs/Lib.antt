@@ -11,9 +11,7 @@ pub mod FoundedLines
 pub mod InUse
 pub mod ClosedTrees
 pub mod Tails
-pub mod PathWords
 pub mod Preceders
-pub mod CoveredChains
 pub mod WorkedLines
 pub mod MoreArcs
 pub mod Rings

@@ -106,7 +106,7 @@ all-among b e (n ∷ ns) h =
       | inr second ↦ (let (m, stage, is, among, there) = all-among b e ns second in (m, stage, is, inr among, there))
     ]
 
-pub moment-among : (b : Problem) (prefix : List ℕ) (n : ℕ) (stage : Stage) → is_remaining b.block prefix n ≡ true → has_stage (row_at b n) stage ≡ true → Among (At n stage) (moments_among b (remaining b.block prefix))
+moment-among : (b : Problem) (prefix : List ℕ) (n : ℕ) (stage : Stage) → is_remaining b.block prefix n ≡ true → has_stage (row_at b n) stage ≡ true → Among (At n stage) (moments_among b (remaining b.block prefix))
 moment-among b prefix n stage remains there = among-all b n stage (remaining b.block prefix) (among-remaining b.block prefix n remains) there
 
 pub moment-target : (b : Problem) (n : ℕ) (stage : Stage) → is_moment b (At n stage) ≡ true → Among (At n stage) (targets b)
@@ -172,36 +172,6 @@ module _ (b : Problem) (arcs : Network) where
     pub path-tail : (e : Moment) (hops : List Hop) (f : Moment) → IsNetworkPath arcs e hops f → waits hops ≤ tail b arcs e
     path-tail e hops f path = path-le (most_arcs b) e hops f (omega (arith, path-short e hops f path)) path
 
-    -- an arc and what follows it
-    pub tail-step : (e f : Moment) (w : ℕ) → arcs e f ≡ Some w → w + tail b arcs f ≤ tail b arcs e
-    tail-step e f w is =
-        let (hops, g, path, takes, ends) = tail-reached (most_arcs b) f in
-        let first : Hop = record { wait = w; to = f } in
-        let le : waits (first ∷ hops) ≤ tail b arcs e = path-tail e (first ∷ hops) g (is, path) in
-        omega (arith, takes, le)
-
-    path-within : (e : Moment) (hops : List Hop) (f : Moment) → IsNetworkPath arcs e hops f → waits hops ≤ greatest (through arcs (tail b arcs) e) (targets b)
-    path-within e [] f path = omega arith
-    path-within e (hop ∷ hops) f path =
-        let (some, takes) = arc-some (arcs e hop.to) hop.wait path.0 in
-        omega (
-          arith,
-          takes,
-          path-tail hop.to hops f path.1,
-          le-greatest (through arcs (tail b arcs) e) hop.to (targets b) (rises.1 e hop.to some).0,
-          cond-true {A = ℕ} (is_some (arcs e hop.to)) (unwrap_or (arcs e hop.to) 0 + tail b arcs hop.to) 0 some,
-        )
-
-    pub tail-again : (e : Moment) → tail b arcs e ≡ greatest (through arcs (tail b arcs) e) (targets b)
-    tail-again e =
-        let (hops, f, path, takes, ends) = tail-reached (most_arcs b) e in
-        let above : greatest (through arcs (tail b arcs) e) (targets b) ≤ tail b arcs e =
-        greatest-le (through arcs (tail b arcs) e) (tail b arcs e) (targets b) (λ f among.
-        cond_both (is_some (arcs e f)) (unwrap_or (arcs e f) 0 + tail b arcs f) 0 (λ t. t ≤ tail b arcs e)
-        (λ some. tail-step e f (unwrap_or (arcs e f) 0) (some-arc (arcs e f) some))
-        (λ none. omega arith)) in
-        omega (arith, takes, path-within e hops f path, above)
-
     pub value-le : (prefix : List ℕ) (n : ℕ) (stage : Stage) (hops : List Hop) (f : Moment) → is_remaining b.block prefix n ≡ true → has_stage (row_at b n) stage ≡ true → IsNetworkPath arcs (At n stage) hops f → soonest b prefix n stage + waits hops ≤ greatest_path b arcs prefix
     value-le prefix n stage hops f remains there path =
         omega (
@@ -240,10 +210,7 @@ module _ (b : Problem) (arcs : Network) where
           (λ none. omega arith)) in
           omega (arith, most, moment-le-total e is)
 
-    pub tail-follows : (e : Moment) → is_moment b e ≡ true → Follows b low known (Arc e (tail b arcs e) End 0)
-    tail-follows e is order legal less so = omega (arith, tail-so order legal less so (most_arcs b) e is)
-
-    pub soonest-follows : (prefix : List ℕ) (n : ℕ) (stage : Stage) → is_remaining b.block prefix n ≡ true → has_stage (row_at b n) stage ≡ true → Follows b low (Begins prefix ∷ known) (Arc Origin (soonest b prefix n stage + tail b arcs (At n stage)) End 0)
+    soonest-follows : (prefix : List ℕ) (n : ℕ) (stage : Stage) → is_remaining b.block prefix n ≡ true → has_stage (row_at b n) stage ≡ true → Follows b low (Begins prefix ∷ known) (Arc Origin (soonest b prefix n stage + tail b arcs (At n stage)) End 0)
     soonest-follows prefix n stage remains there order legal less ((rest, begins), so) =
         let (from, to, new) = remaining-parts b.block prefix n remains in
         let is : is_moment b (At n stage) ≡ true = target-moment b (At n stage) (block-target n stage from to there) in
@@ -371,9 +338,6 @@ module _ (b : Problem) (before : ℕ → ℕ → Bool) (place : ℕ → ℕ) (pl
       let w : ℕ = unwrap_or (network b before e f) 0 in
       let (is_e, is_f, stands, is) = network-parts b before e f w (some-arc (network b before e f) some) in
       leads-up e f w is_e is_f stands is
-
-  pub network-rises : IsRising b (network b before)
-  network-rises = (rank_by b place, network-rises_by)
 
 -- BY DEPENDENCE no order is below the greatest path
 

@@ -1,10 +1,9 @@
 -- Used by contracts of what computes floors and checks paths: networks of arcs, and the greatest path through one, by what follows each moment, which is known before anything is placed.
-use Rattle.std.specs.Prelude.{ℕ, zero, suc, ◌+◌, ◌-◌, ◌*◌, ◌≡◌, ◌≤◌, ◌<◌, Bool, true, false, if◌then◌else◌, ◌||◌, ◌&&◌, ◌==◌, max, List, [], ◌∷◌, ◌++◌, map, length, nat_lt, Option, Some, None, unwrap_or, is_some}
+use Rattle.std.specs.Prelude.{ℕ, zero, suc, ◌+◌, ◌-◌, ◌*◌, ◌≡◌, ◌≤◌, ◌<◌, Bool, true, false, if◌then◌else◌, ◌||◌, ◌&&◌, ◌==◌, max, List, [], ◌∷◌, ◌++◌, map, length, Option, Some, None, unwrap_or, is_some}
 use Rattle.s66_isa.specs.declared.instr.Instr.{Instr}
-use Rattle.s66_isa.specs.declared.instr.Kind.{Kind}
-use Rattle.s66_isa.specs.Lists.{greatest, some_of, tally, least_from, Among}
-use Rattle.s66_isa.specs.Table.{Row, Write, same_reg, numbers}
-use Rattle.s66_model.specs.Timing.{Problem, Point, row_at, copies, points_of, total, slot_of, busy_at, done_of, memory_wait, readers_wait}
+use Rattle.s66_isa.specs.Lists.{greatest, some_of, tally, Among}
+use Rattle.s66_isa.specs.Table.{Write, same_reg, numbers}
+use Rattle.s66_model.specs.Timing.{Problem, row_at}
 use Rattle.s66_model.specs.Dependence.{depends}
 use Rattle.s66_model.specs.LegalOrder.{is_remaining, remaining}
 use Rattle.s66_moments.specs.declared.moment.Stage.{Stage}
@@ -161,24 +160,3 @@ soonest_path b arcs prefix e = 0
 
 abbrev pub greatest_path : Problem → Network → List ℕ → ℕ
 greatest_path b arcs prefix = greatest (soonest_path b arcs prefix) (moments_among b (remaining b.block prefix))
-
--- THE SAME BY WORDS that a prefix leaves
-
--- from when on a unit of the kind is free
-abbrev pub free_from : Problem → List Point → Kind → ℕ
-free_from b s kind = least_from (λ t. nat_lt (tally (busy_at kind t) s) (copies b kind)) (total s) 0
-
--- what its issue waits for: its slot, the registers that it writes, a unit
-abbrev pub issue_words : Problem → List Point → Row → ℕ
-issue_words b s r = max (slot_of s r.parcels) (max (greatest (λ (w : Write). done_of s w.reg) r.writes) (free_from b s r.kind))
-
--- and its start: the registers that it reads, and memory
-abbrev pub start_words : List Point → Row → ℕ
-start_words s r = max (greatest (λ x. done_of s x) r.reads) (memory_wait s r)
-
--- the greatest of these and of what its results wait for, the readers of their registers, each with what follows
-abbrev pub by_words : Problem → Network → List ℕ → ℕ → ℕ
-by_words b arcs prefix n =
-    max (issue_words b (points_of b prefix) (row_at b n) + tail b arcs (At n Issue))
-    (max (start_words (points_of b prefix) (row_at b n) + tail b arcs (At n Start))
-    (greatest (λ (w : Write). readers_wait (points_of b prefix) w.reg + tail b arcs (At n (Done w.reg))) (row_at b n).writes))

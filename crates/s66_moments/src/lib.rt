@@ -19,8 +19,5 @@ pub use facts::{fact_law, load_arc_law, pair_law, prefix_law};
 pub use known::{fact_lines_law, span_law};
 pub use lines::{in_use_law, line_law, line_tree_law, next_leaf_law};
 pub use moment::{Moment, Stage};
-pub use networks::{
-    covered_law, greatest_path_law, more_arcs_law, more_pairs_law, network_law, path_words_law,
-    precedes_law, tail_path_law,
-};
+pub use networks::{greatest_path_law, more_arcs_law, more_pairs_law, network_law, precedes_law};
 pub use paths::{path_law, table_law};

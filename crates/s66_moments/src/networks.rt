@@ -2,18 +2,17 @@
 
 ghost use Rattle.std.specs.Prelude.{ℕ, List, Bool, ◌∷◌, ◌++◌, ◌+◌, ◌≡◌, ◌≢◌, ◌≤◌, ◌<◌, ◌⊎◌, true, false, length, max, Some, unwrap_or};
 ghost use Rattle.s66_isa.specs.declared.instr.Instr.{Instr};
-ghost use Rattle.s66_isa.specs.Lists.{greatest, Among};
+ghost use Rattle.s66_isa.specs.Lists.{Among};
 ghost use Rattle.s66_model.specs.Timing.{Problem, total_of};
 ghost use Rattle.s66_model.specs.Dependence.{depends};
-ghost use Rattle.s66_model.specs.LegalOrder.{IsLegal, is_remaining, remaining};
-ghost use Rattle.s66_model.specs.Leaves.{IsChain, chain_value};
+ghost use Rattle.s66_model.specs.LegalOrder.{IsLegal, is_remaining};
 ghost use Rattle.s66_moments.specs.declared.moment.Stage.{Stage};
 ghost use Rattle.s66_moments.specs.declared.moment.Moment.{Moment};
 ghost use Rattle.s66_moments.specs.declared.moment.Moment.TheVariants.{Origin, At, End};
-ghost use Rattle.s66_moments.specs.Moments.{is_moment, soonest};
+ghost use Rattle.s66_moments.specs.Moments.{soonest};
 ghost use Rattle.s66_moments.specs.Facts.{Fact, Arc, Before, Begins, Follows, IsNumber};
 ghost use Rattle.s66_moments.specs.Paths.{Hop, waits};
-ghost use Rattle.s66_moments.specs.Networks.{Network, network, precedes, IsKnown, AreArcs, IsRising, IsPlaced, HasOwnArcs, targets, tail, through, IsRemaining, IsNetworkPath, greatest_path, by_words, RisesBy, with_arc, with_pair, most_arcs, rank_by, AreSteps, IsTransitive, HasNoRing, place_by};
+ghost use Rattle.s66_moments.specs.Networks.{Network, network, precedes, IsKnown, AreArcs, IsRising, IsPlaced, HasOwnArcs, targets, tail, IsRemaining, IsNetworkPath, greatest_path, RisesBy, with_arc, with_pair, most_arcs, rank_by, AreSteps, IsTransitive, HasNoRing, place_by};
 
 /// What a number precedes by dependence: what depends on it, and what depends on what it precedes. This is so whatever is known,
 /// transitive, and without a ring.
@@ -69,19 +68,6 @@ pub fn more_pairs_law()
         IsTransitive b before → HasNoRing b before → IsPlaced b before (place_by b before) }
 {}
 
-/// The end comes a tail later than a moment at least, if the arcs follow; so a moment of what remains, as if its instruction came next,
-/// and its tail are a lower bound of all orders that begin so. If no arcs form a ring, a tail is the greatest of the arcs from there,
-/// each with what follows it.
-pub fn tail_path_law()
-    ensures tail { (b : Problem) (low : ℕ) (known : List Fact) (arcs : Network) (e : Moment) →
-        AreArcs b low known arcs → is_moment b e ≡ true → Follows b low known (Arc e (tail b arcs e) End 0) }
-    ensures below { (b : Problem) (low : ℕ) (known : List Fact) (arcs : Network) (prefix : List ℕ) (n : ℕ) (stage : Stage) →
-        AreArcs b low known arcs → IsRemaining b prefix n stage →
-        Follows b low (Begins prefix ∷ known) (Arc Origin (soonest b prefix n stage + tail b arcs (At n stage)) End 0) }
-    ensures again { (b : Problem) (arcs : Network) (e : Moment) → IsRising b arcs →
-        tail b arcs e ≡ greatest (through arcs (tail b arcs) e) (targets b) }
-{}
-
 /// The greatest path of what remains is a lower bound of all orders that begin so, if its arcs follow, as those by dependence do. While
 /// a number remains some path takes it, and if no arcs form a ring none is greater.
 pub fn greatest_path_law()
@@ -95,17 +81,4 @@ pub fn greatest_path_law()
     ensures reached { (b : Problem) (arcs : Network) (prefix : List ℕ) (m : ℕ) → is_remaining b.block prefix m ≡ true →
         (n : ℕ) × (stage : Stage) × (hops : List Hop) × (f : Moment) × IsRemaining b prefix n stage
         × IsNetworkPath arcs (At n stage) hops f × (soonest b prefix n stage + waits hops ≡ greatest_path b arcs prefix) }
-{}
-
-/// The greatest path of what remains is the greatest word that the prefix leaves, with what follows at an instruction that waits for
-/// it. So a floor needs no moment of its own for each instruction.
-pub fn path_words_law()
-    ensures { (b : Problem) (arcs : Network) (prefix : List ℕ) → IsRising b arcs → HasOwnArcs b arcs →
-        greatest_path b arcs prefix ≡ greatest (by_words b arcs prefix) (remaining b.block prefix) }
-{}
-
-/// No chain is worth more than the greatest path by dependence, so no bound is lost if paths stand in place of chains.
-pub fn covered_law()
-    ensures { (b : Problem) (prefix numbers : List ℕ) →
-        IsChain b prefix numbers → chain_value b prefix numbers ≤ greatest_path b (network b (precedes b.block)) prefix }
 {}
