@@ -25,11 +25,13 @@ use Rattle.s66_moments.proofs.Spans.{height, height-same, height-some, some-heig
 use Rattle.s66_facts.specs.declared.times.Times.{Times}
 use Rattle.s66_facts.specs.Marked.{before_in}
 use Rattle.s66_facts.specs.Ground.{Ground, ground_arcs, IsOrdered}
+use Rattle.s66_facts.specs.Near.{covers}
 use Rattle.s66_facts.specs.Passes.{add, when, times_at, latest_done, share_unit, time_at_moment, issue_after, start_after, done_after, after_one, after_all, by_loads_to, at_once, head_issue, head_start, head_done, head_results, head_free, with_free, heads_of, first_of, second_of, AreResults, AreTimes}
 use Rattle.s66_facts.proofs.Edges.{later-low, latest-low, add-low, when-low, only_if-low, most_time, add-high, add-higher, when-high, same-high, between, loads-cases, HasArc, span-fits, none-high, last-arc, step, step-low, zero-low, table-arc, load-arc, to-origin}
+use Rattle.s66_facts.proofs.Covered.{IsNearBy, covers-first, covers-second, covers-unit, covers-memory, if-only}
 use Rattle.s66_facts.proofs.Results.{done-high, done-low, issue-part, start-part, first-part, second-part, all-high, all-low, in-first, in-second}
 
-module _ (g : Ground) (ordered : IsOrdered g) (e : Moment) (front : is_front e ≡ true) (times : List Times) (n : ℕ) (is_n : IsNumber g.problem n) where
+module _ (g : Ground) (ordered : IsOrdered g) (e : Moment) (front : is_front e ≡ true) (times : List Times) (n : ℕ) (is_n : IsNumber g.problem n) (near : ℕ → Bool) (is_near : IsNearBy g.problem (before_in g.marks) near n) where
   abbrev b : Problem
   b = g.problem
 
@@ -73,12 +75,12 @@ module _ (g : Ground) (ordered : IsOrdered g) (e : Moment) (front : is_front e �
     Leads m t v =
         ((m ≡ Origin) × (0 ≡ v))
         ⊎ (((s : Stage) × (m ≡ At n s) × (is_moment b (At n s) ≡ true) × (own_arc (row_at b n) s t ≡ Some v))
-        ⊎ (((k : ℕ) × (s : Stage) × (m ≡ At k s) × (is_moment b (At k s) ≡ true) × (before k n ≡ true) × (later_arc b (row_at b k) (row_at b n) s t ≡ Some v))
+        ⊎ (((k : ℕ) × (s : Stage) × (m ≡ At k s) × (is_moment b (At k s) ≡ true) × (is_moment b (At n t) ≡ true) × (before k n ≡ true) × (later_arc b (row_at b k) (row_at b n) s t ≡ Some v))
         ⊎ ((l : KnownArc) × Among l g.loads × (m ≡ l.from) × (At n t ≡ l.to) × (v ≡ l.wait))))
 
-    leads-table : (m : Moment) (t : Stage) (v : ℕ) → is_moment b m ≡ true → is_in_order before m (At n t) ≡ true → arc b m (At n t) ≡ Some v → Leads m t v
-    leads-table Origin t v is stands at = inl (refl, Some-same 0 v at)
-    leads-table (At k s) t v is stands at =
+    leads-table : (m : Moment) (t : Stage) (v : ℕ) → is_moment b m ≡ true → is_moment b (At n t) ≡ true → is_in_order before m (At n t) ≡ true → arc b m (At n t) ≡ Some v → Leads m t v
+    leads-table Origin t v is is_t stands at = inl (refl, Some-same 0 v at)
+    leads-table (At k s) t v is is_t stands at =
         elim (cases_eq k n) [
           | inl same ↦
               let own : own_arc (row_at b k) s t ≡ Some v = sym (cond-true {A = Option ℕ} (eqb k n) (own_arc (row_at b k) s t) (later_arc b (row_at b k) (row_at b n) s t) (eq-eqb k n same)) ∙ at in
@@ -89,14 +91,14 @@ module _ (g : Ground) (ordered : IsOrdered g) (e : Moment) (front : is_front e �
                 | inl same ↦ absurd (other (eqb-true k n same))
                 | inr first ↦ first
               ] in
-              inr (inr (inl (k, s, refl, is, first, after)))
+              inr (inr (inl (k, s, refl, is, is_t, first, after)))
         ]
-    leads-table End t v is stands at = absurd (None-none v at)
+    leads-table End t v is is_t stands at = absurd (None-none v at)
 
     leads : (m : Moment) (t : Stage) (v : ℕ) → arcs m (At n t) ≡ Some v → Leads m t v
     leads m t v is =
         elim (loads-cases (network b before) g.loads m (At n t) v is) [
-          | inl table ↦ (let (is_m, is_t, stands, at) = network-parts b before m (At n t) v table in leads-table m t v is_m stands at)
+          | inl table ↦ (let (is_m, is_t, stands, at) = network-parts b before m (At n t) v table in leads-table m t v is_m is_t stands at)
           | inr load ↦ inr (inr (inr load))
         ]
 
@@ -112,6 +114,17 @@ module _ (g : Ground) (ordered : IsOrdered g) (e : Moment) (front : is_front e �
     later-edge m s t w is_m first is_s is_t is =
         table-arc g ordered (At m s) (At n t) w (is-stage m s is_m is_s) (is-stage n t is_n is_t) (or_right (eqb m n) (before m n) first)
         (cond-false {A = Option ℕ} (eqb m n) (own_arc (row_at b m) s t) (later_arc b (row_at b m) (row_at b n) s t) (apart m first) ∙ is)
+
+    -- the same of any numbers
+    edge : (m k : ℕ) → IsNumber b m → IsNumber b k → before m k ≡ true → (s t : Stage) (w : ℕ) → has_stage (row_at b m) s ≡ true → has_stage (row_at b k) t ≡ true → later_arc b (row_at b m) (row_at b k) s t ≡ Some w → HasArc arcs (At m s) w (At k t)
+    edge m k is_m is_k first s t w is_s is_t is =
+        table-arc g ordered (At m s) (At k t) w (is-stage m s is_m is_s) (is-stage k t is_k is_t) (or_right (eqb m k) (before m k) first)
+        (cond-false {A = Option ℕ} (eqb m k) (own_arc (row_at b m) s t) (later_arc b (row_at b m) (row_at b k) s t) (ne_eqb m k (λ same. true≢false (sym (subst (λ i. before i k ≡ true) same first) ∙ ordered.no_ring k is_k))) ∙ is)
+
+    own-of : (m : ℕ) → IsNumber b m → (s t : Stage) (w : ℕ) → has_stage (row_at b m) s ≡ true → has_stage (row_at b m) t ≡ true → own_arc (row_at b m) s t ≡ Some w → HasArc arcs (At m s) w (At m t)
+    own-of m is_m s t w is_s is_t is =
+        table-arc g ordered (At m s) (At m t) w (is-stage m s is_m is_s) (is-stage m t is_m is_t) (or_left (eqb m m) (before m m) (eq-eqb m m refl))
+        (cond-true {A = Option ℕ} (eqb m m) (own_arc (row_at b m) s t) (later_arc b (row_at b m) (row_at b m) s t) (eq-eqb m m refl) ∙ is)
 
     -- FROM THE ORIGIN, AND FROM ITSELF
 
@@ -181,10 +194,113 @@ module _ (g : Ground) (ordered : IsOrdered g) (e : Moment) (front : is_front e �
     not-front : (t : Stage) → e ≡ At n t → is_front (At n t) ≡ false → ⊥
     not-front t is off = true≢false (sym (subst (λ m. is_front m ≡ true) is front) ∙ off)
 
+    -- BY THOSE THAT ARE NEAR
+
+    -- an arc from a near number, or of its own, by which a path is as long
+    abbrev IsHop : Stage → ℕ → Type 0
+    IsHop t w =
+        ((k : ℕ) × (s : Stage) × (u v : ℕ) × (near k ≡ true) × (is_moment b (At k s) ≡ true) × (before k n ≡ true) × (later_arc b (row_at b k) (row_at b n) s t ≡ Some v) × (S (At k s) ≡ Some u) × (u + v ≡ w))
+        ⊎ ((s : Stage) × (u v : ℕ) × (is_moment b (At n s) ≡ true) × (own_arc (row_at b n) s t ≡ Some v) × (S (At n s) ≡ Some u) × (u + v ≡ w))
+
+    -- it is no longer than the longest
+    no-longer : (m : Moment) (t : Stage) (u v w : ℕ) → S (At n t) ≡ Some w → S m ≡ Some u → HasArc arcs m v (At n t) → w ≤ u + v → u + v ≡ w
+    no-longer m t u v w is at arc le = omega (arith, le, step g ordered e m (At n t) u v at arc, height-some (S (At n t)) w is)
+
+    module _ (k : ℕ) (is_k : IsNumber b k) (k_before : before k n ≡ true) (j : ℕ) (is_j : IsNumber b j) (j_near : near j ≡ true) (between : before k j ≡ true) (covered : covers b k j n ≡ true) where
+      j_before : before j n ≡ true
+      j_before = is_near.within j is_j j_near
+
+      hop : (s t : Stage) (u v w : ℕ) → S (At n t) ≡ Some w → has_stage (row_at b j) s ≡ true → has_stage (row_at b n) t ≡ true → later_arc b (row_at b j) (row_at b n) s t ≡ Some v → S (At j s) ≡ Some u → w ≤ u + v → IsHop t w
+      hop s t u v w is is_s is_t arc_is at le =
+          inl (j, s, u, v, j_near, is-stage j s is_j is_s, j_before, arc_is, at, no-longer (At j s) t u v w is at (later-edge j s t v is_j j_before is_s is_t arc_is) le)
+
+      -- to the one between, and from its issue to what it writes, and to its free
+      to-j : (s t : Stage) (u v : ℕ) → has_stage (row_at b k) s ≡ true → has_stage (row_at b j) t ≡ true → later_arc b (row_at b k) (row_at b j) s t ≡ Some v → S (At k s) ≡ Some u → (x : ℕ) × (S (At j t) ≡ Some x) × (u + v ≤ x)
+      to-j s t u v is_s is_t arc_is at =
+          some-height (S (At j t)) (u + v) (step g ordered e (At k s) (At j t) u v at (edge k j is_k is_j between s t v is_s is_t arc_is))
+
+      start-of : (m u : ℕ) → IsNumber b m → S (At m Issue) ≡ Some u → (x : ℕ) × (S (At m Start) ≡ Some x) × (u ≤ x)
+      start-of m u is at = (let (x, there, le) = some-height (S (At m Start)) (u + 0) (step g ordered e (At m Issue) (At m Start) u 0 at (own-of m is Issue Start 0 refl refl refl)) in (x, there, omega (arith, le)))
+
+      result-of : (x : Reg) (u : ℕ) → writes (row_at b j) x ≡ true → S (At j Issue) ≡ Some u → (y : ℕ) × (S (At j (Done x)) ≡ Some y) × (u ≤ y)
+      result-of x u there at =
+          let (s, is_s, le) = start-of j u is_j at in
+          let (y, is_y, more) = some-height (S (At j (Done x))) (s + latency_to (row_at b j) x) (step g ordered e (At j Start) (At j (Done x)) s (latency_to (row_at b j) x) is_s (own-of j is_j Start (Done x) (latency_to (row_at b j) x) refl there refl)) in
+          (y, is_y, omega (arith, le, more))
+
+      free-of : (u : ℕ) → S (At j Issue) ≡ Some u → (y : ℕ) × (S (At j Free) ≡ Some y) × (u ≤ y)
+      free-of u at =
+          let (s, is_s, le) = start-of j u is_j at in
+          let (y, is_y, more) = some-height (S (At j Free)) (s + ((row_at b j).hold + 1)) (step g ordered e (At j Start) (At j Free) s ((row_at b j).hold + 1) is_s (own-of j is_j Start Free ((row_at b j).hold + 1) refl refl refl)) in
+          (y, is_y, omega (arith, le, more))
+
+      covered-hop : (s t : Stage) (u v w : ℕ) → S (At n t) ≡ Some w → has_stage (row_at b k) s ≡ true → has_stage (row_at b n) t ≡ true → later_arc b (row_at b k) (row_at b n) s t ≡ Some v → S (At k s) ≡ Some u → u + v ≡ w → IsHop t w
+      covered-hop Issue Issue u v w is is_s is_t arc_is at sum =
+          let (x, there, le) = to-j Issue Issue u (row_at b k).parcels refl refl refl at in
+          hop Issue Issue x (row_at b j).parcels w is refl refl refl there (omega (arith, le, sum, Some-same (row_at b k).parcels v arc_is))
+      covered-hop (Done y) Issue u v w is is_s is_t arc_is at sum =
+          let (used, nil) = only_if-parts (writes (row_at b n) y) 0 v arc_is in
+          let there : writes (row_at b j) y ≡ true = covers-first b k j n y covered is_s (or_left (writes (row_at b n) y) (has_reg y (row_at b n).reads) used) in
+          let (x, is_x, le) = to-j (Done y) Issue u 0 is_s refl (if-only (writes (row_at b j) y) 0 there) at in
+          let (z, is_z, more) = result-of y x there is_x in
+          hop (Done y) Issue z 0 w is there refl (if-only (writes (row_at b n) y) 0 used) is_z (omega (arith, le, more, sum, nil))
+      covered-hop Free Issue u v w is is_s is_t arc_is at sum =
+          let (shares, nil) = only_if-parts (share_unit b k n) 0 v arc_is in
+          let (first, second) = covers-unit b k j n covered shares in
+          let (x, is_x, le) = to-j Free Issue u 0 refl refl (if-only (share_unit b k j) 0 first) at in
+          let (z, is_z, more) = free-of x is_x in
+          hop Free Issue z 0 w is refl refl (if-only (share_unit b j n) 0 second) is_z (omega (arith, le, more, sum, nil))
+      covered-hop (Done y) Start u v w is is_s is_t arc_is at sum =
+          let (used, nil) = only_if-parts (has_reg y (row_at b n).reads) 0 v arc_is in
+          let there : writes (row_at b j) y ≡ true = covers-first b k j n y covered is_s (or_right (writes (row_at b n) y) (has_reg y (row_at b n).reads) used) in
+          let (x, is_x, le) = to-j (Done y) Issue u 0 is_s refl (if-only (writes (row_at b j) y) 0 there) at in
+          let (z, is_z, more) = result-of y x there is_x in
+          hop (Done y) Start z 0 w is there refl (if-only (has_reg y (row_at b n).reads) 0 used) is_z (omega (arith, le, more, sum, nil))
+      covered-hop Start Start u v w is is_s is_t arc_is at sum =
+          let (pair, one) = only_if-parts (memory_pair (row_at b k).memory (row_at b n).memory) 1 v arc_is in
+          let (first, second) = covers-memory b k j n covered pair in
+          let (x, is_x, le) = to-j Start Start u 1 refl refl (if-only (memory_pair (row_at b k).memory (row_at b j).memory) 1 first) at in
+          hop Start Start x 1 w is refl refl (if-only (memory_pair (row_at b j).memory (row_at b n).memory) 1 second) is_x (omega (arith, le, sum, one))
+      -- it waits for what the one between writes already when it issues
+      covered-hop Start (Done y) u v w is is_s is_t arc_is at sum =
+          let (used, one) = only_if-parts (has_reg y (row_at b k).reads) 1 v arc_is in
+          let there : writes (row_at b j) y ≡ true = covers-second b k j n y covered is_t (or_right (writes (row_at b k) y) (has_reg y (row_at b k).reads) used) in
+          let (x, is_x, le) = to-j Start (Done y) u 1 refl there (if-only (has_reg y (row_at b k).reads) 1 used) at in
+          let (z, is_z, more) = some-height (S (At n Issue)) (x + 0) (step g ordered e (At j (Done y)) (At n Issue) x 0 is_x (later-edge j (Done y) Issue 0 is_j j_before there refl (if-only (writes (row_at b n) y) 0 is_t))) in
+          let (a, is_a, most) = start-of n z is_n is_z in
+          inr (
+            Start,
+            a,
+            latency_to (row_at b n) y,
+            is-stage n Start is_n refl,
+            refl,
+            is_a,
+            no-longer (At n Start) (Done y) a (latency_to (row_at b n) y) w is is_a (own-edge Start (Done y) (latency_to (row_at b n) y) refl is_t refl) (omega (arith, le, more, most, sum, one)),
+          )
+      covered-hop Issue Start u v w is is_s is_t arc_is at sum = absurd (None-none v arc_is)
+      covered-hop Issue (Done y) u v w is is_s is_t arc_is at sum = absurd (None-none v arc_is)
+      covered-hop Issue Free u v w is is_s is_t arc_is at sum = absurd (None-none v arc_is)
+      covered-hop Start Issue u v w is is_s is_t arc_is at sum = absurd (None-none v arc_is)
+      covered-hop Start Free u v w is is_s is_t arc_is at sum = absurd (None-none v arc_is)
+      covered-hop (Done x) (Done y) u v w is is_s is_t arc_is at sum = absurd (None-none v arc_is)
+      covered-hop (Done x) Free u v w is is_s is_t arc_is at sum = absurd (None-none v arc_is)
+      covered-hop Free Start u v w is is_s is_t arc_is at sum = absurd (None-none v arc_is)
+      covered-hop Free (Done y) u v w is is_s is_t arc_is at sum = absurd (None-none v arc_is)
+      covered-hop Free Free u v w is is_s is_t arc_is at sum = absurd (None-none v arc_is)
+
+    near-hop : (k : ℕ) (s t : Stage) (u v w : ℕ) → S (At n t) ≡ Some w → is_moment b (At k s) ≡ true → is_moment b (At n t) ≡ true → before k n ≡ true → later_arc b (row_at b k) (row_at b n) s t ≡ Some v → S (At k s) ≡ Some u → u + v ≡ w → IsHop t w
+    near-hop k s t u v w is is_s is_t k_before arc_is at sum =
+        let is_k : IsNumber b k = moment-number b k s is_s in
+        elim (is_near.enough k is_k k_before) [
+          | inl here ↦ inl (k, s, u, v, here, is_s, k_before, arc_is, at, sum)
+          | inr (j, is_j, j_near, between, covered) ↦
+              covered-hop k is_k k_before j is_j j_near between covered s t u v w is (moment-parts b k s is_s).1 (moment-parts b n t is_t).1 arc_is at sum
+        ]
+
     -- the last arc of a path to it
     last-cases : (t : Stage) (w : ℕ) (P : Type 0) → S (At n t) ≡ Some w → (e ≡ At n t → 0 ≡ w → P) → (w < height origin → P)
         → ((s : Stage) (u v : ℕ) → is_moment b (At n s) ≡ true → own_arc (row_at b n) s t ≡ Some v → S (At n s) ≡ Some u → u + v ≡ w → P)
-        → ((k : ℕ) (s : Stage) (u v : ℕ) → is_moment b (At k s) ≡ true → before k n ≡ true → later_arc b (row_at b k) (row_at b n) s t ≡ Some v → S (At k s) ≡ Some u → u + v ≡ w → P)
+        → ((k : ℕ) (s : Stage) (u v : ℕ) → is_moment b (At k s) ≡ true → near k ≡ true → before k n ≡ true → later_arc b (row_at b k) (row_at b n) s t ≡ Some v → S (At k s) ≡ Some u → u + v ≡ w → P)
         → ((l : KnownArc) → Among l g.loads → At n t ≡ l.to → w < height (by_loads_to g.loads times e (At n t)) → P) → P
     last-cases t w P is itself from_origin own stands load =
         elim (last-arc g ordered e (At n t) w is) [
@@ -196,7 +312,12 @@ module _ (g : Ground) (ordered : IsOrdered g) (e : Moment) (front : is_front e �
                 | inr more ↦ elim more [
                   | inl by_own ↦ (let (s, at, is_s, arc_is) = by_own in own s u v is_s arc_is (ap S (sym at) ∙ first) sum)
                   | inr more2 ↦ elim more2 [
-                    | inl by_other ↦ (let (k, s, at, is_k, before_n, arc_is) = by_other in stands k s u v is_k before_n arc_is (ap S (sym at) ∙ first) sum)
+                    | inl by_other ↦
+                        let (k, s, at, is_k, is_t, before_n, arc_is) = by_other in
+                        elim (near-hop k s t u v w is is_k is_t before_n arc_is (ap S (sym at) ∙ first) sum) [
+                          | inl (j, r, x, y, j_near, is_j, j_before, its, there, same) ↦ stands j r x y is_j j_near j_before its there same
+                          | inr (r, x, y, is_r, its, there, same) ↦ own r x y is_r its there same
+                        ]
                     | inr by_load ↦ (let (l, among, from, to, wait) = by_load in load l among to (loads-high l t m u v w among from to wait first sum (span-fits g ordered e (At n t) w is)))
                   ]
                 ]
@@ -206,7 +327,10 @@ module _ (g : Ground) (ordered : IsOrdered g) (e : Moment) (front : is_front e �
     -- AFTER ALL that stands before
 
     abbrev test : ℕ → Bool
-    test m = before m n
+    test = near
+
+    stands-first : (m : ℕ) → Among m all → near m ≡ true → before m n ≡ true
+    stands-first m among is = is_near.within m (among-number m among) is
 
     abbrev issues : ℕ → Option ℕ
     issues m = issue_after b n m (T m)
@@ -237,8 +361,9 @@ module _ (g : Ground) (ordered : IsOrdered g) (e : Moment) (front : is_front e �
         later-right (add (T k).issue (row_at b k).parcels) (later (when (share_unit b k n) (T k).free) (latest_done (writes (row_at b n)) (T k) (row_at b k).writes)) w
         (later-left (when (share_unit b k n) (T k).free) (latest_done (writes (row_at b n)) (T k) (row_at b k).writes) w unit)
 
-    issues-low : (m : ℕ) → Among m all → before m n ≡ true → height (issues m) ≤ height (S (At n Issue))
-    issues-low m among first =
+    issues-low : (m : ℕ) → Among m all → near m ≡ true → height (issues m) ≤ height (S (At n Issue))
+    issues-low m among is =
+        let first : before m n ≡ true = stands-first m among is in
         let is_m : IsNumber b m = among-number m among in
         let t = known m is_m first in
         later-low (add (T m).issue (row_at b m).parcels) (later (when (share_unit b m n) (T m).free) (latest_done (writes (row_at b n)) (T m) (row_at b m).writes)) (height (S (At n Issue)))
@@ -262,8 +387,9 @@ module _ (g : Ground) (ordered : IsOrdered g) (e : Moment) (front : is_front e �
         (done-high (λ y. S (At k (Done y))) (T k) (λ y. has_reg y (row_at b n).reads) (row_at b k).writes (few k) t.results x w (moment-parts b k (Done x) is_m).1 reads (omega (arith, sum, nil, height-some (S (At k (Done x))) u at)))
     start-stands k Free u v w is_m first is at sum fits = absurd (None-none v is)
 
-    starts-low : (m : ℕ) → Among m all → before m n ≡ true → height (starts m) ≤ height (S (At n Start))
-    starts-low m among first =
+    starts-low : (m : ℕ) → Among m all → near m ≡ true → height (starts m) ≤ height (S (At n Start))
+    starts-low m among is =
+        let first : before m n ≡ true = stands-first m among is in
         let is_m : IsNumber b m = among-number m among in
         let t = known m is_m first in
         later-low (when (memory_pair (row_at b m).memory (row_at b n).memory) (add (T m).start 1)) (latest_done (λ x. has_reg x (row_at b n).reads) (T m) (row_at b m).writes) (height (S (At n Start)))
@@ -274,10 +400,10 @@ module _ (g : Ground) (ordered : IsOrdered g) (e : Moment) (front : is_front e �
     -- THE ISSUE
 
     abbrev issue : Option ℕ
-    issue = head_issue g.loads e times n (after_all g times n)
+    issue = head_issue g.loads e times n (after_all b near times n)
 
     abbrev after_issue : Option ℕ
-    after_issue = (after_all g times n).issue
+    after_issue = (after_all b near times n).issue
 
     issue-after : after_issue ≡ latest (λ m. when (test m) (issues m)) all
     issue-after = issue-part test (after_one b times n) all
@@ -289,9 +415,9 @@ module _ (g : Ground) (ordered : IsOrdered g) (e : Moment) (front : is_front e �
         (λ same none. later-left (at_once e (At n Issue)) (later after_issue loads) w (later-left (only_if (same_moment e (At n Issue)) 0) origin w (omega (arith, none, same-high e (At n Issue) same))))
         (λ high. later-left (at_once e (At n Issue)) (later after_issue loads) w (later-right (only_if (same_moment e (At n Issue)) 0) origin w high))
         (λ s u v is_s own first sum. absurd (no-own s v own))
-        (λ k s u v is_k before_n arc_is first sum.
+        (λ k s u v is_k k_near before_n arc_is first sum.
         let high : w < height (issues k) = issue-stands k s u v w is_k before_n arc_is first sum (span-fits g ordered e (At n Issue) w is) in
-        let high2 : w < height after_issue = subst (λ o. w < height o) (sym issue-after) (all-high test issues k all w (number-among k (moment-number b k s is_k)) before_n high) in
+        let high2 : w < height after_issue = subst (λ o. w < height o) (sym issue-after) (all-high test issues k all w (number-among k (moment-number b k s is_k)) k_near high) in
         later-right (at_once e (At n Issue)) (later after_issue loads) w (later-left after_issue loads w high2))
         (λ l among to high. later-right (at_once e (At n Issue)) (later after_issue loads) w (later-right after_issue loads w high))
       where
@@ -316,10 +442,10 @@ module _ (g : Ground) (ordered : IsOrdered g) (e : Moment) (front : is_front e �
     -- THE START
 
     abbrev start : Option ℕ
-    start = head_start g.loads e times n (after_all g times n) issue
+    start = head_start g.loads e times n (after_all b near times n) issue
 
     abbrev after_start : Option ℕ
-    after_start = (after_all g times n).start
+    after_start = (after_all b near times n).start
 
     start-after : after_start ≡ latest (λ m. when (test m) (starts m)) all
     start-after = start-part test (after_one b times n) all
@@ -332,9 +458,9 @@ module _ (g : Ground) (ordered : IsOrdered g) (e : Moment) (front : is_front e �
         (λ same none. later-left (later once issue) (later after_start loads) w (later-left once issue w (later-left (only_if (same_moment e (At n Start)) 0) origin w (omega (arith, none, same-high e (At n Start) same)))))
         (λ high. later-left (later once issue) (later after_start loads) w (later-left once issue w (later-right (only_if (same_moment e (At n Start)) 0) origin w high)))
         (λ s u v is_s own first sum. later-left (later once issue) (later after_start loads) w (later-right once issue w (by-own s u v own first sum)))
-        (λ k s u v is_k before_n arc_is first sum.
+        (λ k s u v is_k k_near before_n arc_is first sum.
         let high : w < height (starts k) = start-stands k s u v w is_k before_n arc_is first sum (span-fits g ordered e (At n Start) w is) in
-        let high2 : w < height after_start = subst (λ o. w < height o) (sym start-after) (all-high test starts k all w (number-among k (moment-number b k s is_k)) before_n high) in
+        let high2 : w < height after_start = subst (λ o. w < height o) (sym start-after) (all-high test starts k all w (number-among k (moment-number b k s is_k)) k_near high) in
         later-right (later once issue) (later after_start loads) w (later-left after_start loads w high2))
         (λ l among to high. later-right (later once issue) (later after_start loads) w (later-right after_start loads w high))
       where
@@ -371,8 +497,8 @@ module _ (g : Ground) (ordered : IsOrdered g) (e : Moment) (front : is_front e �
         (λ same none. absurd (not-front (Done x) same refl))
         (λ high. later-left origin (later by_start (readers x)) w high)
         (λ s u v is_s own first sum. later-right origin (later by_start (readers x)) w (later-left by_start (readers x) w (by-own s u v own first sum)))
-        (λ k s u v is_k before_n arc_is first sum. later-right origin (later by_start (readers x)) w (later-right by_start (readers x) w
-        (all-high test (λ m. done_after b m (T m) x) k all w (number-among k (moment-number b k s is_k)) before_n (by-other k s u v is_k before_n arc_is first sum))))
+        (λ k s u v is_k k_near before_n arc_is first sum. later-right origin (later by_start (readers x)) w (later-right by_start (readers x) w
+        (all-high test (λ m. done_after b m (T m) x) k all w (number-among k (moment-number b k s is_k)) k_near (by-other k s u v is_k before_n arc_is first sum))))
         (λ l among to high. absurd (not-back l (Done x) among to refl))
       where
         by-own : (s : Stage) (u v : ℕ) → own_arc (row_at b n) s (Done x) ≡ Some v → S (At n s) ≡ Some u → u + v ≡ w → w < height (add start (latency_to (row_at b n) x))
@@ -400,8 +526,9 @@ module _ (g : Ground) (ordered : IsOrdered g) (e : Moment) (front : is_front e �
           later-low origin (later by_start (readers x)) h (origin-low (Done x) there)
               (later-low by_start (readers x) h
               (step-low g ordered e (At n Start) (At n (Done x)) start (latency_to (row_at b n) x) start-is (own-edge Start (Done x) (latency_to (row_at b n) x) refl there refl))
-              (all-low test (λ m. done_after b m (T m) x) all h (λ m among first.
+              (all-low test (λ m. done_after b m (T m) x) all h (λ m among is.
               when-low (has_reg x (row_at b m).reads) (add (T m).start 1) h (λ reads.
+              let first : before m n ≡ true = stands-first m among is in
               let is_m : IsNumber b m = among-number m among in
               step-low g ordered e (At m Start) (At n (Done x)) (T m).start 1 (known m is_m first).start (later-edge m Start (Done x) 1 is_m first refl there (cond-true {A = Option ℕ} (has_reg x (row_at b m).reads) (Some 1) None reads)))))),
         ))
@@ -416,11 +543,11 @@ module _ (g : Ground) (ordered : IsOrdered g) (e : Moment) (front : is_front e �
         (is_first ∙ (ap (λ r. head_done b e n start r v.reg) one ∙ each v.reg (in-first v (w ∷ ws))), is_second ∙ (ap (λ r. head_done b e n start r w.reg) two ∙ each w.reg (in-second v w ws)))
 
     abbrev results : Times
-    results = head_results b e n (after_all g times n) issue start
+    results = head_results b e n (after_all b near times n) issue start
 
     results-are : AreResults (λ x. S (At n (Done x))) results (row_at b n).writes
     results-are =
-        results-go (row_at b n).writes (after_all g times n).first (after_all g times n).second results done-is
+        results-go (row_at b n).writes (after_all b near times n).first (after_all b near times n).second results done-is
         (first-part test (after_one b times n) all) (second-part test (after_one b times n) all) refl refl
 
     -- THE FREE
@@ -442,7 +569,7 @@ module _ (g : Ground) (ordered : IsOrdered g) (e : Moment) (front : is_front e �
         (λ same none. absurd (not-front Free same refl))
         (λ high. later-left origin (later by_start (add held 1)) w high)
         (λ s u v is_s own first sum. later-right origin (later by_start (add held 1)) w (by-own s u v is_s own first sum))
-        (λ k s u v is_k before_n arc_is first sum. absurd (no-other k s v arc_is))
+        (λ k s u v is_k k_near before_n arc_is first sum. absurd (no-other k s v arc_is))
         (λ l among to high. absurd (not-back l Free among to refl))
       where
         by-own : (s : Stage) (u v : ℕ) → is_moment b (At n s) ≡ true → own_arc (row_at b n) s Free ≡ Some v → S (At n s) ≡ Some u → u + v ≡ w → w < height (later (add start ((row_at b n).hold + 1)) (add held 1))
@@ -477,7 +604,7 @@ module _ (g : Ground) (ordered : IsOrdered g) (e : Moment) (front : is_front e �
               (add-low held 1 h (λ u is. omega (arith, held-low, height-some held u is)))),
         ))
 
-    pub heads-are : AreTimes b S n (heads_of g e times n)
+    pub heads-are : AreTimes b S n (heads_of g near e times n)
     heads-are = record { issue = issue-is; start = start-is; free = free-is; results = free-results (row_at b n).writes results-are }
       where
         free-results : (ws : List Write) → AreResults (λ x. S (At n (Done x))) results ws → AreResults (λ x. S (At n (Done x))) (with_free results free) ws

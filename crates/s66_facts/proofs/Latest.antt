@@ -1,12 +1,19 @@
 -- The latest of some, one after the other.
-use Rattle.std.proofs.Common.{ℕ, zero, suc, ◌+◌, ◌-◌, ◌≤◌, ◌<◌, ◌≡◌, Bool, true, false, cond, List, [], ◌∷◌, length, map, get_or, refl, sym, ap, arith, ◌∙◌, Option, Some, None}
-use Rattle.s66_isa.specs.Lists.{rising}
+use Rattle.std.proofs.Common.{ℕ, zero, suc, ◌-◌, ◌≤◌, ◌<◌, ◌≡◌, not, ◌&&◌, ◌==◌, Bool, true, false, cond, List, [], ◌∷◌, length, map, get_or, refl, sym, ap, arith, inl, inr, ◌∙◌, Option, Some, None}
+use Rattle.std.proofs.lemmas.Bool.{cases_eq, eq-eqb, ne_eqb}
+use Rattle.s66_isa.specs.Lists.{Among}
+use Rattle.s66_isa.specs.declared.limits.TheConstants.{BLOCK_LIMIT}
+use Rattle.s66_isa.proofs.Lists.{rising-among, among-rising}
+use Rattle.s66_model.specs.Timing.{Problem}
+use Rattle.s66_moments.specs.Facts.{IsNumber}
 use Rattle.s66_isa.specs.declared.instr.Instr.{Instr}
 use Rattle.s66_isa.specs.declared.profile.Profile.{Profile}
-use Rattle.s66_isa.specs.Table.{Row, row, instr_at, idle_instr}
+use Rattle.s66_isa.specs.Table.{Row, row, numbers, instr_at, idle_instr}
 use Rattle.s66_moments.specs.Known.{later}
 use Rattle.s66_moments.proofs.Spans.{height-same, height-later}
+use Rattle.s66_facts.specs.declared.marks.Marks.{Marks}
 use Rattle.s66_facts.specs.declared.times.Times.{Times}
+use Rattle.s66_facts.specs.Marked.{is_marked}
 use Rattle.s66_facts.specs.Passes.{no_times, later_times, gathered}
 
 pub later-assoc : (o p q : Option ℕ) → later (later o p) q ≡ later o (later p q)
@@ -27,35 +34,79 @@ times-none t = rw (later-none t.issue, later-none t.start, later-none t.free, la
 none-times : (t : Times) → later_times no_times t ≡ t
 none-times t = refl
 
-rising-step : (count position : ℕ) → position < count → (position + 1) ∷ rising (count - (position + 1)) (position + 1 + 1) ≡ rising (count - position) (position + 1)
-rising-step count position less =
-    let one : suc (count - (position + 1)) ≡ count - position = omega (arith, less) in
-    let next : position + 1 + 1 ≡ suc (position + 1) = omega arith in
-    ap (λ k. (position + 1) ∷ rising (count - (position + 1)) k) next ∙ ap (λ k. rising k (position + 1)) one
+later-swap : (o p q : Option ℕ) → later o (later p q) ≡ later p (later o q)
+later-swap o p q =
+    height-same (later o (later p q)) (later p (later o q)) (omega (arith, height-later o (later p q), height-later p q, height-later p (later o q), height-later o q))
 
-module _ (test : ℕ → Bool) (f : ℕ → Times) (whole t : Times) (count position : ℕ) (less : position < count) (is : later_times t (gathered test f (rising (count - position) (position + 1))) ≡ whole) where
-  abbrev rest : Times
-  rest = gathered test f (rising (count - (position + 1)) (position + 1 + 1))
+later-twice : (o p : Option ℕ) → later o (later o p) ≡ later o p
+later-twice o p = height-same (later o (later o p)) (later o p) (omega (arith, height-later o (later o p), height-later o p))
 
-  one-more : later_times t (later_times (cond {A = Times} (test (position + 1)) (f (position + 1)) no_times) rest) ≡ whole
-  one-more = ap (λ ns. later_times t (gathered test f ns)) (rising-step count position less) ∙ is
+times-swap : (s t u : Times) → later_times s (later_times t u) ≡ later_times t (later_times s u)
+times-swap s t u =
+    rw (later-swap s.issue t.issue u.issue, later-swap s.start t.start u.start, later-swap s.free t.free u.free, later-swap s.first t.first u.first, later-swap s.second t.second u.second) refl
 
-  -- one number more, which stands so
-  pub gathered-next : test (position + 1) ≡ true → later_times (later_times t (f (position + 1))) rest ≡ whole
-  gathered-next stands =
-      times-assoc t (f (position + 1)) rest
-      ∙ (ap (λ k. later_times t (later_times (cond {A = Times} k (f (position + 1)) no_times) rest)) (sym stands) ∙ one-more)
+times-twice : (s t : Times) → later_times s (later_times s t) ≡ later_times s t
+times-twice s t =
+    rw (later-twice s.issue t.issue, later-twice s.start t.start, later-twice s.free t.free, later-twice s.first t.first, later-twice s.second t.second) refl
 
-  -- and which doesn't
-  pub gathered-past : test (position + 1) ≡ false → later_times t rest ≡ whole
-  gathered-past off =
-      ap (λ u. later_times t u) (sym (none-times rest))
-      ∙ (ap (λ k. later_times t (later_times (cond {A = Times} k (f (position + 1)) no_times) rest)) (sym off) ∙ one-more)
+-- ONE NUMBER that passes, and the others
 
-pub gathered-all : (test : ℕ → Bool) (f : ℕ → Times) (whole t : Times) (count position : ℕ) → count ≤ position → later_times t (gathered test f (rising (count - position) (position + 1))) ≡ whole → t ≡ whole
-gathered-all test f whole t count position all is =
-    let none : 0 ≡ count - position = omega (arith, all) in
-    sym (times-none t) ∙ (ap (λ k. later_times t (gathered test f (rising k (position + 1)))) none ∙ is)
+module _ (test rest : ℕ → Bool) (f : ℕ → Times) (m : ℕ) (marked : test m ≡ true) where
+  abbrev part : Bool → ℕ → Times
+  part passes k = cond {A = Times} passes (f k) no_times
+
+  absorbed : (ns : List ℕ) → ((k : ℕ) → Among k ns → rest k ≡ (not (k == m) && test k)) → later_times (f m) (gathered test f ns) ≡ later_times (f m) (gathered rest f ns)
+  absorbed [] each = refl
+  absorbed (k ∷ ks) each =
+      times-swap (f m) (part (test k) k) (gathered test f ks)
+      ∙ (ap (λ t. later_times (part (test k) k) t) (absorbed ks (λ j among. each j (inr among)))
+      ∙ (sym (times-swap (f m) (part (test k) k) (gathered rest f ks)) ∙ head (each k (inl refl))))
+    where
+      head : rest k ≡ (not (k == m) && test k) → later_times (f m) (later_times (part (test k) k) (gathered rest f ks)) ≡ later_times (f m) (later_times (part (rest k) k) (gathered rest f ks))
+      head is =
+          elim (cases_eq k m) [
+            | inl same ↦
+                let on : test k ≡ true = ap test same ∙ marked in
+                let off : rest k ≡ false = is ∙ rw (eq-eqb k m same) refl in
+                ap (λ p. later_times (f m) (later_times (part p k) (gathered rest f ks))) on
+                ∙ (ap (λ i. later_times (f m) (later_times (f i) (gathered rest f ks))) same
+                ∙ (times-twice (f m) (gathered rest f ks) ∙ ap (λ p. later_times (f m) (later_times (part p k) (gathered rest f ks))) (sym off)))
+            | inr differ ↦
+                let still : rest k ≡ test k = is ∙ rw (ne_eqb k m differ) refl in
+                ap (λ p. later_times (f m) (later_times (part p k) (gathered rest f ks))) (sym still)
+          ]
+
+  has-one : (ns : List ℕ) → Among m ns → later_times (f m) (gathered test f ns) ≡ gathered test f ns
+  has-one [] among = absurd among
+  has-one (k ∷ ks) (inl here) =
+      let on : part (test k) k ≡ f m = ap (λ i. part (test i) i) (sym here) ∙ ap (λ p. part p m) marked in
+      ap (λ t. later_times (f m) (later_times t (gathered test f ks))) on ∙ (times-twice (f m) (gathered test f ks) ∙ ap (λ t. later_times t (gathered test f ks)) (sym on))
+  has-one (k ∷ ks) (inr past) =
+      times-swap (f m) (part (test k) k) (gathered test f ks) ∙ ap (λ t. later_times (part (test k) k) t) (has-one ks past)
+
+  -- taken out
+  pub gathered-out : (ns : List ℕ) → Among m ns → ((k : ℕ) → Among k ns → rest k ≡ (not (k == m) && test k)) → later_times (f m) (gathered rest f ns) ≡ gathered test f ns
+  gathered-out ns among each = sym (absorbed ns each) ∙ has-one ns among
+
+-- no number passes
+pub gathered-none : (test : ℕ → Bool) (f : ℕ → Times) (ns : List ℕ) → ((k : ℕ) → test k ≡ false) → gathered test f ns ≡ no_times
+gathered-none test f [] off = refl
+gathered-none test f (k ∷ ks) off = ap (λ p. later_times (cond {A = Times} p (f k) no_times) (gathered test f ks)) (off k) ∙ gathered-none test f ks off
+
+-- one more of those that are marked, of a block's numbers
+pub gathered-next : (b : Problem) (old new : Marks) (f : ℕ → Times) (m : ℕ) (latest whole : Times) → length b.block ≤ BLOCK_LIMIT → IsNumber b m → is_marked old m ≡ true →
+    ((k : ℕ) → 1 ≤ k → k ≤ BLOCK_LIMIT → is_marked new k ≡ (not (k == m) && is_marked old k)) → later_times latest (gathered (is_marked old) f (numbers b.block)) ≡ whole →
+    later_times (later_times latest (f m)) (gathered (is_marked new) f (numbers b.block)) ≡ whole
+gathered-next b old new f m latest whole few is_m marked others is =
+    times-assoc latest (f m) (gathered (is_marked new) f (numbers b.block))
+    ∙ (ap (λ t. later_times latest t) (gathered-out (is_marked old) (is_marked new) f m marked (numbers b.block) (rising-among (length b.block) 1 m is_m.0 (omega (arith, is_m.1))) (λ k among.
+    let (low, high) = among-rising (length b.block) 1 k among in
+    others k low (omega (arith, high, few))))
+    ∙ is)
+
+pub gathered-end : (b : Problem) (rest : Marks) (f : ℕ → Times) (latest whole : Times) → ((k : ℕ) → is_marked rest k ≡ false) → later_times latest (gathered (is_marked rest) f (numbers b.block)) ≡ whole → latest ≡ whole
+gathered-end b rest f latest whole off is =
+    sym (times-none latest) ∙ (ap (λ t. later_times latest t) (sym (gathered-none (is_marked rest) f (numbers b.block) off)) ∙ is)
 
 -- the row of a number
 get_or-map : {X Y : Type 0} (f : X → Y) (xs : List X) (k : ℕ) (d : Y) (x : X) → k < length xs → get_or (map f xs) k d ≡ f (get_or xs k x)

@@ -2,6 +2,9 @@ pub mod MarkBits
 pub mod Latest
 pub mod Edges
 pub mod Results
+pub mod Covered
+pub mod Each
+pub mod NearEach
 pub mod HeadLaw
 pub mod TailLaw
 pub mod Told

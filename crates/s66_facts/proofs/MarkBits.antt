@@ -1,9 +1,11 @@
 -- What is marked, by the bits of its word.
-use Rattle.std.proofs.Common.{ℕ, ◌+◌, ◌-◌, ◌*◌, ◌%◌, ◌^◌, ◌≤◌, ◌<◌, ◌≡◌, ◌↔◌, true, ◌||◌, ◌&&◌, not, ◌==◌, IsTrue, bit_and, bit_or, eqb-true, eq-eqb, ne_eqb, refl, sym, ap, ◌∙◌, inl, inr, arith}
-use Rattle.std.specs.Int.{w128, bit_at, bit_not}
+use Rattle.std.proofs.Common.{ℕ, ◌+◌, ◌-◌, ◌*◌, ◌%◌, ◌^◌, ◌≤◌, ◌<◌, ◌≡◌, ◌↔◌, true, false, ◌||◌, ◌&&◌, not, ◌==◌, IsTrue, bit_and, bit_or, eqb-true, eq-eqb, ne_eqb, refl, sym, ap, ◌∙◌, inl, inr, arith}
+use Rattle.std.specs.Int.{w128, bit_at, bit_not, trailing_zeros}
 use Rattle.std.proofs.lemmas.Bool.{cases_eq, cases_lt}
-use Rattle.std.proofs.lemmas.Nat.Bits.{bit_at-lt, bit_at_and, bit_at_not, bit_at_above, bit_at_or, bit_at_set_same, bit_at_set_other, bit_at_clear_same, bit_at_clear_other, same_from_bits}
+use Rattle.std.proofs.lemmas.Nat.{and_le_r}
+use Rattle.std.proofs.lemmas.Nat.Bits.{bit_at-lt, bit_at-zero, bit_at_and, bit_at_not, bit_at_above, bit_at_or, bit_at_set_same, bit_at_set_other, bit_at_clear_same, bit_at_clear_other, same_from_bits}
 use Rattle.s66_isa.specs.declared.limits.TheConstants.{BLOCK_LIMIT}
+use Rattle.s66_isa.proofs.Lowest.{lowest-bit}
 use Rattle.s66_facts.specs.Marked.{is_marked}
 use Rattle.s66_facts.specs.declared.marks.Marks.{Marks}
 
@@ -80,3 +82,40 @@ pub marked-but : (own other : Marks) (m : ℕ) → other.bits < 2 ^ 128 → 1 �
 marked-but own other m fits low high =
     let place : m - 1 < 128 = omega (arith, low, high) in
     grind (arith, bit_at_and own.bits (bit_not w128 other.bits) (m - 1), bit_at_not w128 other.bits (m - 1) fits place, bit_at-lt own.bits (m - 1), bit_at-lt other.bits (m - 1))
+
+-- THE LEAST that is marked
+
+pub none-marked : (marks : Marks) (m : ℕ) → marks.bits ≡ 0 → is_marked marks m ≡ false
+none-marked marks m none = ne_eqb (bit_at marks.bits (m - 1)) 1 (λ e. omega (arith, e, ap (λ bits. bit_at bits (m - 1)) none, bit_at-zero (m - 1)))
+
+module _ (old new : Marks) (fits : old.bits < 2 ^ 128) (some : 0 < old.bits) (is : new.bits ≡ bit_and old.bits (old.bits - 1)) where
+  abbrev t : ℕ
+  t = trailing_zeros w128 old.bits
+
+  pub first-few : t < 128
+  first-few = (lowest-bit w128 old.bits some fits).0
+
+  pub first-marked : is_marked old (t + 1) ≡ true
+  first-marked =
+      let e : t + 1 - 1 ≡ t = omega arith in
+      eq-eqb (bit_at old.bits (t + 1 - 1)) 1 (ap (bit_at old.bits) e ∙ (lowest-bit w128 old.bits some fits).1)
+
+  pub first-fewer : new.bits < old.bits
+  first-fewer = omega (arith, is, some, and_le_r old.bits (old.bits - 1))
+
+  pub first-out : (m : ℕ) → 1 ≤ m → m ≤ BLOCK_LIMIT → is_marked new m ≡ (not (m == t + 1) && is_marked old m)
+  first-out m low high =
+      let (few, own, lower, none, same) = lowest-bit w128 old.bits some fits in
+      let bit : bit_at new.bits (m - 1) ≡ bit_at (bit_and old.bits (old.bits - 1)) (m - 1) = ap (λ bits. bit_at bits (m - 1)) is in
+      elim (cases_eq m (t + 1)) [
+        | inl here ↦
+            let clear : bit_at new.bits (m - 1) ≡ 0 = bit ∙ none (m - 1) (omega (arith, here)) in
+            ne_eqb (bit_at new.bits (m - 1)) 1 (λ e. omega (arith, e, clear)) ∙ sym (rw (eq-eqb m (t + 1) here) refl)
+        | inr apart ↦
+            elim (cases_lt (m - 1) t) [
+              | inl lt ↦
+                  ap (λ b. b == 1) (bit ∙ none (m - 1) (omega (arith, lt)) ∙ sym (lower (m - 1) lt)) ∙ sym (rw (ne_eqb m (t + 1) apart) refl)
+              | inr ge ↦
+                  ap (λ b. b == 1) (bit ∙ sym (same (m - 1) (omega (arith, ge, apart, low)))) ∙ sym (rw (ne_eqb m (t + 1) apart) refl)
+            ]
+      ]

@@ -1,4 +1,4 @@
--- Times that agree with those of the others: they stay so while another's times change or more is known, and all are right once all agree.
+-- Times that are right if those of the others are: they stay so while another's times change or more is known, and all are right once all are so.
 use Rattle.std.proofs.Common.{ℕ, zero, suc, ◌+◌, ◌-◌, ◌≤◌, ◌<◌, ◌≡◌, ◌≢◌, ◌⊎◌, not, ◌||◌, ◌&&◌, ◌==◌, Bool, true, false, true≢false, cond, List, [], ◌∷◌, ◌++◌, length, get_or, set, refl, sym, ap, arith, inl, inr, leb, ◌∙◌, subst, Option, None}
 use Rattle.std.proofs.lemmas.Bool.{and_parts, and_left, and_right, or_cases, or_parts, or_left, not-true, cases_eq, cases_Bool, eqb-true, leb-true}
 use Rattle.s66_isa.specs.declared.limits.TheConstants.{BLOCK_LIMIT}
@@ -23,8 +23,9 @@ use Rattle.s66_facts.specs.Marked.{is_marked, is_in, no_marks, before_in}
 use Rattle.s66_facts.specs.Ground.{Ground, known_of, ground_arcs, IsOrdered}
 use Rattle.s66_facts.specs.Passes.{add, when, no_times, later_times, times_at, gathered, time_at_moment, issue_after, start_after, done_after, after_one, after_all, by_loads_to, at_once, head_results, head_free, with_free, heads_of, first_of, second_of, start_before, done_before, before_one, before_all, by_loads_from, tail_free, tail_results, latest_result, tails_of, share_unit, AreResults, AreTimes}
 use Rattle.s66_facts.specs.Rounds.{AreAllHeads, AreAllTails}
-use Rattle.s66_facts.specs.Settled.{IsAsGood, AreSettledHeads, AreSettledTails, keeps_before, keeps_after}
+use Rattle.s66_facts.specs.Settled.{IsHead, IsTail, AreSettledHeads, AreSettledTails, keeps_before, keeps_after}
 use Rattle.s66_facts.proofs.Latest.{later-none}
+use Rattle.s66_facts.proofs.Covered.{all-near, before-range}
 use Rattle.s66_facts.proofs.HeadLaw.{heads-are}
 use Rattle.s66_facts.proofs.TailLaw.{tails-are}
 use Rattle.s66_facts.proofs.Told.{set-same, set-other, place-less, place-range, place}
@@ -91,95 +92,40 @@ whole_tail b f n before by_issue by_start =
     record { issue = later (later (only_if (same_moment (At n Issue) f) 0) start) (later before.issue by_issue); start = start; free = t.free; first = t.first; second = t.second }
 
 head-by : (b : Problem) (marks marks2 : List Marks) (loads loads2 : List KnownArc) (e : Moment) (times times2 : List Times) (k : ℕ) →
-    after_all (record { problem = b; marks = marks; loads = loads }) times k ≡ after_all (record { problem = b; marks = marks2; loads = loads2 }) times2 k →
+    after_all b (λ m. before_in marks m k) times k ≡ after_all b (λ m. before_in marks2 m k) times2 k →
     ((s : Stage) → (s ≡ Issue) ⊎ (s ≡ Start) → by_loads_to loads times e (At k s) ≡ by_loads_to loads2 times2 e (At k s)) →
-    heads_of (record { problem = b; marks = marks; loads = loads }) e times k ≡ heads_of (record { problem = b; marks = marks2; loads = loads2 }) e times2 k
+    heads_of (record { problem = b; marks = marks; loads = loads }) (λ m. before_in marks m k) e times k ≡ heads_of (record { problem = b; marks = marks2; loads = loads2 }) (λ m. before_in marks2 m k) e times2 k
 head-by b marks marks2 loads loads2 e times times2 k after by_loads =
-    let after2 : Times = after_all (record { problem = b; marks = marks2; loads = loads2 }) times2 k in
+    let after2 : Times = after_all b (λ m. before_in marks2 m k) times2 k in
     ap (λ a. whole_head b e k a (by_loads_to loads times e (At k Issue)) (by_loads_to loads times e (At k Start))) after
     ∙ (ap (λ o. whole_head b e k after2 o (by_loads_to loads times e (At k Start))) (by_loads Issue (inl refl))
     ∙ ap (λ o. whole_head b e k after2 (by_loads_to loads2 times2 e (At k Issue)) o) (by_loads Start (inr refl)))
 
 tail-by : (b : Problem) (marks marks2 : List Marks) (loads loads2 : List KnownArc) (f : Moment) (times times2 : List Times) (k : ℕ) →
-    before_all (record { problem = b; marks = marks; loads = loads }) times k ≡ before_all (record { problem = b; marks = marks2; loads = loads2 }) times2 k →
+    before_all b (λ m. before_in marks k m) times k ≡ before_all b (λ m. before_in marks2 k m) times2 k →
     ((s : Stage) → (s ≡ Issue) ⊎ (s ≡ Start) → by_loads_from loads times f (At k s) ≡ by_loads_from loads2 times2 f (At k s)) →
-    tails_of (record { problem = b; marks = marks; loads = loads }) f times k ≡ tails_of (record { problem = b; marks = marks2; loads = loads2 }) f times2 k
+    tails_of (record { problem = b; marks = marks; loads = loads }) (λ m. before_in marks k m) f times k ≡ tails_of (record { problem = b; marks = marks2; loads = loads2 }) (λ m. before_in marks2 k m) f times2 k
 tail-by b marks marks2 loads loads2 f times times2 k before by_loads =
-    let before2 : Times = before_all (record { problem = b; marks = marks2; loads = loads2 }) times2 k in
+    let before2 : Times = before_all b (λ m. before_in marks2 k m) times2 k in
     ap (λ a. whole_tail b f k a (by_loads_from loads times f (At k Issue)) (by_loads_from loads times f (At k Start))) before
     ∙ (ap (λ o. whole_tail b f k before2 o (by_loads_from loads times f (At k Start))) (by_loads Issue (inl refl))
     ∙ ap (λ o. whole_tail b f k before2 (by_loads_from loads2 times2 f (At k Issue)) o) (by_loads Start (inr refl)))
-
--- OTHER TIMES, the same for what stands before a number, or after it
-
-module _ (g : Ground) (ordered : IsOrdered g) (times times2 : List Times) (k : ℕ) where
-  pub head-same : (e : Moment) → ((m : ℕ) → before_in g.marks m k ≡ true → times_at times m ≡ times_at times2 m) → heads_of g e times k ≡ heads_of g e times2 k
-  head-same e agree =
-      head-by g.problem g.marks g.marks g.loads g.loads e times times2 k
-      (gathered-same (λ m. before_in g.marks m k) (λ m. before_in g.marks m k) (after_one g.problem times k) (after_one g.problem times2 k) (numbers g.problem.block) (λ m. refl) (λ m first. ap (after_step g.problem k m) (agree m first)))
-      (λ s which. by_loads s)
-    where
-      from-same : (o : Option ℕ) (f : Moment) (s : Stage) → leads_up (before_in g.marks) f (At k s) ≡ true → time_at_moment times o None f ≡ time_at_moment times2 o None f
-      from-same o Origin s leads = refl
-      from-same o (At j Issue) s leads = ap (λ t. t.issue) (agree j leads)
-      from-same o (At j Start) s leads = ap (λ t. t.start) (agree j leads)
-      from-same o (At j (Done x)) s leads = refl
-      from-same o (At j Free) s leads = refl
-      from-same o End s leads = refl
-
-      by_loads : (s : Stage) → by_loads_to g.loads times e (At k s) ≡ by_loads_to g.loads times2 e (At k s)
-      by_loads s =
-          let o : Option ℕ = only_if (same_moment e Origin) 0 in
-          latest-same (λ (l : KnownArc). when (same_moment l.to (At k s)) (add (time_at_moment times o None l.from) l.wait)) (λ (l : KnownArc). when (same_moment l.to (At k s)) (add (time_at_moment times2 o None l.from) l.wait)) g.loads (λ (l : KnownArc) among.
-          when-same (same_moment l.to (At k s)) (add (time_at_moment times o None l.from) l.wait) (add (time_at_moment times2 o None l.from) l.wait) (λ same.
-          let (front, is_e, back, is_f, leads) = up-parts g.problem (before_in g.marks) l.from l.to (ordered.up l among) in
-          ap (λ t. add t l.wait) (from-same o l.from s (subst (λ f. leads_up (before_in g.marks) l.from f ≡ true) (same_moment-true l.to (At k s) same) leads))))
-
-  pub tail-same : (f : Moment) → ((m : ℕ) → before_in g.marks k m ≡ true → times_at times m ≡ times_at times2 m) → tails_of g f times k ≡ tails_of g f times2 k
-  tail-same f agree =
-      tail-by g.problem g.marks g.marks g.loads g.loads f times times2 k
-      (gathered-same (λ m. before_in g.marks k m) (λ m. before_in g.marks k m) (before_one g.problem times k) (before_one g.problem times2 k) (numbers g.problem.block) (λ m. refl) (λ m first. ap (before_step g.problem k m) (agree m first)))
-      (λ s which. by_loads s)
-    where
-      to-same : (o : Option ℕ) (h : Moment) (s : Stage) → leads_up (before_in g.marks) (At k s) h ≡ true → time_at_moment times None o h ≡ time_at_moment times2 None o h
-      to-same o Origin s leads = refl
-      to-same o (At j Issue) s leads = ap (λ t. t.issue) (agree j leads)
-      to-same o (At j Start) s leads = ap (λ t. t.start) (agree j leads)
-      to-same o (At j (Done x)) s leads = refl
-      to-same o (At j Free) s leads = refl
-      to-same o End s leads = refl
-
-      by_loads : (s : Stage) → by_loads_from g.loads times f (At k s) ≡ by_loads_from g.loads times2 f (At k s)
-      by_loads s =
-          let o : Option ℕ = only_if (same_moment f End) 0 in
-          latest-same (λ (l : KnownArc). when (same_moment l.from (At k s)) (add (time_at_moment times None o l.to) l.wait)) (λ (l : KnownArc). when (same_moment l.from (At k s)) (add (time_at_moment times2 None o l.to) l.wait)) g.loads (λ (l : KnownArc) among.
-          when-same (same_moment l.from (At k s)) (add (time_at_moment times None o l.to) l.wait) (add (time_at_moment times2 None o l.to) l.wait) (λ same.
-          let (front, is_e, back, is_f, leads) = up-parts g.problem (before_in g.marks) l.from l.to (ordered.up l among) in
-          ap (λ t. add t l.wait) (to-same o l.to s (subst (λ e. leads_up (before_in g.marks) e l.to ≡ true) (same_moment-true l.from (At k s) same) leads))))
-
-before-range : (marks : List Marks) (m n : ℕ) → before_in marks m n ≡ true → (1 ≤ m) × (m ≤ length marks) × (1 ≤ n) × (n ≤ length marks)
-before-range marks m n first =
-    let (both, bit) = and_parts (is_in marks m && is_in marks n) (is_marked (get_or marks (n - 1) no_marks) m) first in
-    let (in_m, in_n) = and_parts (is_in marks m) (is_in marks n) both in
-    let (low_m, high_m) = and_parts (leb 1 m) (leb m (length marks)) in_m in
-    let (low_n, high_n) = and_parts (leb 1 n) (leb n (length marks)) in_n in
-    (leb-true 1 m low_m, leb-true m (length marks) high_m, leb-true 1 n low_n, leb-true n (length marks) high_n)
 
 -- A NUMBER SETTLED
 
 module _ (g : Ground) (ordered : IsOrdered g) (times : List Times) (settled new : Marks) (n : ℕ) (is_n : IsNumber g.problem n) (room : n ≤ length times) (time : Times) where
   -- its times are the same
-  pub head-kept : (e : Moment) → time ≡ heads_of g e times n → time ≡ times_at times n → ((m : ℕ) → 1 ≤ m → is_marked new m ≡ (m == n || is_marked settled m)) → AreSettledHeads g e times settled → AreSettledHeads g e times new
-  head-kept e is same marked are k is_k now =
+  pub head-kept : (e : Moment) → IsHead g e times n time → time ≡ times_at times n → ((m : ℕ) → 1 ≤ m → is_marked new m ≡ (m == n || is_marked settled m)) → AreSettledHeads g e times settled → AreSettledHeads g e times new
+  head-kept e right same marked are k is_k now =
       elim (or_cases (k == n) (is_marked settled k) (sym (marked k is_k.0) ∙ now)) [
-        | inl here ↦ subst (λ i. IsAsGood g.problem i (times_at times i) (heads_of g e times i)) (sym (eqb-true k n here)) (λ span_of good. subst (AreTimes g.problem span_of n) (sym is ∙ same) good)
+        | inl here ↦ subst (λ i. IsHead g e times i (times_at times i)) (sym (eqb-true k n here)) (subst (IsHead g e times n) same right)
         | inr old ↦ are k is_k old
       ]
 
-  pub tail-kept : (f : Moment) → time ≡ tails_of g f times n → time ≡ times_at times n → ((m : ℕ) → 1 ≤ m → is_marked new m ≡ (m == n || is_marked settled m)) → AreSettledTails g f times settled → AreSettledTails g f times new
-  tail-kept f is same marked are k is_k now =
+  pub tail-kept : (f : Moment) → IsTail g f times n time → time ≡ times_at times n → ((m : ℕ) → 1 ≤ m → is_marked new m ≡ (m == n || is_marked settled m)) → AreSettledTails g f times settled → AreSettledTails g f times new
+  tail-kept f right same marked are k is_k now =
       elim (or_cases (k == n) (is_marked settled k) (sym (marked k is_k.0) ∙ now)) [
-        | inl here ↦ subst (λ i. IsAsGood g.problem i (times_at times i) (tails_of g f times i)) (sym (eqb-true k n here)) (λ span_of good. subst (AreTimes g.problem span_of n) (sym is ∙ same) good)
+        | inl here ↦ subst (λ i. IsTail g f times i (times_at times i)) (sym (eqb-true k n here)) (subst (IsTail g f times n) same right)
         | inr old ↦ are k is_k old
       ]
 
@@ -201,21 +147,22 @@ module _ (g : Ground) (ordered : IsOrdered g) (times : List Times) (settled new 
     others : (m : ℕ) → 1 ≤ m → m ≢ n → times_at times m ≡ times_at (set times (n - 1) time) m
     others m one differ = sym (set-other times n m time is_n.0 one differ)
 
-    pub head-settled : (e : Moment) → time ≡ heads_of g e times n → ((m : ℕ) → IsNumber g.problem m → before_in g.marks n m ≡ true → is_marked touched m ≡ true) → AreSettledHeads g e times settled → AreSettledHeads g e (set times (n - 1) time) new
-    head-settled e is after are k is_k now =
+    pub head-settled : (e : Moment) → IsHead g e times n time → ((m : ℕ) → IsNumber g.problem m → before_in g.marks n m ≡ true → is_marked touched m ≡ true) → AreSettledHeads g e times settled → AreSettledHeads g e (set times (n - 1) time) new
+    head-settled e right after are k is_k now =
         elim (cases_eq k n) [
           | inl same ↦
-              subst (λ i. IsAsGood g.problem i (times_at (set times (n - 1) time) i) (heads_of g e (set times (n - 1) time) i)) (sym same) (λ span_of good.
-              subst (AreTimes g.problem span_of n) (sym (set-same times n time is_n.0 room ∙ (is ∙ moved n (ordered.no_ring n is_n)))) good)
+              subst (λ i. IsHead g e (set times (n - 1) time) i (times_at (set times (n - 1) time) i)) (sym same) (λ known.
+              subst (AreTimes g.problem (λ j. span g.problem (ground_arcs g) e j) n) (sym (set-same times n time is_n.0 room)) (right (λ m is_m first. old-known n (ordered.no_ring n is_n) m is_m first (known m is_m first))))
           | inr differ ↦
               let (old, off) = was-settled k is_k (or-other k is_k.0 differ now) in
-              λ span_of good. subst (AreTimes g.problem span_of k) (others k is_k.0 differ) (are k is_k old span_of (subst (AreTimes g.problem span_of k) (sym (moved k (not-first k is_k off))) good))
+              λ known.
+              subst (AreTimes g.problem (λ j. span g.problem (ground_arcs g) e j) k) (others k is_k.0 differ) (are k is_k old (λ m is_m first. old-known k (not-first k is_k off) m is_m first (known m is_m first)))
         ]
       where
-        moved : (k : ℕ) → before_in g.marks n k ≡ false → heads_of g e times k ≡ heads_of g e (set times (n - 1) time) k
-        moved k off =
-            head-same g ordered times (set times (n - 1) time) k e (λ m first.
-            others m (before-range g.marks m k first).0 (λ same. true≢false (sym first ∙ (ap (λ i. before_in g.marks i k) same ∙ off))))
+        old-known : (k : ℕ) → before_in g.marks n k ≡ false → (m : ℕ) → IsNumber g.problem m → before_in g.marks m k ≡ true →
+            AreTimes g.problem (λ j. span g.problem (ground_arcs g) e j) m (times_at (set times (n - 1) time) m) → AreTimes g.problem (λ j. span g.problem (ground_arcs g) e j) m (times_at times m)
+        old-known k off m is_m first are =
+            subst (AreTimes g.problem (λ j. span g.problem (ground_arcs g) e j) m) (sym (others m is_m.0 (λ same. true≢false (sym first ∙ (ap (λ i. before_in g.marks i k) same ∙ off))))) are
 
         not-first : (k : ℕ) → IsNumber g.problem k → is_marked touched k ≡ false → before_in g.marks n k ≡ false
         not-first k is_k off =
@@ -224,21 +171,22 @@ module _ (g : Ground) (ordered : IsOrdered g) (times : List Times) (settled new 
               | inr none ↦ none
             ]
 
-    pub tail-settled : (f : Moment) → time ≡ tails_of g f times n → ((m : ℕ) → IsNumber g.problem m → before_in g.marks m n ≡ true → is_marked touched m ≡ true) → AreSettledTails g f times settled → AreSettledTails g f (set times (n - 1) time) new
-    tail-settled f is before are k is_k now =
+    pub tail-settled : (f : Moment) → IsTail g f times n time → ((m : ℕ) → IsNumber g.problem m → before_in g.marks m n ≡ true → is_marked touched m ≡ true) → AreSettledTails g f times settled → AreSettledTails g f (set times (n - 1) time) new
+    tail-settled f right before are k is_k now =
         elim (cases_eq k n) [
           | inl same ↦
-              subst (λ i. IsAsGood g.problem i (times_at (set times (n - 1) time) i) (tails_of g f (set times (n - 1) time) i)) (sym same) (λ span_of good.
-              subst (AreTimes g.problem span_of n) (sym (set-same times n time is_n.0 room ∙ (is ∙ moved n (ordered.no_ring n is_n)))) good)
+              subst (λ i. IsTail g f (set times (n - 1) time) i (times_at (set times (n - 1) time) i)) (sym same) (λ known.
+              subst (AreTimes g.problem (λ j. span g.problem (ground_arcs g) j f) n) (sym (set-same times n time is_n.0 room)) (right (λ m is_m last. old-known n (ordered.no_ring n is_n) m is_m last (known m is_m last))))
           | inr differ ↦
               let (old, off) = was-settled k is_k (or-other k is_k.0 differ now) in
-              λ span_of good. subst (AreTimes g.problem span_of k) (others k is_k.0 differ) (are k is_k old span_of (subst (AreTimes g.problem span_of k) (sym (moved k (not-last k is_k off))) good))
+              λ known.
+              subst (AreTimes g.problem (λ j. span g.problem (ground_arcs g) j f) k) (others k is_k.0 differ) (are k is_k old (λ m is_m last. old-known k (not-last k is_k off) m is_m last (known m is_m last)))
         ]
       where
-        moved : (k : ℕ) → before_in g.marks k n ≡ false → tails_of g f times k ≡ tails_of g f (set times (n - 1) time) k
-        moved k off =
-            tail-same g ordered times (set times (n - 1) time) k f (λ m last.
-            others m (before-range g.marks k m last).2 (λ same. true≢false (sym last ∙ (ap (λ i. before_in g.marks k i) same ∙ off))))
+        old-known : (k : ℕ) → before_in g.marks k n ≡ false → (m : ℕ) → IsNumber g.problem m → before_in g.marks k m ≡ true →
+            AreTimes g.problem (λ j. span g.problem (ground_arcs g) j f) m (times_at (set times (n - 1) time) m) → AreTimes g.problem (λ j. span g.problem (ground_arcs g) j f) m (times_at times m)
+        old-known k off m is_m last are =
+            subst (AreTimes g.problem (λ j. span g.problem (ground_arcs g) j f) m) (sym (others m is_m.0 (λ same. true≢false (sym last ∙ (ap (λ i. before_in g.marks k i) same ∙ off))))) are
 
         not-last : (k : ℕ) → IsNumber g.problem k → is_marked touched k ≡ false → before_in g.marks k n ≡ false
         not-last k is_k off =
@@ -250,26 +198,26 @@ module _ (g : Ground) (ordered : IsOrdered g) (times : List Times) (settled new 
 -- ALL SETTLED
 
 module _ (g : Ground) (ordered : IsOrdered g) (times : List Times) where
-  pub heads-settled : (e : Moment) → is_front e ≡ true → ((n : ℕ) → IsNumber g.problem n → IsAsGood g.problem n (times_at times n) (heads_of g e times n)) → AreAllHeads g e times
-  heads-settled e front good n is_n = up-to (place g ordered n) n is_n (omega arith)
+  pub heads-settled : (e : Moment) → ((n : ℕ) → IsNumber g.problem n → IsHead g e times n (times_at times n)) → AreAllHeads g e times
+  heads-settled e good n is_n = up-to (place g ordered n) n is_n (omega arith)
     where
       up-to : (h n : ℕ) → IsNumber g.problem n → place g ordered n ≤ h → AreTimes g.problem (λ m. span g.problem (ground_arcs g) e m) n (times_at times n)
       up-to zero n is_n le = absurd (omega (arith, le, (place-range g ordered n is_n).0))
       up-to (suc h) n is_n le =
-          good n is_n (λ m. span g.problem (ground_arcs g) e m) (heads-are g ordered e front times n is_n (λ m is_m first. up-to h m is_m (omega (arith, le, place-less g ordered m n is_m is_n first))))
+          good n is_n (λ m is_m first. up-to h m is_m (omega (arith, le, place-less g ordered m n is_m is_n first)))
 
-  pub tails-settled : (f : Moment) → is_back f ≡ true → ((n : ℕ) → IsNumber g.problem n → IsAsGood g.problem n (times_at times n) (tails_of g f times n)) → AreAllTails g f times
-  tails-settled f back good n is_n = down-to (length g.problem.block) n is_n (omega (arith, (place-range g ordered n is_n).0))
+  pub tails-settled : (f : Moment) → ((n : ℕ) → IsNumber g.problem n → IsTail g f times n (times_at times n)) → AreAllTails g f times
+  tails-settled f good n is_n = down-to (length g.problem.block) n is_n (omega (arith, (place-range g ordered n is_n).0))
     where
       down-to : (h n : ℕ) → IsNumber g.problem n → length g.problem.block < place g ordered n + h → AreTimes g.problem (λ m. span g.problem (ground_arcs g) m f) n (times_at times n)
       down-to zero n is_n past = absurd (omega (arith, past, (place-range g ordered n is_n).1))
       down-to (suc h) n is_n past =
-          good n is_n (λ m. span g.problem (ground_arcs g) m f) (tails-are g ordered f back times n is_n (λ m is_m last. down-to h m is_m (omega (arith, past, place-less g ordered n m is_n is_m last))))
+          good n is_n (λ m is_m last. down-to h m is_m (omega (arith, past, place-less g ordered n m is_n is_m last)))
 
 -- AS GOOD are two that are the same times
 
-as-good : (b : Problem) (time : Moment → Option ℕ) (n : ℕ) (s t : Times) → AreTimes b time n s → AreTimes b time n t → IsAsGood b n s t
-as-good b time n s t mine its other are =
+as-good : (b : Problem) (time other : Moment → Option ℕ) (n : ℕ) (s t : Times) → AreTimes b time n s → AreTimes b time n t → AreTimes b other n t → AreTimes b other n s
+as-good b time other n s t mine its are =
     record {
       issue = mine.issue ∙ (sym its.issue ∙ are.issue);
       start = mine.start ∙ (sym its.start ∙ are.start);
@@ -291,23 +239,33 @@ or-yes x y on = or_left x y on ∙ sym on
 
 -- MORE KNOWN, by a graph of the same block
 
-module _ (g g2 : Ground) (ordered : IsOrdered g) (problem : g2.problem ≡ g.problem) (times : List Times) (settled : Marks) where
+module _ (g g2 : Ground) (ordered : IsOrdered g) (ordered2 : IsOrdered g2) (problem : g2.problem ≡ g.problem) (times : List Times) (settled : Marks) where
+  abbrev again : Ground
+  again = record { problem = g.problem; marks = g2.marks; loads = g2.loads }
+
+  ordered-again : IsOrdered again
+  ordered-again = subst (λ b. IsOrdered (record { problem = b; marks = g2.marks; loads = g2.loads })) problem ordered2
+
   -- what one step gives is the same
   from-heads : (e : Moment) → is_front e ≡ true → AreAllHeads g e times →
-      ((k : ℕ) → IsNumber g.problem k → is_marked settled k ≡ true → heads_of g e times k ≡ heads_of (record { problem = g.problem; marks = g2.marks; loads = g2.loads }) e times k) →
+      ((k : ℕ) → IsNumber g.problem k → is_marked settled k ≡ true → heads_of g (λ m. before_in g.marks m k) e times k ≡ heads_of again (λ m. before_in g2.marks m k) e times k) →
       AreSettledHeads g2 e times settled
   from-heads e front all same =
-      subst (λ b. AreSettledHeads (record { problem = b; marks = g2.marks; loads = g2.loads }) e times settled) (sym problem) (λ k is_k now.
-      as-good g.problem (λ m. span g.problem (ground_arcs g) e m) k (times_at times k) (heads_of (record { problem = g.problem; marks = g2.marks; loads = g2.loads }) e times k) (all k is_k)
-      (subst (AreTimes g.problem (λ m. span g.problem (ground_arcs g) e m) k) (same k is_k now) (heads-are g ordered e front times k is_k (λ m is_m first. all m is_m))))
+      subst (λ b. AreSettledHeads (record { problem = b; marks = g2.marks; loads = g2.loads }) e times settled) (sym problem) (λ k is_k now known.
+      as-good g.problem (λ m. span g.problem (ground_arcs g) e m) (λ m. span g.problem (ground_arcs again) e m) k (times_at times k) (heads_of again (λ m. before_in g2.marks m k) e times k) (all k is_k)
+      (subst (AreTimes g.problem (λ m. span g.problem (ground_arcs g) e m) k) (same k is_k now)
+      (heads-are g ordered e front times k is_k (λ m. before_in g.marks m k) (all-near g.problem (before_in g.marks) k) (λ m is_m first. all m is_m)))
+      (heads-are again ordered-again e front times k is_k (λ m. before_in g2.marks m k) (all-near g.problem (before_in g2.marks) k) known))
 
   from-tails : (f : Moment) → is_back f ≡ true → AreAllTails g f times →
-      ((k : ℕ) → IsNumber g.problem k → is_marked settled k ≡ true → tails_of g f times k ≡ tails_of (record { problem = g.problem; marks = g2.marks; loads = g2.loads }) f times k) →
+      ((k : ℕ) → IsNumber g.problem k → is_marked settled k ≡ true → tails_of g (λ m. before_in g.marks k m) f times k ≡ tails_of again (λ m. before_in g2.marks k m) f times k) →
       AreSettledTails g2 f times settled
   from-tails f back all same =
-      subst (λ b. AreSettledTails (record { problem = b; marks = g2.marks; loads = g2.loads }) f times settled) (sym problem) (λ k is_k now.
-      as-good g.problem (λ m. span g.problem (ground_arcs g) m f) k (times_at times k) (tails_of (record { problem = g.problem; marks = g2.marks; loads = g2.loads }) f times k) (all k is_k)
-      (subst (AreTimes g.problem (λ m. span g.problem (ground_arcs g) m f) k) (same k is_k now) (tails-are g ordered f back times k is_k (λ m is_m last. all m is_m))))
+      subst (λ b. AreSettledTails (record { problem = b; marks = g2.marks; loads = g2.loads }) f times settled) (sym problem) (λ k is_k now known.
+      as-good g.problem (λ m. span g.problem (ground_arcs g) m f) (λ m. span g.problem (ground_arcs again) m f) k (times_at times k) (tails_of again (λ m. before_in g2.marks k m) f times k) (all k is_k)
+      (subst (AreTimes g.problem (λ m. span g.problem (ground_arcs g) m f) k) (same k is_k now)
+      (tails-are g ordered f back times k is_k (λ m. before_in g.marks k m) (all-near g.problem (λ m i. before_in g.marks i m) k) (λ m is_m last. all m is_m)))
+      (tails-are again ordered-again f back times k is_k (λ m. before_in g2.marks k m) (all-near g.problem (λ m i. before_in g2.marks i m) k) known))
 
   -- a pair more
   module _ (m n : ℕ) (is_m : IsNumber g.problem m) (is_n : IsNumber g.problem n) (known : known_of g2 ≡ with_line (known_of g) (Pair m n)) where
@@ -378,7 +336,7 @@ module _ (g g2 : Ground) (ordered : IsOrdered g) (problem : g2.problem ≡ g.pro
     pub heads-with_load : (e : Moment) → is_front e ≡ true → AreAllHeads g e times → ((k : ℕ) → IsNumber g.problem k → is_marked settled k ≡ true → (same_moment last.to (At k Issue) || same_moment last.to (At k Start)) ≡ false) → AreSettledHeads g2 e times settled
     heads-with_load e front all others =
         from-heads e front all (λ k is_k now.
-        head-by g.problem g.marks g2.marks g.loads g2.loads e times times k (ap (λ ms. after_all (record { problem = g.problem; marks = ms; loads = g.loads }) times k) (sym marks)) (λ s which.
+        head-by g.problem g.marks g2.marks g.loads g2.loads e times times k (ap (λ ms. after_all g.problem (λ m. before_in ms m k) times k) (sym marks)) (λ s which.
         sym (ap (λ ls. by_loads_to ls times e (At k s)) loads ∙ latest-more (to k s) g.loads last (ap (λ t. when t (from last)) (its-stage last.to k (others k is_k now) s which)))))
       where
         from : KnownArc → Option ℕ
@@ -390,7 +348,7 @@ module _ (g g2 : Ground) (ordered : IsOrdered g) (problem : g2.problem ≡ g.pro
     pub tails-with_load : (f : Moment) → is_back f ≡ true → AreAllTails g f times → ((k : ℕ) → IsNumber g.problem k → is_marked settled k ≡ true → (same_moment last.from (At k Issue) || same_moment last.from (At k Start)) ≡ false) → AreSettledTails g2 f times settled
     tails-with_load f back all others =
         from-tails f back all (λ k is_k now.
-        tail-by g.problem g.marks g2.marks g.loads g2.loads f times times k (ap (λ ms. before_all (record { problem = g.problem; marks = ms; loads = g.loads }) times k) (sym marks)) (λ s which.
+        tail-by g.problem g.marks g2.marks g.loads g2.loads f times times k (ap (λ ms. before_all g.problem (λ m. before_in ms k m) times k) (sym marks)) (λ s which.
         sym (ap (λ ls. by_loads_from ls times f (At k s)) loads ∙ latest-more (from k s) g.loads last (ap (λ t. when t (to last)) (its-stage last.from k (others k is_k now) s which)))))
       where
         to : KnownArc → Option ℕ

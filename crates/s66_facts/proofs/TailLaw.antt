@@ -25,8 +25,10 @@ use Rattle.s66_moments.proofs.Spans.{height, height-same, height-some, some-heig
 use Rattle.s66_facts.specs.declared.times.Times.{Times}
 use Rattle.s66_facts.specs.Marked.{before_in}
 use Rattle.s66_facts.specs.Ground.{Ground, ground_arcs, IsOrdered}
+use Rattle.s66_facts.specs.Near.{covers}
 use Rattle.s66_facts.specs.Passes.{add, when, times_at, latest_done, share_unit, time_at_moment, latest_result, start_before, done_before, before_one, before_all, by_loads_from, tail_free, tail_done, tail_results, tail_start, tail_issue, tails_of, first_of, second_of, AreResults, AreTimes}
 use Rattle.s66_facts.proofs.Edges.{later-low, latest-low, add-low, when-low, only_if-low, most_time, add-high, add-higher, when-high, same-high, between, loads-cases, HasArc, span-fits, none-high, first-arc, back, back-low, back_zero-low, table-arc, load-arc, from-end}
+use Rattle.s66_facts.proofs.Covered.{IsNearBy, covers-first, covers-second, covers-unit-back, covers-memory-back, if-only}
 use Rattle.s66_facts.proofs.Results.{done-high, done-low, result-high, result-low, issue-part, start-part, free-part, first-part, second-part, all-high, all-low, in-first, in-second}
 
 -- a stage from which the end comes
@@ -36,7 +38,7 @@ is_final Start = false
 is_final (Done x) = true
 is_final Free = true
 
-module _ (g : Ground) (ordered : IsOrdered g) (f : Moment) (last : is_back f ≡ true) (times : List Times) (n : ℕ) (is_n : IsNumber g.problem n) where
+module _ (g : Ground) (ordered : IsOrdered g) (f : Moment) (last : is_back f ≡ true) (times : List Times) (n : ℕ) (is_n : IsNumber g.problem n) (near : ℕ → Bool) (is_near : IsNearBy g.problem (λ m k. before_in g.marks k m) near n) where
   abbrev b : Problem
   b = g.problem
 
@@ -80,12 +82,12 @@ module _ (g : Ground) (ordered : IsOrdered g) (f : Moment) (last : is_back f ≡
     Leads s m v =
         ((m ≡ End) × (0 ≡ v) × (is_final s ≡ true))
         ⊎ (((t : Stage) × (m ≡ At n t) × (is_moment b (At n t) ≡ true) × (own_arc (row_at b n) s t ≡ Some v))
-        ⊎ (((k : ℕ) × (t : Stage) × (m ≡ At k t) × (is_moment b (At k t) ≡ true) × (before n k ≡ true) × (later_arc b (row_at b n) (row_at b k) s t ≡ Some v))
+        ⊎ (((k : ℕ) × (t : Stage) × (m ≡ At k t) × (is_moment b (At k t) ≡ true) × (is_moment b (At n s) ≡ true) × (before n k ≡ true) × (later_arc b (row_at b n) (row_at b k) s t ≡ Some v))
         ⊎ ((l : KnownArc) × Among l g.loads × (At n s ≡ l.from) × (m ≡ l.to) × (v ≡ l.wait))))
 
-    leads-table : (s : Stage) (m : Moment) (v : ℕ) → is_moment b m ≡ true → is_in_order before (At n s) m ≡ true → arc b (At n s) m ≡ Some v → Leads s m v
-    leads-table s Origin v is stands at = absurd (None-none v at)
-    leads-table s (At k t) v is stands at =
+    leads-table : (s : Stage) (m : Moment) (v : ℕ) → is_moment b (At n s) ≡ true → is_moment b m ≡ true → is_in_order before (At n s) m ≡ true → arc b (At n s) m ≡ Some v → Leads s m v
+    leads-table s Origin v is_s is stands at = absurd (None-none v at)
+    leads-table s (At k t) v is_s is stands at =
         elim (cases_eq n k) [
           | inl same ↦
               let own : own_arc (row_at b n) s t ≡ Some v = sym (cond-true {A = Option ℕ} (eqb n k) (own_arc (row_at b n) s t) (later_arc b (row_at b n) (row_at b k) s t) (eq-eqb n k same)) ∙ at in
@@ -96,17 +98,17 @@ module _ (g : Ground) (ordered : IsOrdered g) (f : Moment) (last : is_back f ≡
                 | inl same ↦ absurd (other (eqb-true n k same))
                 | inr first ↦ first
               ] in
-              inr (inr (inl (k, t, refl, is, first, after)))
+              inr (inr (inl (k, t, refl, is, is_s, first, after)))
         ]
-    leads-table Issue End v is stands at = absurd (None-none v at)
-    leads-table Start End v is stands at = absurd (None-none v at)
-    leads-table (Done x) End v is stands at = inl (refl, Some-same 0 v at, refl)
-    leads-table Free End v is stands at = inl (refl, Some-same 0 v at, refl)
+    leads-table Issue End v is_s is stands at = absurd (None-none v at)
+    leads-table Start End v is_s is stands at = absurd (None-none v at)
+    leads-table (Done x) End v is_s is stands at = inl (refl, Some-same 0 v at, refl)
+    leads-table Free End v is_s is stands at = inl (refl, Some-same 0 v at, refl)
 
     leads : (s : Stage) (m : Moment) (v : ℕ) → arcs (At n s) m ≡ Some v → Leads s m v
     leads s m v is =
         elim (loads-cases (network b before) g.loads (At n s) m v is) [
-          | inl table ↦ (let (is_s, is_m, stands, at) = network-parts b before (At n s) m v table in leads-table s m v is_m stands at)
+          | inl table ↦ (let (is_s, is_m, stands, at) = network-parts b before (At n s) m v table in leads-table s m v is_s is_m stands at)
           | inr load ↦ inr (inr (inr load))
         ]
 
@@ -125,6 +127,17 @@ module _ (g : Ground) (ordered : IsOrdered g) (f : Moment) (last : is_back f ≡
     later-edge m s t w is_m first is_s is_t is =
         table-arc g ordered (At n s) (At m t) w (is-stage n s is_n is_s) (is-stage m t is_m is_t) (or_right (eqb n m) (before n m) first)
         (cond-false {A = Option ℕ} (eqb n m) (own_arc (row_at b n) s t) (later_arc b (row_at b n) (row_at b m) s t) (apart m first) ∙ is)
+
+    -- the same of any numbers
+    edge : (m k : ℕ) → IsNumber b m → IsNumber b k → before m k ≡ true → (s t : Stage) (w : ℕ) → has_stage (row_at b m) s ≡ true → has_stage (row_at b k) t ≡ true → later_arc b (row_at b m) (row_at b k) s t ≡ Some w → HasArc arcs (At m s) w (At k t)
+    edge m k is_m is_k first s t w is_s is_t is =
+        table-arc g ordered (At m s) (At k t) w (is-stage m s is_m is_s) (is-stage k t is_k is_t) (or_right (eqb m k) (before m k) first)
+        (cond-false {A = Option ℕ} (eqb m k) (own_arc (row_at b m) s t) (later_arc b (row_at b m) (row_at b k) s t) (ne_eqb m k (λ same. true≢false (sym (subst (λ i. before i k ≡ true) same first) ∙ ordered.no_ring k is_k))) ∙ is)
+
+    own-of : (m : ℕ) → IsNumber b m → (s t : Stage) (w : ℕ) → has_stage (row_at b m) s ≡ true → has_stage (row_at b m) t ≡ true → own_arc (row_at b m) s t ≡ Some w → HasArc arcs (At m s) w (At m t)
+    own-of m is_m s t w is_s is_t is =
+        table-arc g ordered (At m s) (At m t) w (is-stage m s is_m is_s) (is-stage m t is_m is_t) (or_left (eqb m m) (before m m) (eq-eqb m m refl))
+        (cond-true {A = Option ℕ} (eqb m m) (own_arc (row_at b m) s t) (later_arc b (row_at b m) (row_at b m) s t) (eq-eqb m m refl) ∙ is)
 
     -- TO THE END, AND TO ITSELF
 
@@ -193,10 +206,109 @@ module _ (g : Ground) (ordered : IsOrdered g) (f : Moment) (last : is_back f ≡
     not-back : (s : Stage) → At n s ≡ f → is_back (At n s) ≡ false → ⊥
     not-back s is off = true≢false (sym (subst (λ m. is_back m ≡ true) (sym is) last) ∙ off)
 
+    -- BY THOSE THAT ARE NEAR
+
+    -- an arc to a near number by which a path is as long
+    abbrev IsHop : Stage → ℕ → Type 0
+    IsHop s w =
+        (k : ℕ) × (t : Stage) × (v u : ℕ) × (near k ≡ true) × (is_moment b (At k t) ≡ true) × (before n k ≡ true) × (later_arc b (row_at b n) (row_at b k) s t ≡ Some v) × (S (At k t) ≡ Some u) × (v + u ≡ w)
+
+    module _ (k : ℕ) (is_k : IsNumber b k) (k_after : before n k ≡ true) (j : ℕ) (is_j : IsNumber b j) (j_near : near j ≡ true) (between : before j k ≡ true) (covered : covers b k j n ≡ true) where
+      j_after : before n j ≡ true
+      j_after = is_near.within j is_j j_near
+
+      -- it is no longer than the longest
+      hop : (s t : Stage) (v u w : ℕ) → S (At n s) ≡ Some w → has_stage (row_at b n) s ≡ true → has_stage (row_at b j) t ≡ true → later_arc b (row_at b n) (row_at b j) s t ≡ Some v → S (At j t) ≡ Some u → w ≤ v + u → IsHop s w
+      hop s t v u w is is_s is_t arc_is at le = (
+        j,
+        t,
+        v,
+        u,
+        j_near,
+        is-stage j t is_j is_t,
+        j_after,
+        arc_is,
+        at,
+        omega (arith, le, back g ordered (At n s) (At j t) f u v at (later-edge j s t v is_j j_after is_s is_t arc_is), height-some (S (At n s)) w is),
+      )
+
+      -- from the one between, and from its issue by what it writes, and by its free
+      from-j : (s t : Stage) (v u : ℕ) → has_stage (row_at b j) s ≡ true → has_stage (row_at b k) t ≡ true → later_arc b (row_at b j) (row_at b k) s t ≡ Some v → S (At k t) ≡ Some u → (x : ℕ) × (S (At j s) ≡ Some x) × (v + u ≤ x)
+      from-j s t v u is_s is_t arc_is at =
+          some-height (S (At j s)) (v + u) (back g ordered (At j s) (At k t) f u v at (edge j k is_j is_k between s t v is_s is_t arc_is))
+
+      from-start : (m u : ℕ) → IsNumber b m → S (At m Start) ≡ Some u → (x : ℕ) × (S (At m Issue) ≡ Some x) × (u ≤ x)
+      from-start m u is at = (let (x, there, le) = some-height (S (At m Issue)) (0 + u) (back g ordered (At m Issue) (At m Start) f u 0 at (own-of m is Issue Start 0 refl refl refl)) in (x, there, omega (arith, le)))
+
+      by-result : (m : ℕ) (y : Reg) (u : ℕ) → IsNumber b m → writes (row_at b m) y ≡ true → S (At m (Done y)) ≡ Some u → (x : ℕ) × (S (At m Issue) ≡ Some x) × (u ≤ x)
+      by-result m y u is there at =
+          let (z, is_z, more) = some-height (S (At m Start)) (latency_to (row_at b m) y + u) (back g ordered (At m Start) (At m (Done y)) f u (latency_to (row_at b m) y) at (own-of m is Start (Done y) (latency_to (row_at b m) y) refl there refl)) in
+          let (x, is_x, le) = from-start m z is is_z in
+          (x, is_x, omega (arith, le, more))
+
+      by-free : (u : ℕ) → S (At j Free) ≡ Some u → (x : ℕ) × (S (At j Issue) ≡ Some x) × (u ≤ x)
+      by-free u at =
+          let (z, is_z, more) = some-height (S (At j Start)) ((row_at b j).hold + 1 + u) (back g ordered (At j Start) (At j Free) f u ((row_at b j).hold + 1) at (own-of j is_j Start Free ((row_at b j).hold + 1) refl refl refl)) in
+          let (x, is_x, le) = from-start j z is_j is_z in
+          (x, is_x, omega (arith, le, more))
+
+      covered-hop : (s t : Stage) (v u w : ℕ) → S (At n s) ≡ Some w → has_stage (row_at b n) s ≡ true → has_stage (row_at b k) t ≡ true → later_arc b (row_at b n) (row_at b k) s t ≡ Some v → S (At k t) ≡ Some u → v + u ≡ w → IsHop s w
+      covered-hop Issue Issue v u w is is_s is_t arc_is at sum =
+          let (x, is_x, le) = from-j Issue Issue (row_at b j).parcels u refl refl refl at in
+          hop Issue Issue (row_at b n).parcels x w is refl refl refl is_x (omega (arith, le, sum, Some-same (row_at b n).parcels v arc_is))
+      covered-hop (Done y) Issue v u w is is_s is_t arc_is at sum =
+          let (used, nil) = only_if-parts (writes (row_at b k) y) 0 v arc_is in
+          let there : writes (row_at b j) y ≡ true = covers-second b k j n y covered is_s (or_left (writes (row_at b k) y) (has_reg y (row_at b k).reads) used) in
+          let (z, is_z, more) = from-j (Done y) Issue 0 u there refl (if-only (writes (row_at b k) y) 0 used) at in
+          let (x, is_x, le) = by-result j y z is_j there is_z in
+          hop (Done y) Issue 0 x w is is_s refl (if-only (writes (row_at b j) y) 0 there) is_x (omega (arith, le, more, sum, nil))
+      covered-hop Free Issue v u w is is_s is_t arc_is at sum =
+          let (shares, nil) = only_if-parts (share_unit b n k) 0 v arc_is in
+          let (first, second) = covers-unit-back b k j n covered shares in
+          let (z, is_z, more) = from-j Free Issue 0 u refl refl (if-only (share_unit b j k) 0 second) at in
+          let (x, is_x, le) = by-free z is_z in
+          hop Free Issue 0 x w is refl refl (if-only (share_unit b n j) 0 first) is_x (omega (arith, le, more, sum, nil))
+      covered-hop (Done y) Start v u w is is_s is_t arc_is at sum =
+          let (used, nil) = only_if-parts (has_reg y (row_at b k).reads) 0 v arc_is in
+          let there : writes (row_at b j) y ≡ true = covers-second b k j n y covered is_s (or_right (writes (row_at b k) y) (has_reg y (row_at b k).reads) used) in
+          let (z, is_z, more) = from-j (Done y) Start 0 u there refl (if-only (has_reg y (row_at b k).reads) 0 used) at in
+          let (x, is_x, le) = by-result j y z is_j there is_z in
+          hop (Done y) Issue 0 x w is is_s refl (if-only (writes (row_at b j) y) 0 there) is_x (omega (arith, le, more, sum, nil))
+      covered-hop Start Start v u w is is_s is_t arc_is at sum =
+          let (pair, one) = only_if-parts (memory_pair (row_at b n).memory (row_at b k).memory) 1 v arc_is in
+          let (first, second) = covers-memory-back b k j n covered pair in
+          let (x, is_x, le) = from-j Start Start 1 u refl refl (if-only (memory_pair (row_at b j).memory (row_at b k).memory) 1 second) at in
+          hop Start Start 1 x w is refl refl (if-only (memory_pair (row_at b n).memory (row_at b j).memory) 1 first) is_x (omega (arith, le, sum, one))
+      covered-hop Start (Done y) v u w is is_s is_t arc_is at sum =
+          let (used, one) = only_if-parts (has_reg y (row_at b n).reads) 1 v arc_is in
+          let there : writes (row_at b j) y ≡ true = covers-first b k j n y covered is_t (or_right (writes (row_at b n) y) (has_reg y (row_at b n).reads) used) in
+          let (a, is_a, most) = by-result k y u is_k is_t at in
+          let (x, is_x, le) = from-j (Done y) Issue 0 a there refl (if-only (writes (row_at b k) y) 0 is_t) is_a in
+          hop Start (Done y) 1 x w is refl there (if-only (has_reg y (row_at b n).reads) 1 used) is_x (omega (arith, le, most, sum, one))
+      covered-hop Issue Start v u w is is_s is_t arc_is at sum = absurd (None-none v arc_is)
+      covered-hop Issue (Done y) v u w is is_s is_t arc_is at sum = absurd (None-none v arc_is)
+      covered-hop Issue Free v u w is is_s is_t arc_is at sum = absurd (None-none v arc_is)
+      covered-hop Start Issue v u w is is_s is_t arc_is at sum = absurd (None-none v arc_is)
+      covered-hop Start Free v u w is is_s is_t arc_is at sum = absurd (None-none v arc_is)
+      covered-hop (Done x) (Done y) v u w is is_s is_t arc_is at sum = absurd (None-none v arc_is)
+      covered-hop (Done x) Free v u w is is_s is_t arc_is at sum = absurd (None-none v arc_is)
+      covered-hop Free Start v u w is is_s is_t arc_is at sum = absurd (None-none v arc_is)
+      covered-hop Free (Done y) v u w is is_s is_t arc_is at sum = absurd (None-none v arc_is)
+      covered-hop Free Free v u w is is_s is_t arc_is at sum = absurd (None-none v arc_is)
+
+    near-hop : (k : ℕ) (s t : Stage) (v u w : ℕ) → S (At n s) ≡ Some w → is_moment b (At n s) ≡ true → is_moment b (At k t) ≡ true → before n k ≡ true → later_arc b (row_at b n) (row_at b k) s t ≡ Some v → S (At k t) ≡ Some u → v + u ≡ w → IsHop s w
+    near-hop k s t v u w is is_s is_t k_after arc_is at sum =
+        let is_k : IsNumber b k = moment-number b k t is_t in
+        elim (is_near.enough k is_k k_after) [
+          | inl here ↦ (k, t, v, u, here, is_t, k_after, arc_is, at, sum)
+          | inr (j, is_j, j_near, between, covered) ↦
+              covered-hop k is_k k_after j is_j j_near between covered s t v u w is (moment-parts b n s is_s).1 (moment-parts b k t is_t).1 arc_is at sum
+        ]
+
     -- the first arc of a path from it
     first-cases : (s : Stage) (w : ℕ) (P : Type 0) → S (At n s) ≡ Some w → (At n s ≡ f → 0 ≡ w → P) → (is_final s ≡ true → w < height end → P)
         → ((t : Stage) (v u : ℕ) → is_moment b (At n t) ≡ true → own_arc (row_at b n) s t ≡ Some v → S (At n t) ≡ Some u → v + u ≡ w → P)
-        → ((k : ℕ) (t : Stage) (v u : ℕ) → is_moment b (At k t) ≡ true → before n k ≡ true → later_arc b (row_at b n) (row_at b k) s t ≡ Some v → S (At k t) ≡ Some u → v + u ≡ w → P)
+        → ((k : ℕ) (t : Stage) (v u : ℕ) → is_moment b (At k t) ≡ true → near k ≡ true → before n k ≡ true → later_arc b (row_at b n) (row_at b k) s t ≡ Some v → S (At k t) ≡ Some u → v + u ≡ w → P)
         → ((l : KnownArc) → Among l g.loads → At n s ≡ l.from → w < height (by_loads_from g.loads times f (At n s)) → P) → P
     first-cases s w P is itself to_end own stands load =
         elim (first-arc g ordered (At n s) f w is) [
@@ -208,7 +320,10 @@ module _ (g : Ground) (ordered : IsOrdered g) (f : Moment) (last : is_back f ≡
                 | inr more ↦ elim more [
                   | inl by_own ↦ (let (t, at, is_t, arc_is) = by_own in own t v u is_t arc_is (ap S (sym at) ∙ then) sum)
                   | inr more2 ↦ elim more2 [
-                    | inl by_other ↦ (let (k, t, at, is_k, n_before, arc_is) = by_other in stands k t v u is_k n_before arc_is (ap S (sym at) ∙ then) sum)
+                    | inl by_other ↦
+                        let (k, t, at, is_k, is_s, n_before, arc_is) = by_other in
+                        let (j, r, x, y, j_near, is_j, j_after, its, there, same) = near-hop k s t v u w is is_s is_k n_before arc_is (ap S (sym at) ∙ then) sum in
+                        stands j r x y is_j j_near j_after its there same
                     | inr by_load ↦ (let (l, among, from, to, wait) = by_load in load l among from (loads-high l s m v u w among from to wait then sum (span-fits g ordered (At n s) f w is)))
                   ]
                 ]
@@ -216,10 +331,13 @@ module _ (g : Ground) (ordered : IsOrdered g) (f : Moment) (last : is_back f ≡
         ]
 
     abbrev test : ℕ → Bool
-    test m = before n m
+    test = near
+
+    stands-last : (m : ℕ) → Among m all → near m ≡ true → before n m ≡ true
+    stands-last m among is = is_near.within m (among-number m among) is
 
     abbrev gathering : Times
-    gathering = before_all g times n
+    gathering = before_all b near times n
 
     -- THE FREE
 
@@ -238,8 +356,8 @@ module _ (g : Ground) (ordered : IsOrdered g) (f : Moment) (last : is_back f ≡
         (λ same none. absurd (not-back Free same refl))
         (λ final high. later-left end gathering.free w high)
         (λ t v u is_t own then sum. absurd (no-own t v own))
-        (λ k t v u is_k n_before arc_is then sum. later-right end gathering.free w (subst (λ o. w < height o) (sym free-before)
-        (all-high test frees k all w (number-among k (moment-number b k t is_k)) n_before (by-other k t v u is_k n_before arc_is then sum))))
+        (λ k t v u is_k k_near n_before arc_is then sum. later-right end gathering.free w (subst (λ o. w < height o) (sym free-before)
+        (all-high test frees k all w (number-among k (moment-number b k t is_k)) k_near (by-other k t v u is_k n_before arc_is then sum))))
         (λ l among from high. absurd (not-front l Free among from refl))
       where
         no-own : (t : Stage) (v : ℕ) → own_arc (row_at b n) Free t ≡ Some v → ⊥
@@ -260,7 +378,8 @@ module _ (g : Ground) (ordered : IsOrdered g) (f : Moment) (last : is_back f ≡
     free-is : free ≡ S (At n Free)
     free-is =
         let h : ℕ = height (S (At n Free)) in
-        let gathered-low : height gathering.free ≤ h = subst (λ o. height o ≤ h) (sym free-before) (all-low test frees all h (λ m among first.
+        let gathered-low : height gathering.free ≤ h = subst (λ o. height o ≤ h) (sym free-before) (all-low test frees all h (λ m among is.
+        let first : before n m ≡ true = stands-last m among is in
         when-low (share_unit b n m) (T m).issue h (λ shares.
         let is_m : IsNumber b m = among-number m among in
         back_zero-low g ordered (At n Free) (At m Issue) f (T m).issue (known m is_m first).issue (later-edge m Free Issue 0 is_m first refl refl (cond-true {A = Option ℕ} (share_unit b n m) (Some 0) None shares))))) in
@@ -281,8 +400,8 @@ module _ (g : Ground) (ordered : IsOrdered g) (f : Moment) (last : is_back f ≡
         (λ same none. absurd (not-back (Done x) same refl))
         (λ final high. later-left end (later by_unit (waiting x)) w high)
         (λ t v u is_t own then sum. later-right end (later by_unit (waiting x)) w (later-left by_unit (waiting x) w (by-own t v u own then sum)))
-        (λ k t v u is_k n_before arc_is then sum. later-right end (later by_unit (waiting x)) w (later-right by_unit (waiting x) w
-        (all-high test (λ m. done_before b m (T m) x) k all w (number-among k (moment-number b k t is_k)) n_before (by-other k t v u is_k n_before arc_is then sum))))
+        (λ k t v u is_k k_near n_before arc_is then sum. later-right end (later by_unit (waiting x)) w (later-right by_unit (waiting x) w
+        (all-high test (λ m. done_before b m (T m) x) k all w (number-among k (moment-number b k t is_k)) k_near (by-other k t v u is_k n_before arc_is then sum))))
         (λ l among from high. absurd (not-front l (Done x) among from refl))
       where
         by-own : (t : Stage) (v u : ℕ) → own_arc (row_at b n) (Done x) t ≡ Some v → S (At n t) ≡ Some u → v + u ≡ w → w < height (when (not (fetches (row_at b n) x)) (add free 1))
@@ -315,7 +434,8 @@ module _ (g : Ground) (ordered : IsOrdered g) (f : Moment) (last : is_back f ≡
           later-low end (later by_unit (waiting x)) h (end-low (Done x) refl there)
               (later-low by_unit (waiting x) h
               (when-low (not (fetches (row_at b n) x)) (add free 1) h (λ kept. back-low g ordered (At n (Done x)) (At n Free) f free 1 free-is (own-edge (Done x) Free 1 there refl (cond-true {A = Option ℕ} (not (fetches (row_at b n) x)) (Some 1) None kept))))
-              (all-low test (λ m. done_before b m (T m) x) all h (λ m among first.
+              (all-low test (λ m. done_before b m (T m) x) all h (λ m among is.
+              let first : before n m ≡ true = stands-last m among is in
               let is_m : IsNumber b m = among-number m among in
               later-low (when (writes (row_at b m) x) (T m).issue) (when (has_reg x (row_at b m).reads) (T m).start) h
               (when-low (writes (row_at b m) x) (T m).issue h (λ written. back_zero-low g ordered (At n (Done x)) (At m Issue) f (T m).issue (known m is_m first).issue (later-edge m (Done x) Issue 0 is_m first there refl (cond-true {A = Option ℕ} (writes (row_at b m) x) (Some 0) None written))))
@@ -357,8 +477,9 @@ module _ (g : Ground) (ordered : IsOrdered g) (f : Moment) (last : is_back f ≡
     less-one None h each = omega arith
     less-one (Some u) h each = omega (arith, each u refl)
 
-    starts-low : (m : ℕ) → Among m all → before n m ≡ true → height (starts m) ≤ height (S (At n Start))
-    starts-low m among first =
+    starts-low : (m : ℕ) → Among m all → near m ≡ true → height (starts m) ≤ height (S (At n Start))
+    starts-low m among is =
+        let first : before n m ≡ true = stands-last m among is in
         let h : ℕ = height (S (At n Start)) in
         let is_m : IsNumber b m = among-number m among in
         let t = known m is_m first in
@@ -393,8 +514,8 @@ module _ (g : Ground) (ordered : IsOrdered g) (f : Moment) (last : is_back f ≡
         (λ same none. later-left (later itself by_unit) (later made (later gathering.start loads)) w (later-left itself by_unit w (omega (arith, none, same-high (At n Start) f same))))
         (λ final high. absurd (true≢false (sym final)))
         (λ t v u is_t own then sum. by-own t v u is_t own then sum)
-        (λ k t v u is_k n_before arc_is then sum.
-        let high : w < height gathering.start = subst (λ o. w < height o) (sym start-before) (all-high test starts k all w (number-among k (moment-number b k t is_k)) n_before (start-stands k t v u w is_k n_before arc_is then sum (span-fits g ordered (At n Start) f w is))) in
+        (λ k t v u is_k k_near n_before arc_is then sum.
+        let high : w < height gathering.start = subst (λ o. w < height o) (sym start-before) (all-high test starts k all w (number-among k (moment-number b k t is_k)) k_near (start-stands k t v u w is_k n_before arc_is then sum (span-fits g ordered (At n Start) f w is))) in
         later-right (later itself by_unit) (later made (later gathering.start loads)) w (later-right made (later gathering.start loads) w (later-left gathering.start loads w high)))
         (λ l among from high. later-right (later itself by_unit) (later made (later gathering.start loads)) w (later-right made (later gathering.start loads) w (later-right gathering.start loads w high)))
       where
@@ -451,8 +572,8 @@ module _ (g : Ground) (ordered : IsOrdered g) (f : Moment) (last : is_back f ≡
         (λ same none. later-left (later itself start) (later gathering.issue loads) w (later-left itself start w (omega (arith, none, same-high (At n Issue) f same))))
         (λ final high. absurd (true≢false (sym final)))
         (λ t v u is_t own then sum. later-left (later itself start) (later gathering.issue loads) w (later-right itself start w (by-own t v u own then sum)))
-        (λ k t v u is_k n_before arc_is then sum.
-        let high : w < height gathering.issue = subst (λ o. w < height o) (sym issue-before) (all-high test issues k all w (number-among k (moment-number b k t is_k)) n_before (by-other k t v u is_k n_before arc_is then sum)) in
+        (λ k t v u is_k k_near n_before arc_is then sum.
+        let high : w < height gathering.issue = subst (λ o. w < height o) (sym issue-before) (all-high test issues k all w (number-among k (moment-number b k t is_k)) k_near (by-other k t v u is_k n_before arc_is then sum)) in
         later-right (later itself start) (later gathering.issue loads) w (later-left gathering.issue loads w high))
         (λ l among from high. later-right (later itself start) (later gathering.issue loads) w (later-right gathering.issue loads w high))
       where
@@ -474,7 +595,8 @@ module _ (g : Ground) (ordered : IsOrdered g) (f : Moment) (last : is_back f ≡
         let h : ℕ = height (S (At n Issue)) in
         let loads : Option ℕ = by_loads_from g.loads times f (At n Issue) in
         let itself : Option ℕ = only_if (same_moment (At n Issue) f) 0 in
-        let gathered-low : height gathering.issue ≤ h = subst (λ o. height o ≤ h) (sym issue-before) (all-low test issues all h (λ m among first.
+        let gathered-low : height gathering.issue ≤ h = subst (λ o. height o ≤ h) (sym issue-before) (all-low test issues all h (λ m among is.
+        let first : before n m ≡ true = stands-last m among is in
         let is_m : IsNumber b m = among-number m among in
         back-low g ordered (At n Issue) (At m Issue) f (T m).issue (row_at b n).parcels (known m is_m first).issue (later-edge m Issue Issue (row_at b n).parcels is_m first refl refl refl))) in
         height-same issue (S (At n Issue)) (omega (
@@ -485,10 +607,10 @@ module _ (g : Ground) (ordered : IsOrdered g) (f : Moment) (last : is_back f ≡
               (later-low gathering.issue loads h gathered-low (loads-low Issue)),
         ))
 
-    pub tails-are : AreTimes b S n (tails_of g f times n)
+    pub tails-are : AreTimes b S n (tails_of g near f times n)
     tails-are = record { issue = issue-is; start = start-is; free = free-is; results = whole-results (row_at b n).writes results-are }
       where
-        whole-results : (ws : List Write) → AreResults (λ x. S (At n (Done x))) results ws → AreResults (λ x. S (At n (Done x))) (tails_of g f times n) ws
+        whole-results : (ws : List Write) → AreResults (λ x. S (At n (Done x))) results ws → AreResults (λ x. S (At n (Done x))) (tails_of g near f times n) ws
         whole-results [] are = tt
         whole-results (v ∷ []) are = are
         whole-results (v ∷ (w ∷ ws)) are = are

@@ -5,16 +5,15 @@ use Rattle.std.proofs.lemmas.List.{get_or-set_same, get_or-set_other}
 use Rattle.s66_moments.specs.declared.moment.Moment.{Moment}
 use Rattle.s66_moments.specs.Facts.{IsNumber}
 use Rattle.s66_moments.specs.Networks.{place_by}
-use Rattle.s66_moments.specs.Known.{is_front, is_back, span}
+use Rattle.s66_moments.specs.Known.{span}
 use Rattle.s66_moments.proofs.Rings.{places}
 use Rattle.s66_facts.specs.declared.marks.Marks.{Marks}
 use Rattle.s66_facts.specs.declared.times.Times.{Times}
 use Rattle.s66_facts.specs.Marked.{is_marked, before_in}
 use Rattle.s66_facts.specs.Ground.{Ground, ground_arcs, IsOrdered}
-use Rattle.s66_facts.specs.Passes.{no_times, times_at, heads_of, tails_of, AreTimes}
+use Rattle.s66_facts.specs.Passes.{no_times, times_at, AreTimes}
 use Rattle.s66_facts.specs.Rounds.{AreHeads, AreTails, IsReady, IsReadyBack}
-use Rattle.s66_facts.proofs.HeadLaw.{heads-are}
-use Rattle.s66_facts.proofs.TailLaw.{tails-are}
+use Rattle.s66_facts.specs.Settled.{IsHead, IsTail}
 
 pub set-same : (times : List Times) (n : ℕ) (t : Times) → 1 ≤ n → n ≤ length times → times_at (set times (n - 1) t) n ≡ t
 set-same times zero t low high = absurd (omega (arith, low))
@@ -35,25 +34,25 @@ module _ (g : Ground) (ordered : IsOrdered g) (times : List Times) (done new : M
         | inr old ↦ old
       ]
 
-  pub head-told : (e : Moment) → is_front e ≡ true → time ≡ heads_of g e times n → IsReady g done n → AreHeads g e times done → AreHeads g e (set times (n - 1) time) new
-  head-told e front is ready are k is_k now =
+  pub head-told : (e : Moment) → IsHead g e times n time → IsReady g done n → AreHeads g e times done → AreHeads g e (set times (n - 1) time) new
+  head-told e right ready are k is_k now =
       elim (cases_eq k n) [
         | inl same ↦
             let here : AreTimes g.problem (λ m. span g.problem (ground_arcs g) e m) n (times_at (set times (n - 1) time) n) =
-            subst (λ t. AreTimes g.problem (λ m. span g.problem (ground_arcs g) e m) n t) (sym (set-same times n time is_n.0 room ∙ is))
-            (heads-are g ordered e front times n is_n (λ m is_m first. are m is_m (ready m is_m first))) in
+            subst (λ t. AreTimes g.problem (λ m. span g.problem (ground_arcs g) e m) n t) (sym (set-same times n time is_n.0 room))
+            (right (λ m is_m first. are m is_m (ready m is_m first))) in
             subst (λ i. AreTimes g.problem (λ m. span g.problem (ground_arcs g) e m) i (times_at (set times (n - 1) time) i)) (sym same) here
         | inr differ ↦
             subst (λ t. AreTimes g.problem (λ m. span g.problem (ground_arcs g) e m) k t) (sym (set-other times n k time is_n.0 is_k.0 differ)) (are k is_k (was-marked k is_k.0 differ now))
       ]
 
-  pub tail-told : (f : Moment) → is_back f ≡ true → time ≡ tails_of g f times n → IsReadyBack g done n → AreTails g f times done → AreTails g f (set times (n - 1) time) new
-  tail-told f back is ready are k is_k now =
+  pub tail-told : (f : Moment) → IsTail g f times n time → IsReadyBack g done n → AreTails g f times done → AreTails g f (set times (n - 1) time) new
+  tail-told f right ready are k is_k now =
       elim (cases_eq k n) [
         | inl same ↦
             let here : AreTimes g.problem (λ m. span g.problem (ground_arcs g) m f) n (times_at (set times (n - 1) time) n) =
-            subst (λ t. AreTimes g.problem (λ m. span g.problem (ground_arcs g) m f) n t) (sym (set-same times n time is_n.0 room ∙ is))
-            (tails-are g ordered f back times n is_n (λ m is_m first. are m is_m (ready m is_m first))) in
+            subst (λ t. AreTimes g.problem (λ m. span g.problem (ground_arcs g) m f) n t) (sym (set-same times n time is_n.0 room))
+            (right (λ m is_m first. are m is_m (ready m is_m first))) in
             subst (λ i. AreTimes g.problem (λ m. span g.problem (ground_arcs g) m f) i (times_at (set times (n - 1) time) i)) (sym same) here
         | inr differ ↦
             subst (λ t. AreTimes g.problem (λ m. span g.problem (ground_arcs g) m f) k t) (sym (set-other times n k time is_n.0 is_k.0 differ)) (are k is_k (was-marked k is_k.0 differ now))

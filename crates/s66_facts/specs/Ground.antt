@@ -1,10 +1,7 @@
 -- Used by contracts: a block under a profile, and what is known of it.
-use Rattle.std.specs.Prelude.{◌-◌, ◌^◌, ◌≡◌, ◌≤◌, true, List, length, map}
+use Rattle.std.specs.Prelude.{◌-◌, ◌^◌, ◌≡◌, ◌≤◌, true, List, length}
 use Rattle.s66_isa.specs.declared.limits.TheConstants.{BLOCK_LIMIT}
-use Rattle.s66_isa.specs.declared.instr.Instr.{Instr}
-use Rattle.s66_isa.specs.declared.profile.Profile.{Profile}
 use Rattle.s66_isa.specs.Lists.{Among}
-use Rattle.s66_isa.specs.Table.{Row, row}
 use Rattle.s66_model.specs.Timing.{Problem}
 use Rattle.s66_moments.specs.declared.fact_line.KnownArc.{KnownArc}
 use Rattle.s66_moments.specs.Networks.{Network, IsTransitive, HasNoRing}
@@ -32,8 +29,3 @@ pub record IsOrdered (g : Ground) : Type 0 where
   pub no_ring : HasNoRing g.problem (before_in g.marks)
   pub up : (load : KnownArc) → Among load g.loads → is_arc_up g.problem (before_in g.marks) load.from load.to ≡ true
   pub short : (load : KnownArc) → Among load g.loads → load.wait ≤ 2 ^ 32 - 1
-
--- as it is kept, with the rows of the instructions
-pub record IsKept (block : List Instr) (profile : Profile) (rows : List Row) (marks : List Marks) (loads : List KnownArc) : Type 0 where
-  pub ordered : IsOrdered (record { problem = record { block = block; profile = profile }; marks = marks; loads = loads })
-  pub known_rows : rows ≡ map (row profile) block

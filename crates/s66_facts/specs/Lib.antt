@@ -1,5 +1,6 @@
 pub mod Marked
 pub mod Ground
 pub mod Passes
+pub mod Near
 pub mod Rounds
 pub mod Settled

@@ -12,7 +12,6 @@ use Rattle.s66_moments.specs.Networks.{same_moment}
 use Rattle.s66_moments.specs.Known.{later, latest}
 use Rattle.s66_facts.specs.declared.times.Times.{Times}
 use Rattle.s66_facts.specs.Ground.{Ground}
-use Rattle.s66_facts.specs.Marked.{before_in}
 
 -- so much later, or the greatest number of the machine
 abbrev pub add : Option ℕ → ℕ → Option ℕ
@@ -93,9 +92,9 @@ after_one b times n m =
       second = second_of (done_after b m (times_at times m)) (row_at b n).writes;
     }
 
--- after all that stands before
-abbrev pub after_all : Ground → List Times → ℕ → Times
-after_all g times n = gathered (λ m. before_in g.marks m n) (after_one g.problem times n) (numbers g.problem.block)
+-- after all that pass
+abbrev pub after_all : Problem → (ℕ → Bool) → List Times → ℕ → Times
+after_all b near times n = gathered near (after_one b times n) (numbers b.block)
 
 -- the latest by loads that lead to a moment
 abbrev pub by_loads_to : List KnownArc → List Times → Moment → Moment → Option ℕ
@@ -136,9 +135,9 @@ head_free b e n t =
 abbrev pub with_free : Times → Option ℕ → Times
 with_free t free = record { issue = t.issue; start = t.start; free = free; first = t.first; second = t.second }
 
-abbrev pub heads_of : Ground → Moment → List Times → ℕ → Times
-heads_of g e times n =
-    let after : Times = after_all g times n in
+abbrev pub heads_of : Ground → (ℕ → Bool) → Moment → List Times → ℕ → Times
+heads_of g near e times n =
+    let after : Times = after_all g.problem near times n in
     let issue : Option ℕ = head_issue g.loads e times n after in
     let t : Times = head_results g.problem e n after issue (head_start g.loads e times n after issue) in
     with_free t (head_free g.problem e n t)
@@ -163,9 +162,9 @@ before_one b times n m =
       second = second_of (done_before b m (times_at times m)) (row_at b n).writes;
     }
 
--- before all that stands after
-abbrev pub before_all : Ground → List Times → ℕ → Times
-before_all g times n = gathered (λ m. before_in g.marks n m) (before_one g.problem times n) (numbers g.problem.block)
+-- before all that pass
+abbrev pub before_all : Problem → (ℕ → Bool) → List Times → ℕ → Times
+before_all b near times n = gathered near (before_one b times n) (numbers b.block)
 
 -- the latest by loads that come from a moment
 abbrev pub by_loads_from : List KnownArc → List Times → Moment → Moment → Option ℕ
@@ -205,9 +204,9 @@ abbrev pub tail_issue : List KnownArc → Moment → List Times → ℕ → Time
 tail_issue loads f times n before start =
     later (later (only_if (same_moment (At n Issue) f) 0) start) (later before.issue (by_loads_from loads times f (At n Issue)))
 
-abbrev pub tails_of : Ground → Moment → List Times → ℕ → Times
-tails_of g f times n =
-    let before : Times = before_all g times n in
+abbrev pub tails_of : Ground → (ℕ → Bool) → Moment → List Times → ℕ → Times
+tails_of g near f times n =
+    let before : Times = before_all g.problem near times n in
     let t : Times = tail_results g.problem f n before (tail_free f before) in
     let start : Option ℕ = tail_start g f times n before t in
     record { issue = tail_issue g.loads f times n before start; start = start; free = t.free; first = t.first; second = t.second }

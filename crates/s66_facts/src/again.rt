@@ -95,21 +95,6 @@ pub(crate) fn all_but(graph: &Graph, moment: &Moment) -> Marks
     others
 }
 
-/// The numbers that stand after n.
-fn after(graph: &Graph, n: u8) -> Marks
-    requires n { IsNumber graph.now.problem n }
-    requires few { length graph.now.problem.block ≤ BLOCK_LIMIT }
-    ensures { (m : ℕ) → IsNumber graph.now.problem m → before_in graph.now.marks n m ≡ true → is_marked result m ≡ true }
-{
-    let mut after = Marks::none();
-    for position in 0..graph.count() {
-        if graph.is_before(n, position + 1) {
-            after = after.with(position + 1);
-        }
-    }
-    after
-}
-
 /// Settles n, once all that stands before it is settled: finds its times, and if they are others, what stands after it has to be
 /// settled again.
 fn settle_head(
@@ -122,6 +107,7 @@ fn settle_head(
     requires n { IsNumber graph.now.problem n }
     requires few { length graph.now.problem.block ≤ BLOCK_LIMIT }
     requires ordered { IsOrdered graph.now }
+    requires from { is_front from.now ≡ true }
     ensures { AreSettledHeads graph.now from.now times.old settled → AreSettledHeads graph.now from.now times.new result }
 {
     if settled.has(n) || !graph.before(n).are_within(&settled) {
@@ -132,7 +118,7 @@ fn settle_head(
         return settled.with(n);
     }
     times[n as usize - 1] = time;
-    settled.without_all(after(graph, n)).with(n)
+    settled.without_all(graph.after(n)).with(n)
 }
 
 /// Settles n, once all that stands after it is settled; what stands before it has to be settled again if its times are others.
@@ -146,9 +132,10 @@ fn settle_tail(
     requires n { IsNumber graph.now.problem n }
     requires few { length graph.now.problem.block ≤ BLOCK_LIMIT }
     requires ordered { IsOrdered graph.now }
+    requires to { is_back to.now ≡ true }
     ensures { AreSettledTails graph.now to.now times.old settled → AreSettledTails graph.now to.now times.new result }
 {
-    if settled.has(n) || !after(graph, n).are_within(&settled) {
+    if settled.has(n) || !graph.after(n).are_within(&settled) {
         return settled;
     }
     let time = tails_of(graph, to, times, n);
@@ -168,6 +155,7 @@ fn settle_heads(
 ) -> Marks
     requires few { length graph.now.problem.block ≤ BLOCK_LIMIT }
     requires ordered { IsOrdered graph.now }
+    requires from { is_front from.now ≡ true }
     ensures { AreSettledHeads graph.now from.now times.old settled → AreSettledHeads graph.now from.now times.new result }
 {
     let mut done = settled;
@@ -186,6 +174,7 @@ fn settle_tails(
 ) -> Marks
     requires few { length graph.now.problem.block ≤ BLOCK_LIMIT }
     requires ordered { IsOrdered graph.now }
+    requires to { is_back to.now ≡ true }
     ensures { AreSettledTails graph.now to.now times.old settled → AreSettledTails graph.now to.now times.new result }
 {
     let mut done = settled;
@@ -244,4 +233,24 @@ pub(crate) fn tails_again(
     }
     // as above
     tails(graph, to)
+}
+
+/// The longest paths from a moment to all instructions: each is settled once, with what stands before it settled first.
+pub(crate) fn all_heads(graph: &Graph, from: &Moment) -> [Times; BLOCK_LIMIT]
+    requires few { length graph.now.problem.block ≤ BLOCK_LIMIT }
+    requires ordered { IsOrdered graph.now }
+    requires from { is_front from.now ≡ true }
+    ensures { AreAllHeads graph.now from.now result }
+{
+    heads_again(graph, from, &[Times::none(); BLOCK_LIMIT], Marks::none())
+}
+
+/// The longest paths from all instructions to a moment, in the same way.
+pub(crate) fn all_tails(graph: &Graph, to: &Moment) -> [Times; BLOCK_LIMIT]
+    requires few { length graph.now.problem.block ≤ BLOCK_LIMIT }
+    requires ordered { IsOrdered graph.now }
+    requires to { is_back to.now ≡ true }
+    ensures { AreAllTails graph.now to.now result }
+{
+    tails_again(graph, to, &[Times::none(); BLOCK_LIMIT], Marks::none())
 }

@@ -4,10 +4,11 @@ ghost use Rattle.std.specs.Prelude.{ℕ, ◌≡◌, ◌≤◌, ◌<◌, ◌||◌
 ghost use Rattle.s66_isa.specs.declared.limits.TheConstants.{BLOCK_LIMIT};
 ghost use Rattle.s66_facts.specs.declared.limits.TheConstants.{FACT_LIMIT};
 
-use crate::again::{all_but, heads_again, same_after, same_before, tails_again};
+use crate::again::{
+    all_but, all_heads, all_tails, heads_again, same_after, same_before, tails_again,
+};
 use crate::graph::Graph;
 use crate::loads::{are_used, is_load_line};
-use crate::rounds::{heads, tails};
 use crate::times::{Times, reaches_both, reaches_through, times_at};
 use s66_isa::{BLOCK_LIMIT, Instr, Profile};
 use s66_moments::{LoadLine, Moment};
@@ -55,8 +56,8 @@ impl Facts {
         let graph = Graph::new(block, profile);
         // its clauses say that the block is short, and that nothing forms a ring
         let _count = graph.count();
-        let heads = heads(&graph, &Moment::Origin);
-        let tails = tails(&graph, &Moment::End);
+        let heads = all_heads(&graph, &Moment::Origin);
+        let tails = all_tails(&graph, &Moment::End);
         Facts {
             graph,
             heads,
@@ -106,7 +107,7 @@ impl Facts {
         let _count = self.graph.count();
         match to {
             Moment::End => self.tails,
-            Moment::Origin | Moment::At(..) => tails(&self.graph, to),
+            Moment::Origin | Moment::At(..) => all_tails(&self.graph, to),
         }
     }
 
@@ -119,7 +120,7 @@ impl Facts {
         let _count = self.graph.count();
         match from {
             Moment::Origin => self.heads,
-            Moment::At(..) | Moment::End => heads(&self.graph, from),
+            Moment::At(..) | Moment::End => all_heads(&self.graph, from),
         }
     }
 

@@ -5,10 +5,11 @@ ghost use Rattle.s66_isa.specs.Table.{row};
 ghost use Rattle.s66_isa.specs.declared.limits.TheConstants.{BLOCK_LIMIT};
 ghost use Rattle.s66_facts.specs.declared.limits.TheConstants.{FACT_LIMIT};
 
-use crate::closure::before_each;
+use crate::closure::{before_each, marks_at};
 use crate::limits::FACT_LIMIT;
-use crate::marks::Marks;
-use crate::pairs::with_pair;
+use crate::marks::{Marks, copy_of, none_each};
+use crate::near::near_each;
+use crate::pairs::{turned, with_pair};
 use arrayvec::ArrayVec;
 use s66_isa::{BLOCK_LIMIT, Instr, Kind, Profile, Row, is_same_kind};
 use s66_moments::{KnownArc, Moment};
@@ -22,17 +23,24 @@ pub(crate) struct Graph {
     rows: ArrayVec<Row, BLOCK_LIMIT>,
     /// Of each number those that stand before it.
     before: ArrayVec<Marks, BLOCK_LIMIT>,
+    /// After it.
+    after: ArrayVec<Marks, BLOCK_LIMIT>,
+    /// Those of the former that decide its times.
+    near_before: ArrayVec<Marks, BLOCK_LIMIT>,
+    /// Those of the latter.
+    near_after: ArrayVec<Marks, BLOCK_LIMIT>,
     loads: ArrayVec<KnownArc, FACT_LIMIT>,
 }
 
 impl Model for Graph {
-    ghost use Rattle.s66_facts.specs.Ground.{Ground, IsKept};
+    ghost use Rattle.s66_facts.specs.Ground.{Ground};
+    ghost use Rattle.s66_facts.specs.Near.{IsKept};
 
     ghost Value = { Ground };
 
     ghost view = { λ g. record { problem = record { block = g.block.items; profile = g.profile }; marks = g.before.items; loads = g.loads.items } };
 
-    ghost invariant = { λ g. IsKept g.block.items g.profile g.rows.items g.before.items g.loads.items };
+    ghost invariant = { λ g. IsKept g.block.items g.profile g.rows.items g.before.items g.after.items g.near_before.items g.near_after.items g.loads.items };
 }
 
 /// The rows of a block's instructions under a profile.
@@ -52,6 +60,7 @@ impl Graph {
     ghost use Rattle.s66_moments.specs.Facts.{IsNumber};
     ghost use Rattle.s66_facts.specs.Marked.{is_marked, before_in};
     ghost use Rattle.s66_facts.specs.Ground.{IsOrdered, known_of};
+    ghost use Rattle.s66_facts.specs.Near.{IsNear};
     ghost use Rattle.s66_facts.specs.Passes.{share_unit};
     ghost use Rattle.s66_moments.specs.Known.{known_first, with_line, is_number, is_arc_up};
     ghost use Rattle.s66_moments.specs.declared.fact_line.FactLine.TheVariants.{Pair};
@@ -62,16 +71,56 @@ impl Graph {
         ensures problem { result.problem ≡ record { block = block.now; profile = profile.now } }
         ensures known { known_of result ≡ known_first result.problem }
     {
+        let mut graph = Graph::close(block, profile);
+        graph.thin_out();
+        graph
+    }
+
+    /// The same, if all that stands before a number decides its times.
+    fn close(block: &[Instr], profile: &Profile) -> Graph
+        requires { length block.now ≤ BLOCK_LIMIT }
+        ensures problem { result.problem ≡ record { block = block.now; profile = profile.now } }
+        ensures known { known_of result ≡ known_first result.problem }
+    {
         let Ok(copy) = ArrayVec::try_from(block) else {
             unreachable!()
         };
+        let before = before_each(block);
+        let near_before = copy_of(before.as_slice());
+        let after = turned(before.as_slice());
+        let near_after = copy_of(after.as_slice());
         Graph {
             block: copy,
             profile: *profile,
             rows: rows_of(block, profile),
-            before: before_each(block),
+            before,
+            after,
+            near_before,
+            near_after,
             loads: ArrayVec::new(),
         }
+    }
+
+    /// Finds which numbers decide the times of each. Each number that stands before another is compared with those that do.
+    fn thin_out(&mut self)
+        ensures { self.new ≡ self.old }
+    {
+        let count = self.count();
+        let none = none_each(count);
+        let near_before = near_each(
+            self,
+            self.before.as_slice(),
+            none.as_slice(),
+            none.as_slice(),
+        );
+        let near_after = near_each(
+            self,
+            self.after.as_slice(),
+            none.as_slice(),
+            none.as_slice(),
+        );
+        self.near_before = near_before;
+        self.near_after = near_after;
     }
 
     /// The same, in time linear in the block's length and in the loads.
@@ -81,9 +130,6 @@ impl Graph {
         let Ok(block) = ArrayVec::try_from(self.block.as_slice()) else {
             unreachable!()
         };
-        let Ok(before) = ArrayVec::try_from(self.before.as_slice()) else {
-            unreachable!()
-        };
         let Ok(loads) = ArrayVec::try_from(self.loads.as_slice()) else {
             unreachable!()
         };
@@ -91,7 +137,10 @@ impl Graph {
             block,
             profile: self.profile,
             rows: rows_of(self.block.as_slice(), &self.profile),
-            before,
+            before: copy_of(self.before.as_slice()),
+            after: copy_of(self.after.as_slice()),
+            near_before: copy_of(self.near_before.as_slice()),
+            near_after: copy_of(self.near_after.as_slice()),
             loads,
         }
     }
@@ -140,6 +189,30 @@ impl Graph {
         self.before[n as usize - 1]
     }
 
+    /// The numbers that stand after n.
+    pub(crate) fn after(&self, n: u8) -> Marks
+        requires { IsNumber self.now.problem n }
+        ensures { (m : ℕ) → IsNumber self.now.problem m → is_marked result m ≡ before_in self.now.marks n m }
+    {
+        self.after[n as usize - 1]
+    }
+
+    /// Those of the numbers that stand before n that decide its times.
+    pub(crate) fn near_before(&self, n: u8) -> Marks
+        requires { IsNumber self.now.problem n }
+        ensures { IsNear self.now.problem (before_in self.now.marks) result n }
+    {
+        self.near_before[n as usize - 1]
+    }
+
+    /// Those of the numbers that stand after it.
+    pub(crate) fn near_after(&self, n: u8) -> Marks
+        requires { IsNumber self.now.problem n }
+        ensures { IsNear self.now.problem (λ m k. before_in self.now.marks k m) result n }
+    {
+        marks_at(self.near_after.as_slice(), n as usize - 1)
+    }
+
     /// How many units there are of a kind.
     pub(crate) fn copies(&self, kind: Kind) -> u32
         ensures value { result ≡ copies self.now.problem kind }
@@ -166,7 +239,24 @@ impl Graph {
         ensures problem { self.new.problem ≡ self.old.problem }
         ensures known { known_of self.new ≡ with_line (known_of self.old) (Pair m n) }
     {
-        self.before = with_pair(self.before.as_slice(), m, n);
+        let before = with_pair(self.before.as_slice(), m, n);
+        let after = with_pair(self.after.as_slice(), n, m);
+        let near_before = near_each(
+            self,
+            before.as_slice(),
+            self.before.as_slice(),
+            self.near_before.as_slice(),
+        );
+        let near_after = near_each(
+            self,
+            after.as_slice(),
+            self.after.as_slice(),
+            self.near_after.as_slice(),
+        );
+        self.before = before;
+        self.after = after;
+        self.near_before = near_before;
+        self.near_after = near_after;
     }
 
     /// One arc of a load more, which leads up.

@@ -1,10 +1,16 @@
 //! The longest paths from a moment to those of all instructions.
 
-ghost use Rattle.std.specs.Prelude.{◌≡◌};
+ghost use Rattle.std.specs.Prelude.{ℕ, ◌≡◌, ◌≤◌, true};
+ghost use Rattle.s66_isa.specs.declared.limits.TheConstants.{BLOCK_LIMIT};
 ghost use Rattle.s66_moments.specs.Facts.{IsNumber};
+ghost use Rattle.s66_moments.specs.Known.{is_front};
+ghost use Rattle.s66_facts.specs.Marked.{is_marked};
+ghost use Rattle.s66_facts.specs.Ground.{IsOrdered};
+ghost use Rattle.s66_facts.specs.Settled.{IsHead};
 ghost use Rattle.s66_facts.specs.Passes.{issue_after, start_after, done_after, after_one, after_all, by_loads_to, at_once, head_issue, head_start, head_done, head_results, head_free, heads_of};
 
 use crate::graph::Graph;
+use crate::marks::Marks;
 use crate::times::{
     Times, add, latency_to, later, latest_held, latest_read, latest_written, same_moment,
     time_at_moment, times_at, when, zero_if_same,
@@ -71,16 +77,18 @@ fn after_one(graph: &Graph, times: &[Times; BLOCK_LIMIT], n: u8, m: u8) -> Times
     }
 }
 
-/// The moments of n after all that stands before it.
-fn after_all(graph: &Graph, times: &[Times; BLOCK_LIMIT], n: u8) -> Times
-    requires { IsNumber graph.now.problem n }
-    ensures { result ≡ after_all graph.now times.now n }
+/// The moments of n after all that are marked.
+fn after_all(graph: &Graph, near: Marks, times: &[Times; BLOCK_LIMIT], n: u8) -> Times
+    requires n { IsNumber graph.now.problem n }
+    requires near { (m : ℕ) → 1 ≤ m → m ≤ BLOCK_LIMIT → is_marked near m ≡ true → IsNumber graph.now.problem m }
+    ensures { result ≡ after_all graph.now.problem (is_marked near) times.now n }
 {
+    // its clauses say that the block is short
+    let _count = graph.count();
     let mut latest = Times::none();
-    for position in 0..graph.count() {
-        if graph.is_before(position + 1, n) {
-            latest = latest.later(&after_one(graph, times, n, position + 1));
-        }
+    let mut rest = near;
+    while let Some(m) = rest.pop_first() {
+        latest = latest.later(&after_one(graph, times, n, m));
     }
     latest
 }
@@ -206,15 +214,32 @@ fn head_free(graph: &Graph, from: &Moment, n: u8, time: &Times) -> Option<u64>
     )
 }
 
-/// All its moments, by the times of what stands before it.
-pub(crate) fn heads_of(graph: &Graph, from: &Moment, times: &[Times; BLOCK_LIMIT], n: u8) -> Times
-    requires { IsNumber graph.now.problem n }
-    ensures { result ≡ heads_of graph.now from.now times.now n }
+/// All its moments, by the times of all that are marked.
+fn heads_after(
+    graph: &Graph,
+    near: Marks,
+    from: &Moment,
+    times: &[Times; BLOCK_LIMIT],
+    n: u8,
+) -> Times
+    requires n { IsNumber graph.now.problem n }
+    requires near { (m : ℕ) → 1 ≤ m → m ≤ BLOCK_LIMIT → is_marked near m ≡ true → IsNumber graph.now.problem m }
+    ensures { result ≡ heads_of graph.now (is_marked near) from.now times.now n }
 {
-    let after = after_all(graph, times, n);
+    let after = after_all(graph, near, times, n);
     let issue = head_issue(graph, from, times, n, &after);
     let start = head_start(graph, from, times, n, &after, issue);
     let time = head_results(graph, from, n, &after, issue, start);
     let free = head_free(graph, from, n, &time);
     Times { free, ..time }
+}
+
+/// All its moments, by the times of what stands before it. It takes a step for each number that decides them, and a look at each load.
+pub(crate) fn heads_of(graph: &Graph, from: &Moment, times: &[Times; BLOCK_LIMIT], n: u8) -> Times
+    requires n { IsNumber graph.now.problem n }
+    requires ordered { IsOrdered graph.now }
+    requires from { is_front from.now ≡ true }
+    ensures { IsHead graph.now from.now times.now n result }
+{
+    heads_after(graph, graph.near_before(n), from, times, n)
 }

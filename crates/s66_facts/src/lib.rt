@@ -10,6 +10,7 @@ mod heads;
 mod limits;
 mod loads;
 mod marks;
+mod near;
 mod pairs;
 mod rounds;
 mod tails;

@@ -1,7 +1,8 @@
-ghost use Rattle.std.specs.Prelude.{ℕ, ◌≡◌, ◌≤◌, ◌==◌, ◌||◌, ◌&&◌, not, ◌↔◌, IsTrue, true, false};
+ghost use Rattle.std.specs.Prelude.{ℕ, ◌-◌, ◌≡◌, ◌≤◌, ◌<◌, ◌==◌, ◌||◌, ◌&&◌, not, ◌↔◌, IsTrue, IfSome, IfNone, true, false, length, get_or};
 ghost use Rattle.s66_isa.specs.declared.limits.TheConstants.{BLOCK_LIMIT};
-ghost use Rattle.s66_facts.specs.Marked.{is_marked};
+ghost use Rattle.s66_facts.specs.Marked.{is_marked, no_marks};
 
+use arrayvec::ArrayVec;
 use s66_isa::BLOCK_LIMIT;
 
 // one word has a bit for each number of a block
@@ -81,4 +82,45 @@ impl Marks {
     {
         self.bits == other.bits
     }
+
+    /// Takes the least number that is marked out, if there is one.
+    pub fn pop_first(&mut self) -> Option<u8>
+        ensures range { IfSome result (λ n. (1 ≤ n) × (n ≤ BLOCK_LIMIT)) }
+        ensures marked { IfSome result (λ n. is_marked self.old n ≡ true) }
+        ensures others { IfSome result (λ n. (m : ℕ) → 1 ≤ m → m ≤ BLOCK_LIMIT → is_marked self.new m ≡ (not (m == n) && is_marked self.old m)) }
+        ensures fewer { IfSome result (λ n. self.new.bits < self.old.bits) }
+        ensures none { IfNone result ((m : ℕ) → is_marked self.old m ≡ false) }
+    {
+        if self.bits == 0 {
+            return None;
+        }
+        let lowest = self.bits.trailing_zeros();
+        // n & (n - 1) is n without the lowest bit that is set
+        self.bits &= self.bits - 1;
+        Some(lowest as u8 + 1)
+    }
+}
+
+/// The same.
+pub(crate) fn copy_of(marks: &[Marks]) -> ArrayVec<Marks, BLOCK_LIMIT>
+    requires { length marks.now ≤ BLOCK_LIMIT }
+    ensures { result.items ≡ marks.now }
+{
+    let Ok(copy) = ArrayVec::try_from(marks) else {
+        unreachable!()
+    };
+    copy
+}
+
+/// None is marked, so many times.
+pub(crate) fn none_each(count: u8) -> ArrayVec<Marks, BLOCK_LIMIT>
+    requires { count ≤ BLOCK_LIMIT }
+    ensures count { length result.items ≡ count }
+    ensures none { (m n : ℕ) → 1 ≤ n → n ≤ count → is_marked (get_or result.items (n - 1) no_marks) m ≡ false }
+{
+    let mut all: ArrayVec<Marks, BLOCK_LIMIT> = ArrayVec::new();
+    for _position in 0..count {
+        all.push(Marks::none());
+    }
+    all
 }

@@ -42,3 +42,32 @@ pub(crate) fn with_pair(before: &[Marks], j: u8, k: u8) -> ArrayVec<Marks, BLOCK
     }
     all
 }
+
+/// The numbers that have n marked.
+fn turned_at(before: &[Marks], n: u8) -> Marks
+    requires few { length before.now ≤ BLOCK_LIMIT }
+    requires n { (1 ≤ n) × (n ≤ length before.now) }
+    ensures { (m : ℕ) → 1 ≤ m → is_marked result m ≡ before_in before.now n m }
+{
+    let mut all = Marks::none();
+    for position in 0..before.len() {
+        if marks_at(before, position).has(n) {
+            all = all.with(position as u8 + 1);
+        }
+    }
+    all
+}
+
+/// The numbers that stand after each. Each two are looked at.
+pub(crate) fn turned(before: &[Marks]) -> ArrayVec<Marks, BLOCK_LIMIT>
+    requires { length before.now ≤ BLOCK_LIMIT }
+    ensures count { length result.items ≡ length before.now }
+    ensures each { (n : ℕ) → 1 ≤ n → n ≤ length before.now → (m : ℕ) → 1 ≤ m → is_marked (get_or result.items (n - 1) no_marks) m ≡ before_in before.now n m }
+{
+    let mut all: ArrayVec<Marks, BLOCK_LIMIT> = ArrayVec::new();
+    for position in 0..before.len() {
+        let later = turned_at(before, position as u8 + 1);
+        all.push(later);
+    }
+    all
+}

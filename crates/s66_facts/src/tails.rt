@@ -1,10 +1,16 @@
 //! The longest paths from the moments of all instructions to a moment.
 
-ghost use Rattle.std.specs.Prelude.{◌≡◌};
+ghost use Rattle.std.specs.Prelude.{ℕ, ◌≡◌, ◌≤◌, true};
+ghost use Rattle.s66_isa.specs.declared.limits.TheConstants.{BLOCK_LIMIT};
 ghost use Rattle.s66_moments.specs.Facts.{IsNumber};
+ghost use Rattle.s66_moments.specs.Known.{is_back};
+ghost use Rattle.s66_facts.specs.Marked.{is_marked};
+ghost use Rattle.s66_facts.specs.Ground.{IsOrdered};
+ghost use Rattle.s66_facts.specs.Settled.{IsTail};
 ghost use Rattle.s66_facts.specs.Passes.{start_before, done_before, before_one, before_all, by_loads_from, tail_done, tail_results, tail_start, tail_issue, tails_of};
 
 use crate::graph::Graph;
+use crate::marks::Marks;
 use crate::times::{
     Times, add, is_fetched, is_written, later, latest_read, latest_result, same_moment,
     time_at_moment, times_at, when, zero_if_same,
@@ -60,16 +66,18 @@ fn before_one(graph: &Graph, times: &[Times; BLOCK_LIMIT], n: u8, m: u8) -> Time
     }
 }
 
-/// The moments of n before all that stands after it.
-fn before_all(graph: &Graph, times: &[Times; BLOCK_LIMIT], n: u8) -> Times
-    requires { IsNumber graph.now.problem n }
-    ensures { result ≡ before_all graph.now times.now n }
+/// The moments of n before all that are marked.
+fn before_all(graph: &Graph, near: Marks, times: &[Times; BLOCK_LIMIT], n: u8) -> Times
+    requires n { IsNumber graph.now.problem n }
+    requires near { (m : ℕ) → 1 ≤ m → m ≤ BLOCK_LIMIT → is_marked near m ≡ true → IsNumber graph.now.problem m }
+    ensures { result ≡ before_all graph.now.problem (is_marked near) times.now n }
 {
+    // its clauses say that the block is short
+    let _count = graph.count();
     let mut latest = Times::none();
-    for position in 0..graph.count() {
-        if graph.is_before(n, position + 1) {
-            latest = latest.later(&before_one(graph, times, n, position + 1));
-        }
+    let mut rest = near;
+    while let Some(m) = rest.pop_first() {
+        latest = latest.later(&before_one(graph, times, n, m));
     }
     latest
 }
@@ -174,12 +182,19 @@ fn tail_issue(
     )
 }
 
-/// From all its moments, by the times of what stands after it.
-pub(crate) fn tails_of(graph: &Graph, to: &Moment, times: &[Times; BLOCK_LIMIT], n: u8) -> Times
-    requires { IsNumber graph.now.problem n }
-    ensures { result ≡ tails_of graph.now to.now times.now n }
+/// From all its moments, by the times of all that are marked.
+fn tails_before(
+    graph: &Graph,
+    near: Marks,
+    to: &Moment,
+    times: &[Times; BLOCK_LIMIT],
+    n: u8,
+) -> Times
+    requires n { IsNumber graph.now.problem n }
+    requires near { (m : ℕ) → 1 ≤ m → m ≤ BLOCK_LIMIT → is_marked near m ≡ true → IsNumber graph.now.problem m }
+    ensures { result ≡ tails_of graph.now (is_marked near) to.now times.now n }
 {
-    let before = before_all(graph, times, n);
+    let before = before_all(graph, near, times, n);
     let free = later(zero_if_same(to, &Moment::End), before.free);
     let time = tail_results(graph, to, n, &before, free);
     let start = tail_start(graph, to, times, n, &before, &time);
@@ -189,4 +204,14 @@ pub(crate) fn tails_of(graph: &Graph, to: &Moment, times: &[Times; BLOCK_LIMIT],
         start,
         ..time
     }
+}
+
+/// From all its moments, by the times of what stands after it. It takes a step for each number that decides them, and a look at each load.
+pub(crate) fn tails_of(graph: &Graph, to: &Moment, times: &[Times; BLOCK_LIMIT], n: u8) -> Times
+    requires n { IsNumber graph.now.problem n }
+    requires ordered { IsOrdered graph.now }
+    requires to { is_back to.now ≡ true }
+    ensures { IsTail graph.now to.now times.now n result }
+{
+    tails_before(graph, graph.near_after(n), to, times, n)
 }

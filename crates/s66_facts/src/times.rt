@@ -190,7 +190,7 @@ pub(crate) fn is_written(results: &[Write], register: Reg) -> bool
 }
 
 /// Whether an instruction writes a register.
-fn writes(row: &Row, register: Reg) -> bool
+pub(crate) fn writes(row: &Row, register: Reg) -> bool
     ensures { result ≡ writes row.now register }
 {
     is_written(row.writes.as_slice(), register)

@@ -3,7 +3,7 @@ use Rattle.s66_facts.proofs.again.heads_again.Goals as goal
 
 pub returns-then-are_all : goal.returns-then-are_all
 returns-then-are_all c =
-    heads-settled c.args.graph.now c.requires.ordered c.settle_heads-done.new.times c.args.from.now c.requires.from (λ n is. c.settle_heads-done.ensures c.loop-round.invariant n is (c.are_all.ensures c.if-are_all.true n is))
+    heads-settled c.args.graph.now c.requires.ordered c.settle_heads-done.new.times c.args.from.now (λ n is. c.settle_heads-done.ensures c.loop-round.invariant n is (c.are_all.ensures c.if-are_all.true n is))
 
 pub loop-round-preserved : goal.loop-round-preserved
 loop-round-preserved c = c.settle_heads-done.ensures c.loop-round.invariant

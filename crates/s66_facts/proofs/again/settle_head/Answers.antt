@@ -10,4 +10,4 @@ returns-then-is_same c =
 pub returns : goal.returns
 returns c =
     let room : c.args.n ≤ length c.args.times.now = omega (arith, c.told-times, c.requires.n.1, c.requires.few) in
-    head-settled c.args.graph.now c.requires.ordered c.args.times.now c.args.settled c.with-2.result c.args.n c.requires.n room c.heads_of-time.result c.after.result c.without_all.result c.without_all.ensures c.with-2.ensures c.args.from.now c.heads_of-time.ensures c.after.ensures
+    head-settled c.args.graph.now c.requires.ordered c.args.times.now c.args.settled c.with-2.result c.args.n c.requires.n room c.heads_of-time.result c.after.result c.without_all.result c.without_all.ensures c.with-2.ensures c.args.from.now c.heads_of-time.ensures (λ m is_m first. c.after.ensures m is_m ∙ first)

@@ -1,33 +1,42 @@
-use Rattle.std.proofs.Common.{ℕ, ◌≡◌, ◌<◌, ◌+◌, ◌-◌, Bool, length, sym, ap, subst, arith, ◌∙◌}
-use Rattle.s66_isa.specs.Lists.{rising}
+use Rattle.std.proofs.Common.{ℕ, ◌≡◌, ◌≤◌, ◌==◌, not, length, sym, ap, subst, arith, ◌∙◌}
+use Rattle.std.proofs.lemmas.Bool.{and_parts}
+use Rattle.s66_isa.specs.declared.limits.TheConstants.{BLOCK_LIMIT}
+use Rattle.s66_isa.specs.Table.{numbers}
+use Rattle.s66_moments.specs.Facts.{IsNumber}
 use Rattle.s66_facts.specs.declared.times.Times.{Times}
-use Rattle.s66_facts.specs.Marked.{before_in}
+use Rattle.s66_facts.specs.Marked.{is_marked}
 use Rattle.s66_facts.specs.Passes.{later_times, gathered, after_one, after_all}
-use Rattle.s66_facts.proofs.Latest.{gathered-next, gathered-past, gathered-all}
-use Rattle.s66_facts.proofs.heads.after_all.Goals.{then-is_before, else-is_before}
+use Rattle.s66_facts.proofs.Latest.{gathered-next, gathered-end}
 use Rattle.s66_facts.proofs.heads.after_all.Goals as goal
 
-pub loop-position-preserved : goal.loop-position-preserved
-loop-position-preserved c =
+pub loop-m-init : goal.loop-m-init
+loop-m-init c =
     let g = c.args.graph.now in
-    let n = c.args.n in
-    let position = c.loop-position.position in
-    let test : ℕ → Bool = λ m. before_in g.marks m n in
-    let f : ℕ → Times = after_one g.problem c.args.times.now n in
-    let whole : Times = after_all g c.args.times.now n in
-    let rest : Times = gathered test f (rising (length g.problem.block - (position + 1)) (position + 1 + 1)) in
-    let less : position < length g.problem.block = omega (arith, c.loop-position-test.true, c.count-position-end.ensures.value) in
-    elim c.if-is_before.branch [
-      | then-is_before w ↦
-          subst (λ t. later_times t rest ≡ whole) (sym (w.latest-is ∙ (w.later-latest.ensures ∙ ap (later_times c.loop-position.latest) w.after_one.ensures)))
-          (gathered-next test f whole c.loop-position.latest (length g.problem.block) position less c.loop-position.invariant (sym c.is_before.ensures ∙ w.if-is_before.true))
-      | else-is_before w ↦
-          subst (λ t. later_times t rest ≡ whole) (sym w.latest-is)
-          (gathered-past test f whole c.loop-position.latest (length g.problem.block) position less c.loop-position.invariant (sym c.is_before.ensures ∙ w.if-is_before.false))
-    ]
+    record {
+      are = c.requires.near;
+      whole = ap (λ t. later_times t (gathered (is_marked c.args.near) (after_one g.problem c.args.times.now c.args.n) (numbers g.problem.block))) c.none-latest.ensures;
+    }
+
+pub after_one-requires-clause-m : goal.after_one-requires-clause-m
+after_one-requires-clause-m c = c.loop-m.invariant.are c.in-Some.m c.in-Some.ensures.range.0 c.in-Some.ensures.range.1 c.in-Some.ensures.marked
+
+pub loop-m-preserved : goal.loop-m-preserved
+loop-m-preserved c =
+    let g = c.args.graph.now in
+    let f : ℕ → Times = after_one g.problem c.args.times.now c.args.n in
+    let old = c.loop-m.rest in
+    let new = c.pop_first.new.self in
+    let m : ℕ = c.in-Some.m in
+    let whole : Times = after_all g.problem (is_marked c.args.near) c.args.times.now c.args.n in
+    let few : length g.problem.block ≤ BLOCK_LIMIT = omega (arith, c.count-count.ensures.value, c.count-count.ensures.few) in
+    let is_m : IsNumber g.problem m = c.loop-m.invariant.are m c.in-Some.ensures.range.0 c.in-Some.ensures.range.1 c.in-Some.ensures.marked in
+    record {
+      are = λ k low high is. c.loop-m.invariant.are k low high (and_parts (not (k == m)) (is_marked old k) (sym (c.in-Some.ensures.others k low high) ∙ is)).1;
+      whole = subst (λ t. later_times t (gathered (is_marked new) f (numbers g.problem.block)) ≡ whole) (sym (c.later-latest.ensures ∙ ap (later_times c.loop-m.latest) c.after_one.ensures))
+          (gathered-next g.problem old new f m c.loop-m.latest whole few is_m c.in-Some.ensures.marked c.in-Some.ensures.others c.loop-m.invariant.whole);
+    }
 
 pub returns : goal.returns
 returns c =
     let g = c.args.graph.now in
-    let n = c.args.n in
-    gathered-all (λ m. before_in g.marks m n) (after_one g.problem c.args.times.now n) (after_all g c.args.times.now n) c.loop-position.latest (length g.problem.block) c.loop-position.position (omega (arith, c.loop-position-test.false, c.count-position-end.ensures.value)) c.loop-position.invariant
+    gathered-end g.problem c.loop-m.rest (after_one g.problem c.args.times.now c.args.n) c.loop-m.latest (after_all g.problem (is_marked c.args.near) c.args.times.now c.args.n) c.in_default.ensures.none c.loop-m.invariant.whole

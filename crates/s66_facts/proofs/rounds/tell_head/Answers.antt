@@ -1,9 +1,14 @@
-use Rattle.std.proofs.Common.{◌≤◌, length, arith}
+use Rattle.std.proofs.Common.{◌≤◌, ◌==◌, length, arith, ◌∙◌}
+use Rattle.std.proofs.lemmas.Bool.{or_right}
+use Rattle.s66_facts.specs.Marked.{is_marked}
 use Rattle.s66_facts.proofs.Told.{head-told}
 use Rattle.s66_facts.proofs.rounds.tell_head.Goals as goal
 
 pub returns-clause-right : goal.returns-clause-right
 returns-clause-right c =
     let room : c.args.n ≤ length c.args.times.now = omega (arith, c.told-times, c.requires.n.1, c.requires.few) in
-    λ are. head-told c.args.graph.now c.requires.ordered c.args.times.now c.args.done c.with.result c.args.n c.requires.n room c.heads_of-time.result c.with.ensures c.args.from.now c.requires.from c.heads_of-time.ensures
+    λ are. head-told c.args.graph.now c.requires.ordered c.args.times.now c.args.done c.with.result c.args.n c.requires.n room c.heads_of-time.result c.with.ensures c.args.from.now c.heads_of-time.ensures
     (c.is_ready.ensures.0 c.if-not-is_ready.false) are
+
+pub returns-clause-more : goal.returns-clause-more
+returns-clause-more c = λ m low high is. c.with.ensures m low ∙ or_right (m == c.args.n) (is_marked c.args.done m) is

@@ -7,7 +7,7 @@ use Rattle.s66_facts.proofs.rounds.tell_tail.Goals as goal
 pub returns-clause-right : goal.returns-clause-right
 returns-clause-right c =
     let room : c.args.n ≤ length c.args.times.now = omega (arith, c.told-times, c.requires.n.1, c.requires.few) in
-    λ are. tail-told c.args.graph.now c.requires.ordered c.args.times.now c.args.done c.with.result c.args.n c.requires.n room c.tails_of-time.result c.with.ensures c.args.to.now c.requires.to c.tails_of-time.ensures
+    λ are. tail-told c.args.graph.now c.requires.ordered c.args.times.now c.args.done c.with.result c.args.n c.requires.n room c.tails_of-time.result c.with.ensures c.args.to.now c.tails_of-time.ensures
     (c.is_ready_back.ensures.0 c.if-not-is_ready_back.false) are
 
 pub returns-clause-more : goal.returns-clause-more

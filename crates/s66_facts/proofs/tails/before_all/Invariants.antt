@@ -1,10 +1,16 @@
-use Rattle.std.proofs.Common.{◌≡◌, ◌+◌, ◌-◌, length}
-use Rattle.s66_isa.specs.Lists.{rising}
-use Rattle.s66_facts.specs.Marked.{before_in}
+use Rattle.std.proofs.Common.{ℕ, ◌≡◌, ◌≤◌, true}
+use Rattle.s66_isa.specs.declared.limits.TheConstants.{BLOCK_LIMIT}
+use Rattle.s66_isa.specs.Table.{numbers}
+use Rattle.s66_moments.specs.Facts.{IsNumber}
+use Rattle.s66_facts.specs.Marked.{is_marked}
 use Rattle.s66_facts.specs.Passes.{later_times, gathered, before_one, before_all}
 use Rattle.s66_facts.proofs.tails.before_all.Given as goal
 
-abbrev pub invariant-loop-position : goal.invariant-loop-position
-invariant-loop-position l =
-    later_times l.latest (gathered (λ m. before_in l.graph.marks l.n m) (before_one l.graph.problem l.times l.n) (rising (length l.graph.problem.block - l.position) (l.position + 1)))
-    ≡ before_all l.graph l.times l.n
+abbrev pub invariant-loop-m : goal.invariant-loop-m
+invariant-loop-m l = record {
+  are : (m : ℕ) → 1 ≤ m → m ≤ BLOCK_LIMIT → is_marked l.rest m ≡ true → IsNumber l.graph.problem m;
+  whole : later_times l.latest (gathered (is_marked l.rest) (before_one l.graph.problem l.times l.n) (numbers l.graph.problem.block)) ≡ before_all l.graph.problem (is_marked l.fn.near) l.times l.n;
+}
+
+abbrev pub decreases-loop-m : goal.decreases-loop-m
+decreases-loop-m l = l.rest.bits

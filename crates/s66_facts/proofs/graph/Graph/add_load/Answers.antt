@@ -14,4 +14,8 @@ invariant_of-self c =
     record {
       ordered = subst (λ (loads : List KnownArc). IsOrdered (record { problem = g.problem; marks = g.marks; loads = loads })) (sym c.push.ensures.items) (load-ordered g last c.self.invariant.ordered (omega (arith, c.ranges.wait)) up);
       known_rows = c.self.invariant.known_rows;
+      count = c.self.invariant.count;
+      turned = c.self.invariant.turned;
+      near_before = c.self.invariant.near_before;
+      near_after = c.self.invariant.near_after;
     }

@@ -1,0 +1,134 @@
+-- What a number between two others hands on.
+use Rattle.std.proofs.Common.{ℕ, ◌-◌, ◌≤◌, ◌≡◌, ◌⊎◌, not, ◌||◌, ◌&&◌, ◌==◌, Bool, true, false, true≢false, List, [], ◌∷◌, length, get_or, leb, refl, sym, arith, inl, inr, ◌∙◌, subst, Option, Some}
+use Rattle.std.proofs.lemmas.Bool.{and_parts, and_from, or_cases, not-true, leb-true}
+use Rattle.std.proofs.Math.Bool.{and_comm, or_comm}
+use Rattle.s66_isa.specs.declared.limits.TheConstants.{BLOCK_LIMIT}
+use Rattle.s66_isa.specs.declared.reg.Reg.{Reg}
+use Rattle.s66_isa.specs.Lists.{every, some_of}
+use Rattle.s66_isa.specs.declared.instr.Memory.{Memory}
+use Rattle.s66_isa.specs.Table.{Row, Write, same_reg, same_kind, memory_pair, touches, stores}
+use Rattle.s66_isa.proofs.SameRegister.{same_reg-true}
+use Rattle.s66_model.specs.Timing.{Problem, row_at, copies}
+use Rattle.s66_model.proofs.LoadBound.{same_kind-true}
+use Rattle.s66_moments.specs.Moments.{writes, only_if}
+use Rattle.s66_moments.specs.Facts.{IsNumber}
+use Rattle.s66_facts.specs.declared.marks.Marks.{Marks}
+use Rattle.s66_facts.specs.Marked.{is_marked, is_in, no_marks, before_in}
+use Rattle.s66_facts.specs.Ground.{Ground, IsOrdered}
+use Rattle.s66_facts.specs.Near.{uses, hands_on, covers, IsNear}
+use Rattle.s66_facts.specs.Passes.{share_unit}
+
+-- some of what stands before n, by which the others are covered
+pub record IsNearBy (b : Problem) (before : ℕ → ℕ → Bool) (near : ℕ → Bool) (n : ℕ) : Type 0 where
+  pub within : (m : ℕ) → IsNumber b m → near m ≡ true → before m n ≡ true
+  pub enough : (m : ℕ) → IsNumber b m → before m n ≡ true →
+      (near m ≡ true) ⊎ ((k : ℕ) × IsNumber b k × (near k ≡ true) × (before m k ≡ true) × (covers b m k n ≡ true))
+
+-- all that stands before
+pub all-near : (b : Problem) (before : ℕ → ℕ → Bool) (n : ℕ) → IsNearBy b before (λ m. before m n) n
+all-near b before n = record { within = λ m is first. first; enough = λ m is first. inl first }
+
+-- those that are marked
+pub near-by : (b : Problem) (before : ℕ → ℕ → Bool) (near : Marks) (n : ℕ) → length b.block ≤ BLOCK_LIMIT → IsNear b before near n → IsNearBy b before (is_marked near) n
+near-by b before near n few is =
+    record { within = λ m is_m marked. is.within m is_m.0 (omega (arith, is_m.1, few)) marked; enough = is.enough }
+
+-- what stands before another is a number
+pub before-range : (marks : List Marks) (m n : ℕ) → before_in marks m n ≡ true → (1 ≤ m) × (m ≤ length marks) × (1 ≤ n) × (n ≤ length marks)
+before-range marks m n first =
+    let (both, bit) = and_parts (is_in marks m && is_in marks n) (is_marked (get_or marks (n - 1) no_marks) m) first in
+    let (in_m, in_n) = and_parts (is_in marks m) (is_in marks n) both in
+    let (low_m, high_m) = and_parts (leb 1 m) (leb m (length marks)) in_m in
+    let (low_n, high_n) = and_parts (leb 1 n) (leb n (length marks)) in_n in
+    (leb-true 1 m low_m, leb-true m (length marks) high_m, leb-true 1 n low_n, leb-true n (length marks) high_n)
+
+pub near-number : (g : Ground) → IsOrdered g → (m n : ℕ) → before_in g.marks m n ≡ true → IsNumber g.problem m
+near-number g ordered m n first = (let (low, high, low2, high2) = before-range g.marks m n first in (low, omega (arith, high, ordered.count)))
+
+pub near-number_back : (g : Ground) → IsOrdered g → (m n : ℕ) → before_in g.marks n m ≡ true → IsNumber g.problem m
+near-number_back g ordered m n last = (let (low, high, low2, high2) = before-range g.marks n m last in (low2, omega (arith, high2, ordered.count)))
+
+pub if-only : (test : Bool) (w : ℕ) → test ≡ true → only_if test w ≡ Some w
+if-only true w is = refl
+if-only false w is = absurd (true≢false (sym is))
+
+-- a register that one writes and another uses
+handed-go : (k n : Row) (x : Reg) (ws : List Write) → every (λ (w : Write). not (uses n w.reg) || writes k w.reg) ws ≡ true → some_of (λ (w : Write). same_reg w.reg x) ws ≡ true → uses n x ≡ true → writes k x ≡ true
+handed-go k n x [] each there used = absurd (true≢false (sym there))
+handed-go k n x (w ∷ ws) each there used =
+    let (here, rest) = and_parts (not (uses n w.reg) || writes k w.reg) (every (λ (w : Write). not (uses n w.reg) || writes k w.reg) ws) each in
+    elim (or_cases (same_reg w.reg x) (some_of (λ (w : Write). same_reg w.reg x) ws) there) [
+      | inl same ↦
+          elim (or_cases (not (uses n w.reg)) (writes k w.reg) here) [
+            | inl off ↦ absurd (true≢false (sym (subst (λ y. uses n y ≡ true) (sym (same_reg-true w.reg x same)) used) ∙ not-true (uses n w.reg) off))
+            | inr is ↦ subst (λ y. writes k y ≡ true) (same_reg-true w.reg x same) is
+          ]
+      | inr past ↦ handed-go k n x ws rest past used
+    ]
+
+abbrev by_unit : Problem → ℕ → ℕ → ℕ → Bool
+by_unit b m k n = not (share_unit b m n) || same_kind (row_at b k).kind (row_at b n).kind
+
+abbrev by_memory : Problem → ℕ → ℕ → ℕ → Bool
+by_memory b m k n =
+    not (memory_pair (row_at b m).memory (row_at b n).memory)
+    || memory_pair (row_at b m).memory (row_at b k).memory && memory_pair (row_at b k).memory (row_at b n).memory
+
+covers-parts : (b : Problem) (m k n : ℕ) → covers b m k n ≡ true →
+    (hands_on (row_at b m) (row_at b k) (row_at b n) ≡ true) × (hands_on (row_at b n) (row_at b k) (row_at b m) ≡ true) × (by_unit b m k n ≡ true) × (by_memory b m k n ≡ true)
+covers-parts b m k n h =
+    let (rest, memory) = and_parts (hands_on (row_at b m) (row_at b k) (row_at b n) && hands_on (row_at b n) (row_at b k) (row_at b m) && by_unit b m k n) (by_memory b m k n) h in
+    let (rest2, unit) = and_parts (hands_on (row_at b m) (row_at b k) (row_at b n) && hands_on (row_at b n) (row_at b k) (row_at b m)) (by_unit b m k n) rest in
+    let (first, second) = and_parts (hands_on (row_at b m) (row_at b k) (row_at b n)) (hands_on (row_at b n) (row_at b k) (row_at b m)) rest2 in
+    (first, second, unit, memory)
+
+pub covers-first : (b : Problem) (m k n : ℕ) (x : Reg) → covers b m k n ≡ true → writes (row_at b m) x ≡ true → uses (row_at b n) x ≡ true → writes (row_at b k) x ≡ true
+covers-first b m k n x h there used = handed-go (row_at b k) (row_at b n) x (row_at b m).writes (covers-parts b m k n h).0 there used
+
+pub covers-second : (b : Problem) (m k n : ℕ) (x : Reg) → covers b m k n ≡ true → writes (row_at b n) x ≡ true → uses (row_at b m) x ≡ true → writes (row_at b k) x ≡ true
+covers-second b m k n x h there used = handed-go (row_at b k) (row_at b m) x (row_at b n).writes (covers-parts b m k n h).1 there used
+
+pub covers-unit : (b : Problem) (m k n : ℕ) → covers b m k n ≡ true → share_unit b m n ≡ true → (share_unit b m k ≡ true) × (share_unit b k n ≡ true)
+covers-unit b m k n h shares =
+    let (kinds, one) = and_parts (same_kind (row_at b m).kind (row_at b n).kind) (copies b (row_at b n).kind == 1) shares in
+    elim (or_cases (not (share_unit b m n)) (same_kind (row_at b k).kind (row_at b n).kind) (covers-parts b m k n h).2) [
+      | inl off ↦ absurd (true≢false (sym shares ∙ not-true (share_unit b m n) off))
+      | inr is ↦
+          let same : (row_at b k).kind ≡ (row_at b n).kind = same_kind-true (row_at b k).kind (row_at b n).kind is in (
+            subst (λ kind. (same_kind (row_at b m).kind kind && copies b kind == 1) ≡ true) (sym same) shares,
+            and_from (same_kind (row_at b k).kind (row_at b n).kind) (copies b (row_at b n).kind == 1) is one,
+          )
+    ]
+
+pub covers-memory : (b : Problem) (m k n : ℕ) → covers b m k n ≡ true → memory_pair (row_at b m).memory (row_at b n).memory ≡ true →
+    (memory_pair (row_at b m).memory (row_at b k).memory ≡ true) × (memory_pair (row_at b k).memory (row_at b n).memory ≡ true)
+covers-memory b m k n h pair =
+    let first = memory_pair (row_at b m).memory (row_at b k).memory in
+    let second = memory_pair (row_at b k).memory (row_at b n).memory in
+    elim (or_cases (not (memory_pair (row_at b m).memory (row_at b n).memory)) (first && second) (covers-parts b m k n h).3) [
+      | inl off ↦ absurd (true≢false (sym pair ∙ not-true (memory_pair (row_at b m).memory (row_at b n).memory) off))
+      | inr is ↦ and_parts first second is
+    ]
+
+-- the other way round
+
+same_kind-sym : (b : Problem) (m n : ℕ) → share_unit b m n ≡ true → share_unit b n m ≡ true
+same_kind-sym b m n shares =
+    let (kinds, one) = and_parts (same_kind (row_at b m).kind (row_at b n).kind) (copies b (row_at b n).kind == 1) shares in
+    let same : (row_at b m).kind ≡ (row_at b n).kind = same_kind-true (row_at b m).kind (row_at b n).kind kinds in
+    subst (λ kind. (same_kind kind (row_at b m).kind && copies b (row_at b m).kind == 1) ≡ true) same
+    (subst (λ kind. (same_kind (row_at b m).kind kind && copies b kind == 1) ≡ true) (sym same) shares)
+
+pub covers-unit-back : (b : Problem) (m k n : ℕ) → covers b m k n ≡ true → share_unit b n m ≡ true → (share_unit b n k ≡ true) × (share_unit b k m ≡ true)
+covers-unit-back b m k n h shares =
+    let (first, second) = covers-unit b m k n h (same_kind-sym b n m shares) in
+    (same_kind-sym b k n second, same_kind-sym b m k first)
+
+pair-sym : (u v : Memory) → memory_pair u v ≡ memory_pair v u
+pair-sym u v = rw (and_comm (touches u) (touches v), or_comm (stores u) (stores v)) refl
+
+pub covers-memory-back : (b : Problem) (m k n : ℕ) → covers b m k n ≡ true → memory_pair (row_at b n).memory (row_at b m).memory ≡ true →
+    (memory_pair (row_at b n).memory (row_at b k).memory ≡ true) × (memory_pair (row_at b k).memory (row_at b m).memory ≡ true)
+covers-memory-back b m k n h pair =
+    let (first, second) = covers-memory b m k n h (pair-sym (row_at b m).memory (row_at b n).memory ∙ pair) in
+    (pair-sym (row_at b n).memory (row_at b k).memory ∙ second, pair-sym (row_at b k).memory (row_at b m).memory ∙ first)

@@ -1,0 +1,54 @@
+-- Used by contracts: which of the numbers that stand before one, or after it, decide its times: each other one has what is asked of it handed on by one between.
+use Rattle.std.specs.Prelude.{ℕ, ◌-◌, ◌≡◌, ◌≤◌, ◌⊎◌, Bool, true, not, ◌||◌, ◌&&◌, List, length, map, get_or}
+use Rattle.s66_isa.specs.declared.limits.TheConstants.{BLOCK_LIMIT}
+use Rattle.s66_isa.specs.declared.instr.Instr.{Instr}
+use Rattle.s66_isa.specs.declared.profile.Profile.{Profile}
+use Rattle.s66_isa.specs.declared.reg.Reg.{Reg}
+use Rattle.s66_isa.specs.Lists.{every}
+use Rattle.s66_isa.specs.Table.{Row, row, Write, same_kind, has_reg, memory_pair}
+use Rattle.s66_model.specs.Timing.{Problem, row_at}
+use Rattle.s66_moments.specs.declared.fact_line.KnownArc.{KnownArc}
+use Rattle.s66_moments.specs.Moments.{writes}
+use Rattle.s66_moments.specs.Facts.{IsNumber}
+use Rattle.s66_facts.specs.declared.marks.Marks.{Marks}
+use Rattle.s66_facts.specs.Marked.{is_marked, no_marks, before_in}
+use Rattle.s66_facts.specs.Ground.{IsOrdered}
+use Rattle.s66_facts.specs.Passes.{share_unit}
+
+abbrev pub uses : Row → Reg → Bool
+uses r x = writes r x || has_reg x r.reads
+
+-- k writes each register that m writes and n uses
+abbrev pub hands_on : Row → Row → Row → Bool
+hands_on m k n = every (λ (w : Write). not (uses n w.reg) || writes k w.reg) m.writes
+
+-- what one of m and n waits for of the other, it waits for of k too, which stands between
+abbrev pub covers : Problem → ℕ → ℕ → ℕ → Bool
+covers b m k n =
+    hands_on (row_at b m) (row_at b k) (row_at b n) && hands_on (row_at b n) (row_at b k) (row_at b m)
+    && (not (share_unit b m n) || same_kind (row_at b k).kind (row_at b n).kind)
+    && (not (memory_pair (row_at b m).memory (row_at b n).memory)
+    || memory_pair (row_at b m).memory (row_at b k).memory && memory_pair (row_at b k).memory (row_at b n).memory)
+
+-- by one that is marked
+abbrev pub IsCovered : Problem → (ℕ → ℕ → Bool) → Marks → ℕ → ℕ → Type 0
+IsCovered b before near m n = (k : ℕ) × IsNumber b k × (is_marked near k ≡ true) × (before m k ≡ true) × (covers b m k n ≡ true)
+
+-- those that are marked stand before n, and cover all others that do
+pub record IsNear (b : Problem) (before : ℕ → ℕ → Bool) (near : Marks) (n : ℕ) : Type 0 where
+  pub within : (m : ℕ) → 1 ≤ m → m ≤ BLOCK_LIMIT → is_marked near m ≡ true → before m n ≡ true
+  pub enough : (m : ℕ) → IsNumber b m → before m n ≡ true → (is_marked near m ≡ true) ⊎ IsCovered b before near m n
+
+-- of each number
+pub record AreNear (b : Problem) (sooner near : List Marks) : Type 0 where
+  pub count : length near ≡ length b.block
+  pub each : (n : ℕ) → IsNumber b n → IsNear b (before_in sooner) (get_or near (n - 1) no_marks) n
+
+-- as it is kept, with the rows of the instructions, the numbers that stand after each, and those that decide the times of each
+pub record IsKept (block : List Instr) (profile : Profile) (rows : List Row) (marks later marks_near later_near : List Marks) (loads : List KnownArc) : Type 0 where
+  pub ordered : IsOrdered (record { problem = record { block = block; profile = profile }; marks = marks; loads = loads })
+  pub known_rows : rows ≡ map (row profile) block
+  pub count : length later ≡ length block
+  pub turned : (m n : ℕ) → before_in later n m ≡ before_in marks m n
+  pub near_before : AreNear (record { block = block; profile = profile }) marks marks_near
+  pub near_after : AreNear (record { block = block; profile = profile }) later later_near
