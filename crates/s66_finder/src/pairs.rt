@@ -47,10 +47,11 @@ impl<'a> Looks<'a> {
 
     /// The numbers that stand after m, or have to.
     fn after(&self, m: u8) -> Set {
-        let mut those = self.known.after(m);
-        for position in 0..BLOCK_LIMIT {
-            let n = (position + 1) as u8;
-            if n != m && !self.known.before(m).has(n) && self.is_late(m, n) {
+        let known = self.known;
+        let mut those = known.after(m);
+        let mut open = known.all().without(&those).without(&known.before(m));
+        while let Some(n) = open.pop_first() {
+            if n != m && self.is_late(m, n) {
                 those = those.with(n);
             }
         }
@@ -60,8 +61,9 @@ impl<'a> Looks<'a> {
     /// The same of each number.
     fn after_each(&self) -> [Set; BLOCK_LIMIT] {
         let mut after = [Set::empty(); BLOCK_LIMIT];
-        for position in 0..BLOCK_LIMIT {
-            after[position] = self.after((position + 1) as u8);
+        let mut rest = self.known.all();
+        while let Some(m) = rest.pop_first() {
+            after[m as usize - 1] = self.after(m);
         }
         after
     }
@@ -86,9 +88,9 @@ impl Forced {
     /// Two numbers of which each has to stand before the other, if there are such.
     pub fn ring(&self) -> Option<(u8, u8)> {
         for position in 0..BLOCK_LIMIT {
-            let both = self.after[position].both(&self.before[position]);
-            if let [n, ..] = both.numbers().as_slice() {
-                return Some(((position + 1) as u8, *n));
+            let mut both = self.after[position].both(&self.before[position]);
+            if let Some(n) = both.pop_first() {
+                return Some(((position + 1) as u8, n));
             }
         }
         None
@@ -103,10 +105,9 @@ impl Forced {
     pub fn right_after(&self, known: &Known, m: u8) -> Set {
         let mut those = Set::empty();
         let all = set_of(&self.after, m);
-        let new = self.after(known, m);
-        for position in 0..BLOCK_LIMIT {
-            let n = (position + 1) as u8;
-            if new.has(n) && all.both(&set_of(&self.before, n)).count() == 0 {
+        let mut new = self.after(known, m);
+        while let Some(n) = new.pop_first() {
+            if all.both(&set_of(&self.before, n)).count() == 0 {
                 those = those.with(n);
             }
         }
