@@ -33,7 +33,7 @@ impl Model for Answer {
 }
 
 impl Answer {
-    ghost use Rattle.std.specs.Prelude.{◌≡◌, ◌≤◌, ◌<◌, ◌↔◌, IsTrue, IfOk};
+    ghost use Rattle.std.specs.Prelude.{◌≡◌, ◌≤◌, ◌<◌, ◌↔◌, IsTrue, IfOk, length};
     ghost use Rattle.s66_line.specs.Block.{instrs_of};
     ghost use Rattle.s66_model.specs.Timing.{total_of};
     ghost use Rattle.s66_model.specs.Tree.{flat};
@@ -124,6 +124,13 @@ impl Answer {
         ensures few { result ≤ BUDGET_LIMIT }
     {
         self.splits
+    }
+
+    /// How many lines the tree has.
+    pub fn line_count(&self) -> usize
+        ensures { result ≡ length self.now.state.nodes }
+    {
+        self.nodes.len()
     }
 
     /// Whether the time is the bound, so that no legal order takes less; if it isn't, the tree has as many splits as the

@@ -216,6 +216,13 @@ impl<'a> Ledger<'a> {
         self.machine.best()
     }
 
+    /// The best order so far, with its times.
+    pub fn best_order(&self) -> &Timed
+        ensures { result.now ≡ record { problem = self.now.problem; numbers = self.now.state.best } }
+    {
+        self.machine.best_order()
+    }
+
     /// A lower bound of the totals of all legal orders, in minor cycles: the least of the best time and the floors of the nodes that
     /// are open or out. In time linear in the number of nodes.
     pub fn bound(&self) -> u32

@@ -119,6 +119,12 @@ impl<'a> Machine<'a> {
         self.best.total()
     }
 
+    pub fn best_order(&self) -> &Timed
+        ensures { result.now ≡ record { problem = self.now.problem; numbers = self.now.state.best } }
+    {
+        &self.best
+    }
+
     pub fn bound(&self) -> u32
         ensures value { result ≡ bound_of self.now.problem self.now.state }
         ensures bound { IsBound self.now.problem result }

@@ -1,7 +1,7 @@
 -- To be believed: what comes back from the workers, and of an answer to a search that began with an order.
 use Rattle.std.specs.Prelude.{ℕ, ◌≡◌, ◌<◌, ◌≤◌, All, List, Vec, length, map, slice_index_or}
 use Rattle.std.specs.declared.alloc.Global.{Global}
-use Rattle.s66_model.specs.Timing.{total_of}
+use Rattle.s66_model.specs.Timing.{Problem, total_of}
 use Rattle.s66_model.specs.Ledger.{best_time}
 use Rattle.s66_steal.specs.Lanes.{LaneId, LaneOf}
 use Rattle.s66_time.specs.TimedOrder.{TimedOrder}
@@ -38,6 +38,12 @@ GoesOn old new =
 -- if the order is one of the ledger's problem, the best time isn't above its total
 abbrev pub HasTaken : LedgerOf → TimedOrder → Type 0
 HasTaken l timed = timed.problem ≡ l.problem → best_time l.problem l.state ≤ total_of timed.problem timed.numbers
+
+-- a search of one thread, with a walk and marks of these problems
+pub record IsLone (l : LedgerOf) (walked marked : Problem) : Type 0 where
+  pub walk : walked ≡ l.problem
+  pub marks : marked ≡ l.problem
+  pub workers : 1 ≤ l.workers
 
 -- with the same lane of its own, and the same ones from which it steals
 abbrev pub IsSameLocal : Local → Local → Type 0

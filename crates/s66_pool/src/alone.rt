@@ -11,12 +11,12 @@ use s66_node::{Marks, Piece, Priority, Walk};
 use std::alloc::Global;
 
 /// The most rounds of this search. Hardly any round spends no split, so that it is splits that end it.
-const ROUNDS_LIMIT: u32 = 65_536;
+const ROUNDS_LIMIT: u32 = 4_194_304;
 
-/// Searches as worker 1 in the calling thread, until `most` splits are spent or no open node's floor is below the best time. Each
-/// round claims a node, expands it, offers the best of its whole orders and grafts its piece; after each `SCHEDULE_SPLITS` splits
-/// it offers a list schedule. The marks grow by those of the nodes that are made. What is left of worker 1's allowance goes back
-/// to the budget.
+/// Searches as worker 1 in the calling thread, until `most` splits are spent, no open node's floor is below the best time, or that is
+/// no more than `goal` minor cycles. Each round claims a node, expands it, offers the best of its whole orders and grafts its piece;
+/// after each `SCHEDULE_SPLITS` splits it offers a list schedule. The marks grow by those of the nodes that are made. What is left of
+/// worker 1's allowance goes back to the budget.
 ///
 /// If out of memory it ends, with what is grafted by then.
 pub(crate) fn search_alone(
@@ -25,6 +25,7 @@ pub(crate) fn search_alone(
     walk: &mut Walk<'_>,
     marks: &mut Marks<'_>,
     most: u32,
+    goal: u32,
 )
     requires workers { 1 ≤ ledger.old.workers }
     requires walk { walk.old.problem ≡ ledger.old.problem }
@@ -36,7 +37,10 @@ pub(crate) fn search_alone(
     let mut allowance = 0;
     for _ in 0..ROUNDS_LIMIT {
         let before = ledger.splits();
-        if most <= before || !search_round(alloc, ledger, walk, marks, &mut allowance) {
+        if most <= before
+            || ledger.best() <= goal
+            || !search_round(alloc, ledger, walk, marks, &mut allowance)
+        {
             break;
         }
         if is_schedule_due(before, ledger.splits()) {

@@ -8,6 +8,7 @@ use crate::crew::work_by_marks;
 use crate::gate::Gate;
 use crate::hub::Hub;
 use crate::limits::FIRST_SPLITS;
+use crate::lone::LoneSearch;
 use s66_isa::Profile;
 use s66_ledger::{Answer, Ledger};
 use s66_line::Block;
@@ -45,7 +46,10 @@ pub(crate) fn offer_schedule(
 }
 
 /// Offers two list schedules of the whole block, so that the search begins with a good order. The walk is at the empty prefix.
-fn offer_schedules(ledger: &mut Ledger<'_>, walk: &mut Walk<'_>) -> Result<(), AllocError>
+pub(crate) fn offer_schedules(
+    ledger: &mut Ledger<'_>,
+    walk: &mut Walk<'_>,
+) -> Result<(), AllocError>
     requires { 1 ≤ ledger.old.workers }
     ensures walk { walk.new.problem ≡ walk.old.problem }
     ensures on { GoesOn ledger.old ledger.new }
@@ -56,7 +60,7 @@ fn offer_schedules(ledger: &mut Ledger<'_>, walk: &mut Walk<'_>) -> Result<(), A
 }
 
 /// Offers an order, if there is one.
-fn offer_first(ledger: &mut Ledger<'_>, first: Option<&Timed>) -> Result<(), AllocError>
+pub(crate) fn offer_first(ledger: &mut Ledger<'_>, first: Option<&Timed>) -> Result<(), AllocError>
     requires { 1 ≤ ledger.old.workers }
     ensures on { GoesOn ledger.old ledger.new }
     ensures order { OnOk result (IfSome first.entry (λ timed. HasTaken ledger.new timed.now)) }
@@ -100,10 +104,8 @@ fn search_by_workers<'a, R: AllocGlobal + Threads + Wait + Sync, G: Gate + Sync>
     Ok(ledger)
 }
 
-/// Searches the orders of a block in the calling thread alone, as `run_from` does with one worker: it starts no thread, and waits
-/// for nobody. Of the options the number of workers isn't read.
-///
-/// `Err` is out of memory.
+/// Searches the orders of a block in the calling thread alone, as `run_from` does with one worker. Of the options the number of workers
+/// isn't read.
 pub fn run_alone(
     alloc: Global,
     block: &Block,
@@ -117,12 +119,9 @@ pub fn run_alone(
     ensures budget { IfOk result (λ a. a.budget ≡ options.nodes) }
     ensures first { IfOk result (λ a. IfSome first.entry (λ timed. TakesNoLonger a timed.now)) }
 {
-    let mut walk = Walk::new(block, profile);
-    let mut ledger = Ledger::of_walk(alloc, &walk, options.rule, options.nodes, 1)?;
-    offer_schedules(&mut ledger, &mut walk)?;
-    offer_first(&mut ledger, first)?;
-    let mut marks = Marks::new(alloc, block, profile);
-    ledger.finish_with(alloc, &mut walk, &mut marks)
+    let mut search = LoneSearch::new(alloc, block, profile, options)?;
+    search.offer(first)?;
+    search.finish()
 }
 
 /// Searches the orders of a block, as `run_from` does without an order to begin with.
@@ -173,7 +172,7 @@ pub fn run_from<R: AllocGlobal + Threads + Wait + Sync, G: Gate + Sync>(
     offer_schedules(&mut ledger, &mut walk)?;
     offer_first(&mut ledger, first)?;
     let mut marks = Marks::new(alloc, block, profile);
-    search_alone(alloc, &mut ledger, &mut walk, &mut marks, FIRST_SPLITS);
+    search_alone(alloc, &mut ledger, &mut walk, &mut marks, FIRST_SPLITS, 0);
     let rule = options.rule;
     let ledger = search_by_workers(rt, ledger, block, profile, rule, gate, &mut marks)?;
     ledger.finish_with(alloc, &mut walk, &mut marks)

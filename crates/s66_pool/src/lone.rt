@@ -1,0 +1,122 @@
+//! A search of one thread, which stops and goes on.
+
+use crate::alone::search_alone;
+use crate::search::{offer_first, offer_schedules};
+use s66_isa::Profile;
+use s66_ledger::{Answer, Ledger};
+use s66_line::Block;
+use s66_model::Options;
+use s66_node::{Marks, Walk};
+use s66_time::Timed;
+use std::alloc::{AllocError, Global};
+use std::marker::Model;
+
+/// A search of a block's orders in the calling thread alone, which stops after as many splits as it is told, and goes on from there.
+/// It starts no thread, and waits for nobody.
+#[derive(Drop)]
+pub struct LoneSearch<'a> {
+    alloc: Global,
+    walk: Walk<'a>,
+    ledger: Ledger<'a>,
+    marks: Marks<'a>,
+}
+
+impl<'a> Model for LoneSearch<'a> {
+    ghost use Rattle.s66_ledger.specs.Ledgers.{LedgerOf};
+    ghost use Rattle.s66_pool.specs.Workers.{IsLone};
+
+    ghost Value = { LedgerOf };
+
+    ghost view = { λ s. s.ledger };
+
+    ghost invariant = { λ s. IsLone s.ledger s.walk.problem s.marks.problem };
+}
+
+impl<'a> LoneSearch<'a> {
+    ghost use Rattle.std.specs.Prelude.{◌≡◌, ◌≤◌, ◌↔◌, IsTrue, IfOk, IfSome, OnOk};
+    ghost use Rattle.s66_line.specs.Block.{instrs_of};
+    ghost use Rattle.s66_model.specs.Ledger.{best_time};
+    ghost use Rattle.s66_model.specs.Coverage.{IsFinished, bound_of};
+    ghost use Rattle.s66_model.specs.declared.limits.TheConstants.{BUDGET_LIMIT};
+    ghost use Rattle.s66_ledger.specs.Answers.{answer_of};
+    ghost use Rattle.s66_pool.specs.Workers.{GoesOn, HasTaken};
+
+    /// Before the first split: its best order is the best of the source order and two list schedules. Of the options the number of
+    /// workers isn't read. `Err` is out of memory.
+    pub fn new(
+        alloc: Global,
+        block: &'a Block<'a>,
+        profile: &Profile,
+        options: Options,
+    ) -> Result<LoneSearch<'a>, AllocError>
+        requires { options.nodes ≤ BUDGET_LIMIT }
+        ensures rule { IfOk result (λ s. s.rule ≡ options.rule) }
+        ensures problem { IfOk result (λ s. s.problem ≡ record { block = instrs_of block.now; profile = profile.now }) }
+        ensures budget { IfOk result (λ s. s.budget ≡ options.nodes) }
+    {
+        let mut walk = Walk::new(block, profile);
+        let mut ledger = Ledger::of_walk(alloc, &walk, options.rule, options.nodes, 1)?;
+        offer_schedules(&mut ledger, &mut walk)?;
+        Ok(LoneSearch {
+            alloc,
+            walk,
+            ledger,
+            marks: Marks::new(alloc, block, profile),
+        })
+    }
+
+    /// Searches until `most` splits are made in all, the best order takes no more than `goal` minor cycles, or the search is over. If out
+    /// of memory it stops sooner.
+    pub fn search(&mut self, most: u32, goal: u32)
+        ensures { GoesOn self.old self.new }
+    {
+        search_alone(
+            self.alloc,
+            &mut self.ledger,
+            &mut self.walk,
+            &mut self.marks,
+            most,
+            goal,
+        );
+    }
+
+    /// Offers an order, if there is one: it is the best from then on if it is faster, and is one of the block under the profile. `Err` is
+    /// out of memory.
+    pub fn offer(&mut self, timed: Option<&Timed>) -> Result<(), AllocError>
+        ensures on { GoesOn self.old self.new }
+        ensures order { OnOk result (IfSome timed.entry (λ t. HasTaken self.new t.now)) }
+    {
+        offer_first(&mut self.ledger, timed)
+    }
+
+    /// The best order so far, with its times.
+    pub fn best(&self) -> &Timed
+        ensures { result.now ≡ record { problem = self.now.problem; numbers = self.now.state.best } }
+    {
+        self.ledger.best_order()
+    }
+
+    /// Whether no legal order takes less than the best one so far. In time linear in the number of nodes.
+    pub fn is_best(&self) -> bool
+        ensures { IsTrue result ↔ (best_time self.now.problem self.now.state ≤ bound_of self.now.problem self.now.state) }
+    {
+        self.ledger.best() <= self.ledger.bound()
+    }
+
+    /// Goes on until the search is over or the budget is spent, and gives its answer, which takes no longer than the best order so far. `Err`
+    /// is out of memory.
+    pub fn finish(self) -> Result<Answer, AllocError>
+        ensures rule { IfOk result (λ a. a.rule ≡ self.entry.rule) }
+        ensures problem { IfOk result (λ a. a.problem ≡ self.entry.problem) }
+        ensures budget { IfOk result (λ a. a.budget ≡ self.entry.budget) }
+        ensures finished { IfOk result (λ a. IsFinished self.entry.rule self.entry.problem self.entry.budget self.entry.state (answer_of a)) }
+    {
+        let LoneSearch {
+            alloc,
+            mut walk,
+            ledger,
+            mut marks,
+        } = self;
+        ledger.finish_with(alloc, &mut walk, &mut marks)
+    }
+}
