@@ -62,6 +62,7 @@ impl Answer {
         requires time { total_of timed.problem timed.numbers ≡ (answer_of self).time }
         requires faster { (answer_of self).time < source_time self.problem }
         ensures order { (answer_of result).order ≡ timed.numbers }
+        ensures time { (answer_of result).time ≡ (answer_of self).time }
         ensures rule { result.rule ≡ self.rule }
         ensures problem { result.problem ≡ self.problem }
         ensures budget { result.budget ≡ self.budget }
