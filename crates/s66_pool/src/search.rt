@@ -106,7 +106,7 @@ fn search_by_workers<'a, R: AllocGlobal + Threads + Wait + Sync, G: Gate + Sync>
 
 /// Searches the orders of a block in the calling thread alone, as `run_from` does with one worker. Of the options the number of workers
 /// isn't read.
-pub fn run_alone(
+fn run_alone(
     alloc: Global,
     block: &Block,
     profile: &Profile,
