@@ -18,13 +18,15 @@ use s66_moments::{FactLine, LoadLine, Moment, Stage};
 use s66_network::{FROM_ORIGIN, Ground, Known, Network, Spans, TO_END, at_issue};
 use s66_paths::Tails;
 use std::alloc::{AllocError, Global};
+use std::boxed::Box;
 
-/// What is found of a block's legal orders.
+/// What is found of a block's legal orders. What takes room lies on the heap: searches hold several finders at a time, and a thread's
+/// stack may be small.
 #[derive(Drop)]
 pub struct Finder {
     alloc: Global,
-    ground: Ground,
-    taken: Taken,
+    ground: Box<Ground>,
+    taken: Box<Taken>,
     lines: Vec<FactLine>,
     ways: Ways,
 }
@@ -100,18 +102,22 @@ fn load_of<'a>(
 }
 
 impl Finder {
-    /// Knows only what follows by dependence.
-    pub fn new(alloc: Global, block: &[Instr], profile: &Profile) -> Finder
+    /// Knows only what follows by dependence. `Err` is out of memory.
+    pub fn new(alloc: Global, block: &[Instr], profile: &Profile) -> Result<Finder, AllocError>
         requires { length block.now ≤ BLOCK_LIMIT }
     {
-        let ground = Ground::of(block, profile);
-        Finder {
+        Finder::of_ground(alloc, Box::new(alloc, Ground::of(block, profile))?)
+    }
+
+    /// The same, of a block whose needs are these.
+    fn of_ground(alloc: Global, ground: Box<Ground>) -> Result<Finder, AllocError> {
+        Ok(Finder {
             alloc,
-            taken: Taken::new(&ground),
+            taken: Box::new(alloc, Taken::new(&ground))?,
             ground,
             lines: Vec::new(alloc),
             ways: Ways::new(alloc),
-        }
+        })
     }
 
     /// Takes load lines, which hold for all orders, until no path grows or `ROUNDS_LIMIT` rounds are over. `Err` is out of memory.
@@ -170,8 +176,8 @@ impl Finder {
     pub fn duplicate(&self) -> Result<Finder, AllocError> {
         Ok(Finder {
             alloc: self.alloc,
-            ground: self.ground.duplicate(),
-            taken: self.taken.duplicate(),
+            ground: Box::new(self.alloc, self.ground.duplicate())?,
+            taken: Box::new(self.alloc, self.taken.duplicate())?,
             lines: copies_of(self.alloc, self.lines.as_slice())?,
             ways: Ways::new(self.alloc),
         })
@@ -190,7 +196,7 @@ impl Finder {
         let known = Known::of(Taken::new(&self.ground).facts());
         let first = Sketch::of(self.alloc, &self.ground, known)?;
         let places = needed_of(self.alloc, first, lines, bound)?;
-        let mut other = self.without_lines();
+        let mut other = self.without_lines()?;
         for place in places.as_slice() {
             if let Some(line) = lines.get(*place) {
                 other.take(bound, copy_of_line(line))?;
@@ -202,15 +208,9 @@ impl Finder {
         Ok(other)
     }
 
-    /// A finder of the block that knows only what follows by dependence.
-    fn without_lines(&self) -> Finder {
-        Finder {
-            alloc: self.alloc,
-            ground: self.ground.duplicate(),
-            taken: Taken::new(&self.ground),
-            lines: Vec::new(self.alloc),
-            ways: Ways::new(self.alloc),
-        }
+    /// A finder of the block that knows only what follows by dependence. `Err` is out of memory.
+    fn without_lines(&self) -> Result<Finder, AllocError> {
+        Finder::of_ground(self.alloc, Box::new(self.alloc, self.ground.duplicate())?)
     }
 
     /// The arcs by what is known.
