@@ -1,11 +1,10 @@
-use crate::blocks::{MULTIPLIES, ONE_LOAD, PACKING_GAP, THIRD_ORDER, only_block};
+use crate::blocks::{MULTIPLIES, ONE_LOAD, PACKING_GAP, THIRD_ORDER};
+use crate::reading::{block_of, source_of};
 use crate::walk::{Walk, push_ready, undo_last};
 use s66_isa::Profile;
 use s66_line::Block;
-use s66_source::read_source;
 use s66_time::Clock;
 use std::process::Abort;
-use std::test::Fail;
 
 /// How many steps walk through the orders of four instructions: each of the 65 beginnings tries four numbers and is left once.
 const STEPS: u32 = 65 * 5;
@@ -29,21 +28,15 @@ fn check_totals<R: AllocGlobal + Abort>(rt: &R, block: &Block, profile: &Profile
         goes_on = goes_on && walk.step(rt);
     }
     assert!(rt; !goes_on, "the walk isn't over");
-    assert_eq!(rt; walk.totals(), totals);
+    assert!(rt; walk.totals.as_slice() == totals, "{:?}", walk.totals);
 }
 
 /// The same for the code of some blocks.
-fn check_rows<R: AllocGlobal + Abort>(
-    rt: &R,
-    profile: &Profile,
-    rows: &[(&str, &[u32])],
-) -> Result<(), Fail> {
+fn check_rows<R: AllocGlobal + Abort>(rt: &R, profile: &Profile, rows: &[(&str, &[u32])]) {
     for &(code, totals) in rows {
-        let source = read_source(rt.alloc(), code.as_bytes())?;
-        let block = only_block(&source).expect(rt, "one block");
-        check_totals(rt, block, profile, totals);
+        let source = source_of(rt, code);
+        check_totals(rt, block_of(rt, &source), profile, totals);
     }
-    Ok(())
 }
 
 /// The totals under the standard profile. An order of the packing gap ends with its load's X1, 8 after its issue: in 4 if it
@@ -64,10 +57,26 @@ const TOTALS: &[(&str, &[u32])] = &[
     (LOADS_THEN_STORE, &[18, 18, 19]),
 ];
 
-#[test]
-fn clocks_all_orders(rt: HostRuntime) -> Result<(), Fail> {
-    check_rows(&rt, &Profile::standard(), TOTALS)
-}
+/// A profile unlike the standard one in each time and in the copies of each unit.
+const UNEVEN: Profile = Profile {
+    boolean: 5,
+    shift: 2,
+    normalise: 4,
+    add: 6,
+    longadd: 7,
+    multiply: 4,
+    divide: 11,
+    population: 17,
+    increment: 6,
+    load: 4,
+    units_boolean: 3,
+    units_shift: 2,
+    units_add: 1,
+    units_longadd: 1,
+    units_multiply: 1,
+    units_divide: 2,
+    units_increment: 3,
+};
 
 /// The totals under the uneven profile. The one multiply unit takes the three multiplies one after another, each 5 after the last.
 /// The two divide units take the population count and the divide at once. A load's X is done before its A.
@@ -89,27 +98,9 @@ const UNEVEN_TOTALS: &[(&str, &[u32])] = &[
 ];
 
 #[test]
-fn clocks_an_uneven_profile(rt: HostRuntime) -> Result<(), Fail> {
-    let profile = Profile {
-        boolean: 5,
-        shift: 2,
-        normalise: 4,
-        add: 6,
-        longadd: 7,
-        multiply: 4,
-        divide: 11,
-        population: 17,
-        increment: 6,
-        load: 4,
-        units_boolean: 3,
-        units_shift: 2,
-        units_add: 1,
-        units_longadd: 1,
-        units_multiply: 1,
-        units_divide: 2,
-        units_increment: 3,
-    };
-    check_rows(&rt, &profile, UNEVEN_TOTALS)
+fn clocks_all_orders(rt: HostRuntime) {
+    check_rows(&rt, &Profile::standard(), TOTALS);
+    check_rows(&rt, &UNEVEN, UNEVEN_TOTALS);
 }
 
 /// An instruction, and how many words its push and its undo read or write. That these are at most `LOOK_LIMIT`, and for a push one
@@ -132,23 +123,15 @@ const LOOKS: &[(&str, u32, u32)] = &[
 /// Checks the words that are counted of the push of a block's first instruction and of its undo.
 fn check_looks<R: Abort>(rt: &R, block: &Block, pushed: u32, undone: u32) {
     let mut clock = Clock::new(block, &Profile::standard());
-    assert_eq!(rt; clock.looks(), 0);
-    assert!(rt; push_ready(&mut clock, 1));
-    assert_eq!(rt; clock.looks(), pushed);
-    assert!(rt; undo_last(&mut clock));
-    assert_eq!(rt; clock.looks(), undone);
+    assert!(rt; clock.looks() == 0);
+    assert!(rt; push_ready(&mut clock, 1) && clock.looks() == pushed);
+    assert!(rt; undo_last(&mut clock) && clock.looks() == undone);
 }
 
 #[test]
-fn counts_looks(rt: HostRuntime) -> Result<(), Fail> {
+fn counts_looks(rt: HostRuntime) {
     for &(code, pushed, undone) in LOOKS {
-        let source = read_source(rt.alloc(), code.as_bytes())?;
-        check_looks(
-            &rt,
-            only_block(&source).expect(&rt, "one block"),
-            pushed,
-            undone,
-        );
+        let source = source_of(&rt, code);
+        check_looks(&rt, block_of(&rt, &source), pushed, undone);
     }
-    Ok(())
 }

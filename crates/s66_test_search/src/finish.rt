@@ -1,11 +1,11 @@
-use crate::blocks::{SEVEN_ALIKE, THREE_ALIKE, only_block};
+use crate::blocks::{SEVEN_ALIKE, THREE_ALIKE};
+use crate::ledger::check_finished;
+use crate::reading::{block_of, source_of};
 use s66_isa::Profile;
 use s66_ledger::Ledger;
 use s66_line::Block;
 use s66_model::Rule;
-use s66_source::read_source;
 use std::process::Abort;
-use std::test::Fail;
 
 /// More splits than any of the searches takes.
 const BUDGET: u32 = 10_000;
@@ -24,22 +24,15 @@ const SEARCHES: &[(&str, Rule, u32, u32)] = &[
 
 /// Checks how a ledger that no worker has touched is brought to its end.
 fn check_finish<R: AllocGlobal + Abort>(rt: &R, block: &Block, rule: Rule, time: u32, splits: u32) {
-    let alloc = rt.alloc();
     let profile = Profile::standard();
-    let ledger = Ledger::by_rule(alloc, block, &profile, rule, BUDGET, 1).expect(rt, "memory");
-    let answer = ledger.finish(alloc).expect(rt, "memory");
-    assert_eq!(rt;
-        (answer.time(), answer.bound(), answer.splits()),
-        (time, time, splits)
-    );
+    let ledger = Ledger::by_rule(rt.alloc(), block, &profile, rule, BUDGET, 1);
+    check_finished(rt, ledger.expect(rt, "memory"), (time, time, splits));
 }
 
 #[test]
-fn finish_leaves_out_what_is_dominated(rt: HostRuntime) -> Result<(), Fail> {
+fn finish_leaves_out_what_is_dominated(rt: HostRuntime) {
     for &(code, rule, time, splits) in SEARCHES {
-        let source = read_source(rt.alloc(), code.as_bytes())?;
-        let block = only_block(&source).expect(&rt, "one block");
-        check_finish(&rt, block, rule, time, splits);
+        let source = source_of(&rt, code);
+        check_finish(&rt, block_of(&rt, &source), rule, time, splits);
     }
-    Ok(())
 }

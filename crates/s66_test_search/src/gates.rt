@@ -1,4 +1,4 @@
-//! Gates at which a test counts what workers do, or lets two of them meet.
+//! A gate at which a test counts what workers do, and may let two of them meet.
 
 use s66_pool::Gate;
 use std::process::Abort;
@@ -9,39 +9,47 @@ use std::time::{Clock, Duration};
 /// How many turns a worker waits at a gate: in each it looks whether it may go on, and sleeps for a millisecond.
 const TURNS: u32 = 10_000;
 
-/// How often a worker has reached each place of a gate.
-#[derive(Clone, Copy)]
-pub struct Counts {
-    claims: u32,
-    /// The claims that got a node.
-    nodes: u32,
-    /// The pieces that it was about to graft.
-    pieces: u32,
+/// How often something was counted.
+fn count_of(counter: &AtomicU32) -> u32 {
+    counter.load(Ordering::SeqCst)
 }
 
-/// What a worker has reported to a gate.
+/// Counts it once more.
+fn count(counter: &AtomicU32) {
+    counter.fetch_add(1, Ordering::SeqCst);
+}
+
+/// How often a worker has reached each place of a gate.
 #[derive(Drop)]
-struct Stated {
+struct Counts {
     claims: AtomicU32,
+    /// The claims that got a node.
     nodes: AtomicU32,
+    /// Those of them that came after its first piece and before its second.
+    nodes_between: AtomicU32,
+    /// The pieces that it was about to graft.
     pieces: AtomicU32,
 }
 
-impl Stated {
-    fn nothing() -> Stated {
-        Stated {
+impl Counts {
+    fn nothing() -> Counts {
+        Counts {
             claims: AtomicU32::new(0),
             nodes: AtomicU32::new(0),
+            nodes_between: AtomicU32::new(0),
             pieces: AtomicU32::new(0),
         }
     }
 
-    fn counts(&self) -> Counts {
-        Counts {
-            claims: self.claims.load(Ordering::SeqCst),
-            nodes: self.nodes.load(Ordering::SeqCst),
-            pieces: self.pieces.load(Ordering::SeqCst),
+    /// The worker claimed, and got a node or none.
+    fn count_claim(&self, got: bool) {
+        if got {
+            count(&self.nodes);
+            if count_of(&self.pieces) == 1 {
+                count(&self.nodes_between);
+            }
         }
+        count(&self.claims);
     }
 }
 
@@ -52,73 +60,102 @@ enum Place {
     BeforeGraft,
 }
 
-/// What the two workers of a gate wait for.
+/// What the workers of a gate wait for.
 #[derive(Clone, Copy)]
 pub enum Meeting {
-    /// This worker doesn't graft its first piece before the other has claimed.
+    /// None waits.
+    Free,
+    /// This one of two workers doesn't graft its first piece before the other has claimed.
     OneGraft { held: u8 },
-    /// Neither goes on from its first claim before the other has claimed too.
+    /// Neither of two goes on from its first claim before the other has claimed too.
     Claims,
-    /// Each grafts: a worker that has got no node waits for the other's second piece, and with its own second one for the other's
-    /// first.
+    /// Each of two grafts: a worker that has got no node waits for the other's second piece, and with its own second one for the
+    /// other's first.
     Grafts,
 }
 
 impl Meeting {
     /// Whether a worker may go on from where it is.
-    fn lets_on(self, w: u8, place: Place, own: Counts, other: Counts) -> bool {
+    fn lets_on(self, w: u8, place: Place, own: &Counts, other: &Counts) -> bool {
         match (self, place) {
             (Meeting::OneGraft { held }, Place::BeforeGraft) => {
-                w != held || own.pieces != 1 || 0 < other.claims
+                w != held || count_of(&own.pieces) != 1 || 0 < count_of(&other.claims)
             }
-            (Meeting::Claims, Place::AfterClaim) => own.claims != 1 || 0 < other.claims,
-            (Meeting::Grafts, Place::AfterClaim) => 0 < own.nodes || 2 <= other.pieces,
-            (Meeting::Grafts, Place::BeforeGraft) => own.pieces != 2 || 0 < other.pieces,
+            (Meeting::Claims, Place::AfterClaim) => {
+                count_of(&own.claims) != 1 || 0 < count_of(&other.claims)
+            }
+            (Meeting::Grafts, Place::AfterClaim) => {
+                0 < count_of(&own.nodes) || 2 <= count_of(&other.pieces)
+            }
+            (Meeting::Grafts, Place::BeforeGraft) => {
+                count_of(&own.pieces) != 2 || 0 < count_of(&other.pieces)
+            }
             _ => true,
         }
     }
 }
 
-/// A gate at which two workers wait for one another, at most so long as its limit.
+/// A gate of up to three workers that counts what they do, and at which two may wait for one another, at most so long as its limit.
 #[derive(Drop)]
-pub struct Held<'a, R> {
+pub struct Watch<'a, R> {
     rt: &'a R,
     meeting: Meeting,
-    first: Stated,
-    second: Stated,
+    first: Counts,
+    second: Counts,
+    third: Counts,
     is_over: AtomicBool,
 }
 
-impl<'a, R: Clock> Held<'a, R> {
-    pub fn new(rt: &'a R, meeting: Meeting) -> Held<'a, R> {
-        Held {
+impl<'a, R: Clock> Watch<'a, R> {
+    pub fn new(rt: &'a R, meeting: Meeting) -> Watch<'a, R> {
+        Watch {
             rt,
             meeting,
-            first: Stated::nothing(),
-            second: Stated::nothing(),
+            first: Counts::nothing(),
+            second: Counts::nothing(),
+            third: Counts::nothing(),
             is_over: AtomicBool::new(false),
         }
     }
 
     /// Whether a worker was let on by the limit.
-    fn is_over(&self) -> bool {
+    pub fn is_over(&self) -> bool {
         self.is_over.load(Ordering::SeqCst)
     }
 
-    /// Checks that both workers claimed, that one came to graft, and that none was let on by the limit.
-    pub fn check<A: Abort>(&self, rt: &A) {
-        let (first, second) = (self.first.counts(), self.second.counts());
-        assert!(rt; 0 < first.claims && 0 < second.claims);
-        assert!(rt; 0 < first.pieces || 0 < second.pieces);
+    /// Checks that two workers claimed, that one came to graft, and that none was let on by the limit.
+    pub fn check_met<A: Abort>(&self, rt: &A) {
+        assert!(rt; self.claimants() == [true, true, false]);
+        assert!(rt; 0 < self.pieces());
         assert!(rt; !self.is_over());
     }
 
-    /// What a worker has reported, and what the other has.
-    fn sides(&self, w: u8) -> (&Stated, &Stated) {
-        if w == 1 {
-            (&self.first, &self.second)
-        } else {
-            (&self.second, &self.first)
+    /// Whether each worker has claimed.
+    pub fn claimants(&self) -> [bool; 3] {
+        [
+            0 < count_of(&self.first.claims),
+            0 < count_of(&self.second.claims),
+            0 < count_of(&self.third.claims),
+        ]
+    }
+
+    /// How many pieces workers have come to graft.
+    pub fn pieces(&self) -> u32 {
+        let pieces = count_of(&self.first.pieces).saturating_add(count_of(&self.second.pieces));
+        pieces.saturating_add(count_of(&self.third.pieces))
+    }
+
+    /// How many nodes the first worker claimed between its first piece and its second.
+    pub fn nodes_between(&self) -> u32 {
+        count_of(&self.first.nodes_between)
+    }
+
+    /// What a worker has done, and what the other has.
+    fn sides(&self, w: u8) -> (&Counts, &Counts) {
+        match w {
+            1 => (&self.first, &self.second),
+            2 => (&self.second, &self.first),
+            _ => (&self.third, &self.first),
         }
     }
 
@@ -126,7 +163,7 @@ impl<'a, R: Clock> Held<'a, R> {
     fn hold(&self, w: u8, place: Place) {
         let (own, other) = self.sides(w);
         for _ in 0..TURNS {
-            if self.meeting.lets_on(w, place, own.counts(), other.counts()) || self.is_over() {
+            if self.meeting.lets_on(w, place, own, other) || self.is_over() {
                 return;
             }
             thread::sleep(self.rt, Duration::from_millis(1));
@@ -135,97 +172,16 @@ impl<'a, R: Clock> Held<'a, R> {
     }
 }
 
-impl<'a, R: Clock> Gate for Held<'a, R> {
+impl<'a, R: Clock> Gate for Watch<'a, R> {
     fn before_graft(&self, w: u8) {
         let (own, _) = self.sides(w);
-        own.pieces.fetch_add(1, Ordering::SeqCst);
+        count(&own.pieces);
         self.hold(w, Place::BeforeGraft);
     }
 
     fn after_claim(&self, w: u8, got: bool) {
         let (own, _) = self.sides(w);
-        if got {
-            own.nodes.fetch_add(1, Ordering::SeqCst);
-        }
-        own.claims.fetch_add(1, Ordering::SeqCst);
+        own.count_claim(got);
         self.hold(w, Place::AfterClaim);
-    }
-}
-
-/// A gate that is always open, and records which workers have claimed, and how many pieces came.
-#[derive(Drop)]
-pub struct Claimants {
-    /// A bit for each, at its number.
-    workers: AtomicU32,
-    pieces: AtomicU32,
-}
-
-impl Claimants {
-    pub fn none() -> Claimants {
-        Claimants {
-            workers: AtomicU32::new(0),
-            pieces: AtomicU32::new(0),
-        }
-    }
-
-    /// How many pieces workers have come to graft.
-    pub fn pieces(&self) -> u32 {
-        self.pieces.load(Ordering::SeqCst)
-    }
-
-    /// A bit for each worker that has claimed, at its number.
-    pub fn workers(&self) -> u32 {
-        self.workers.load(Ordering::SeqCst)
-    }
-}
-
-impl Gate for Claimants {
-    fn before_graft(&self, _w: u8) {
-        self.pieces.fetch_add(1, Ordering::SeqCst);
-    }
-
-    fn after_claim(&self, w: u8, _got: bool) {
-        self.workers
-            .fetch_or(1u32.wrapping_shl(w as u32), Ordering::SeqCst);
-    }
-}
-
-/// A gate that is always open, and counts the nodes that its one worker claims between its first piece and its second.
-#[derive(Drop)]
-pub struct Filling {
-    stated: Stated,
-    /// The nodes that it had claimed when it came to its first piece, and to its second.
-    nodes_at: [AtomicU32; 2],
-}
-
-impl Filling {
-    pub fn nothing() -> Filling {
-        Filling {
-            stated: Stated::nothing(),
-            nodes_at: [AtomicU32::new(0), AtomicU32::new(0)],
-        }
-    }
-
-    /// How many nodes the worker claimed between its first piece and its second.
-    pub fn nodes_between(&self) -> u32 {
-        let first = self.nodes_at[0].load(Ordering::SeqCst);
-        let second = self.nodes_at[1].load(Ordering::SeqCst);
-        second.saturating_sub(first)
-    }
-}
-
-impl Gate for Filling {
-    fn before_graft(&self, _w: u8) {
-        let piece = self.stated.pieces.fetch_add(1, Ordering::SeqCst);
-        let nodes = self.stated.nodes.load(Ordering::SeqCst);
-        if piece < 2 {
-            self.nodes_at[piece as usize].store(nodes, Ordering::SeqCst);
-        }
-    }
-
-    fn after_claim(&self, _w: u8, got: bool) {
-        if got {
-            self.stated.nodes.fetch_add(1, Ordering::SeqCst);
-        }
     }
 }

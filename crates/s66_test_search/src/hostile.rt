@@ -1,185 +1,77 @@
 //! Workers that keep what they claimed or hand in what they shouldn't, and searches that stop anywhere: `finish` answers as ever.
 ghost use Rattle.std.specs.Prelude.{◌≡◌, ◌≤◌, All};
-ghost use Rattle.s66_ledger.specs.Steps.{worker_of};
 
-use crate::blocks::{MULTIPLIES, ONE_LOAD, as_written, only_block};
+use crate::blocks::{MULTIPLIES, ONE_LOAD, as_written};
 use crate::expansion::piece_of;
 use crate::hub::{claim_root, grant, open_hub, put_seat, take_seat, timed_of};
-use crate::ledger::{claim_node, new_ledger, reply};
+use crate::ledger::{check_finished, check_grant, claim_node, new_ledger, reply};
+use crate::reading::{block_of, source_of};
 use s66_isa::Profile;
 use s66_ledger::{Event, Ledger, Reply};
 use s66_line::Block;
 use s66_model::{Options, Rule};
 use s66_node::{Piece, expand, expand_dominated};
 use s66_pool::{Free, Hub, Seat, work};
-use s66_source::read_source;
 use s66_time::Timed;
 use std::process::Abort;
 use std::sync::Wait;
-use std::test::Fail;
 use std::thread::Threads;
 
-/// Finishes a search of three multiplies, and checks its time, bound and splits.
-fn check_finished<R: AllocGlobal + Abort>(rt: &R, ledger: Ledger, stated: (u32, u32, u32), at: u32)
-    requires { 1 ≤ ledger.workers }
-{
-    let answer = ledger.finish(rt.alloc()).expect(rt, "memory");
-    let seen = (answer.time(), answer.bound(), answer.splits());
-    assert_eq!(rt; seen, stated, "at {at}");
-}
+/// The time, the bound and the splits of a finished search of three multiplies.
+const WHOLE: (u32, u32, u32) = (22, 22, 10);
 
-/// An event of a search by two workers, of whom the first has the whole budget until it retires.
-fn event_at<R: AllocGlobal + Abort>(rt: &R, block: &Block, place: u32) -> Event
-    ensures { (1 ≤ worker_of result) × (worker_of result ≤ 2) }
-{
-    match place {
-        0 => Event::Grant { w: 1 },
-        1 => Event::Claim { w: 1 },
-        2 => Event::Graft {
-            w: 1,
-            node: 0,
-            piece: piece_of(rt, block, &[], 22, 1),
-        },
-        3 => Event::Offer {
-            w: 2,
-            timed: as_written(block, &Profile::standard()),
-        },
-        4 => Event::Grant { w: 2 },
-        5 => Event::Claim { w: 2 },
-        6 => Event::Back { w: 2, node: 3 },
-        7 => Event::Claim { w: 2 },
-        8 => Event::Retire { w: 1 },
-        _ => Event::Grant { w: 2 },
-    }
-}
-
-/// A search that stops after `count` of these events.
-fn stopped<'a, R: AllocGlobal + Abort>(rt: &R, block: &'a Block<'a>, count: u32) -> Ledger<'a>
-    ensures { result.workers ≡ 2 }
-{
-    let mut ledger = new_ledger(rt, block);
-    for place in 0..count {
-        let event = event_at(rt, block, place);
-        reply(rt, &mut ledger, event);
-    }
-    ledger
-}
-
-#[test]
-fn stops_after_each_event(rt: HostRuntime) -> Result<(), Fail> {
-    let source = read_source(rt.alloc(), MULTIPLIES.as_bytes())?;
-    check_stops(&rt, only_block(&source).expect(&rt, "one block"));
-    Ok(())
-}
-
-fn check_stops<R: AllocGlobal + Abort>(rt: &R, block: &Block) {
-    for count in 0..11u32 {
-        check_finished(rt, stopped(rt, &*block, count), (22, 22, 10), count);
-    }
-}
-
-#[test]
-fn keeps_each_budget(rt: HostRuntime) -> Result<(), Fail> {
-    let source = read_source(rt.alloc(), MULTIPLIES.as_bytes())?;
-    check_budgets(&rt, only_block(&source).expect(&rt, "one block"));
-    Ok(())
-}
-
+/// Each budget is kept.
 fn check_budgets<R: AllocGlobal + Abort>(rt: &R, block: &Block) {
     let profile = Profile::standard();
     for budget in 0..13u32 {
         let ledger = Ledger::new(rt.alloc(), &*block, &profile, budget, 1).expect(rt, "memory");
-        let stated = if budget < 10 {
-            (22, 17, budget)
-        } else {
-            (22, 22, 10)
-        };
-        check_finished(rt, ledger, stated, budget);
+        let wanted = if budget < 10 { (22, 17, budget) } else { WHOLE };
+        check_finished(rt, ledger, wanted);
     }
 }
 
-#[test]
-fn takes_pieces_for_other_times(rt: HostRuntime) -> Result<(), Fail> {
-    let source = read_source(rt.alloc(), MULTIPLIES.as_bytes())?;
-    let block = only_block(&source).expect(&rt, "one block");
-    check_piece(&rt, block, 1);
-    check_piece(&rt, block, u32::MAX);
-    Ok(())
+/// A piece for a best time below every floor, or above every time, is grafted by a worker that hasn't claimed the node.
+fn check_pieces<R: AllocGlobal + Abort>(rt: &R, block: &Block) {
+    for best in [1, u32::MAX] {
+        let mut ledger = new_ledger(rt, &*block);
+        check_grant(rt, &mut ledger, 2, 10);
+        let root = claim_node(rt, &mut ledger, 1, &[]);
+        let piece = piece_of(rt, block, &[], best, 10);
+        assert!(rt; ledger.graft(2, root, piece).is_ok());
+        check_finished(rt, ledger, WHOLE);
+    }
 }
 
-/// A piece for a best time below every floor, or above every time, grafted by a worker that hasn't claimed the node.
-fn check_piece<R: AllocGlobal + Abort>(rt: &R, block: &Block, best: u32) {
-    let mut ledger = new_ledger(rt, block);
-    assert_eq!(rt; ledger.grant(2), Ok(10));
-    let root = claim_node(rt, &mut ledger, 1, &[]);
-    let piece = piece_of(rt, block, &[], best, 10);
-    assert!(rt; ledger.graft(2, root, piece).is_ok());
-    check_finished(rt, ledger, (22, 22, 10), best);
-}
-
-#[test]
-fn refuses_splits_without_an_allowance(rt: HostRuntime) -> Result<(), Fail> {
-    let source = read_source(rt.alloc(), MULTIPLIES.as_bytes())?;
-    check_refusal(&rt, only_block(&source).expect(&rt, "one block"));
-    Ok(())
-}
-
-/// A worker without an allowance hands in a piece of one split, and then drops its ticket.
-fn check_refusal<R: AllocGlobal + Abort>(rt: &R, block: &Block) {
-    let mut ledger = new_ledger(rt, block);
-    let root = claim_node(rt, &mut ledger, 1, &[]);
-    let piece = piece_of(rt, block, &[], 22, 1);
-    let node = root.node();
-    let refused = reply(rt, &mut ledger, Event::Graft { w: 1, node, piece });
-    assert_eq!(rt; refused, Reply::OverAllowance);
-    check_finished(rt, ledger, (22, 22, 10), 0);
-}
-
-#[test]
-fn takes_a_node_back_once(rt: HostRuntime) -> Result<(), Fail> {
-    let source = read_source(rt.alloc(), MULTIPLIES.as_bytes())?;
-    check_back(&rt, only_block(&source).expect(&rt, "one block"));
-    Ok(())
-}
-
-/// A node is given back twice, the second time by another worker.
-fn check_back<R: AllocGlobal + Abort>(rt: &R, block: &Block) {
+/// A worker without an allowance hands in a piece of one split, and drops its ticket. Then the node is given back twice, the second
+/// time by another worker.
+fn check_refusals<R: AllocGlobal + Abort>(rt: &R, block: &Block) {
     let mut ledger = new_ledger(rt, block);
     claim_node(rt, &mut ledger, 1, &[]);
-    let first = reply(rt, &mut ledger, Event::Back { w: 1, node: 0 });
-    assert_eq!(rt; first, Reply::Returned);
-    let second = reply(rt, &mut ledger, Event::Back { w: 2, node: 0 });
-    assert_eq!(rt; second, Reply::NotOut);
-    check_finished(rt, ledger, (22, 22, 10), 0);
+    let piece = piece_of(rt, block, &[], 22, 1);
+    let replies = [
+        reply(
+            rt,
+            &mut ledger,
+            Event::Graft {
+                w: 1,
+                node: 0,
+                piece,
+            },
+        ),
+        reply(rt, &mut ledger, Event::Back { w: 1, node: 0 }),
+        reply(rt, &mut ledger, Event::Back { w: 2, node: 0 }),
+    ];
+    assert!(rt; replies == [Reply::OverAllowance, Reply::Returned, Reply::NotOut]);
+    check_finished(rt, ledger, WHOLE);
 }
 
-#[test]
-fn takes_pieces_for_an_old_time(rt: HostRuntime) -> Result<(), Fail> {
-    let source = read_source(rt.alloc(), ONE_LOAD.as_bytes())?;
-    check_old_piece(&rt, only_block(&source).expect(&rt, "one block"));
-    Ok(())
-}
-
-/// Puts a piece in the place of a node that the first worker has.
-fn graft<R: Abort>(rt: &R, ledger: &mut Ledger, node: u32, piece: Piece)
+/// Puts a piece of the first worker in the place of a node, and checks the answer.
+fn graft<R: Abort>(rt: &R, ledger: &mut Ledger, node: u32, piece: Piece, answer: Reply)
     requires { 1 ≤ ledger.old.workers }
     ensures { ledger.new.workers ≡ ledger.old.workers }
 {
-    let taken = reply(rt, ledger, Event::Graft { w: 1, node, piece });
-    assert_eq!(rt; taken, Reply::Taken);
-}
-
-/// Splits one load's root; another worker keeps node 1, which is 1, and the first has node 2, which is 3.
-fn hand_out<R: AllocGlobal + Abort>(rt: &R, ledger: &mut Ledger)
-    requires { 2 ≤ ledger.old.workers }
-    ensures { ledger.new.workers ≡ ledger.old.workers }
-{
-    assert_eq!(rt; ledger.grant(1), Ok(10));
-    claim_node(rt, ledger, 1, &[]);
-    let piece = piece_of(rt, ledger.block(), &[], 16, 1);
-    graft(rt, ledger, 0, piece);
-    claim_node(rt, ledger, 2, &[1]);
-    claim_node(rt, ledger, 1, &[3]);
+    let seen = reply(rt, ledger, Event::Graft { w: 1, node, piece });
+    assert!(rt; seen == answer, "{seen:?}");
 }
 
 /// Offers an order, and checks the answer.
@@ -187,8 +79,21 @@ fn offer<R: Abort>(rt: &R, ledger: &mut Ledger, w: u8, timed: Timed, answer: Rep
     requires { (1 ≤ w) × (w ≤ ledger.old.workers) }
     ensures { ledger.new.workers ≡ ledger.old.workers }
 {
-    let offered = reply(rt, ledger, Event::Offer { w, timed });
-    assert_eq!(rt; offered, answer);
+    let seen = reply(rt, ledger, Event::Offer { w, timed });
+    assert!(rt; seen == answer, "{seen:?}");
+}
+
+/// Splits one load's root; another worker keeps node 1, which is 1, and the first has node 2, which is 3.
+fn hand_out<R: AllocGlobal + Abort>(rt: &R, ledger: &mut Ledger)
+    requires { 2 ≤ ledger.old.workers }
+    ensures { ledger.new.workers ≡ ledger.old.workers }
+{
+    check_grant(rt, ledger, 1, 10);
+    claim_node(rt, ledger, 1, &[]);
+    let piece = piece_of(rt, ledger.block(), &[], 16, 1);
+    graft(rt, ledger, 0, piece, Reply::Taken);
+    claim_node(rt, ledger, 2, &[1]);
+    claim_node(rt, ledger, 1, &[3]);
 }
 
 /// A worker makes a piece for the time of the source order, 16. Meanwhile another, which keeps its node, offers the best order, with
@@ -201,58 +106,52 @@ fn check_old_piece<R: AllocGlobal + Abort>(rt: &R, block: &Block) {
     let faster = timed_of(rt, block, &[1, 3, 2]);
     offer(rt, &mut ledger, 2, faster, Reply::Lower);
     offer(rt, &mut ledger, 1, slower, Reply::NotLower(12));
-    graft(rt, &mut ledger, 2, piece);
-    check_finished(rt, ledger, (12, 12, 3), 0);
+    graft(rt, &mut ledger, 2, piece, Reply::Taken);
+    check_finished(rt, ledger, (12, 12, 3));
 }
 
-#[test]
-fn refuses_what_is_of_another_search(rt: HostRuntime) -> Result<(), Fail> {
-    let source = read_source(rt.alloc(), MULTIPLIES.as_bytes())?;
-    let other = read_source(rt.alloc(), ONE_LOAD.as_bytes())?;
-    let block = only_block(&source).expect(&rt, "one block");
-    check_others(&rt, block, only_block(&other).expect(&rt, "one block"));
-    Ok(())
-}
-
-/// Hands a piece in at the root, which is out.
-fn check_other_piece<R: Abort>(rt: &R, ledger: &mut Ledger, piece: Piece)
+/// A worker hands in pieces of another block, under another profile and by another rule, at the root, which is out.
+fn hand_in_others<R: AllocGlobal + Abort>(rt: &R, ledger: &mut Ledger, block: &Block, other: &Block)
     requires { 1 ≤ ledger.old.workers }
     ensures { ledger.new.workers ≡ ledger.old.workers }
 {
-    let refused = reply(
-        rt,
-        ledger,
-        Event::Graft {
-            w: 1,
-            node: 0,
-            piece,
-        },
-    );
-    assert_eq!(rt; refused, Reply::OtherPrefix);
-}
-
-/// A worker hands in pieces of another block, under another profile and by another rule, and an order of the other block, whose time
-/// is below all of the ledger's.
-fn check_others<R: AllocGlobal + Abort>(rt: &R, block: &Block, other: &Block) {
     let alloc = rt.alloc();
     let profile = Profile::standard();
     let mut slower = profile;
     slower.multiply = 11;
-    let mut ledger = new_ledger(rt, block);
-    assert_eq!(rt; ledger.grant(1), Ok(10));
-    claim_node(rt, &mut ledger, 1, &[]);
-    check_other_piece(rt, &mut ledger, piece_of(rt, other, &[], 22, 10));
+    let piece = piece_of(rt, other, &[], 22, 10);
+    graft(rt, ledger, 0, piece, Reply::OtherPrefix);
     let piece = expand(alloc, block, &slower, &[], 40, 10).expect(rt, "memory");
-    check_other_piece(rt, &mut ledger, piece);
+    graft(rt, ledger, 0, piece, Reply::OtherPrefix);
     let piece = expand_dominated(alloc, block, &profile, &[], 22, 10).expect(rt, "memory");
-    check_other_piece(rt, &mut ledger, piece);
-    let timed = as_written(other, &profile);
-    let refused = reply(rt, &mut ledger, Event::Offer { w: 1, timed });
-    assert_eq!(rt; refused, Reply::OtherBlock);
-    check_finished(rt, ledger, (22, 22, 10), 0);
+    graft(rt, ledger, 0, piece, Reply::OtherPrefix);
 }
 
-/// Workers search a block by a rule at these seats, and come back.
+/// A worker hands in such pieces, and an order of the other block, whose time is below all of the ledger's.
+fn check_others<R: AllocGlobal + Abort>(rt: &R, block: &Block, other: &Block) {
+    let mut ledger = new_ledger(rt, block);
+    check_grant(rt, &mut ledger, 1, 10);
+    claim_node(rt, &mut ledger, 1, &[]);
+    hand_in_others(rt, &mut ledger, block, other);
+    let timed = as_written(other, &Profile::standard());
+    offer(rt, &mut ledger, 1, timed, Reply::OtherBlock);
+    check_finished(rt, ledger, WHOLE);
+}
+
+#[test]
+fn finish_answers_as_ever(rt: HostRuntime) {
+    let source = source_of(&rt, MULTIPLIES);
+    let block = block_of(&rt, &source);
+    check_budgets(&rt, block);
+    check_pieces(&rt, block);
+    check_refusals(&rt, block);
+    let other = source_of(&rt, ONE_LOAD);
+    let other = block_of(&rt, &other);
+    check_old_piece(&rt, other);
+    check_others(&rt, block, other);
+}
+
+/// Two workers search a block by a rule at these seats, and come back.
 fn work_by<'a, R: AllocGlobal + Abort + Threads + Wait + Sync>(
     rt: &R,
     hub: &Hub<'a>,
@@ -281,62 +180,28 @@ fn check_closed<'a, R: AllocGlobal + Abort>(rt: &R, hub: Hub<'a>, seats: Vec<Sea
     let Ok(ledger) = hub.close(seats) else {
         panic!(rt; "all seats are there")
     };
-    assert!(rt; 1 <= ledger.workers());
-    assert_eq!(rt; ledger.splits(), 0);
-    check_finished(rt, ledger, (22, 22, 10), 0);
+    assert!(rt; 1 <= ledger.workers() && ledger.splits() == 0);
+    check_finished(rt, ledger, WHOLE);
 }
 
-#[test]
-fn outlives_idle_seats(rt: HostRuntime) -> Result<(), Fail> {
-    let source = read_source(rt.alloc(), MULTIPLIES.as_bytes())?;
-    let block = only_block(&source).expect(&rt, "one block");
-    check_idle_seat(&rt, block, Idle::Both);
-    check_idle_seat(&rt, block, Idle::Splits);
-    check_idle_seat(&rt, block, Idle::Root);
-    Ok(())
-}
-
-/// What an idle seat takes from the others.
-#[derive(Clone, Copy, Debug, PartialEq, Eq)]
-enum Idle {
-    /// It keeps the whole budget.
-    Splits,
-    /// It drops the root's ticket.
-    Root,
-    Both,
-}
-
-/// A seat takes something and does nothing more, while two workers look for work.
+/// A seat takes the whole budget, or drops the root's ticket, or both, and does nothing more, while two workers look for work.
 fn check_idle_seat<R: AllocGlobal + Abort + Threads + Wait + Sync>(
     rt: &R,
     block: &Block,
-    idle: Idle,
+    takes_splits: bool,
+    takes_root: bool,
 ) {
     let (hub, mut seats) = open_hub(rt, &*block, 10, 3);
     let mut seat = take_seat(rt, &hub, &mut seats, 3);
-    if idle != Idle::Root {
-        assert_eq!(rt; grant(rt, &hub, &mut seat), 10);
+    if takes_splits {
+        assert!(rt; grant(rt, &hub, &mut seat) == 10);
     }
-    if idle != Idle::Splits {
+    if takes_root {
         claim_root(rt, &hub, &mut seat);
     }
     let mut seats = work_by(rt, &hub, seats, block, Rule::NoneNamed);
     put_seat(rt, &hub, &mut seats, seat);
     check_closed(rt, hub, seats);
-}
-
-#[test]
-fn outlives_workers_of_another_search(rt: HostRuntime) -> Result<(), Fail> {
-    let source = read_source(rt.alloc(), MULTIPLIES.as_bytes())?;
-    let other = read_source(rt.alloc(), ONE_LOAD.as_bytes())?;
-    let block = only_block(&source).expect(&rt, "one block");
-    let other = only_block(&other).expect(&rt, "one block");
-    check_strangers(&rt, block, other, Rule::NoneNamed);
-    check_strangers(&rt, block, other, Rule::ClampedStanding);
-    let source = read_source(rt.alloc(), MULTIPLIES.as_bytes())?;
-    let same = only_block(&source).expect(&rt, "one block");
-    check_strangers(&rt, block, same, Rule::ClampedStanding);
-    Ok(())
 }
 
 /// Two workers search another block than the hub's, or by another rule, with walks and marks of that: no piece of theirs is taken.
@@ -349,4 +214,19 @@ fn check_strangers<R: AllocGlobal + Abort + Threads + Wait + Sync>(
     let (hub, seats) = open_hub(rt, &*block, 10, 2);
     let seats = work_by(rt, &hub, seats, other, rule);
     check_closed(rt, hub, seats);
+}
+
+#[test]
+fn outlives_idle_seats_and_strangers(rt: HostRuntime) {
+    let source = source_of(&rt, MULTIPLIES);
+    let block = block_of(&rt, &source);
+    check_idle_seat(&rt, block, true, true);
+    check_idle_seat(&rt, block, true, false);
+    check_idle_seat(&rt, block, false, true);
+    let other = source_of(&rt, ONE_LOAD);
+    let other = block_of(&rt, &other);
+    check_strangers(&rt, block, other, Rule::NoneNamed);
+    check_strangers(&rt, block, other, Rule::ClampedStanding);
+    let same = source_of(&rt, MULTIPLIES);
+    check_strangers(&rt, block, block_of(&rt, &same), Rule::ClampedStanding);
 }

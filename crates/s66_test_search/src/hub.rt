@@ -1,19 +1,18 @@
 ghost use Rattle.std.specs.Prelude.{◌≡◌, ◌≤◌, All};
 ghost use Rattle.s66_model.specs.declared.limits.TheConstants.{BUDGET_LIMIT};
 
-use crate::blocks::{MULTIPLIES, ONE_LOAD, only_block};
+use crate::blocks::{MULTIPLIES, ONE_LOAD};
 use crate::expansion::piece_of;
+use crate::reading::{block_of, source_of};
 use s66_dep::Order;
 use s66_isa::Profile;
 use s66_ledger::{GraftError, Ledger, Offered, Ticket};
 use s66_line::Block;
 use s66_node::Piece;
 use s66_pool::{Hub, Needs, Seat, SeatsMissing, Supply};
-use s66_source::read_source;
 use s66_time::{Timed, time_of};
 use std::process::Abort;
 use std::sync::Wait;
-use std::test::Fail;
 
 const NODES: Needs = Needs {
     splits: false,
@@ -55,7 +54,7 @@ pub fn take_seat<'a, R: Abort>(
     ensures rest { All (λ s. s.hub ≡ hub.now.id) seats.new.items }
 {
     let seat = seats.pop().expect(rt, "a seat");
-    assert_eq!(rt; seat.number(), number);
+    assert!(rt; seat.number() == number);
     seat
 }
 
@@ -83,8 +82,7 @@ pub fn claim_root<'a, R: Abort + Wait>(rt: &R, hub: &Hub<'a>, seat: &mut Seat<'a
 {
     let claimed = hub.claim(rt, seat).expect(rt, "memory");
     let ticket = claimed.expect(rt, "an open node");
-    assert_eq!(rt; ticket.node(), 0);
-    assert!(rt; ticket.prefix().is_empty());
+    assert!(rt; ticket.node() == 0 && ticket.prefix().is_empty());
     ticket
 }
 
@@ -100,8 +98,7 @@ fn claim_all<'a, R: AllocGlobal + Abort + Wait>(
 {
     let mut claimed = Vec::new(rt.alloc());
     let supply = hub.supply(rt, seat, NODES, &mut claimed);
-    assert_eq!(rt; supply, all_claimed(None));
-    assert_eq!(rt; claimed.len(), expected);
+    assert!(rt; supply == all_claimed(None) && claimed.len() == expected);
     claimed.pop()
 }
 
@@ -112,14 +109,6 @@ fn all_claimed(granted: Option<u32>) -> Supply {
         none_open: true,
         out_of_memory: false,
     }
-}
-
-/// Gives a node back.
-fn give_back<'a, R: Abort + Wait>(rt: &R, hub: &Hub<'a>, seat: &mut Seat<'a>, ticket: Ticket)
-    requires { seat.old.hub ≡ hub.now.id }
-    ensures { seat.new.hub ≡ seat.old.hub }
-{
-    assert!(rt; hub.back(rt, seat, ticket).is_ok());
 }
 
 /// Gives a seat's splits back to the budget.
@@ -135,26 +124,11 @@ fn check_calls<'a, R: Abort + Wait>(rt: &R, hub: &Hub<'a>, seat: &mut Seat<'a>)
     requires { seat.old.hub ≡ hub.now.id }
 {
     let root = claim_root(rt, hub, seat);
-    assert_eq!(rt; grant(rt, hub, seat), 10);
-    give_back(rt, hub, seat, root);
+    assert!(rt; grant(rt, hub, seat) == 10);
+    assert!(rt; hub.back(rt, seat, root).is_ok());
     claim_root(rt, hub, seat);
     retire(rt, hub, seat);
-    assert_eq!(rt; grant(rt, hub, seat), 10);
-}
-
-/// Checks each call of a hub with one seat.
-fn check_new_hub<R: AllocGlobal + Abort + Wait>(rt: &R, block: &Block) {
-    let (hub, mut seats) = open_hub(rt, block, 10, 1);
-    let mut seat = take_seat(rt, &hub, &mut seats, 1);
-    assert!(rt; seats.is_empty());
-    check_calls(rt, &hub, &mut seat);
-}
-
-#[test]
-fn new_hub(rt: HostRuntime) -> Result<(), Fail> {
-    let source = read_source(rt.alloc(), MULTIPLIES.as_bytes())?;
-    check_new_hub(&rt, only_block(&source).expect(&rt, "one block"));
-    Ok(())
+    assert!(rt; grant(rt, hub, seat) == 10);
 }
 
 /// Closes a hub that lacks its second seat, which it hands back with the first.
@@ -176,6 +150,14 @@ fn close<'a, R: Abort>(rt: &R, hub: Hub<'a>, seats: Vec<Seat<'a>>)
     assert!(rt; hub.close(seats).is_ok());
 }
 
+/// Checks each call of a hub with one seat.
+fn check_new_hub<R: AllocGlobal + Abort + Wait>(rt: &R, block: &Block) {
+    let (hub, mut seats) = open_hub(rt, block, 10, 1);
+    let mut seat = take_seat(rt, &hub, &mut seats, 1);
+    assert!(rt; seats.is_empty());
+    check_calls(rt, &hub, &mut seat);
+}
+
 /// Checks that a hub closes only with all its seats, in any order.
 fn check_missing_seat<R: AllocGlobal + Abort + Wait>(rt: &R, block: &Block) {
     let (hub, mut seats) = open_hub(rt, block, 10, 2);
@@ -188,13 +170,14 @@ fn check_missing_seat<R: AllocGlobal + Abort + Wait>(rt: &R, block: &Block) {
 }
 
 #[test]
-fn seat_is_missing(rt: HostRuntime) -> Result<(), Fail> {
-    let source = read_source(rt.alloc(), MULTIPLIES.as_bytes())?;
-    check_missing_seat(&rt, only_block(&source).expect(&rt, "one block"));
-    Ok(())
+fn new_hub(rt: HostRuntime) {
+    let source = source_of(&rt, MULTIPLIES);
+    let block = block_of(&rt, &source);
+    check_new_hub(&rt, block);
+    check_missing_seat(&rt, block);
 }
 
-/// Grafts a piece at a node that is out, and then one at the same node.
+/// Grafts a piece of one split at the root, which is out, and then hands in one more there.
 fn graft_twice<'a, R: AllocGlobal + Abort + Wait>(
     rt: &R,
     hub: &Hub<'a>,
@@ -202,8 +185,8 @@ fn graft_twice<'a, R: AllocGlobal + Abort + Wait>(
     block: &Block,
 )
     requires { seat.old.hub ≡ hub.now.id }
+    ensures { seat.new.hub ≡ seat.old.hub }
 {
-    assert_eq!(rt; grant(rt, hub, seat), 10);
     let root = claim_root(rt, hub, seat);
     let piece = piece_of(rt, block, root.prefix(), 22, 1);
     let again = piece_of(rt, block, root.prefix(), 22, 1);
@@ -211,22 +194,7 @@ fn graft_twice<'a, R: AllocGlobal + Abort + Wait>(
     let mut claimed = Vec::new(rt.alloc());
     let refused = hub.graft_and_supply(rt, seat, 0, &again, BOTH, &mut claimed);
     assert!(rt; matches!(refused, Err(GraftError::NotOut)));
-    assert!(rt; claimed.is_empty());
-    assert_eq!(rt; seat.splits(), 1);
-}
-
-/// Checks that a piece is grafted at a node that is out, and at no other.
-fn check_graft<R: AllocGlobal + Abort + Wait>(rt: &R, block: &Block) {
-    let (hub, mut seats) = open_hub(rt, block, 10, 1);
-    let mut seat = take_seat(rt, &hub, &mut seats, 1);
-    graft_twice(rt, &hub, &mut seat, block);
-}
-
-#[test]
-fn grafts_at_nodes_that_are_out(rt: HostRuntime) -> Result<(), Fail> {
-    let source = read_source(rt.alloc(), MULTIPLIES.as_bytes())?;
-    check_graft(&rt, only_block(&source).expect(&rt, "one block"));
-    Ok(())
+    assert!(rt; claimed.is_empty() && seat.splits() == 1);
 }
 
 /// Grafts a piece of a claimed node, and claims all open nodes in the same turn; checks what is granted there and how many nodes are
@@ -248,8 +216,7 @@ fn graft_claiming<'a, R: AllocGlobal + Abort + Wait>(
     let Ok(supply) = hub.graft_and_supply(rt, seat, node, piece, needs, &mut claimed) else {
         panic!(rt; "the piece wasn't taken")
     };
-    assert_eq!(rt; supply, all_claimed(granted));
-    assert_eq!(rt; claimed.len(), nodes);
+    assert!(rt; supply == all_claimed(granted) && claimed.len() == nodes);
     claimed.pop().expect(rt, "an open node")
 }
 
@@ -262,11 +229,10 @@ fn spend_two<'a, R: AllocGlobal + Abort + Wait>(
 )
     requires { seat.old.hub ≡ hub.now.id }
 {
-    assert_eq!(rt; grant(rt, hub, seat), 10);
-    let root = claim_root(rt, hub, seat);
-    let piece = piece_of(rt, block, root.prefix(), 22, 1);
-    let child = graft_claiming(rt, hub, seat, 0, &piece, NODES, (None, 3));
-    assert_eq!(rt; child.prefix().len(), 1);
+    assert!(rt; grant(rt, hub, seat) == 10);
+    graft_twice(rt, hub, seat, block);
+    let child = claim_all(rt, hub, seat, 3).expect(rt, "an open node");
+    assert!(rt; child.prefix().len() == 1);
     let piece = piece_of(rt, block, child.prefix(), 22, 1);
     let mut claimed = Vec::new(rt.alloc());
     let after = hub.graft_and_supply(rt, seat, child.node(), &piece, BOTH, &mut claimed);
@@ -275,10 +241,9 @@ fn spend_two<'a, R: AllocGlobal + Abort + Wait>(
         none_open: false,
         out_of_memory: false,
     };
-    assert_eq!(rt; after, Ok(spent));
-    assert!(rt; claimed.is_empty());
+    assert!(rt; after == Ok(spent));
     retire(rt, hub, seat);
-    assert_eq!(rt; seat.splits(), 2);
+    assert!(rt; claimed.is_empty() && seat.splits() == 2);
 }
 
 /// A worker's turn after that, in which the two children of the node that was split are open: it leaves one of them open, and is
@@ -294,7 +259,7 @@ fn ask_for_splits<'a, R: AllocGlobal + Abort + Wait>(
     let node = claim_all(rt, hub, seat, 2).expect(rt, "an open node");
     let piece = piece_of(rt, block, node.prefix(), 22, 0);
     graft_claiming(rt, hub, seat, node.node(), &piece, BOTH, (Some(8), 1));
-    assert_eq!(rt; seat.splits(), 0);
+    assert!(rt; seat.splits() == 0);
 }
 
 /// Checks what two workers get in the turns of their grafts. Each prefix but a whole order has a floor of 17, below every total, so that
@@ -308,10 +273,9 @@ fn check_turns<R: AllocGlobal + Abort + Wait>(rt: &R, block: &Block) {
 }
 
 #[test]
-fn pieces_are_grafted(rt: HostRuntime) -> Result<(), Fail> {
-    let source = read_source(rt.alloc(), MULTIPLIES.as_bytes())?;
-    check_turns(&rt, only_block(&source).expect(&rt, "one block"));
-    Ok(())
+fn pieces_are_grafted(rt: HostRuntime) {
+    let source = source_of(&rt, MULTIPLIES);
+    check_turns(&rt, block_of(&rt, &source));
 }
 
 /// An order of the block with its times.
@@ -331,7 +295,7 @@ fn offer<'a, R: Abort + Wait>(
     requires { seat.old.hub ≡ hub.now.id }
     ensures { seat.new.hub ≡ seat.old.hub }
 {
-    assert_eq!(rt; hub.offer(rt, seat, timed), Ok(answer));
+    assert!(rt; hub.offer(rt, seat, timed) == Ok(answer));
 }
 
 /// Offers the best order at one seat while another has the root out, and reads its time there after the graft.
@@ -346,12 +310,12 @@ fn offer_while_out<'a, R: AllocGlobal + Abort + Wait>(
     requires other { other.old.hub ≡ hub.now.id }
 {
     let root = claim_root(rt, hub, other);
-    assert_eq!(rt; hub.best(rt, other), 16);
+    assert!(rt; hub.best(rt, other) == 16);
     let piece = piece_of(rt, block, root.prefix(), 16, 0);
     let best = timed_of(rt, block, &[1, 3, 2]);
     offer(rt, hub, seat, best, Offered::Lower);
     graft_claiming(rt, hub, other, root.node(), &piece, NODES, (None, 1));
-    assert_eq!(rt; hub.best(rt, other), 12);
+    assert!(rt; hub.best(rt, other) == 12);
 }
 
 /// Reads the best time at one seat, and claims at another; the root is out.
@@ -365,7 +329,7 @@ fn read_offer<'a, R: AllocGlobal + Abort + Wait>(
     requires seat { seat.old.hub ≡ hub.now.id }
     requires other { other.old.hub ≡ hub.now.id }
 {
-    assert_eq!(rt; hub.best(rt, seat), 12);
+    assert!(rt; hub.best(rt, seat) == 12);
     let slower = timed_of(rt, block, &[1, 2, 3]);
     offer(rt, hub, seat, slower, Offered::NotLower { least: 12 });
     assert!(rt; claim_all(rt, hub, other, 0).is_none());
@@ -378,14 +342,13 @@ fn check_offers<R: AllocGlobal + Abort + Wait>(rt: &R, block: &Block) {
     let mut third = take_seat(rt, &hub, &mut seats, 3);
     let mut second = take_seat(rt, &hub, &mut seats, 2);
     let mut first = take_seat(rt, &hub, &mut seats, 1);
-    assert_eq!(rt; hub.best(rt, &mut second), 16);
+    assert!(rt; hub.best(rt, &mut second) == 16);
     offer_while_out(rt, &hub, &mut first, &mut third, block);
     read_offer(rt, &hub, &mut second, &mut fourth, block);
 }
 
 #[test]
-fn offers_are_read(rt: HostRuntime) -> Result<(), Fail> {
-    let source = read_source(rt.alloc(), ONE_LOAD.as_bytes())?;
-    check_offers(&rt, only_block(&source).expect(&rt, "one block"));
-    Ok(())
+fn offers_are_read(rt: HostRuntime) {
+    let source = source_of(&rt, ONE_LOAD);
+    check_offers(&rt, block_of(&rt, &source));
 }

@@ -8,8 +8,7 @@ ghost use Rattle.s66_line.specs.InstructionText.{IsInstruction};
 use crate::blocks::as_written;
 use s66_isa::{BLOCK_LIMIT, Profile};
 use s66_line::{Block, is_instruction};
-use std::alloc::AllocError;
-use std::test::Fail;
+use std::process::Abort;
 
 /// Texts, and whether each is an instruction.
 const TEXTS: &[(&str, bool)] = &[
@@ -38,14 +37,14 @@ fn tells_instructions(rt: HostRuntime) {
 }
 
 /// The lines of code, each a text.
-fn texts_of<R: AllocGlobal>(rt: &R, code: &str) -> Result<Vec<Vec<u8>>, AllocError> {
+fn texts_of<R: AllocGlobal + Abort>(rt: &R, code: &str) -> Vec<Vec<u8>> {
     let mut texts = Vec::new(rt.alloc());
     for line in code.split('\n') {
         let mut text = Vec::new(rt.alloc());
-        text.extend_from_slice(line.as_bytes())?;
-        texts.push(text)?;
+        text.extend_from_slice(line.as_bytes()).expect(rt, "memory");
+        assert!(rt; texts.push(text).is_ok());
     }
-    Ok(texts)
+    texts
 }
 
 /// Whether each text is one of an instruction.
@@ -61,13 +60,11 @@ fn are_instructions(texts: &[Vec<u8>]) -> bool
 }
 
 #[test]
-fn makes_block_of_texts(rt: HostRuntime) -> Result<(), Fail> {
-    let texts = texts_of(&rt, "FX1 X2*X3\nFX4 X5*X6\nFX0 X7*X7")?;
+fn makes_block_of_texts(rt: HostRuntime) {
+    let texts = texts_of(&rt, "FX1 X2*X3\nFX4 X5*X6\nFX0 X7*X7");
     assert!(rt; !texts.is_empty() && texts.len() <= BLOCK_LIMIT);
     assert!(rt; are_instructions(texts.as_slice()));
-    let block = Block::of(rt.alloc(), texts.as_slice())?;
-    assert_eq!(rt; block.count(), 3);
+    let block = Block::of(rt.alloc(), texts.as_slice()).expect(&rt, "memory");
     let timed = as_written(&block, &Profile::standard());
-    assert_eq!(rt; timed.total(), 22);
-    Ok(())
+    assert!(rt; block.count() == 3 && timed.total() == 22);
 }

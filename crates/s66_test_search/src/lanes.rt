@@ -1,13 +1,12 @@
 ghost use Rattle.std.specs.Prelude.{◌≡◌, ◌+◌, ◌≤◌, ◌<◌, []};
 
-use crate::blocks::{MULTIPLIES, only_block};
+use crate::blocks::MULTIPLIES;
 use crate::ledger::{claim_node, new_ledger, split_root};
+use crate::reading::{block_of, source_of};
 use s66_ledger::Ledger;
 use s66_line::Block;
-use s66_source::read_source;
 use s66_steal::{Lane, PASS_LIMIT, Pass, Thief, lane};
 use std::process::Abort;
-use std::test::Fail;
 
 /// The root's children, each of which is put once.
 const NODES: [u32; 3] = [1, 2, 3];
@@ -42,31 +41,46 @@ fn put_children<R: AllocGlobal + Abort>(rt: &R, block: &Block, lane: &mut Lane)
     claim_and_put(rt, &mut ledger, lane, &[1]);
 }
 
-/// Takes a ticket, and returns its node.
-fn take_node<R: Abort>(rt: &R, lane: &mut Lane) -> u32 {
-    lane.take().expect(rt, "a ticket").node()
+/// Steals, and pushes the nodes of what was stolen.
+fn steal_some<R: Abort>(rt: &R, thief: &Thief, pass: &mut Pass, nodes: &mut Vec<u32>)
+    requires { pass.old.lane ≡ thief.now }
+    ensures { pass.new.lane ≡ pass.old.lane }
+{
+    for _ in 0..TRIES {
+        if let Some(ticket) = thief.steal(pass) {
+            assert!(rt; nodes.push(ticket.node()).is_ok());
+        }
+    }
+    assert!(rt; !nodes.is_empty());
+}
+
+/// Takes what is left, and checks that these nodes and some others are all, each once.
+fn take_rest<R: Abort>(rt: &R, lane: &mut Lane, nodes: &mut Vec<u32>)
+    ensures { lane.new.id ≡ lane.old.id }
+{
+    for _ in 0..NODES.len() {
+        let Some(ticket) = lane.take() else {
+            break;
+        };
+        assert!(rt; nodes.push(ticket.node()).is_ok());
+    }
+    assert!(rt; lane.take().is_none());
+    nodes.as_mut_slice().sort_unstable();
+    assert!(rt; nodes.as_slice() == NODES.as_slice());
 }
 
 /// Checks that the owner takes each ticket once.
 fn check_takes<R: AllocGlobal + Abort>(rt: &R, block: &Block) {
     let (mut lane, _) = lane(rt.alloc(), NODES.len()).expect(rt, "memory");
     put_children(rt, block, &mut lane);
-    let mut nodes = [
-        take_node(rt, &mut lane),
-        take_node(rt, &mut lane),
-        take_node(rt, &mut lane),
-    ];
-    nodes.sort_unstable();
-    assert_eq!(rt; nodes, NODES);
-    assert!(rt; lane.take().is_none());
-    assert_eq!(rt; lane.left(), Some(0));
+    take_rest(rt, &mut lane, &mut Vec::new(rt.alloc()));
+    assert!(rt; lane.left() == Some(0));
 }
 
 #[test]
-fn owner_takes_each_ticket_once(rt: HostRuntime) -> Result<(), Fail> {
-    let source = read_source(rt.alloc(), MULTIPLIES.as_bytes())?;
-    check_takes(&rt, only_block(&source).expect(&rt, "one block"));
-    Ok(())
+fn owner_takes_each_ticket_once(rt: HostRuntime) {
+    let source = source_of(&rt, MULTIPLIES);
+    check_takes(&rt, block_of(&rt, &source));
 }
 
 /// The only pass of a lane.
@@ -81,32 +95,6 @@ fn only_pass<R: Abort>(rt: &R, lane: &mut Lane) -> Pass
     pass
 }
 
-/// Steals, and pushes the nodes of what was stolen.
-fn steal_some<R: Abort>(rt: &R, thief: &Thief, pass: &mut Pass, nodes: &mut Vec<u32>)
-    requires { pass.old.lane ≡ thief.now }
-    ensures { pass.new.lane ≡ pass.old.lane }
-{
-    for _ in 0..TRIES {
-        if let Some(ticket) = thief.steal(pass) {
-            assert!(rt; nodes.push(ticket.node()).is_ok());
-        }
-    }
-    assert!(rt; !nodes.is_empty());
-}
-
-/// Takes what is left, and pushes its nodes too.
-fn take_rest<R: Abort>(rt: &R, lane: &mut Lane, nodes: &mut Vec<u32>)
-    ensures { lane.new.id ≡ lane.old.id }
-{
-    for _ in 0..NODES.len() {
-        let Some(ticket) = lane.take() else {
-            break;
-        };
-        assert!(rt; nodes.push(ticket.node()).is_ok());
-    }
-    assert!(rt; lane.take().is_none());
-}
-
 /// Checks that a thief and the owner together take each ticket once, and that nothing is left.
 fn check_steals<R: AllocGlobal + Abort>(rt: &R, block: &Block) {
     let (mut lane, thief) = lane(rt.alloc(), NODES.len()).expect(rt, "memory");
@@ -115,29 +103,21 @@ fn check_steals<R: AllocGlobal + Abort>(rt: &R, block: &Block) {
     let mut nodes = Vec::new(rt.alloc());
     steal_some(rt, &thief, &mut pass, &mut nodes);
     take_rest(rt, &mut lane, &mut nodes);
-    nodes.as_mut_slice().sort_unstable();
-    assert_eq!(rt; nodes.as_slice(), NODES.as_slice());
-    assert_eq!(rt; lane.left(), None);
+    assert!(rt; lane.left().is_none());
     lane.take_back(pass);
-    assert_eq!(rt; lane.left(), Some(0));
-}
-
-#[test]
-fn thief_steals(rt: HostRuntime) -> Result<(), Fail> {
-    let source = read_source(rt.alloc(), MULTIPLIES.as_bytes())?;
-    check_steals(&rt, only_block(&source).expect(&rt, "one block"));
-    Ok(())
+    assert!(rt; lane.left() == Some(0));
 }
 
 /// Checks that a lane has passes for as many thieves as it may have.
 fn check_passes<R: AllocGlobal + Abort>(rt: &R) {
     let (mut lane, _) = lane(rt.alloc(), 1).expect(rt, "memory");
     let passes = lane.passes(PASS_LIMIT).expect(rt, "memory");
-    assert_eq!(rt; passes.len(), 15);
-    assert_eq!(rt; passes[14].number(), 14);
+    assert!(rt; passes.len() == 15 && passes[14].number() == 14);
 }
 
 #[test]
-fn all_passes(rt: HostRuntime) {
+fn thief_steals(rt: HostRuntime) {
+    let source = source_of(&rt, MULTIPLIES);
+    check_steals(&rt, block_of(&rt, &source));
     check_passes(&rt);
 }

@@ -1,15 +1,14 @@
 ghost use Rattle.std.specs.Prelude.{◌≡◌, ◌≤◌};
 ghost use Rattle.s66_ledger.specs.Steps.{worker_of};
 
-use crate::blocks::{MULTIPLIES, as_written, only_block};
+use crate::blocks::{MULTIPLIES, as_written};
 use crate::expansion::piece_of;
+use crate::reading::{block_of, source_of};
 use s66_isa::Profile;
 use s66_ledger::{Entry, Event, Ledger, Offered, Reply, Ticket};
 use s66_line::Block;
 use s66_node::State;
-use s66_source::read_source;
 use std::process::Abort;
-use std::test::Fail;
 
 /// The most splits of the search.
 const BUDGET: u32 = 10;
@@ -89,19 +88,22 @@ pub fn new_ledger<'a, R: AllocGlobal + Abort>(rt: &R, block: &'a Block<'a>) -> L
 fn check_history<R: Abort>(rt: &R, ledger: &Ledger) {
     let history = ledger.history();
     assert!(rt; history.entries.as_slice() == HISTORY);
-    assert_eq!(rt; history.bytes.as_slice(), BYTES);
-    assert_eq!(rt; ledger.made(3), Some(State::Open));
-    assert_eq!(rt; ledger.made(4), None);
+    assert!(rt; history.bytes.as_slice() == BYTES);
+    assert!(rt; ledger.made(3) == Some(State::Open) && ledger.made(4).is_none());
 }
 
-/// What a ledger returns of its search: the best time, the bound, how many splits are spent and how many nodes are open.
-fn readings(ledger: &Ledger) -> (u32, u32, u32, usize) {
-    (
-        ledger.best(),
-        ledger.bound(),
-        ledger.splits(),
-        ledger.open_nodes(),
-    )
+/// Checks how many splits of a search are spent, and how many nodes are open. Its best time is 22, and its bound 17.
+fn check_readings<R: Abort>(rt: &R, ledger: &Ledger, splits: u32, open: usize) {
+    assert!(rt; ledger.best() == 22 && ledger.bound() == 17);
+    assert!(rt; ledger.splits() == splits && ledger.open_nodes() == open);
+}
+
+/// Checks how many splits a worker is granted.
+pub fn check_grant<R: Abort>(rt: &R, ledger: &mut Ledger, w: u8, splits: u32)
+    requires { (1 ≤ w) × (w ≤ ledger.old.workers) }
+    ensures { ledger.new.workers ≡ ledger.old.workers }
+{
+    assert!(rt; ledger.grant(w) == Ok(splits));
 }
 
 /// Claims a node for a worker, and checks its prefix.
@@ -111,7 +113,7 @@ pub fn claim_node<R: Abort>(rt: &R, ledger: &mut Ledger, w: u8, prefix: &[u8]) -
 {
     let claimed = ledger.claim(w).expect(rt, "memory");
     let ticket = claimed.expect(rt, "an open node");
-    assert_eq!(rt; ticket.prefix(), prefix);
+    assert!(rt; ticket.prefix() == prefix, "{prefix:?}");
     ticket
 }
 
@@ -120,13 +122,13 @@ pub fn split_root<R: AllocGlobal + Abort>(rt: &R, ledger: &mut Ledger)
     requires { 2 ≤ ledger.old.workers }
     ensures { ledger.new.workers ≡ ledger.old.workers }
 {
-    assert_eq!(rt; readings(ledger), (22, 17, 0, 1));
-    assert_eq!(rt; ledger.grant(1), Ok(BUDGET));
+    check_readings(rt, ledger, 0, 1);
+    check_grant(rt, ledger, 1, BUDGET);
     let root = claim_node(rt, ledger, 1, &[]);
-    assert_eq!(rt; readings(ledger), (22, 17, 0, 0));
+    check_readings(rt, ledger, 0, 0);
     let piece = piece_of(rt, ledger.block(), &[], 22, 1);
     assert!(rt; ledger.graft(1, root, piece).is_ok());
-    assert_eq!(rt; readings(ledger), (22, 17, 1, 3));
+    check_readings(rt, ledger, 1, 3);
 }
 
 /// The others.
@@ -135,15 +137,15 @@ fn claim_child<R: Abort>(rt: &R, ledger: &mut Ledger)
     ensures { ledger.new.workers ≡ ledger.old.workers }
 {
     let timed = as_written(ledger.block(), &Profile::standard());
-    assert_eq!(rt; ledger.offer(2, timed), Ok(Offered::NotLower { least: 22 }));
-    assert_eq!(rt; ledger.grant(2), Ok(0));
+    assert!(rt; ledger.offer(2, timed) == Ok(Offered::NotLower { least: 22 }));
+    check_grant(rt, ledger, 2, 0);
     let child = claim_node(rt, ledger, 2, &[3]);
-    assert_eq!(rt; readings(ledger), (22, 17, 1, 2));
+    check_readings(rt, ledger, 1, 2);
     assert!(rt; ledger.back(2, child).is_ok());
-    assert_eq!(rt; readings(ledger), (22, 17, 1, 3));
+    check_readings(rt, ledger, 1, 3);
     claim_node(rt, ledger, 2, &[3]);
     assert!(rt; ledger.retire(1).is_ok());
-    assert_eq!(rt; ledger.grant(2), Ok(BUDGET - 1));
+    check_grant(rt, ledger, 2, BUDGET - 1);
 }
 
 /// Checks the search by calls.
@@ -155,10 +157,9 @@ fn check_calls<R: AllocGlobal + Abort>(rt: &R, block: &Block) {
 }
 
 #[test]
-fn follows_calls(rt: HostRuntime) -> Result<(), Fail> {
-    let source = read_source(rt.alloc(), MULTIPLIES.as_bytes())?;
-    check_calls(&rt, only_block(&source).expect(&rt, "one block"));
-    Ok(())
+fn follows_calls(rt: HostRuntime) {
+    let source = source_of(&rt, MULTIPLIES);
+    check_calls(&rt, block_of(&rt, &source));
 }
 
 /// Does what the event asks.
@@ -169,49 +170,79 @@ pub fn reply<R: Abort>(rt: &R, ledger: &mut Ledger, event: Event) -> Reply
     ledger.step(event).expect(rt, "memory")
 }
 
-/// Checks the same search by events, which name nodes by their numbers.
-fn check_replies<R: AllocGlobal + Abort>(rt: &R, ledger: &mut Ledger)
-    requires { 2 ≤ ledger.old.workers }
-    ensures { ledger.new.workers ≡ ledger.old.workers }
+/// The event at a place of the same search, in which nodes are named by their numbers.
+fn event_at<R: AllocGlobal + Abort>(rt: &R, block: &Block, place: usize) -> Event
+    ensures { (1 ≤ worker_of result) × (worker_of result ≤ 2) }
 {
-    let piece = piece_of(rt, ledger.block(), &[], 22, 1);
-    let timed = as_written(ledger.block(), &Profile::standard());
-    let replies = [
-        reply(rt, ledger, Event::Grant { w: 1 }),
-        reply(rt, ledger, Event::Claim { w: 1 }),
-        reply(
-            rt,
-            ledger,
-            Event::Graft {
-                w: 1,
-                node: 0,
-                piece,
-            },
-        ),
-        reply(rt, ledger, Event::Offer { w: 2, timed }),
-        reply(rt, ledger, Event::Grant { w: 2 }),
-        reply(rt, ledger, Event::Claim { w: 2 }),
-        reply(rt, ledger, Event::Back { w: 2, node: 3 }),
-        reply(rt, ledger, Event::Claim { w: 2 }),
-        reply(rt, ledger, Event::Retire { w: 1 }),
-        reply(rt, ledger, Event::Grant { w: 2 }),
-    ];
-    assert_eq!(rt; replies, REPLIES);
+    match place {
+        0 => Event::Grant { w: 1 },
+        1 => Event::Claim { w: 1 },
+        2 => Event::Graft {
+            w: 1,
+            node: 0,
+            piece: piece_of(rt, block, &[], 22, 1),
+        },
+        3 => Event::Offer {
+            w: 2,
+            timed: as_written(block, &Profile::standard()),
+        },
+        5 | 7 => Event::Claim { w: 2 },
+        6 => Event::Back { w: 2, node: 3 },
+        8 => Event::Retire { w: 1 },
+        _ => Event::Grant { w: 2 },
+    }
 }
 
-/// Checks the search by events, and one at a node that isn't out.
-fn check_events<R: AllocGlobal + Abort>(rt: &R, block: &Block) {
+/// A search that stops after `count` of these events; checks its replies.
+fn stopped<'a, R: AllocGlobal + Abort>(rt: &R, block: &'a Block<'a>, count: usize) -> Ledger<'a>
+    ensures { result.workers ≡ 2 }
+{
     let mut ledger = new_ledger(rt, block);
-    check_replies(rt, &mut ledger);
+    for place in 0..count.min(REPLIES.len()) {
+        let event = event_at(rt, block, place);
+        assert!(rt; reply(rt, &mut ledger, event) == REPLIES[place], "{place}");
+    }
+    ledger
+}
+
+/// The time, the bound and the splits of a search once it is finished.
+pub fn finished<R: AllocGlobal + Abort>(rt: &R, ledger: Ledger) -> (u32, u32, u32)
+    requires { 1 ≤ ledger.workers }
+{
+    let answer = ledger.finish(rt.alloc()).expect(rt, "memory");
+    (answer.time(), answer.bound(), answer.splits())
+}
+
+/// Finishes a search, and checks its time, its bound and its splits.
+pub fn check_finished<R: AllocGlobal + Abort>(rt: &R, ledger: Ledger, wanted: (u32, u32, u32))
+    requires { 1 ≤ ledger.workers }
+{
+    let (time, bound, splits) = finished(rt, ledger);
+    let is_wanted = time == wanted.0 && bound == wanted.1 && splits == wanted.2;
+    assert!(rt; is_wanted, "{time} {bound} {splits}");
+}
+
+/// Checks that it ends as ever, after however many events it stops.
+fn check_stops<R: AllocGlobal + Abort>(rt: &R, block: &Block) {
+    for count in 0..=REPLIES.len() {
+        let ledger = stopped(rt, &*block, count);
+        check_finished(rt, ledger, (22, 22, 10));
+    }
+}
+
+/// Checks the history of the search by events, with one more at a node that isn't out.
+fn check_events<R: AllocGlobal + Abort>(rt: &R, block: &Block) {
+    let mut ledger = stopped(rt, block, REPLIES.len());
     check_history(rt, &ledger);
     let not_out = reply(rt, &mut ledger, Event::Back { w: 1, node: 4 });
-    assert_eq!(rt; not_out, Reply::NotOut);
-    assert_eq!(rt; ledger.history().entries.len(), HISTORY.len() + 1);
+    assert!(rt; not_out == Reply::NotOut);
+    assert!(rt; ledger.history().entries.len() == HISTORY.len() + 1);
 }
 
 #[test]
-fn follows_events(rt: HostRuntime) -> Result<(), Fail> {
-    let source = read_source(rt.alloc(), MULTIPLIES.as_bytes())?;
-    check_events(&rt, only_block(&source).expect(&rt, "one block"));
-    Ok(())
+fn follows_events(rt: HostRuntime) {
+    let source = source_of(&rt, MULTIPLIES);
+    let block = block_of(&rt, &source);
+    check_events(&rt, block);
+    check_stops(&rt, block);
 }

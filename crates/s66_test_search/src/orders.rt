@@ -1,8 +1,7 @@
-use crate::blocks::{ONE_LOAD, only_block};
+use crate::blocks::ONE_LOAD;
+use crate::reading::{block_of, source_of};
 use s66_dep::{NotLegal, Order};
 use s66_line::Block;
-use s66_source::read_source;
-use std::test::Fail;
 
 /// Numbers, and the place that is returned if they are no legal order of one load.
 const PLACES: &[(&[u8], Option<usize>)] = &[
@@ -25,21 +24,18 @@ fn refused_place(block: &Block, numbers: &[u8]) -> Option<usize> {
 }
 
 #[test]
-fn takes_legal_orders(rt: HostRuntime) -> Result<(), Fail> {
-    let source = read_source(rt.alloc(), ONE_LOAD.as_bytes())?;
-    let block = only_block(&source).expect(&rt, "one block");
+fn takes_legal_orders(rt: HostRuntime) {
+    let source = source_of(&rt, ONE_LOAD);
+    let block = block_of(&rt, &source);
     for &(numbers, place) in PLACES {
-        assert_eq!(rt; refused_place(block, numbers), place);
+        assert!(rt; refused_place(block, numbers) == place, "{numbers:?}");
     }
-    Ok(())
 }
 
 #[test]
-fn shows_refusals(rt: HostRuntime) -> Result<(), Fail> {
-    let shown = format!(in rt.alloc(); "{}", NotLegal { at: 3 })?;
-    assert_eq!(rt;
-        shown.as_str(),
-        "no legal order: place 3 has no number, or one that is not ready there"
+fn shows_refusals(rt: HostRuntime) {
+    let shown = format!(in rt.alloc(); "{}", NotLegal { at: 3 }).expect(&rt, "memory");
+    assert!(rt;
+        shown.as_str() == "no legal order: place 3 has no number, or one that is not ready there"
     );
-    Ok(())
 }

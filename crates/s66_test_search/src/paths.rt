@@ -1,17 +1,16 @@
 ghost use Rattle.std.specs.Prelude.{◌≡◌, length};
 ghost use Rattle.s66_line.specs.Block.{instrs_of};
 
-use crate::blocks::{MULTIPLIES, ONE_LOAD, only_block};
-use crate::plain_paths::{plain_floor, plain_leaf, plain_tails};
+use crate::blocks::{MULTIPLIES, ONE_LOAD};
+use crate::plain_paths::{plain_bound, plain_tails};
+use crate::reading::{block_of, source_of};
 use crate::walk::{push_ready, undo_last};
 use s66_dep::Set;
 use s66_isa::{BLOCK_LIMIT, Profile};
 use s66_line::Block;
 use s66_paths::{Left, PathBounds, Tails};
-use s66_source::read_source;
 use s66_time::Clock;
 use std::process::Abort;
-use std::test::Fail;
 
 /// How many numbers are tried, most of them in vain.
 const TRIES: usize = 4000;
@@ -31,10 +30,9 @@ fn check_floors<R: Abort>(
     left: &Left,
     tails: &[Tails; BLOCK_LIMIT],
 ) {
-    let floor = plain_floor(clock, tails);
-    assert_eq!(rt; bounds.floor(clock), floor);
-    assert_eq!(rt; bounds.floor_by_ranks(clock, left), floor);
-    assert_eq!(rt; bounds.leaf(clock), plain_leaf(clock, tails));
+    let (floor, leaf) = plain_bound(clock, tails);
+    assert!(rt; bounds.floor(clock) == floor && bounds.floor_by_ranks(clock, left) == floor);
+    assert!(rt; bounds.leaf(clock) == leaf);
 }
 
 /// Takes out of what remains what is pushed now and wasn't before, and puts back what was and isn't.
@@ -100,32 +98,26 @@ fn tails_of_two_adds() -> [Tails; BLOCK_LIMIT] {
 /// Both end at 10, the total of the only order.
 fn check_two_adds<R: Abort>(rt: &R, block: &Block) {
     let profile = Profile::standard();
-    assert_eq!(rt; block.count(), 2);
+    assert!(rt; block.count() == 2);
     let bounds = PathBounds::new(block, &profile, &tails_of_two_adds());
     let mut clock = Clock::new(block, &profile);
-    assert_eq!(rt; bounds.floor(&clock), 10);
-    assert_eq!(rt; bounds.leaf(&clock), 1);
+    assert!(rt; bounds.floor(&clock) == 10 && bounds.leaf(&clock) == 1);
     assert!(rt; push_ready(&mut clock, 1));
-    assert_eq!(rt; bounds.floor(&clock), 10);
-    assert_eq!(rt; bounds.leaf(&clock), 2);
+    assert!(rt; bounds.floor(&clock) == 10 && bounds.leaf(&clock) == 2);
     assert!(rt; push_ready(&mut clock, 2));
-    assert_eq!(rt; bounds.floor(&clock), 0);
-    assert_eq!(rt; clock.total(), 10);
+    assert!(rt; bounds.floor(&clock) == 0 && clock.total() == 10);
 }
 
 #[test]
-fn two_adds(rt: HostRuntime) -> Result<(), Fail> {
-    let source = read_source(rt.alloc(), TWO_ADDS.as_bytes())?;
-    check_two_adds(&rt, only_block(&source).expect(&rt, "one block"));
-    Ok(())
+fn two_adds(rt: HostRuntime) {
+    let source = source_of(&rt, TWO_ADDS);
+    check_two_adds(&rt, block_of(&rt, &source));
 }
 
 #[test]
-fn as_the_plain_form(rt: HostRuntime) -> Result<(), Fail> {
+fn as_the_plain_form(rt: HostRuntime) {
     for text in [ONE_LOAD, MULTIPLIES, TWO_ADDS, MIXED] {
-        let source = read_source(rt.alloc(), text.as_bytes())?;
-        let block = only_block(&source).expect(&rt, "one block");
-        check_block(&rt, block, &Profile::standard());
+        let source = source_of(&rt, text);
+        check_block(&rt, block_of(&rt, &source), &Profile::standard());
     }
-    Ok(())
 }

@@ -1,11 +1,15 @@
 //! The plain form of timing: a push works out an instruction's times from all earlier points, by the three orders of conflict of
 //! Thornton's Design of a Computer. All times are in minor cycles.
 
-use s66_isa::{Instr, Kind, Memory, Profile, Reg, has_register, is_same_register, writes_of};
-use std::alloc::AllocError;
+use arrayvec::ArrayVec;
+use s66_isa::{
+    Instr, Kind, Memory, Profile, Reg, has_register, is_memory_conflict, is_same_register,
+    writes_of,
+};
+use std::process::Abort;
 
 /// A result of an instruction.
-#[derive(Drop)]
+#[derive(Default, Drop)]
 struct PlainResult {
     register: Reg,
     /// When it is done.
@@ -23,7 +27,7 @@ struct PlainPoint {
     parcel: u32,
     issue: u32,
     start: u32,
-    results: Vec<PlainResult>,
+    results: ArrayVec<PlainResult, 2>,
     /// When its unit is free.
     free: u32,
 }
@@ -36,11 +40,6 @@ pub struct PlainClock {
 }
 
 impl PlainPoint {
-    /// The first minor cycle after its issue in which another instruction can issue.
-    fn next(&self) -> u32 {
-        self.issue.saturating_add(self.instr.parcels())
-    }
-
     /// When its unit is free and its results are done.
     fn end(&self) -> u32 {
         let mut end = self.free;
@@ -50,47 +49,24 @@ impl PlainPoint {
         end
     }
 
-    /// Whether it holds a unit of the kind beyond a time.
-    fn holds_unit(&self, kind: Kind, time: u32) -> bool {
-        self.instr.kind() == kind && self.free > time
-    }
-
-    /// Whether all its results in these registers are done by a time.
-    fn is_done_by(&self, registers: &[Reg], time: u32) -> bool {
-        for result in &self.results {
-            if has_register(registers, result.register) && result.done > time {
-                return false;
-            }
+    /// How long it holds a unit of the kind beyond a time.
+    fn holds(&self, kind: Kind, time: u32) -> u32 {
+        if self.instr.kind() == kind {
+            self.free.saturating_sub(time)
+        } else {
+            0
         }
-        true
     }
 
-    /// When its result in a register is done, if it has one.
-    fn done_at(&self, register: Reg) -> Option<u32> {
+    /// When its result in a register is done; 0 if it has none.
+    fn done_at(&self, register: Reg) -> u32 {
         for result in &self.results {
             if is_same_register(result.register, register) {
-                return Some(result.done);
+                return result.done;
             }
         }
-        None
+        0
     }
-}
-
-/// Where an instruction of one or two parcels begins, from an empty parcel on: two parcels are in one word of four.
-fn begins_at(empty: u32, parcels: u32) -> u32 {
-    if parcels == 2 && empty % 4 == 3 {
-        empty.saturating_add(1)
-    } else {
-        empty
-    }
-}
-
-/// Whether two references to memory keep their order: one of them stores.
-fn keeps_memory_order(a: Memory, b: Memory) -> bool {
-    matches!(
-        (a, b),
-        (Memory::Load | Memory::Store, Memory::Store) | (Memory::Store, Memory::Load)
-    )
 }
 
 /// When a unit is free that starts then: one minor cycle after the last result that it holds, or after its work if nothing is
@@ -117,45 +93,40 @@ impl PlainClock {
         }
     }
 
-    /// The parcel in which an instruction begins that comes next.
-    fn parcel(&self, instr: &Instr) -> u32 {
-        let empty = match self.points.last() {
-            Some(point) => point.parcel.saturating_add(point.instr.parcels()),
-            None => 0,
+    /// The parcel in which an instruction begins that comes next, and when it can issue, but for conflicts: a minor cycle for each
+    /// parcel. Two parcels are in one word of four.
+    fn slot(&self, instr: &Instr) -> (u32, u32) {
+        let Some(last) = self.points.last() else {
+            return (0, 0);
         };
-        begins_at(empty, instr.parcels())
+        let parcels = last.instr.parcels();
+        let is_split = instr.parcels() == 2 && last.parcel.saturating_add(parcels) % 4 == 3;
+        let gap = parcels.saturating_add(is_split as u32);
+        (
+            last.parcel.saturating_add(gap),
+            last.issue.saturating_add(gap),
+        )
     }
 
-    /// When an instruction that begins in this parcel can issue, but for conflicts: a minor cycle for each parcel.
-    fn slot(&self, parcel: u32) -> u32 {
-        match self.points.last() {
-            Some(point) => point
-                .issue
-                .saturating_add(parcel.saturating_sub(point.parcel)),
-            None => 0,
+    /// First order: a unit is free, and no register that it writes is still to be written.
+    fn can_issue(&self, instr: &Instr, time: u32) -> bool {
+        for register in instr.results().as_slice() {
+            if self.done_of(*register) > time {
+                return false;
+            }
         }
+        self.busy_units(instr.kind(), time) < self.profile.copies(instr.kind())
     }
 
     /// How many units of a kind are busy beyond a time.
     fn busy_units(&self, kind: Kind, time: u32) -> u32 {
         let mut units = 0u32;
         for point in &self.points {
-            if point.holds_unit(kind, time) {
+            if point.holds(kind, time) > 0 {
                 units = units.saturating_add(1);
             }
         }
         units
-    }
-
-    /// First order: a unit is free, and no register that it writes is still to be written.
-    fn can_issue(&self, instr: &Instr, time: u32) -> bool {
-        let results = instr.results();
-        for point in &self.points {
-            if !point.is_done_by(results.as_slice(), time) {
-                return false;
-            }
-        }
-        self.busy_units(instr.kind(), time) < self.profile.copies(instr.kind())
     }
 
     /// The first minor cycle from the slot on in which an instruction can issue: `total` later, everything is free and done.
@@ -170,22 +141,11 @@ impl PlainClock {
         slot.saturating_add(total)
     }
 
-    /// When the latest writer of a register is done.
-    fn last_done(&self, register: Reg) -> u32 {
-        let mut last = 0;
-        for point in &self.points {
-            if let Some(done) = point.done_at(register) {
-                last = done;
-            }
-        }
-        last
-    }
-
     /// From when on a reference to memory may start.
     fn memory_wait(&self, memory: Memory) -> u32 {
         let mut wait = 0u32;
         for point in &self.points {
-            if keeps_memory_order(point.instr.memory(), memory) {
+            if is_memory_conflict(point.instr.memory(), memory) {
                 wait = wait.max(point.start.saturating_add(1));
             }
         }
@@ -196,7 +156,7 @@ impl PlainClock {
     fn start(&self, instr: &Instr, issue: u32) -> u32 {
         let mut start = issue.max(self.memory_wait(instr.memory()));
         for register in instr.reads().as_slice() {
-            start = start.max(self.last_done(*register));
+            start = start.max(self.done_of(*register));
         }
         start
     }
@@ -213,37 +173,30 @@ impl PlainClock {
     }
 
     /// Third order: a result is held until all earlier readers of its register have started.
-    fn results<R: AllocGlobal>(
-        &self,
-        rt: &R,
-        instr: &Instr,
-        start: u32,
-    ) -> Result<Vec<PlainResult>, AllocError> {
-        let mut results = Vec::new(rt.alloc());
+    fn results(&self, instr: &Instr, start: u32) -> ArrayVec<PlainResult, 2> {
+        let mut results = ArrayVec::new();
         for write in writes_of(instr, &self.profile).as_slice() {
             let done = start.saturating_add(write.latency);
-            results.push(PlainResult {
-                register: write.reg,
-                done: done.max(self.readers_wait(write.reg)),
-                is_held: write.held,
-            })?;
+            // always, since an instruction has two results at most
+            if !results.is_full() {
+                results.push(PlainResult {
+                    register: write.reg,
+                    done: done.max(self.readers_wait(write.reg)),
+                    is_held: write.held,
+                });
+            }
         }
-        Ok(results)
+        results
     }
 
     /// Pushes an instruction, under its number.
-    pub fn push<R: AllocGlobal>(
-        &mut self,
-        rt: &R,
-        number: u8,
-        instr: Instr,
-    ) -> Result<(), AllocError> {
-        let parcel = self.parcel(&instr);
-        let issue = self.issue(&instr, self.slot(parcel));
+    pub fn push<R: Abort>(&mut self, rt: &R, number: u8, instr: Instr) {
+        let (parcel, slot) = self.slot(&instr);
+        let issue = self.issue(&instr, slot);
         let start = self.start(&instr, issue);
-        let results = self.results(rt, &instr, start)?;
+        let results = self.results(&instr, start);
         let free = free_after(start, instr.hold(&self.profile), results.as_slice());
-        self.points.push(PlainPoint {
+        let point = PlainPoint {
             number,
             instr,
             parcel,
@@ -251,8 +204,8 @@ impl PlainClock {
             start,
             results,
             free,
-        })?;
-        Ok(())
+        };
+        assert!(rt; self.points.push(point).is_ok());
     }
 
     /// Takes back the last push, and gives its number if there was one.
@@ -274,7 +227,7 @@ impl PlainClock {
     /// The first minor cycle after the last issue in which an instruction can issue.
     pub fn next(&self) -> u32 {
         match self.points.last() {
-            Some(point) => point.next(),
+            Some(point) => point.issue.saturating_add(point.instr.parcels()),
             None => 0,
         }
     }
@@ -292,7 +245,7 @@ impl PlainClock {
     pub fn done_of(&self, register: Reg) -> u32 {
         let mut last = 0u32;
         for point in &self.points {
-            last = last.max(point.done_at(register).unwrap_or(0));
+            last = last.max(point.done_at(register));
         }
         last
     }
@@ -302,9 +255,7 @@ impl PlainClock {
         let next = self.next();
         let mut sum = 0u32;
         for point in &self.points {
-            if point.holds_unit(kind, next) {
-                sum = sum.saturating_add(point.free.saturating_sub(next));
-            }
+            sum = sum.saturating_add(point.holds(kind, next));
         }
         sum
     }

@@ -134,7 +134,7 @@ pub fn plain_tails(block: &Block<'_>, profile: &Profile) -> [Tails; BLOCK_LIMIT]
 }
 
 /// The greatest word of the clock that an instruction waits for, as if it came next, with what follows.
-pub fn plain_value(clock: &Clock<'_>, row: &Row, tails: &Tails) -> u32 {
+fn plain_value(clock: &Clock<'_>, row: &Row, tails: &Tails) -> u32 {
     let mut issue = clock.slot(row.parcels).max(clock.soonest_free(row.kind));
     let mut results = 0u32;
     let mut after = tails.first;
@@ -151,35 +151,22 @@ pub fn plain_value(clock: &Clock<'_>, row: &Row, tails: &Tails) -> u32 {
     issue.max(start.saturating_add(tails.start)).max(results)
 }
 
-/// The greatest of these values of what remains; 0 if nothing does.
-pub fn plain_floor(clock: &Clock<'_>, tails: &[Tails; BLOCK_LIMIT]) -> u32 {
+/// The greatest of these values of what remains, and the least number that has it; 0 if nothing remains.
+pub fn plain_bound(clock: &Clock<'_>, tails: &[Tails; BLOCK_LIMIT]) -> (u32, u8) {
     let block = clock.block();
     prove!(block.count() <= BLOCK_LIMIT);
     let pushed = clock.pushed();
-    let mut most = 0u32;
-    for place in 0..block.count() {
-        if !pushed.has((place + 1) as u8) {
-            let row = Row::of(&block.instr(place + 1), clock.profile());
-            let own = tails[place];
-            most = most.max(plain_value(clock, &row, &own));
-        }
-    }
-    most
-}
-
-/// The least number that remains with this value; 0 if nothing remains.
-pub fn plain_leaf(clock: &Clock<'_>, tails: &[Tails; BLOCK_LIMIT]) -> u8 {
-    let block = clock.block();
-    prove!(block.count() <= BLOCK_LIMIT);
-    let floor = plain_floor(clock, tails);
-    let pushed = clock.pushed();
+    let (mut most, mut leaf) = (0u32, 0u8);
     for place in 0..block.count() {
         let n = (place + 1) as u8;
-        let row = Row::of(&block.instr(place + 1), clock.profile());
-        let own = tails[place];
-        if !pushed.has(n) && plain_value(clock, &row, &own) == floor {
-            return n;
+        if !pushed.has(n) {
+            let row = Row::of(&block.instr(place + 1), clock.profile());
+            let own = tails[place];
+            let value = plain_value(clock, &row, &own);
+            if leaf == 0 || most < value {
+                (most, leaf) = (value, n);
+            }
         }
     }
-    0
+    (most, leaf)
 }

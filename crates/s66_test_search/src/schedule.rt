@@ -1,10 +1,9 @@
-use crate::blocks::{MULTIPLIES, ONE_LOAD, only_block};
+use crate::blocks::{MULTIPLIES, ONE_LOAD};
+use crate::reading::{block_of, source_of};
 use s66_isa::Profile;
 use s66_line::Block;
 use s66_node::{Priority, Walk, schedule_rest};
-use s66_source::read_source;
 use std::process::Abort;
-use std::test::Fail;
 
 /// A block's code, what comes first, and the order that is scheduled with its total. What issues first, the Boolean after the load,
 /// waits for X1: by start it comes last. Of equal starts the longest tail comes first, as `BX3`'s, and of equal tails the lowest
@@ -40,17 +39,15 @@ fn check_schedule<R: Abort>(rt: &R, block: &Block, priority: Priority, numbers: 
         walk.go_to(&[]);
         schedule_rest(&mut walk, priority);
         let timed = walk.timed();
-        assert_eq!(rt; timed.order().numbers(), numbers);
-        assert_eq!(rt; timed.total(), total, "{numbers:?}");
+        let seen = (timed.order().numbers(), timed.total());
+        assert!(rt; seen == (numbers, total), "{seen:?}");
     }
 }
 
 #[test]
-fn list_schedules(rt: HostRuntime) -> Result<(), Fail> {
+fn list_schedules(rt: HostRuntime) {
     for &(code, priority, numbers, total) in SCHEDULES {
-        let source = read_source(rt.alloc(), code.as_bytes())?;
-        let block = only_block(&source).expect(&rt, "one block");
-        check_schedule(&rt, block, priority, numbers, total);
+        let source = source_of(&rt, code);
+        check_schedule(&rt, block_of(&rt, &source), priority, numbers, total);
     }
-    Ok(())
 }

@@ -1,5 +1,4 @@
 use crate::reading::check_reading;
-use std::test::Fail;
 
 /// Sources by name, and what each is read as.
 const SOURCES: &[(&str, &str, &str)] = &[
@@ -185,19 +184,13 @@ const LONG_SOURCES: &[(&str, &str, &str, usize, &str, &str)] = &[
 ];
 
 #[test]
-fn reads_sources(rt: HostRuntime) -> Result<(), Fail> {
+fn reads_sources(rt: HostRuntime) {
     for &(name, source, wanted) in SOURCES {
-        check_reading(&rt, name, source, wanted)?;
+        check_reading(&rt, name, source, wanted);
     }
-    Ok(())
-}
-
-#[test]
-fn reads_long_sources(rt: HostRuntime) -> Result<(), Fail> {
     for &(name, head, piece, times, tail, wanted) in LONG_SOURCES {
-        let pieces = piece.repeat(rt.alloc(), times)?;
-        let source = format!(in rt.alloc(); "{head}{pieces}{tail}")?;
-        check_reading(&rt, name, source.as_str(), wanted)?;
+        let pieces = piece.repeat(rt.alloc(), times).expect(&rt, "memory");
+        let source = format!(in rt.alloc(); "{head}{pieces}{tail}").expect(&rt, "memory");
+        check_reading(&rt, name, source.as_str(), wanted);
     }
-    Ok(())
 }

@@ -3,37 +3,22 @@ ghost use Rattle.std.specs.Prelude.{◌≡◌, ◌≤◌};
 ghost use Rattle.s66_isa.specs.Table.{standard};
 ghost use Rattle.s66_line.specs.Block.{instrs_of};
 
-use crate::blocks::{THREE_ALIKE, only_block};
-use crate::ledger::reply;
+use crate::blocks::THREE_ALIKE;
+use crate::ledger::{check_finished, check_grant, finished, reply};
+use crate::reading::{block_of, source_of};
 use s66_dep::is_beginning;
 use s66_isa::Profile;
-use s66_ledger::{Answer, Event, Ledger, Reply, Ticket};
+use s66_ledger::{Event, Ledger, Reply, Ticket};
 use s66_line::Block;
 use s66_model::Rule;
 use s66_node::{Constant, Marks, Piece, Walk};
-use s66_source::read_source;
 use std::process::Abort;
-use std::test::Fail;
 
 /// More splits than the whole tree of three alike has.
 const BUDGET: u32 = 40;
 
 /// The time of each order of three alike.
 const TIME: u32 = 8;
-
-/// The most marks that a table keeps, and how many splits a piece over all orders of three alike then has. The empty prefix, 1, 1 2,
-/// 1 3, 2, 2 3 and 3 are split in any case, and their marks kept in this order. 2 1 is split too if the mark of 1 2 isn't kept, 3 1 if
-/// that of 1 3 isn't, and 3 2 if that of 2 3 isn't.
-const LIMITS: [(usize, u32); 8] = [
-    (0, 10),
-    (1, 10),
-    (2, 10),
-    (3, 9),
-    (4, 8),
-    (5, 8),
-    (6, 7),
-    (usize::MAX, 7),
-];
 
 /// A ledger of one worker, which is granted its budget.
 fn open_ledger<'a, R: AllocGlobal + Abort>(rt: &R, block: &'a Block<'a>) -> Ledger<'a>
@@ -44,7 +29,7 @@ fn open_ledger<'a, R: AllocGlobal + Abort>(rt: &R, block: &'a Block<'a>) -> Ledg
     let mut ledger = Ledger::by_rule(rt.alloc(), block, &profile, rule, BUDGET, 1).expect(
         rt, "memory",
     );
-    assert_eq!(rt; ledger.grant(1), Ok(BUDGET));
+    check_grant(rt, &mut ledger, 1, BUDGET);
     ledger
 }
 
@@ -61,52 +46,14 @@ fn piece_of<R: AllocGlobal + Abort>(
 {
     let prefix = ticket.prefix();
     assert!(rt; is_beginning(block, prefix));
-    let mut best = Constant(TIME);
+    let (mut best, rule) = (Constant(TIME), Rule::ClampedStanding);
     Walk::new(block, &Profile::standard())
-        .expand_dominated(
-            rt.alloc(),
-            prefix,
-            &mut best,
-            allowance,
-            marks,
-            Rule::ClampedStanding,
-        )
+        .expand_dominated(rt.alloc(), prefix, &mut best, allowance, marks, rule)
         .expect(rt, "memory")
 }
 
-/// Finishes a search of three alike, and checks its time and its bound.
-fn finish<R: AllocGlobal + Abort>(rt: &R, ledger: Ledger) -> Answer
-    requires { 1 ≤ ledger.workers }
-{
-    let answer = ledger.finish(rt.alloc()).expect(rt, "memory");
-    assert_eq!(rt; (answer.time(), answer.bound()), (TIME, TIME));
-    answer
-}
-
-/// Grafts one piece over all orders, by a table of this limit.
-fn check_limit<R: AllocGlobal + Abort>(rt: &R, block: &Block, limit: usize, splits: u32) {
-    let mut ledger = open_ledger(rt, &*block);
-    let claimed = ledger.claim(1).expect(rt, "memory");
-    let root = claimed.expect(rt, "an open node");
-    let mut marks = Marks::with_limit(rt.alloc(), block, &Profile::standard(), limit);
-    let piece = piece_of(rt, block, &root, &mut marks, BUDGET);
-    assert_eq!(rt; piece.splits(), splits, "{limit}");
-    assert!(rt; ledger.graft(1, root, piece).is_ok());
-    assert_eq!(rt; finish(rt, ledger).splits(), splits, "{limit}");
-}
-
-#[test]
-fn full_tables_find_less(rt: HostRuntime) -> Result<(), Fail> {
-    let source = read_source(rt.alloc(), THREE_ALIKE.as_bytes())?;
-    let block = only_block(&source).expect(&rt, "one block");
-    for (limit, splits) in LIMITS {
-        check_limit(&rt, block, limit, splits);
-    }
-    Ok(())
-}
-
 /// What a worker does with its table after each of its pieces.
-#[derive(Clone, Copy, Debug)]
+#[derive(Clone, Copy)]
 enum Habit {
     /// It says which nodes the lines have become.
     Settles,
@@ -115,14 +62,6 @@ enum Habit {
     /// It says which, and empties the table.
     Empties,
 }
-
-/// How many splits three alike then take if each piece has one. Beginnings of the same numbers have different parents, so that they
-/// are made by different pieces: one is left out only if the other is known, and is the node that the table says.
-const HABITS: [(Habit, u32); 3] = [
-    (Habit::Settles, 7),
-    (Habit::Mistakes, 10),
-    (Habit::Empties, 10),
-];
 
 /// Does to a table what its worker does after a piece whose root is this node, and whose other nodes are those from `first` on.
 fn end_piece(marks: &mut Marks, habit: Habit, root: u32, first: u32)
@@ -138,13 +77,14 @@ fn end_piece(marks: &mut Marks, habit: Habit, root: u32, first: u32)
     }
 }
 
-/// A worker of this habit hands in a piece of one split, if a node is open.
+/// A worker of this habit hands in a piece of so many splits at most, if a node is open.
 fn hand_in<R: AllocGlobal + Abort>(
     rt: &R,
     ledger: &mut Ledger,
     marks: &mut Marks,
     block: &Block,
     habit: Habit,
+    allowance: u32,
 )
     requires workers { 1 ≤ ledger.old.workers }
     requires marks { marks.old.problem ≡ record { block = instrs_of block.now; profile = standard } }
@@ -155,51 +95,94 @@ fn hand_in<R: AllocGlobal + Abort>(
     let Some(ticket) = claimed else {
         return;
     };
-    let piece = piece_of(rt, block, &ticket, marks, 1);
+    let piece = piece_of(rt, block, &ticket, marks, allowance);
     let node = ticket.node();
     let first = ledger.node_count();
     let taken = reply(rt, ledger, Event::Graft { w: 1, node, piece });
-    assert_eq!(rt; taken, Reply::Taken);
+    assert!(rt; taken == Reply::Taken);
     end_piece(marks, habit, node, first);
 }
 
-/// A search in which a worker of this habit hands in so many pieces, or all that there are.
+/// A search in which a worker of this habit, whose table keeps so many marks at most, hands in so many pieces, or all that there are.
 fn search_by<'a, R: AllocGlobal + Abort>(
     rt: &R,
     block: &'a Block<'a>,
     habit: Habit,
+    limit: usize,
+    allowance: u32,
     pieces: u32,
 ) -> Ledger<'a>
     ensures { result.workers ≡ 1 }
 {
     let mut ledger = open_ledger(rt, block);
-    let mut marks = Marks::new(rt.alloc(), block, &Profile::standard());
+    let mut marks = Marks::with_limit(rt.alloc(), block, &Profile::standard(), limit);
     for _ in 0..pieces {
-        hand_in(rt, &mut ledger, &mut marks, block, habit);
+        hand_in(rt, &mut ledger, &mut marks, block, habit, allowance);
     }
     ledger
 }
 
-/// A worker of this habit stops after each of its pieces, or when no node is open.
-fn check_habit<R: AllocGlobal + Abort>(rt: &R, block: &Block, habit: Habit, splits: u32) {
-    for pieces in 0..splits {
-        finish(rt, search_by(rt, &*block, habit, pieces));
-    }
-    let ledger = search_by(rt, &*block, habit, splits);
-    assert_eq!(rt;
-        (ledger.open_nodes(), ledger.splits()),
-        (0, splits),
-        "{habit:?}"
-    );
-    assert_eq!(rt; finish(rt, ledger).splits(), splits, "{habit:?}");
+/// Finishes a search of three alike, of which nothing is left to be done, and checks its splits, its time and its bound.
+fn check_done<R: AllocGlobal + Abort>(rt: &R, ledger: Ledger, splits: u32)
+    requires { 1 ≤ ledger.workers }
+{
+    assert!(rt; ledger.open_nodes() == 0 && ledger.splits() == splits);
+    check_finished(rt, ledger, (TIME, TIME, splits));
+}
+
+/// The most marks that a table keeps, and how many splits a piece over all orders of three alike then has. The empty prefix, 1, 1 2,
+/// 1 3, 2, 2 3 and 3 are split in any case, and their marks kept in this order. 2 1 is split too if the mark of 1 2 isn't kept, 3 1 if
+/// that of 1 3 isn't, and 3 2 if that of 2 3 isn't.
+const LIMITS: [(usize, u32); 8] = [
+    (0, 10),
+    (1, 10),
+    (2, 10),
+    (3, 9),
+    (4, 8),
+    (5, 8),
+    (6, 7),
+    (usize::MAX, 7),
+];
+
+/// Checks how many splits one piece over all orders has, by a table of this limit.
+fn check_limit<R: AllocGlobal + Abort>(rt: &R, block: &Block, limit: usize, splits: u32) {
+    let ledger = search_by(rt, block, Habit::Settles, limit, BUDGET, 1);
+    check_done(rt, ledger, splits);
 }
 
 #[test]
-fn tables_are_right_wrong_or_empty(rt: HostRuntime) -> Result<(), Fail> {
-    let source = read_source(rt.alloc(), THREE_ALIKE.as_bytes())?;
-    let block = only_block(&source).expect(&rt, "one block");
+fn full_tables_find_less(rt: HostRuntime) {
+    let source = source_of(&rt, THREE_ALIKE);
+    let block = block_of(&rt, &source);
+    for (limit, splits) in LIMITS {
+        check_limit(&rt, block, limit, splits);
+    }
+}
+
+/// How many splits three alike then take if each piece has one. Beginnings of the same numbers have different parents, so that they
+/// are made by different pieces: one is left out only if the other is known, and is the node that the table says.
+const HABITS: [(Habit, u32); 3] = [
+    (Habit::Settles, 7),
+    (Habit::Mistakes, 10),
+    (Habit::Empties, 10),
+];
+
+/// A worker of this habit stops after each of its pieces, or when no node is open.
+fn check_habit<R: AllocGlobal + Abort>(rt: &R, block: &Block, habit: Habit, splits: u32) {
+    for pieces in 0..splits {
+        let ledger = search_by(rt, &*block, habit, usize::MAX, 1, pieces);
+        let (time, bound, _) = finished(rt, ledger);
+        assert!(rt; time == TIME && bound == TIME, "{pieces}");
+    }
+    let ledger = search_by(rt, &*block, habit, usize::MAX, 1, splits);
+    check_done(rt, ledger, splits);
+}
+
+#[test]
+fn tables_are_right_wrong_or_empty(rt: HostRuntime) {
+    let source = source_of(&rt, THREE_ALIKE);
+    let block = block_of(&rt, &source);
     for (habit, splits) in HABITS {
         check_habit(&rt, block, habit, splits);
     }
-    Ok(())
 }

@@ -17,7 +17,7 @@ pub struct Walk<'a> {
     /// The number by which it goes on if that is ready.
     tried: u8,
     /// The totals of the whole orders that it came to.
-    totals: Vec<u32>,
+    pub totals: Vec<u32>,
 }
 
 /// Pushes a number if it is ready, and returns whether it was.
@@ -53,11 +53,6 @@ impl<'a> Walk<'a> {
         }
     }
 
-    /// The totals of the whole orders that it came to.
-    pub fn totals(&self) -> &[u32] {
-        self.totals.as_slice()
-    }
-
     /// Goes on, or tries the next number, or goes back; false once all orders are walked through.
     pub fn step<R: AllocGlobal + Abort>(&mut self, rt: &R) -> bool {
         if self.enter(rt) {
@@ -81,7 +76,7 @@ impl<'a> Walk<'a> {
         let block = self.clock.block();
         assert!(rt; 1 <= n && n as usize <= block.count());
         let instr = block.instr(n as usize);
-        self.plain.push(rt, n, instr).expect(rt, "memory");
+        self.plain.push(rt, n, instr);
         self.check_readings(rt);
         if self.clock.pushed().count() as usize == block.count() {
             self.totals.push(self.clock.total()).expect(rt, "memory");
@@ -92,27 +87,30 @@ impl<'a> Walk<'a> {
     /// Goes back by the last number, and gives it if there is one.
     fn leave<R: Abort>(&mut self, rt: &R) -> Option<u8> {
         let last = self.plain.undo();
-        assert_eq!(rt; undo_last(&mut self.clock), last.is_some());
+        assert!(rt; undo_last(&mut self.clock) == last.is_some());
         self.check_readings(rt);
         last
     }
 
     /// Checks that the clock returns what the plain form returns.
     fn check_readings<R: Abort>(&self, rt: &R) {
-        assert_eq!(rt; self.clock.next(), self.plain.next());
-        assert_eq!(rt; self.clock.total(), self.plain.total());
+        let (clock, plain) = (&self.clock, &self.plain);
+        assert!(rt; clock.next() == plain.next() && clock.total() == plain.total());
+        let pushed = clock.pushed();
         for n in 0..=u8::MAX {
-            assert_eq!(rt; self.clock.pushed().has(n), self.plain.has(n), "{n}");
+            assert!(rt; pushed.has(n) == plain.has(n), "{n}");
         }
         for bank in [Bank::A, Bank::B, Bank::X] {
             for digit in 0..8u8 {
                 let register = Reg::new(bank, digit);
-                let done = self.plain.done_of(register);
-                assert_eq!(rt; self.clock.done_of(register), done, "{digit}");
+                assert!(rt;
+                    clock.done_of(register) == plain.done_of(register),
+                    "{digit}"
+                );
             }
         }
         for kind in KINDS {
-            assert_eq!(rt; self.clock.busy(kind), self.plain.busy(kind));
+            assert!(rt; clock.busy(kind) == plain.busy(kind));
         }
     }
 }
