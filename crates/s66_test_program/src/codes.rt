@@ -1,5 +1,4 @@
 use crate::running::{CHART, DEPS, TIME, TRACE, check, check_sum};
-use std::test::Fail;
 
 /// Each octal code of the table once, and each letter.
 const EACH_CODE: &str = "  BX1 X2
@@ -117,8 +116,8 @@ const DEPENDENCES: &str = "BLOCK 1 LINE 1 COUNT 55 DEPENDENCES 442
 
 /// In upper case, and then in lower case.
 #[test]
-fn reads_each_code(rt: HostRuntime) -> Result<(), Fail> {
-    let mut source = EACH_CODE.repeat(rt.alloc(), 1)?;
+fn reads_each_code(rt: HostRuntime) {
+    let mut source = EACH_CODE.repeat(rt.alloc(), 1).expect(&rt, "memory");
     for _ in 0..2 {
         let code = source.as_bytes();
         check(&rt, "times", TIME, code, 0, TIMES);
@@ -127,5 +126,4 @@ fn reads_each_code(rt: HostRuntime) -> Result<(), Fail> {
         check_sum(&rt, "chart", CHART, code, 14_234, 1_165_364_430);
         source.make_ascii_lowercase();
     }
-    Ok(())
 }

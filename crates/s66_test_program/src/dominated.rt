@@ -10,7 +10,6 @@ use s66_program::{Command, Status};
 use s66_test_search::THREE_ALIKE;
 use std::process::Abort;
 use std::sync::Wait;
-use std::test::Fail;
 use std::thread::Threads;
 
 /// What of a document with one dominated leaf is altered, and the verdict, in both versions.
@@ -36,13 +35,13 @@ const ALTERED_LEAVES: &[(&str, &str, &str)] = &[
 ];
 
 #[test]
-fn checks_dominated_leaves(rt: HostRuntime) -> Result<(), Fail> {
+fn checks_dominated_leaves(rt: HostRuntime) {
     let yes = "DOCUMENT 1 YES TIME 33 BOUND 33\n";
     check_output(&rt, Command::Check, ONE_DOMINATED, Status::Done, yes);
-    check_denied(&rt, ONE_DOMINATED, ALTERED_LEAVES)?;
-    let third = altered(&rt, ONE_DOMINATED, "CERTIFICATE 2", "CERTIFICATE 3")?;
+    check_denied(&rt, ONE_DOMINATED, ALTERED_LEAVES);
+    let third = altered(&rt, ONE_DOMINATED, "CERTIFICATE 2", "CERTIFICATE 3");
     check_output(&rt, Command::Check, third.as_str(), Status::Done, yes);
-    check_denied(&rt, third.as_str(), ALTERED_LEAVES)
+    check_denied(&rt, third.as_str(), ALTERED_LEAVES);
 }
 
 /// What of three that don't differ is altered, and the verdict.
@@ -59,14 +58,14 @@ const ALTERED_NAMES: &[(&str, &str, &str)] = &[
 
 /// A leaf may name a node after it in version 3 alone.
 #[test]
-fn checks_which_nodes_are_named(rt: HostRuntime) -> Result<(), Fail> {
+fn checks_which_nodes_are_named(rt: HostRuntime) {
     let yes = "DOCUMENT 1 YES TIME 8 BOUND 8\n";
     check_output(&rt, Command::Check, THREE_DOMINATED, Status::Done, yes);
-    check_denied(&rt, THREE_DOMINATED, ALTERED_NAMES)?;
-    let second = altered(&rt, THREE_DOMINATED, "CERTIFICATE 3", "CERTIFICATE 2")?;
+    check_denied(&rt, THREE_DOMINATED, ALTERED_NAMES);
+    let second = altered(&rt, THREE_DOMINATED, "CERTIFICATE 3", "CERTIFICATE 2");
     check_output(&rt, Command::Check, second.as_str(), Status::Done, yes);
-    let split = altered(&rt, THREE_DOMINATED, "D 1 2\n", "S 3\nT\n")?;
-    let later = altered(&rt, split.as_str(), "S 3\nT\n", "D 2 1\n")?;
+    let split = altered(&rt, THREE_DOMINATED, "D 1 2\n", "S 3\nT\n");
+    let later = altered(&rt, split.as_str(), "S 3\nT\n", "D 2 1\n");
     check_output(&rt, Command::Check, later.as_str(), Status::Done, yes);
     check_denied(
         &rt,
@@ -76,19 +75,18 @@ fn checks_which_nodes_are_named(rt: HostRuntime) -> Result<(), Fail> {
             "CERTIFICATE 2",
             "DOCUMENT 1 NO LINE 12 REASON 9\n",
         )],
-    )
+    );
 }
 
 /// Dominated leaves are in versions 2 and 3 alone, and each of these has one.
 #[test]
-fn refuses_other_versions(rt: HostRuntime) -> Result<(), Fail> {
-    let first = altered(&rt, ONE_DOMINATED, "CERTIFICATE 2", "CERTIFICATE 1")?;
+fn refuses_other_versions(rt: HostRuntime) {
+    let first = altered(&rt, ONE_DOMINATED, "CERTIFICATE 2", "CERTIFICATE 1");
     check_refused(&rt, first.as_str(), CertError::BadLine { line: 18 });
     for version in ["CERTIFICATE 2", "CERTIFICATE 3"] {
-        let none = altered(&rt, THREE_MULTIPLIES, "CERTIFICATE 1", version)?;
+        let none = altered(&rt, THREE_MULTIPLIES, "CERTIFICATE 1", version);
         check_refused(&rt, none.as_str(), CertError::BadLine { line: 26 });
     }
-    Ok(())
 }
 
 /// What `order` prints of three that don't differ if it leaves out what is dominated: without that it takes 10 splits.
@@ -111,8 +109,8 @@ fn check_left_out<R: AllocGlobal + Abort + Threads + Wait + Sync>(
 }
 
 #[test]
-fn leaves_out_what_is_dominated(rt: HostRuntime) -> Result<(), Fail> {
-    let second = altered(&rt, THREE_DOMINATED, "CERTIFICATE 3", "CERTIFICATE 2")?;
+fn leaves_out_what_is_dominated(rt: HostRuntime) {
+    let second = altered(&rt, THREE_DOMINATED, "CERTIFICATE 3", "CERTIFICATE 2");
     check_left_out(&rt, 1, Rule::WrittenEarlier, second.as_str());
     check_left_out(&rt, 16, Rule::WrittenEarlier, second.as_str());
     // 2 3 and 3 2 dominate one another; where any node may be named, the later one is split
@@ -121,8 +119,7 @@ fn leaves_out_what_is_dominated(rt: HostRuntime) -> Result<(), Fail> {
         THREE_DOMINATED,
         "S 1\nT\nS 1 2\nD 1 3\nD 2 3\n",
         "D 3 2\nS 1 2\nD 1 3\nS 1\nT\n",
-    )?;
+    );
     check_left_out(&rt, 1, Rule::ClampedStanding, standing.as_str());
     check_left_out(&rt, 16, Rule::ClampedStanding, standing.as_str());
-    Ok(())
 }

@@ -1,20 +1,13 @@
 use s66_cert::CertError;
 use s66_program::Fault;
 use s66_source::SourceError;
-use std::alloc::AllocError;
 use std::fmt::Display;
 use std::process::Abort;
-use std::test::Fail;
 
 /// Checks the text that a value shows.
-fn check_shown<R: AllocGlobal + Abort, T: Display>(
-    rt: &R,
-    value: &T,
-    text: &str,
-) -> Result<(), AllocError> {
-    let shown = format!(in rt.alloc(); "{value}")?;
+fn check_shown<R: AllocGlobal + Abort, T: Display>(rt: &R, value: &T, text: &str) {
+    let shown = format!(in rt.alloc(); "{value}").expect(rt, "memory");
     assert!(rt; shown.as_str() == text, "{shown} for {text}");
-    Ok(())
 }
 
 /// Why a source is refused, and what that shows.
@@ -47,17 +40,16 @@ const FAULTS: &[(Fault, &str)] = &[
 ];
 
 #[test]
-fn shows_faults(rt: HostRuntime) -> Result<(), Fail> {
+fn shows_faults(rt: HostRuntime) {
     for &(error, text) in SOURCE_ERRORS {
-        check_shown(&rt, &error, text)?;
-        check_shown(&rt, &Fault::Source(error), text)?;
+        check_shown(&rt, &error, text);
+        check_shown(&rt, &Fault::Source(error), text);
     }
     for &(error, text) in CERT_ERRORS {
-        check_shown(&rt, &error, text)?;
-        check_shown(&rt, &Fault::Document(error), text)?;
+        check_shown(&rt, &error, text);
+        check_shown(&rt, &Fault::Document(error), text);
     }
     for &(fault, text) in FAULTS {
-        check_shown(&rt, &fault, text)?;
+        check_shown(&rt, &fault, text);
     }
-    Ok(())
 }

@@ -1,7 +1,6 @@
 use crate::running::{CHART, CHECK, DEPS, TIME, TRACE, check_sum, run};
 use s66_source::SOURCE_LINES_LIMIT;
-use std::alloc::AllocError;
-use std::test::Fail;
+use std::process::Abort;
 
 const ORDER_FEW: &[&str] = &["s66", "order", "--workers", "1", "--nodes", "1"];
 
@@ -22,35 +21,33 @@ const CODE: [&str; 8] = [
 ];
 
 /// The most lines, each of the most bytes; each that begins a block of 128 has a label.
-fn longest_source<R: AllocGlobal>(rt: &R) -> Result<String, AllocError> {
+fn longest_source<R: AllocGlobal + Abort>(rt: &R) -> String {
     let mut source = String::new(rt.alloc());
     for i in 0..SOURCE_LINES_LIMIT as usize {
-        let label = if i % 128 == 0 {
-            format!(in rt.alloc(); "LABEL{i:05}")?
-        } else {
-            String::new(rt.alloc())
-        };
         let code = CODE[i % 8];
-        let line = format!(in rt.alloc(); "{label:10} {code:R<189}\n")?;
-        source.push_str(line.as_str())?;
+        let written = if i % 128 == 0 {
+            writeln!(source, "LABEL{i:05} {code:R<189}")
+        } else {
+            writeln!(source, "           {code:R<189}")
+        };
+        written.expect(rt, "memory");
     }
-    Ok(source)
+    source
 }
 
 /// The most lines, each with a label.
-fn labelled_source<R: AllocGlobal>(rt: &R) -> Result<String, AllocError> {
+fn labelled_source<R: AllocGlobal + Abort>(rt: &R) -> String {
     let mut source = String::new(rt.alloc());
     for i in 0..SOURCE_LINES_LIMIT as usize {
         let code = CODE[i % 8];
-        let line = format!(in rt.alloc(); "LABEL{i:05} {code}\n")?;
-        source.push_str(line.as_str())?;
+        writeln!(source, "LABEL{i:05} {code}").expect(rt, "memory");
     }
-    Ok(source)
+    source
 }
 
 #[test]
-fn keeps_memory(rt: HostRuntime) -> Result<(), Fail> {
-    let longest = longest_source(&rt)?;
+fn keeps_memory(rt: HostRuntime) {
+    let longest = longest_source(&rt);
     assert!(rt; longest.len() == 4_020_000);
     let longest = longest.as_bytes();
     check_sum(
@@ -77,7 +74,7 @@ fn keeps_memory(rt: HostRuntime) -> Result<(), Fail> {
         4_861_722,
         531_766_293,
     );
-    let most = labelled_source(&rt)?;
+    let most = labelled_source(&rt);
     let most = most.as_bytes();
     check_sum(
         &rt,
@@ -95,7 +92,6 @@ fn keeps_memory(rt: HostRuntime) -> Result<(), Fail> {
         772_788,
         4_078_082_067,
     );
-    Ok(())
 }
 
 /// How many lines there are, and how many of them have this word.
@@ -113,8 +109,8 @@ fn count_lines(text: &str, word: &str) -> (usize, usize) {
 
 /// The longest source is printed with a line for each block more, and each of its blocks has a certificate that is checked.
 #[test]
-fn searches_longest_source(rt: HostRuntime) -> Result<(), Fail> {
-    let longest = longest_source(&rt)?;
+fn searches_longest_source(rt: HostRuntime) {
+    let longest = longest_source(&rt);
     let longest = longest.as_bytes();
     let ordered = run(&rt, ORDER_FEW, longest);
     let ordered = String::from_utf8(ordered.written).expect(&rt, "a text");
@@ -125,5 +121,4 @@ fn searches_longest_source(rt: HostRuntime) -> Result<(), Fail> {
     assert_eq!(&rt; checked.status, 0);
     let checked = String::from_utf8(checked.written).expect(&rt, "a text");
     assert_eq!(&rt; count_lines(checked.as_str(), " YES "), (BLOCKS, BLOCKS));
-    Ok(())
 }

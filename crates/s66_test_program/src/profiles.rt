@@ -1,9 +1,7 @@
 //! That a text is read if memory is left, and said why it gives no profile, which no clause says.
 
 use s66_profile::{ProfileError, profile_hint, read_profile};
-use std::alloc::AllocError;
 use std::process::Abort;
-use std::test::Fail;
 
 /// Each key, with a number that no other has, in an order that isn't that of a profile's numbers.
 const EACH_KEY: &str = "{\
@@ -65,36 +63,30 @@ const HINTS: &[(&str, &str)] = &[
 ];
 
 /// Checks the numbers of the profile that a text gives, or why it gives none.
-fn check_numbers<R: AllocGlobal + Abort>(
-    rt: &R,
-    text: &str,
-    wanted: &str,
-) -> Result<(), AllocError> {
+fn check_numbers<R: AllocGlobal + Abort>(rt: &R, text: &str, wanted: &str) {
     let numbers = match read_profile(rt.alloc(), text) {
-        Ok(profile) => format!(in rt.alloc(); "{:?}", profile.entries())?,
-        Err(refusal) => format!(in rt.alloc(); "{refusal}")?,
+        Ok(profile) => format!(in rt.alloc(); "{:?}", profile.entries()),
+        Err(refusal) => format!(in rt.alloc(); "{refusal}"),
     };
+    let numbers = numbers.expect(rt, "memory");
     assert!(rt; numbers.as_str() == wanted, "{text}: {numbers}");
-    Ok(())
 }
 
 #[test]
-fn reads_profiles(rt: HostRuntime) -> Result<(), Fail> {
+fn reads_profiles(rt: HostRuntime) {
     for (text, numbers) in PROFILES {
-        check_numbers(&rt, text, numbers)?;
+        check_numbers(&rt, text, numbers);
     }
     for text in REFUSED {
-        check_numbers(&rt, text, "BAD PROFILE")?;
+        check_numbers(&rt, text, "BAD PROFILE");
     }
     assert!(rt; ProfileError::OutOfMemory.line() == "OUT OF MEMORY");
-    Ok(())
 }
 
 #[test]
-fn gives_hints(rt: HostRuntime) -> Result<(), Fail> {
+fn gives_hints(rt: HostRuntime) {
     for (text, wanted) in HINTS {
-        let hint = profile_hint(rt.alloc(), text)?;
+        let hint = profile_hint(rt.alloc(), text).expect(&rt, "memory");
         assert!(rt; hint.as_str() == *wanted, "{text}: {hint}");
     }
-    Ok(())
 }

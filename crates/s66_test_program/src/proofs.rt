@@ -4,7 +4,6 @@ use crate::rows::STORE_THEN_LOAD;
 use s66_model::Rule;
 use s66_program::{Command, Status};
 use s66_test_search::{MULTIPLIES, SEVEN_MULTIPLIES};
-use std::test::Fail;
 
 /// A source, and its documents.
 const PROOFS: &[(&str, &str)] = &[
@@ -49,7 +48,7 @@ fn lines(text: &[u8]) -> u32 {
 
 /// Sixteen workers make one large proof, and five of it are checked: no call runs out of memory, however much it is about.
 #[test]
-fn proves_and_checks_large_trees(rt: HostRuntime) -> Result<(), Fail> {
+fn proves_and_checks_large_trees(rt: HostRuntime) {
     let prove = prove_by(16, 100_000, Rule::NoneNamed);
     let (result, document) = run(&rt, prove, SEVEN_MULTIPLIES.as_bytes());
     assert_eq!(rt; result, Ok(Status::Done));
@@ -57,26 +56,26 @@ fn proves_and_checks_large_trees(rt: HostRuntime) -> Result<(), Fail> {
     assert_eq!(rt; lines(document.as_slice()), 14 + 8660 + 5040);
     let mut documents = Vec::new(rt.alloc());
     for _ in 0..5 {
-        documents.extend_from_slice(document.as_slice())?;
+        documents
+            .extend_from_slice(document.as_slice())
+            .expect(&rt, "memory");
     }
     let (result, verdicts) = run(&rt, Command::Check, documents.as_slice());
     assert_eq!(rt; result, Ok(Status::Done));
     let yes =
         "DOCUMENT 1 YES TIME 44 BOUND 44\nDOCUMENT 2 YES TIME 44 BOUND 44\nDOCUMENT 3 YES TIME 44 BOUND 44\nDOCUMENT 4 YES TIME 44 BOUND 44\nDOCUMENT 5 YES TIME 44 BOUND 44\n";
     assert_eq!(rt; verdicts.as_slice(), yes.as_bytes());
-    Ok(())
 }
 
 /// A chain of the most instructions that a block has is proved, and its document is checked.
 #[test]
-fn proves_and_checks_a_block_of_128(rt: HostRuntime) -> Result<(), Fail> {
+fn proves_and_checks_a_block_of_128(rt: HostRuntime) {
     let prove = prove_by(1, 0, Rule::NoneNamed);
-    let source = "  BX0 X0\n".repeat(rt.alloc(), 128)?;
+    let source = "  BX0 X0\n".repeat(rt.alloc(), 128).expect(&rt, "memory");
     let (result, document) = run(&rt, prove, source.as_bytes());
     assert_eq!(rt; result, Ok(Status::Done));
     let (result, verdict) = run(&rt, Command::Check, document.as_slice());
     assert_eq!(rt; result, Ok(Status::Done));
     let yes = "DOCUMENT 1 YES TIME 512 BOUND 512\n";
     assert_eq!(rt; verdict.as_slice(), yes.as_bytes());
-    Ok(())
 }

@@ -2,7 +2,6 @@ use crate::running::{LINT, ORDER, ORDER_TRACE, TIME, check, run};
 use s66_test_search::{ONE_LOAD, PACKING_GAP};
 use std::process::Abort;
 use std::sync::Wait;
-use std::test::Fail;
 use std::thread::Threads;
 
 mod chart;
@@ -188,22 +187,23 @@ fn shows_pages(rt: HostRuntime) {
 }
 
 #[test]
-fn runs_repeated_rows(rt: HostRuntime) -> Result<(), Fail> {
+fn runs_repeated_rows(rt: HostRuntime) {
     for &(name, words, piece, times, status, text) in REPEATED {
-        let input = piece.repeat(rt.alloc(), times)?;
+        let input = piece.repeat(rt.alloc(), times).expect(&rt, "memory");
         check(&rt, name, words, input.as_bytes(), status, text);
     }
-    Ok(())
 }
 
 /// Each instruction waits for the one before it, so the source order is the only one.
 #[test]
-fn orders_long_chains(rt: HostRuntime) -> Result<(), Fail> {
+fn orders_long_chains(rt: HostRuntime) {
     for &(count, time) in CHAINS {
-        let lines = "          BX0 X0\n".repeat(rt.alloc(), count)?;
+        let lines = "          BX0 X0\n"
+            .repeat(rt.alloc(), count)
+            .expect(&rt, "memory");
         let text = format!(in rt.alloc();
             "* BLOCK 1 COUNT {count} SOURCE {time} TIME {time} BEST\n* SPLITS 0\n{lines}"
-        )?;
+        ).expect(&rt, "memory");
         check(
             &rt,
             "long chain",
@@ -213,5 +213,4 @@ fn orders_long_chains(rt: HostRuntime) -> Result<(), Fail> {
             text.as_str(),
         );
     }
-    Ok(())
 }

@@ -2,29 +2,14 @@ use crate::commands::{check_output, run};
 use crate::documents::{FORCED_PAIRS, LINES_NAMED, ONE_LOAD, THREE_MULTIPLIES};
 use s66_cert::CertError;
 use s66_program::{Command, Fault, Status};
-use std::alloc::AllocError;
 use std::process::Abort;
 use std::sync::Wait;
-use std::test::Fail;
 use std::thread::Threads;
 
 /// The text with `new` in place of the first `old`.
-pub(crate) fn altered<R: AllocGlobal>(
-    rt: &R,
-    text: &str,
-    old: &str,
-    new: &str,
-) -> Result<String, AllocError> {
-    let mut altered = String::new(rt.alloc());
-    match text.split_once(old) {
-        Some((front, back)) => {
-            altered.push_str(front)?;
-            altered.push_str(new)?;
-            altered.push_str(back)?;
-        }
-        None => altered.push_str(text)?,
-    }
-    Ok(altered)
+pub(crate) fn altered<R: AllocGlobal + Abort>(rt: &R, text: &str, old: &str, new: &str) -> String {
+    let (front, back) = text.split_once(old).expect(rt, "what is altered");
+    format!(in rt.alloc(); "{front}{new}{back}").expect(rt, "memory")
 }
 
 /// What of one load's document is altered, and the verdict.
@@ -97,28 +82,27 @@ pub(crate) fn check_denied<R: AllocGlobal + Abort + Threads + Wait + Sync>(
     rt: &R,
     document: &str,
     rows: &[(&str, &str, &str)],
-) -> Result<(), Fail> {
+) {
     for &(old, new, verdict) in rows {
-        let text = altered(rt, document, old, new)?;
+        let text = altered(rt, document, old, new);
         check_output(rt, Command::Check, text.as_str(), Status::Denied, verdict);
     }
-    Ok(())
 }
 
 #[test]
-fn denies_altered_documents(rt: HostRuntime) -> Result<(), Fail> {
-    check_denied(&rt, ONE_LOAD, ALTERED_LOADS)?;
-    check_denied(&rt, THREE_MULTIPLIES, ALTERED_MULTIPLIES)
+fn denies_altered_documents(rt: HostRuntime) {
+    check_denied(&rt, ONE_LOAD, ALTERED_LOADS);
+    check_denied(&rt, THREE_MULTIPLIES, ALTERED_MULTIPLIES);
 }
 
 #[test]
-fn denies_altered_facts(rt: HostRuntime) -> Result<(), Fail> {
+fn denies_altered_facts(rt: HostRuntime) {
     let yes = "DOCUMENT 1 YES TIME 11 BOUND 11\n";
     check_output(&rt, Command::Check, FORCED_PAIRS, Status::Done, yes);
     let yes = "DOCUMENT 1 YES TIME 8 BOUND 7\n";
     check_output(&rt, Command::Check, LINES_NAMED, Status::Done, yes);
-    check_denied(&rt, FORCED_PAIRS, ALTERED_PAIRS)?;
-    check_denied(&rt, LINES_NAMED, ALTERED_NAMES)
+    check_denied(&rt, FORCED_PAIRS, ALTERED_PAIRS);
+    check_denied(&rt, LINES_NAMED, ALTERED_NAMES);
 }
 
 /// What `check` says of three multiplies and one load.
@@ -129,29 +113,27 @@ const FIRST: &str = "DOCUMENT 1 YES TIME 22 BOUND 22\nDOCUMENT 2 NO LINE 8 REASO
 
 /// A document is checked under its own profile, here of a slower Boolean unit.
 #[test]
-fn checks_under_its_profile(rt: HostRuntime) -> Result<(), Fail> {
-    let slower = altered(&rt, ONE_LOAD, "PROFILE 3", "PROFILE 4")?;
-    let true_of_it = altered(&rt, slower.as_str(), "TIME 12", "TIME 13")?;
+fn checks_under_its_profile(rt: HostRuntime) {
+    let slower = altered(&rt, ONE_LOAD, "PROFILE 3", "PROFILE 4");
+    let true_of_it = altered(&rt, slower.as_str(), "TIME 12", "TIME 13");
     let yes = "DOCUMENT 1 YES TIME 13 BOUND 12\n";
     check_output(&rt, Command::Check, true_of_it.as_str(), Status::Done, yes);
     // no Boolean in it
-    let same = altered(&rt, THREE_MULTIPLIES, "PROFILE 3", "PROFILE 4")?;
+    let same = altered(&rt, THREE_MULTIPLIES, "PROFILE 3", "PROFILE 4");
     let yes = "DOCUMENT 1 YES TIME 22 BOUND 22\n";
     check_output(&rt, Command::Check, same.as_str(), Status::Done, yes);
-    Ok(())
 }
 
 #[test]
-fn tells_each_document(rt: HostRuntime) -> Result<(), Fail> {
+fn tells_each_document(rt: HostRuntime) {
     check_output(&rt, Command::Check, "", Status::Done, "");
-    let both = altered(&rt, ONE_LOAD, "", THREE_MULTIPLIES)?;
+    let both = altered(&rt, ONE_LOAD, "", THREE_MULTIPLIES);
     check_output(&rt, Command::Check, both.as_str(), Status::Done, BOTH);
-    let above = altered(&rt, both.as_str(), "BOUND 12\n", "BOUND 13\n")?;
+    let above = altered(&rt, both.as_str(), "BOUND 12\n", "BOUND 13\n");
     check_output(&rt, Command::Check, above.as_str(), Status::Denied, FIRST);
-    let lower = altered(&rt, ONE_LOAD, "BOUND 12", "BOUND 11")?;
+    let lower = altered(&rt, ONE_LOAD, "BOUND 12", "BOUND 11");
     let verdict = "DOCUMENT 1 YES TIME 12 BOUND 11\n";
     check_output(&rt, Command::Check, lower.as_str(), Status::Done, verdict);
-    Ok(())
 }
 
 /// What of three multiplies' document is altered, and why it is no document.
@@ -187,13 +169,12 @@ pub(crate) fn check_refused<R: AllocGlobal + Abort + Threads + Wait + Sync>(
 }
 
 #[test]
-fn refuses_altered_documents(rt: HostRuntime) -> Result<(), Fail> {
+fn refuses_altered_documents(rt: HostRuntime) {
     for &(old, new, refusal) in REFUSED {
-        let text = altered(&rt, THREE_MULTIPLIES, old, new)?;
+        let text = altered(&rt, THREE_MULTIPLIES, old, new);
         check_refused(&rt, text.as_str(), refusal);
     }
-    let both = altered(&rt, ONE_LOAD, "", THREE_MULTIPLIES)?;
-    let zero = altered(&rt, both.as_str(), "BOUND 12\n", "BOUND 012\n")?;
+    let both = altered(&rt, ONE_LOAD, "", THREE_MULTIPLIES);
+    let zero = altered(&rt, both.as_str(), "BOUND 12\n", "BOUND 012\n");
     check_refused(&rt, zero.as_str(), CertError::BadLine { line: 34 });
-    Ok(())
 }
