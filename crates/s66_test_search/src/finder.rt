@@ -9,12 +9,13 @@ use s66_moments::FactLine;
 use std::process::Abort;
 
 /// What a finder knows of a block by dependences alone.
-pub fn found_at_first<R: AllocGlobal>(rt: &R, block: &Block) -> Finder {
+pub fn found_at_first<R: AllocGlobal + Abort>(rt: &R, block: &Block) -> Finder {
     Finder::new(
         rt.alloc(),
         instrs_of(block).as_slice(),
         &Profile::standard(),
     )
+    .expect(rt, "memory")
 }
 
 /// What a finder knows of a block that has found its loads.
