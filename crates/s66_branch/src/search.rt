@@ -36,7 +36,7 @@ pub struct Branched {
     /// What each order takes at least, in minor cycles. If the search came to its end, this is the time below which it sought, or what
     /// the fastest order takes, if that is less.
     pub bound: u32,
-    /// The lines in preorder of a tree that shows this, if there is one.
+    /// The lines in preorder of a tree that shows this, if there is one; none if the search stopped at an order that is enough.
     pub tree: Option<Tree>,
 }
 
@@ -45,6 +45,8 @@ pub struct Branched {
 pub struct Limits {
     /// It seeks orders that take less than this, in minor cycles.
     pub below: u32,
+    /// It stops at an order that takes no more than this: what all orders are known to take at least, in minor cycles.
+    pub enough: u32,
     /// The most splits.
     pub splits: u32,
     /// The number in the document of the tree's first line, from 1.
@@ -72,6 +74,8 @@ struct Search<'a> {
     most: u32,
     /// Orders are sought that take less than this, in minor cycles.
     low: u32,
+    /// One that takes no more than this is enough.
+    enough: u32,
     best: Timed,
 }
 
@@ -242,8 +246,13 @@ impl<'a> Search<'a> {
         self.split(next.node, own.place)
     }
 
-    /// Goes on until no open node's floor is so low that a faster order may begin so, or all splits are made. What each order takes at
-    /// least then, in minor cycles.
+    /// Whether an order was met that is enough.
+    fn has_enough(&self) -> bool {
+        self.low <= self.enough
+    }
+
+    /// Goes on until no open node's floor is so low that a faster order may begin so, an order is enough, or all splits are made. What
+    /// each order takes at least then, in minor cycles.
     fn run(&mut self) -> Result<u32, AllocError>
         ensures { IsNoSlower self.old self.new }
     {
@@ -257,7 +266,7 @@ impl<'a> Search<'a> {
                 return Ok(self.low);
             }
             bound = next.floor;
-            if self.splits >= self.most || !self.take(&next)? {
+            if self.splits >= self.most || !self.take(&next)? || self.has_enough() {
                 return Ok(bound);
             }
         }
@@ -313,10 +322,12 @@ pub fn branch(
         splits: 0,
         most: limits.splits,
         low: limits.below.min(best.total()),
+        enough: limits.enough,
         best,
     };
     search.open_root()?;
     let bound = search.run()?;
+    let is_enough = search.has_enough();
     let Search {
         mut trail,
         known,
@@ -326,6 +337,14 @@ pub fn branch(
         best,
         ..
     } = search;
+    if is_enough {
+        return Ok(Branched {
+            best,
+            splits,
+            bound,
+            tree: None,
+        });
+    }
     let leaves = Leaves {
         known: &known,
         loads: &mut loads,

@@ -10,3 +10,4 @@ mod search;
 mod trees;
 
 pub use look::{Looked, look_at};
+pub use orders::faster;

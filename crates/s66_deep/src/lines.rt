@@ -16,6 +16,9 @@ use std::alloc::{AllocError, Global};
 /// How many beginnings of a length a beam keeps.
 pub(crate) const BEAM_WIDTH: usize = 64;
 
+/// The same of the first beams, one after the other.
+const WIDTHS: [usize; 3] = [2, 16, BEAM_WIDTH];
+
 /// The same of one that is tried where the others left something to be found.
 pub(crate) const WIDE_WIDTH: usize = 512;
 
@@ -59,6 +62,30 @@ pub(crate) fn beam_by(
     ensures { IfOk result (λ other. IfSome other (λ timed. timed.problem ≡ record { block = instrs_of block.now; profile = profile.now })) }
 {
     beam_below(alloc, block, profile, &finder.tails(), width, limit)
+}
+
+/// The best order, or a better one that beams find by fact lines of all orders: first narrow ones, which find most of the best orders. They
+/// end when an order takes no more than the lines show of all.
+pub(crate) fn best_by_beams(
+    alloc: Global,
+    block: &Block,
+    profile: &Profile,
+    finder: &Finder,
+    best: Timed,
+) -> Result<Timed, AllocError>
+    requires { IsGood (record { block = instrs_of block.now; profile = profile.now }) best }
+    ensures { IfOk result (IsGood (record { block = instrs_of block.now; profile = profile.now })) }
+{
+    let (_, bound) = finder.root();
+    let mut best = best;
+    for width in WIDTHS {
+        if best.total() <= bound {
+            break;
+        }
+        let other = beam_by(alloc, block, profile, finder, width, best.total())?;
+        best = faster(best, other);
+    }
+    Ok(best)
 }
 
 /// All fact lines that are found for orders which take less than a bound, after those of another finder.

@@ -5,8 +5,8 @@ ghost use Rattle.s66_model.specs.Answer.{source_time};
 ghost use Rattle.s66_model.specs.Timing.{Problem};
 ghost use Rattle.s66_deep.specs.Orders.{IsGood, IsLooked};
 
-use crate::lines::{BEAM_WIDTH, beam_by};
-use crate::orders::{Scheduled, best_schedule, faster};
+use crate::lines::best_by_beams;
+use crate::orders::{faster, source_order};
 use crate::ranges::are_lines;
 use crate::search::{Searched, Written, search};
 use crate::trees::splits_of;
@@ -16,7 +16,6 @@ use s66_finder::Finder;
 use s66_isa::{BLOCK_LIMIT, Instr, Profile};
 use s66_line::Block;
 use s66_moments::FactLine;
-use s66_node::Walk;
 use s66_time::Timed;
 use std::alloc::{AllocError, Global};
 
@@ -62,37 +61,35 @@ fn fitting(looked: Looked, most: u32) -> Option<Looked>
     Some(looked)
 }
 
-/// What is found of a block under a profile without a search by workers: the best of the source order, list schedules, beams and
-/// searches that know facts; and fact lines and a tree of at most so many splits, by which a certificate can show a bound, as great as
-/// may be. `None` if the best order takes no more than the floor of all orders, so that no facts are needed. Whether the lines show the bound is
-/// for a checker to say.
+/// What is found of a block under a profile beyond an order of it that was found before: the best of this, the source order, and what
+/// beams and searches find that know facts; and fact lines and a tree of at most so many splits, by which a certificate can show a
+/// bound, as great as may be. Whether the lines show the bound is for a checker to say. `None` if a certificate may not have them.
 ///
 /// `Err` is out of memory.
 pub fn look_at(
     alloc: Global,
     block: &Block,
     profile: &Profile,
+    first: &Timed,
     most: u32,
+    is_printed: bool,
 ) -> Result<Option<Looked>, AllocError>
+    requires { first.now.problem ≡ record { block = instrs_of block.now; profile = profile.now } }
     ensures { IfOk result (λ looked. IfSome looked (IsLooked (record { block = instrs_of block.now; profile = profile.now }) most)) }
 {
-    let mut walk = Walk::new(block, profile);
-    let floor = walk.floor_value();
-    let Scheduled { best, source } = best_schedule(&mut walk);
-    if best.total() <= floor {
-        return Ok(None);
-    }
-    let mut finder = Finder::new(alloc, instrs_of(block).as_slice(), profile);
+    let written = source_order(block, profile);
+    let source = written.total();
+    let best = faster(written, Some(first.duplicate()));
+    let mut finder = Finder::new(alloc, instrs_of(block).as_slice(), profile)?;
     finder.find_loads()?;
-    let other = beam_by(alloc, block, profile, &finder, BEAM_WIDTH, best.total())?;
-    let best = faster(best, other);
+    let best = best_by_beams(alloc, block, profile, &finder, best)?;
     let Searched { best, shown } = search(alloc, block, profile, &finder, best, most)?;
     let Written {
         bound,
         lines,
         tree,
         splits,
-    } = shown.written(alloc)?;
+    } = shown.written(alloc, is_printed)?;
     let looked = Looked {
         best,
         source,

@@ -6,7 +6,7 @@ ghost use Rattle.s66_model.specs.Timing.{Problem};
 ghost use Rattle.s66_deep.specs.Orders.{IsGood};
 
 use crate::lines::{
-    BEAM_WIDTH, Bound, Halved, Lined, WIDE_WIDTH, best_by_lines, found_below, halve,
+    BEAM_WIDTH, Bound, Halved, Lined, WIDE_WIDTH, beam_by, best_by_lines, found_below, halve,
 };
 use crate::orders::faster;
 use s66_branch::{Branched, Limits, branch};
@@ -55,14 +55,24 @@ struct Tried {
     shown: Option<Written>,
 }
 
-/// The fact lines that a bound needs, and one leaf: the instruction of a number came too late if it came first.
-fn by_leaf(alloc: Global, bound: &Bound) -> Result<Written, AllocError> {
-    let finder = bound.finder.needed(bound.value)?;
+/// The finder of a bound, without lines that the bound doesn't need if they are printed.
+fn for_print(bound: Bound, is_printed: bool) -> Result<Finder, AllocError> {
+    if is_printed {
+        bound.finder.needed(bound.value)
+    } else {
+        Ok(bound.finder)
+    }
+}
+
+/// The fact lines of a bound, and one leaf: the instruction of a number came too late if it came first.
+fn by_leaf(alloc: Global, bound: Bound, is_printed: bool) -> Result<Written, AllocError> {
+    let value = bound.value;
+    let finder = for_print(bound, is_printed)?;
     let (leaf, _) = finder.root();
     let mut tree = Tree::new(alloc);
     tree.push(TreeLine::Next(leaf))?;
     Ok(Written {
-        bound: bound.value,
+        bound: value,
         lines: finder.into_lines(),
         tree,
         splits: 0,
@@ -86,10 +96,10 @@ impl Shown {
         }
     }
 
-    /// As a certificate has it. `Err` is out of memory.
-    pub(crate) fn written(self, alloc: Global) -> Result<Written, AllocError> {
+    /// As a certificate has it, which is printed or not. `Err` is out of memory.
+    pub(crate) fn written(self, alloc: Global, is_printed: bool) -> Result<Written, AllocError> {
         match self {
-            Shown::ByLeaf(bound) => by_leaf(alloc, &bound),
+            Shown::ByLeaf(bound) => by_leaf(alloc, bound, is_printed),
             Shown::ByTree(written) => Ok(written),
         }
     }
@@ -104,7 +114,8 @@ fn first_line(block: &Block, lines: &[FactLine]) -> u32 {
     }
 }
 
-/// A search for orders that take less than a limit, by fact lines of such orders, of at most so many splits.
+/// A search for orders that take less than a limit, by fact lines of such orders, of at most so many splits. It stops at an order that
+/// takes no more than a bound of all.
 fn search_below(
     alloc: Global,
     block: &Block,
@@ -112,6 +123,7 @@ fn search_below(
     below: Finder,
     best: Timed,
     limit: u32,
+    bound: u32,
     splits: u32,
 ) -> Result<Tried, AllocError>
     requires { IsGood (record { block = instrs_of block.now; profile = profile.now }) best }
@@ -119,6 +131,7 @@ fn search_below(
 {
     let limits = Limits {
         below: limit,
+        enough: bound,
         splits,
         first_line: first_line(block, below.lines()),
     };
@@ -147,6 +160,34 @@ fn search_below(
     })
 }
 
+/// An order that takes no more than a bound of all, or a tree that shows one minor cycle more: by the fact lines of orders that take no
+/// more, a beam, and a search of at most so many splits.
+fn try_above(
+    alloc: Global,
+    block: &Block,
+    profile: &Profile,
+    finder: &Finder,
+    best: Timed,
+    bound: u32,
+    splits: u32,
+) -> Result<Tried, AllocError>
+    requires { IsGood (record { block = instrs_of block.now; profile = profile.now }) best }
+    ensures { IfOk result (λ tried. IsGood (record { block = instrs_of block.now; profile = profile.now }) tried.best) }
+{
+    let limit = bound.saturating_add(1);
+    let below = found_below(finder, limit)?;
+    let other = beam_by(alloc, block, profile, &below, WIDE_WIDTH, limit)?;
+    let best = faster(best, other);
+    if best.total() <= bound {
+        return Ok(Tried {
+            best,
+            splits: 0,
+            shown: None,
+        });
+    }
+    search_below(alloc, block, profile, below, best, limit, bound, splits)
+}
+
 /// Raises what is shown of all orders, one minor cycle after the other, each by the fact lines of orders that take less than what is to
 /// be shown, until an order takes no more, or so many splits are made.
 fn raise(
@@ -166,16 +207,15 @@ fn raise(
     } = searched;
     let mut left = most;
     for _ in 0..RAISES_LIMIT {
-        let limit = shown.bound().saturating_add(1);
-        if best.total() < limit {
+        let bound = shown.bound();
+        if best.total() <= bound {
             break;
         }
-        let below = found_below(finder, limit)?;
-        let tried = search_below(alloc, block, profile, below, best, limit, left)?;
+        let tried = try_above(alloc, block, profile, finder, best, bound, left)?;
         best = tried.best;
         left = left.saturating_sub(tried.splits);
         shown = shown.or_more(tried.shown);
-        if shown.bound() < limit {
+        if shown.bound() <= bound {
             break;
         }
     }
@@ -183,7 +223,7 @@ fn raise(
 }
 
 /// The best order that is found, and what shows that none takes less, or how little less: fact lines and a leaf, or a tree of at most
-/// this many splits. Twice so many are made at most: for orders that take less than the best, and then to raise what is shown.
+/// this many splits. At most half as many more are made to raise what is shown, after those for orders that take less than the best.
 pub(crate) fn search(
     alloc: Global,
     block: &Block,
@@ -207,10 +247,19 @@ pub(crate) fn search(
     if time <= shown.bound() {
         return Ok(Searched { best, shown });
     }
-    let tried = search_below(alloc, block, profile, lines, best, time, most)?;
+    let tried = search_below(
+        alloc,
+        block,
+        profile,
+        lines,
+        best,
+        time,
+        shown.bound(),
+        most,
+    )?;
     let searched = Searched {
         best: tried.best,
         shown: shown.or_more(tried.shown),
     };
-    raise(alloc, block, profile, &below, searched, most)
+    raise(alloc, block, profile, &below, searched, most / 2)
 }

@@ -1,5 +1,5 @@
 -- What facts show is an answer to the block.
-use Rattle.std.proofs.Common.{◌≡◌, ◌≤◌, ◌∙◌, List, true, ap, arith, inr, refl, subst, sym}
+use Rattle.std.proofs.Common.{ℕ, ◌≡◌, ◌≤◌, ◌∙◌, List, length, true, ap, arith, inr, refl, subst, sym}
 use Rattle.std.specs.Option.{is_some}
 use Rattle.s66_isa.specs.declared.limits.TheConstants.{BLOCK_LIMIT}
 use Rattle.s66_isa.specs.declared.instr.Instr.{Instr}
@@ -10,7 +10,11 @@ use Rattle.s66_model.specs.Answer.{source_time}
 use Rattle.s66_model.specs.LegalOrder.{IsLegal}
 use Rattle.s66_model.specs.Timing.{Problem, total_of}
 use Rattle.s66_time.specs.TimedOrder.{TimedOrder}
-use Rattle.s66_deep.specs.Orders.{IsGood}
+use Rattle.s66_model.proofs.Beginnings.{source-legal}
+use Rattle.s66_model.proofs.Growth.{total-le}
+use Rattle.s66_model.proofs.LegalOrders.{legal-order}
+use Rattle.s66_deep.specs.Orders.{IsGood, IsLooked}
+use Rattle.s66_deep.specs.declared.look.Looked.{Looked}
 use Rattle.s66_cert.specs.Document.{Document, IsDocument}
 use Rattle.s66_cert.specs.DocumentParts.{Parts, document_of}
 use Rattle.s66_checker.specs.Verdict.{verdict}
@@ -20,7 +24,7 @@ use Rattle.s66_program.specs.declared.answers.ByFacts.{ByFacts}
 use Rattle.s66_program.specs.declared.answers.Candidate.{Candidate}
 use Rattle.s66_program.specs.declared.documents.Shows.{Shows}
 use Rattle.s66_text.specs.Answers.{IsEnough, document_under, problem_of}
-use Rattle.s66_program.specs.Stored.{IsClaimed, IsShownBy, claimed, claimed_by, parts_by}
+use Rattle.s66_program.specs.Stored.{IsClaimed, IsFit, IsShownBy, claimed, claimed_by, parts_by}
 
 -- a candidate is a legal order with its total, no slower than the source order, which it is if it is as slow
 pub record IsCandidate (p : Profile) (block : Block) (c : Candidate) : Type 0 where
@@ -75,3 +79,16 @@ module _ (b : Problem) (t u : TimedOrder) (problem : u.problem ≡ t.problem) (t
         source = omega (arith, same, good.source);
         first = λ e. first (subst (λ (q : Problem). source_time q ≡ total_of q t.numbers) (sym good.problem) (e ∙ same)) ∙ good.first (e ∙ same);
       }
+
+-- WHAT IS FOUND may stand in a document
+
+pub looked-fit : (p : Profile) (block : Block) (most : ℕ) (l : Looked) → IsLooked (problem_of p block) most l → length (instrs_of block) ≤ BLOCK_LIMIT → IsFit (record { bound = l.bound; lines = l.lines; tree = l.tree })
+looked-fit p block most l is few =
+    let b : Problem = problem_of p block in
+    let whole = (legal-order b.block (numbers b.block) (source-legal b.block)).1 in
+    record {
+      few = is.few;
+      lines = is.lines;
+      tree = is.tree;
+      bound = omega (arith, is.bound, is.best.source, total-le b (numbers b.block), whole, few);
+    }

@@ -1,16 +1,18 @@
 -- Used by contracts within the crate alone: an answer as code stores it.
-use Rattle.std.specs.Prelude.{ℕ, ◌≡◌, ◌≤◌, List, Some, length}
+use Rattle.std.specs.Prelude.{ℕ, ◌≡◌, ◌≤◌, ◌⊎◌, List, Some, length}
 use Rattle.s66_isa.specs.declared.limits.TheConstants.{BLOCK_LIMIT}
 use Rattle.s66_isa.specs.Table.{entries}
 use Rattle.s66_isa.specs.declared.profile.Profile.{Profile}
 use Rattle.s66_line.specs.Block.{instrs_of, Block}
 use Rattle.s66_model.specs.declared.rule.Rule.TheVariants.{ClampedStanding}
 use Rattle.s66_model.specs.Answer.{source_time}
+use Rattle.s66_model.specs.Tree.{splits}
 use Rattle.s66_deep.specs.Trees.{AreOfTree}
-use Rattle.s66_ledger.specs.Answers.{answer_of}
+use Rattle.s66_ledger.specs.Answers.{AnswerOf, answer_of}
+use Rattle.s66_ledger.specs.Ledgers.{LedgerOf}
 use Rattle.s66_cert.specs.declared.limits.TheConstants.{FACT_LIMIT, TIME_LIMIT}
 use Rattle.s66_cert.specs.Document.{AreFactLines, IsDocument}
-use Rattle.s66_cert.specs.DocumentParts.{Parts, document_of}
+use Rattle.s66_cert.specs.DocumentParts.{Parts, document_of, tree_of_lines}
 use Rattle.s66_checker.specs.declared.verdict.Verdict.TheVariants.{Yes}
 use Rattle.s66_checker.specs.Verdict.{verdict}
 use Rattle.s66_command.specs.declared.strategy.Strategy.{Strategy}
@@ -20,6 +22,11 @@ use Rattle.s66_program.specs.declared.answers.ByFacts.{ByFacts}
 use Rattle.s66_program.specs.declared.answers.Candidate.{Candidate}
 use Rattle.s66_program.specs.declared.documents.Shows.{Shows}
 use Rattle.s66_text.specs.Answers.{Answer, IsAnswer, document_under, problem_of, searched, texts_of}
+
+-- A SEARCH of the block's orders for an answer
+
+abbrev pub IsSearchOf : Strategy → Profile → Block → LedgerOf → Type 0
+IsSearchOf strategy p block l = (l.rule ≡ strategy.search.rule) × (l.problem ≡ problem_of p block) × (l.budget ≡ strategy.search.nodes)
 
 -- FACT LINES
 
@@ -82,3 +89,9 @@ abbrev pub IsFor : Strategy → Profile → Block → Found → Type 0
 IsFor strategy p block (Searched found) =
     (found.rule ≡ strategy.search.rule) × (found.problem ≡ problem_of p block) × (found.budget ≡ strategy.search.nodes)
 IsFor strategy p block (Shown s) = IsClaimed strategy p block s
+
+-- facts show that the answer's order is best, by a tree of n splits, or as much of the answer as its search did
+abbrev pub IsWorth : (nodes : ℕ) → AnswerOf → (n : ℕ) → Shows → Type 0
+IsWorth nodes found n l =
+    ((l.bound ≡ (answer_of found).time) × (n ≡ splits (tree_of_lines l.tree)) × (n ≤ nodes))
+    ⊎ (((answer_of found).bound ≤ l.bound) × (n ≡ (answer_of found).splits))

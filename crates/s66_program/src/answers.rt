@@ -2,32 +2,41 @@
 
 ghost use Rattle.std.specs.Prelude.{◌≡◌, ◌≤◌, true, IfOk, IfSome};
 ghost use Rattle.s66_line.specs.Block.{instrs_of};
+ghost use Rattle.s66_isa.specs.declared.profile.Profile.{Profile as ProfileOf};
 ghost use Rattle.s66_cert.specs.declared.limits.TheConstants.{TIME_LIMIT};
-ghost use Rattle.s66_deep.specs.Orders.{IsLooked};
+ghost use Rattle.s66_command.specs.declared.strategy.Strategy.{Strategy as StrategyOf};
+ghost use Rattle.s66_deep.specs.Orders.{IsGood, IsLooked};
 ghost use Rattle.s66_model.specs.Answer.{source_time};
 ghost use Rattle.s66_model.specs.Timing.{total_of};
 ghost use Rattle.s66_program.specs.declared.answers.Found.TheVariants.{Searched};
 ghost use Rattle.s66_text.specs.Answers.{problem_of};
 ghost use Rattle.s66_program.specs.Output.{IsSearchWithin};
-ghost use Rattle.s66_program.specs.Stored.{IsFit, IsFor, IsShownBy};
+ghost use Rattle.s66_program.specs.Stored.{IsFit, IsFor, IsSearchOf, IsShownBy, IsWorth};
 
 use crate::documents::{Shows, document_by, document_of, is_accepted};
 use s66_cert::Document;
 use s66_command::Strategy;
-use s66_deep::{Looked, look_at};
+use s66_deep::{Looked, faster, look_at};
 use s66_dep::Order;
 use s66_isa::{BLOCK_LIMIT, Profile};
 use s66_ledger::Answer;
 use s66_line::Block;
+use s66_model::{Options, Rule};
 use s66_near::nearer;
-use s66_pool::{Free, run_alone, run_from};
+use s66_pool::{Free, LoneSearch, run_from};
 use s66_time::Timed;
 use std::alloc::{AllocError, Global};
 use std::sync::Wait;
 use std::thread::Threads;
 
-/// How many instructions a short block has at most.
-const SHORT_LIMIT: usize = 24;
+/// How many splits a search makes for each instruction of a short block before facts are looked for.
+const SPLITS_EACH: u32 = 64;
+
+/// In a longer one it makes the square of the block's length for each, divided by this.
+const SQUARE_SHARE: u32 = 32;
+
+/// How many lines a tree has at most that no document by facts is sought to shorten.
+const SHORT_TREE: usize = 8;
 
 /// An answer that facts show, by a document which the checker accepts.
 #[derive(Drop)]
@@ -176,20 +185,6 @@ fn shown_by(
     }))
 }
 
-/// A search of the block's orders by the calling thread.
-fn search(
-    alloc: Global,
-    block: &Block,
-    profile: &Profile,
-    strategy: Strategy,
-    first: Option<&Timed>,
-) -> Result<Answer, AllocError>
-    requires { IsSearchWithin strategy.search.workers strategy.search.nodes }
-    ensures { IfOk result (λ answer. IsFor strategy profile.now block.now (Searched answer)) }
-{
-    run_alone(alloc, block, profile, strategy.search, first)
-}
-
 /// An answer with an order that is nearer to the source and takes as long, if one is found.
 fn nearest(block: &Block, answer: Answer) -> Answer
     requires { answer.problem.block ≡ instrs_of block.now }
@@ -204,18 +199,12 @@ fn nearest(block: &Block, answer: Answer) -> Answer
     answer.with_order(timed)
 }
 
-/// What a search of the block's orders finds.
-fn found_by_search(
-    alloc: Global,
-    block: &Block,
-    profile: &Profile,
-    strategy: Strategy,
-    first: Option<&Timed>,
-) -> Result<Found, AllocError>
-    requires { IsSearchWithin strategy.search.workers strategy.search.nodes }
-    ensures { IfOk result (IsFor strategy profile.now block.now) }
+/// What a search finds that is brought to its end.
+fn found_by_search(block: &Block, search: LoneSearch<'_>) -> Result<Found, AllocError>
+    requires { search.problem.block ≡ instrs_of block.now }
+    ensures { (strategy : StrategyOf) (p : ProfileOf) → IsSearchOf strategy p block.now search.entry → IfOk result (IsFor strategy p block.now) }
 {
-    let answer = search(alloc, block, profile, strategy, first)?;
+    let answer = search.finish()?;
     Ok(Found::Searched(nearest(block, answer)))
 }
 
@@ -233,32 +222,26 @@ fn nearest_order(block: &Block, best: Timed, source: u32) -> Timed
     nearer(block, &best)
 }
 
-/// A search from the best order so far, and what is shown by facts of what it finds, if that is more.
-fn search_on(
+/// An answer's order by facts, if the checker accepts its document; else the answer. `splits` are those that its order and its bound took.
+fn shown_or_searched(
     alloc: Global,
     block: &Block,
     profile: &Profile,
-    strategy: Strategy,
-    best: &Timed,
+    answer: Answer,
+    splits: u32,
     shows: Shows,
 ) -> Result<Found, AllocError>
-    requires search { IsSearchWithin strategy.search.workers strategy.search.nodes }
-    requires deep { strategy.deep ≡ true }
+    requires problem { answer.problem ≡ problem_of profile.now block.now }
     requires fit { IsFit shows }
-    ensures { IfOk result (IsFor strategy profile.now block.now) }
+    ensures { (strategy : StrategyOf) → strategy.deep ≡ true → IsFor strategy profile.now block.now (Searched answer) → IsWorth strategy.search.nodes answer splits shows → IfOk result (IsFor strategy profile.now block.now) }
 {
-    let found = search(alloc, block, profile, strategy, Some(best))?;
-    let answer = nearest(block, found);
     // so its time is one that a document may claim
     prove!(block.count() <= BLOCK_LIMIT);
-    if shows.bound <= answer.bound() {
-        return Ok(Found::Searched(answer));
-    }
     let candidate = Candidate {
         order: answer.order().duplicate(),
         time: answer.time(),
         source: answer.source(),
-        splits: answer.splits(),
+        splits,
     };
     match shown_by(alloc, block, profile, candidate, shows)? {
         Some(shown) => Ok(Found::Shown(shown)),
@@ -266,19 +249,93 @@ fn search_on(
     }
 }
 
-/// An answer by what is found before the search: by facts alone if these show that the order is best.
+/// What a search finds that is brought to its end, or its order by facts if these show as much or more.
+fn found_or_shown(
+    alloc: Global,
+    block: &Block,
+    profile: &Profile,
+    search: LoneSearch<'_>,
+    shows: Shows,
+) -> Result<Found, AllocError>
+    requires search { search.problem ≡ problem_of profile.now block.now }
+    requires fit { IsFit shows }
+    ensures { (strategy : StrategyOf) → strategy.deep ≡ true → IsSearchOf strategy profile.now block.now search.entry → IfOk result (IsFor strategy profile.now block.now) }
+{
+    let found = search.finish()?;
+    let answer = nearest(block, found);
+    if shows.bound < answer.bound() {
+        return Ok(Found::Searched(answer));
+    }
+    let splits = answer.splits();
+    shown_or_searched(alloc, block, profile, answer, splits, shows)
+}
+
+/// The best order of a search that leaves out no beginning that another dominates, of half as many splits. Such a search goes deep sooner. It
+/// ends at an order of at most so many minor cycles.
+fn plain_order(
+    alloc: Global,
+    block: &Block,
+    profile: &Profile,
+    strategy: Strategy,
+    goal: u32,
+) -> Result<Timed, AllocError>
+    requires { IsSearchWithin strategy.search.workers strategy.search.nodes }
+    ensures { IfOk result (λ timed. timed.problem ≡ problem_of profile.now block.now) }
+{
+    let options = Options {
+        rule: Rule::NoneNamed,
+        ..strategy.search
+    };
+    let mut search = LoneSearch::new(alloc, block, profile, options)?;
+    search.search(options.nodes / 2, goal);
+    Ok(search.best().duplicate())
+}
+
+/// The best order, or a better one that searches find which end at a bound of all orders; there is nothing to find if it takes no more.
+fn sought(
+    alloc: Global,
+    block: &Block,
+    profile: &Profile,
+    strategy: Strategy,
+    search: &mut LoneSearch<'_>,
+    best: Timed,
+    bound: u32,
+) -> Result<Timed, AllocError>
+    requires within { IsSearchWithin strategy.search.workers strategy.search.nodes }
+    requires search { IsSearchOf strategy profile.now block.now search.old }
+    requires best { IsGood (problem_of profile.now block.now) best }
+    ensures search { IsSearchOf strategy profile.now block.now search.new }
+    ensures best { IfOk result (IsGood (problem_of profile.now block.now)) }
+{
+    if best.total() <= bound {
+        return Ok(best);
+    }
+    let other = plain_order(alloc, block, profile, strategy, bound)?;
+    let best = faster(best, Some(other));
+    if best.total() <= bound {
+        return Ok(best);
+    }
+    search.offer(Some(&best))?;
+    search.search(strategy.search.nodes, bound);
+    Ok(faster(best, Some(search.best().duplicate())))
+}
+
+/// An answer by what was found beside the search, and by the search, if that has to go on.
 fn answer_by(
     alloc: Global,
     block: &Block,
     profile: &Profile,
     strategy: Strategy,
+    search: LoneSearch<'_>,
     looked: Looked,
 ) -> Result<Found, AllocError>
-    requires search { IsSearchWithin strategy.search.workers strategy.search.nodes }
+    requires within { IsSearchWithin strategy.search.workers strategy.search.nodes }
+    requires search { IsSearchOf strategy profile.now block.now search }
     requires deep { strategy.deep ≡ true }
     requires looked { IsLooked (problem_of profile.now block.now) strategy.search.nodes looked }
     ensures { IfOk result (IsFor strategy profile.now block.now) }
 {
+    let mut search = search;
     let Looked {
         best,
         source,
@@ -288,8 +345,11 @@ fn answer_by(
         splits,
     } = looked;
     let shows = Shows { bound, lines, tree };
-    if bound < best.total() {
-        return search_on(alloc, block, profile, strategy, &best, shows);
+    let best = sought(alloc, block, profile, strategy, &mut search, best, bound)?;
+    // so the bound is one that a document may claim
+    prove!(block.count() <= BLOCK_LIMIT);
+    if best.total() != bound {
+        return found_or_shown(alloc, block, profile, search, shows);
     }
     let near = nearest_order(block, best, source);
     let candidate = Candidate {
@@ -300,29 +360,67 @@ fn answer_by(
     };
     match shown_by(alloc, block, profile, candidate, shows)? {
         Some(shown) => Ok(Found::Shown(shown)),
-        None => found_by_search(alloc, block, profile, strategy, Some(&near)),
+        None => found_by_search(block, search),
     }
 }
 
-/// What is found of a block with facts first, in a long one, by the calling thread alone.
-fn deep_answer(
+/// An answer that is best, or its order by facts if one leaf shows this by them, and in fewer lines.
+fn by_leaf(
     alloc: Global,
     block: &Block,
     profile: &Profile,
-    strategy: Strategy,
+    answer: Answer,
+    looked: Looked,
 ) -> Result<Found, AllocError>
-    requires search { IsSearchWithin strategy.search.workers strategy.search.nodes }
-    requires deep { strategy.deep ≡ true }
-    ensures { IfOk result (IsFor strategy profile.now block.now) }
+    requires problem { answer.problem ≡ problem_of profile.now block.now }
+    requires looked { IsLooked (problem_of profile.now block.now) 0 looked }
+    ensures { (strategy : StrategyOf) → strategy.deep ≡ true → IsFor strategy profile.now block.now (Searched answer) → IfOk result (IsFor strategy profile.now block.now) }
 {
-    match look_at(alloc, block, profile, strategy.search.nodes)? {
-        Some(looked) => answer_by(alloc, block, profile, strategy, looked),
-        None => found_by_search(alloc, block, profile, strategy, None),
+    let Looked {
+        bound,
+        lines,
+        tree,
+        ..
+    } = looked;
+    if bound != answer.time() || answer.line_count() <= lines.len() + 1 {
+        return Ok(Found::Searched(answer));
+    }
+    // so the bound is one that a document may claim
+    prove!(block.count() <= BLOCK_LIMIT);
+    let shows = Shows { bound, lines, tree };
+    shown_or_searched(alloc, block, profile, answer, 0, shows)
+}
+
+/// The answer of a search that found a best order; if documents are printed, one by facts if that is shorter.
+fn found_best(
+    alloc: Global,
+    block: &Block,
+    profile: &Profile,
+    search: LoneSearch<'_>,
+    is_printed: bool,
+) -> Result<Found, AllocError>
+    requires { search.problem ≡ problem_of profile.now block.now }
+    ensures { (strategy : StrategyOf) → strategy.deep ≡ true → IsSearchOf strategy profile.now block.now search.entry → IfOk result (IsFor strategy profile.now block.now) }
+{
+    let found = search.finish()?;
+    let answer = nearest(block, found);
+    if !is_printed || answer.line_count() <= SHORT_TREE {
+        return Ok(Found::Searched(answer));
+    }
+    match look_at(alloc, block, profile, answer.best(), 0, true)? {
+        Some(looked) => by_leaf(alloc, block, profile, answer, looked),
+        None => Ok(Found::Searched(answer)),
     }
 }
 
-/// What is answered for a block under a profile with facts, by the calling thread alone: in a short block facts are looked for only if
-/// a search doesn't find the best order, since most are searched sooner than that.
+/// How many splits the search of a block makes before facts are looked for: so many that they take about half the time that facts do.
+fn first_splits(block: &Block) -> u32 {
+    let count = block.count() as u32;
+    count * SPLITS_EACH.max(count * count / SQUARE_SHARE)
+}
+
+/// What is answered for a block under a profile with facts, by the calling thread alone: if some splits don't find the best order, facts
+/// are looked for, and then the search goes on, unless they show that an order is best. If documents are printed, a short one is sought.
 ///
 /// `Err` is out of memory.
 pub fn answer_alone(
@@ -330,19 +428,22 @@ pub fn answer_alone(
     block: &Block,
     profile: &Profile,
     strategy: Strategy,
+    is_printed: bool,
 ) -> Result<Found, AllocError>
     requires search { IsSearchWithin strategy.search.workers strategy.search.nodes }
     requires deep { strategy.deep ≡ true }
     ensures { IfOk result (IsFor strategy profile.now block.now) }
 {
-    if SHORT_LIMIT < block.count() {
-        return deep_answer(alloc, block, profile, strategy);
+    let mut search = LoneSearch::new(alloc, block, profile, strategy.search)?;
+    search.search(first_splits(block), 0);
+    if search.is_best() {
+        return found_best(alloc, block, profile, search, is_printed);
     }
-    let answer = search(alloc, block, profile, strategy, None)?;
-    if !answer.is_best() {
-        return deep_answer(alloc, block, profile, strategy);
+    let most = strategy.search.nodes;
+    match look_at(alloc, block, profile, search.best(), most, is_printed)? {
+        Some(looked) => answer_by(alloc, block, profile, strategy, search, looked),
+        None => found_by_search(block, search),
     }
-    Ok(Found::Searched(nearest(block, answer)))
 }
 
 /// What is answered for a block under a profile by a search of its orders, which all workers share.

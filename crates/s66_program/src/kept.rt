@@ -21,6 +21,9 @@ use std::thread::Threads;
 pub(crate) trait Keep<X> {
     ghost part: { Self → StrategyOf → ProfileOf → ℕ → BlockOf → AnswerOf → List X };
 
+    /// Whether documents are printed of what is kept.
+    fn prints_documents(&self) -> bool;
+
     /// Appends what is kept of an answer to a block, whose number is from 1. Returns whether the answer is best.
     fn keep(
         &self,
@@ -59,7 +62,7 @@ fn kept_at<X: Drop, K: Keep<X>>(
     ensures { IfOk result (IsKeptAt (K.part what.now strategy profile.now) strategy profile.now before blocks.now place) }
 {
     let block = &blocks[place];
-    let found = answer_alone(alloc, block, profile, strategy)?;
+    let found = answer_alone(alloc, block, profile, strategy, what.prints_documents())?;
     let mut parts = Vec::new(alloc);
     let number = before + place + 1;
     let all_best = what.keep(&mut parts, number, block, profile, strategy, found)?;

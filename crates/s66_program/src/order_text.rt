@@ -46,6 +46,10 @@ struct Placings {
 impl Keep<Placed> for Placings {
     ghost part = { λ placings strategy p. placed_part placings.trace p };
 
+    fn prints_documents(&self) -> bool {
+        false
+    }
+
     fn keep(
         &self,
         parts: &mut Vec<Placed>,

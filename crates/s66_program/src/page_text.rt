@@ -24,6 +24,10 @@ struct Views;
 impl Keep<Found> for Views {
     ghost part = { λ _ strategy p. found_part };
 
+    fn prints_documents(&self) -> bool {
+        false
+    }
+
     fn keep(
         &self,
         parts: &mut Vec<Found>,

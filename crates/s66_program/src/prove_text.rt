@@ -24,6 +24,10 @@ struct Documents {
 impl Keep<u8> for Documents {
     ghost part = { λ documents. document_part };
 
+    fn prints_documents(&self) -> bool {
+        true
+    }
+
     fn keep(
         &self,
         parts: &mut Vec<u8>,

@@ -22,6 +22,10 @@ struct Waits;
 impl Keep<u8> for Waits {
     ghost part = { λ _ strategy. answer_lines };
 
+    fn prints_documents(&self) -> bool {
+        false
+    }
+
     fn keep(
         &self,
         parts: &mut Vec<u8>,

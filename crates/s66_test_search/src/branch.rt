@@ -32,10 +32,23 @@ fn search<R: AllocGlobal + Abort>(
     below: u32,
     splits: u32,
 ) -> Branched {
+    search_until(rt, block, finder, below, 0, splits)
+}
+
+/// The same, which stops at an order that is enough.
+fn search_until<R: AllocGlobal + Abort>(
+    rt: &R,
+    block: &Block,
+    finder: &Finder,
+    below: u32,
+    enough: u32,
+    splits: u32,
+) -> Branched {
     let profile = Profile::standard();
     let written = as_written(block, &profile);
     let limits = Limits {
         below,
+        enough,
         splits,
         first_line: first_line(block, finder.lines().len()),
     };
@@ -110,6 +123,18 @@ fn shows_less_by_fewer_splits(rt: HostRuntime) {
             let source = source_of(&rt, code);
             check_cut_off(&rt, code, block_of(&rt, &source), best);
         }
+    }
+}
+
+#[test]
+fn stops_at_an_order_that_is_enough(rt: HostRuntime) {
+    for &(code, best) in BEST_TIMES {
+        let source = source_of(&rt, code);
+        let block = block_of(&rt, &source);
+        let finder = found_at_first(&rt, block);
+        let branched = search_until(&rt, block, &finder, u32::MAX, best, SPLITS);
+        assert_eq!(rt; branched.best.total(), best, "{code}");
+        assert!(rt; branched.tree.is_none(), "{code}");
     }
 }
 

@@ -9,8 +9,18 @@ use Rattle.s66_program.specs.declared.answers.Candidate.{Candidate}
 use Rattle.s66_program.specs.declared.documents.Shows.{Shows}
 use Rattle.s66_text.specs.Answers.{IsEnough, problem_of}
 use Rattle.s66_program.specs.Stored.{IsShownBy, claimed}
-use Rattle.s66_program.proofs.ByFacts.{IsCandidate, as-good, as-long, shown-claimed}
+use Rattle.s66_program.proofs.ByFacts.{IsCandidate, as-good, as-long, looked-fit, shown-claimed}
 use Rattle.s66_program.proofs.answers.answer_by.Goals as goal
+
+pub found_or_shown-requires-clause-fit : goal.found_or_shown-requires-clause-fit
+found_or_shown-requires-clause-fit c =
+    looked-fit c.args.profile.now c.args.block.now c.args.strategy.search.nodes c.args.looked c.requires.looked (omega (arith, c.count.ensures.value, c.count.ensures.few))
+
+pub returns-then-total-bound : goal.returns-then-total-bound
+returns-then-total-bound c = c.found_or_shown.ensures c.args.strategy c.requires.deep c.sought.ensures.search
+
+pub returns-in-None : goal.returns-in-None
+returns-in-None c = c.found_by_search.ensures c.args.strategy c.args.profile.now c.sought.ensures.search
 
 pub returns-in-Some : goal.returns-in-Some
 returns-in-Some c =
@@ -20,10 +30,12 @@ returns-in-Some c =
     let b : Problem = problem_of p block in
     let looked = c.args.looked in
     let is = c.requires.looked in
+    let best = c.in_ok-best.best in
+    let found = c.in_ok-best.ensures.best in
     let near = c.nearest_order-near.result in
     let nearer = c.nearest_order-near.ensures in
-    let good = as-good b looked.best near nearer.problem nearer.time is.best nearer.first in
-    let same = as-long b looked.best near nearer.problem nearer.time is.best.problem in
+    let good = as-good b best near nearer.problem nearer.time found nearer.first in
+    let same = as-long b best near nearer.problem nearer.time found.problem in
     let shows : Shows = record { bound = looked.bound; lines = looked.lines; tree = looked.tree } in
     let candidate : Candidate = record { order = c.duplicate.result; time = c.total-2.result; source = looked.source; splits = looked.splits } in
     let s = c.in-Some.shown in
@@ -41,11 +53,11 @@ returns-in-Some c =
       source = is.source;
     }
     in
-    let first : c.total.result ≡ total_of b looked.best.numbers = c.total.ensures.value ∙ ap (λ (q : Problem). total_of q looked.best.numbers) is.best.problem in
+    let first : c.total.result ≡ total_of b best.numbers = c.total.ensures.value ∙ ap (λ (q : Problem). total_of q best.numbers) found.problem in
     let time : s.document.time ≡ c.total-2.result = ap (λ (d : Parts). d.time) shown.document in
     let bound : s.document.bound ≡ looked.bound = ap (λ (d : Parts). d.bound) shown.document in
     let counted : splits (tree_of_lines s.document.vertices) ≡ splits (tree_of_lines looked.tree) = ap (λ (d : Parts). splits (tree_of_lines d.vertices)) shown.document in
     let enough : IsEnough strategy.search b (claimed s) =
-    inl (omega (arith, bound, time, total, same, first, is.bound, c.if-bound-total.false), shown.splits ∙ is.splits.0 ∙ sym counted, omega (arith, shown.splits, is.splits.1))
+    inl (omega (arith, bound, time, total, same, first, c.if-total-bound.false), shown.splits ∙ is.splits.0 ∙ sym counted, omega (arith, shown.splits, is.splits.1))
     in
     shown-claimed strategy p block candidate shows s shown c.requires.deep right enough

@@ -1,4 +1,4 @@
-use Rattle.std.proofs.Common.{◌≡◌, ◌≤◌, ◌∙◌, IfSome, ap, arith, inr, length, subst, sym}
+use Rattle.std.proofs.Common.{◌≡◌, ◌≤◌, ◌∙◌, IfSome, ap, arith, inl, inr, length, subst, sym}
 use Rattle.s66_isa.specs.declared.limits.TheConstants.{BLOCK_LIMIT}
 use Rattle.s66_line.specs.Block.{instrs_of}
 use Rattle.s66_dep.specs.Ordered.{Ordered}
@@ -10,36 +10,32 @@ use Rattle.s66_model.proofs.LegalOrders.{legal-order}
 use Rattle.s66_ledger.specs.Answers.{answer_of}
 use Rattle.s66_cert.specs.DocumentParts.{Parts}
 use Rattle.s66_program.specs.declared.answers.Candidate.{Candidate}
+use Rattle.s66_model.specs.Tree.{splits}
+use Rattle.s66_cert.specs.DocumentParts.{tree_of_lines}
 use Rattle.s66_text.specs.Answers.{IsEnough, problem_of}
-use Rattle.s66_program.specs.declared.answers.Found.TheVariants.{Searched}
-use Rattle.s66_program.specs.Stored.{IsFor, IsShownBy, claimed}
+use Rattle.s66_program.specs.Stored.{IsShownBy, claimed}
 use Rattle.s66_program.proofs.SearchAnswers.{search-answers}
 use Rattle.s66_program.proofs.ByFacts.{IsCandidate, shown-claimed}
-use Rattle.s66_program.proofs.answers.search_on.Goals as goal
+use Rattle.s66_program.proofs.answers.shown_or_searched.Goals as goal
 
 pub shown_by-requires-clause-time : goal.shown_by-requires-clause-time
 shown_by-requires-clause-time c =
-    let found = c.nearest-answer.result in
+    let found = c.args.answer in
     let a = answer_of found in
     let is = c.time.ensures.answer in
-    let few : length found.problem.block ≤ BLOCK_LIMIT =
-    subst (λ (q : Problem). length q.block ≤ BLOCK_LIMIT) (sym (c.nearest-answer.ensures.problem ∙ c.in_ok-found.ensures.1)) (omega (arith, c.count.ensures.value, c.count.ensures.few))
-    in
+    let few : length found.problem.block ≤ BLOCK_LIMIT = subst (λ (q : Problem). length q.block ≤ BLOCK_LIMIT) (sym c.requires.problem) (omega (arith, c.count.ensures.value, c.count.ensures.few)) in
     omega (arith, c.time.ensures.value, is.time, total-le found.problem a.order, (legal-order found.problem.block a.order is.legal).1, few)
 
 pub returns-in-Some : goal.returns-in-Some
 returns-in-Some c =
-    let strategy = c.args.strategy in
+    λ strategy deep for worth.
     let p = c.args.profile.now in
     let block = c.args.block.now in
     let b : Problem = problem_of p block in
-    let found = c.nearest-answer.result in
+    let found = c.args.answer in
     let a = answer_of found in
-    let near = c.nearest-answer.ensures in
-    let searched = c.in_ok-found.ensures in
-    let for : IsFor strategy p block (Searched found) = (near.rule ∙ searched.0, near.problem ∙ searched.1, near.budget ∙ searched.2) in
     let is = search-answers strategy p block found for c.time.ensures.answer in
-    let candidate : Candidate = record { order = c.duplicate.result; time = c.time.result; source = c.source.result; splits = c.splits.result } in
+    let candidate : Candidate = record { order = c.duplicate.result; time = c.time.result; source = c.source.result; splits = c.args.splits } in
     let s = c.in-Some.shown in
     let shown : IsShownBy p block candidate c.args.shows s = subst (λ o. IfSome o (IsShownBy p block candidate c.args.shows)) c.in-Some.is c.in_ok-shown.ensures in
     let order : c.duplicate.result ≡ record { block = found.problem.block; numbers = a.order } = c.duplicate.ensures ∙ c.order.ensures in
@@ -56,7 +52,11 @@ returns-in-Some c =
     in
     let time : s.document.time ≡ c.time.result = ap (λ (d : Parts). d.time) shown.document in
     let bound : s.document.bound ≡ c.args.shows.bound = ap (λ (d : Parts). d.bound) shown.document in
+    let counted : splits (tree_of_lines s.document.vertices) ≡ splits (tree_of_lines c.args.shows.tree) = ap (λ (d : Parts). splits (tree_of_lines d.vertices)) shown.document in
     let enough : IsEnough strategy.search b (claimed s) =
-    inr (a, is, omega (arith, time, c.time.ensures.value), omega (arith, bound, c.bound.ensures.value, c.if-shows-bound.false), shown.splits ∙ c.splits.ensures.value)
+    elim worth [
+      | inl best ↦ inl (bound ∙ best.0 ∙ sym c.time.ensures.value ∙ sym time, shown.splits ∙ best.1 ∙ sym counted, omega (arith, shown.splits, best.2))
+      | inr more ↦ inr (a, is, omega (arith, time, c.time.ensures.value), omega (arith, bound, more.0), shown.splits ∙ more.1)
+    ]
     in
-    shown-claimed strategy p block candidate c.args.shows s shown c.requires.deep right enough
+    shown-claimed strategy p block candidate c.args.shows s shown deep right enough
