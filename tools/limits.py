@@ -7,6 +7,8 @@
   It ends as with ample memory, or with status 4, no output and OUT OF MEMORY; never by a signal. --quick takes every tenth step,
   and sizes at which a worker's stack just fits; for 16 workers, which are slow on few processors, every eighth of these.
 - Threads (`ulimit -u`), where this runs as root, as a user who has no other processes: it ends as with any number.
+- Stacks of threads as small as the C library makes them (2 MB, with `ulimit -s unlimited`, where that may be set): it ends as with
+  larger ones.
 - Standard input, output and error that are closed, a device that is full, a pipe whose reader has gone, a folder: status 6 and
   READ FAILED or WRITE FAILED; without standard error the status stays.
 
@@ -24,6 +26,8 @@ import tempfile
 SEVEN = "".join(f"  FX{i} X7*X7\n" for i in range(7))  # 8,660 splits, all of which any search takes, and one best time: workers start
 SOURCE = f"LOOP   SA1 A1+B1\n  BX6 X1\n  ZR X1,LOOP\n{SEVEN}".encode()
 LONG = b"  SA1 A1+B1\n" * 20000
+LANES = "".join(f"  SX{i % 6} X{i % 6}+B1\n  SX{i % 6} X{i % 6}+B2\n  LX{i % 6} 7\n  FX{(i + 3) % 6} X{i % 6}*X{i % 6}\n" for i in range(32))
+BLOCKS = (f"{LANES}  PS\n" * 4).encode()  # of 128 instructions each
 SEARCHES = [["order", "--trace"], ["order", "--deep"], ["order", "--dominate-tree"], ["prove"], ["sum"], ["page"]]
 USER = 65_520 + os.getpid() % 14  # one of the numbers that systems leave unused
 UNREAD = (6, b"", b"READ FAILED\n")
@@ -100,6 +104,16 @@ def check_threads(checks, program):
                 checks.look(f"-u: {' '.join(words)}", threads, seen, ample)
 
 
+def check_stacks(checks, program):
+    if resource.getrlimit(resource.RLIMIT_STACK)[1] != resource.RLIM_INFINITY:
+        return
+    words = ["order", "--deep", "--nodes", "2000", "--workers"]
+    ample = run([program, *words, "1"], BLOCKS)
+    for workers in ("1", "4"):
+        seen = run([program, *words, workers], BLOCKS, preexec_fn=limited(resource.RLIMIT_STACK, resource.RLIM_INFINITY))
+        checks.look("-s unlimited: " + " ".join(words), workers, seen, ample)
+
+
 def with_files(program, words, given, files):
     """How the program ends with its input and with these files, by their numbers, in place of what it has; None is closed."""
 
@@ -159,6 +173,7 @@ def main(arguments):
     with concurrent.futures.ThreadPoolExecutor(os.cpu_count()) as pool:
         check_memory(checks, program, pool, is_quick)
     check_threads(checks, program)
+    check_stacks(checks, program)
     check_devices(checks, program)
     check_gone_reader(checks, program)
     for row, statuses in checks.statuses.items():
