@@ -14,7 +14,7 @@ ghost use Rattle.s66_program.specs.Output.{IsSearchWithin};
 ghost use Rattle.s66_program.specs.Stored.{IsFit, IsFor, IsSearchOf, IsShownBy, IsWorth};
 
 use crate::documents::{Shows, document_by, document_of, is_accepted};
-use s66_cert::Document;
+use s66_cert::{Document, Tree};
 use s66_command::Strategy;
 use s66_deep::{Looked, faster, look_at};
 use s66_dep::Order;
@@ -364,42 +364,60 @@ fn answer_by(
     }
 }
 
-/// An answer that is best, or its order by facts if one leaf shows this by them, and in fewer lines.
-fn by_leaf(
+/// How many lines a tree has.
+fn line_count(tree: &Tree) -> usize {
+    let mut lines = tree.lines();
+    let mut count = 0usize;
+    while let Some(_) = lines.next() {
+        count = count.saturating_add(1);
+    }
+    count
+}
+
+/// An answer that is best, or its order by facts if these show that too, and in fewer lines.
+fn in_fewer_lines(
     alloc: Global,
     block: &Block,
     profile: &Profile,
     answer: Answer,
     looked: Looked,
+    most: u32,
 ) -> Result<Found, AllocError>
     requires problem { answer.problem ≡ problem_of profile.now block.now }
-    requires looked { IsLooked (problem_of profile.now block.now) 0 looked }
+    requires looked { IsLooked (problem_of profile.now block.now) most looked }
+    requires most { most ≤ answer.budget }
     ensures { (strategy : StrategyOf) → strategy.deep ≡ true → IsFor strategy profile.now block.now (Searched answer) → IfOk result (IsFor strategy profile.now block.now) }
 {
     let Looked {
         bound,
         lines,
         tree,
+        splits,
         ..
     } = looked;
-    if bound != answer.time() || answer.line_count() <= lines.len() + 1 {
+    if bound != answer.time()
+        || answer.line_count() <= lines.len().saturating_add(line_count(&tree))
+    {
         return Ok(Found::Searched(answer));
     }
     // so the bound is one that a document may claim
     prove!(block.count() <= BLOCK_LIMIT);
     let shows = Shows { bound, lines, tree };
-    shown_or_searched(alloc, block, profile, answer, 0, shows)
+    shown_or_searched(alloc, block, profile, answer, splits, shows)
 }
 
-/// The answer of a search that found a best order; if documents are printed, one by facts if that is shorter.
+/// The answer of a search that found a best order; if documents are printed, one by facts if that is shorter, whose tree has at most so
+/// many splits.
 fn found_best(
     alloc: Global,
     block: &Block,
     profile: &Profile,
     search: LoneSearch<'_>,
     is_printed: bool,
+    most: u32,
 ) -> Result<Found, AllocError>
-    requires { search.problem ≡ problem_of profile.now block.now }
+    requires problem { search.problem ≡ problem_of profile.now block.now }
+    requires most { most ≤ search.budget }
     ensures { (strategy : StrategyOf) → strategy.deep ≡ true → IsSearchOf strategy profile.now block.now search.entry → IfOk result (IsFor strategy profile.now block.now) }
 {
     let found = search.finish()?;
@@ -407,8 +425,8 @@ fn found_best(
     if !is_printed || answer.line_count() <= SHORT_TREE {
         return Ok(Found::Searched(answer));
     }
-    match look_at(alloc, block, profile, answer.best(), 0, true)? {
-        Some(looked) => by_leaf(alloc, block, profile, answer, looked),
+    match look_at(alloc, block, profile, answer.best(), most, true)? {
+        Some(looked) => in_fewer_lines(alloc, block, profile, answer, looked, most),
         None => Ok(Found::Searched(answer)),
     }
 }
@@ -435,11 +453,11 @@ pub fn answer_alone(
     ensures { IfOk result (IsFor strategy profile.now block.now) }
 {
     let mut search = LoneSearch::new(alloc, block, profile, strategy.search)?;
+    let most = strategy.search.nodes;
     search.search(first_splits(block), 0);
     if search.is_best() {
-        return found_best(alloc, block, profile, search, is_printed);
+        return found_best(alloc, block, profile, search, is_printed, most);
     }
-    let most = strategy.search.nodes;
     match look_at(alloc, block, profile, search.best(), most, is_printed)? {
         Some(looked) => answer_by(alloc, block, profile, strategy, search, looked),
         None => found_by_search(block, search),

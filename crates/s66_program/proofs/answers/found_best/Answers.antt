@@ -6,4 +6,4 @@ returns-in-Some c =
     λ strategy deep searched.
     let near = c.nearest-answer.ensures in
     let ended = c.in_ok-found.ensures in
-    c.by_leaf.ensures strategy deep (near.rule ∙ (ended.rule ∙ searched.0), near.problem ∙ (ended.problem ∙ searched.1), near.budget ∙ (ended.budget ∙ searched.2))
+    c.in_fewer_lines.ensures strategy deep (near.rule ∙ (ended.rule ∙ searched.0), near.problem ∙ (ended.problem ∙ searched.1), near.budget ∙ (ended.budget ∙ searched.2))
