@@ -107,7 +107,7 @@ def check_threads(checks, program):
 def check_stacks(checks, program):
     if resource.getrlimit(resource.RLIMIT_STACK)[1] != resource.RLIM_INFINITY:
         return
-    words = ["order", "--deep", "--nodes", "2000", "--workers"]
+    words = ["order", "--deep", "--nodes", "100", "--workers"]
     ample = run([program, *words, "1"], BLOCKS)
     for workers in ("1", "4"):
         seen = run([program, *words, workers], BLOCKS, preexec_fn=limited(resource.RLIMIT_STACK, resource.RLIM_INFINITY))
