@@ -25,7 +25,7 @@ use Rattle.s66_why.proofs.Found.{ArePositive, NoneDone, found-or-none, or_else-f
 
 -- THE POINTS OF NUMBERS
 
-positive-after : (b : Problem) (s : List Point) (ns : List ℕ) → ArePositive s → AreFromOne ns → ArePositive (points_after b s ns)
+pub positive-after : (b : Problem) (s : List Point) (ns : List ℕ) → ArePositive s → AreFromOne ns → ArePositive (points_after b s ns)
 positive-after b s [] positive from = positive
 positive-after b s (n ∷ ns) positive from =
     positive-after b (point_of b s n ∷ s) ns
@@ -48,7 +48,7 @@ unfolding point
 point-slot b [] n = refl
 point-slot b (q ∷ s) n = refl
 
-placed : (b : Problem) (s : List Point) (n : ℕ) → IsPlaced b s (point_of b s n)
+pub placed : (b : Problem) (s : List Point) (n : ℕ) → IsPlaced b s (point_of b s n)
 unfolding point start_of
 placed b s n =
     record {
@@ -61,7 +61,8 @@ placed b s n =
 -- HELD
 
 abbrev pub IsHeldBy : Problem → List Point → Point → Conflict → (from to : ℕ) → Holder → Type 0
-IsHeldBy b s p conflict from to h = (q : Point) × Among q s × (q.number ≡ h.number) × IsKeptBack b s p conflict from to h.cause q
+IsHeldBy b s p conflict from to h =
+    (q : Point) × Among q s × (q.number ≡ h.number) × IsKeptBack b s p conflict from to h.cause q × (lets_go h.cause to q ≡ true)
 
 -- FIRST ORDER
 
@@ -91,7 +92,7 @@ done-before s p t none by q in_s w among =
     let most : done_at q w.reg ≤ t + 1 = by q in_s w among in
     grind (arith, apart, most)
 
-first-held : (b : Problem) (s : List Point) (p : Point) (t : ℕ) → p.issue ≡ t + 1 → IsPlaced b s p → ArePositive s → slot s p ≤ t →
+pub first-held : (b : Problem) (s : List Point) (p : Point) (t : ℕ) → p.issue ≡ t + 1 → IsPlaced b s p → ArePositive s → slot s p ≤ t →
     IsHeldBy b s p First (slot s p) (t + 1) (first_holder s p)
 first-held b s p t is pl positive late =
     let no : CanIssue b s p.row t → ⊥ = λ can. omega (arith, is, pl.issue.least t (omega (arith, pl.slot, late)) can) in
@@ -111,14 +112,14 @@ first-held b s p t is pl positive late =
           let done : done_at f.point found.reg ≡ t + 1 = eqb-true (done_at f.point found.reg) (t + 1) f.lets in
           here (holder (Writes found.reg) (t + 1) s)
           (sym (named ∙ or_else-first results unit (omega (arith, ap (λ (h : Holder). h.number) found.is, f.number, f.some)) ∙ found.is))
-          (f.point, f.among, f.number, kept (Writes found.reg) f.point (found.listed, omega (arith, done)))
+          (f.point, f.among, f.number, kept (Writes found.reg) f.point (found.listed, omega (arith, done)), f.lets)
       | inl (zero, z, none) ↦
           let before = done-before s p t none passes.1 in
           elim (found-or-none (Takes p.row.kind) (t + 1) s positive) [
             | inl f ↦
                 let all : copies b p.row.kind ≤ tally (busy_at p.row.kind t) s =
                 elim (cases_le (copies b p.row.kind) (tally (busy_at p.row.kind t) s)) [ inl most ↦ most | inr free ↦ absurd (no (free, before)) ] in
-                here unit (sym (named ∙ or_else-second results unit zero)) (f.point, f.among, f.number, kept (Takes p.row.kind) f.point (refl, busy-before p.row.kind t f.point f.lets, eqb-true f.point.free (t + 1) (and_parts (same_kind f.point.row.kind p.row.kind) (f.point.free == t + 1) f.lets).1, all))
+                here unit (sym (named ∙ or_else-second results unit zero)) (f.point, f.among, f.number, kept (Takes p.row.kind) f.point (refl, busy-before p.row.kind t f.point f.lets, eqb-true f.point.free (t + 1) (and_parts (same_kind f.point.row.kind p.row.kind) (f.point.free == t + 1) f.lets).1, all), f.lets)
             | inr n ↦
                 let fewer : tally (busy_at p.row.kind t) s ≤ tally (busy_at p.row.kind (t + 1)) s =
                 tally-le (busy_at p.row.kind t) (busy_at p.row.kind (t + 1)) s (λ q among. busy-on p.row.kind t q (n.none q among)) in
@@ -128,7 +129,7 @@ first-held b s p t is pl positive late =
 
 -- SECOND ORDER
 
-second-held : (b : Problem) (s : List Point) (p : Point) (t : ℕ) → p.start ≡ t + 1 → IsPlaced b s p → ((r : Reg) → last_done r s ≡ done_of s r) → ArePositive s → p.issue ≤ t →
+pub second-held : (b : Problem) (s : List Point) (p : Point) (t : ℕ) → p.start ≡ t + 1 → IsPlaced b s p → ((r : Reg) → last_done r s ≡ done_of s r) → ArePositive s → p.issue ≤ t →
     IsHeldBy b s p Second p.issue (t + 1) (second_holder s p)
 second-held b s p t is pl latest positive late =
     let regs : List Reg = p.row.reads in
@@ -150,13 +151,13 @@ second-held b s p t is pl latest positive late =
           omega (arith, done, latest r, le-greatest (λ (q : Point). done_at q r) f.point s f.among, le-greatest (λ u. last_done u s) r regs found.listed, whole) in
           here (holder (Writes r) (t + 1) s)
           (sym (named ∙ or_else-first results reference (omega (arith, ap (λ (h : Holder). h.number) found.is, f.number, f.some)) ∙ found.is))
-          (f.point, f.among, f.number, (refl, sym is, (found.listed, omega (arith, done), last)))
+          (f.point, f.among, f.number, (refl, sym is, (found.listed, omega (arith, done), last)), f.lets)
       | inl (zero, z, none) ↦
           elim (found-or-none memory (t + 1) s positive) [
             | inl f ↦
                 let parts = and_parts (memory_pair f.point.row.memory p.row.memory) (f.point.start + 1 == t + 1) f.lets in
                 here reference (sym (named ∙ or_else-second results reference zero))
-                (f.point, f.among, f.number, (refl, sym is, (refl, parts.0, omega (arith, eqb-true (f.point.start + 1) (t + 1) parts.1))))
+                (f.point, f.among, f.number, (refl, sym is, (refl, parts.0, omega (arith, eqb-true (f.point.start + 1) (t + 1) parts.1))), f.lets)
             | inr n ↦
                 elim (cases_le (t + 1) operands) [
                   | inl read ↦
@@ -173,7 +174,7 @@ second-held b s p t is pl latest positive late =
 
 -- THIRD ORDER
 
-third-held : (b : Problem) (s : List Point) (p : Point) (w : Write) (t : ℕ) → readers_wait s w.reg ≡ t + 1 → IsPlaced b s p → ArePositive s → Among w p.row.writes → p.start + w.latency ≤ t →
+pub third-held : (b : Problem) (s : List Point) (p : Point) (w : Write) (t : ℕ) → readers_wait s w.reg ≡ t + 1 → IsPlaced b s p → ArePositive s → Among w p.row.writes → p.start + w.latency ≤ t →
     IsHeldBy b s p Third (p.start + w.latency) (t + 1) (third_holder s w)
 third-held b s p w t is pl positive among late =
     let d : ResultAt = result_at s p.start w in
@@ -184,7 +185,7 @@ third-held b s p w t is pl positive among late =
       | inl f ↦
           let parts = and_parts (has_reg w.reg f.point.row.reads) (f.point.start + 1 == t + 1) f.lets in
           subst (IsHeldBy b s p Third (p.start + w.latency) (t + 1)) (sym named)
-          (f.point, f.among, f.number, ((w, among, refl, refl), (d, made, refl, omega (arith, end)), parts.0, omega (arith, eqb-true (f.point.start + 1) (t + 1) parts.1)))
+          (f.point, f.among, f.number, ((w, among, refl, refl), (d, made, refl, omega (arith, end)), parts.0, omega (arith, eqb-true (f.point.start + 1) (t + 1) parts.1)), f.lets)
       | inr n ↦
           let passes = greatest-passes (λ (q : Point). has_reg w.reg q.row.reads) (λ (q : Point). q.start + 1) (t + 1) s (omega arith) (sym is) in
           absurd (true≢false (sym (and_from (has_reg w.reg passes.0.row.reads) (passes.0.start + 1 == t + 1) passes.2 (eq-eqb (passes.0.start + 1) (t + 1) passes.3)) ∙ n.none passes.0 passes.1))
@@ -210,8 +211,8 @@ forbidden-by : (b : Problem) (s : List Point) (p : Point) (conflict : Conflict) 
 forbidden-by b s p conflict from to h x among held =
     let made = stretch-is p conflict from to h x among in
     let last : to ≡ (to - 1) + 1 = omega (arith, made.0) in
-    subst (IsForbidden b s p) (sym made.1)
-    (refl, made.0, subst (λ k. IsHeldBy b s p conflict from k h) (sym last) (held (to - 1) last (omega (arith, made.0))))
+    let by = subst (λ k. IsHeldBy b s p conflict from k h) (sym last) (held (to - 1) last (omega (arith, made.0))) in
+    subst (IsForbidden b s p) (sym made.1) (refl, made.0, (by.0, by.1, by.2, by.3))
 
 pub all-forbidden : (b : Problem) (ns : List ℕ) (n : ℕ) (x : Stretch) → length ns ≤ BLOCK_LIMIT → AreFromOne ns →
     Among x (stretches_at (points_of b ns) (point_of b (points_of b ns) n)) → IsForbidden b (points_of b ns) (point_of b (points_of b ns) n) x

@@ -1,7 +1,9 @@
+pub mod Alike
 pub mod AmongParts
 pub mod Earlier
 pub mod Forbidden
 pub mod Found
 pub mod Last
 pub mod Lines
+pub mod Paths
 pub mod Writes

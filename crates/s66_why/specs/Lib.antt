@@ -1,4 +1,5 @@
 pub mod Forbids
 pub mod KeptPoints
+pub mod Paths
 pub mod Sums
 pub mod Why

@@ -5,6 +5,7 @@ ghost use Rattle.s66_isa.specs.Lists.{Among};
 ghost use Rattle.s66_isa.specs.declared.limits.TheConstants.{BLOCK_LIMIT};
 ghost use Rattle.s66_model.specs.Timing.{Problem, points_of, point_of};
 ghost use Rattle.s66_why.specs.Forbids.{AreFromOne, IsForbidden};
+ghost use Rattle.s66_why.specs.Paths.{AddsUp, AreOnce};
 ghost use Rattle.s66_why.specs.Why.{stretches_at};
 ghost use Rattle.s66_why.specs.declared.stretch.Stretch.{Stretch as StretchOf};
 
@@ -12,4 +13,10 @@ ghost use Rattle.s66_why.specs.declared.stretch.Stretch.{Stretch as StretchOf};
 /// cycle less.
 pub fn cause_law()
     ensures { (b : Problem) (ns : List ℕ) (n : ℕ) (x : StretchOf) → length ns ≤ BLOCK_LIMIT → AreFromOne ns → Among x (stretches_at (points_of b ns) (point_of b (points_of b ns) n)) → IsForbidden b (points_of b ns) (point_of b (points_of b ns) n) x }
+{}
+
+/// The path of an order begins at minor cycle 0 and ends at its time. On each of its instructions the next one waits by a rule, or
+/// stands in line behind it, and the minor cycles that they add are that time.
+pub fn path_law()
+    ensures { (b : Problem) (ns : List ℕ) → 1 ≤ length ns → AreFromOne ns → AreOnce ns → AddsUp b (points_of b ns) }
 {}

@@ -14,7 +14,7 @@ mod text;
 
 pub use cause::{Cause, Holder};
 pub use examples::{cause_examples, equal_cause_examples, path_example};
-pub use laws::cause_law;
+pub use laws::{cause_law, path_law};
 pub use path::path_from_end;
 pub use placed::{PlacedInstr, ResultAt};
 pub use points::points_of;
