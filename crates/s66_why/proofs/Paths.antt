@@ -393,18 +393,18 @@ module _ (b : Problem) where
   reach-at (x ∷ later) q e reach = reach-at later q e reach.1
 
   -- p waited for a holder until `to`, and then for nothing more
-  onward : (e : List Point) (p : Point) (link : Link) (t : ℕ) → AllSound b e → AllReach e → Leads link p t → (conflict : Conflict) (from to : ℕ) (h : Holder) → 1 ≤ to →
+  onward : (e : List Point) (p : Point) (link : Link) (t : ℕ) → AllSound b e → AllReach e → Leads link p t → (conflict : Conflict) (from to : ℕ) (h : Holder) → from < to →
       IsHeldBy b e p conflict from to h → GoesOn conflict link p h.cause to t → to ≤ t → next_link link e p ≡ Held h → HasSteps e p link t
-  onward e p link t sound reach leads conflict from to h some (q, among, number, kept, lets) goes le next =
+  onward e p link t sound reach leads conflict from to h waits (q, among, number, kept, lets) goes le next =
       let split = among-split q e among in
       let by : Link = Held (record { cause = h.cause; number = q.number }) in
-      let below : HasSteps split.1 q by to = reach-at split.0 q split.1 (subst AllReach split.2 reach) by to (refl, lets, some) in
+      let below : HasSteps split.1 q by to = reach-at split.0 q split.1 (subst AllReach split.2 reach) by to (refl, lets, omega (arith, waits)) in
       let walks : walk (next_link link e p) e ≡ q.number ∷ walk (next_link (Held h) split.1 q) split.1 =
       ap (λ l. walk l e) next ∙ ap (walk (Held h)) split.2 ∙ walk-skip b h split.0 q split.1 number (subst (AllSound b) split.2 sound) in
       let adds : t ≡ to + (t - to) = omega (arith, le) in (
         record { number = p.number; adds = t - to } ∷ below.0,
         ap (λ ns. p.number ∷ ns) (below.1 ∙ sym walks),
-        (refl, leads, inl (conflict, from, to, h.cause, q, split.1, (split.0, split.2), kept, goes, adds, below.2)),
+        (refl, leads, inl (conflict, from, to, h.cause, q, split.1, (split.0, split.2), waits, kept, goes, adds, below.2)),
       )
 
   -- a wait that ends then, as it is said of the minor cycle before
@@ -454,7 +454,7 @@ module _ (b : Problem) where
       elim (cases_Bool (nat_lt p.issue p.start)) [
         | inl waits ↦
             let second = ltb-true p.issue p.start waits in
-            onward e p (Held h) t all reach leads Second p.issue p.start (second_holder e p) (omega (arith, second)) (second-of e p sound second) free late
+            onward e p (Held h) t all reach leads Second p.issue p.start (second_holder e p) second (second-of e p sound second) free late
             (next ∙ cond-true (nat_lt p.issue p.start) (Held (second_holder e p)) (before_issue e p) waits)
         | inr starts ↦
             let same : p.start ≡ p.issue = omega (arith, ltb-false p.issue p.start starts, sound.placed.start) in
@@ -462,7 +462,7 @@ module _ (b : Problem) where
             elim (cases_Bool (nat_lt (slot e p) p.issue)) [
               | inl waits ↦
                   let first = ltb-true (slot e p) p.issue waits in
-                  onward e p (Held h) t all reach leads First (slot e p) p.issue (first_holder e p) (omega (arith, first)) (first-of e p sound first) (same, free) (omega (arith, late, same))
+                  onward e p (Held h) t all reach leads First (slot e p) p.issue (first_holder e p) first (first-of e p sound first) (same, free) (omega (arith, late, same))
                   (issued ∙ cond-true (nat_lt (slot e p) p.issue) (Held (first_holder e p)) InLine waits)
               | inr slots ↦
                   let is : p.issue ≡ slot e p = omega (arith, ltb-false (slot e p) p.issue slots, sound.placed.issue.late, sound.placed.slot) in
@@ -472,14 +472,14 @@ module _ (b : Problem) where
 
   steps-from : (e : List Point) (p : Point) → IsSound b e p → AllSound b e → AllReach e → (link : Link) (t : ℕ) → Aims e p link t → HasSteps e p link t
   steps-from e p sound all reach InLine t (is, late) =
-      onward e p InLine t all reach is First (slot e p) p.issue (first_holder e p) (omega (arith, late)) (first-of e p sound late) is (omega (arith, is)) refl
+      onward e p InLine t all reach is First (slot e p) p.issue (first_holder e p) late (first-of e p sound late) is (omega (arith, is)) refl
   steps-from e p sound all reach (Held h) t (number, lets, some) =
       let late : p.start ≤ t = start-le b e p sound h.cause t some lets in
       elim (before-is b e p sound h.cause p.row.writes) [
         | inl (w, among, decided, held, next) ↦
             let with = lets-with b e p sound h.cause t lets w among decided held in
             let waits = ltb-true (p.start + w.latency) (readers_wait e w.reg) held in
-            onward e p (Held h) t all reach (number, lets) Third (p.start + w.latency) (readers_wait e w.reg) (third_holder e w) (omega (arith, waits)) (third-of e p w sound among waits)
+            onward e p (Held h) t all reach (number, lets) Third (p.start + w.latency) (readers_wait e w.reg) (third_holder e w) waits (third-of e p w sound among waits)
             with.0 with.1 next
         | inr (none, next) ↦ from-start e p h t sound all reach (number, lets) late (lets-unhindered b e p sound h.cause t lets none) next
       ]
@@ -492,7 +492,7 @@ module _ (b : Problem) where
 
 pub adds-up : (b : Problem) (s : List Point) (p : Point) (link : Link) (t : ℕ) (xs : List Step) → IsPath b s p link t xs → weigh (λ (x : Step). x.adds) xs ≡ t
 adds-up b s p link t [] is = absurd is
-adds-up b s p link t (x ∷ xs) (number, leads, inl (conflict, from, to, cause, q, e, stands, kept, goes, adds, rest)) =
+adds-up b s p link t (x ∷ xs) (number, leads, inl (conflict, from, to, cause, q, e, stands, waits, kept, goes, adds, rest)) =
     omega (arith, adds, adds-up b e q (Held (record { cause = cause; number = q.number })) to xs rest)
 adds-up b s p link t (x ∷ xs) (number, leads, inr (goes, is, inl (none, at, adds))) =
     omega (arith, adds, ap (weigh (λ (y : Step). y.adds)) none)

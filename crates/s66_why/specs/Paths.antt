@@ -1,6 +1,6 @@
 -- To be believed: what a path is: the instructions that the time of an order comes from, and the minor cycles that each of them adds,
 -- by the rules of Timing.
-use Rattle.std.specs.Prelude.{ℕ, ◌+◌, ◌-◌, ◌≡◌, ◌⊎◌, true, false, List, [], ◌∷◌, ◌++◌, map, reverse}
+use Rattle.std.specs.Prelude.{ℕ, ◌+◌, ◌-◌, ◌<◌, ◌≡◌, ◌⊎◌, true, false, List, [], ◌∷◌, ◌++◌, map, reverse}
 use Rattle.s66_isa.specs.Lists.{has, weigh}
 use Rattle.s66_isa.specs.Table.{Write}
 use Rattle.s66_model.specs.Timing.{Problem, Point, ResultAt, free_after, total}
@@ -55,14 +55,14 @@ GoesOn First InLine p cause from t = t ≡ from
 GoesOn conflict InLine p cause from t = ⊥
 
 -- The steps of a path, the latest first, to p, which stands after the points s and to which a link leads at t. Either an earlier
--- instruction keeps p back until some minor cycle, and the path goes on from that one, which lets go then. Or p waits for nothing, and
+-- instruction keeps p back until a minor cycle, and the path goes on from that one, which lets go then. Or p waits for nothing, and
 -- issues as many minor cycles after an earlier one as it stands parcels behind it; or after minor cycle 0, where the path begins.
 abbrev pub IsPath : Problem → List Point → Point → Link → ℕ → List Step → Type 0
 IsPath b s p link t [] = ⊥
 IsPath b s p link t (x ∷ xs) =
     (x.number ≡ p.number) × Leads link p t
     × (((conflict : Conflict) × (from : ℕ) × (to : ℕ) × (cause : Cause) × (q : Point) × (e : List Point) × StandsAfter s q e
-    × IsKeptBack b s p conflict from to cause q × GoesOn conflict link p cause to t × (t ≡ to + x.adds)
+    × (from < to) × IsKeptBack b s p conflict from to cause q × GoesOn conflict link p cause to t × (t ≡ to + x.adds)
     × IsPath b e q (Held (record { cause = cause; number = q.number })) to xs)
     ⊎ (GoesOn First link p Ends p.issue t × (p.issue ≡ slot s p)
     × (((xs ≡ []) × (p.issue ≡ p.parcel) × (t ≡ x.adds))
