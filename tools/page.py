@@ -3,14 +3,16 @@
 
     tools/page.py PROGRAM [FOLDER]
 
-Pages are made of the sources of examples/, of random sources, and of sources that are meant to break out of their text. Each is
-opened at a phone's width, at that of a desk and at a projector's, dark and light. It must have no error, no script and no request but
-for itself, and no row or heading may lie over another. Its bars must begin and end where `time --trace` and `why` say of the source
-order, and `time --trace` of what `order` prints and `why --order` of the best one, and its list must say what `sum` says. Each wrong thing is told, and the last line counts the pages. The
-status is 1 if something is wrong.
+Pages are made of the sources of examples/, of random sources, of a long block, and of sources that are meant to break out of their
+text. Each is opened at a phone's width, at that of a desk and at a projector's, dark and light, and as it is printed on A4 and Letter,
+upright and across. It must have no error, no script and no request but for itself, no row or heading may lie over another, none may be
+hidden, and all that `why` says must be seen. Its bars must begin and end where `time --trace` and `why` say of the source order, and
+`time --trace` of what `order` prints and `why --order` of the best one, and its list must say what `sum` says. On paper nothing may
+stand past the sheet, nor may a bar on a screen once the page is to fit its width. Each wrong thing is told, and the last line counts
+the pages. The status is 1 if something is wrong.
 
-With FOLDER a picture of each page of an example is written there, for each width, dark and light. Chromium is Debian's; if it is
-missing, `apt-get install chromium` is run, which has to be allowed.
+With FOLDER a picture of each page of an example is written there, for each width, dark and light, and its sheets as PDF. Chromium is
+Debian's; if it is missing, `apt-get install chromium` is run, which has to be allowed.
 """
 import base64
 import glob
@@ -27,12 +29,16 @@ ROOT = os.path.dirname(os.path.dirname(os.path.abspath(__file__)))
 WIDTHS = {"phone": 390, "desk": 1280, "projector": 1920}
 SCHEMES = "light", "dark"
 SEARCH = ["--workers", "1", "--dominate-tree"]
+SHEETS = {"A4": (8.27, 11.69), "A4 across": (11.69, 8.27), "Letter": (8.5, 11.0), "Letter across": (11.0, 8.5)}  # in inches
+MARGIN = 0.4  # in inches, as the browser prints
+DOTS = 96  # an inch has so many
 HEIGHT = 900
 HIGHEST = 12_000  # the most lines of dots of a picture
 WAIT = re.compile(r" *(\d+) (FIRST|SECOND|THIRD) (\d+) TO (\d+) (REGISTER (\w\d)|UNIT (\w+)|MEMORY) BY (\d+)")
 TRACE = re.compile(r"I (\d+) PARCEL \d+ ISSUE (\d+) START (\d+) DONE (\d+) FREE (\d+)")
 INSTRUCTION = re.compile(rb"(?![*])\S*[ +-] *((?:[A-Z]X[0-7]|S[AB][0-7])\b.*)")
 SUM = re.compile(r"BLOCK (\d+) LINE (\d+) COUNT (\d+) SOURCE (\d+) TIME (\d+) (BEST|AT LEAST \d+)")
+TOTAL = re.compile(r"TOTAL BLOCKS \d+ SOURCE (\d+) TIME (\d+) (BEST \d+)")
 
 HOSTILE = {
     "script": b"  SA1 A1+B1  <script>document.title='no'</script>\n  BX6 X1  <img src=x onerror=alert(1)>\n",
@@ -53,7 +59,8 @@ LOOK = """(() => {
     title: e.querySelector('title').textContent, place: place(e)});
   const row = e => ({class: e.className, head: e.querySelector('th').textContent, place: place(e), start: place(e.querySelector('svg'))[0],
     em: parseFloat(getComputedStyle(e.querySelector('svg')).fontSize), words: [...e.querySelectorAll('tspan')].map(t => t.textContent),
-    bars: [...e.querySelectorAll('rect')].map(bar)});
+    bars: [...e.querySelectorAll('rect')].map(bar), seen: [e, ...e.querySelectorAll('rect')].every(isSeen)});
+  const isSeen = e => e.checkVisibility({opacityProperty: true, visibilityProperty: true});
   const order = e => ({place: place(e), rows: [...e.querySelectorAll('tr')].map(row)});
   return {
     title: document.title,
@@ -62,15 +69,18 @@ LOOK = """(() => {
     list: [...document.querySelectorAll('.index tr')].slice(1).map(e => [...e.querySelectorAll('td')].map(t => t.textContent.trim())),
     links: [...document.querySelectorAll('.index a')].every(a => document.getElementById(a.getAttribute('href').slice(1))),
     blocks: [...document.querySelectorAll('h2')].map(e => e.textContent),
-    pieces: [...document.querySelectorAll('body > *')].map(e => [e.localName, ...place(e)]),
+    pieces: [...document.querySelectorAll('body > *:not(input, label)')].map(e => [e.localName, ...place(e)]),
+    seen: [...document.querySelectorAll('h2, h3, pre, table, p')].every(isSeen),
+    whole: [...document.querySelectorAll('pre')].every(e => e.scrollHeight <= e.clientHeight + 1 && e.scrollWidth <= e.clientWidth + 1),
+    right: Math.max(0, ...[...document.querySelectorAll('h2, h3, pre, rect, tspan')].map(e => place(e)[2])),
     orders: [...document.querySelectorAll('table.order')].map(order),
     why: [...document.querySelectorAll('pre')].map(e => e.textContent),
     height: document.documentElement.scrollHeight,
   };
 })()"""
 
-ELEMENTS = set("a body h2 h3 head html meta p pre rect span style svg table tbody td text th title tr tspan".split())
-ATTRIBUTES = set("charset class content dx height href id lang name style width x y".split())
+ELEMENTS = set("a body h2 h3 head html input label meta p pre rect span style svg table tbody td text th thead title tr tspan".split())
+ATTRIBUTES = set("charset class content dx for height href id lang name style type width x y".split())
 
 
 def chromium():
@@ -134,18 +144,27 @@ class Browser:
                 return message["result"]
             self.events.append(message)
 
-    def open(self, path, width, scheme):
+    def open(self, path, width, scheme, media="screen"):
         """Opens a file at a width, dark or light. Returns what it shows, and the events until it was loaded."""
         self.call("Emulation.setDeviceMetricsOverride", width=width, height=HEIGHT, deviceScaleFactor=1, mobile=False)
-        self.call("Emulation.setEmulatedMedia", features=[{"name": "prefers-color-scheme", "value": scheme}])
+        self.call("Emulation.setEmulatedMedia", media=media, features=[{"name": "prefers-color-scheme", "value": scheme}])
         self.events = []
         self.call("Page.navigate", url="file://" + path)
         while not any(event.get("method") == "Page.loadEventFired" for event in self.events):
             self.events.append(self.message())
-        shown = self.call("Runtime.evaluate", expression=LOOK, returnByValue=True)
-        if "exceptionDetails" in shown:
-            raise RuntimeError(shown["exceptionDetails"])
-        return shown["result"]["value"], self.events
+        return self.evaluate(LOOK), self.events
+
+    def evaluate(self, expression):
+        """The value of an expression in what is open."""
+        got = self.call("Runtime.evaluate", expression=expression, returnByValue=True)
+        if "exceptionDetails" in got:
+            raise RuntimeError(got["exceptionDetails"])
+        return got["result"].get("value")
+
+    def fitted(self):
+        """What is open, once it is to fit the width."""
+        self.evaluate("document.getElementById('fit').click()")
+        return self.evaluate(LOOK)
 
     def picture(self, path, width, height):
         """Writes what is open as a PNG."""
@@ -153,6 +172,13 @@ class Browser:
         shot = self.call("Page.captureScreenshot", format="png", clip=clip, captureBeyondViewport=True)
         with open(path, "wb") as file:
             file.write(base64.b64decode(shot["data"]))
+
+    def print(self, path, sheet):
+        """Writes what is open as a PDF."""
+        width, height = sheet
+        got = self.call("Page.printToPDF", paperWidth=width, paperHeight=height, printBackground=True)
+        with open(path, "wb") as file:
+            file.write(base64.b64decode(got["data"]))
 
     def close(self):
         self.process.terminate()
@@ -180,18 +206,25 @@ def by_blocks(text):
 
 
 def orders_of(program, given):
-    """The rows of the list of blocks; and of each block its source order, and the best one if it is shown: whether it is that of the
+    """The rows of the list of blocks, and their total; and of each block its source order, and the best one if it is shown: whether it is that of the
     source, its time, and what `time --trace` and `why` say of it."""
     orders = []
     ordered = run(program, ["order", *SEARCH], given)
-    rows = [SUM.fullmatch(line) for line in run(program, ["sum", *SEARCH], given).decode().splitlines()[:-1]]
+    *lines, total = run(program, ["sum", *SEARCH], given).decode().splitlines()
+    rows, total = [SUM.fullmatch(line) for line in lines], TOTAL.fullmatch(total)
     rows.sort(key=lambda row: int(row[1]))
     texts = [(by_blocks(run(program, ["time", "--trace"], text)), by_blocks(run(program, words, given)))
              for text, words in ((given, ["why"]), (ordered, ["why", "--order", *SEARCH]))]
     for index, row in enumerate(rows):
         for time, (traces, whys) in zip((row[4], row[5]), texts[: 2 if int(row[5]) < int(row[4]) else 1]):
             orders.append((whys is texts[0][1], int(time), [TRACE.fullmatch(line) for line in traces[index]], whys[index]))
-    return [list(row.groups()) for row in rows], orders
+    listed = [[*row.groups()[:5], saved(row[4], row[5]), row[6]] for row in rows]
+    count = str(sum(int(row[3]) for row in rows))
+    return listed, ["TOTAL", "", count, total[1], total[2], saved(total[1], total[2]), total[3]], orders
+
+
+def saved(source, time):
+    return str(int(source) - int(time))
 
 
 def cause(found):
@@ -246,7 +279,16 @@ def overlaps(places):
     return [index for index, (one, other) in enumerate(zip(places, places[1:])) if one[3] > other[1] + 0.6]
 
 
-def faults_of(shown, events, path, rows, orders):
+def list_faults(shown, rows, total):
+    """What the list of blocks and the title say otherwise than `sum` and the headings do."""
+    names = [heading[: heading.index(" LINE ")].strip() for heading in shown["blocks"]]
+    labels = [heading[: heading.index("BLOCK ")].strip() for heading in shown["blocks"]] + [""]
+    wanted = [[row[0], label, *row[1:]] for row, label in zip(rows + [total], labels)]
+    faults = [] if shown["list"] == wanted and shown["links"] else [f"list {shown['list']}, not {wanted}"]
+    return faults if shown["title"] == (names + ["s66"])[0] else faults + [f"title {shown['title']}, not {names[:1]}"]
+
+
+def faults_of(shown, events, path, rows, total, orders):
     """What is wrong with a page that was opened."""
     faults = []
     asked = [event["params"]["request"]["url"] for event in events if event.get("method") == "Network.requestWillBeSent"]
@@ -254,10 +296,13 @@ def faults_of(shown, events, path, rows, orders):
         faults.append(f"requests {asked}")
     faults += [json.dumps(event["params"])[:200] for event in events
                if event.get("method") in ("Log.entryAdded", "Runtime.exceptionThrown", "Runtime.consoleAPICalled")]
-    if shown["title"] != "s66" or not set(shown["elements"]) <= ELEMENTS or not set(shown["attributes"]) <= ATTRIBUTES:
-        faults.append(f"title {shown['title']}, elements {shown['elements']}, attributes {shown['attributes']}")
-    if shown["list"] != rows or not shown["links"]:
-        faults.append(f"list {shown['list']}, not {rows}")
+    if not set(shown["elements"]) <= ELEMENTS or not set(shown["attributes"]) <= ATTRIBUTES:
+        faults.append(f"elements {shown['elements']}, attributes {shown['attributes']}")
+    if not shown["seen"] or not all(row["seen"] for order in shown["orders"] for row in order["rows"]):
+        faults.append("something is hidden")
+    if not shown["whole"]:
+        faults.append("a part of what why says isn't seen")
+    faults += list_faults(shown, rows, total)
     if len(shown["blocks"]) != len(rows) or len(shown["orders"]) != len(orders):
         return faults + [f"{len(shown['blocks'])} blocks and {len(shown['orders'])} orders, not {len(rows)} and {len(orders)}"]
     if overlaps([piece[1:] for piece in shown["pieces"]]):
@@ -278,6 +323,11 @@ def text_faults(shown, orders, given):
         [] if len(rows) == len(wanted) else [f"{len(rows)} texts, not {len(wanted)}"])
 
 
+def long_source():
+    """A block of many minor cycles and two units, whose last instruction waits for both."""
+    return b"LONG" + b"  FX1 X1*X2\n  BX3 X3+X4  A REMARK OF SOME LENGTH, AS THEY ARE\n  FX4 X5/X6\n" * 30 + b"  FX7 X1*X4\n"
+
+
 def random_source(seed):
     """Some blocks of random instructions, with remarks."""
     pick = random.Random(seed)
@@ -296,27 +346,58 @@ def pages(program):
     for path in sorted(glob.glob(os.path.join(ROOT, "examples/*.compass"))):
         with open(path, "rb") as file:
             yield os.path.basename(path).removesuffix(".compass"), file.read(), True
+    yield "long", long_source(), True
     for name, source in HOSTILE.items():
         yield name, source, False
     for seed in range(8):
         yield f"random {seed}", random_source(seed), False
 
 
-def check_page(browser, program, name, given, pictures):
-    """What is wrong with the page of a source, at all widths. Pictures are written to this folder, if any."""
+def past(what, right, width):
+    """What stands past a width."""
+    return [f"{what} end at {right:.0f} of {width} dots"] if right > width + 0.6 else []
+
+
+def sheet_faults(browser, path, rows, total, orders, folder):
+    """What is wrong with a page on paper, which is written to this folder, if any."""
     faults = []
-    rows, orders = orders_of(program, given)
+    for sheet, (wide, high) in SHEETS.items():
+        width = int((wide - 2 * MARGIN) * DOTS)
+        shown, events = browser.open(path, width, "light", "print")
+        found = faults_of(shown, events, path, rows, total, orders) + past("bars and words", shown["right"], width)
+        faults += [f"{sheet}: {fault}" for fault in found]
+        if folder:
+            browser.print(f"{folder}-{sheet}.pdf", (wide, high))
+    return faults
+
+
+def screen_faults(browser, path, given, rows, total, orders, folder):
+    """What is wrong with a page on screens, of which pictures are written to this folder, if any."""
+    faults = []
+    for name, width in WIDTHS.items():
+        for scheme in SCHEMES:
+            shown, events = browser.open(path, width, scheme)
+            found = faults_of(shown, events, path, rows, total, orders) + text_faults(shown, orders, given)
+            if folder:
+                browser.picture(f"{folder}-{name}-{scheme}.png", width, shown["height"])
+            fitted = browser.fitted()
+            found += faults_of(fitted, events, path, rows, total, orders)
+            bars = [bar["place"][2] for order in fitted["orders"] for row in order["rows"] for bar in row["bars"]]
+            found += past("bars that are to fit", max(bars, default=0), width)
+            faults += [f"{name}, {scheme}: {fault}" for fault in found]
+    return faults
+
+
+def check_page(browser, program, name, given, pictures):
+    """What is wrong with the page of a source, on screens and on paper. Pictures are written to this folder, if any."""
+    rows, total, orders = orders_of(program, given)
+    folder = os.path.join(pictures, name) if pictures else None
     with tempfile.NamedTemporaryFile(suffix=".html") as file:
         file.write(run(program, ["page", *SEARCH], given))
         file.flush()
-        for width in WIDTHS:
-            for scheme in SCHEMES:
-                shown, events = browser.open(file.name, WIDTHS[width], scheme)
-                found = faults_of(shown, events, file.name, rows, orders) + text_faults(shown, orders, given)
-                faults += [f"{name}, {width}, {scheme}: {fault}" for fault in found]
-                if pictures:
-                    browser.picture(os.path.join(pictures, f"{name}-{width}-{scheme}.png"), WIDTHS[width], shown["height"])
-    return faults
+        faults = screen_faults(browser, file.name, given, rows, total, orders, folder)
+        faults += sheet_faults(browser, file.name, rows, total, orders, folder)
+    return [f"{name}, {fault}" for fault in faults]
 
 
 def main():

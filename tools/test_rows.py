@@ -27,7 +27,7 @@ def constants_of(path, known):
     def put(token):
         """What stands for a token: a string is put by, since it may have any letters, and its place stands for it."""
         if token.startswith('"'):
-            strings.append(token)
+            strings.append(token.replace("\n", "\\n"))  # a string of several lines
             return f"'{len(strings) - 1}'"
         return "" if token.startswith("//") else "[" if token == "&[" else token
 

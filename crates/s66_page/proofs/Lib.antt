@@ -1,3 +1,4 @@
 pub mod Escaping
 pub mod Pieces
 pub mod Points
+mod Totals

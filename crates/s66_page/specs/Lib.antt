@@ -2,3 +2,4 @@ pub mod Escape
 pub mod Examples
 pub mod Found
 pub mod Page
+pub mod Still

@@ -1,7 +1,7 @@
 -- To be believed: the page that shows orders of blocks, a row for each instruction and each unit, in minor cycles.
-use Rattle.std.specs.Prelude.{ℕ, zero, suc, ◌+◌, ◌-◌, ◌*◌, ◌/◌, if◌then◌else◌, ◌==◌, List, [], ◌∷◌, ◌++◌, codes, decimal, filter, flat_map, length, map, nat_le, nat_lt, reverse}
+use Rattle.std.specs.Prelude.{ℕ, zero, suc, Bool, ◌+◌, ◌-◌, ◌*◌, ◌/◌, if◌then◌else◌, ◌==◌, List, [], ◌∷◌, ◌++◌, codes, decimal, filter, flat_map, length, map, nat_le, nat_lt, reverse}
 use Rattle.std.specs.List.{range_with_len, list_any}
-use Rattle.s66_isa.specs.Lists.{weigh}
+use Rattle.s66_isa.specs.Lists.{tally, weigh}
 use Rattle.s66_isa.specs.declared.profile.Profile.{Profile}
 use Rattle.s66_isa.specs.Table.{latency_of, same_kind, numbers}
 use Rattle.s66_isa.specs.declared.instr.Kind.{Kind}
@@ -21,7 +21,7 @@ use Rattle.s66_page.specs.declared.row.Shown.TheVariants.{Bar, Words}
 use Rattle.s66_page.specs.declared.summary.Summary.{Summary}
 use Rattle.s66_page.specs.declared.page.Part.{Part}
 use Rattle.s66_page.specs.declared.page.Part.TheVariants.{Row, Orders}
-use Rattle.s66_page.specs.declared.start.TheConstants.{PAGE_START}
+use Rattle.s66_page.specs.declared.start.TheConstants.{PAGE_START, PAGE_HEAD}
 use Rattle.s66_page.specs.Found.{Found}
 use Rattle.s66_page.specs.Escape.{escaped}
 
@@ -129,7 +129,7 @@ unfoldable pub numbered_bar : (class : List ℕ) (from cycles number : ℕ) → 
 numbered_bar class from cycles number = bar class from cycles (decimal number)
 
 unfoldable pub unit_number : Work → List ℕ
-unit_number w = codes "<text x='" ++ decimal w.start ++ codes "em' y='12'>" ++ decimal w.number ++ codes "</text>"
+unit_number w = codes "<text x='" ++ decimal w.start ++ codes "em' y='12'><tspan>" ++ decimal w.number ++ codes "</tspan></text>"
 
 -- taken from issue to free, and at work from start on
 unfoldable pub unit_bars : Work → List ℕ
@@ -178,7 +178,7 @@ all_kind_rows total ws =
 
 -- a number above every tenth minor cycle
 unfoldable pub tick : ℕ → List ℕ
-tick ten = codes "<text x='" ++ decimal (10 * ten) ++ codes "em' y='12'>" ++ decimal (10 * ten) ++ codes "</text>"
+tick ten = codes "<text x='" ++ decimal (10 * ten) ++ codes "em' y='12'><tspan>" ++ decimal (10 * ten) ++ codes "</tspan></text>"
 
 abbrev pub ticks : (total : ℕ) → List ℕ
 ticks total = flat_map tick (range_with_len 0 (total / 10 + 1))
@@ -189,12 +189,12 @@ heading_end total = codes ": " ++ decimal total ++ codes " minor cycles</h3>\n"
 unfoldable pub heading : (title : List ℕ) (total : ℕ) → List ℕ
 heading title total = codes "<h3>" ++ title ++ heading_end total
 
--- the table of an order is as wide as its time and 40 minor cycles for words
+-- the table of an order, whose width follows from its time; the ruler is its head, which a printer repeats on each sheet
 unfoldable pub table_start : (total : ℕ) → List ℕ
-table_start total = codes "<table class='order' style='--w:" ++ decimal (total + 40) ++ codes "em'>\n<tr class='ruler'><th><td><svg>"
+table_start total = codes "<table class='order' style='--n:" ++ decimal total ++ codes "'>\n<thead><tr class='ruler'><th><td><svg>"
 
 unfoldable pub order_head : (title : List ℕ) (total : ℕ) → List ℕ
-order_head title total = heading title total ++ table_start total ++ ticks total ++ codes "</svg>\n"
+order_head title total = heading title total ++ table_start total ++ ticks total ++ codes "</svg>\n<tbody>\n"
 
 -- the numbers of the path, the latest first
 abbrev pub on_path : TimedOrder → List ℕ
@@ -262,8 +262,30 @@ cell n = codes "<td>" ++ decimal n
 unfoldable pub bound_cell : (time bound : ℕ) → List ℕ
 bound_cell time bound = codes "<td>" ++ bound_text time bound ++ codes "\n"
 
-unfoldable pub index_row : Summary → List ℕ
-index_row b = index_link b.number ++ cell b.line ++ cell b.count ++ cell b.source ++ cell b.time ++ bound_cell b.time b.bound
+unfoldable pub label_cell : (label : List ℕ) → List ℕ
+label_cell label = codes "<td>" ++ escaped label
+
+-- of the source order and of the best one, and how much less that takes
+unfoldable pub time_cells : (source time : ℕ) → List ℕ
+time_cells source time = cell source ++ cell time ++ cell (source - time)
+
+unfoldable pub index_row : (label : List ℕ) → Summary → List ℕ
+index_row label b = index_link b.number ++ label_cell label ++ cell b.line ++ cell b.count ++ time_cells b.source b.time ++ bound_cell b.time b.bound
+
+unfoldable pub best_cell : (best : ℕ) → List ℕ
+best_cell best = codes "<td>BEST " ++ decimal best ++ codes "\n"
+
+-- below the rows: their instructions, their times, and how many of the orders are best
+unfoldable pub total_row : (count source time best : ℕ) → List ℕ
+total_row count source time best = codes "<tr><td>TOTAL<td><td>" ++ cell count ++ time_cells source time ++ best_cell best
+
+abbrev pub is_best : Summary → Bool
+is_best b = b.bound == b.time
+
+-- of these blocks
+abbrev pub total_of_all : List Summary → List ℕ
+total_of_all bs =
+    total_row (weigh (λ (b : Summary). b.count) bs) (weigh (λ (b : Summary). b.source) bs) (weigh (λ (b : Summary). b.time) bs) (tally is_best bs)
 
 -- THE PAGE
 
@@ -275,7 +297,7 @@ as_found p block f = record { problem = record { block = instrs_of block; profil
 
 -- of the n-th block
 unfoldable pub index_entry : Profile → ℕ → Block → Found → List ℕ
-index_entry p n block f = index_row (summary n block (as_written p block) (as_found p block f) f.bound)
+index_entry p n block f = index_row block.label (summary n block (as_written p block) (as_found p block f) f.bound)
 
 unfoldable pub block_entry : Profile → ℕ → Block → Found → List ℕ
 block_entry p n block f = block_text n block (as_written p block) (as_found p block f) f.bound
@@ -290,6 +312,23 @@ entries entry n (b ∷ bs) (f ∷ fs) = entry (n + 1) b f ++ entries entry (n + 
 entries entry n (b ∷ bs) [] = []
 entries entry n [] fs = []
 
--- the list of these blocks, before which n come, and the blocks
+abbrev pub summaries : Profile → ℕ → List Block → List Found → List Summary
+summaries p n (b ∷ bs) (f ∷ fs) = summary (n + 1) b (as_written p b) (as_found p b f) f.bound ∷ summaries p (n + 1) bs fs
+summaries p n (b ∷ bs) [] = []
+summaries p n [] fs = []
+
+-- the label and the number of the first of these blocks, before which n come
+abbrev pub page_title : ℕ → List Block → List ℕ
+page_title n [] = codes "s66"
+page_title n (b ∷ bs) = escaped b.label ++ codes " BLOCK " ++ decimal (n + 1)
+
+abbrev pub page_head : ℕ → List Block → List ℕ
+page_head n blocks = PAGE_START.now ++ page_title n blocks ++ PAGE_HEAD.now
+
+-- the list of these blocks, before which n come, and their total
+abbrev pub index : Profile → ℕ → List Block → List Found → List ℕ
+index p n blocks found = entries (entry Row p) n blocks found ++ total_of_all (summaries p n blocks found) ++ codes "</table>\n"
+
+-- the list, and the blocks
 abbrev pub page_text : Profile → ℕ → List Block → List Found → List ℕ
-page_text p n blocks found = PAGE_START.now ++ entries (entry Row p) n blocks found ++ codes "</table>\n" ++ entries (entry Orders p) n blocks found
+page_text p n blocks found = page_head n blocks ++ index p n blocks found ++ entries (entry Orders p) n blocks found

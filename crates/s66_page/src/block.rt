@@ -1,10 +1,10 @@
-ghost use Rattle.std.specs.Prelude.{◌≡◌, ◌++◌, OnOk};
+ghost use Rattle.std.specs.Prelude.{◌≡◌, ◌<◌, ◌^◌, ◌++◌, OnOk};
 ghost use Rattle.s66_line.specs.Block.{instrs_of};
-ghost use Rattle.s66_page.specs.Page.{best_text, block_anchor, block_head, block_place, block_text, block_times, block_title, block_verdict, bound_cell, bound_text, cell, index_link, index_row, summary};
+ghost use Rattle.s66_page.specs.Page.{best_cell, best_text, block_anchor, block_head, block_place, block_text, block_times, block_title, block_verdict, bound_cell, bound_text, cell, index_link, index_row, label_cell, summary, time_cells, total_row};
 
 use crate::escape::push_escaped;
 use crate::order::push_order;
-use crate::summary::Summary;
+use crate::summary::{Summary, Total};
 use crate::text::{push_between, push_text, push_two};
 use s66_device::push_field;
 use s66_line::Block;
@@ -12,8 +12,9 @@ use s66_time::Timed;
 use std::alloc::AllocError;
 
 /// The summary of a block, whose number is from 1.
-fn summary_of(number: usize, block: &Block, source: &Timed, best: &Timed, bound: u32) -> Summary
-    ensures { result ≡ summary number block.now source.now best.now bound }
+pub fn summary_of(number: usize, block: &Block, source: &Timed, best: &Timed, bound: u32) -> Summary
+    ensures value { result ≡ summary number block.now source.now best.now bound }
+    ensures few { result.count < 2 ^ 32 }
 {
     // so there is a first instruction
     prove!(block.count() >= 1);
@@ -161,6 +162,25 @@ fn push_cell(out: &mut Vec<u8>, number: usize) -> Result<(), AllocError>
     push_field(out, b"<td>", number)
 }
 
+/// The label of a block.
+#[tactic(auto, unfolding(crate::specs::Page::label_cell))]
+fn push_label_cell(out: &mut Vec<u8>, label: &[u8]) -> Result<(), AllocError>
+    ensures { OnOk result (out.new.items ≡ out.old.items ++ label_cell label.now) }
+{
+    push_text(out, b"<td>")?;
+    push_escaped(out, label)
+}
+
+/// The times of a row, and how much less the second is.
+#[tactic(auto, unfolding(crate::specs::Page::time_cells))]
+fn push_time_cells(out: &mut Vec<u8>, source: usize, time: usize) -> Result<(), AllocError>
+    ensures { OnOk result (out.new.items ≡ out.old.items ++ time_cells source time) }
+{
+    push_cell(out, source)?;
+    push_cell(out, time)?;
+    push_cell(out, source.saturating_sub(time))
+}
+
 /// The end of a row.
 #[tactic(auto, unfolding(crate::specs::Page::bound_cell))]
 fn push_bound_cell(out: &mut Vec<u8>, time: u32, bound: u32) -> Result<(), AllocError>
@@ -173,15 +193,34 @@ fn push_bound_cell(out: &mut Vec<u8>, time: u32, bound: u32) -> Result<(), Alloc
 
 /// The row of a block in the list of all blocks.
 #[tactic(auto, unfolding(crate::specs::Page::index_row))]
-fn push_summary(out: &mut Vec<u8>, summary: &Summary) -> Result<(), AllocError>
-    ensures { OnOk result (out.new.items ≡ out.old.items ++ index_row summary.now) }
+fn push_summary(out: &mut Vec<u8>, label: &[u8], summary: &Summary) -> Result<(), AllocError>
+    ensures { OnOk result (out.new.items ≡ out.old.items ++ index_row label.now summary.now) }
 {
     push_index_link(out, summary.number)?;
+    push_label_cell(out, label)?;
     push_cell(out, summary.line as usize)?;
     push_cell(out, summary.count)?;
-    push_cell(out, summary.source as usize)?;
-    push_cell(out, summary.time as usize)?;
+    push_time_cells(out, summary.source as usize, summary.time as usize)?;
     push_bound_cell(out, summary.time, summary.bound)
+}
+
+/// The end of the row of all blocks.
+#[tactic(auto, unfolding(crate::specs::Page::best_cell))]
+fn push_best_cell(out: &mut Vec<u8>, best: usize) -> Result<(), AllocError>
+    ensures { OnOk result (out.new.items ≡ out.old.items ++ best_cell best) }
+{
+    push_between(out, b"<td>BEST ", best, b"\n")
+}
+
+/// Appends the row of all blocks, below theirs. `Err` is out of memory.
+#[tactic(auto, unfolding(crate::specs::Page::total_row))]
+pub fn push_total_row(out: &mut Vec<u8>, total: &Total) -> Result<(), AllocError>
+    ensures { OnOk result (out.new.items ≡ out.old.items ++ total_row total.now.count total.now.source total.now.time total.now.best) }
+{
+    push_text(out, b"<tr><td>TOTAL<td><td>")?;
+    push_cell(out, total.count)?;
+    push_time_cells(out, total.source, total.time)?;
+    push_best_cell(out, total.best)
 }
 
 /// Appends the row of a block in the list of all blocks, which links to the block. Its number is from 1. `Err` is out of memory.
@@ -193,7 +232,11 @@ pub fn push_index_row(
     best: &Timed,
     bound: u32,
 ) -> Result<(), AllocError>
-    ensures { OnOk result (out.new.items ≡ out.old.items ++ index_row (summary number block.now source.now best.now bound)) }
+    ensures { OnOk result (out.new.items ≡ out.old.items ++ index_row block.now.label (summary number block.now source.now best.now bound)) }
 {
-    push_summary(out, &summary_of(number, block, source, best, bound))
+    push_summary(
+        out,
+        block.label(),
+        &summary_of(number, block, source, best, bound),
+    )
 }

@@ -20,7 +20,14 @@ fn push_tick(out: &mut Vec<u8>, ten: usize) -> Result<(), AllocError>
     ensures { OnOk result (out.new.items ≡ out.old.items ++ tick ten) }
 {
     let cycle = 10 * ten;
-    push_two(out, b"<text x='", cycle, b"em' y='12'>", cycle, b"</text>")
+    push_two(
+        out,
+        b"<text x='",
+        cycle,
+        b"em' y='12'><tspan>",
+        cycle,
+        b"</tspan></text>",
+    )
 }
 
 /// The numbers above the minor cycles of an order.
@@ -59,9 +66,9 @@ fn push_table_start(out: &mut Vec<u8>, total: u32) -> Result<(), AllocError>
 {
     push_between(
         out,
-        b"<table class='order' style='--w:",
-        total as usize + 40,
-        b"em'>\n<tr class='ruler'><th><td><svg>",
+        b"<table class='order' style='--n:",
+        total as usize,
+        b"'>\n<thead><tr class='ruler'><th><td><svg>",
     )
 }
 
@@ -73,7 +80,7 @@ fn push_order_head(out: &mut Vec<u8>, title: &[u8], total: u32) -> Result<(), Al
     push_heading(out, title, total)?;
     push_table_start(out, total)?;
     push_ticks(out, total)?;
-    push_text(out, b"</svg>\n")
+    push_text(out, b"</svg>\n<tbody>\n")
 }
 
 /// The rows of the instructions of an order, and those of its units.

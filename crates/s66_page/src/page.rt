@@ -1,13 +1,18 @@
-ghost use Rattle.std.specs.Prelude.{◌≡◌, ◌<◌, ◌^◌, ◌++◌, OnOk};
+ghost use Rattle.std.specs.Prelude.{◌≡◌, ◌<◌, ◌^◌, ◌++◌, OnOk, length};
+ghost use Rattle.s66_isa.specs.Lists.{tally, weigh};
 ghost use Rattle.s66_line.specs.Block.{instrs_of};
 ghost use Rattle.s66_page.specs.Found.{AreOf};
-ghost use Rattle.s66_page.specs.Page.{entries, entry, page_text};
+ghost use Rattle.s66_page.specs.Page.{as_found, as_written, entries, entry, index, is_best, page_head, page_text, page_title, summaries, summary};
+ghost use Rattle.s66_page.specs.declared.summary.Summary.{Summary as SummaryOf};
 
-use crate::block::{push_block, push_index_row};
+use crate::block::{push_block, push_index_row, push_total_row, summary_of};
+use crate::escape::push_escaped;
 use crate::found::Found;
-use crate::start::PAGE_START;
+use crate::start::{PAGE_HEAD, PAGE_START};
+use crate::summary::{Summary, Total};
 use crate::text::push_text;
 use s66_dep::Order;
+use s66_device::push_field;
 use s66_line::Block;
 use s66_time::Timer;
 use std::alloc::AllocError;
@@ -70,8 +75,105 @@ fn push_entries(
     Ok(())
 }
 
+/// The summary of the n-th block, from 1.
+fn summary_at(timer: &mut Timer, number: usize, block: &Block, found: &Found) -> Summary
+    requires { found.now.order.block ≡ instrs_of block.now }
+    ensures profile { timer.new ≡ timer.old }
+    ensures summary { result ≡ summary number block.now (as_written timer.old block.now) (as_found timer.old block.now found.now) found.now.bound }
+    ensures few { result.count < 2 ^ 32 }
+{
+    let source = timer.time(block, &Order::source(block));
+    let best = timer.time(block, &found.order);
+    summary_of(number, block, &source, &best, found.bound)
+}
+
+/// The total of these blocks, before which so many come.
+fn total_of(timer: &mut Timer, before: usize, blocks: &[Block], found: &[Found]) -> Total
+    requires before { before < 2 ^ 32 }
+    requires few { length blocks.now < 2 ^ 31 }
+    requires found { AreOf blocks.now found.now }
+    ensures profile { timer.new ≡ timer.old }
+    ensures count { result.count ≡ weigh (λ (b : SummaryOf). b.count) (summaries timer.old before blocks.now found.now) }
+    ensures source { result.source ≡ weigh (λ (b : SummaryOf). b.source) (summaries timer.old before blocks.now found.now) }
+    ensures time { result.time ≡ weigh (λ (b : SummaryOf). b.time) (summaries timer.old before blocks.now found.now) }
+    ensures best { result.best ≡ tally is_best (summaries timer.old before blocks.now found.now) }
+{
+    let mut count = 0;
+    let mut source = 0;
+    let mut time = 0;
+    let mut best = 0;
+    let mut blocks = blocks;
+    let mut found = found;
+    let mut number = before;
+    while let [block, more @ ..] = blocks {
+        // there is one for each block
+        let [one, others @ ..] = found else {
+            unreachable!()
+        };
+        number += 1;
+        let row = summary_at(timer, number, block, one);
+        count += row.count;
+        source += row.source as usize;
+        time += row.time as usize;
+        if row.is_best() {
+            best += 1;
+        }
+        blocks = more;
+        found = others;
+    }
+    Total {
+        count,
+        source,
+        time,
+        best,
+    }
+}
+
+/// The title of a page of these blocks, before which so many come.
+fn push_title(out: &mut Vec<u8>, before: usize, blocks: &[Block]) -> Result<(), AllocError>
+    requires { before < 2 ^ 32 }
+    ensures { OnOk result (out.new.items ≡ out.old.items ++ page_title before blocks.now) }
+{
+    match blocks {
+        [] => push_text(out, b"s66"),
+        [first, ..] => {
+            push_escaped(out, first.label())?;
+            push_field(out, b" BLOCK ", before + 1)
+        }
+    }
+}
+
+/// All that stands before the list of blocks.
+fn push_head(out: &mut Vec<u8>, before: usize, blocks: &[Block]) -> Result<(), AllocError>
+    requires { before < 2 ^ 32 }
+    ensures { OnOk result (out.new.items ≡ out.old.items ++ page_head before blocks.now) }
+{
+    push_text(out, PAGE_START)?;
+    push_title(out, before, blocks)?;
+    push_text(out, PAGE_HEAD)
+}
+
+/// The list of blocks.
+fn push_index(
+    out: &mut Vec<u8>,
+    timer: &mut Timer,
+    before: usize,
+    blocks: &[Block],
+    found: &[Found],
+) -> Result<(), AllocError>
+    requires before { before < 2 ^ 32 }
+    requires few { length blocks.now < 2 ^ 31 }
+    requires found { AreOf blocks.now found.now }
+    ensures profile { timer.new ≡ timer.old }
+    ensures text { OnOk result (out.new.items ≡ out.old.items ++ index timer.old before blocks.now found.now) }
+{
+    push_entries(out, timer, Part::Row, before, blocks, found)?;
+    push_total_row(out, &total_of(timer, before, blocks, found))?;
+    push_text(out, b"</table>\n")
+}
+
 /// Appends a page that shows blocks of a source, before which `before` blocks come, under the timer's profile: each in its source
-/// order, and in the order that was found for it if that takes less. Above them is a list of all, which links to each. The page is
+/// order, and in the order that was found for it if that takes less. Above them is a list of all with a total, which links to each. The page is
 /// a file that stands alone: no script, and nothing to be fetched. It takes time and room linear in the number of blocks and
 /// quadratic in the length of each, which is at most `BLOCK_LIMIT`, and allocates nothing but room in `out`. `Err` is out of
 /// memory.
@@ -83,12 +185,12 @@ pub fn push_page(
     found: &[Found],
 ) -> Result<(), AllocError>
     requires before { before < 2 ^ 32 }
+    requires few { length blocks.now < 2 ^ 31 }
     requires found { AreOf blocks.now found.now }
     ensures profile { timer.new ≡ timer.old }
     ensures text { OnOk result (out.new.items ≡ out.old.items ++ page_text timer.old before blocks.now found.now) }
 {
-    push_text(out, PAGE_START)?;
-    push_entries(out, timer, Part::Row, before, blocks, found)?;
-    push_text(out, b"</table>\n")?;
+    push_head(out, before, blocks)?;
+    push_index(out, timer, before, blocks, found)?;
     push_entries(out, timer, Part::Orders, before, blocks, found)
 }

@@ -14,3 +14,28 @@ pub struct Summary {
     /// What every order takes at least.
     pub bound: u32,
 }
+
+impl Summary {
+    ghost use Rattle.std.specs.Prelude.{◌≡◌};
+    ghost use Rattle.s66_page.specs.Page.{is_best};
+
+    /// Whether the order is proved best.
+    pub fn is_best(&self) -> bool
+        ensures { result ≡ is_best self.now }
+    {
+        self.bound == self.time
+    }
+}
+
+/// The sums of all rows of the list.
+#[derive(Clone, Copy)]
+pub struct Total {
+    /// How many instructions there are.
+    pub count: usize,
+    /// The times of the source orders.
+    pub source: usize,
+    /// The times of the best orders found.
+    pub time: usize,
+    /// How many of these orders are proved best.
+    pub best: usize,
+}

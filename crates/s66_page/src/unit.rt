@@ -83,9 +83,9 @@ fn push_unit_number(out: &mut Vec<u8>, work: &Work) -> Result<(), AllocError>
         out,
         b"<text x='",
         work.start as usize,
-        b"em' y='12'>",
+        b"em' y='12'><tspan>",
         work.number as usize,
-        b"</text>",
+        b"</tspan></text>",
     )
 }
 

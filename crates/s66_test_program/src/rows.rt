@@ -138,6 +138,7 @@ fn runs_rows(rt: HostRuntime) {
     check_rows(&rt, deps::ROWS);
     check_rows(&rt, chart::ROWS);
     check_rows(&rt, why::ROWS);
+    check_rows(&rt, page::ROWS);
     check_rows(&rt, order::ROWS);
     check_rows(&rt, left_alone::ROWS);
     check_rows(&rt, lint::ROWS);

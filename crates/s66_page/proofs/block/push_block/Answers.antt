@@ -15,6 +15,6 @@ returns c =
     let order = order_text block (codes "As it is written") source in
     let first =
     c.in_ok-push_block_head.ensures ∙ ap (λ (label : List ℕ). out ++ block_head label c.summary_of-summary.result) c.label.ensures
-    ∙ ap (λ (s : Summary). out ++ block_head block.label s) c.summary_of-summary.ensures in
+    ∙ ap (λ (s : Summary). out ++ block_head block.label s) c.summary_of-summary.ensures.value in
     last c.push_best.result out c.push_order.new.out.items c.push_best.new.out.items (head ++ order) (best_text block source best)
     (more out c.push_block_head.new.out.items c.push_order.new.out.items head order first c.in_ok-push_order.ensures) c.push_best.ensures

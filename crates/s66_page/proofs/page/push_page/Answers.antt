@@ -1,7 +1,6 @@
-use Rattle.s66_page.specs.declared.page.Part.TheVariants.{Row, Orders}
-use Rattle.std.proofs.Common.{OnOk, ◌≡◌, ◌++◌, codes, subst}
-use Rattle.s66_page.specs.declared.start.TheConstants.{PAGE_START}
-use Rattle.s66_page.specs.Page.{entries, entry}
+use Rattle.s66_page.specs.declared.page.Part.TheVariants.{Orders}
+use Rattle.std.proofs.Common.{OnOk, ◌≡◌, ◌++◌, subst}
+use Rattle.s66_page.specs.Page.{entries, entry, index, page_head}
 use Rattle.s66_page.proofs.Pieces.{more, last}
 use Rattle.s66_page.proofs.page.push_page.Goals as goal
 
@@ -12,9 +11,8 @@ returns-clause-text c =
     let found = c.args.found.now in
     let p = c.args.timer.now in
     let n = c.args.before in
-    let rows = entries (entry Row p) n blocks found in
-    let close = codes "</table>\n" in
-    let first = more out c.push_text.new.out.items c.push_entries.new.out.items PAGE_START.now rows c.in_ok-push_text.ensures c.in_ok-push_entries.ensures.text in
-    last c.push_entries-2.result out c.push_text-2.new.out.items c.push_entries-2.new.out.items (PAGE_START.now ++ rows ++ close) (entries (entry Orders p) n blocks found)
-    (more out c.push_entries.new.out.items c.push_text-2.new.out.items (PAGE_START.now ++ rows) close first c.in_ok-push_text-2.ensures)
-    (subst (λ q. OnOk c.push_entries-2.result (c.push_entries-2.new.out.items ≡ c.push_text-2.new.out.items ++ entries (entry Orders q) n blocks found)) c.in_ok-push_entries.ensures.profile c.push_entries-2.ensures.text)
+    let head = page_head n blocks in
+    let list = index p n blocks found in
+    let first = more out c.push_head.new.out.items c.push_index.new.out.items head list c.in_ok-push_head.ensures c.in_ok-push_index.ensures.text in
+    last c.push_entries.result out c.push_index.new.out.items c.push_entries.new.out.items (head ++ list) (entries (entry Orders p) n blocks found) first
+    (subst (λ q. OnOk c.push_entries.result (c.push_entries.new.out.items ≡ c.push_index.new.out.items ++ entries (entry Orders q) n blocks found)) c.in_ok-push_index.ensures.profile c.push_entries.ensures.text)

@@ -1,4 +1,4 @@
-use Rattle.std.proofs.Common.{List, ◌≡◌, ◌++◌, ◌∙◌, ap, ap₂, if◌then◌else◌, refl, subst, sym}
+use Rattle.std.proofs.Common.{ℕ, List, [], ◌∷◌, Option, None, Some, ◌≡◌, ◌≤◌, ◌<◌, ◌^◌, ◌-◌, ◌++◌, ◌∙◌, ap, ap₂, arith, drop, if◌then◌else◌, length, refl, subst, sym, take}
 use Rattle.s66_line.specs.Block.{Block}
 use Rattle.s66_outcome.specs.declared.outcome.Status.TheVariants.{Done, Bounded}
 use Rattle.s66_page.specs.Found.{AreOf}
@@ -6,12 +6,27 @@ use Rattle.s66_page.specs.Page.{page_text}
 use Rattle.s66_text.specs.Answers.{Answer, AreAnswers}
 use Rattle.s66_text.specs.OrderText.{status_of}
 use Rattle.s66_text.specs.PageText.{all_found}
-use Rattle.s66_text.specs.Shown.{before}
+use Rattle.s66_source.specs.declared.limits.TheConstants.{SOURCE_LINES_LIMIT}
+use Rattle.s66_text.specs.Shown.{before, shown}
 use Rattle.s66_text.proofs.FoundAnswers.{found-of}
 use Rattle.s66_text.proofs.InTurn.{founds}
+use Rattle.s66_text.proofs.SumRows.{few-blocks}
 use Rattle.s66_program.specs.Kept.{found_part}
 use Rattle.s66_program.proofs.KeptParts.{kept-whole}
 use Rattle.s66_program.proofs.page_text.page_output.Goals as goal
+
+few-one : (blocks : List Block) → length (take 1 blocks) ≤ 1
+few-one [] = omega arith
+few-one (block ∷ blocks) = omega arith
+
+few-shown : (only : Option ℕ) (blocks : List Block) → length blocks ≤ SOURCE_LINES_LIMIT → length (shown only blocks) < 2 ^ 31
+few-shown None blocks few = omega (arith, few)
+few-shown (Some n) blocks few = omega (arith, few-one (drop (n - 1) blocks))
+
+pub push_page-requires-clause-few : goal.push_page-requires-clause-few
+push_page-requires-clause-few g c =
+    let blocks = c.blocks-2.result.now in
+    subst (λ (bs : List Block). length bs < 2 ^ 31) (sym c.shown-blocks.ensures) (few-shown c.args.only blocks (few-blocks c.args.source.now blocks c.blocks-2.ensures))
 
 pub push_page-requires-clause-found : goal.push_page-requires-clause-found
 push_page-requires-clause-found g c =
