@@ -7,8 +7,7 @@ PROGRAM is the built program, TOOLS that of s66_tools, which makes the calls of 
 on an input, or a call of TOOLS. It is run with ample memory first, and that has to give the row's status. Then it is run
 
 - with only the Nth request for memory refused, and with all from the Nth on, for each N up to one that isn't reached: it ends
-  as with ample memory, or with status 4, no output and OUT OF MEMORY, and nothing else; or with BAD PROFILE alone, without
-  what is wrong with the profile;
+  as with ample memory, or with status 4, no output and OUT OF MEMORY, and nothing else;
 - with each thread refused in turn, and with all: it ends as with ample memory;
 - unless it is a call of TOOLS, with the Nth read failing, whole or after reads of one byte each: status 6, no output and READ
   FAILED; and with reads of one byte each: as with ample memory;
@@ -34,7 +33,6 @@ ROOT = os.path.dirname(os.path.dirname(os.path.abspath(__file__)))
 COMPILERS = ("cc", "gcc", "clang")
 KINDS = ("memory", "thread", "read", "write", "tell")
 REFUSED = (4, b"", b"OUT OF MEMORY\n")
-NO_PROFILE = (3, b"", b"BAD PROFILE\n")
 UNREAD = (6, b"", b"READ FAILED\n")
 EVER = 1 << 60
 FIRST = 20  # of these requests --quick passes over none
@@ -142,8 +140,6 @@ class Row:
 
     def refuse_memory(self):
         allowed = {**self.ample, "out of memory": lambda seen: seen == REFUSED}
-        if self.told.startswith(NO_PROFILE[2]):
-            allowed["no hint"] = lambda seen: seen == NO_PROFILE
         for is_lasting in (False, True):
             number = 1
             while self.look(allowed, ("memory", number, EVER if is_lasting else number, "fail"))["memory"] >= number:

@@ -24,15 +24,16 @@ hint_of profile (Source e) = codes "s66 lint lists all such lines\n"
 hint_of (Some text) Profile = hint_in_text text ++ codes "\n"
 hint_of profile fault = []
 
--- that, or nothing of a profile if memory ran out
-abbrev pub IsHint : Option (List ℕ) → Fault → List ℕ → Type 0
-IsHint profile fault hint = (hint ≡ hint_of profile fault) ⊎ ((fault ≡ Profile) × (hint ≡ []))
+-- the line of a fault and such a text after it were printed, and the status is the fault's
+abbrev pub EndsWith : List ℕ → Fault → Writer → Writer → ℕ → Type 0
+EndsWith hint fault errors errors' status = Tells errors errors' ((fault_line fault ++ codes "\n") ++ hint) × (status ≡ fault_code fault)
 
--- what the result of a command, which asks for such a profile, leaves of the writer for what goes wrong, and the status
+-- what the result of a command, which asks for such a profile, leaves of the writer for what goes wrong, and the status; if memory runs
+-- out for what is wrong with the profile, that is told in its place
 abbrev pub EndsBy : Option (List ℕ) → Result Status Fault → Writer → Writer → ℕ → Type 0
 EndsBy profile (Ok s) errors errors' status = IsUntouched errors errors' × (status ≡ status_code s)
 EndsBy profile (Err fault) errors errors' status =
-    (hint : List ℕ) × IsHint profile fault hint × Tells errors errors' ((fault_line fault ++ codes "\n") ++ hint) × (status ≡ fault_code fault)
+    EndsWith (hint_of profile fault) fault errors errors' status ⊎ ((fault ≡ Profile) × EndsAt Memory errors errors' status)
 
 -- help goes to the writer, which may fail, a mistake to the writer for what goes wrong
 abbrev pub ShowsUsage : Usage → Writer → Writer → Writer → Writer → ℕ → Type 0

@@ -1,9 +1,8 @@
 ghost use Rattle.std.specs.Prelude.{◌≡◌, ◌-◌, ◌^◌, ◌<◌, ◌++◌, Err, IfOk, codes, option_map, string_bytes};
 ghost use Rattle.s66_profile.specs.Hint.{hint_in_text};
-ghost use Rattle.s66_outcome.specs.Outcome.{fault_line};
 ghost use Rattle.std.specs.IoError.{error_kind};
 ghost use Rattle.s66_outcome.specs.Device.{Tells};
-ghost use Rattle.s66_outcome.specs.Ends.{EndsAt, EndsBy, LacksWords, ShowsUsage};
+ghost use Rattle.s66_outcome.specs.Ends.{EndsAt, EndsBy, EndsWith, LacksWords, ShowsUsage};
 
 use crate::outcome::Fault;
 use s66_command::Usage;
@@ -31,14 +30,15 @@ fn tell_both<S: Sink>(errors: &mut S, first: &[u8], second: &[u8])
     }
 }
 
-/// Writes the line of a fault.
-fn tell_line<S: Sink>(errors: &mut S, fault: Fault, hint: &[u8])
+/// Writes the line of a fault and what comes after it, and returns the status.
+fn tell_line<S: Sink>(errors: &mut S, fault: Fault, hint: &[u8]) -> u8
     requires { (S.seen errors.old).failures < 2 ^ 64 - 1 }
-    ensures { Tells (S.seen errors.old) (S.seen errors.new) ((fault_line fault ++ codes "\n") ++ hint.now) }
+    ensures { EndsWith hint.now fault (S.seen errors.old) (S.seen errors.new) result }
 {
     let mut line = fault.line();
     line.push('\n');
     tell_both(errors, line.as_bytes(), hint);
+    fault.code()
 }
 
 /// What is wrong with the text of a profile, in a line.
@@ -64,11 +64,10 @@ pub fn tell_failure<S: Sink>(
         (Fault::Source(_), _) => tell_line(errors, fault, b"s66 lint lists all such lines\n"),
         (Fault::Profile, Some(text)) => match hint_line(alloc, text) {
             Ok(hint) => tell_line(errors, fault, hint.as_bytes()),
-            Err(_) => tell_line(errors, fault, &[]),
+            Err(_) => tell_fault(errors, Fault::Memory),
         },
         _ => tell_line(errors, fault, &[]),
     }
-    fault.code()
 }
 
 /// Writes the line of a fault, and returns the status.
