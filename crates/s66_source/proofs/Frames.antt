@@ -66,12 +66,12 @@ dropped-next : (all lines : List Line) (l : Line) (number run : ℕ) → Ordered
     (begins_with number (dropped_in all (l ∷ lines)) ≡ is_dropped all l) × ((if begins_with number (dropped_in all (l ∷ lines)) then rest (dropped_in all (l ∷ lines)) else dropped_in all (l ∷ lines)) ≡ dropped_in all lines)
 dropped-next all lines l number run h =
     elim (cases_Bool (is_dropped all l)) [
-      | inl yes ↦
-          let here : begins_with number (dropped_in all (l ∷ lines)) ≡ true = ap (begins_with number) (dropped-yes all lines l yes) ∙ eq-eqb l.number number h.0 in
-          (here ∙ sym yes, rw here (ap rest (dropped-yes all lines l yes)))
-      | inr no ↦
-          let later : begins_with number (dropped_in all (l ∷ lines)) ≡ false = ap (begins_with number) (dropped-no all lines l no) ∙ later-dropped all number (suc number) (run_behind l) lines (omega arith) h.2 in
-          (later ∙ sym no, rw later (dropped-no all lines l no))
+      | inl stated ↦
+          let here : begins_with number (dropped_in all (l ∷ lines)) ≡ true = ap (begins_with number) (dropped-yes all lines l stated) ∙ eq-eqb l.number number h.0 in
+          (here ∙ sym stated, rw here (ap rest (dropped-yes all lines l stated)))
+      | inr other ↦
+          let later : begins_with number (dropped_in all (l ∷ lines)) ≡ false = ap (begins_with number) (dropped-no all lines l other) ∙ later-dropped all number (suc number) (run_behind l) lines (omega arith) h.2 in
+          (later ∙ sym other, rw later (dropped-no all lines l other))
     ]
 
 -- a Pad with a block is no Pad without one

@@ -1,9 +1,9 @@
 -- Where a text is parted, by its lines.
-use Rattle.std.proofs.Common.{◌≡◌, ◌≤◌, ◌+◌, ◌==◌, ℕ, zero, suc, Bool, true, false, if◌then◌else◌, Option, None, Some, List, [], ◌∷◌, ◌++◌, length, take, drop, refl, sym, ap, ◌∙◌, arith, append_assoc}
+use Rattle.std.proofs.Common.{◌≡◌, ◌≤◌, ◌+◌, ◌==◌, ℕ, zero, suc, Bool, true, false, if◌then◌else◌, Option, None, Some, List, [], ◌∷◌, ◌++◌, length, take, drop, refl, sym, ap, ap₂, ◌∙◌, arith, append_assoc}
 use Rattle.std.proofs.lemmas.Bool.{eqb-true, false_from_ne_true}
-use Rattle.std.proofs.lemmas.List.{append-nil, drop-drop, take-append-drop}
+use Rattle.std.proofs.lemmas.List.{append-nil, drop-drop}
 use Rattle.s66_line.proofs.LineCuts.{IsFirstNewline}
-use Rattle.s66_source.specs.Halves.{Halves, halves_from, is_new_mark}
+use Rattle.s66_source.specs.Halves.{Halves, halves_from, halves_of, is_new_mark}
 
 later : (b : ℕ) (bytes : List ℕ) (k : ℕ) → IsFirstNewline (b ∷ bytes) (Some (suc k)) → IsFirstNewline bytes (Some k)
 later b bytes k h =
@@ -57,3 +57,33 @@ pub newline-found : (bytes : List ℕ) (k : ℕ) → IsFirstNewline bytes (Some 
 newline-found [] k h = absurd (let high = h.0.high in omega (arith, high))
 newline-found (b ∷ bytes) zero h = ap (λ c. c ∷ []) (eqb-true b 10 h.1)
 newline-found (b ∷ bytes) (suc k) h = ap (λ l. b ∷ l) (newline-found bytes k (later b bytes k h))
+
+take-more : (n m : ℕ) (xs : List ℕ) → take (n + m) xs ≡ take n xs ++ take m (drop n xs)
+take-more zero m xs = refl
+take-more (suc n) m [] = ends m
+  where
+    ends : (m : ℕ) → take (suc n + m) [] ≡ take m (drop (suc n) [])
+    ends zero = refl
+    ends (suc m) = refl
+take-more (suc n) m (x ∷ xs) = ap (λ ys. x ∷ ys) (take-more n m xs)
+
+-- IN A TEXT, of which no line that ends before this place is a mark
+
+drop-more : (begin k : ℕ) (text : List ℕ) → drop (k + 1) (drop begin text) ≡ drop (begin + k + 1) text
+drop-more begin k text =
+    let same : begin + (k + 1) ≡ begin + k + 1 = omega arith in
+    drop-drop (k + 1) begin text ∙ ap (λ n. drop n text) same
+
+pub mark-here : (text : List ℕ) (begin k : ℕ) → IsFirstNewline (drop begin text) (Some k) → is_new_mark (take k (drop begin text)) ≡ true → halves_from (take begin text) [] (drop begin text) ≡ halves_of text →
+    Some (record { old = take begin text; new = drop (begin + k + 1) text }) ≡ halves_of text
+mark-here text begin k first is none =
+    ap (λ (new : List ℕ). Some (record { old = take begin text; new = new })) (sym (drop-more begin k text)) ∙ sym (found-mark (take begin text) (drop begin text) k first is) ∙ none
+
+pub mark-later : (text : List ℕ) (begin k : ℕ) → IsFirstNewline (drop begin text) (Some k) → is_new_mark (take k (drop begin text)) ≡ false → halves_from (take begin text) [] (drop begin text) ≡ halves_of text →
+    halves_from (take (begin + k + 1) text) [] (drop (begin + k + 1) text) ≡ halves_of text
+mark-later text begin k first other none =
+    let same : begin + k + 1 ≡ begin + (k + 1) = omega arith in
+    ap₂ (λ old new. halves_from old [] new)
+    (ap (λ n. take n text) same ∙ take-more begin (k + 1) text ∙ ap (λ line. take begin text ++ line) (newline-found (drop begin text) k first))
+    (sym (drop-more begin k text))
+    ∙ sym (found-other (take begin text) (drop begin text) k first other) ∙ none
