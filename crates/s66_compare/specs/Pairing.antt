@@ -1,6 +1,6 @@
 -- To be believed: which instruction of an old block each instruction of a new one is: instructions are the same if their texts are, and equal
 -- texts are the same in order.
-use Rattle.std.specs.Prelude.{ℕ, Bool, ◌&&◌, ◌==◌, not, if◌then◌else◌, List, [], ◌∷◌, ◌++◌, bytes_eq, map}
+use Rattle.std.specs.Prelude.{ℕ, ◌≤◌, Bool, ◌&&◌, ◌==◌, not, if◌then◌else◌, List, [], ◌∷◌, ◌++◌, bytes_eq, map}
 use Rattle.s66_isa.specs.Lists.{first_that, has}
 use Rattle.s66_isa.specs.Table.{numbers}
 use Rattle.s66_line.specs.Block.{Block, instrs_of, text_of}
@@ -29,3 +29,10 @@ paired old new = partners old [] (texts_of new)
 -- the first number of the old block that isn't among these; 0 if all are
 abbrev pub first_left : Block → List ℕ → ℕ
 first_left old taken = first_that (λ n. not (has n taken)) (numbers (instrs_of old))
+
+-- USED WITHIN THE CRATE ALONE
+
+-- each is from 1 to a count
+abbrev pub AreWithin : ℕ → List ℕ → Type 0
+AreWithin count [] = Unit {0}
+AreWithin count (n ∷ ns) = (1 ≤ n) × (n ≤ count) × AreWithin count ns

@@ -28,26 +28,24 @@ fn is_alike(old: &FramePart, new: &FramePart) -> bool
 fn first_difference(old: &[FramePart], new: &[FramePart]) -> Option<Difference>
     ensures { result ≡ first_difference old.now new.now }
 {
-    let mut place = 0;
-    while place < old.len() && place < new.len() {
-        if !is_alike(&old[place], &new[place]) {
+    for (place, part) in old.iter().enumerate() {
+        if place >= new.len() {
             return Some(Difference {
-                old: Some(old[place].line),
+                old: Some(part.line),
+                new: None,
+            });
+        }
+        if !is_alike(part, &new[place]) {
+            return Some(Difference {
+                old: Some(part.line),
                 new: Some(new[place].line),
             });
         }
-        place += 1;
     }
-    if place < old.len() {
-        return Some(Difference {
-            old: Some(old[place].line),
-            new: None,
-        });
-    }
-    if place < new.len() {
+    if old.len() < new.len() {
         return Some(Difference {
             old: None,
-            new: Some(new[place].line),
+            new: Some(new[old.len()].line),
         });
     }
     None

@@ -1,8 +1,8 @@
-ghost use Rattle.std.specs.Prelude.{ℕ, ◌≡◌, ◌≤◌, ◌<◌, IfSome, IfNone, get_or, length};
+ghost use Rattle.std.specs.Prelude.{◌≡◌, ◌≤◌, IfSome, IfNone, length};
 ghost use Rattle.s66_isa.specs.Lists.{has};
 ghost use Rattle.s66_isa.specs.declared.limits.TheConstants.{BLOCK_LIMIT};
 ghost use Rattle.s66_line.specs.Block.{instrs_of};
-ghost use Rattle.s66_compare.specs.Pairing.{first_left, paired, partner};
+ghost use Rattle.s66_compare.specs.Pairing.{AreWithin, first_left, paired, partner};
 
 use arrayvec::ArrayVec;
 use s66_isa::BLOCK_LIMIT;
@@ -39,7 +39,7 @@ fn partner(old: &Block, taken: &[u8], text: &[u8]) -> Option<u8>
 /// texts at most.
 pub(crate) fn paired(old: &Block, new: &Block) -> ArrayVec<u8, BLOCK_LIMIT>
     ensures value { result.items ≡ paired old.now new.now }
-    ensures range { (i d : ℕ) → i < length result.items → (1 ≤ get_or result.items i d) × (get_or result.items i d ≤ length (instrs_of old.now)) }
+    ensures range { AreWithin (length (instrs_of old.now)) result.items }
 {
     let mut taken = ArrayVec::new();
     for position in 0..new.count() {

@@ -1,4 +1,5 @@
-ghost use Rattle.std.specs.Prelude.{◌≡◌, ◌<◌, ◌+◌, ◌⊎◌, ◌∷◌, drop, length, IfOk};
+ghost use Rattle.std.specs.Prelude.{List, ◌≡◌, ◌+◌, [], ◌∷◌, ◌++◌, drop, length, IfOk, OnOk};
+ghost use Rattle.s66_line.specs.Block.{Block as BlockOf};
 ghost use Rattle.s66_compare.specs.Rows.{rows_of, side_of};
 
 use crate::verdict::{Judged, judge};
@@ -50,27 +51,56 @@ fn side_of(timer: &mut Timer, block: &Block) -> Side
     }
 }
 
-/// The row of the blocks at a place, from 0, at which one source at least has one.
-fn row_at(timer: &mut Timer, old: &[Block], new: &[Block], place: usize) -> Row
-    requires { (place < length old.now) ⊎ (place < length new.now) }
+/// The row of an old block and the new one at its place, from 0, if there is one.
+fn row_at(timer: &mut Timer, old: &Block, new: &[Block], place: usize) -> Row
     ensures profile { timer.new ≡ timer.old }
-    ensures row { rows_of timer.old (drop place old.now) (drop place new.now) ≡ result ∷ rows_of timer.old (drop (place + 1) old.now) (drop (place + 1) new.now) }
+    ensures row { (os : List BlockOf) → rows_of timer.old (old.now ∷ os) (drop place new.now) ≡ result ∷ rows_of timer.old os (drop (place + 1) new.now) }
 {
     if place >= new.len() {
         return Row::OldAlone {
-            old: side_of(timer, &old[place]),
+            old: side_of(timer, old),
         };
     }
-    if place >= old.len() {
-        return Row::NewAlone {
-            new: side_of(timer, &new[place]),
-        };
-    }
+    let new = &new[place];
     Row::Both {
-        old: side_of(timer, &old[place]),
-        new: side_of(timer, &new[place]),
-        judged: judge(&old[place], &new[place]),
+        old: side_of(timer, old),
+        new: side_of(timer, new),
+        judged: judge(old, new),
     }
+}
+
+/// Appends a row for each old block.
+fn push_old(
+    rows: &mut Vec<Row>,
+    timer: &mut Timer,
+    old: &[Block],
+    new: &[Block],
+) -> Result<(), AllocError>
+    ensures profile { timer.new ≡ timer.old }
+    ensures rows { OnOk result (rows.new.items ++ rows_of timer.old [] (drop (length old.now) new.now) ≡ rows.old.items ++ rows_of timer.old old.now new.now) }
+{
+    for (place, block) in old.iter().enumerate() {
+        rows.push(row_at(timer, block, new, place))?;
+    }
+    Ok(())
+}
+
+/// Appends a row for each new block from a place on, from 0, at which there is no old one.
+fn push_new(
+    rows: &mut Vec<Row>,
+    timer: &mut Timer,
+    new: &[Block],
+    first: usize,
+) -> Result<(), AllocError>
+    ensures profile { timer.new ≡ timer.old }
+    ensures rows { OnOk result (rows.new.items ≡ rows.old.items ++ rows_of timer.old [] (drop first new.now)) }
+{
+    for place in first..new.len() {
+        rows.push(Row::NewAlone {
+            new: side_of(timer, &new[place]),
+        })?;
+    }
+    Ok(())
 }
 
 /// The blocks of two sources, side by side, all of which one timer times. `Err` is out of memory.
@@ -84,10 +114,7 @@ pub(crate) fn rows_of(
 {
     let mut timer = Timer::new(profile);
     let mut rows = Vec::new(alloc);
-    let mut place = 0;
-    while place < old.len() || place < new.len() {
-        rows.push(row_at(&mut timer, old, new, place))?;
-        place += 1;
-    }
+    push_old(&mut rows, &mut timer, old, new)?;
+    push_new(&mut rows, &mut timer, new, old.len())?;
     Ok(rows)
 }

@@ -180,21 +180,31 @@ fn total_of(rows: &[Row]) -> Total
     ensures new_time { result.new_time ≡ weigh new_time rows.now }
     ensures legal { result.legal ≡ tally is_legal rows.now }
 {
-    let mut total = Total {
-        blocks: 0,
-        time: 0,
-        new_blocks: 0,
-        new_time: 0,
-        legal: 0,
-    };
+    let mut blocks = 0;
+    let mut time = 0;
+    let mut new_blocks = 0;
+    let mut new_time = 0;
+    let mut legal = 0;
     for row in rows {
-        total.blocks += usize::from(row.has_old());
-        total.time += row.old_time() as usize;
-        total.new_blocks += usize::from(row.has_new());
-        total.new_time += row.new_time() as usize;
-        total.legal += usize::from(row.is_legal());
+        if row.has_old() {
+            blocks += 1;
+        }
+        time += row.old_time() as usize;
+        if row.has_new() {
+            new_blocks += 1;
+        }
+        new_time += row.new_time() as usize;
+        if row.is_legal() {
+            legal += 1;
+        }
     }
-    total
+    Total {
+        blocks,
+        time,
+        new_blocks,
+        new_time,
+        legal,
+    }
 }
 
 fn push_total(out: &mut Vec<u8>, total: &Total) -> Result<(), AllocError>

@@ -1,6 +1,7 @@
-ghost use Rattle.std.specs.Prelude.{ℕ, ◌≡◌, ◌≤◌, ◌<◌, [], IfSome, IfNone, get_or, length};
+ghost use Rattle.std.specs.Prelude.{◌≡◌, ◌≤◌, [], IfSome, IfNone, length};
 ghost use Rattle.s66_isa.specs.declared.limits.TheConstants.{BLOCK_LIMIT};
 ghost use Rattle.s66_line.specs.Block.{instrs_of};
+ghost use Rattle.s66_compare.specs.Pairing.{AreWithin};
 ghost use Rattle.s66_compare.specs.Verdict.{by_order, first_missing, judged, kept_verdict, verdict_of};
 
 use crate::pairing::{first_left, is_among, paired};
@@ -81,7 +82,7 @@ fn kept_verdict(old: &Block, order: &[u8]) -> Verdict
 
 /// Whether an order keeps every dependence, or where it doesn't.
 fn by_order(old: &Block, order: &[u8]) -> Verdict
-    requires { (i d : ℕ) → i < length order.now → (1 ≤ get_or order.now i d) × (get_or order.now i d ≤ length (instrs_of old.now)) }
+    requires { AreWithin (length (instrs_of old.now)) order.now }
     ensures { result ≡ by_order (instrs_of old.now) (kept_verdict (instrs_of old.now) order.now) [] order.now }
 {
     for (position, number) in order.iter().enumerate() {
@@ -97,7 +98,7 @@ fn by_order(old: &Block, order: &[u8]) -> Verdict
 
 /// The verdict on a new block, whose instructions are those of the old one in this order as far as the old one has them.
 fn verdict_of(old: &Block, new: &Block, order: &[u8]) -> Verdict
-    requires { (i d : ℕ) → i < length order.now → (1 ≤ get_or order.now i d) × (get_or order.now i d ≤ length (instrs_of old.now)) }
+    requires { AreWithin (length (instrs_of old.now)) order.now }
     ensures { result ≡ verdict_of old.now new.now order.now }
 {
     if order.len() < new.count() {
