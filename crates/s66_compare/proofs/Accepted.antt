@@ -55,9 +55,13 @@ none-is (Some d) is = absurd (true≢false (sym is))
 pub keeps-source : (p : Profile) (old new : Reading) (text : List ℕ) → IsCompared p old new text true → KeepsSource old new
 keeps-source p old new text (blocks, again, read, other, (is, accepted)) =
     let difference = first_difference (frame_of old) (frame_of new) in
-    let both = and_parts (every is_legal (rows_of p blocks again)) (is_none difference) (sym accepted) in
-    (blocks, again, read, other,
-      (all-reordered p blocks again (λ block among. spelled old blocks block read among) (λ block among. spelled new again block other among) both.0, none-same (frame_of old) (frame_of new) (none-is difference both.1)))
+    let both = and_parts (every is_legal (rows_of p blocks again)) (is_none difference) (sym accepted) in (
+      blocks,
+      again,
+      read,
+      other,
+      (all-reordered p blocks again (λ block among. spelled old blocks block read among) (λ block among. spelled new again block other among) both.0, none-same (frame_of old) (frame_of new) (none-is difference both.1)),
+    )
 
 -- HOW MANY
 
@@ -77,7 +81,6 @@ length-put line ((next ∷ more) ∷ parts) =
 length-parts : (lines : List Line) → length (parts_of lines) ≤ length lines
 length-parts [] = omega arith
 length-parts (line ∷ lines) = omega (arith, length-put line (parts_of lines), length-parts lines)
-
 
 length-kept : (lines : List Line) → length (instructions lines) ≤ length lines
 length-kept [] = omega arith

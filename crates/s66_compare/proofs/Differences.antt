@@ -7,26 +7,26 @@ use Rattle.std.proofs.lemmas.Slice.Eq.{bytes_eq-Decides}
 use Rattle.s66_source.specs.Frame.{FramePart}
 use Rattle.s66_compare.specs.Difference.{DifferFirst, Shape, first_difference, is_alike, line_at, shape_of, shapes}
 use Rattle.s66_compare.specs.declared.difference.Difference.{Difference}
-use Rattle.s66_compare.proofs.RowSteps.{drop-at}
+use Rattle.s66_compare.proofs.RowSteps.{drop_at}
 
 -- PART BY PART
 
-pub alike-next : (old new : List FramePart) (i : ℕ) (p q : FramePart) → i < length old → i < length new → p ≡ slice_index_or old i p → q ≡ slice_index_or new i q → is_alike p q ≡ true →
+pub alike_next : (old new : List FramePart) (i : ℕ) (p q : FramePart) → i < length old → i < length new → p ≡ slice_index_or old i p → q ≡ slice_index_or new i q → is_alike p q ≡ true →
     first_difference (drop i old) (drop i new) ≡ first_difference (drop (i + 1) old) (drop (i + 1) new)
-alike-next old new i p q below within at is alike = ap₂ first_difference (drop-at old i p below at) (drop-at new i q within is) ∙ rw alike refl
+alike_next old new i p q below within at is alike = ap₂ first_difference (drop_at old i p below at) (drop_at new i q within is) ∙ rw alike refl
 
-pub alike-not : (old new : List FramePart) (i : ℕ) (p q : FramePart) → i < length old → i < length new → p ≡ slice_index_or old i p → q ≡ slice_index_or new i q → is_alike p q ≡ false →
+pub alike_not : (old new : List FramePart) (i : ℕ) (p q : FramePart) → i < length old → i < length new → p ≡ slice_index_or old i p → q ≡ slice_index_or new i q → is_alike p q ≡ false →
     first_difference (drop i old) (drop i new) ≡ Some (record { old = Some p.line; new = Some q.line })
-alike-not old new i p q below within at is other = ap₂ first_difference (drop-at old i p below at) (drop-at new i q within is) ∙ rw other refl
+alike_not old new i p q below within at is other = ap₂ first_difference (drop_at old i p below at) (drop_at new i q within is) ∙ rw other refl
 
-pub old-more : (old new : List FramePart) (i : ℕ) (p : FramePart) → i < length old → length new ≤ i → p ≡ slice_index_or old i p → first_difference (drop i old) (drop i new) ≡ Some (record { old = Some p.line; new = None })
-old-more old new i p below past at = ap₂ first_difference (drop-at old i p below at) (drop_all i new past)
+pub old_more : (old new : List FramePart) (i : ℕ) (p : FramePart) → i < length old → length new ≤ i → p ≡ slice_index_or old i p → first_difference (drop i old) (drop i new) ≡ Some (record { old = Some p.line; new = None })
+old_more old new i p below past at = ap₂ first_difference (drop_at old i p below at) (drop_all i new past)
 
-pub new-more : (old new : List FramePart) (i : ℕ) (q : FramePart) → length old ≤ i → i < length new → q ≡ slice_index_or new i q → first_difference (drop i old) (drop i new) ≡ Some (record { old = None; new = Some q.line })
-new-more old new i q past below is = ap₂ first_difference (drop_all i old past) (drop-at new i q below is)
+pub new_more : (old new : List FramePart) (i : ℕ) (q : FramePart) → length old ≤ i → i < length new → q ≡ slice_index_or new i q → first_difference (drop i old) (drop i new) ≡ Some (record { old = None; new = Some q.line })
+new_more old new i q past below is = ap₂ first_difference (drop_all i old past) (drop_at new i q below is)
 
-pub no-more : (old new : List FramePart) (i : ℕ) → length old ≤ i → length new ≤ i → first_difference (drop i old) (drop i new) ≡ None
-no-more old new i past ended = ap₂ first_difference (drop_all i old past) (drop_all i new ended)
+pub no_more : (old new : List FramePart) (i : ℕ) → length old ≤ i → length new ≤ i → first_difference (drop i old) (drop i new) ≡ None
+no_more old new i past ended = ap₂ first_difference (drop_all i old past) (drop_all i new ended)
 
 -- WHAT IT MEANS
 

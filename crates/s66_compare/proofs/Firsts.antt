@@ -1,5 +1,5 @@
 -- The first number of a block that passes a test.
-use Rattle.std.proofs.Common.{ℕ, suc, ◌+◌, ◌-◌, ◌≡◌, ◌≢◌, ◌≤◌, ◌<◌, ◌∙◌, Bool, true, false, if◌then◌else◌, List, [], ◌∷◌, refl, ap, sym, arith, inl, inr}
+use Rattle.std.proofs.Common.{ℕ, zero, suc, ◌+◌, ◌-◌, ◌≡◌, ◌≢◌, ◌≤◌, ◌<◌, ◌∙◌, Bool, true, false, if◌then◌else◌, List, [], ◌∷◌, refl, ap, sym, arith, inl, inr}
 use Rattle.std.proofs.lemmas.Bool.{cases_Bool, cases_eq}
 use Rattle.s66_isa.specs.Lists.{first_that, rising}
 
@@ -25,7 +25,7 @@ first_none test n i le = ap (first_that test) (rising_none n i le)
 
 -- none passes if the first is 0
 pub none_passes : (test : ℕ → Bool) (k low : ℕ) → 1 ≤ low → first_that test (rising k low) ≡ 0 → (n : ℕ) → low ≤ n → n < low + k → test n ≡ false
-none_passes test 0 low some none n least most = absurd (omega (arith, least, most))
+none_passes test zero low some none n least most = absurd (omega (arith, least, most))
 none_passes test (suc k) low some none n least most = by_test (test low) refl none
   where
     by_test : (t : Bool) → test low ≡ t → (if t then low else first_that test (rising k (suc low))) ≡ 0 → test n ≡ false
@@ -38,7 +38,7 @@ none_passes test (suc k) low some none n least most = by_test (test low) refl no
 
 -- the first that passes is one of them and passes
 pub first_passes : (test : ℕ → Bool) (k low n : ℕ) → 1 ≤ low → first_that test (rising k low) ≡ n → n ≢ 0 → (low ≤ n) × (n < low + k) × (test n ≡ true)
-first_passes test 0 low n some is other = absurd (other (sym is))
+first_passes test zero low n some is other = absurd (other (sym is))
 first_passes test (suc k) low n some is other = by_test (test low) refl is
   where
     by_test : (t : Bool) → test low ≡ t → (if t then low else first_that test (rising k (suc low))) ≡ n → (low ≤ n) × (n < low + k + 1) × (test n ≡ true)

@@ -14,7 +14,7 @@ use Rattle.s66_model.proofs.Beginnings.{beginning-front, length-rising}
 use Rattle.s66_model.proofs.LegalOrders.{depends-from, depends-lt, each-needs, ready-from, ready-parts}
 use Rattle.s66_model.proofs.Remaining.{legal-parts}
 use Rattle.s66_compare.specs.Pairing.{AreWithin, first_left, is_open, paired, partner, partners, texts_of}
-use Rattle.s66_compare.specs.Verdict.{by_order, first_missing, is_kept, kept_verdict, verdict_of}
+use Rattle.s66_compare.specs.Verdict.{by_order, first_missing, is_kept, is_missing, kept_verdict, verdict_of}
 use Rattle.s66_compare.specs.declared.verdict.Verdict.{Verdict}
 use Rattle.s66_compare.specs.declared.verdict.Verdict.TheVariants.{NotLegal, OtherNew, OtherOld}
 use Rattle.s66_compare.proofs.Firsts.{first_passes, none_passes}
@@ -36,8 +36,8 @@ record Takes (old : Block) (taken : List ℕ) (texts : List (List ℕ)) : Type 0
   fresh : Fresh (length (instrs_of old)) taken more
   same : length texts ≤ length more → map (text_of old) more ≡ texts
 
-no-more : (old : Block) (taken : List ℕ) (text : List ℕ) (texts : List (List ℕ)) → (partner old taken text == 0) ≡ true → Takes old taken (text ∷ texts)
-no-more old taken text texts none =
+no_more : (old : Block) (taken : List ℕ) (text : List ℕ) (texts : List (List ℕ)) → (partner old taken text == 0) ≡ true → Takes old taken (text ∷ texts)
+no_more old taken text texts none =
     record {
       more = [];
       all = rw none (sym (append-nil taken));
@@ -51,19 +51,19 @@ takes-next old taken text texts some later =
     let count = length (instrs_of old) in
     let other : n ≢ 0 = λ none. true≢false (sym (ap (λ k. k == 0) none) ∙ some) in
     let first = first_passes (is_open old taken text) count 1 n (omega arith) refl other in
-    let open = and_parts (bytes_eq (text_of old n) text) (not (has n taken)) first.1.1 in
+    let stated = and_parts (bytes_eq (text_of old n) text) (not (has n taken)) first.1.1 in
     record {
       more = n ∷ later.more;
       all = rw some (later.all ∙ append_assoc taken (n ∷ []) later.more);
-      fresh = (first.0, omega (arith, first.1.0), not-true (has n taken) open.1, later.fresh);
-      same = (λ enough. ap₂ (λ t ts. t ∷ ts) ((bytes_eq-Decides (text_of old n) text).0 open.0) (later.same (omega (arith, enough))));
+      fresh = (first.0, omega (arith, first.1.0), not-true (has n taken) stated.1, later.fresh);
+      same = (λ enough. ap₂ (λ t ts. t ∷ ts) ((bytes_eq-Decides (text_of old n) text).0 stated.0) (later.same (omega (arith, enough))));
     }
 
 takes : (old : Block) (taken : List ℕ) (texts : List (List ℕ)) → Takes old taken texts
 takes old taken [] = record { more = []; all = sym (append-nil taken); fresh = tt; same = (λ enough. refl) }
 takes old taken (text ∷ texts) =
     elim (cases_Bool (partner old taken text == 0)) [
-      | inl none ↦ no-more old taken text texts none
+      | inl none ↦ no_more old taken text texts none
       | inr some ↦ takes-next old taken text texts some (takes old (taken ++ partner old taken text ∷ []) texts)
     ]
 
@@ -89,7 +89,7 @@ met : (block : List Instr) (before : List ℕ) (n : ℕ) → n ≤ length block 
 met block before n most none a is =
     let low = depends-from block a n is in
     let high = depends-lt block a n is in
-    needed (depends block a n) (has a before) (none_passes (λ a. depends block a n && not (has a before)) (length block) 1 (omega arith) none a low (omega (arith, high, most))) is
+    needed (depends block a n) (has a before) (none_passes (is_missing block before n) (length block) 1 (omega arith) none a low (omega (arith, high, most))) is
 
 not-kept : (n a : ℕ) → is_kept (NotLegal n a) ≡ true → ⊥
 not-kept n a h = true≢false (sym h)

@@ -1,5 +1,5 @@
 -- A block that is another one in a legal order leaves what that one leaves.
-use Rattle.std.proofs.Common.{ℕ, suc, ◌+◌, ◌≡◌, ◌≤◌, ◌<◌, ◌∙◌, List, [], ◌∷◌, Some, length, map, refl, ap, ap₂, sym, arith}
+use Rattle.std.proofs.Common.{ℕ, zero, suc, ◌+◌, ◌≡◌, ◌≤◌, ◌<◌, ◌∙◌, List, [], ◌∷◌, Some, length, map, refl, ap, ap₂, sym, arith}
 use Rattle.s66_isa.specs.Lists.{rising}
 use Rattle.s66_isa.specs.Table.{instr_at, numbers}
 use Rattle.s66_isa.specs.declared.instr.Instr.{Instr}
@@ -35,7 +35,7 @@ operations-texts block (n ∷ ns) spelled within =
     ap₂ (λ (o : Operation) os. o ∷ os) (operation-text block n (spelled n within.0 within.1.0)) (operations-texts block ns spelled within.1.1)
 
 within-rising : (count k low : ℕ) → 1 ≤ low → low + k ≤ count + 1 → AreWithin count (rising k low)
-within-rising count 0 low some most = tt
+within-rising count zero low some most = tt
 within-rising count (suc k) low some most = (some, omega (arith, most), within-rising count k (suc low) (omega arith) (omega (arith, most)))
 
 no_operation : (o : Operation) (os : List Operation) → [] ≡ o ∷ os → ⊥

@@ -1,5 +1,5 @@
 -- What pairs the instructions of two blocks, step by step.
-use Rattle.std.proofs.Common.{ℕ, suc, ◌+◌, ◌-◌, ◌≡◌, ◌≢◌, ◌≤◌, ◌<◌, ◌∙◌, Bool, true, false, if◌then◌else◌, List, [], ◌∷◌, ◌++◌, length, map, take, drop, get_or, refl, ap, sym, arith, subst, append_assoc}
+use Rattle.std.proofs.Common.{ℕ, zero, suc, ◌+◌, ◌-◌, ◌≡◌, ◌≢◌, ◌≤◌, ◌<◌, ◌∙◌, Bool, true, false, if◌then◌else◌, List, [], ◌∷◌, ◌++◌, length, map, take, drop, get_or, refl, ap, sym, arith, subst, append_assoc}
 use Rattle.std.specs.Prelude.{◌==◌}
 use Rattle.std.proofs.lemmas.Bool.{ne_eqb}
 use Rattle.std.proofs.lemmas.List.{append-nil, drop_all, drop_more, take_all, take_more}
@@ -20,7 +20,7 @@ within_push count (m ∷ ns) n within least most = (within.0, within.1.0, within
 
 pub within_at : (count : ℕ) (ns : List ℕ) (i d : ℕ) → AreWithin count ns → i < length ns → (1 ≤ get_or ns i d) × (get_or ns i d ≤ count)
 within_at count [] i d within below = absurd (omega (arith, below))
-within_at count (n ∷ ns) 0 d within below = (within.0, within.1.0)
+within_at count (n ∷ ns) zero d within below = (within.0, within.1.0)
 within_at count (n ∷ ns) (suc i) d within below = within_at count ns i d within.1.1 (omega (arith, below))
 
 -- ONE TEXT after the other

@@ -30,7 +30,7 @@ side_text s = codes " LINE " ++ decimal s.line ++ codes " COUNT " ++ decimal s.c
 
 -- a block that one source lacks has its own half of the line, and no verdict
 abbrev pub row_text : Row → List ℕ
-row_text (Both old new judged) = side_text old ++ codes " NEW" ++ side_text new ++ verdict_text judged.verdict judged.order
+row_text (Both old new said) = side_text old ++ codes " NEW" ++ side_text new ++ verdict_text said.verdict said.order
 row_text (OldAlone old) = side_text old
 row_text (NewAlone new) = codes " NEW" ++ side_text new
 

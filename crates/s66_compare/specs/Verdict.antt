@@ -14,9 +14,13 @@ pub record Judged : Type 0 where
   pub verdict : Verdict
   pub order : List ℕ
 
--- the first number on which n depends and that isn't among these; 0 if all are
+-- n depends on a, which isn't among these numbers
+abbrev pub is_missing : List Instr → List ℕ → ℕ → ℕ → Bool
+is_missing block before n a = depends block a n && not (has a before)
+
+-- the first number that is so; 0 if none is
 abbrev pub first_missing : List Instr → List ℕ → ℕ → ℕ
-first_missing block before n = first_that (λ a. depends block a n && not (has a before)) (numbers block)
+first_missing block before n = first_that (is_missing block before n) (numbers block)
 
 -- numbers that come one after the other after these: the first that comes too early, and on what it depends; or they keep every dependence
 abbrev pub by_order : List Instr → Verdict → (before : List ℕ) → List ℕ → Verdict

@@ -25,6 +25,7 @@ fn is_alike(old: &FramePart, new: &FramePart) -> bool
 }
 
 /// Where two frames first differ.
+#[tactic(auto, using(crate::proofs::Differences::alike_next, crate::proofs::Differences::alike_not, crate::proofs::Differences::old_more, crate::proofs::Differences::new_more, crate::proofs::Differences::no_more))]
 fn first_difference(old: &[FramePart], new: &[FramePart]) -> Option<Difference>
     ensures { result ≡ first_difference old.now new.now }
 {

@@ -52,6 +52,7 @@ fn side_of(timer: &mut Timer, block: &Block) -> Side
 }
 
 /// The row of an old block and the new one at its place, from 0, if there is one.
+#[tactic(auto, using(crate::proofs::RowSteps::old_row, crate::proofs::RowSteps::both_row))]
 fn row_at(timer: &mut Timer, old: &Block, new: &[Block], place: usize) -> Row
     ensures profile { timer.new ≡ timer.old }
     ensures row { (os : List BlockOf) → rows_of timer.old (old.now ∷ os) (drop place new.now) ≡ result ∷ rows_of timer.old os (drop (place + 1) new.now) }
@@ -70,6 +71,7 @@ fn row_at(timer: &mut Timer, old: &Block, new: &[Block], place: usize) -> Row
 }
 
 /// Appends a row for each old block.
+#[tactic(auto, using(crate::proofs::RowSteps::drop_at, crate::proofs::RowSteps::row_pushed))]
 fn push_old(
     rows: &mut Vec<Row>,
     timer: &mut Timer,
@@ -86,6 +88,7 @@ fn push_old(
 }
 
 /// Appends a row for each new block from a place on, from 0, at which there is no old one.
+#[tactic(auto, using(crate::proofs::RowSteps::new_row, crate::proofs::RowSteps::no_row, crate::proofs::RowSteps::row_pushed))]
 fn push_new(
     rows: &mut Vec<Row>,
     timer: &mut Timer,

@@ -100,10 +100,7 @@ fn push_line(out: &mut Vec<u8>, name: &[u8], line: Option<u32>) -> Result<(), Al
 }
 
 /// Where what stands beside the blocks first differs, if it does.
-fn push_difference(
-    out: &mut Vec<u8>,
-    difference: Option<Difference>,
-) -> Result<(), AllocError>
+fn push_difference(out: &mut Vec<u8>, difference: Option<Difference>) -> Result<(), AllocError>
     ensures { OnOk result (out.new.items ≡ out.old.items ++ difference_line difference) }
 {
     let Some(difference) = difference else {

@@ -2,7 +2,7 @@ ghost use Rattle.std.specs.Prelude.{◌≡◌, ◌≤◌, [], IfSome, IfNone, le
 ghost use Rattle.s66_isa.specs.declared.limits.TheConstants.{BLOCK_LIMIT};
 ghost use Rattle.s66_line.specs.Block.{instrs_of};
 ghost use Rattle.s66_compare.specs.Pairing.{AreWithin};
-ghost use Rattle.s66_compare.specs.Verdict.{by_order, first_missing, judged, kept_verdict, verdict_of};
+ghost use Rattle.s66_compare.specs.Verdict.{by_order, first_missing, is_missing, judged, kept_verdict, verdict_of};
 
 use crate::pairing::{first_left, is_among, paired};
 use arrayvec::ArrayVec;
@@ -53,7 +53,17 @@ impl Model for Judged {
     ghost view = { λ j. record { verdict = j.verdict; order = j.order.items } };
 }
 
+/// Whether the instruction of a number depends on another, which isn't among those before it.
+fn is_missing(old: &Block, before: &[u8], number: u8, other: u8) -> bool
+    requires number { (1 ≤ number) × (number ≤ length (instrs_of old.now)) }
+    requires other { (1 ≤ other) × (other ≤ length (instrs_of old.now)) }
+    ensures { result ≡ is_missing (instrs_of old.now) before.now number other }
+{
+    depends(old, other, number) && !is_among(other, before)
+}
+
 /// The first instruction on which that of a number depends, and which isn't among those before it.
+#[tactic(auto, using(crate::proofs::Firsts::first_here, crate::proofs::Firsts::first_later, crate::proofs::Firsts::first_none))]
 fn first_missing(old: &Block, before: &[u8], number: u8) -> Option<u8>
     requires { (1 ≤ number) × (number ≤ length (instrs_of old.now)) }
     ensures some { IfSome result (λ a. a ≡ first_missing (instrs_of old.now) before.now number) }
@@ -62,7 +72,7 @@ fn first_missing(old: &Block, before: &[u8], number: u8) -> Option<u8>
 {
     for position in 0..old.count() {
         let other = (position + 1) as u8;
-        if depends(old, other, number) && !is_among(other, before) {
+        if is_missing(old, before, number, other) {
             return Some(other);
         }
     }
@@ -81,6 +91,7 @@ fn kept_verdict(old: &Block, order: &[u8]) -> Verdict
 }
 
 /// Whether an order keeps every dependence, or where it doesn't.
+#[tactic(auto, using(crate::proofs::Pairs::order_next, crate::proofs::Pairs::order_stop, crate::proofs::Pairs::order_end, crate::proofs::Pairs::within_at))]
 fn by_order(old: &Block, order: &[u8]) -> Verdict
     requires { AreWithin (length (instrs_of old.now)) order.now }
     ensures { result ≡ by_order (instrs_of old.now) (kept_verdict (instrs_of old.now) order.now) [] order.now }

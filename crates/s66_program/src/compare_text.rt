@@ -4,7 +4,7 @@ ghost use Rattle.s66_outcome.specs.declared.outcome.Status.TheVariants.{Denied, 
 ghost use Rattle.s66_program.specs.Comparing.{IsCompareRefusal, IsNewRefusal};
 ghost use Rattle.s66_program.specs.Output.{IsCompareOutput};
 
-use s66_compare::compare;
+use s66_compare::{Compared, compare};
 use s66_isa::Profile;
 use s66_outcome::{Fault, Output, Status};
 use s66_source::{Source, halves_of, read_source_with};
@@ -19,15 +19,13 @@ fn compared_output(
 ) -> Result<Output, AllocError>
     ensures { IfOk result (λ output. (accepted : Bool) × IsCompared profile.now old.now new.now output.text.items accepted × (output.status ≡ (if accepted then Done else Denied))) }
 {
-    let compared = compare(alloc, profile, old, new)?;
-    Ok(Output {
-        text: compared.text,
-        status: if compared.is_accepted {
-            Status::Done
-        } else {
-            Status::Denied
-        },
-    })
+    let Compared { text, is_accepted } = compare(alloc, profile, old, new)?;
+    let status = if is_accepted {
+        Status::Done
+    } else {
+        Status::Denied
+    };
+    Ok(Output { text, status })
 }
 
 /// The new source of an input, or why it was refused.

@@ -114,10 +114,9 @@ frame-lines all (line ∷ lines) cut standing blocks dropped after count run ind
         ap₂ (λ xs ys. xs ++ ys) (ap (λ t. if t then line_part l ∷ [] else []) beside) (later [])
     by_blocks all (block ∷ blocks) is l ls lines cut standing dropped after count beside later =
         elim (line_of block 1 == l.number) as (λ t.
-            (if t then block_part block ∷ [] else (if is then line_part l ∷ [] else []))
-            ++ frame_from (record { cut = cut; standing = standing; blocks = if t then blocks else (block ∷ blocks); dropped = dropped; after = after; lines = count }) lines
-            ≡ (if t then block_part block ∷ frame_of_lines all blocks ls else (part_beside all l ++ frame_of_lines all (block ∷ blocks) ls)))
-        [
+        (if t then block_part block ∷ [] else (if is then line_part l ∷ [] else []))
+        ++ frame_from (record { cut = cut; standing = standing; blocks = if t then blocks else (block ∷ blocks); dropped = dropped; after = after; lines = count }) lines
+        ≡ (if t then block_part block ∷ frame_of_lines all blocks ls else (part_beside all l ++ frame_of_lines all (block ∷ blocks) ls))) [
           | true ↦ ap (λ xs. block_part block ∷ xs) (later blocks)
           | false ↦ ap₂ (λ xs ys. xs ++ ys) (ap (λ t. if t then line_part l ∷ [] else []) beside) (later (block ∷ blocks))
         ]

@@ -56,16 +56,22 @@ last-other old bytes h other = not-found old [] bytes h ∙ rw other refl
 pub newline-found : (bytes : List ℕ) (k : ℕ) → IsFirstNewline bytes (Some k) → take (k + 1) bytes ≡ take k bytes ++ 10 ∷ []
 newline-found [] k h = absurd (let high = h.0.high in omega (arith, high))
 newline-found (b ∷ bytes) zero h = ap (λ c. c ∷ []) (eqb-true b 10 h.1)
-newline-found (b ∷ bytes) (suc k) h = ap (λ l. b ∷ l) (newline-found bytes k (later b bytes k h))
+newline-found (b ∷ bytes) (suc k) h =
+    let next : suc k + 1 ≡ suc (k + 1) = omega arith in
+    ap (λ n. take n (b ∷ bytes)) next ∙ ap (λ l. b ∷ l) (newline-found bytes k (later b bytes k h))
+
+take-none : (m : ℕ) → take {A = ℕ} m [] ≡ []
+take-none zero = refl
+take-none (suc m) = refl
 
 take-more : (n m : ℕ) (xs : List ℕ) → take (n + m) xs ≡ take n xs ++ take m (drop n xs)
-take-more zero m xs = refl
-take-more (suc n) m [] = ends m
-  where
-    ends : (m : ℕ) → take (suc n + m) [] ≡ take m (drop (suc n) [])
-    ends zero = refl
-    ends (suc m) = refl
-take-more (suc n) m (x ∷ xs) = ap (λ ys. x ∷ ys) (take-more n m xs)
+take-more zero m xs =
+    let same : zero + m ≡ m = omega arith in
+    ap (λ k. take k xs) same
+take-more (suc n) m [] = take-none (suc n + m) ∙ sym (take-none m)
+take-more (suc n) m (x ∷ xs) =
+    let next : suc n + m ≡ suc (n + m) = omega arith in
+    ap (λ k. take k (x ∷ xs)) next ∙ ap (λ ys. x ∷ ys) (take-more n m xs)
 
 -- IN A TEXT, of which no line that ends before this place is a mark
 
@@ -84,6 +90,6 @@ pub mark-later : (text : List ℕ) (begin k : ℕ) → IsFirstNewline (drop begi
 mark-later text begin k first other none =
     let same : begin + k + 1 ≡ begin + (k + 1) = omega arith in
     ap₂ (λ old new. halves_from old [] new)
-    (ap (λ n. take n text) same ∙ take-more begin (k + 1) text ∙ ap (λ line. take begin text ++ line) (newline-found (drop begin text) k first))
+    (ap (λ n. take n text) same ∙ take-more begin (k + 1) text ∙ ap (λ line. take begin text ++ line) (newline-found (drop begin text) k first) ∙ sym (append_assoc (take begin text) (take k (drop begin text)) (10 ∷ [])))
     (sym (drop-more begin k text))
     ∙ sym (found-other (take begin text) (drop begin text) k first other) ∙ none

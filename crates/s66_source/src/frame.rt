@@ -185,11 +185,7 @@ impl<'s, 'a> Framer<'s, 'a> {
     }
 
     /// Passes a last line that lacks its newline, if there is one.
-    fn put_last(
-        &mut self,
-        parts: &mut Vec<FramePart<'a>>,
-        line: &'a [u8],
-    ) -> Result<(), AllocError>
+    fn put_last(&mut self, parts: &mut Vec<FramePart<'a>>, line: &'a [u8]) -> Result<(), AllocError>
         requires lines { self.old.lines + length (lines_from line.now []) ≤ SOURCE_LINES_LIMIT }
         requires short { every is_short (lines_from line.now []) ≡ true }
         requires bodies { self.old.standing.bodies ≤ self.old.lines }
@@ -202,11 +198,7 @@ impl<'s, 'a> Framer<'s, 'a> {
     }
 
     /// Passes the lines of a text.
-    fn put_all(
-        &mut self,
-        parts: &mut Vec<FramePart<'a>>,
-        text: &'a [u8],
-    ) -> Result<(), AllocError>
+    fn put_all(&mut self, parts: &mut Vec<FramePart<'a>>, text: &'a [u8]) -> Result<(), AllocError>
         requires lines { self.old.lines + length (lines_from [] text.now) ≤ SOURCE_LINES_LIMIT }
         requires short { every is_short (lines_from [] text.now) ≡ true }
         requires bodies { self.old.standing.bodies ≤ self.old.lines }
@@ -224,10 +216,7 @@ impl<'s, 'a> Framer<'s, 'a> {
 
 /// What stands in a source beside the instructions of its blocks, in the order of its lines, in one pass over these. `Err` is out of
 /// memory.
-pub fn frame_of<'a>(
-    alloc: Global,
-    source: &Source<'a>,
-) -> Result<Vec<FramePart<'a>>, AllocError>
+pub fn frame_of<'a>(alloc: Global, source: &Source<'a>) -> Result<Vec<FramePart<'a>>, AllocError>
     ensures { IfOk result (λ parts. parts.items ≡ frame_of source.now) }
 {
     let mut framer = Framer {

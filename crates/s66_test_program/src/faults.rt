@@ -24,10 +24,7 @@ const NEW_ERRORS: &[(SourceError, &str)] = &[
         SourceError::BadOperand { line: 20_000 },
         "NEW LINE 20000 BAD OPERAND",
     ),
-    (
-        SourceError::LineTooLong { line: 1 },
-        "NEW LINE 1 TOO LONG",
-    ),
+    (SourceError::LineTooLong { line: 1 }, "NEW LINE 1 TOO LONG"),
     (SourceError::TooLarge, "NEW TOO MANY LINES"),
 ];
 

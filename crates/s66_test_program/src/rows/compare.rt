@@ -170,13 +170,7 @@ pub(crate) const ROWS: &[Row] = &[
         3,
         "NO NEW SOURCE\n",
     ),
-    (
-        "empty",
-        COMPARE,
-        "",
-        3,
-        "NO NEW SOURCE\n",
-    ),
+    ("empty", COMPARE, "", 3, "NO NEW SOURCE\n"),
     (
         "old refused",
         COMPARE,
