@@ -36,17 +36,19 @@ fn first_difference(old: &[FramePart], new: &[FramePart]) -> Option<Difference>
                 new: None,
             });
         }
-        if !is_alike(part, &new[place]) {
+        let other = &new[place];
+        if !is_alike(part, other) {
             return Some(Difference {
                 old: Some(part.line),
-                new: Some(new[place].line),
+                new: Some(other.line),
             });
         }
     }
     if old.len() < new.len() {
+        let other = &new[old.len()];
         return Some(Difference {
             old: None,
-            new: Some(new[old.len()].line),
+            new: Some(other.line),
         });
     }
     None
