@@ -26,23 +26,24 @@ first_none test n i le = ap (first_that test) (rising_none n i le)
 -- none passes if the first is 0
 pub none_passes : (test : ℕ → Bool) (k low : ℕ) → 1 ≤ low → first_that test (rising k low) ≡ 0 → (n : ℕ) → low ≤ n → n < low + k → test n ≡ false
 none_passes test zero low some none n least most = absurd (omega (arith, least, most))
-none_passes test (suc k) low some none n least most = by_test (test low) refl none
+none_passes test (suc k) low some none n least most = by_test (test low) refl none (λ later past. none_passes test k (suc low) (omega arith) later n (omega (arith, least, past)) (omega (arith, most)))
   where
-    by_test : (t : Bool) → test low ≡ t → (if t then low else first_that test (rising k (suc low))) ≡ 0 → test n ≡ false
-    by_test true is none = absurd (omega (arith, some, none))
-    by_test false not_so none =
+    by_test : (t : Bool) → test low ≡ t → (if t then low else first_that test (rising k (suc low))) ≡ 0 → (first_that test (rising k (suc low)) ≡ 0 → n ≢ low → test n ≡ false) → test n ≡ false
+    by_test true is none later = absurd (omega (arith, some, none))
+    by_test false not_so none later =
         elim (cases_eq n low) [
           | inl here ↦ ap test here ∙ not_so
-          | inr past ↦ none_passes test k (suc low) (omega arith) none n (omega (arith, least, past)) (omega (arith, most))
+          | inr past ↦ later none past
         ]
 
 -- the first that passes is one of them and passes
 pub first_passes : (test : ℕ → Bool) (k low n : ℕ) → 1 ≤ low → first_that test (rising k low) ≡ n → n ≢ 0 → (low ≤ n) × (n < low + k) × (test n ≡ true)
 first_passes test zero low n some is other = absurd (other (sym is))
-first_passes test (suc k) low n some is other = by_test (test low) refl is
+first_passes test (suc k) low n some is other = by_test (test low) refl is (λ later. first_passes test k (suc low) n (omega arith) later other)
   where
-    by_test : (t : Bool) → test low ≡ t → (if t then low else first_that test (rising k (suc low))) ≡ n → (low ≤ n) × (n < low + k + 1) × (test n ≡ true)
-    by_test true passes is = (omega (arith, is), omega (arith, is), ap test (sym is) ∙ passes)
-    by_test false not_so is =
-        let later = first_passes test k (suc low) n (omega arith) is other in
-        (omega (arith, later.0), omega (arith, later.1.0), later.1.1)
+    by_test : (t : Bool) → test low ≡ t → (if t then low else first_that test (rising k (suc low))) ≡ n → (first_that test (rising k (suc low)) ≡ n → (suc low ≤ n) × (n < suc low + k) × (test n ≡ true)) →
+        (low ≤ n) × (n < low + suc k) × (test n ≡ true)
+    by_test true passes is later = (omega (arith, is), omega (arith, is), ap test (sym is) ∙ passes)
+    by_test false not_so is later =
+        let (least, most, passes) = later is in
+        (omega (arith, least), omega (arith, most), passes)

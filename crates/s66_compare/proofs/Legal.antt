@@ -27,7 +27,7 @@ Fresh count before (n ∷ ns) = (1 ≤ n) × (n ≤ count) × (has n before ≡ 
 
 pub fresh-within : (count : ℕ) (before ns : List ℕ) → Fresh count before ns → AreWithin count ns
 fresh-within count before [] fresh = tt
-fresh-within count before (n ∷ ns) fresh = (fresh.0, fresh.1.0, fresh-within count (before ++ n ∷ []) ns fresh.1.1.1)
+fresh-within count before (n ∷ ns) fresh = (fresh.0, fresh.1, fresh-within count (before ++ n ∷ []) ns fresh.3)
 
 -- what was taken, and then numbers that have the texts as far as they go
 record Takes (old : Block) (taken : List ℕ) (texts : List (List ℕ)) : Type 0 where
@@ -51,11 +51,11 @@ takes-next old taken text texts some later =
     let count = length (instrs_of old) in
     let other : n ≢ 0 = λ none. true≢false (sym (ap (λ k. k == 0) none) ∙ some) in
     let first = first_passes (is_open old taken text) count 1 n (omega arith) refl other in
-    let stated = and_parts (bytes_eq (text_of old n) text) (not (has n taken)) first.1.1 in
+    let stated = and_parts (bytes_eq (text_of old n) text) (not (has n taken)) first.2 in
     record {
       more = n ∷ later.more;
       all = rw some (later.all ∙ append_assoc taken (n ∷ []) later.more);
-      fresh = (first.0, omega (arith, first.1.0), not-true (has n taken) stated.1, later.fresh);
+      fresh = (first.0, omega (arith, first.1), not-true (has n taken) stated.1, later.fresh);
       same = (λ enough. ap₂ (λ t ts. t ∷ ts) ((bytes_eq-Decides (text_of old n) text).0 stated.0) (later.same (omega (arith, enough))));
     }
 
@@ -100,8 +100,8 @@ goes block kept before (n ∷ ns) fresh is =
     elim (cases_Bool (first_missing block before n == 0)) [
       | inl none ↦ (
           let later : is_kept (by_order block kept (before ++ n ∷ []) ns) ≡ true = rw none at is in
-          let all = met block before n fresh.1.0 (eqb-true (first_missing block before n) 0 none) in
-          (ready-from block before n fresh.0 fresh.1.0 fresh.1.1.0 (each-needs block before n all n), goes block kept (before ++ n ∷ []) ns fresh.1.1.1 later))
+          let all = met block before n fresh.1 (eqb-true (first_missing block before n) 0 none) in
+          (ready-from block before n fresh.0 fresh.1 fresh.2 (each-needs block before n all n), goes block kept (before ++ n ∷ []) ns fresh.3 later))
       | inr some ↦ absurd (not-kept n (first_missing block before n) (rw some at is))
     ]
 
@@ -119,7 +119,7 @@ whole block ns [] there legal = subst (IsLegal block) (append-nil ns) legal
 whole block ns (n ∷ rest) there legal =
     let parts = legal-parts block ns (n ∷ rest) legal in
     let ready = ready-parts block ns n parts.1.0.0 in
-    absurd (true≢false (sym (there n ready.0 ready.1.0) ∙ ready.1.1.0))
+    absurd (true≢false (sym (there n ready.0 ready.1) ∙ ready.2))
 
 -- THE VERDICT
 

@@ -32,7 +32,7 @@ operations-texts : (block : Block) (ns : List ℕ) → IsSpelled block → AreWi
     map (operation_at (instrs_of block) (constants_in block)) ns ≡ map operation_of_text (map (text_of block) ns)
 operations-texts block [] spelled within = refl
 operations-texts block (n ∷ ns) spelled within =
-    ap₂ (λ (o : Operation) os. o ∷ os) (operation-text block n (spelled n within.0 within.1.0)) (operations-texts block ns spelled within.1.1)
+    ap₂ (λ (o : Operation) os. o ∷ os) (operation-text block n (spelled n within.0 within.1)) (operations-texts block ns spelled within.2)
 
 within-rising : (count k low : ℕ) → 1 ≤ low → low + k ≤ count + 1 → AreWithin count (rising k low)
 within-rising count zero low some most = tt

@@ -16,12 +16,12 @@ use Rattle.s66_compare.proofs.Firsts.{rising_next, rising_none}
 
 pub within_push : (count : ℕ) (ns : List ℕ) (n : ℕ) → AreWithin count ns → 1 ≤ n → n ≤ count → AreWithin count (ns ++ n ∷ [])
 within_push count [] n within least most = (least, most, tt)
-within_push count (m ∷ ns) n within least most = (within.0, within.1.0, within_push count ns n within.1.1 least most)
+within_push count (m ∷ ns) n within least most = (within.0, within.1, within_push count ns n within.2 least most)
 
 pub within_at : (count : ℕ) (ns : List ℕ) (i d : ℕ) → AreWithin count ns → i < length ns → (1 ≤ get_or ns i d) × (get_or ns i d ≤ count)
 within_at count [] i d within below = absurd (omega (arith, below))
-within_at count (n ∷ ns) zero d within below = (within.0, within.1.0)
-within_at count (n ∷ ns) (suc i) d within below = within_at count ns i d within.1.1 (omega (arith, below))
+within_at count (n ∷ ns) zero d within below = (within.0, within.1)
+within_at count (n ∷ ns) (suc i) d within below = within_at count ns i d within.2 (omega (arith, below))
 
 -- ONE TEXT after the other
 

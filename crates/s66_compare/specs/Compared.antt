@@ -51,10 +51,13 @@ difference_line (Some d) = codes "DIFFERS" ++ line_text (codes " LINE ") d.old +
 
 -- ALL
 
+-- of one source, after its name
+abbrev pub sums_text : List ℕ → (blocks time : ℕ) → List ℕ
+sums_text name blocks time = name ++ decimal blocks ++ codes " TIME " ++ decimal time
+
 abbrev pub total_text : (blocks time new_blocks new_time legal : ℕ) → List ℕ
 total_text blocks time new_blocks new_time legal =
-    codes "TOTAL BLOCKS " ++ decimal blocks ++ codes " TIME " ++ decimal time ++ codes " NEW BLOCKS " ++ decimal new_blocks ++ codes " TIME "
-    ++ decimal new_time ++ codes " LEGAL " ++ decimal legal ++ codes "\n"
+    sums_text (codes "TOTAL BLOCKS ") blocks time ++ sums_text (codes " NEW BLOCKS ") new_blocks new_time ++ codes " LEGAL " ++ decimal legal ++ codes "\n"
 
 -- how many blocks each source has, what they take, and how many are the old ones in legal orders
 abbrev pub total_line : List Row → List ℕ

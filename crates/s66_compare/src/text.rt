@@ -1,7 +1,7 @@
 ghost use Rattle.std.specs.Prelude.{◌≡◌, ◌≤◌, ◌*◌, ◌++◌, [], codes, length, IfOk, OnOk};
 ghost use Rattle.s66_isa.specs.Lists.{after_blanks, tally, weigh};
 ghost use Rattle.s66_source.specs.declared.limits.TheConstants.{SOURCE_LINES_LIMIT};
-ghost use Rattle.s66_compare.specs.Compared.{compared_text, difference_line, line_text, row_lines, row_text, side_text, total_text, verdict_text};
+ghost use Rattle.s66_compare.specs.Compared.{compared_text, difference_line, line_text, row_lines, row_text, side_text, sums_text, total_text, verdict_text};
 ghost use Rattle.s66_compare.specs.declared.verdict.Verdict.TheVariants.{NotLegal, Reordered};
 ghost use Rattle.s66_compare.specs.Rows.{has_new, has_old, is_legal, new_time, old_time};
 
@@ -204,13 +204,24 @@ fn total_of(rows: &[Row]) -> Total
     }
 }
 
+/// How many blocks a source has, and what they take.
+fn push_sums(
+    out: &mut Vec<u8>,
+    name: &[u8],
+    blocks: usize,
+    time: usize,
+) -> Result<(), AllocError>
+    ensures { OnOk result (out.new.items ≡ out.old.items ++ sums_text name.now blocks time) }
+{
+    push_field(out, name, blocks)?;
+    push_field(out, b" TIME ", time)
+}
+
 fn push_total(out: &mut Vec<u8>, total: &Total) -> Result<(), AllocError>
     ensures { OnOk result (out.new.items ≡ out.old.items ++ total_text total.now.blocks total.now.time total.now.new_blocks total.now.new_time total.now.legal) }
 {
-    push_field(out, b"TOTAL BLOCKS ", total.blocks)?;
-    push_field(out, b" TIME ", total.time)?;
-    push_field(out, b" NEW BLOCKS ", total.new_blocks)?;
-    push_field(out, b" TIME ", total.new_time)?;
+    push_sums(out, b"TOTAL BLOCKS ", total.blocks, total.time)?;
+    push_sums(out, b" NEW BLOCKS ", total.new_blocks, total.new_time)?;
     push_field(out, b" LEGAL ", total.legal)?;
     out.extend_from_slice(b"\n")
 }
