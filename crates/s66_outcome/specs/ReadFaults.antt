@@ -8,6 +8,8 @@ abbrev pub IsReadFault : Reader → Reader → Fault → Type 0
 IsReadFault old new fault.Read = ReadFails old new
 IsReadFault old new fault.Memory = ReadsSome old new
 IsReadFault old new (fault.Source e) = ⊥
+IsReadFault old new (fault.NewSource e) = ⊥
+IsReadFault old new fault.NoNewSource = ⊥
 IsReadFault old new (fault.Document e) = ⊥
 IsReadFault old new fault.Profile = ⊥
 IsReadFault old new fault.Write = ⊥

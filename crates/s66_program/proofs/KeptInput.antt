@@ -6,13 +6,13 @@ use Rattle.s66_line.specs.Block.{Block}
 use Rattle.s66_source.specs.Source.{source_of}
 use Rattle.s66_source.specs.declared.error.SourceError.{SourceError}
 use Rattle.s66_command.specs.declared.command.Command.{Command}
-use Rattle.s66_command.specs.declared.command.Command.TheVariants.{Time, Deps, Chart, Why, Page, Order, Prove, Check, Lint, Sum}
+use Rattle.s66_command.specs.declared.command.Command.TheVariants.{Time, Deps, Chart, Why, Page, Order, Prove, Check, Lint, Sum, Compare}
 use Rattle.s66_program.specs.declared.limits.TheConstants.{SOURCE_FRONT}
 use Rattle.s66_outcome.specs.declared.outcome.Fault.{Fault}
 use Rattle.s66_outcome.specs.declared.outcome.Fault.TheVariants as fault
 use Rattle.s66_outcome.specs.declared.outcome.Status.{Status}
 use Rattle.s66_outcome.specs.Kept.{IsFull, IsKeptInput}
-use Rattle.s66_program.specs.Output.{IsOutput, is_cut, reads_documents, reads_source, source_in}
+use Rattle.s66_program.specs.Output.{IsOutput, is_cut, reads_documents, reads_source, reads_two, source_in}
 use Rattle.s66_program.specs.Run.{IsRefusal}
 use Rattle.s66_program.proofs.Fronts.{front-refused}
 
@@ -27,11 +27,12 @@ accepted p (Chart cut texts only profile) input text status reads ((blocks, ok, 
 accepted p (Why cut None only profile) input text status reads ((blocks, ok, is), done) = (blocks, ok)
 accepted p (Why cut (Some strategy) only profile) input text status reads (blocks, ok, is) = (blocks, ok)
 accepted p (Page cut strategy only profile) input text status reads (blocks, ok, is) = (blocks, ok)
-accepted p (Order cut strategy trace profile) input text status reads (blocks, ok, is) = (blocks, ok)
-accepted p (Prove cut strategy profile) input text status reads (blocks, ok, is) = (blocks, ok)
+accepted p (Order cut strategy trace keep quiet only profile) input text status reads (blocks, ok, is) = (blocks, ok)
+accepted p (Prove cut strategy only profile) input text status reads (blocks, ok, is) = (blocks, ok)
 accepted p Check input text status reads is = absurd (cc)
-accepted p Lint input text status reads is = absurd (cc)
-accepted p (Sum cut strategy trace profile) input text status reads (blocks, ok, is) = (blocks, ok)
+accepted p (Lint cut) input text status reads is = absurd (cc)
+accepted p (Sum cut strategy trace only profile) input text status reads (blocks, ok, is) = (blocks, ok)
+accepted p (Compare cut profile) input text status reads is = absurd (cc)
 
 -- a full front is refused, and so is the input, for the same
 full-refused : (command : Command) (most : Option ℕ) (held rest : List ℕ) → IsMost command most → IsFull most held →
@@ -53,14 +54,31 @@ no-documents (Deps cut only) source documents = cc
 no-documents (Chart cut texts only profile) source documents = cc
 no-documents (Why cut order only profile) source documents = cc
 no-documents (Page cut strategy only profile) source documents = cc
-no-documents (Order cut strategy trace profile) source documents = cc
-no-documents (Prove cut strategy profile) source documents = cc
+no-documents (Order cut strategy trace keep quiet only profile) source documents = cc
+no-documents (Prove cut strategy only profile) source documents = cc
 no-documents Check source documents = cc
-no-documents Lint source documents = cc
-no-documents (Sum cut strategy trace profile) source documents = cc
+no-documents (Lint cut) source documents = cc
+no-documents (Sum cut strategy trace only profile) source documents = cc
+no-documents (Compare cut profile) source documents = cc
+
+not-two : (command : Command) → reads_source command ≡ true → reads_two command ≡ true → ⊥
+not-two (Time cut trace only profile) source two = cc
+not-two (Deps cut only) source two = cc
+not-two (Chart cut texts only profile) source two = cc
+not-two (Why cut order only profile) source two = cc
+not-two (Page cut strategy only profile) source two = cc
+not-two (Order cut strategy trace keep quiet only profile) source two = cc
+not-two (Prove cut strategy only profile) source two = cc
+not-two Check source two = cc
+not-two (Lint cut) source two = cc
+not-two (Sum cut strategy trace only profile) source two = cc
+not-two (Compare cut profile) source two = cc
 
 refused-for : (command : Command) (input held : List ℕ) (f : Fault) → reads_source command ≡ true → source_of (source_in command input) ≡ source_of (source_in command held) → IsRefusal command held f → IsRefusal command input f
-refused-for command input held (fault.Source e) reads same (is, other, refused) = (is, other, same ∙ refused)
+refused-for command input held (fault.Source e) reads same (other, inl (is, refused)) = (other, inl (is, same ∙ refused))
+refused-for command input held (fault.Source e) reads same (other, inr (two, halves)) = absurd (not-two command reads two)
+refused-for command input held (fault.NewSource e) reads same (two, other) = absurd (not-two command reads two)
+refused-for command input held fault.NoNewSource reads same (two, none) = absurd (not-two command reads two)
 refused-for command input held (fault.Document e) reads same (is, refused) = absurd (no-documents command reads is)
 refused-for command input held fault.Profile reads same h = h
 refused-for command input held fault.Memory reads same h = h

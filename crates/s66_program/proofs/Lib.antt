@@ -6,3 +6,4 @@ pub mod KeptInput
 pub mod KeptParts
 pub mod RefusedInput
 pub mod SearchAnswers
+pub mod TwoSources

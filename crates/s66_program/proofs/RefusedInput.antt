@@ -28,6 +28,8 @@ reads-some reader reader' input (taken, all, same, (reads, few, calls)) =
 
 leaves : (p : Profile) (command : Command) (reader reader' : Reader) (writer : Writer) (input : List ℕ) (f : Fault) → ReadsAll reader reader' input → IsRefusal command input f → IsOutcomeUnder p command reader reader' writer writer (Err f)
 leaves p command reader reader' writer input (fault.Source e) reads h = ((input, reads, h), untouched writer)
+leaves p command reader reader' writer input (fault.NewSource e) reads h = ((input, reads, h), untouched writer)
+leaves p command reader reader' writer input fault.NoNewSource reads h = ((input, reads, h), untouched writer)
 leaves p command reader reader' writer input (fault.Document e) reads h = ((input, reads, h), untouched writer)
 leaves p command reader reader' writer input fault.Profile reads h = absurd h
 leaves p command reader reader' writer input fault.Memory reads h = (reads-some reader reader' input reads, untouched writer)

@@ -4,3 +4,4 @@ pub mod Output
 pub mod Run
 pub mod Program
 pub mod Examples
+pub mod Comparing

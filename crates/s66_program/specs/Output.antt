@@ -1,17 +1,19 @@
 -- To be believed: what each command writes for what it reads, and how it ends.
-use Rattle.std.specs.Prelude.{ℕ, ◌≡◌, ◌≤◌, Bool, true, false, List, Option, None, Some, IfSome}
+use Rattle.std.specs.Prelude.{ℕ, ◌≡◌, ◌≤◌, if◌then◌else◌, Bool, true, false, List, Option, None, Some, IfSome}
 use Rattle.s66_isa.specs.declared.profile.Profile.{Profile}
 use Rattle.s66_isa.specs.Table.{standard}
 use Rattle.s66_model.specs.declared.limits.TheConstants.{BUDGET_LIMIT}
+use Rattle.s66_source.specs.Halves.{Halves, halves_of}
 use Rattle.s66_source.specs.LeftAlone.{Reading}
+use Rattle.s66_compare.specs.Compared.{IsCompared}
 use Rattle.s66_model.specs.declared.limits.TheConstants.{WORKERS_LIMIT}
 use Rattle.s66_command.specs.declared.strategy.Strategy.{Strategy}
 use Rattle.s66_profile.specs.ProfileText.{profile_in_text}
 use Rattle.s66_command.specs.declared.command.Command.{Command}
-use Rattle.s66_command.specs.declared.command.Command.TheVariants.{Time, Deps, Chart, Why, Page, Order, Prove, Check, Lint, Sum}
+use Rattle.s66_command.specs.declared.command.Command.TheVariants.{Time, Deps, Chart, Why, Page, Order, Prove, Check, Lint, Sum, Compare}
 use Rattle.s66_command.specs.Profile.{profile_text}
 use Rattle.s66_outcome.specs.declared.outcome.Status.{Status}
-use Rattle.s66_outcome.specs.declared.outcome.Status.TheVariants.{Done}
+use Rattle.s66_outcome.specs.declared.outcome.Status.TheVariants.{Done, Denied}
 use Rattle.s66_text.specs.declared.listing.Listing.TheVariants as listing
 use Rattle.s66_text.specs.Listing.{IsListing}
 use Rattle.s66_text.specs.WhyText.{IsWhyOutput}
@@ -33,11 +35,12 @@ IsWithinLimits (Deps cut only) = Unit {0}
 IsWithinLimits (Chart cut texts only profile) = Unit {0}
 IsWithinLimits (Why cut order only profile) = IfSome order (λ strategy. IsSearchWithin strategy.search.workers strategy.search.nodes)
 IsWithinLimits (Page cut strategy only profile) = IsSearchWithin strategy.search.workers strategy.search.nodes
-IsWithinLimits (Order cut strategy trace profile) = IsSearchWithin strategy.search.workers strategy.search.nodes
-IsWithinLimits (Prove cut strategy profile) = IsSearchWithin strategy.search.workers strategy.search.nodes
+IsWithinLimits (Order cut strategy trace keep quiet only profile) = IsSearchWithin strategy.search.workers strategy.search.nodes
+IsWithinLimits (Prove cut strategy only profile) = IsSearchWithin strategy.search.workers strategy.search.nodes
 IsWithinLimits Check = Unit {0}
-IsWithinLimits Lint = Unit {0}
-IsWithinLimits (Sum cut strategy trace profile) = IsSearchWithin strategy.search.workers strategy.search.nodes
+IsWithinLimits (Lint cut) = Unit {0}
+IsWithinLimits (Sum cut strategy trace only profile) = IsSearchWithin strategy.search.workers strategy.search.nodes
+IsWithinLimits (Compare cut profile) = Unit {0}
 
 -- PROFILES
 
@@ -64,14 +67,21 @@ is_cut (Deps cut only) = cut
 is_cut (Chart cut texts only profile) = cut
 is_cut (Why cut order only profile) = cut
 is_cut (Page cut strategy only profile) = cut
-is_cut (Order cut strategy trace profile) = cut
-is_cut (Prove cut strategy profile) = cut
-is_cut (Sum cut strategy trace profile) = cut
+is_cut (Order cut strategy trace keep quiet only profile) = cut
+is_cut (Prove cut strategy only profile) = cut
+is_cut (Sum cut strategy trace only profile) = cut
+is_cut (Compare cut profile) = cut
 is_cut command = false
 
 -- an input, as a command reads it
 abbrev pub source_in : Command → List ℕ → Reading
 source_in command input = record { cut = is_cut command; text = input }
+
+-- what `compare` writes of the two sources of an input, and how it ends
+abbrev pub IsCompareOutput : Profile → (cut : Bool) (input text : List ℕ) → Status → Type 0
+IsCompareOutput p cut input text status =
+    (halves : Halves) × (halves_of input ≡ Some halves)
+    × ((accepted : Bool) × IsCompared p (record { cut = cut; text = halves.old }) (record { cut = cut; text = halves.new }) text accepted × (status ≡ (if accepted then Done else Denied)))
 
 -- for this input, under a profile, a command writes the text and ends so
 abbrev pub IsOutput : Profile → Command → (input text : List ℕ) → Status → Type 0
@@ -80,11 +90,12 @@ IsOutput p (Deps cut only) input text status = IsListing p listing.Dependences o
 IsOutput p (Chart cut texts only profile) input text status = IsListing p (listing.Chart texts) only (record { cut = cut; text = input }) text × (status ≡ Done)
 IsOutput p (Why cut order only profile) input text status = IsWaitsOutput p order only (record { cut = cut; text = input }) text status
 IsOutput p (Page cut strategy only profile) input text status = IsPageOutput strategy p only (record { cut = cut; text = input }) text status
-IsOutput p (Order cut strategy trace profile) input text status = IsOrderOutput strategy p trace (record { cut = cut; text = input }) text status
-IsOutput p (Prove cut strategy profile) input text status = IsProveOutput strategy p (record { cut = cut; text = input }) text status
+IsOutput p (Order cut strategy trace keep quiet only profile) input text status = IsOrderOutput strategy p trace (record { cut = cut; text = input }) text status
+IsOutput p (Prove cut strategy only profile) input text status = IsProveOutput strategy p (record { cut = cut; text = input }) text status
 IsOutput p Check input text status = IsCheckOutput input text status
-IsOutput p Lint input text status = IsLintOutput input text status
-IsOutput p (Sum cut strategy trace profile) input text status = IsSumOutput strategy p trace (record { cut = cut; text = input }) text status
+IsOutput p (Lint cut) input text status = IsLintOutput input text status
+IsOutput p (Sum cut strategy trace only profile) input text status = IsSumOutput strategy p trace (record { cut = cut; text = input }) text status
+IsOutput p (Compare cut profile) input text status = IsCompareOutput p cut input text status
 
 -- the command reads a source, and refuses some
 abbrev pub reads_source : Command → Bool
@@ -93,13 +104,19 @@ reads_source (Deps cut only) = true
 reads_source (Chart cut texts only profile) = true
 reads_source (Why cut order only profile) = true
 reads_source (Page cut strategy only profile) = true
-reads_source (Order cut strategy trace profile) = true
-reads_source (Prove cut strategy profile) = true
+reads_source (Order cut strategy trace keep quiet only profile) = true
+reads_source (Prove cut strategy only profile) = true
 reads_source Check = false
-reads_source Lint = false
-reads_source (Sum cut strategy trace profile) = true
+reads_source (Lint cut) = false
+reads_source (Sum cut strategy trace only profile) = true
+reads_source (Compare cut profile) = false
 
 -- the command reads documents, and refuses some
 abbrev pub reads_documents : Command → Bool
 reads_documents Check = true
 reads_documents command = false
+
+-- the command reads two sources, of which the second begins after a line that marks it, and refuses some
+abbrev pub reads_two : Command → Bool
+reads_two (Compare cut profile) = true
+reads_two command = false

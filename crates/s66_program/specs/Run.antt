@@ -1,7 +1,9 @@
 -- To be believed: what a command leaves of its reader and its writer.
-use Rattle.std.specs.Prelude.{◌≡◌, ◌≢◌, ◌⊎◌, ℕ, true, List, None, Result, Ok, Err}
+use Rattle.std.specs.Prelude.{◌≡◌, ◌≢◌, ◌⊎◌, ℕ, true, List, None, Some, Result, Ok, Err, is_ok}
 use Rattle.s66_isa.specs.declared.profile.Profile.{Profile}
+use Rattle.s66_source.specs.declared.error.SourceError.{SourceError}
 use Rattle.s66_source.specs.declared.error.SourceError.TheVariants.{OutOfMemory}
+use Rattle.s66_source.specs.Halves.{Halves, halves_of}
 use Rattle.s66_device.specs.Devices.{IsUntouched, Reader, WriteFails, Writer, Writes}
 use Rattle.s66_source.specs.Source.{source_of}
 use Rattle.s66_cert.specs.Faults.{IsFault}
@@ -11,11 +13,24 @@ use Rattle.s66_outcome.specs.declared.outcome.Fault.{Fault}
 use Rattle.s66_outcome.specs.declared.outcome.Fault.TheVariants as fault
 use Rattle.s66_outcome.specs.declared.outcome.Status.{Status}
 use Rattle.s66_outcome.specs.Device.{ReadFails, ReadsAll, ReadsSome}
-use Rattle.s66_program.specs.Output.{IsOutput, IsUnder, profile_asked, reads_documents, reads_source, source_in}
+use Rattle.s66_program.specs.Output.{IsOutput, IsUnder, profile_asked, reads_documents, reads_source, reads_two, source_in}
+
+-- the only source of an input is refused, or the first of two
+abbrev pub RefusesSource : Command → List ℕ → SourceError → Type 0
+RefusesSource command input e =
+    ((reads_source command ≡ true) × (source_of (source_in command input) ≡ Err e))
+    ⊎ ((reads_two command ≡ true) × ((halves : Halves) × (halves_of input ≡ Some halves) × (source_of (source_in command halves.old) ≡ Err e)))
+
+-- the second of two is refused, and the first is not
+abbrev pub RefusesNewSource : Command → List ℕ → SourceError → Type 0
+RefusesNewSource command input e =
+    (halves : Halves) × (halves_of input ≡ Some halves) × (is_ok (source_of (source_in command halves.old)) ≡ true) × (source_of (source_in command halves.new) ≡ Err e)
 
 -- why a command writes nothing for an input
 abbrev pub IsRefusal : Command → List ℕ → Fault → Type 0
-IsRefusal command input (fault.Source e) = (reads_source command ≡ true) × (e ≢ OutOfMemory) × (source_of (source_in command input) ≡ Err e)
+IsRefusal command input (fault.Source e) = (e ≢ OutOfMemory) × RefusesSource command input e
+IsRefusal command input (fault.NewSource e) = (reads_two command ≡ true) × (e ≢ OutOfMemory) × RefusesNewSource command input e
+IsRefusal command input fault.NoNewSource = (reads_two command ≡ true) × (halves_of input ≡ None)
 IsRefusal command input (fault.Document e) = (reads_documents command ≡ true) × IsFault input e
 IsRefusal command input fault.Profile = ⊥
 IsRefusal command input fault.Memory = Unit {0}
@@ -30,6 +45,10 @@ IsOutcomeUnder p command reader reader' writer writer' (Ok status) =
     × ((text : List ℕ) × IsOutput p command input text status × Writes writer writer' text)
 IsOutcomeUnder p command reader reader' writer writer' (Err (fault.Source e)) =
     ((input : List ℕ) × ReadsAll reader reader' input × IsRefusal command input (fault.Source e)) × IsUntouched writer writer'
+IsOutcomeUnder p command reader reader' writer writer' (Err (fault.NewSource e)) =
+    ((input : List ℕ) × ReadsAll reader reader' input × IsRefusal command input (fault.NewSource e)) × IsUntouched writer writer'
+IsOutcomeUnder p command reader reader' writer writer' (Err fault.NoNewSource) =
+    ((input : List ℕ) × ReadsAll reader reader' input × IsRefusal command input fault.NoNewSource) × IsUntouched writer writer'
 IsOutcomeUnder p command reader reader' writer writer' (Err (fault.Document e)) =
     ((input : List ℕ) × ReadsAll reader reader' input × IsRefusal command input (fault.Document e)) × IsUntouched writer writer'
 IsOutcomeUnder p command reader reader' writer writer' (Err fault.Profile) = ⊥
@@ -44,6 +63,8 @@ abbrev pub IsProfileFault : Command → Fault → Type 0
 IsProfileFault command fault.Profile = profile_asked (profile_text command) ≡ None
 IsProfileFault command fault.Memory = Unit {0}
 IsProfileFault command (fault.Source e) = ⊥
+IsProfileFault command (fault.NewSource e) = ⊥
+IsProfileFault command fault.NoNewSource = ⊥
 IsProfileFault command (fault.Document e) = ⊥
 IsProfileFault command fault.Read = ⊥
 IsProfileFault command fault.Write = ⊥

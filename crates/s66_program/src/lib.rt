@@ -2,6 +2,7 @@
 #![tactic(auto)]
 
 mod answers;
+mod compare_text;
 mod documents;
 mod kept;
 mod laws;

@@ -2,6 +2,7 @@ ghost use Rattle.std.specs.Prelude.{◌≡◌, true, IfOk, IfErr, IfSome};
 ghost use Rattle.s66_program.specs.Output.{IsOutput, IsSearchWithin, IsWaitsOutput, IsWithinLimits, is_cut, reads_source};
 ghost use Rattle.s66_program.specs.Run.{IsRefusal};
 
+use crate::compare_text::compare_output;
 use crate::order_text::order_output;
 use crate::page_text::page_output;
 use crate::prove_text::prove_output;
@@ -28,8 +29,9 @@ fn is_cut(command: Command) -> bool
         | Command::Page { cut, .. }
         | Command::Order { cut, .. }
         | Command::Prove { cut, .. }
-        | Command::Sum { cut, .. } => cut,
-        Command::Check | Command::Lint => false,
+        | Command::Sum { cut, .. }
+        | Command::Compare { cut, .. } => cut,
+        Command::Check | Command::Lint { .. } => false,
     }
 }
 
@@ -95,7 +97,7 @@ fn output_of<R: AllocGlobal + Threads + Wait + Sync, O: Observer>(
             trace,
             ..
         } => sum_output(rt, source, profile, strategy, trace, observer),
-        Command::Check | Command::Lint => unreachable!(),
+        Command::Check | Command::Lint { .. } | Command::Compare { .. } => unreachable!(),
     }
 }
 
@@ -117,8 +119,8 @@ fn source_output<R: AllocGlobal + Threads + Wait + Sync, O: Observer>(
     Ok(output)
 }
 
-/// What a command writes for an input under a profile, or why the input was refused; no other fault than `Source`, `Document` and
-/// `Memory`. The observer is called as the work goes on, and not at the end.
+/// What a command writes for an input under a profile, or why the input was refused; no other fault than `Source`, `NewSource`,
+/// `NoNewSource`, `Document` and `Memory`. The observer is called as the work goes on, and not at the end.
 pub fn output_for<R: AllocGlobal + Threads + Wait + Sync, O: Observer>(
     rt: &R,
     command: Command,
@@ -133,7 +135,8 @@ pub fn output_for<R: AllocGlobal + Threads + Wait + Sync, O: Observer>(
     let alloc = rt.alloc();
     match command {
         Command::Check => Ok(check_output(alloc, input, observer)?),
-        Command::Lint => Ok(lint_output(alloc, input)?),
+        Command::Lint { .. } => Ok(lint_output(alloc, input)?),
+        Command::Compare { cut, .. } => compare_output(alloc, cut, profile, input),
         _ => source_output(rt, command, profile, input, observer),
     }
 }

@@ -31,7 +31,7 @@ fn most_kept(command: Command) -> Option<usize>
     ensures { IfSome result (λ most. (most ≡ SOURCE_FRONT) × (reads_source command.entry ≡ true)) }
 {
     match command {
-        Command::Check | Command::Lint => None,
+        Command::Check | Command::Lint { .. } | Command::Compare { .. } => None,
         Command::Time { .. }
         | Command::Deps { .. }
         | Command::Chart { .. }
@@ -68,8 +68,8 @@ fn run_under<R: AllocGlobal + Threads + Wait + Sync, F: Feed, S: Sink, O: Observ
 }
 
 /// Runs a command whose numbers are within their limits: reads to the end, builds all text, and only then writes. Returns
-/// `Bounded` if `order`, `sum` or `prove` left a block only bounded, `Denied` if `check` has a verdict that isn't yes or `lint`
-/// lists a line that is refused, `Listed` if `lint` lists other lines alone, and else `Done`.
+/// `Bounded` if `order`, `sum` or `prove` left a block only bounded, `Denied` if `check` has a verdict that isn't yes, `lint`
+/// lists a line that is refused or `compare` finds more than legal orders, `Listed` if `lint` lists other lines alone, and else `Done`.
 ///
 /// Errors: `Profile` if the text for the profile gives none, and then nothing was read; `Source` or `Document` if the source or
 /// the documents were refused, with the reason; `Memory` if memory ran out; `Read` if the reader failed or none of `FEED_CALLS`

@@ -18,4 +18,6 @@ pub mod SpelledLaw
 pub mod Standings
 pub mod CutLaw
 pub mod Counted
+pub mod HalvesFound
+pub mod Frames
 mod OpenLines

@@ -49,14 +49,14 @@ step-last p line lines skipped next last = rw (skipped, next, last) refl
 
 -- LINES IN ORDER: numbers that rise by one, runs that do not fall
 
-abbrev run_behind : Line → ℕ
+abbrev pub run_behind : Line → ℕ
 run_behind l = if ends_run l.class then suc l.run else l.run
 
-abbrev Ordered : ℕ → ℕ → List Line → Type 0
+abbrev pub Ordered : ℕ → ℕ → List Line → Type 0
 Ordered number run [] = Unit {0}
 Ordered number run (l ∷ lines) = (l.number ≡ number) × (run ≤ l.run) × Ordered (suc number) (run_behind l) lines
 
-ordered-classed : (lines : List Flagged) (number run index : ℕ) (label : List ℕ) (after : Bool) → Ordered number run (classes_from number run index label after lines)
+pub ordered-classed : (lines : List Flagged) (number run index : ℕ) (label : List ℕ) (after : Bool) → Ordered number run (classes_from number run index label after lines)
 ordered-classed [] number run index label after = tt
 ordered-classed (line ∷ lines) number run index label after =
     let c : Class = class_at after line in
@@ -104,16 +104,16 @@ Rising-after low (x ∷ xs) ys h = Rising-lower low (suc x.number) ys (omega (ar
 
 -- WHAT IS LEFT OUT
 
-abbrev dropped_in : List Line → List Line → List ℕ
+abbrev pub dropped_in : List Line → List Line → List ℕ
 dropped_in all lines = map (λ (l : Line). l.number) (filter (is_dropped all) lines)
 
-dropped-no : (all lines : List Line) (l : Line) → is_dropped all l ≡ false → dropped_in all (l ∷ lines) ≡ dropped_in all lines
+pub dropped-no : (all lines : List Line) (l : Line) → is_dropped all l ≡ false → dropped_in all (l ∷ lines) ≡ dropped_in all lines
 dropped-no all lines l h = rw h refl
 
-dropped-yes : (all lines : List Line) (l : Line) → is_dropped all l ≡ true → dropped_in all (l ∷ lines) ≡ l.number ∷ dropped_in all lines
+pub dropped-yes : (all lines : List Line) (l : Line) → is_dropped all l ≡ true → dropped_in all (l ∷ lines) ≡ l.number ∷ dropped_in all lines
 dropped-yes all lines l h = rw h refl
 
-later-dropped : (all : List Line) (low number run : ℕ) (lines : List Line) → low < number → Ordered number run lines → begins_with low (dropped_in all lines) ≡ false
+pub later-dropped : (all : List Line) (low number run : ℕ) (lines : List Line) → low < number → Ordered number run lines → begins_with low (dropped_in all lines) ≡ false
 later-dropped all low number run [] lt h = refl
 later-dropped all low number run (l ∷ lines) lt h =
     elim (is_dropped all l) as (λ t. begins_with low (map (λ (x : Line). x.number) (if t then l ∷ filter (is_dropped all) lines else filter (is_dropped all) lines)) ≡ false)

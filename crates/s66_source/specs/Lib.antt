@@ -12,3 +12,6 @@ pub mod Reader
 pub mod SourceReader
 pub mod Refusals
 pub mod UpperRead
+pub mod Halves
+pub mod Frame
+pub mod Framer

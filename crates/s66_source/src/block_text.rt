@@ -87,7 +87,7 @@ fn is_trailing_byte(byte: u8) -> bool
 }
 
 /// The bytes without the blanks and carriage returns at their end.
-fn without_trailing(bytes: &[u8]) -> &[u8]
+pub(crate) fn without_trailing(bytes: &[u8]) -> &[u8]
     ensures { result.now ≡ trim is_trailing bytes.now }
 {
     let mut end = bytes.len();

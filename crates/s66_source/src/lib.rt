@@ -5,6 +5,8 @@ mod block_text;
 mod counts;
 mod cover;
 mod error;
+mod frame;
+mod halves;
 mod laws;
 mod limits;
 mod operation;
@@ -18,6 +20,8 @@ mod standing;
 pub use counts::{are_digits, counting_text, cover_of, is_decimal_digit, is_one_of};
 pub use cover::{Cover, Covered};
 pub use error::SourceError;
+pub use frame::{FramePart, frame_of};
+pub use halves::{Halves, halves_of};
 pub use laws::{
     block_examples, case_law, copied_law, count_examples, cut_law, left_alone_examples,
     line_examples, line_law, parts_law, plain_law, printed_examples, read_again_examples,

@@ -46,6 +46,13 @@ impl<'a> Source<'a> {
         self.blocks.as_slice()
     }
 
+    /// Whether it was read with `--cut`.
+    pub(crate) fn is_cut(&self) -> bool
+        ensures { result ≡ self.now.cut }
+    {
+        self.cut
+    }
+
     pub(crate) fn text(&self) -> &'a [u8]
         ensures { result.now ≡ self.now.text }
     {

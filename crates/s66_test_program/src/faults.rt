@@ -18,6 +18,16 @@ const SOURCE_ERRORS: &[(SourceError, &str)] = &[
     (SourceError::OutOfMemory, "OUT OF MEMORY"),
 ];
 
+/// Why a new source is refused, and what that shows.
+const NEW_ERRORS: &[(SourceError, &str)] = &[
+    (
+        SourceError::BadOperand { line: 20_000 },
+        "NEW LINE 20000 BAD OPERAND",
+    ),
+    (SourceError::LineTooLong { line: 1 }, "NEW LINE 1 TOO LONG"),
+    (SourceError::TooLarge, "NEW TOO MANY LINES"),
+];
+
 /// Why documents are refused, and what that shows.
 const CERT_ERRORS: &[(CertError, &str)] = &[
     (
@@ -33,6 +43,7 @@ const CERT_ERRORS: &[(CertError, &str)] = &[
 
 /// The other reasons why the program fails, and what they show.
 const FAULTS: &[(Fault, &str)] = &[
+    (Fault::NoNewSource, "NO NEW SOURCE"),
     (Fault::Profile, "BAD PROFILE"),
     (Fault::Memory, "OUT OF MEMORY"),
     (Fault::Read, "READ FAILED"),
@@ -44,6 +55,9 @@ fn shows_faults(rt: HostRuntime) {
     for &(error, text) in SOURCE_ERRORS {
         check_shown(&rt, &error, text);
         check_shown(&rt, &Fault::Source(error), text);
+    }
+    for &(error, text) in NEW_ERRORS {
+        check_shown(&rt, &Fault::NewSource(error), text);
     }
     for &(error, text) in CERT_ERRORS {
         check_shown(&rt, &error, text);

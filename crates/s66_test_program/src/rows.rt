@@ -5,6 +5,7 @@ use std::sync::Wait;
 use std::thread::Threads;
 
 mod chart;
+mod compare;
 mod deps;
 mod left_alone;
 mod lint;
@@ -143,6 +144,7 @@ fn runs_rows(rt: HostRuntime) {
     check_rows(&rt, left_alone::ROWS);
     check_rows(&rt, lint::ROWS);
     check_rows(&rt, sum::ROWS);
+    check_rows(&rt, compare::ROWS);
     check_rows(&rt, profile::ROWS);
     check_rows(&rt, words::ROWS);
 }

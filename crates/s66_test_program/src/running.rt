@@ -22,6 +22,10 @@ pub(crate) const CHECK: &[&str] = &["s66", "check"];
 
 pub(crate) const LINT: &[&str] = &["s66", "lint"];
 
+pub(crate) const COMPARE: &[&str] = &["s66", "compare"];
+
+pub(crate) const COMPARE_CUT: &[&str] = &["s66", "compare", "--cut"];
+
 pub(crate) const ORDER: &[&str] = &["s66", "order", "--workers", "1"];
 
 pub(crate) const SUM: &[&str] = &["s66", "sum", "--workers", "1"];

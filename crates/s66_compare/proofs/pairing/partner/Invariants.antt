@@ -1,0 +1,9 @@
+use Rattle.std.proofs.Common.{◌≡◌, ◌+◌, ◌-◌, length}
+use Rattle.s66_isa.specs.Lists.{first_that, rising}
+use Rattle.s66_line.specs.Block.{instrs_of}
+use Rattle.s66_compare.specs.Pairing.{is_open, partner}
+use Rattle.s66_compare.proofs.pairing.partner.Given as goal
+
+abbrev pub invariant-loop-position : goal.invariant-loop-position
+invariant-loop-position l =
+    first_that (is_open l.old l.taken l.text) (rising (length (instrs_of l.old) - l.position) (l.position + 1)) ≡ partner l.old l.taken l.text

@@ -1,0 +1,6 @@
+pub mod Pairing
+pub mod Verdict
+pub mod Difference
+pub mod Rows
+pub mod Compared
+pub mod Meant

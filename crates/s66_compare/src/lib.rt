@@ -1,0 +1,13 @@
+//! Whether one source is another but for the legal orders of its blocks, and what is written of that.
+#![tactic(auto)]
+
+mod compared;
+mod difference;
+mod laws;
+mod pairing;
+mod rows;
+mod text;
+mod verdict;
+
+pub use compared::{Compared, compare};
+pub use laws::{difference_law, same_meaning_law};

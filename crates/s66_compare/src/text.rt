@@ -1,0 +1,243 @@
+ghost use Rattle.std.specs.Prelude.{◌≡◌, ◌≤◌, ◌*◌, ◌++◌, [], codes, length, IfOk, OnOk};
+ghost use Rattle.s66_isa.specs.Lists.{after_blanks, tally, weigh};
+ghost use Rattle.s66_source.specs.declared.limits.TheConstants.{SOURCE_LINES_LIMIT};
+ghost use Rattle.s66_compare.specs.Compared.{compared_text, difference_line, line_text, row_lines, row_text, side_text, sums_text, total_text, verdict_text};
+ghost use Rattle.s66_compare.specs.declared.verdict.Verdict.TheVariants.{NotLegal, Reordered};
+ghost use Rattle.s66_compare.specs.Rows.{has_new, has_old, is_legal, new_time, old_time};
+
+use crate::difference::Difference;
+use crate::rows::{Row, Side};
+use crate::verdict::{Judged, Verdict};
+use s66_device::push_field;
+use std::alloc::{AllocError, Global};
+
+/// These numbers, each after a blank.
+fn push_numbers(out: &mut Vec<u8>, numbers: &[u8]) -> Result<(), AllocError>
+    ensures { OnOk result (out.new.items ≡ out.old.items ++ after_blanks numbers.now) }
+{
+    for number in numbers {
+        push_field(out, b" ", *number as usize)?;
+    }
+    Ok(())
+}
+
+fn push_order(out: &mut Vec<u8>, order: &[u8]) -> Result<(), AllocError>
+    ensures { OnOk result (out.new.items ≡ out.old.items ++ verdict_text Reordered order.now) }
+{
+    out.extend_from_slice(b" ORDER")?;
+    push_numbers(out, order)
+}
+
+fn push_not_legal(out: &mut Vec<u8>, number: u8, missing: u8) -> Result<(), AllocError>
+    ensures { OnOk result (out.new.items ≡ out.old.items ++ verdict_text (NotLegal number missing) []) }
+{
+    push_field(out, b" NOT LEGAL ", number as usize)?;
+    push_field(out, b" AFTER ", missing as usize)
+}
+
+fn push_verdict(out: &mut Vec<u8>, judged: &Judged) -> Result<(), AllocError>
+    ensures { OnOk result (out.new.items ≡ out.old.items ++ verdict_text judged.now.verdict judged.now.order) }
+{
+    match judged.verdict {
+        Verdict::Same => out.extend_from_slice(b" SAME"),
+        Verdict::Reordered => push_order(out, judged.order.as_slice()),
+        Verdict::NotLegal { number, missing } => push_not_legal(out, number, missing),
+        Verdict::OtherNew { line } => push_field(out, b" OTHER CODE NEW LINE ", line as usize),
+        Verdict::OtherOld { line } => push_field(out, b" OTHER CODE LINE ", line as usize),
+    }
+}
+
+fn push_side(out: &mut Vec<u8>, side: &Side) -> Result<(), AllocError>
+    ensures { OnOk result (out.new.items ≡ out.old.items ++ side_text side.now) }
+{
+    push_field(out, b" LINE ", side.line as usize)?;
+    push_field(out, b" COUNT ", side.count)?;
+    push_field(out, b" TIME ", side.time as usize)
+}
+
+fn push_new_side(out: &mut Vec<u8>, side: &Side) -> Result<(), AllocError>
+    ensures { OnOk result (out.new.items ≡ out.old.items ++ codes " NEW" ++ side_text side.now) }
+{
+    out.extend_from_slice(b" NEW")?;
+    push_side(out, side)
+}
+
+/// A row without its number.
+fn push_row(out: &mut Vec<u8>, row: &Row) -> Result<(), AllocError>
+    ensures { OnOk result (out.new.items ≡ out.old.items ++ row_text row.now) }
+{
+    match row {
+        Row::Both { old, new, judged } => {
+            push_side(out, old)?;
+            push_new_side(out, new)?;
+            push_verdict(out, judged)
+        }
+        Row::OldAlone { old } => push_side(out, old),
+        Row::NewAlone { new } => push_new_side(out, new),
+    }
+}
+
+/// A line for each row.
+fn push_rows(out: &mut Vec<u8>, rows: &[Row]) -> Result<(), AllocError>
+    ensures { OnOk result (out.new.items ≡ out.old.items ++ row_lines 0 rows.now) }
+{
+    for (i, row) in rows.iter().enumerate() {
+        push_field(out, b"BLOCK ", i + 1)?;
+        push_row(out, row)?;
+        out.extend_from_slice(b"\n")?;
+    }
+    Ok(())
+}
+
+/// A line after this name, if there is one.
+fn push_line(out: &mut Vec<u8>, name: &[u8], line: Option<u32>) -> Result<(), AllocError>
+    ensures { OnOk result (out.new.items ≡ out.old.items ++ line_text name.now line) }
+{
+    match line {
+        Some(line) => push_field(out, name, line as usize),
+        None => Ok(()),
+    }
+}
+
+/// Where what stands beside the blocks first differs, if it does.
+fn push_difference(out: &mut Vec<u8>, difference: Option<Difference>) -> Result<(), AllocError>
+    ensures { OnOk result (out.new.items ≡ out.old.items ++ difference_line difference) }
+{
+    let Some(difference) = difference else {
+        return Ok(());
+    };
+    out.extend_from_slice(b"DIFFERS")?;
+    push_line(out, b" LINE ", difference.old)?;
+    push_line(out, b" NEW LINE ", difference.new)?;
+    out.extend_from_slice(b"\n")
+}
+
+/// The sums of all rows.
+#[derive(Clone, Copy)]
+struct Total {
+    blocks: usize,
+    time: usize,
+    new_blocks: usize,
+    new_time: usize,
+    legal: usize,
+}
+
+impl Row {
+    ghost use Rattle.std.specs.Prelude.{◌≡◌};
+    ghost use Rattle.s66_compare.specs.Rows.{has_new, has_old, is_legal, new_time, old_time};
+
+    /// Whether the old source has a block.
+    fn has_old(&self) -> bool
+        ensures { result ≡ has_old self.now }
+    {
+        !matches!(self, Row::NewAlone { .. })
+    }
+
+    /// Whether the new source has a block.
+    fn has_new(&self) -> bool
+        ensures { result ≡ has_new self.now }
+    {
+        !matches!(self, Row::OldAlone { .. })
+    }
+
+    fn old_time(&self) -> u32
+        ensures { result ≡ old_time self.now }
+    {
+        match self {
+            Row::Both { old, .. } | Row::OldAlone { old } => old.time,
+            Row::NewAlone { .. } => 0,
+        }
+    }
+
+    fn new_time(&self) -> u32
+        ensures { result ≡ new_time self.now }
+    {
+        match self {
+            Row::Both { new, .. } | Row::NewAlone { new } => new.time,
+            Row::OldAlone { .. } => 0,
+        }
+    }
+
+    /// Whether the new block is the old one in a legal order.
+    pub(crate) fn is_legal(&self) -> bool
+        ensures { result ≡ is_legal self.now }
+    {
+        match self {
+            Row::Both { judged, .. } => judged.verdict.is_kept(),
+            Row::OldAlone { .. } | Row::NewAlone { .. } => false,
+        }
+    }
+}
+
+fn total_of(rows: &[Row]) -> Total
+    requires { length rows.now ≤ 2 * SOURCE_LINES_LIMIT }
+    ensures blocks { result.blocks ≡ tally has_old rows.now }
+    ensures time { result.time ≡ weigh old_time rows.now }
+    ensures new_blocks { result.new_blocks ≡ tally has_new rows.now }
+    ensures new_time { result.new_time ≡ weigh new_time rows.now }
+    ensures legal { result.legal ≡ tally is_legal rows.now }
+{
+    let mut blocks = 0;
+    let mut time = 0;
+    let mut new_blocks = 0;
+    let mut new_time = 0;
+    let mut legal = 0;
+    for row in rows {
+        if row.has_old() {
+            blocks += 1;
+        }
+        time += row.old_time() as usize;
+        if row.has_new() {
+            new_blocks += 1;
+        }
+        new_time += row.new_time() as usize;
+        if row.is_legal() {
+            legal += 1;
+        }
+    }
+    Total {
+        blocks,
+        time,
+        new_blocks,
+        new_time,
+        legal,
+    }
+}
+
+/// How many blocks a source has, and what they take.
+fn push_sums(
+    out: &mut Vec<u8>,
+    name: &[u8],
+    blocks: usize,
+    time: usize,
+) -> Result<(), AllocError>
+    ensures { OnOk result (out.new.items ≡ out.old.items ++ sums_text name.now blocks time) }
+{
+    push_field(out, name, blocks)?;
+    push_field(out, b" TIME ", time)
+}
+
+fn push_total(out: &mut Vec<u8>, total: &Total) -> Result<(), AllocError>
+    ensures { OnOk result (out.new.items ≡ out.old.items ++ total_text total.now.blocks total.now.time total.now.new_blocks total.now.new_time total.now.legal) }
+{
+    push_sums(out, b"TOTAL BLOCKS ", total.blocks, total.time)?;
+    push_sums(out, b" NEW BLOCKS ", total.new_blocks, total.new_time)?;
+    push_field(out, b" LEGAL ", total.legal)?;
+    out.extend_from_slice(b"\n")
+}
+
+/// What is written of these rows, and of where what stands beside the blocks first differs. `Err` is out of memory.
+pub(crate) fn compared_text(
+    alloc: Global,
+    rows: &[Row],
+    difference: Option<Difference>,
+) -> Result<Vec<u8>, AllocError>
+    requires { length rows.now ≤ 2 * SOURCE_LINES_LIMIT }
+    ensures { IfOk result (λ text. text.items ≡ compared_text rows.now difference) }
+{
+    let mut text = Vec::new(alloc);
+    push_rows(&mut text, rows)?;
+    push_difference(&mut text, difference)?;
+    push_total(&mut text, &total_of(rows))?;
+    Ok(text)
+}

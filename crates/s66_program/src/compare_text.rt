@@ -1,0 +1,58 @@
+ghost use Rattle.std.specs.Prelude.{◌≡◌, if◌then◌else◌, Bool, IfOk, IfErr};
+ghost use Rattle.s66_compare.specs.Compared.{IsCompared};
+ghost use Rattle.s66_outcome.specs.declared.outcome.Status.TheVariants.{Denied, Done};
+ghost use Rattle.s66_program.specs.Comparing.{IsCompareRefusal, IsNewRefusal};
+ghost use Rattle.s66_program.specs.Output.{IsCompareOutput};
+
+use s66_compare::{Compared, compare};
+use s66_isa::Profile;
+use s66_outcome::{Fault, Output, Status};
+use s66_source::{Source, halves_of, read_source_with};
+use std::alloc::{AllocError, Global};
+
+/// What is written of an old source and a new one. `Err` is out of memory.
+fn compared_output(
+    alloc: Global,
+    profile: &Profile,
+    old: &Source,
+    new: &Source,
+) -> Result<Output, AllocError>
+    ensures { IfOk result (λ output. (accepted : Bool) × IsCompared profile.now old.now new.now output.text.items accepted × (output.status ≡ (if accepted then Done else Denied))) }
+{
+    let Compared { text, is_accepted } = compare(alloc, profile, old, new)?;
+    let status = if is_accepted {
+        Status::Done
+    } else {
+        Status::Denied
+    };
+    Ok(Output { text, status })
+}
+
+/// The new source of an input, or why it was refused.
+fn read_new(alloc: Global, cut: bool, text: &[u8]) -> Result<Source<'_>, Fault>
+    ensures source { IfOk result (λ source. source ≡ record { cut = cut; text = text.now }) }
+    ensures refused { IfErr result (IsNewRefusal (record { cut = cut; text = text.now })) }
+{
+    match read_source_with(alloc, cut, text) {
+        Ok(source) => Ok(source),
+        Err(refusal) => Err(Fault::of_new_source(refusal)),
+    }
+}
+
+/// What is written of the two sources of an input under a profile, or why these were refused.
+pub fn compare_output(
+    alloc: Global,
+    cut: bool,
+    profile: &Profile,
+    input: &[u8],
+) -> Result<Output, Fault>
+    ensures ok { IfOk result (λ output. IsCompareOutput profile.now cut input.now output.text.items output.status) }
+    ensures err { IfErr result (IsCompareRefusal cut input.now) }
+{
+    let Some(halves) = halves_of(input) else {
+        return Err(Fault::NoNewSource);
+    };
+    let old = read_source_with(alloc, cut, halves.old)?;
+    let new = read_new(alloc, cut, halves.new)?;
+    Ok(compared_output(alloc, profile, &old, &new)?)
+}

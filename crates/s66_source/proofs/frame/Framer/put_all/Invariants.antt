@@ -1,0 +1,19 @@
+use Rattle.std.proofs.Common.{◌≡◌, ◌≤◌, ◌+◌, ◌++◌, true, [], length}
+use Rattle.s66_isa.specs.Lists.{every}
+use Rattle.s66_source.specs.declared.limits.TheConstants.{SOURCE_LINES_LIMIT}
+use Rattle.s66_line.specs.Fields.{lines_from}
+use Rattle.s66_source.specs.Framer.{framed, is_short}
+use Rattle.s66_source.proofs.frame.Framer.put_all.Given as goal
+
+-- the parts so far, and then those of the rest, are those of all
+abbrev pub invariant-loop-end : goal.invariant-loop-end
+invariant-loop-end l = record {
+  parts : l.parts.items ++ framed l.self (lines_from [] l.rest) ≡ l.fn.parts.items ++ framed l.fn.self (lines_from [] l.text);
+  lines : l.self.lines + length (lines_from [] l.rest) ≤ SOURCE_LINES_LIMIT;
+  short : every is_short (lines_from [] l.rest) ≡ true;
+  bodies : l.self.standing.bodies ≤ l.self.lines;
+  within : length l.rest ≤ length l.text;
+}
+
+abbrev pub decreases-loop-end : goal.decreases-loop-end
+decreases-loop-end l = length l.rest

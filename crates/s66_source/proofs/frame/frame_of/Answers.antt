@@ -1,0 +1,16 @@
+use Rattle.std.proofs.Common.{◌∙◌, arith}
+use Rattle.s66_source.proofs.Frames.{frame-read, short-lines}
+use Rattle.s66_source.proofs.PrintedLines.{few-lines}
+use Rattle.s66_source.proofs.frame.frame_of.Goals as goal
+
+pub put_all-requires-clause-lines : goal.put_all-requires-clause-lines
+put_all-requires-clause-lines c =
+    rw c.text.ensures (let few = few-lines c.args.source.now c.blocks-2.result.now c.blocks-2.ensures in omega (arith, few))
+
+pub put_all-requires-clause-short : goal.put_all-requires-clause-short
+put_all-requires-clause-short c = rw c.text.ensures (short-lines c.args.source.now c.blocks-2.result.now c.blocks-2.ensures)
+
+pub returns : goal.returns
+returns c =
+    c.in_ok-put_all.ensures
+    ∙ rw (c.new-parts.ensures.items, c.is_cut.ensures, c.at_first.ensures, c.dropped.ensures, c.text.ensures) (frame-read c.args.source.now c.blocks-2.result.now c.blocks-2.ensures)
