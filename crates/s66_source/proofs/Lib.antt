@@ -6,6 +6,8 @@ pub mod UpperSwitches
 pub mod CaseLaw
 pub mod LineLaw
 pub mod PadsLaw
+pub mod LeadingPads
+pub mod KeptLines
 pub mod PlacedBlocks
 pub mod PrintedLines
 pub mod ReadBack

@@ -101,14 +101,14 @@ exchanged_past false false false stated = refl
 
 -- the open run has an instruction
 abbrev Settled : List Flagged → Type 0
-Settled lines = (dropped : List ℕ) (count run index : ℕ) (label : List ℕ) (after : Bool) →
-    (pads_of_lines count after (record { dropped = dropped; undecided = []; has_instruction = true }) lines).dropped
+Settled lines = (leading dropped : List ℕ) (count run index : ℕ) (label : List ℕ) (after : Bool) →
+    (pads_of_lines count after (record { leading = leading; dropped = dropped; undecided = []; has_instruction = true }) lines).dropped
     ≡ dropped ++ pads_in (λ r. ahead r (classes_from (suc count) run index label after lines) || eqb run r) (classes_from (suc count) run index label after lines)
 
 -- or it has none
 abbrev Undecided : List Flagged → Type 0
-Undecided lines = (dropped undecided : List ℕ) (count run index : ℕ) (label : List ℕ) (after : Bool) →
-    (pads_of_lines count after (record { dropped = dropped; undecided = undecided; has_instruction = false }) lines).dropped
+Undecided lines = (leading dropped undecided : List ℕ) (count run index : ℕ) (label : List ℕ) (after : Bool) →
+    (pads_of_lines count after (record { leading = leading; dropped = dropped; undecided = undecided; has_instruction = false }) lines).dropped
     ≡ dropped ++ ((if ahead run (classes_from (suc count) run index label after lines) then undecided else [])
     ++ pads_in (λ r. ahead r (classes_from (suc count) run index label after lines)) (classes_from (suc count) run index label after lines))
 
@@ -168,102 +168,102 @@ before run rest h = ahead-none run (suc run) rest (omega arith) h
 same-run : (run : ℕ) → eqb run run ≡ true
 same-run run = eq-eqb run run refl
 
-settled-class : (c : Class) (line : List ℕ) (lines : List Flagged) → Settled lines → Undecided lines → (dropped : List ℕ) (count run index : ℕ) (label : List ℕ) →
-    (pads_of_lines (suc count) (is_code c) (pads_by_class c (suc count) (record { dropped = dropped; undecided = []; has_instruction = true })) lines).dropped
+settled-class : (c : Class) (line : List ℕ) (lines : List Flagged) → Settled lines → Undecided lines → (leading dropped : List ℕ) (count run index : ℕ) (label : List ℕ) →
+    (pads_of_lines (suc count) (is_code c) (pads_by_class c (suc count) (record { leading = leading; dropped = dropped; undecided = []; has_instruction = true })) lines).dropped
     ≡ dropped ++ pads_in (λ r. ahead r (from_class (suc count) run index label c line lines) || eqb run r) (from_class (suc count) run index label c line lines)
-settled-class Comment line lines settled undecided dropped count run index label =
+settled-class Comment line lines settled undecided leading dropped count run index label =
     let rest : List Line = classes_from (suc (suc count)) run index label false lines in
-    settled dropped (suc count) run index label false
+    settled leading dropped (suc count) run index label false
     ∙ ap (λ ns. dropped ++ ns) (pads_in-same _ _ run rest (at_least lines (suc (suc count)) run index label false) (λ r le. ap (λ t. t || eqb run r) (sym (nothing (eqb run r) (ahead r rest)))))
-settled-class Refused line lines settled undecided dropped count run index label =
+settled-class Refused line lines settled undecided leading dropped count run index label =
     let rest : List Line = classes_from (suc (suc count)) run index label false lines in
-    settled dropped (suc count) run index label false
+    settled leading dropped (suc count) run index label false
     ∙ ap (λ ns. dropped ++ ns) (pads_in-same _ _ run rest (at_least lines (suc (suc count)) run index label false) (λ r le. ap (λ t. t || eqb run r) (sym (nothing (eqb run r) (ahead r rest)))))
-settled-class Other line lines settled undecided dropped count run index label =
+settled-class Other line lines settled undecided leading dropped count run index label =
     let rest : List Line = classes_from (suc (suc count)) (suc run) 0 [] false lines in
-    undecided dropped [] (suc count) (suc run) 0 [] false
+    undecided leading dropped [] (suc count) (suc run) 0 [] false
     ∙ cleared-all (ahead (suc run) rest) dropped _ _ (pads_in-same _ _ (suc run) rest (at_least lines (suc (suc count)) (suc run) 0 [] false)
     (λ r le. sym (nothing_past (eqb run r) (eqb run r) (ahead r rest) (past run r le))))
-settled-class (Pad false) line lines settled undecided dropped count run index label =
+settled-class (Pad false) line lines settled undecided leading dropped count run index label =
     let rest : List Line = classes_from (suc (suc count)) run index label true lines in
-    settled (dropped ++ suc count ∷ []) (suc count) run index label true
+    settled leading (dropped ++ suc count ∷ []) (suc count) run index label true
     ∙ settled-pad ((eqb run run && false || ahead run rest) || eqb run run) (suc count) dropped _ _ (rw (same-run run) (or-true (ahead run rest)))
     (pads_in-same _ _ run rest (at_least lines (suc (suc count)) run index label true) (λ r le. ap (λ t. t || eqb run r) (sym (nothing (eqb run r) (ahead r rest)))))
   where
     or-true : (a : Bool) → (a || true) ≡ true
     or-true true = refl
     or-true false = refl
-settled-class (Pad true) line lines settled undecided dropped count run index label =
+settled-class (Pad true) line lines settled undecided leading dropped count run index label =
     let new : List ℕ = label_at label (Pad true) line in
     let rest : List Line = classes_from (suc (suc count)) (suc run) 0 new true lines in
     let least = at_least lines (suc (suc count)) (suc run) 0 new true in
-    undecided dropped (suc count ∷ []) (suc count) (suc run) 0 new true
+    undecided (leading ++ suc count ∷ []) dropped (suc count ∷ []) (suc count) (suc run) 0 new true
     ∙ first-pad (ahead (suc run) rest) ((eqb (suc run) (suc run) && false || ahead (suc run) rest) || eqb run (suc run)) (suc count) dropped _ _
     (nothing_past (eqb (suc run) (suc run)) (eqb run (suc run)) (ahead (suc run) rest) (past run (suc run) (omega arith)))
     (pads_in-same _ _ (suc run) rest least (λ r le. sym (nothing_past (eqb (suc run) r) (eqb run r) (ahead r rest) (past run r le))))
-settled-class (Instruction false n) line lines settled undecided dropped count run index label =
+settled-class (Instruction false n) line lines settled undecided leading dropped count run index label =
     let rest : List Line = classes_from (suc (suc count)) run (suc index) label true lines in
-    settled (dropped ++ []) (suc count) run (suc index) label true
+    settled leading (dropped ++ []) (suc count) run (suc index) label true
     ∙ settled-more dropped _ _ (pads_in-same _ _ run rest (at_least lines (suc (suc count)) run (suc index) label true) (λ r le. sym (twice (eqb run r) (ahead r rest))))
-settled-class (Instruction true n) line lines settled undecided dropped count run index label =
+settled-class (Instruction true n) line lines settled undecided leading dropped count run index label =
     let new : List ℕ = label_at label (Instruction true n) line in
     let rest : List Line = classes_from (suc (suc count)) (suc run) 1 new true lines in
-    settled (dropped ++ []) (suc count) (suc run) 1 new true
+    settled leading (dropped ++ []) (suc count) (suc run) 1 new true
     ∙ settled-more dropped _ _ (pads_in-same _ _ (suc run) rest (at_least lines (suc (suc count)) (suc run) 1 new true)
     (λ r le. sym (exchanged_past (eqb (suc run) r) (eqb run r) (ahead r rest) (past run r le))))
 
-undecided-class : (c : Class) (line : List ℕ) (lines : List Flagged) → Settled lines → Undecided lines → (dropped some : List ℕ) (count run index : ℕ) (label : List ℕ) →
-    (pads_of_lines (suc count) (is_code c) (pads_by_class c (suc count) (record { dropped = dropped; undecided = some; has_instruction = false })) lines).dropped
+undecided-class : (c : Class) (line : List ℕ) (lines : List Flagged) → Settled lines → Undecided lines → (leading dropped some : List ℕ) (count run index : ℕ) (label : List ℕ) →
+    (pads_of_lines (suc count) (is_code c) (pads_by_class c (suc count) (record { leading = leading; dropped = dropped; undecided = some; has_instruction = false })) lines).dropped
     ≡ dropped ++ ((if ahead run (from_class (suc count) run index label c line lines) then some else [])
     ++ pads_in (λ r. ahead r (from_class (suc count) run index label c line lines)) (from_class (suc count) run index label c line lines))
-undecided-class Comment line lines settled undecided dropped some count run index label =
+undecided-class Comment line lines settled undecided leading dropped some count run index label =
     let rest : List Line = classes_from (suc (suc count)) run index label false lines in
-    undecided dropped some (suc count) run index label false
+    undecided leading dropped some (suc count) run index label false
     ∙ chosen (ahead run rest) (eqb run run && false || ahead run rest) dropped _ _ some (nothing (eqb run run) (ahead run rest))
     (pads_in-same _ _ run rest (at_least lines (suc (suc count)) run index label false) (λ r le. sym (nothing (eqb run r) (ahead r rest))))
-undecided-class Refused line lines settled undecided dropped some count run index label =
+undecided-class Refused line lines settled undecided leading dropped some count run index label =
     let rest : List Line = classes_from (suc (suc count)) run index label false lines in
-    undecided dropped some (suc count) run index label false
+    undecided leading dropped some (suc count) run index label false
     ∙ chosen (ahead run rest) (eqb run run && false || ahead run rest) dropped _ _ some (nothing (eqb run run) (ahead run rest))
     (pads_in-same _ _ run rest (at_least lines (suc (suc count)) run index label false) (λ r le. sym (nothing (eqb run r) (ahead r rest))))
-undecided-class Other line lines settled undecided dropped some count run index label =
+undecided-class Other line lines settled undecided leading dropped some count run index label =
     let rest : List Line = classes_from (suc (suc count)) (suc run) 0 [] false lines in
     let least = at_least lines (suc (suc count)) (suc run) 0 [] false in
-    undecided dropped [] (suc count) (suc run) 0 [] false
+    undecided leading dropped [] (suc count) (suc run) 0 [] false
     ∙ cleared (ahead (suc run) rest) (eqb run run && false || ahead run rest) dropped _ _ some (nothing (eqb run run) (ahead run rest) ∙ before run rest least)
     (pads_in-same _ _ (suc run) rest least (λ r le. sym (nothing (eqb run r) (ahead r rest))))
-undecided-class (Pad false) line lines settled undecided dropped some count run index label =
+undecided-class (Pad false) line lines settled undecided leading dropped some count run index label =
     let rest : List Line = classes_from (suc (suc count)) run index label true lines in
-    undecided dropped (some ++ suc count ∷ []) (suc count) run index label true
+    undecided (leading ++ suc count ∷ []) dropped (some ++ suc count ∷ []) (suc count) run index label true
     ∙ next-pad (ahead run rest) (eqb run run && false || ahead run rest) (suc count) dropped _ _ some (nothing (eqb run run) (ahead run rest))
     (pads_in-same _ _ run rest (at_least lines (suc (suc count)) run index label true) (λ r le. sym (nothing (eqb run r) (ahead r rest))))
-undecided-class (Pad true) line lines settled undecided dropped some count run index label =
+undecided-class (Pad true) line lines settled undecided leading dropped some count run index label =
     let new : List ℕ = label_at label (Pad true) line in
     let rest : List Line = classes_from (suc (suc count)) (suc run) 0 new true lines in
     let least = at_least lines (suc (suc count)) (suc run) 0 new true in
-    undecided dropped (suc count ∷ []) (suc count) (suc run) 0 new true
+    undecided (leading ++ suc count ∷ []) dropped (suc count ∷ []) (suc count) (suc run) 0 new true
     ∙ cleared-pad (ahead (suc run) rest) (eqb (suc run) (suc run) && false || ahead (suc run) rest) (eqb (suc run) run && false || ahead run rest) (suc count) dropped _ _ some
     (nothing (eqb (suc run) (suc run)) (ahead (suc run) rest)) (nothing (eqb (suc run) run) (ahead run rest) ∙ before run rest least)
     (pads_in-same _ _ (suc run) rest least (λ r le. sym (nothing (eqb (suc run) r) (ahead r rest))))
-undecided-class (Instruction false n) line lines settled undecided dropped some count run index label =
+undecided-class (Instruction false n) line lines settled undecided leading dropped some count run index label =
     let rest : List Line = classes_from (suc (suc count)) run (suc index) label true lines in
-    settled (dropped ++ some) (suc count) run (suc index) label true
+    settled leading (dropped ++ some) (suc count) run (suc index) label true
     ∙ settles (eqb run run && true || ahead run rest) dropped _ _ some (rw (same-run run) refl)
     (pads_in-same _ _ run rest (at_least lines (suc (suc count)) run (suc index) label true) (λ r le. sym (exchanged (eqb run r) (ahead r rest))))
-undecided-class (Instruction true n) line lines settled undecided dropped some count run index label =
+undecided-class (Instruction true n) line lines settled undecided leading dropped some count run index label =
     let new : List ℕ = label_at label (Instruction true n) line in
     let rest : List Line = classes_from (suc (suc count)) (suc run) 1 new true lines in
     let least = at_least lines (suc (suc count)) (suc run) 1 new true in
-    settled (dropped ++ []) (suc count) (suc run) 1 new true
+    settled leading (dropped ++ []) (suc count) (suc run) 1 new true
     ∙ settles-new (eqb (suc run) run && true || ahead run rest) dropped _ _ some (rw (ne_eqb (suc run) run (λ same. absurd (omega (arith, same)))) (before run rest least))
     (pads_in-same _ _ (suc run) rest least (λ r le. sym (exchanged (eqb (suc run) r) (ahead r rest))))
 
 read-pads : (lines : List Flagged) → Settled lines × Undecided lines
-read-pads [] = (λ dropped count run index label after. sym (append-nil dropped), λ dropped undecided count run index label after. sym (append-nil dropped))
+read-pads [] = (λ leading dropped count run index label after. sym (append-nil dropped), λ leading dropped undecided count run index label after. sym (append-nil dropped))
 read-pads (line ∷ lines) =
     let rest = read-pads lines in (
-      λ dropped count run index label after. settled-class (class_at after line) line.bytes lines rest.0 rest.1 dropped count run index label,
-      λ dropped undecided count run index label after. undecided-class (class_at after line) line.bytes lines rest.0 rest.1 dropped undecided count run index label,
+      λ leading dropped count run index label after. settled-class (class_at after line) line.bytes lines rest.0 rest.1 leading dropped count run index label,
+      λ leading dropped undecided count run index label after. undecided-class (class_at after line) line.bytes lines rest.0 rest.1 leading dropped undecided count run index label,
     )
 
 no_choice : (t : Bool) (ns : List ℕ) → ((if t then [] else []) ++ ns) ≡ ns
@@ -274,4 +274,4 @@ no_choice false ns = refl
 pub dropped-read : (source : Reading) → (pads_of_lines 0 false no_pads (flagged_lines source)).dropped ≡ lines_that is_dropped source
 dropped-read source =
     let lines : List Line = classed_lines source in
-    (read-pads (flagged_lines source)).1 [] [] 0 0 0 [] false ∙ no_choice (ahead 0 lines) (pads_in (λ r. ahead r lines) lines) ∙ sym (filter-pads (λ r. ahead r lines) lines)
+    (read-pads (flagged_lines source)).1 [] [] [] 0 0 0 [] false ∙ no_choice (ahead 0 lines) (pads_in (λ r. ahead r lines) lines) ∙ sym (filter-pads (λ r. ahead r lines) lines)

@@ -62,7 +62,7 @@ ordered-classed (line ∷ lines) number run index label after =
     let c : Class = class_at after line in
     (refl, (run_at-le run c).0, ordered-classed lines (suc number) (run_after run c) (place_after index c) (label_after label c line.bytes) (is_code c))
 
-bytes-classed : (lines : List Flagged) (number run index : ℕ) (label : List ℕ) (after : Bool) → map (λ (l : Line). l.bytes) (classes_from number run index label after lines) ≡ map (λ (m : Flagged). m.bytes) lines
+pub bytes-classed : (lines : List Flagged) (number run index : ℕ) (label : List ℕ) (after : Bool) → map (λ (l : Line). l.bytes) (classes_from number run index label after lines) ≡ map (λ (m : Flagged). m.bytes) lines
 bytes-classed [] number run index label after = refl
 bytes-classed (line ∷ lines) number run index label after =
     let c : Class = class_at after line in

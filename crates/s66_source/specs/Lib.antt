@@ -7,7 +7,9 @@ pub mod Printed
 pub mod ReadAgain
 pub mod Gives
 pub mod Pads
+pub mod Keeping
 pub mod Printer
+pub mod Keeper
 pub mod Reader
 pub mod SourceReader
 pub mod Refusals

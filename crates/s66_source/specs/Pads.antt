@@ -1,4 +1,4 @@
--- Used by contracts within the crate alone: the pads of a source read line by line, those that are left out and those of which it is still open.
+-- Used by contracts within the crate alone: the pads of a source read line by line, those that are left out, those of which it is still open, and those with which runs begin.
 use Rattle.std.specs.Prelude.{ℕ, suc, Bool, true, false, if◌then◌else◌, List, [], ◌∷◌, ◌++◌}
 use Rattle.s66_line.specs.Class.{is_code}
 use Rattle.s66_source.specs.LeftAlone.{Flagged, class_at}
@@ -12,20 +12,23 @@ pub record Pads : Type 0 where
   pub undecided : List ℕ
   -- the open run has an instruction
   pub has_instruction : Bool
+  -- the lines of the pads before which no instruction of their run comes
+  pub leading : List ℕ
 
 abbrev pub no_pads : Pads
-no_pads = record { dropped = []; undecided = []; has_instruction = false }
+no_pads = record { dropped = []; undecided = []; has_instruction = false; leading = [] }
 
 abbrev pub put_pad : ℕ → Pads → Pads
 put_pad line pads =
-    if pads.has_instruction then record pads { dropped = pads.dropped ++ line ∷ [] } else (record pads { undecided = pads.undecided ++ line ∷ [] })
+    if pads.has_instruction then record pads { dropped = pads.dropped ++ line ∷ [] }
+    else (record pads { undecided = pads.undecided ++ line ∷ []; leading = pads.leading ++ line ∷ [] })
 
 -- the open run has an instruction
 abbrev pub settle : Pads → Pads
-settle pads = record { dropped = pads.dropped ++ pads.undecided; undecided = []; has_instruction = true }
+settle pads = record pads { dropped = pads.dropped ++ pads.undecided; undecided = []; has_instruction = true }
 
 abbrev pub end_run : Pads → Pads
-end_run pads = record { dropped = pads.dropped; undecided = []; has_instruction = false }
+end_run pads = record pads { undecided = []; has_instruction = false }
 
 abbrev pub end_run_if : Bool → Pads → Pads
 end_run_if located pads = if located then end_run pads else pads

@@ -37,6 +37,10 @@ has_block lines line = some_of (λ (l : Line). l.run == line.run && is_instructi
 abbrev pub is_dropped : List Line → Line → Bool
 is_dropped lines line = is_pad_class line.class && has_block lines line
 
+-- a Pad before which no instruction of its run comes
+abbrev pub is_leading : List Line → Line → Bool
+is_leading lines line = is_pad_class line.class && line.index == 0
+
 -- an Other line, a comment that is no note, or a Pad of a run without an instruction: it is printed in its place, without the
 -- carriage returns at its end
 abbrev pub is_copied : List Line → Line → Bool

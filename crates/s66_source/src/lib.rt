@@ -7,6 +7,7 @@ mod cover;
 mod error;
 mod frame;
 mod halves;
+mod keeper;
 mod laws;
 mod limits;
 mod operation;
@@ -27,6 +28,7 @@ pub use laws::{
     line_examples, line_law, parts_law, plain_law, printed_examples, read_again_examples,
     read_again_law, spelled_law,
 };
+pub use keeper::print_keeping;
 pub use limits::SOURCE_LINES_LIMIT;
 pub use placed::Placed;
 pub use printer::print_source;

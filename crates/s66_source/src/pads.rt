@@ -11,6 +11,8 @@ pub(crate) struct Pads {
     undecided: Vec<u32>,
     /// Whether the open run has an instruction.
     has_instruction: bool,
+    /// Those before which no instruction of their run comes.
+    leading: Vec<u32>,
 }
 
 impl Model for Pads {
@@ -18,7 +20,7 @@ impl Model for Pads {
 
     ghost Value = { Pads };
 
-    ghost view = { λ p. record { dropped = p.dropped.items; undecided = p.undecided.items; has_instruction = p.has_instruction } };
+    ghost view = { λ p. record { dropped = p.dropped.items; undecided = p.undecided.items; has_instruction = p.has_instruction; leading = p.leading.items } };
 }
 
 impl Pads {
@@ -32,19 +34,22 @@ impl Pads {
             dropped: Vec::new(alloc),
             undecided: Vec::new(alloc),
             has_instruction: false,
+            leading: Vec::new(alloc),
         }
     }
 
-    /// The lines of those that are left out, in order.
-    pub(crate) fn into_dropped(self) -> Vec<u32>
-        ensures { result.items ≡ self.dropped }
+    /// The lines of those that are left out, and of those before which no instruction of their run comes, in order.
+    pub(crate) fn into_dropped_and_leading(self) -> (Vec<u32>, Vec<u32>)
+        ensures dropped { result.0.items ≡ self.dropped }
+        ensures leading { result.1.items ≡ self.leading }
     {
         let Pads {
             dropped,
             undecided: _,
             has_instruction: _,
+            leading,
         } = self;
-        dropped
+        (dropped, leading)
     }
 
     /// One of the open run.
@@ -55,6 +60,7 @@ impl Pads {
             self.dropped.push(line)?;
         } else {
             self.undecided.push(line)?;
+            self.leading.push(line)?;
         }
         Ok(())
     }

@@ -19,24 +19,26 @@ pub struct Source<'a> {
     blocks: Vec<Block<'a>>,
     /// The lines of the `NO`s that are left out when it is printed.
     dropped: Vec<u32>,
+    /// The lines of the `NO`s before which no instruction of their run comes.
+    leading: Vec<u32>,
 }
 
 impl<'a> Model for Source<'a> {
     ghost use Rattle.std.specs.Prelude.{◌≡◌, Ok};
     ghost use Rattle.s66_source.specs.LeftAlone.{Reading};
-    ghost use Rattle.s66_source.specs.Roles.{is_dropped, lines_that};
+    ghost use Rattle.s66_source.specs.Roles.{is_dropped, is_leading, lines_that};
     ghost use Rattle.s66_source.specs.Source.{source_of};
 
     ghost Value = { Reading };
 
     ghost view = { λ s. record { cut = s.cut; text = s.text.now } };
 
-    ghost invariant = { λ s. (source_of (record { cut = s.cut; text = s.text.now }) ≡ Ok s.blocks.items) × (s.dropped.items ≡ lines_that is_dropped (record { cut = s.cut; text = s.text.now })) };
+    ghost invariant = { λ s. (source_of (record { cut = s.cut; text = s.text.now }) ≡ Ok s.blocks.items) × (s.dropped.items ≡ lines_that is_dropped (record { cut = s.cut; text = s.text.now })) × (s.leading.items ≡ lines_that is_leading (record { cut = s.cut; text = s.text.now })) };
 }
 
 impl<'a> Source<'a> {
     ghost use Rattle.std.specs.Prelude.{◌≡◌, Ok};
-    ghost use Rattle.s66_source.specs.Roles.{is_dropped, lines_that};
+    ghost use Rattle.s66_source.specs.Roles.{is_dropped, is_leading, lines_that};
     ghost use Rattle.s66_source.specs.Source.{source_of};
 
     /// The blocks, in the order of their lines.
@@ -64,6 +66,13 @@ impl<'a> Source<'a> {
         ensures { result.now ≡ lines_that is_dropped self.now }
     {
         self.dropped.as_slice()
+    }
+
+    /// The lines of the `NO`s before which no instruction of their run comes, in order.
+    pub(crate) fn leading(&self) -> &[u32]
+        ensures { result.now ≡ lines_that is_leading self.now }
+    {
+        self.leading.as_slice()
     }
 }
 
@@ -103,10 +112,12 @@ pub fn read_source_with(alloc: Global, cut: bool, text: &[u8]) -> Result<Source<
         cut: _,
         standing: _,
     } = reader;
+    let (dropped, leading) = pads.into_dropped_and_leading();
     Ok(Source {
         text,
         cut,
         blocks,
-        dropped: pads.into_dropped(),
+        dropped,
+        leading,
     })
 }

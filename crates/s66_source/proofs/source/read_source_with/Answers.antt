@@ -6,6 +6,7 @@ use Rattle.s66_source.specs.SourceReader.{state}
 use Rattle.s66_source.specs.Source.{classed_lines, blocks_of}
 use Rattle.s66_source.proofs.ReaderBlocks.{source-blocks, Gives-accepted, Gives-refusal}
 use Rattle.s66_source.proofs.PadsLaw.{dropped-read}
+use Rattle.s66_source.proofs.LeadingPads.{leading-read}
 use Rattle.s66_source.proofs.source.read_source_with.Goals as goal
 
 pub returns-in_err-take_all-clause-read : goal.returns-in_err-take_all-clause-read
@@ -21,7 +22,8 @@ invariant_of-result c =
     let step = rw c.at_first.ensures at c.in_ok-take_all.ensures.step in
     let pads = rw c.at_first.ensures at c.in_ok-take_all.ensures.pads in (
       source-blocks source _ (state c.take_all.new.self) (state c.end_block.new.self) (rw (c.new.ensures.items, c.new-2.ensures.items) refl) step c.in_ok-end_block.ensures.step,
-      c.into_dropped.ensures ∙ ap (λ (p : Pads). p.dropped) (c.end_block.ensures.pads ∙ pads ∙ ap (λ p. pads_of_lines 0 false p (flagged_lines source)) c.new-3.ensures) ∙ dropped-read source,
+      c.into_dropped_and_leading-dropped.ensures.dropped ∙ ap (λ (p : Pads). p.dropped) (c.end_block.ensures.pads ∙ pads ∙ ap (λ p. pads_of_lines 0 false p (flagged_lines source)) c.new-3.ensures) ∙ dropped-read source,
+      c.into_dropped_and_leading-dropped.ensures.leading ∙ ap (λ (p : Pads). p.leading) (c.end_block.ensures.pads ∙ pads ∙ ap (λ p. pads_of_lines 0 false p (flagged_lines source)) c.new-3.ensures) ∙ leading-read source,
     )
 
 pub returns-clause-read : goal.returns-clause-read

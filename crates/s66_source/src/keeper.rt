@@ -1,0 +1,313 @@
+ghost use Rattle.std.specs.Prelude.{ℕ, ◌≡◌, ◌≤◌, ◌<◌, ◌++◌, if◌then◌else◌, length, nat_lt, IfOk, OnOk, drop};
+ghost use Rattle.s66_isa.specs.Lists.{Among};
+ghost use Rattle.s66_source.specs.Keeping.{AreGiven, others, printed_keeping, text_anew};
+ghost use Rattle.s66_source.specs.Printer.{begins_with};
+ghost use Rattle.s66_source.specs.Source.{blocks_of, classed_lines};
+
+use crate::block_text::{push_copied, push_instructions, push_report};
+use crate::placed::Placed;
+use crate::source::Source;
+use memchr::memchr;
+use s66_line::Block;
+use std::alloc::{AllocError, Global};
+use std::marker::Model;
+
+/// Whether this is the first of these numbers.
+fn begins_with(numbers: &[u32], number: u32) -> bool
+    ensures { result ≡ begins_with number numbers.now }
+{
+    match numbers {
+        [first, ..] => *first == number,
+        [] => false,
+    }
+}
+
+/// The blocks but the first.
+fn others<'s, 'a>(blocks: &'s [Block<'a>]) -> &'s [Block<'a>]
+    ensures { result.now ≡ others blocks.now }
+{
+    match blocks {
+        [_, rest @ ..] => rest,
+        [] => blocks,
+    }
+}
+
+/// How blocks are to be printed after one before which so many stand.
+fn given_after(given: &[Option<Placed>], before: usize) -> &[Option<Placed>]
+    ensures { result.now ≡ (if nat_lt 0 before then given.now else others given.now) }
+{
+    if before > 0 {
+        return given;
+    }
+    match given {
+        [_, rest @ ..] => rest,
+        [] => given,
+    }
+}
+
+/// What is printed in the place of an instruction of a block that is printed, before which `passed` instructions of the block come: in
+/// that of the first the report, unless there are to be none, in that of the last all instructions.
+fn push_anew(
+    out: &mut Vec<u8>,
+    quiet: bool,
+    number: u32,
+    passed: usize,
+    block: &Block,
+    placed: &Placed,
+) -> Result<(), AllocError>
+    requires passed { passed < length block.now.entries }
+    requires placed { (n : ℕ) → Among n placed.now.order → (1 ≤ n) × (n ≤ length block.now.entries) }
+    ensures { OnOk result (out.new.items ≡ out.old.items ++ text_anew quiet number passed block.now placed.now) }
+{
+    let count = block.count();
+    if passed == 0 && !quiet {
+        push_report(out, number, count, placed)?;
+    }
+    if passed + 1 == count {
+        push_instructions(out, block, placed.order.as_slice())?;
+    }
+    Ok(())
+}
+
+/// What is left to print of a source, some of whose blocks stand.
+#[derive(Drop)]
+struct Keeper<'s, 'a> {
+    /// Whether no report is printed.
+    quiet: bool,
+    /// The blocks whose last instruction is among the lines to come.
+    blocks: &'s [Block<'a>],
+    /// How many of them stand before those that are given.
+    before: usize,
+    /// How those are to be printed, `None` if they stand; what comes after them stands.
+    given: &'s [Option<Placed>],
+    /// Those of the lines to come that are left out if their blocks are printed.
+    dropped: &'s [u32],
+    /// Those that are `NO`s before which no instruction of their run comes.
+    leading: &'s [u32],
+    /// The number of the first of the blocks, from 1.
+    number: u32,
+    /// How many of its instructions were passed.
+    passed: usize,
+    /// Whether the last block that was passed stands.
+    stood: bool,
+    /// How many lines were passed.
+    lines: u32,
+}
+
+impl<'s, 'a> Model for Keeper<'s, 'a> {
+    ghost use Rattle.s66_source.specs.Keeper.{Keeper};
+
+    ghost Value = { Keeper };
+
+    ghost view = { λ k. record { quiet = k.quiet; place = record { blocks = k.blocks.now; before = k.before; given = k.given.now; number = k.number; passed = k.passed; stood = k.stood }; dropped = k.dropped.now; leading = k.leading.now; lines = k.lines } };
+}
+
+impl<'s, 'a> Keeper<'s, 'a> {
+    ghost use Rattle.std.specs.Prelude.{◌≡◌, ◌≤◌, ◌<◌, ◌+◌, ◌++◌, true, suc, [], if◌then◌else◌, length, OnOk};
+    ghost use Rattle.s66_line.specs.Fields.{lines_from};
+    ghost use Rattle.s66_source.specs.Keeping.{after_block, after_instruction, copied, instruction_text, is_at, pad_stands, stands_next};
+    ghost use Rattle.s66_source.specs.Keeper.{IsKeeper, IsPlace, after_kept, is_leading_next, kept_from, kept_text};
+    ghost use Rattle.s66_source.specs.declared.limits.TheConstants.{SOURCE_LINES_LIMIT};
+
+    /// Whether there is a block to come, and it stands.
+    fn stands(&self) -> bool
+        ensures { result ≡ stands_next self.now.place }
+    {
+        if self.blocks.is_empty() {
+            return false;
+        }
+        if self.before > 0 {
+            return true;
+        }
+        match self.given {
+            [Some(_), ..] => false,
+            [None, ..] => true,
+            [] => true,
+        }
+    }
+
+    /// Whether a `NO` stands, before which an instruction of its run comes or not.
+    fn pad_stands(&self, leads: bool) -> bool
+        ensures { result ≡ pad_stands leads self.now.place }
+    {
+        if self.passed == 0 && !leads {
+            self.stood
+        } else {
+            self.stands()
+        }
+    }
+
+    /// Whether the next line is an instruction.
+    fn is_at_instruction(&self) -> bool
+        requires lines { self.now.lines < SOURCE_LINES_LIMIT }
+        requires keeper { IsKeeper self.now }
+        ensures { result ≡ is_at (suc self.now.lines) self.now.place.passed self.now.place.blocks }
+    {
+        match self.blocks {
+            [block, ..] => {
+                prove!(block.count() >= 1);
+                block.line(self.passed + 1) == self.lines + 1
+            }
+            [] => false,
+        }
+    }
+
+    /// Whether the next line is a `NO` before which no instruction of its run comes; such a line is passed.
+    fn take_leading(&mut self) -> bool
+        requires { self.old.lines < SOURCE_LINES_LIMIT }
+        ensures leads { result ≡ is_leading_next self.old }
+        ensures rest { self.new ≡ record self.old { leading = if is_leading_next self.old then others self.old.leading else self.old.leading } }
+    {
+        if !begins_with(self.leading, self.lines + 1) {
+            return false;
+        }
+        self.leading = &self.leading[1..];
+        true
+    }
+
+    /// Prints in the place of an instruction.
+    fn print_instruction(&self, out: &mut Vec<u8>, line: &[u8]) -> Result<(), AllocError>
+        requires keeper { IsKeeper self.now }
+        requires here { is_at (suc self.now.lines) self.now.place.passed self.now.place.blocks ≡ true }
+        ensures { OnOk result (out.new.items ≡ out.old.items ++ instruction_text self.now.quiet self.now.place line.now) }
+    {
+        if self.before > 0 {
+            return push_copied(out, line);
+        }
+        let [block, ..] = self.blocks else {
+            return push_copied(out, line);
+        };
+        prove!(block.count() >= 1);
+        let [first, ..] = self.given else {
+            return push_copied(out, line);
+        };
+        match first {
+            Some(placed) => push_anew(out, self.quiet, self.number, self.passed, block, placed),
+            None => push_copied(out, line),
+        }
+    }
+
+    /// Passes the last instruction of a block.
+    fn pass_block(&mut self)
+        requires number { self.old.place.number ≤ suc SOURCE_LINES_LIMIT }
+        requires place { IsPlace self.old.place }
+        ensures rest { self.new ≡ record self.old { place = after_block self.old.place } }
+        ensures place { IsPlace self.new.place }
+    {
+        self.stood = self.stands();
+        self.given = given_after(self.given, self.before);
+        self.before = self.before.saturating_sub(1);
+        self.blocks = others(self.blocks);
+        self.number += 1;
+        self.passed = 0;
+    }
+
+    /// Passes an instruction.
+    fn pass_instruction(&mut self)
+        requires lines { self.old.lines < SOURCE_LINES_LIMIT }
+        requires keeper { IsKeeper self.old }
+        requires here { is_at (suc self.old.lines) self.old.place.passed self.old.place.blocks ≡ true }
+        ensures rest { self.new ≡ record self.old { place = after_instruction self.old.place } }
+        ensures place { IsPlace self.new.place }
+        ensures number { self.new.place.number ≤ suc (suc self.old.lines) }
+    {
+        let [block, ..] = self.blocks else {
+            return;
+        };
+        prove!(block.count() >= 1);
+        if self.passed + 1 == block.count() {
+            self.pass_block();
+        } else {
+            self.passed += 1;
+        }
+    }
+
+    /// Prints a line that is left out unless its block stands.
+    fn print_pad(&self, out: &mut Vec<u8>, line: &[u8], leads: bool) -> Result<(), AllocError>
+        ensures { OnOk result (out.new.items ≡ out.old.items ++ (if pad_stands leads self.now.place then copied line.now else [])) }
+    {
+        if self.pad_stands(leads) {
+            push_copied(out, line)
+        } else {
+            Ok(())
+        }
+    }
+
+    /// Passes a line.
+    fn print_line(&mut self, out: &mut Vec<u8>, line: &[u8]) -> Result<(), AllocError>
+        requires lines { self.old.lines < SOURCE_LINES_LIMIT }
+        requires keeper { IsKeeper self.old }
+        ensures text { OnOk result (out.new.items ≡ out.old.items ++ kept_text self.old line.now) }
+        ensures rest { OnOk result (self.new ≡ after_kept self.old) }
+        ensures keeper { OnOk result (IsKeeper self.new) }
+    {
+        let leads = self.take_leading();
+        if begins_with(self.dropped, self.lines + 1) {
+            self.print_pad(out, line, leads)?;
+            self.dropped = &self.dropped[1..];
+        } else if self.is_at_instruction() {
+            self.print_instruction(out, line)?;
+            self.pass_instruction();
+        } else {
+            push_copied(out, line)?;
+        }
+        self.lines += 1;
+        Ok(())
+    }
+
+    /// Passes a last line that lacks its newline, if there is one.
+    fn print_last(&mut self, out: &mut Vec<u8>, line: &[u8]) -> Result<(), AllocError>
+        requires lines { self.old.lines + length (lines_from line.now []) ≤ SOURCE_LINES_LIMIT }
+        requires keeper { IsKeeper self.old }
+        ensures text { OnOk result (out.new.items ≡ out.old.items ++ kept_from self.old (lines_from line.now [])) }
+    {
+        if line.is_empty() {
+            return Ok(());
+        }
+        self.print_line(out, line)
+    }
+
+    /// Passes the lines of a text.
+    fn print_all(&mut self, out: &mut Vec<u8>, text: &[u8]) -> Result<(), AllocError>
+        requires lines { self.old.lines + length (lines_from [] text.now) ≤ SOURCE_LINES_LIMIT }
+        requires keeper { IsKeeper self.old }
+        ensures text { OnOk result (out.new.items ≡ out.old.items ++ kept_from self.old (lines_from [] text.now)) }
+    {
+        let mut rest = text;
+        while let Some(end) = memchr(b'\n', rest) {
+            self.print_line(out, &rest[..end])?;
+            rest = &rest[end + 1..];
+        }
+        self.print_last(out, rest)
+    }
+}
+
+/// A source, so many of whose blocks stand before those that are given. Of these stand those without an order, and so do all blocks after
+/// them. Each line of a block that stands is as it was read, and so are the `NO`s of it; all other blocks are printed as `print_source`
+/// does, without reports if it is `quiet`.
+pub fn print_keeping(
+    alloc: Global,
+    source: &Source,
+    before: usize,
+    given: &[Option<Placed>],
+    quiet: bool,
+) -> Result<Vec<u8>, AllocError>
+    requires { AreGiven (drop before (blocks_of (classed_lines source.now))) given.now }
+    ensures { IfOk result (λ text. text.items ≡ printed_keeping quiet source.now before given.now) }
+{
+    let mut keeper = Keeper {
+        quiet,
+        blocks: source.blocks(),
+        before,
+        given,
+        dropped: source.dropped(),
+        leading: source.leading(),
+        number: 1,
+        passed: 0,
+        stood: false,
+        lines: 0,
+    };
+    let mut out = Vec::new(alloc);
+    keeper.print_all(&mut out, source.text())?;
+    Ok(out)
+}
