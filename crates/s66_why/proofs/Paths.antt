@@ -18,7 +18,7 @@ use Rattle.s66_why.specs.declared.path.Link.{Link}
 use Rattle.s66_why.specs.declared.path.Link.TheVariants.{Held, InLine}
 use Rattle.s66_why.specs.declared.stretch.Conflict.{Conflict}
 use Rattle.s66_why.specs.declared.stretch.Conflict.TheVariants.{First, Second, Third}
-use Rattle.s66_why.specs.Why.{before, before_issue, before_start, decides, first_holder, holder, is_held, lets_go, next_link, path, second_holder, slot, third_holder, walk}
+use Rattle.s66_why.specs.Why.{before, before_issue, before_start, decides, first_holder, holder, is_held, lets_go, next_link, second_holder, slot, third_holder, walk}
 use Rattle.s66_why.specs.Forbids.{AreFromOne}
 use Rattle.s66_why.specs.Paths.{AddsUp, AreOnce, GoesOn, IsPath, Leads, LetsGoWith, Step, made_at, unhindered}
 use Rattle.s66_why.proofs.Alike.{AreAlike, row-alike}
@@ -404,7 +404,7 @@ module _ (b : Problem) where
       let adds : t ≡ to + (t - to) = omega (arith, le) in (
         record { number = p.number; adds = t - to } ∷ below.0,
         ap (λ ns. p.number ∷ ns) (below.1 ∙ sym walks),
-        (refl, leads, inl (conflict, from, to, h.cause, q, split.1, (split.0, split.2), waits, kept, goes, adds, below.2)),
+        (refl, leads, inl (to, h.cause, q, split.1, ((split.0, split.2), (conflict, from, waits, kept, goes)), adds, below.2)),
       )
 
   -- a wait that ends then, as it is said of the minor cycle before
@@ -436,14 +436,14 @@ module _ (b : Problem) where
         | inl (none, at) ↦ (
           record { number = p.number; adds = t } ∷ [],
           ap (λ ns. p.number ∷ ns) (sym (ap (λ l. walk l e) next ∙ none)),
-          (refl, leads, inr (goes, is, inl (refl, at, refl))),
+          (refl, leads, inr ((is, goes), inl (refl, at, refl))),
         )
         | inr (later, q, rest, split, held, gap, le, walks) ↦
             let below : HasSteps rest q InLine q.issue = reach-at later q rest (subst AllReach split reach) InLine q.issue (refl, held) in
             let adds : t ≡ q.issue + (t - q.issue) = omega (arith, started, gap) in (
               record { number = p.number; adds = t - q.issue } ∷ below.0,
               ap (λ ns. p.number ∷ ns) (below.1 ∙ sym (ap (λ l. walk l e) next ∙ walks)),
-              (refl, leads, inr (goes, is, inr (q, rest, (later, split), gap, adds, below.2))),
+              (refl, leads, inr ((is, goes), inr (q, rest, ((later, split), gap), adds, below.2))),
             )
       ]
 
@@ -492,11 +492,11 @@ module _ (b : Problem) where
 
 pub adds-up : (b : Problem) (s : List Point) (p : Point) (link : Link) (t : ℕ) (xs : List Step) → IsPath b s p link t xs → weigh (λ (x : Step). x.adds) xs ≡ t
 adds-up b s p link t [] is = absurd is
-adds-up b s p link t (x ∷ xs) (number, leads, inl (conflict, from, to, cause, q, e, stands, waits, kept, goes, adds, rest)) =
+adds-up b s p link t (x ∷ xs) (number, leads, inl (to, cause, q, e, waits, adds, rest)) =
     omega (arith, adds, adds-up b e q (Held (record { cause = cause; number = q.number })) to xs rest)
-adds-up b s p link t (x ∷ xs) (number, leads, inr (goes, is, inl (none, at, adds))) =
+adds-up b s p link t (x ∷ xs) (number, leads, inr (nothing, inl (none, at, adds))) =
     omega (arith, adds, ap (weigh (λ (y : Step). y.adds)) none)
-adds-up b s p link t (x ∷ xs) (number, leads, inr (goes, is, inr (q, e, stands, gap, adds, rest))) =
+adds-up b s p link t (x ∷ xs) (number, leads, inr (nothing, inr (q, e, line, adds, rest))) =
     omega (arith, adds, adds-up b e q InLine q.issue xs rest)
 
 -- THE PATH OF AN ORDER

@@ -54,20 +54,32 @@ GoesOn Third (Held h) p cause from t = LetsGoWith h.cause p cause from t
 GoesOn First InLine p cause from t = t ≡ from
 GoesOn conflict InLine p cause from t = ⊥
 
--- The steps of a path, the latest first, to p, which stands after the points s and to which a link leads at t. Either an earlier
--- instruction keeps p back until a minor cycle, and the path goes on from that one, which lets go then. Or p waits for nothing, and
--- issues as many minor cycles after an earlier one as it stands parcels behind it; or after minor cycle 0, where the path begins.
+-- p waits for q, which stands among the points s after those of e, until `to`, and for nothing more until t
+abbrev pub WaitsFor : Problem → List Point → Point → Link → (to t : ℕ) → Cause → Point → List Point → Type 0
+WaitsFor b s p link to t cause q e =
+    StandsAfter s q e
+    × ((conflict : Conflict) × (from : ℕ) × (from < to) × IsKeptBack b s p conflict from to cause q × GoesOn conflict link p cause to t)
+
+-- p issues in its slot, and waits for nothing until t
+abbrev pub WaitsForNothing : List Point → Point → Link → ℕ → Type 0
+WaitsForNothing s p link t = (p.issue ≡ slot s p) × GoesOn First link p Ends p.issue t
+
+-- p issues as many minor cycles after q as it stands parcels behind it
+abbrev pub IsInLine : List Point → Point → Point → List Point → Type 0
+IsInLine s p q e = StandsAfter s q e × (p.issue ≡ q.issue + (p.parcel - q.parcel))
+
+-- The steps of a path, the latest first, to p, which stands after the points s and to which a link leads at t. Either p waits for an
+-- earlier instruction, which lets go then, and the path goes on from that one. Or p waits for nothing: then it stands in line behind
+-- an earlier one, from which the path goes on; or in line from minor cycle 0, where the path begins.
 abbrev pub IsPath : Problem → List Point → Point → Link → ℕ → List Step → Type 0
 IsPath b s p link t [] = ⊥
 IsPath b s p link t (x ∷ xs) =
     (x.number ≡ p.number) × Leads link p t
-    × (((conflict : Conflict) × (from : ℕ) × (to : ℕ) × (cause : Cause) × (q : Point) × (e : List Point) × StandsAfter s q e
-    × (from < to) × IsKeptBack b s p conflict from to cause q × GoesOn conflict link p cause to t × (t ≡ to + x.adds)
+    × (((to : ℕ) × (cause : Cause) × (q : Point) × (e : List Point) × WaitsFor b s p link to t cause q e × (t ≡ to + x.adds)
     × IsPath b e q (Held (record { cause = cause; number = q.number })) to xs)
-    ⊎ (GoesOn First link p Ends p.issue t × (p.issue ≡ slot s p)
+    ⊎ (WaitsForNothing s p link t
     × (((xs ≡ []) × (p.issue ≡ p.parcel) × (t ≡ x.adds))
-    ⊎ ((q : Point) × (e : List Point) × StandsAfter s q e × (p.issue ≡ q.issue + (p.parcel - q.parcel)) × (t ≡ q.issue + x.adds)
-    × IsPath b e q InLine q.issue xs))))
+    ⊎ ((q : Point) × (e : List Point) × IsInLine s p q e × (t ≡ q.issue + x.adds) × IsPath b e q InLine q.issue xs))))
 
 -- each number once
 abbrev pub AreOnce : List ℕ → Type 0
