@@ -8,6 +8,7 @@ use Rattle.s66_isa.specs.Lists.{Among, every}
 use Rattle.s66_isa.specs.declared.profile.Profile.{Profile}
 use Rattle.s66_line.specs.Block.{Block, instrs_of}
 use Rattle.s66_line.specs.Class.{is_code, is_instruction}
+use Rattle.s66_line.specs.Fields.{lines_of}
 use Rattle.s66_line.specs.declared.class.Class.{Class}
 use Rattle.s66_source.specs.Frame.{frame_of}
 use Rattle.s66_source.specs.LeftAlone.{Flagged, Reading, at_first, class_at, flagged_lines}

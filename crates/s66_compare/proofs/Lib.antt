@@ -5,3 +5,5 @@ pub mod Differences
 pub mod Legal
 pub mod Meanings
 pub mod Accepted
+pub mod Texts
+pub mod Totals

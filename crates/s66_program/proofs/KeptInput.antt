@@ -77,7 +77,7 @@ not-two (Compare cut profile) source two = cc
 refused-for : (command : Command) (input held : List ℕ) (f : Fault) → reads_source command ≡ true → source_of (source_in command input) ≡ source_of (source_in command held) → IsRefusal command held f → IsRefusal command input f
 refused-for command input held (fault.Source e) reads same (other, inl (is, refused)) = (other, inl (is, same ∙ refused))
 refused-for command input held (fault.Source e) reads same (other, inr (two, halves)) = absurd (not-two command reads two)
-refused-for command input held (fault.NewSource e) reads same (two, other) = absurd (not-two command reads two)
+refused-for command input held (fault.NewSource e) reads same (two, other, halves) = absurd (not-two command reads two)
 refused-for command input held fault.NoNewSource reads same (two, none) = absurd (not-two command reads two)
 refused-for command input held (fault.Document e) reads same (is, refused) = absurd (no-documents command reads is)
 refused-for command input held fault.Profile reads same h = h

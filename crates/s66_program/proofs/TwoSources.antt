@@ -62,7 +62,7 @@ after-old cut input halves blocks fault.Write parted read h = absurd h
 
 pub compare-refused : (cut : Bool) (profile : Option (Bor (List ℕ))) (input : List ℕ) (f : Fault) → IsCompareRefusal cut input f → IsRefusal (Compare cut profile) input f
 compare-refused cut profile input (fault.Source e) (other, h) = (other, inr (refl, h))
-compare-refused cut profile input (fault.NewSource e) h = (refl, h)
+compare-refused cut profile input (fault.NewSource e) (other, halves) = (refl, other, halves)
 compare-refused cut profile input fault.NoNewSource h = (refl, h)
 compare-refused cut profile input fault.Memory h = tt
 compare-refused cut profile input (fault.Document e) h = absurd h
