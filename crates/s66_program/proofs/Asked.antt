@@ -2,7 +2,7 @@
 use Rattle.std.proofs.Common.{List, None, Some}
 use Rattle.s66_command.specs.declared.strategy.Strategy.{Strategy}
 use Rattle.s66_command.specs.declared.command.Command.{Command}
-use Rattle.s66_command.specs.declared.command.Command.TheVariants.{Time, Deps, Chart, Why, Page, Order, Prove, Check, Lint, Sum}
+use Rattle.s66_command.specs.declared.command.Command.TheVariants.{Time, Deps, Chart, Why, Page, Order, Prove, Check, Lint, Sum, Compare}
 use Rattle.s66_program.specs.Output.{IsSearchWithin, IsWithinLimits}
 use Rattle.s66_command.specs.Usage.{Asks, GivesSearch, Text}
 
@@ -16,8 +16,9 @@ asked-within words (Chart cut texts only profile) h = tt
 asked-within words (Why cut None only profile) h = tt
 asked-within words (Why cut (Some strategy) only profile) h = search-within words strategy h.2.1
 asked-within words (Page cut strategy only profile) h = search-within words strategy h.2
-asked-within words (Order cut strategy trace profile) h = search-within words strategy h.2
-asked-within words (Prove cut strategy profile) h = search-within words strategy h.2
+asked-within words (Order cut strategy trace keep quiet block profile) h = search-within words strategy h.2
+asked-within words (Prove cut strategy block profile) h = search-within words strategy h.2
 asked-within words Check h = tt
-asked-within words Lint h = tt
-asked-within words (Sum cut strategy trace profile) h = search-within words strategy h.2
+asked-within words (Lint cut) h = tt
+asked-within words (Compare cut profile) h = tt
+asked-within words (Sum cut strategy trace block profile) h = search-within words strategy h.2

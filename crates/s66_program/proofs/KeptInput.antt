@@ -6,7 +6,7 @@ use Rattle.s66_line.specs.Block.{Block}
 use Rattle.s66_source.specs.Source.{source_of}
 use Rattle.s66_source.specs.declared.error.SourceError.{SourceError}
 use Rattle.s66_command.specs.declared.command.Command.{Command}
-use Rattle.s66_command.specs.declared.command.Command.TheVariants.{Time, Deps, Chart, Why, Page, Order, Prove, Check, Lint, Sum}
+use Rattle.s66_command.specs.declared.command.Command.TheVariants.{Time, Deps, Chart, Why, Page, Order, Prove, Check, Lint, Sum, Compare}
 use Rattle.s66_program.specs.declared.limits.TheConstants.{SOURCE_FRONT}
 use Rattle.s66_outcome.specs.declared.outcome.Fault.{Fault}
 use Rattle.s66_outcome.specs.declared.outcome.Fault.TheVariants as fault
@@ -27,11 +27,12 @@ accepted p (Chart cut texts only profile) input text status reads ((blocks, ok, 
 accepted p (Why cut None only profile) input text status reads ((blocks, ok, is), done) = (blocks, ok)
 accepted p (Why cut (Some strategy) only profile) input text status reads (blocks, ok, is) = (blocks, ok)
 accepted p (Page cut strategy only profile) input text status reads (blocks, ok, is) = (blocks, ok)
-accepted p (Order cut strategy trace profile) input text status reads (blocks, ok, is) = (blocks, ok)
-accepted p (Prove cut strategy profile) input text status reads (blocks, ok, is) = (blocks, ok)
+accepted p (Order cut strategy trace keep quiet block profile) input text status reads (blocks, ok, is) = (blocks, ok)
+accepted p (Prove cut strategy block profile) input text status reads (blocks, ok, is) = (blocks, ok)
 accepted p Check input text status reads is = absurd (cc)
-accepted p Lint input text status reads is = absurd (cc)
-accepted p (Sum cut strategy trace profile) input text status reads (blocks, ok, is) = (blocks, ok)
+accepted p (Lint cut) input text status reads is = absurd (cc)
+accepted p (Compare cut profile) input text status reads is = absurd is
+accepted p (Sum cut strategy trace block profile) input text status reads (blocks, ok, is) = (blocks, ok)
 
 -- a full front is refused, and so is the input, for the same
 full-refused : (command : Command) (most : Option ℕ) (held rest : List ℕ) → IsMost command most → IsFull most held →
@@ -39,10 +40,10 @@ full-refused : (command : Command) (most : Option ℕ) (held rest : List ℕ) �
 full-refused command None held rest is full = absurd full
 full-refused command (Some n) held rest (limit, reads) full = (reads, front-refused (is_cut command) held rest (subst (λ k. k ≤ length held) limit full))
 
-pub whole-output : (p : Profile) (command : Command) (most : Option ℕ) (input held text : List ℕ) (status : Status) → IsMost command most → IsKeptInput most input held → IsOutput p command held text status → IsOutput p command input text status
-whole-output p command most input held text status most-is (rest, is, inl none) output =
-    subst (λ i. IsOutput p command i text status) (sym (is ∙ ap (λ r. held ++ r) none ∙ append-nil held)) output
-whole-output p command most input held text status most-is (rest, is, inr full) output =
+-- what is kept is the whole input, if the command writes something for it
+pub kept-whole : (p : Profile) (command : Command) (most : Option ℕ) (input held text : List ℕ) (status : Status) → IsMost command most → IsKeptInput most input held → IsOutput p command held text status → held ≡ input
+kept-whole p command most input held text status most-is (rest, is, inl none) output = sym (is ∙ ap (λ r. held ++ r) none ∙ append-nil held)
+kept-whole p command most input held text status most-is (rest, is, inr full) output =
     let stated = full-refused command most held rest most-is full in
     let known = accepted p command held text status stated.0 output in
     absurd (cc)
@@ -53,11 +54,12 @@ no-documents (Deps cut only) source documents = cc
 no-documents (Chart cut texts only profile) source documents = cc
 no-documents (Why cut order only profile) source documents = cc
 no-documents (Page cut strategy only profile) source documents = cc
-no-documents (Order cut strategy trace profile) source documents = cc
-no-documents (Prove cut strategy profile) source documents = cc
+no-documents (Order cut strategy trace keep quiet block profile) source documents = cc
+no-documents (Prove cut strategy block profile) source documents = cc
 no-documents Check source documents = cc
-no-documents Lint source documents = cc
-no-documents (Sum cut strategy trace profile) source documents = cc
+no-documents (Lint cut) source documents = cc
+no-documents (Compare cut profile) source documents = cc
+no-documents (Sum cut strategy trace block profile) source documents = cc
 
 refused-for : (command : Command) (input held : List ℕ) (f : Fault) → reads_source command ≡ true → source_of (source_in command input) ≡ source_of (source_in command held) → IsRefusal command held f → IsRefusal command input f
 refused-for command input held (fault.Source e) reads same (is, other, refused) = (is, other, same ∙ refused)
