@@ -25,13 +25,15 @@ ALIKE = ("S66 CERTIFICATE 3\n" + PROFILE + "BLOCK 3\nI SB0 B1\nI SB0 B1\nI SB0 B
 CHAIN = ("S66 CERTIFICATE 1\n" + PROFILE + "BLOCK 3\nI SA1 A1+B1\nI BX6 X1\nI BX7 X2\nTIME 12\nBOUND 12\nORDER 1 3 2\nC 1 2\nEND\n")
 SECONDS, MEGABYTES, FRONT_MEGABYTES = 10, 200, 32
 GIGABYTE = 1 << 30
-LISTED = b"s66 lint lists all such lines\n"  # the second line after a source that is refused
+# the second lines after a source that is refused, and after what is no certificate
+LISTED, LONG = b"s66 lint lists all such lines, --cut leaves them alone\n", b"a line has at most 200 bytes; s66 lint lists all that have more\n"
+MANY, PROVED = b"a source has at most 20000 lines\n", b"s66 check reads what s66 prove prints\n"
 CHUNK = 1 << 20
-TRUNCATED = (3, b"", b"TRUNCATED\n")
+TRUNCATED = (3, b"", b"TRUNCATED\n" + PROVED)
 
 
 def bad_line(line):
-    return 3, b"", b"LINE %d BAD LINE\n" % line
+    return 3, b"", b"LINE %d BAD LINE\n" % line + PROVED
 
 
 def no(line, reason):
@@ -163,15 +165,15 @@ def long_sources():
     """Words, what is fed, its answer, and the most megabytes."""
     code = b"  BX1 X2*X3\n"
     for word in ("time", "deps", "chart", "why", "page", "order", "prove", "sum"):
-        yield [word], "a gigabyte of newlines", repeated(b"\n", GIGABYTE), (3, b"", b"TOO MANY LINES\n" + LISTED), FRONT_MEGABYTES
-    yield ["time"], "a gigabyte without a newline", repeated(b" ", GIGABYTE), (3, b"", b"LINE 1 TOO LONG\n" + LISTED), FRONT_MEGABYTES
-    yield ["time"], "a gigabyte of instructions", repeated(code, GIGABYTE), (3, b"", b"TOO MANY LINES\n" + LISTED), FRONT_MEGABYTES
+        yield [word], "a gigabyte of newlines", repeated(b"\n", GIGABYTE), (3, b"", b"TOO MANY LINES\n" + MANY), FRONT_MEGABYTES
+    yield ["time"], "a gigabyte without a newline", repeated(b" ", GIGABYTE), (3, b"", b"LINE 1 TOO LONG\n" + LONG), FRONT_MEGABYTES
+    yield ["time"], "a gigabyte of instructions", repeated(code, GIGABYTE), (3, b"", b"TOO MANY LINES\n" + MANY), FRONT_MEGABYTES
     last = itertools.chain([b" " * 199 + b"*\n"] * 20000, [b"  SA1 *\n"], repeated(b"x", GIGABYTE))
-    yield ["time"], "the longest source, one line more, and a gigabyte", last, (3, b"", b"TOO MANY LINES\n" + LISTED), FRONT_MEGABYTES
+    yield ["time"], "the longest source, one line more, and a gigabyte", last, (3, b"", b"TOO MANY LINES\n" + MANY), FRONT_MEGABYTES
     last = itertools.chain([b"\n" * 19999, b"  SA1 *\n"], repeated(b"\n", GIGABYTE))
     yield ["time"], "a bad operand before what is too much", last, (3, b"", b"LINE 20000 BAD OPERAND\n" + LISTED), FRONT_MEGABYTES
     last = itertools.chain([b"\n" * 20000, b"y" * 200], repeated(b"z", 8 * CHUNK))
-    yield ["time"], "a line past the limit that is too long", last, (3, b"", b"LINE 20001 TOO LONG\n" + LISTED), FRONT_MEGABYTES
+    yield ["time"], "a line past the limit that is too long", last, (3, b"", b"LINE 20001 TOO LONG\n" + LONG), FRONT_MEGABYTES
 
 
 def main(arguments):

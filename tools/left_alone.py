@@ -3,8 +3,8 @@
 
     tools/left_alone.py [--count N] [--seed N] -- PROGRAM
 
-The second opinion is tools/source_rules.py. For each of N sources, 1000 unless given, this compares what `lint` prints, and with and
-without --cut the blocks of `deps`, the lines of `order`, the statuses and refusals. Each mismatch is printed with a small source
+The second opinion is tools/source_rules.py. For each of N sources, 1000 unless given, this compares with and without --cut what
+`lint` prints, the blocks of `deps`, the lines of `order`, the statuses, refusals, and what is told of a source after a success. Each mismatch is printed with a small source
 that shows it, which is left in /tmp, and at the end how often each finding was wanted. The status is 1 if something is wrong, in
 the table EXAMPLES or in the program.
 """
@@ -22,7 +22,7 @@ BRANCHES = "RJ JP ZR NZ PL NG MI IR OR DF ID EQ NE GE GT LT LE XJ".split()
 REFUSED = "refused"
 FINDINGS = (r"(?m)^(?:LINE \d+ )?(TOO LONG|TOO MANY LINES|BAD OPERAND|NOT AN INSTRUCTION|IN COLUMN|DIRECTIVE|HAS A BODY|REDEFINES|LOADS CODE"
             "|STORES INTO CODE|JOINS A WORD|COUNTS WORDS|COUNTS LINES)")
-COMMANDS = [["lint"], ["deps"], ["deps", "--cut"], ["order", "--nodes", "0"], ["order", "--nodes", "0", "--cut"]]
+COMMANDS = [["lint"], ["lint", "--cut"], ["deps"], ["deps", "--cut"], ["order", "--nodes", "0"], ["order", "--nodes", "0", "--cut"]]
 
 # Sources, with | in the place of newlines, and for each line c if it is left alone with --cut, o if in any case.
 EXAMPLES = [
@@ -101,17 +101,30 @@ def order_fault(reading, output):
     return "" if printed == wanted + [""] else f"wanted {wanted}"
 
 
+def remark_of(words, text, reading):
+    """What is told of a source after a success."""
+    told = "" if reading.blocks else "no block: an instruction's operation begins in column 3 or later\n"
+    listed = lint_of(text, "--cut" in words)[0].count(b"\n") if words[0] == "order" else 0
+    if listed:
+        lint = "s66 lint --cut" if "--cut" in words else "s66 lint"
+        told += f"{lint} lists {listed} line{'s' * (listed > 1)} that order may harm\n"
+    return told
+
+
 def fault_of(words, text, seen):
     """What is wrong with how a command ended, or nothing."""
     output, status, told = seen
+    cut = "--cut" in words
     if words[0] == "lint":
-        return "" if seen == (*lint_of(text), b"") else f"wanted {lint_of(text)}"
-    reading, output, told = Reading(text, "--cut" in words), output.decode("latin-1"), told.decode("latin-1")
+        return "" if seen == (*lint_of(text, cut), b"") else f"wanted {lint_of(text, cut)}"
+    reading, output, told = Reading(text, cut), output.decode("latin-1"), told.decode("latin-1")
     heads = [f"BLOCK {n} LINE {block[0] + 1} COUNT {len(block)}" for n, block in enumerate(reading.blocks, 1)]
     is_bounded = re.search(r"(?m)^\* BLOCK .* AT LEAST \d+$", output)
     ending = 3 if reading.refusal else 7 if is_bounded else 0, reading.refusal
-    if (status, told.split("\n")[0]) != ending or reading.refusal and output:
+    if (status, told.split("\n")[0] if reading.refusal else "") != ending or reading.refusal and output:
         return f"wanted {ending}"
+    if not reading.refusal and told != remark_of(words, text, reading):
+        return f"wanted {remark_of(words, text, reading)!r}"
     if words[0] == "order" or reading.refusal:
         return "" if reading.refusal else order_fault(reading, output)
     return "" if re.findall(r"(?m)^(BLOCK.*) DEPENDENCES \d+$", output) == heads else f"wanted {heads}"

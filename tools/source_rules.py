@@ -410,8 +410,8 @@ class Findings:
                 yield from self.of_words(at, line)
 
 
-def lint_of(text):
-    """What `lint` prints of a source, and its status."""
+def lint_of(text, cut=False):
+    """What `lint` prints of a source, with or without --cut, and its status."""
     source = Source(text)
     past, source.lines = source.lines[MOST_LINES:], source.lines[:MOST_LINES]
     if past:  # what was found may reach into that line
@@ -419,5 +419,7 @@ def lint_of(text):
     findings = Findings(source)
     told = [" ".join(filter(None, (f"LINE {at + 1}", *found))) for at in range(len(source.lines)) for found in findings.of_line(at)]
     told += [f"LINE {MOST_LINES + 1} TOO LONG"] * any(line.is_long for line in past) + ["TOO MANY LINES"] * bool(past)
-    is_refused = past or any(line.is_refused or line.is_long for line in source.lines)
+    if cut:
+        told = [line for line in told if not line.endswith(" (CUT)")]
+    is_refused = past or any(line.is_long or line.is_refused and not cut for line in source.lines)
     return "".join(line + "\n" for line in told).encode("latin-1"), 5 if is_refused else 8 if told else 0

@@ -4,7 +4,7 @@
     tools/test_rows.py PROGRAM
 
 The rows are the tables of s66_test_program: ROWS of each file of src/rows/, BAD of src/rows/profile.rt, ENDS of src/rows/page.rt,
-REPEATED and ORDERED of src/rows.rt. Blocks that other tests have too are in src/blocks.rt of s66_test_search. Each row that ends otherwise than it says is printed. The status is 1 if there is one.
+REPEATED and ORDERED of src/rows.rt. TOLD of src/rows/remarks.rt is what standard error gets of some of them after a success. Blocks that other tests have too are in src/blocks.rt of s66_test_search. Each row that ends otherwise than it says is printed. The status is 1 if there is one.
 """
 import glob
 import os
@@ -64,25 +64,30 @@ def run(program, words, given):
     return done.returncode, done.stdout, done.stderr
 
 
-def row_fault(program, name, words, given, status, text):
+def told_of(table, name, words):
+    """What is told after a success of the row of this name, by the table TOLD."""
+    return next((told for row, subcommand, told in table if row == name and subcommand in words), "").encode()
+
+
+def row_fault(program, table, name, words, given, status, text):
     """What a row prints otherwise than it says, or nothing."""
-    right = (status, text.encode(), b"") if status in WRITTEN else (status, b"", text.encode())
+    right = (status, text.encode(), told_of(table, name, words)) if status in WRITTEN else (status, b"", text.encode())
     seen = run(program, words, given.encode())
     return "" if seen == right else f"{name}: {' '.join(words)}: {seen}, and not {right}"
 
 
-def order_fault(program, shared, name, given, begin, end, timed):
+def order_fault(program, table, shared, name, given, begin, end, timed):
     """What `order` prints of a block with several best orders otherwise than its row says, or what `time` then prints of that."""
     status, output, told = run(program, shared["ORDER"], given.encode())
-    if (status, told) != (0, b"") or not (output.startswith(begin.encode()) and output.endswith(end.encode())):
+    if (status, told) != (0, told_of(table, name, shared["ORDER"])) or not (output.startswith(begin.encode()) and output.endswith(end.encode())):
         return f"{name}: order: {status, output, told}"
-    return row_fault(program, name, shared["TIME"], output.decode(), 0, timed)
+    return row_fault(program, [], name, shared["TIME"], output.decode(), 0, timed)
 
 
-def page_fault(program, name, words, given, status, ends):
+def page_fault(program, table, name, words, given, status, ends):
     """What a page ends in otherwise than its row says, or nothing."""
     seen = run(program, words, given.encode())
-    is_right = (seen[0], seen[2]) == (status, b"") and seen[1].startswith(b"<!DOCTYPE html>\n") and seen[1].endswith(ends.encode())
+    is_right = (seen[0], seen[2]) == (status, told_of(table, name, words)) and seen[1].startswith(b"<!DOCTYPE html>\n") and seen[1].endswith(ends.encode())
     return "" if is_right else f"{name}: {' '.join(words)}: {seen}, and not {(status, ends)}"
 
 
@@ -94,9 +99,10 @@ def main(arguments):
     shared = constants_of(os.path.join(CRATES, "s66_test_search/src/blocks.rt"), {})
     for name in "running.rt", "rows.rt":
         shared.update(constants_of(os.path.join(SOURCES, name), shared))
-    faults = [row_fault(program, *row) for row in rows_of(shared)]
-    faults += [page_fault(program, *row) for row in constants_of(os.path.join(SOURCES, "rows/page.rt"), shared)["ENDS"]]
-    faults += [order_fault(program, shared, *row) for row in shared["ORDERED"]]
+    told = constants_of(os.path.join(SOURCES, "rows/remarks.rt"), shared)["TOLD"]
+    faults = [row_fault(program, told, *row) for row in rows_of(shared)]
+    faults += [page_fault(program, told, *row) for row in constants_of(os.path.join(SOURCES, "rows/page.rt"), shared)["ENDS"]]
+    faults += [order_fault(program, told, shared, *row) for row in shared["ORDERED"]]
     wrong = list(filter(None, faults))
     print("".join(f"wrong: {fault}\n" for fault in wrong), end="")
     print(f"{len(faults) - len(wrong)} passed, {len(wrong)} failed")

@@ -1,6 +1,9 @@
--- To be believed: what `lint` prints of a source: a line for each finding, in the order of the lines of the source.
-use Rattle.std.specs.Prelude.{◌≡◌, ◌⊎◌, ℕ, suc, Bool, true, false, ◌&&◌, if◌then◌else◌, List, [], ◌∷◌, ◌++◌, codes, decimal, nat_le}
+-- To be believed: what `lint` prints of a source: a line for each finding, in the order of the lines of the source; with `--cut`, those
+-- alone that `--cut` doesn't leave alone.
+use Rattle.std.specs.Prelude.{◌≡◌, ℕ, suc, Bool, true, false, ◌&&◌, not, if◌then◌else◌, List, [], ◌∷◌, ◌++◌, codes, decimal, nat_le}
+use Rattle.s66_isa.specs.Lists.{tally}
 use Rattle.s66_source.specs.declared.limits.TheConstants.{SOURCE_LINES_LIMIT}
+use Rattle.s66_lint.specs.declared.finding.Found.{Found}
 use Rattle.s66_lint.specs.declared.finding.Rule.{Rule}
 use Rattle.s66_lint.specs.declared.finding.Rule.TheVariants.{TooLong, BadOperand, NotAnInstruction, InColumn1, InColumn2, Directive, HasABody, Redefines, LoadsCode, StoresIntoCode, JoinsAWord, CountsWords, CountsLines}
 
@@ -31,32 +34,39 @@ abbrev pub after_blank : List ℕ → List ℕ
 after_blank [] = []
 after_blank (b ∷ word) = 32 ∷ b ∷ word
 
--- what was found in the line of this number, with up to two words of it
-abbrev pub finding_line : ℕ → Rule → List ℕ → List ℕ → List ℕ
-finding_line number rule first second =
-    codes "LINE " ++ decimal number ++ rule_words rule ++ after_blank first ++ after_blank second ++ (if is_cut rule then codes " (CUT)\n" else codes "\n")
+-- what was found in the line of a number, with up to two words of it
+abbrev pub finding_line : Found → List ℕ
+finding_line f =
+    codes "LINE " ++ decimal f.number ++ rule_words f.rule ++ after_blank f.first.now ++ after_blank f.second.now
+    ++ (if is_cut f.rule then codes " (CUT)\n" else codes "\n")
 
--- A LISTING: lines that state findings, of the lines of a source from one on and in their order
+-- it is listed, with `--cut` or without
+abbrev pub is_listed : (cut : Bool) → Found → Bool
+is_listed cut f = not (cut && is_cut f.rule)
 
-pub record Found : Type 0 where
-  pub number : ℕ
-  pub rule : Rule
-  pub first : List ℕ
-  pub second : List ℕ
+-- a line for each that is listed
+abbrev pub listing : (cut : Bool) → List Found → List ℕ
+listing cut [] = []
+listing cut (f ∷ found) = (if is_listed cut f then finding_line f else []) ++ listing cut found
 
-abbrev pub found_lines : List Found → List ℕ
-found_lines [] = []
-found_lines (f ∷ fs) = finding_line f.number f.rule f.first f.second ++ found_lines fs
-
--- of lines from number first to number last
+-- of lines from number first to number last, in their order
 abbrev pub is_in_order : ℕ → ℕ → List Found → Bool
 is_in_order first last [] = nat_le first last
-is_in_order first last (f ∷ fs) = nat_le first f.number && is_in_order f.number last fs
+is_in_order first last (f ∷ found) = nat_le first f.number && is_in_order f.number last found
 
--- the text states some findings, which are in order
-abbrev pub IsListing : ℕ → List ℕ → Type 0
-IsListing last text = (found : List Found) × ((text ≡ found_lines found) × (is_in_order 1 last found ≡ true))
+-- FINDINGS of a source: in the order of its lines, of which none after the first one past the limit is read
+abbrev pub AreFindings : List Found → Type 0
+AreFindings found = is_in_order 1 (suc SOURCE_LINES_LIMIT) found ≡ true
 
--- after them may stand that the source has too many lines
-abbrev pub IsFindings : List ℕ → Type 0
-IsFindings text = (listing : List ℕ) × (IsListing (suc SOURCE_LINES_LIMIT) listing × ((text ≡ listing) ⊎ (text ≡ listing ++ codes "TOO MANY LINES\n")))
+-- what stands last if the source has too many lines
+abbrev pub past_line : (has_more : Bool) → List ℕ
+past_line false = []
+past_line true = codes "TOO MANY LINES\n"
+
+-- the text lists some findings
+abbrev pub IsFindings : (cut : Bool) (text : List ℕ) → Type 0
+IsFindings cut text = (found : List Found) × AreFindings found × ((has_more : Bool) × (text ≡ listing cut found ++ past_line has_more))
+
+-- so many of some findings are listed
+abbrev pub AreCounted : (cut : Bool) (count : ℕ) → Type 0
+AreCounted cut count = (found : List Found) × AreFindings found × (count ≡ tally (is_listed cut) found)

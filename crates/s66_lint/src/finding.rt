@@ -36,3 +36,12 @@ pub(crate) struct Finding<'a> {
     pub(crate) first: &'a [u8],
     pub(crate) second: &'a [u8],
 }
+
+/// What was found in the line of this number, with up to two words of it.
+#[derive(Clone, Copy)]
+pub struct Found<'a> {
+    pub number: u32,
+    pub rule: Rule,
+    pub first: &'a [u8],
+    pub second: &'a [u8],
+}

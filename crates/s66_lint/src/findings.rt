@@ -1,54 +1,101 @@
-ghost use Rattle.std.specs.Prelude.{ℕ, ◌≤◌, suc, IfOk, OnOk};
+ghost use Rattle.std.specs.Prelude.{ℕ, suc, ◌≡◌, ◌≤◌, ◌++◌, true, length, IfOk, OnOk};
 ghost use Rattle.s66_source.specs.declared.limits.TheConstants.{SOURCE_LINES_LIMIT};
-ghost use Rattle.s66_lint.specs.Listing.{IsFindings, IsListing};
+ghost use Rattle.s66_lint.specs.Listing.{AreCounted, AreFindings, IsFindings, is_in_order, past_line};
 
 use crate::deck::{Deck, Lines};
-use crate::finding::{Finding, Rule};
-use crate::listing::push_findings;
+use crate::finding::{Finding, Found, Rule};
+use crate::line::Line;
+use crate::listing::{count_listed, push_listing};
 use crate::rules::Rules;
 use s66_line::LINE_BYTES_LIMIT;
 use s66_source::SOURCE_LINES_LIMIT;
 use std::alloc::{AllocError, Global};
 
-/// That the first line past the limit is too long, if it is, by its length.
-fn push_long(out: &mut Vec<u8>, length: usize) -> Result<(), AllocError>
-    ensures { (last : ℕ) → last ≤ suc SOURCE_LINES_LIMIT → IsListing last out.old.items → OnOk result (IsListing (suc SOURCE_LINES_LIMIT) out.new.items) }
+/// What was found in the line of this number, after what was found in those before it.
+fn push_findings<'a>(
+    all: &mut Vec<Found<'a>>,
+    number: u32,
+    findings: &[Finding<'a>],
+) -> Result<(), AllocError>
+    ensures { (before : ℕ) → before ≤ number → is_in_order 1 before all.old.items ≡ true → OnOk result (is_in_order 1 number all.new.items ≡ true) }
 {
-    if length <= LINE_BYTES_LIMIT {
-        return push_findings(out, SOURCE_LINES_LIMIT + 1, &[]);
+    for finding in findings {
+        all.push(Found {
+            number,
+            rule: finding.rule,
+            first: finding.first,
+            second: finding.second,
+        })?;
     }
+    Ok(())
+}
+
+/// That the first line past the limit is too long, if there is one and it is, by its length.
+fn push_long(all: &mut Vec<Found>, past: Option<usize>) -> Result<(), AllocError>
+    ensures { (before : ℕ) → before ≤ suc SOURCE_LINES_LIMIT → is_in_order 1 before all.old.items ≡ true → OnOk result (AreFindings all.new.items) }
+{
     let too_long = Finding {
         rule: Rule::TooLong,
         first: &[],
         second: &[],
     };
-    push_findings(out, SOURCE_LINES_LIMIT + 1, &[too_long])
+    match past {
+        Some(length) if length > LINE_BYTES_LIMIT => {
+            push_findings(all, SOURCE_LINES_LIMIT + 1, &[too_long])
+        }
+        _ => push_findings(all, SOURCE_LINES_LIMIT + 1, &[]),
+    }
 }
 
-/// What is found in the first line past the limit, by its length, if there is one.
-fn push_past(out: &mut Vec<u8>, past: Option<usize>) -> Result<(), AllocError>
-    ensures { (last : ℕ) → last ≤ suc SOURCE_LINES_LIMIT → IsListing last out.old.items → OnOk result (IsFindings out.new.items) }
+/// All that is found in a source, of which these are the lines up to the limit.
+fn found_in<'a>(
+    alloc: Global,
+    lines: &'a [Line<'a>],
+    past: Option<usize>,
+) -> Result<Vec<Found<'a>>, AllocError>
+    requires { length lines.now ≤ SOURCE_LINES_LIMIT }
+    ensures { IfOk result (λ all. AreFindings all.items) }
 {
-    let Some(length) = past else {
+    let rules = Rules::of(alloc, Deck::of(alloc, lines)?)?;
+    let mut all = Vec::new(alloc);
+    for (at, line) in lines.iter().enumerate() {
+        let found = rules.findings_of(at, line)?;
+        push_findings(&mut all, at as u32 + 1, found.as_slice())?;
+    }
+    push_long(&mut all, past)?;
+    Ok(all)
+}
+
+/// That a source has too many lines, if it has.
+fn push_past(out: &mut Vec<u8>, has_more: bool) -> Result<(), AllocError>
+    ensures { OnOk result (out.new.items ≡ out.old.items ++ past_line has_more) }
+{
+    if !has_more {
         return Ok(());
-    };
-    push_long(out, length)?;
+    }
     out.extend_from_slice(b"TOO MANY LINES\n")
 }
 
 /// A line for each finding in a source, which may be any text, in the order of its lines, and of the first `SOURCE_LINES_LIMIT`
-/// lines alone.
-pub fn findings_in(alloc: Global, text: &[u8]) -> Result<Vec<u8>, AllocError>
-    ensures { IfOk result (λ findings. IsFindings findings.items) }
+/// lines alone. With `cut` those are left out that `--cut` leaves alone.
+pub fn findings_in(alloc: Global, text: &[u8], cut: bool) -> Result<Vec<u8>, AllocError>
+    ensures { IfOk result (λ findings. IsFindings cut findings.items) }
 {
     let letters = text.to_ascii_uppercase(alloc)?;
     let lines = Lines::of(alloc, text, letters.as_slice())?;
-    let rules = Rules::of(alloc, Deck::of(alloc, lines.lines.as_slice())?)?;
+    let all = found_in(alloc, lines.lines.as_slice(), lines.past)?;
     let mut out = Vec::new(alloc);
-    for (at, line) in lines.lines.as_slice().iter().enumerate() {
-        let found = rules.findings_of(at, line)?;
-        push_findings(&mut out, at as u32 + 1, found.as_slice())?;
-    }
-    push_past(&mut out, lines.past)?;
+    push_listing(&mut out, all.as_slice(), cut)?;
+    push_past(&mut out, lines.past.is_some())?;
     Ok(out)
+}
+
+/// How many lines `findings_in` has for a source of `SOURCE_LINES_LIMIT` lines at most.
+pub fn count_findings(alloc: Global, text: &[u8], cut: bool) -> Result<usize, AllocError>
+    ensures { IfOk result (λ count. AreCounted cut count) }
+{
+    let letters = text.to_ascii_uppercase(alloc)?;
+    let lines = Lines::of(alloc, text, letters.as_slice())?;
+    let all = found_in(alloc, lines.lines.as_slice(), lines.past)?;
+    Ok(count_listed(all.as_slice(), cut))
 }

@@ -20,5 +20,5 @@ mod run;
 mod spelling;
 mod word;
 
-pub use finding::Rule;
-pub use findings::findings_in;
+pub use finding::{Found, Rule};
+pub use findings::{count_findings, findings_in};

@@ -1,7 +1,8 @@
-ghost use Rattle.std.specs.Prelude.{◌≡◌, ◌≤◌, ◌++◌, ℕ, codes, if◌then◌else◌, OnOk};
-ghost use Rattle.s66_lint.specs.Listing.{IsListing, after_blank, finding_line, is_cut, rule_words};
+ghost use Rattle.std.specs.Prelude.{◌≡◌, ◌++◌, codes, if◌then◌else◌, OnOk};
+ghost use Rattle.s66_isa.specs.Lists.{tally};
+ghost use Rattle.s66_lint.specs.Listing.{after_blank, finding_line, is_cut, is_listed, listing, rule_words};
 
-use crate::finding::{Finding, Rule};
+use crate::finding::{Found, Rule};
 use s66_device::push_field;
 use std::alloc::AllocError;
 
@@ -53,27 +54,45 @@ fn push_word(out: &mut Vec<u8>, word: &[u8]) -> Result<(), AllocError>
     out.extend_from_slice(word)
 }
 
-/// The line that states what was found in the line of this number.
-fn push_finding(out: &mut Vec<u8>, number: u32, finding: &Finding) -> Result<(), AllocError>
-    ensures { OnOk result (out.new.items ≡ out.old.items ++ finding_line number finding.now.rule finding.now.first.now finding.now.second.now) }
+/// The line that states what was found.
+fn push_found(out: &mut Vec<u8>, found: &Found) -> Result<(), AllocError>
+    ensures { OnOk result (out.new.items ≡ out.old.items ++ finding_line found.now) }
 {
-    push_field(out, b"LINE ", number as usize)?;
-    out.extend_from_slice(words_of(finding.rule))?;
-    push_word(out, finding.first)?;
-    push_word(out, finding.second)?;
-    out.extend_from_slice(ending_of(finding.rule))
+    push_field(out, b"LINE ", found.number as usize)?;
+    out.extend_from_slice(words_of(found.rule))?;
+    push_word(out, found.first)?;
+    push_word(out, found.second)?;
+    out.extend_from_slice(ending_of(found.rule))
 }
 
-/// The lines that state what was found in the line of this number, after what was found in those before it.
-pub(crate) fn push_findings(
-    out: &mut Vec<u8>,
-    number: u32,
-    findings: &[Finding],
-) -> Result<(), AllocError>
-    ensures { (before : ℕ) → before ≤ number → IsListing before out.old.items → OnOk result (IsListing number out.new.items) }
+/// Whether a finding is listed, with `--cut` or without.
+fn is_listed(found: &Found, cut: bool) -> bool
+    ensures { result ≡ is_listed cut found.now }
 {
-    for finding in findings {
-        push_finding(out, number, finding)?;
+    !(cut && is_cut(found.rule))
+}
+
+/// A line for each finding that is listed, with `--cut` or without.
+pub(crate) fn push_listing(out: &mut Vec<u8>, all: &[Found], cut: bool) -> Result<(), AllocError>
+    ensures { OnOk result (out.new.items ≡ out.old.items ++ listing cut all.now) }
+{
+    for found in all {
+        if is_listed(found, cut) {
+            push_found(out, found)?;
+        }
     }
     Ok(())
+}
+
+/// How many findings are listed, with `--cut` or without.
+pub(crate) fn count_listed(all: &[Found], cut: bool) -> usize
+    ensures { result ≡ tally (is_listed cut) all.now }
+{
+    let mut count = 0;
+    for found in all {
+        if is_listed(found, cut) {
+            count += 1;
+        }
+    }
+    count
 }

@@ -1,37 +1,31 @@
 -- To be believed: what is told of how a command ended, or of words that give none, and the status.
-use Rattle.std.specs.Prelude.{◌≡◌, ◌≢◌, ◌⊎◌, ℕ, List, [], ◌++◌, Option, Some, Result, Ok, Err, codes, string_bytes}
+use Rattle.std.specs.Prelude.{◌≡◌, ◌≢◌, ◌⊎◌, ℕ, List, ◌++◌, Option, Result, Ok, Err, codes, string_bytes}
 use Rattle.std.specs.declared.io.ErrorKind.{ErrorKind}
 use Rattle.std.specs.declared.io.ErrorKind.TheVariants as kind
 use Rattle.s66_device.specs.Devices.{IsUntouched, WriteFails, Writer, Writes}
 use Rattle.s66_outcome.specs.declared.outcome.Fault.{Fault}
-use Rattle.s66_outcome.specs.declared.outcome.Fault.TheVariants.{Source, Profile, Memory, Write}
-use Rattle.s66_outcome.specs.declared.outcome.Status.{Status}
+use Rattle.s66_outcome.specs.declared.outcome.Fault.TheVariants.{Memory, Profile, Write}
+use Rattle.s66_outcome.specs.declared.remark.Ended.{Ended}
 use Rattle.s66_command.specs.declared.usage.Usage.{Usage}
 use Rattle.s66_command.specs.declared.usage.Usage.TheVariants.{Help, Bad, OutOfMemory}
 use Rattle.s66_command.specs.Usage.{usage_code}
-use Rattle.s66_profile.specs.Hint.{hint_in_text}
 use Rattle.s66_outcome.specs.Device.{Tells}
+use Rattle.s66_outcome.specs.Hints.{hint_of}
 use Rattle.s66_outcome.specs.Outcome.{fault_code, fault_line, status_code}
+use Rattle.s66_outcome.specs.Remarks.{IsTold, remark_text}
 
 -- the line of a fault was printed, and the status is the fault's
 abbrev pub EndsAt : Fault → Writer → Writer → ℕ → Type 0
 EndsAt fault errors errors' status = Tells errors errors' (fault_line fault ++ codes "\n") × (status ≡ fault_code fault)
 
--- what comes after the line of a fault, by the text of the profile that was asked for: how all refused lines are listed, or what is
--- wrong with the profile
-abbrev pub hint_of : Option (List ℕ) → Fault → List ℕ
-hint_of profile (Source e) = codes "s66 lint lists all such lines\n"
-hint_of (Some text) Profile = hint_in_text text ++ codes "\n"
-hint_of profile fault = []
-
 -- the line of a fault and such a text after it were printed, and the status is the fault's
 abbrev pub EndsWith : List ℕ → Fault → Writer → Writer → ℕ → Type 0
 EndsWith hint fault errors errors' status = Tells errors errors' ((fault_line fault ++ codes "\n") ++ hint) × (status ≡ fault_code fault)
 
--- what the result of a command, which asks for such a profile, leaves of the writer for what goes wrong, and the status; if memory runs
--- out for what is wrong with the profile, that is told in its place
-abbrev pub EndsBy : Option (List ℕ) → Result Status Fault → Writer → Writer → ℕ → Type 0
-EndsBy profile (Ok s) errors errors' status = IsUntouched errors errors' × (status ≡ status_code s)
+-- what the result of a command, which asks for a profile of this text, leaves of standard error, and the status; if memory runs out for
+-- what is wrong with the profile, that is told in its place
+abbrev pub EndsBy : Option (List ℕ) → Result Ended Fault → Writer → Writer → ℕ → Type 0
+EndsBy profile (Ok ended) errors errors' status = IsTold (remark_text ended.remark) errors errors' × (status ≡ status_code ended.status)
 EndsBy profile (Err fault) errors errors' status =
     EndsWith (hint_of profile fault) fault errors errors' status ⊎ ((fault ≡ Profile) × EndsAt Memory errors errors' status)
 

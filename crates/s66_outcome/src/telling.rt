@@ -1,10 +1,14 @@
 ghost use Rattle.std.specs.Prelude.{◌≡◌, ◌-◌, ◌^◌, ◌<◌, ◌++◌, Err, IfOk, codes, option_map, string_bytes};
 ghost use Rattle.s66_profile.specs.Hint.{hint_in_text};
+ghost use Rattle.s66_outcome.specs.Outcome.{fault_line, status_code};
 ghost use Rattle.std.specs.IoError.{error_kind};
 ghost use Rattle.s66_outcome.specs.Device.{Tells};
 ghost use Rattle.s66_outcome.specs.Ends.{EndsAt, EndsBy, EndsWith, LacksWords, ShowsUsage};
+ghost use Rattle.s66_outcome.specs.Remarks.{IsTold, remark_text};
 
+use crate::hint::way_out;
 use crate::outcome::Fault;
+use crate::remark::Ended;
 use s66_command::Usage;
 use s66_device::{Sink, write_all};
 use s66_profile::profile_hint;
@@ -61,13 +65,33 @@ pub fn tell_failure<S: Sink>(
     ensures { EndsBy (option_map (λ text. text.now) profile.entry) (Err fault) (S.seen errors.old) (S.seen errors.new) result }
 {
     match (fault, profile) {
-        (Fault::Source(_), _) => tell_line(errors, fault, b"s66 lint lists all such lines\n"),
         (Fault::Profile, Some(text)) => match hint_line(alloc, text) {
             Ok(hint) => tell_line(errors, fault, hint.as_bytes()),
             Err(_) => tell_fault(errors, Fault::Memory),
         },
-        _ => tell_line(errors, fault, &[]),
+        _ => tell_line(errors, fault, way_out(fault)),
     }
+}
+
+/// Writes a text, if there is one, as far as the writer takes it.
+fn tell_any<S: Sink>(errors: &mut S, text: &[u8])
+    requires { (S.seen errors.old).failures < 2 ^ 64 - 1 }
+    ensures { IsTold text.now (S.seen errors.old) (S.seen errors.new) }
+{
+    match text {
+        [] => {}
+        [_, ..] => tell(errors, text),
+    }
+}
+
+/// Writes what is told of a command that wrote all its text, and returns the status.
+pub fn tell_end<S: Sink>(errors: &mut S, ended: &Ended) -> u8
+    requires { (S.seen errors.old).failures < 2 ^ 64 - 1 }
+    ensures told { IsTold (remark_text ended.now.remark) (S.seen errors.old) (S.seen errors.new) }
+    ensures status { result ≡ status_code ended.now.status }
+{
+    tell_any(errors, ended.remark.text().as_bytes());
+    ended.status.code()
 }
 
 /// Writes the line of a fault, and returns the status.

@@ -40,10 +40,10 @@ full-refused : (command : Command) (most : Option ℕ) (held rest : List ℕ) �
 full-refused command None held rest is full = absurd full
 full-refused command (Some n) held rest (limit, reads) full = (reads, front-refused (is_cut command) held rest (subst (λ k. k ≤ length held) limit full))
 
-pub whole-output : (p : Profile) (command : Command) (most : Option ℕ) (input held text : List ℕ) (status : Status) → IsMost command most → IsKeptInput most input held → IsOutput p command held text status → IsOutput p command input text status
-whole-output p command most input held text status most-is (rest, is, inl none) output =
-    subst (λ i. IsOutput p command i text status) (sym (is ∙ ap (λ r. held ++ r) none ∙ append-nil held)) output
-whole-output p command most input held text status most-is (rest, is, inr full) output =
+-- what is kept is the whole input, if the command writes something for it
+pub kept-whole : (p : Profile) (command : Command) (most : Option ℕ) (input held text : List ℕ) (status : Status) → IsMost command most → IsKeptInput most input held → IsOutput p command held text status → held ≡ input
+kept-whole p command most input held text status most-is (rest, is, inl none) output = sym (is ∙ ap (λ r. held ++ r) none ∙ append-nil held)
+kept-whole p command most input held text status most-is (rest, is, inr full) output =
     let stated = full-refused command most held rest most-is full in
     let known = accepted p command held text status stated.0 output in
     absurd (cc)

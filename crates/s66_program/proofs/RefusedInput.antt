@@ -7,7 +7,7 @@ use Rattle.s66_device.specs.Devices.{IsUntouched, Reader, Writer}
 use Rattle.s66_command.specs.declared.command.Command.{Command}
 use Rattle.s66_outcome.specs.declared.outcome.Fault.{Fault}
 use Rattle.s66_outcome.specs.declared.outcome.Fault.TheVariants as fault
-use Rattle.s66_outcome.specs.declared.outcome.Status.{Status}
+use Rattle.s66_outcome.specs.declared.remark.Ended.{Ended}
 use Rattle.s66_outcome.specs.declared.limits.TheConstants.{FEED_CALLS}
 use Rattle.s66_outcome.specs.Device.{ReadsAll, ReadsSome}
 use Rattle.s66_program.specs.Run.{IsOutcomeUnder, IsRefusal}
@@ -36,11 +36,11 @@ leaves p command reader reader' writer input fault.Memory reads h = (reads-some 
 leaves p command reader reader' writer input fault.Read reads h = absurd h
 leaves p command reader reader' writer input fault.Write reads h = absurd h
 
-pub given : (result : Result Status Fault) (f : Fault) → IsErr result → IsErrAnd result (λ e. e ≡ f) → result ≡ Err f
-given (Ok status) f is which = absurd which
+pub given : {A : Type 0} (result : Result A Fault) (f : Fault) → IsErr result → IsErrAnd result (λ e. e ≡ f) → result ≡ Err f
+given (Ok x) f is which = absurd which
 given (Err e) f is which = ap (λ (x : Fault). Err x) which
 
-pub refused-input : (p : Profile) (command : Command) (reader reader' : Reader) (writer : Writer) (read input : List ℕ) (f : Fault) (result : Result Status Fault) → ReadsAll reader reader' read → input ≡ read → IsRefusal command input f →
+pub refused-input : (p : Profile) (command : Command) (reader reader' : Reader) (writer : Writer) (read input : List ℕ) (f : Fault) (result : Result Ended Fault) → ReadsAll reader reader' read → input ≡ read → IsRefusal command input f →
     IsErr result × IsErrAnd result (λ e. e ≡ f) → IsOutcomeUnder p command reader reader' writer writer result
 refused-input p command reader reader' writer read input f result reads same h is =
     subst (IsOutcomeUnder p command reader reader' writer writer) (sym (given result f is.0 is.1))

@@ -71,6 +71,7 @@ is_cut (Order cut strategy trace keep quiet only profile) = cut
 is_cut (Prove cut strategy only profile) = cut
 is_cut (Sum cut strategy trace only profile) = cut
 is_cut (Compare cut profile) = cut
+is_cut (Lint cut) = cut
 is_cut command = false
 
 -- an input, as a command reads it
@@ -93,7 +94,7 @@ IsOutput p (Page cut strategy only profile) input text status = IsPageOutput str
 IsOutput p (Order cut strategy trace keep quiet only profile) input text status = IsOrderOutput strategy p trace (record { cut = cut; text = input }) text status
 IsOutput p (Prove cut strategy only profile) input text status = IsProveOutput strategy p (record { cut = cut; text = input }) text status
 IsOutput p Check input text status = IsCheckOutput input text status
-IsOutput p (Lint cut) input text status = IsLintOutput input text status
+IsOutput p (Lint cut) input text status = IsLintOutput (record { cut = cut; text = input }) text status
 IsOutput p (Sum cut strategy trace only profile) input text status = IsSumOutput strategy p trace (record { cut = cut; text = input }) text status
 IsOutput p (Compare cut profile) input text status = IsCompareOutput p cut input text status
 

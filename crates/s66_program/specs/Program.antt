@@ -3,18 +3,18 @@ use Rattle.std.specs.Prelude.{◌≡◌, ◌⊎◌, ℕ, List, Result}
 use Rattle.s66_device.specs.Devices.{Reader, Writer}
 use Rattle.s66_command.specs.declared.command.Command.{Command}
 use Rattle.s66_outcome.specs.declared.outcome.Fault.{Fault}
-use Rattle.s66_outcome.specs.declared.outcome.Status.{Status}
+use Rattle.s66_outcome.specs.declared.remark.Ended.{Ended}
 use Rattle.s66_command.specs.declared.usage.Usage.{Usage}
 use Rattle.s66_command.specs.Profile.{profile_text}
 use Rattle.s66_outcome.specs.Ends.{EndsBy, ShowsUsage}
 use Rattle.s66_program.specs.Run.{IsOutcome}
 use Rattle.s66_command.specs.Usage.{Asks, Refuses, Text}
 
--- the words give a command, which was run
+-- the words give a command, which was run, and standard error gets what is told at its end
 abbrev pub RunsCommand : List Text → Reader → Reader → Writer → Writer → Writer → Writer → ℕ → Type 0
 RunsCommand words reader reader' writer writer' errors errors' status =
     (command : Command) × Asks words command
-    × ((result : Result Status Fault) × IsOutcome command reader reader' writer writer' result × EndsBy (profile_text command) result errors errors' status)
+    × ((result : Result Ended Fault) × IsOutcome command reader reader' writer writer' result × EndsBy (profile_text command) result errors errors' status)
 
 -- the words give none, which was printed, and nothing was read
 abbrev pub RefusesWords : List Text → Reader → Reader → Writer → Writer → Writer → Writer → ℕ → Type 0

@@ -12,8 +12,10 @@ use Rattle.s66_command.specs.Profile.{profile_text}
 use Rattle.s66_outcome.specs.declared.outcome.Fault.{Fault}
 use Rattle.s66_outcome.specs.declared.outcome.Fault.TheVariants as fault
 use Rattle.s66_outcome.specs.declared.outcome.Status.{Status}
+use Rattle.s66_outcome.specs.declared.remark.Ended.{Ended}
 use Rattle.s66_outcome.specs.Device.{ReadFails, ReadsAll, ReadsSome}
 use Rattle.s66_program.specs.Output.{IsOutput, IsUnder, profile_asked, reads_documents, reads_source, reads_two, source_in}
+use Rattle.s66_program.specs.Remarks.{IsRemark}
 
 -- the only source of an input is refused, or the first of two
 abbrev pub RefusesSource : Command → List ℕ → SourceError → Type 0
@@ -37,12 +39,13 @@ IsRefusal command input fault.Memory = Unit {0}
 IsRefusal command input fault.Read = ⊥
 IsRefusal command input fault.Write = ⊥
 
--- what a command leaves of its reader and its writer under a profile, by its result; out of memory is Memory and never Source or
--- Document
-abbrev pub IsOutcomeUnder : Profile → Command → Reader → Reader → Writer → Writer → Result Status Fault → Type 0
-IsOutcomeUnder p command reader reader' writer writer' (Ok status) =
+-- what a command leaves of its reader and its writer under a profile, by its result, with what is to be told; out of memory is Memory and
+-- never Source or Document
+abbrev pub IsOutcomeUnder : Profile → Command → Reader → Reader → Writer → Writer → Result Ended Fault → Type 0
+IsOutcomeUnder p command reader reader' writer writer' (Ok ended) =
     (input : List ℕ) × ReadsAll reader reader' input
-    × ((text : List ℕ) × IsOutput p command input text status × Writes writer writer' text)
+    × ((text : List ℕ) × IsOutput p command input text ended.status × Writes writer writer' text)
+    × IsRemark command input ended.remark
 IsOutcomeUnder p command reader reader' writer writer' (Err (fault.Source e)) =
     ((input : List ℕ) × ReadsAll reader reader' input × IsRefusal command input (fault.Source e)) × IsUntouched writer writer'
 IsOutcomeUnder p command reader reader' writer writer' (Err (fault.NewSource e)) =
@@ -70,7 +73,17 @@ IsProfileFault command fault.Read = ⊥
 IsProfileFault command fault.Write = ⊥
 
 -- it runs under the profile that it asks for, or it has none, and then nothing is read
-abbrev pub IsOutcome : Command → Reader → Reader → Writer → Writer → Result Status Fault → Type 0
+abbrev pub IsOutcome : Command → Reader → Reader → Writer → Writer → Result Ended Fault → Type 0
 IsOutcome command reader reader' writer writer' result =
     ((p : Profile) × IsUnder command p × IsOutcomeUnder p command reader reader' writer writer' result)
     ⊎ ((f : Fault) × (result ≡ Err f) × IsProfileFault command f × (reader' ≡ reader) × IsUntouched writer writer')
+
+-- the status alone of one that has written its text
+abbrev pub status_of : Result Ended Fault → Result Status Fault
+status_of (Ok ended) = Ok ended.status
+status_of (Err fault) = Err fault
+
+-- what is to be told is left out
+abbrev pub IsOutcomeUntold : Command → Reader → Reader → Writer → Writer → Result Status Fault → Type 0
+IsOutcomeUntold command reader reader' writer writer' result =
+    (whole : Result Ended Fault) × IsOutcome command reader reader' writer writer' whole × (result ≡ status_of whole)

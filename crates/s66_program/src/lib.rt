@@ -12,6 +12,7 @@ mod output;
 mod page_text;
 mod program;
 mod prove_text;
+mod remark;
 mod run;
 mod sum_text;
 mod why_text;
@@ -28,5 +29,5 @@ pub use s66_command::{
     Command, NODES_DEFAULT, Strategy, Usage, VERSION, WORKERS_DEFAULT, command_of,
 };
 pub use s66_outcome::{
-    FEED_CALLS, FEED_ROOM, Fault, Observer, Progress, Silent, Status, refuse_words,
+    Ended, FEED_CALLS, FEED_ROOM, Fault, Observer, Progress, Remark, Silent, Status, refuse_words,
 };

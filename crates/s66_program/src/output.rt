@@ -1,11 +1,13 @@
 ghost use Rattle.std.specs.Prelude.{◌≡◌, true, IfOk, IfErr, IfSome};
 ghost use Rattle.s66_program.specs.Output.{IsOutput, IsSearchWithin, IsWaitsOutput, IsWithinLimits, is_cut, reads_source};
+ghost use Rattle.s66_program.specs.Remarks.{IsRemark};
 ghost use Rattle.s66_program.specs.Run.{IsRefusal};
 
 use crate::compare_text::compare_output;
 use crate::order_text::order_output;
 use crate::page_text::page_output;
 use crate::prove_text::prove_output;
+use crate::remark::{Finished, remark_of, untold};
 use crate::sum_text::sum_output;
 use crate::why_text::why_output;
 use s66_command::{Command, Strategy};
@@ -18,7 +20,7 @@ use std::sync::Wait;
 use std::thread::Threads;
 
 /// Whether a command reads a source with `--cut`.
-fn is_cut(command: Command) -> bool
+pub(crate) fn is_cut(command: Command) -> bool
     ensures { result ≡ is_cut command.entry }
 {
     match command {
@@ -30,8 +32,9 @@ fn is_cut(command: Command) -> bool
         | Command::Order { cut, .. }
         | Command::Prove { cut, .. }
         | Command::Sum { cut, .. }
+        | Command::Lint { cut }
         | Command::Compare { cut, .. } => cut,
-        Command::Check | Command::Lint { .. } => false,
+        Command::Check => false,
     }
 }
 
@@ -101,42 +104,45 @@ fn output_of<R: AllocGlobal + Threads + Wait + Sync, O: Observer>(
     }
 }
 
-/// What a command that reads a source writes for an input under a profile, or why the input was refused.
+/// What a command that reads a source writes for an input under a profile, and what is told after that, or why the input was refused.
 fn source_output<R: AllocGlobal + Threads + Wait + Sync, O: Observer>(
     rt: &R,
     command: Command,
     profile: &Profile,
     input: &[u8],
     observer: &mut O,
-) -> Result<Output, Fault>
+) -> Result<Finished, Fault>
     requires within { IsWithinLimits command }
     requires reads { reads_source command ≡ true }
-    ensures ok { IfOk result (λ output. IsOutput profile.now command.entry input.now output.text.items output.status) }
+    ensures ok { IfOk result (λ finished. IsOutput profile.now command.entry input.now finished.output.text.items finished.output.status) }
+    ensures remark { IfOk result (λ finished. IsRemark command.entry input.now finished.remark) }
     ensures err { IfErr result (IsRefusal command.entry input.now) }
 {
     let source = read_source_with(rt.alloc(), is_cut(command), input)?;
+    let remark = remark_of(rt.alloc(), command, &source, input)?;
     let output = output_of(rt, command, profile, &source, observer)?;
-    Ok(output)
+    Ok(Finished { output, remark })
 }
 
-/// What a command writes for an input under a profile, or why the input was refused; no other fault than `Source`, `NewSource`,
-/// `NoNewSource`, `Document` and `Memory`. The observer is called as the work goes on, and not at the end.
-pub fn output_for<R: AllocGlobal + Threads + Wait + Sync, O: Observer>(
+/// What a command writes for an input under a profile, and what is told after that, or why the input was refused; no other fault than
+/// `Source`, `NewSource`, `NoNewSource`, `Document` and `Memory`. The observer is called as the work goes on, and not at the end.
+pub(crate) fn output_for<R: AllocGlobal + Threads + Wait + Sync, O: Observer>(
     rt: &R,
     command: Command,
     profile: &Profile,
     input: &[u8],
     observer: &mut O,
-) -> Result<Output, Fault>
+) -> Result<Finished, Fault>
     requires { IsWithinLimits command }
-    ensures ok { IfOk result (λ output. IsOutput profile.now command.entry input.now output.text.items output.status) }
+    ensures ok { IfOk result (λ finished. IsOutput profile.now command.entry input.now finished.output.text.items finished.output.status) }
+    ensures remark { IfOk result (λ finished. IsRemark command.entry input.now finished.remark) }
     ensures err { IfErr result (IsRefusal command.entry input.now) }
 {
     let alloc = rt.alloc();
     match command {
-        Command::Check => Ok(check_output(alloc, input, observer)?),
-        Command::Lint { .. } => Ok(lint_output(alloc, input)?),
-        Command::Compare { cut, .. } => compare_output(alloc, cut, profile, input),
+        Command::Check => Ok(untold(command, check_output(alloc, input, observer)?)),
+        Command::Lint { cut } => Ok(untold(command, lint_output(alloc, input, cut)?)),
+        Command::Compare { cut, .. } => Ok(untold(command, compare_output(alloc, cut, profile, input)?)),
         _ => source_output(rt, command, profile, input, observer),
     }
 }

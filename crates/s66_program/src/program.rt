@@ -4,7 +4,7 @@ ghost use Rattle.s66_program.specs.Program.{IsRun};
 use crate::run::run_observed;
 use s66_command::command_of;
 use s66_device::{Feed, Sink};
-use s66_outcome::{Observer, show_usage, tell_failure};
+use s66_outcome::{Observer, show_usage, tell_end, tell_failure};
 use std::convert::AsStr;
 use std::sync::Wait;
 use std::thread::Threads;
@@ -31,7 +31,7 @@ pub fn run_program<
         Err(usage) => return show_usage(&usage, writer, errors),
     };
     match run_observed(rt, command, reader, writer, observer) {
-        Ok(status) => status.code(),
+        Ok(ended) => tell_end(errors, &ended),
         Err(fault) => tell_failure(rt.alloc(), errors, command.profile_text(), fault),
     }
 }

@@ -1,14 +1,14 @@
 ghost use Rattle.std.specs.Prelude.{true, ◌≡◌, ◌-◌, ◌^◌, ◌<◌, IfOk, IfErr, IfSome};
 ghost use Rattle.s66_program.specs.Output.{IsUnder, IsWithinLimits, reads_source};
 ghost use Rattle.s66_program.specs.declared.limits.TheConstants.{SOURCE_FRONT};
-ghost use Rattle.s66_program.specs.Run.{IsOutcome, IsOutcomeUnder, IsProfileFault};
+ghost use Rattle.s66_program.specs.Run.{IsOutcome, IsOutcomeUnder, IsOutcomeUntold, IsProfileFault};
 
 use crate::limits::SOURCE_FRONT;
 use crate::output::output_for;
 use s66_command::Command;
 use s66_device::{Feed, Sink, write_all};
 use s66_isa::Profile;
-use s66_outcome::{Fault, Observer, Silent, Status, read_all};
+use s66_outcome::{Ended, Fault, Observer, Silent, Status, read_all};
 use s66_profile::read_profile;
 use std::alloc::Global;
 use std::sync::Wait;
@@ -51,18 +51,21 @@ fn run_under<R: AllocGlobal + Threads + Wait + Sync, F: Feed, S: Sink, O: Observ
     reader: &mut F,
     writer: &mut S,
     observer: &mut O,
-) -> Result<Status, Fault>
+) -> Result<Ended, Fault>
     requires within { IsWithinLimits command }
     requires reads { (F.seen reader.old).failures < 2 ^ 64 - 1 }
     requires writes { (S.seen writer.old).failures < 2 ^ 64 - 1 }
     ensures { IsOutcomeUnder profile.now command.entry (F.seen reader.old) (F.seen reader.new) (S.seen writer.old) (S.seen writer.new) result }
 {
     let held = read_all(rt.alloc(), reader, most_kept(command))?;
-    let output = output_for(rt, command, profile, held.as_slice(), observer);
+    let finished = output_for(rt, command, profile, held.as_slice(), observer);
     observer.ended();
-    let output = output?;
-    match write_all(writer, output.text.as_slice()) {
-        Ok(()) => Ok(output.status),
+    let finished = finished?;
+    match write_all(writer, finished.output.text.as_slice()) {
+        Ok(()) => Ok(Ended {
+            status: finished.output.status,
+            remark: finished.remark,
+        }),
         Err(_) => Err(Fault::Write),
     }
 }
@@ -83,20 +86,21 @@ pub fn run_command<R: AllocGlobal + Threads + Wait + Sync, F: Feed, S: Sink>(
     requires within { IsWithinLimits command }
     requires reads { (F.seen reader.old).failures < 2 ^ 64 - 1 }
     requires writes { (S.seen writer.old).failures < 2 ^ 64 - 1 }
-    ensures { IsOutcome command.entry (F.seen reader.old) (F.seen reader.new) (S.seen writer.old) (S.seen writer.new) result }
+    ensures { IsOutcomeUntold command.entry (F.seen reader.old) (F.seen reader.new) (S.seen writer.old) (S.seen writer.new) result }
 {
-    run_observed(rt, command, reader, writer, &mut Silent)
+    let ended = run_observed(rt, command, reader, writer, &mut Silent)?;
+    Ok(ended.status)
 }
 
-/// As `run_command`, with an observer that is called as the work goes on, and when it has ended, before anything is written. What
-/// the observer does changes nothing of what is written and returned. Errors are those of `run_command`.
+/// As `run_command`, and says what is to be told after a success. An observer is called as the work goes on, and when it has ended,
+/// before anything is written. What it does changes nothing of what is written and returned. Errors are those of `run_command`.
 pub fn run_observed<R: AllocGlobal + Threads + Wait + Sync, F: Feed, S: Sink, O: Observer>(
     rt: &R,
     command: Command,
     reader: &mut F,
     writer: &mut S,
     observer: &mut O,
-) -> Result<Status, Fault>
+) -> Result<Ended, Fault>
     requires within { IsWithinLimits command }
     requires reads { (F.seen reader.old).failures < 2 ^ 64 - 1 }
     requires writes { (S.seen writer.old).failures < 2 ^ 64 - 1 }

@@ -1,4 +1,4 @@
-use crate::running::{LINT, ORDER, ORDER_TRACE, TIME, check, run};
+use crate::running::{LINT, ORDER, ORDER_TRACE, TIME, check, check_told, run};
 use s66_test_search::{ONE_LOAD, PACKING_GAP};
 use std::process::Abort;
 use std::sync::Wait;
@@ -12,6 +12,7 @@ mod lint;
 mod order;
 mod page;
 mod profile;
+mod remarks;
 mod sum;
 mod time;
 mod why;
@@ -93,7 +94,7 @@ const REPEATED: &[(&str, &[&str], &str, usize, u8, &str)] = &[
         "*",
         201,
         3,
-        "LINE 1 TOO LONG\ns66 lint lists all such lines\n",
+        "LINE 1 TOO LONG\na line has at most 200 bytes; s66 lint lists all that have more\n",
     ),
     ("201 bytes, listed", LINT, "*", 201, 5, "LINE 1 TOO LONG\n"),
     ("20,000 lines", TIME, "*\n", 20_000, 0, ""),
@@ -103,7 +104,7 @@ const REPEATED: &[(&str, &[&str], &str, usize, u8, &str)] = &[
         "*\n",
         20_001,
         3,
-        "TOO MANY LINES\ns66 lint lists all such lines\n",
+        "TOO MANY LINES\na source has at most 20000 lines\n",
     ),
     ("20,000 lines, listed", LINT, "*\n", 20_000, 0, ""),
     (
@@ -120,16 +121,27 @@ const REPEATED: &[(&str, &[&str], &str, usize, u8, &str)] = &[
         "\n",
         17_039_360,
         3,
-        "TOO MANY LINES\ns66 lint lists all such lines\n",
+        "TOO MANY LINES\na source has at most 20000 lines\n",
     ),
 ];
 
 /// How many instructions a chain has, and what it takes.
 const CHAINS: &[(usize, u32)] = &[(64, 256), (65, 260), (128, 512)];
 
+/// What is told after a success of the row of this name.
+fn told_of(name: &str, words: &[&str]) -> &'static str {
+    for &(row, subcommand, told) in remarks::TOLD {
+        if row == name && words.contains(&subcommand) {
+            return told;
+        }
+    }
+    ""
+}
+
 fn check_rows<R: AllocGlobal + Abort + Threads + Wait + Sync>(rt: &R, rows: &[Row]) {
     for &(name, words, input, status, text) in rows {
-        check(rt, name, words, input.as_bytes(), status, text);
+        let told = told_of(name, words);
+        check_told(rt, name, words, input.as_bytes(), status, text, told);
     }
 }
 
@@ -146,6 +158,7 @@ fn runs_rows(rt: HostRuntime) {
     check_rows(&rt, sum::ROWS);
     check_rows(&rt, compare::ROWS);
     check_rows(&rt, profile::ROWS);
+    check_rows(&rt, remarks::ROWS);
     check_rows(&rt, words::ROWS);
 }
 
@@ -167,7 +180,8 @@ fn orders_rows(rt: HostRuntime) {
     for &(name, input, begins, ends, time) in ORDERED {
         let ran = run(&rt, ORDER, input.as_bytes());
         let written = ran.written.as_slice();
-        assert!(rt; ran.status == 0 && ran.stated.is_empty(), "{name}");
+        let told = told_of(name, ORDER).as_bytes();
+        assert!(rt; ran.status == 0 && ran.stated.as_slice() == told, "{name}");
         assert!(rt;
             written.starts_with(begins.as_bytes()) && written.ends_with(ends.as_bytes()),
             "{name}: {written:?}"
@@ -181,7 +195,8 @@ fn shows_pages(rt: HostRuntime) {
     for &(name, words, input, status, ends) in page::ENDS {
         let ran = run(&rt, words, input.as_bytes());
         let written = ran.written.as_slice();
-        assert!(rt; ran.status == status && ran.stated.is_empty(), "{name}");
+        let told = told_of(name, words).as_bytes();
+        assert!(rt; ran.status == status && ran.stated.as_slice() == told, "{name}");
         assert!(rt;
             written.starts_with(b"<!DOCTYPE html>\n") && written.ends_with(ends.as_bytes()),
             "{name}: {written:?}"
@@ -193,7 +208,8 @@ fn shows_pages(rt: HostRuntime) {
 fn runs_repeated_rows(rt: HostRuntime) {
     for &(name, words, piece, times, status, text) in REPEATED {
         let input = piece.repeat(rt.alloc(), times).expect(&rt, "memory");
-        check(&rt, name, words, input.as_bytes(), status, text);
+        let told = told_of(name, words);
+        check_told(&rt, name, words, input.as_bytes(), status, text, told);
     }
 }
 

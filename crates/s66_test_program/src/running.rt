@@ -68,6 +68,35 @@ pub(crate) fn run<R: AllocGlobal + Threads + Wait + Sync>(
     run_observed(rt, words, &mut OverRead::new(input), &mut Silent)
 }
 
+/// Checks the status, the text that is written if it is 0, 5, 7 or 8, and else goes to standard error, and what is told there after a
+/// success.
+pub(crate) fn check_told<R: AllocGlobal + Abort + Threads + Wait + Sync>(
+    rt: &R,
+    name: &str,
+    words: &[&str],
+    input: &[u8],
+    status: u8,
+    text: &str,
+    told: &str,
+) {
+    let ran = run(rt, words, input);
+    let (written, stated) = match status {
+        0 | 5 | 7 | 8 => (text, told),
+        _ => ("", text),
+    };
+    assert!(rt; ran.status == status, "{name}: {}", ran.status);
+    assert!(rt;
+        ran.written.as_slice() == written.as_bytes(),
+        "{name}: {:?}",
+        ran.written
+    );
+    assert!(rt;
+        ran.stated.as_slice() == stated.as_bytes(),
+        "{name}: {:?}",
+        ran.stated
+    );
+}
+
 /// Checks the status, and the text that is written if it is 0, 5, 7 or 8, and else goes to standard error.
 pub(crate) fn check<R: AllocGlobal + Abort + Threads + Wait + Sync>(
     rt: &R,
@@ -77,14 +106,7 @@ pub(crate) fn check<R: AllocGlobal + Abort + Threads + Wait + Sync>(
     status: u8,
     text: &str,
 ) {
-    let ran = run(rt, words, input);
-    let (wanted, empty) = match status {
-        0 | 5 | 7 | 8 => (&ran.written, &ran.stated),
-        _ => (&ran.stated, &ran.written),
-    };
-    assert!(rt; ran.status == status, "{name}: {}", ran.status);
-    assert!(rt; wanted.as_slice() == text.as_bytes(), "{name}: {wanted:?}");
-    assert!(rt; empty.is_empty(), "{name}: {empty:?}");
+    check_told(rt, name, words, input, status, text, "");
 }
 
 /// The Adler-32 checksum of bytes.

@@ -1,7 +1,7 @@
 -- To be believed: what `lint` writes for a source, which may be any text, and how it ends.
 use Rattle.std.specs.Prelude.{ℕ, ◌≡◌, Bool, true, false, List, [], ◌∷◌, is_err}
 use Rattle.s66_lint.specs.Listing.{IsFindings}
-use Rattle.s66_source.specs.LeftAlone.{plain}
+use Rattle.s66_source.specs.LeftAlone.{Reading}
 use Rattle.s66_source.specs.Source.{source_of}
 use Rattle.s66_outcome.specs.declared.outcome.Status.{Status}
 use Rattle.s66_outcome.specs.declared.outcome.Status.TheVariants.{Done, Denied, Listed}
@@ -12,6 +12,7 @@ lint_status true text = Denied
 lint_status false [] = Done
 lint_status false (b ∷ text) = Listed
 
--- lines of findings in the order of the source's lines, and a status by whether the source is refused without `--cut`
-abbrev pub IsLintOutput : (input text : List ℕ) → Status → Type 0
-IsLintOutput input text status = IsFindings text × (status ≡ lint_status (is_err (source_of (plain input))) text)
+-- lines of findings in the order of the source's lines, with `--cut` of those alone that it doesn't leave alone, and a status by whether
+-- the source is then refused
+abbrev pub IsLintOutput : (source : Reading) (text : List ℕ) → Status → Type 0
+IsLintOutput source text status = IsFindings source.cut text × (status ≡ lint_status (is_err (source_of source)) text)

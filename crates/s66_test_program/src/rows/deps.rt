@@ -59,6 +59,6 @@ pub(crate) const ROWS: &[Row] = &[
         DEPS,
         "  BX1 X2\n  SA1 A1+B1+5\n",
         3,
-        "LINE 2 BAD OPERAND\ns66 lint lists all such lines\n",
+        "LINE 2 BAD OPERAND\ns66 lint lists all such lines, --cut leaves them alone\n",
     ),
 ];

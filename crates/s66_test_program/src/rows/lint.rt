@@ -109,6 +109,6 @@ pub(crate) const ROWS: &[Row] = &[
         &["s66", "lint", "--trace"],
         "",
         2,
-        "error: unexpected argument '--trace' found\n\nUsage: s66 lint < SOURCE\n\nFor more information, try '--help'.\n",
+        "error: unexpected argument '--trace' found\n\nUsage: s66 lint [OPTIONS] < SOURCE\n\nFor more information, try '--help'.\n",
     ),
 ];

@@ -90,6 +90,6 @@ pub(crate) const ROWS: &[Row] = &[
         SUM,
         "  BX1 X2\n  SA1 *+2\n",
         3,
-        "LINE 2 BAD OPERAND\ns66 lint lists all such lines\n",
+        "LINE 2 BAD OPERAND\ns66 lint lists all such lines, --cut leaves them alone\n",
     ),
 ];

@@ -104,7 +104,7 @@ pub(crate) const ROWS: &[Row] = &[
         &["s66", "why", "--block", "1"],
         "  BX1 X2\n  EQ B1,B2,L\n  SA1 *+2\n",
         3,
-        "LINE 3 BAD OPERAND\ns66 lint lists all such lines\n",
+        "LINE 3 BAD OPERAND\ns66 lint lists all such lines, --cut leaves them alone\n",
     ),
     (
         "two blocks, why",

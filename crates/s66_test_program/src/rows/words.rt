@@ -35,14 +35,14 @@ pub(crate) const ROWS: &[Row] = &[
         CHECK,
         "S66 CERTIFICATE 5\n",
         3,
-        "LINE 1 BAD LINE\n",
+        "LINE 1 BAD LINE\ns66 check reads what s66 prove prints\n",
     ),
     (
         "a document that ends",
         CHECK,
         "S66 CERTIFICATE 1\n",
         3,
-        "TRUNCATED\n",
+        "TRUNCATED\ns66 check reads what s66 prove prints\n",
     ),
     (
         "an option of another command",

@@ -1,26 +1,34 @@
-use Rattle.std.proofs.Common.{refl, rules, subst, sym}
+use Rattle.std.proofs.Common.{List, ℕ, refl, rules, subst, sym}
 use Rattle.s66_outcome.specs.Kept.{IsKeptInput}
-use Rattle.s66_program.proofs.KeptInput.{whole-output, whole-refusal}
+use Rattle.s66_program.specs.Output.{IsOutput}
+use Rattle.s66_program.specs.Remarks.{IsRemark}
+use Rattle.s66_program.proofs.KeptInput.{kept-whole, whole-refusal}
 use Rattle.s66_program.proofs.RefusedInput.{refused-input}
 use Rattle.s66_program.proofs.run.run_under.Goals as goal
 
-pub returns-in_err-output : goal.returns-in_err-output
-returns-in_err-output g c =
+pub returns-in_err-finished : goal.returns-in_err-finished
+returns-in_err-finished g c =
     let (input, reads, kept) = c.in_ok-held.ensures.ok in
     let seen = subst (IsKeptInput _ input) (sym c.as_slice.ensures.value) kept in
-    refused-input c.args.profile.now c.args.command _ _ _ input input c.in_err-output.field-0.0 c.from_residual-in_err-output.result
-    reads refl (whole-refusal c.args.command _ input _ c.in_err-output.field-0.0 c.most_kept.ensures seen c.in_err-output.ensures.err) c.from_residual-in_err-output.ensures
+    refused-input c.args.profile.now c.args.command _ _ _ input input c.in_err-finished.field-0.0 c.from_residual-in_err-finished.result
+    reads refl (whole-refusal c.args.command _ input _ c.in_err-finished.field-0.0 c.most_kept.ensures seen c.in_err-finished.ensures.err) c.from_residual-in_err-finished.ensures
 
 pub returns-in-Ok : goal.returns-in-Ok
 returns-in-Ok g c =
+    let p = c.args.profile.now in
     let (input, reads, kept) = c.in_ok-held.ensures.ok in
     let seen = subst (IsKeptInput _ input) (sym c.as_slice.ensures.value) kept in
-    let whole = whole-output c.args.profile.now c.args.command _ input _ _ _ c.most_kept.ensures seen c.in_ok-output.ensures.ok in
-    (input, reads, (_, whole, search rules))
+    let whole = kept-whole p c.args.command _ input _ _ _ c.most_kept.ensures seen c.in_ok-finished.ensures.ok in
+    (
+      input,
+      reads,
+      ((_, subst (λ (i : List ℕ). IsOutput p c.args.command i _ _) whole c.in_ok-finished.ensures.ok, search rules), subst (λ (i : List ℕ). IsRemark c.args.command i _) whole c.in_ok-finished.ensures.remark),
+    )
 
 pub returns : goal.returns
 returns g c =
+    let p = c.args.profile.now in
     let (input, reads, kept) = c.in_ok-held.ensures.ok in
     let seen = subst (IsKeptInput _ input) (sym c.as_slice.ensures.value) kept in
-    let whole = whole-output c.args.profile.now c.args.command _ input _ _ _ c.most_kept.ensures seen c.in_ok-output.ensures.ok in
-    (input, reads, (_, _, whole, search rules))
+    let whole = kept-whole p c.args.command _ input _ _ _ c.most_kept.ensures seen c.in_ok-finished.ensures.ok in
+    (input, reads, (_, _, subst (λ (i : List ℕ). IsOutput p c.args.command i _ _) whole c.in_ok-finished.ensures.ok, search rules))

@@ -1,0 +1,2 @@
+-- Used by examples alone: what `decimal` computes by.
+unfoldable pub use Rattle.std.specs.Fmt.{digits}

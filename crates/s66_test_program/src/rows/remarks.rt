@@ -1,0 +1,175 @@
+use crate::rows::Row;
+use crate::running::{CHECK, DEPS, ORDER, SUM, WHY};
+use s66_test_search::ONE_LOAD;
+
+const NO_BLOCK: &str = "no block: an instruction's operation begins in column 3 or later\n";
+
+/// Two lines that `lint` lists, one of which `--cut` leaves alone.
+const HARMED: &str = "  SA1 A1+B1\n*CALL COMXAMP\n  BX6 X1\n  NZ X1,*-1\n";
+
+/// What standard error gets of rows that succeed: name, subcommand, lines. Of other such rows it gets nothing.
+pub(crate) const TOLD: &[(&str, &str, &str)] = &[
+    ("empty input", "time", NO_BLOCK),
+    ("empty input", "deps", NO_BLOCK),
+    ("empty input", "chart", NO_BLOCK),
+    ("empty input, why", "why", NO_BLOCK),
+    ("empty input, page", "page", NO_BLOCK),
+    ("empty input", "order", NO_BLOCK),
+    ("empty input", "prove", NO_BLOCK),
+    ("empty input", "sum", NO_BLOCK),
+    ("20,000 lines", "time", NO_BLOCK),
+    ("a macro stays as it is", "order", NO_BLOCK),
+    ("words that are counted, between switches", "order", NO_BLOCK),
+    (
+        "words that another processor changes, between switches",
+        "order",
+        NO_BLOCK,
+    ),
+    (
+        "bad operands and continued lines",
+        "order",
+        "s66 lint --cut lists 1 line that order may harm\n",
+    ),
+    (
+        "B0",
+        "order",
+        "s66 lint lists 1 line that order may harm\n",
+    ),
+    ("a comment of 200 bytes", "order", NO_BLOCK),
+    ("no block", "sum", NO_BLOCK),
+    ("no block, with the trace", "sum", NO_BLOCK),
+    (
+        "four blocks",
+        "sum",
+        "s66 lint lists 1 line that order may harm\n",
+    ),
+    (
+        "three alike",
+        "sum",
+        "s66 lint lists 3 lines that order may harm\n",
+    ),
+    (
+        "three alike, what is dominated left out",
+        "sum",
+        "s66 lint lists 3 lines that order may harm\n",
+    ),
+    (
+        "three alike, what any other dominates left out",
+        "sum",
+        "s66 lint lists 3 lines that order may harm\n",
+    ),
+    (
+        "two lines are told",
+        "order",
+        "s66 lint lists 2 lines that order may harm\n",
+    ),
+    (
+        "two lines are told",
+        "--order",
+        "s66 lint lists 2 lines that order may harm\n",
+    ),
+    (
+        "with --cut it is one",
+        "order",
+        "s66 lint --cut lists 1 line that order may harm\n",
+    ),
+    (
+        "one is told of a block that is only bounded",
+        "order",
+        "s66 lint lists 1 line that order may harm\n",
+    ),
+    (
+        "an instruction in column 1",
+        "order",
+        "no block: an instruction's operation begins in column 3 or later\ns66 lint lists 1 line that order may harm\n",
+    ),
+    ("an instruction in column 1", "deps", NO_BLOCK),
+];
+
+pub(crate) const ROWS: &[Row] = &[
+    (
+        "what remains with --cut",
+        &["s66", "lint", "--cut"],
+        HARMED,
+        8,
+        "LINE 4 COUNTS WORDS NZ X1,*-1\n",
+    ),
+    (
+        "nothing remains with --cut",
+        &["s66", "lint", "--cut"],
+        "  IX1 X2*X3\n  DUP 2,1\n  SA4 T\n",
+        0,
+        "",
+    ),
+    (
+        "a line too long remains with --cut",
+        &["s66", "lint", "--cut"],
+        "  IX1 X2*X3\n*         111111111122222222223333333333444444444455555555556666666666777777777788888888889999999999000000000011111111112222222222333333333344444444445555555555666666666677777777778888888888999999999900000000001\n",
+        5,
+        "LINE 2 TOO LONG\n",
+    ),
+    (
+        "two lines are told",
+        ORDER,
+        HARMED,
+        0,
+        "* BLOCK 1 COUNT 2 SOURCE 12 TIME 12 BEST\n*CALL COMXAMP\n          SA1 A1+B1\n          BX6 X1\n  NZ X1,*-1\n",
+    ),
+    (
+        "two lines are told",
+        &["s66", "why", "--order", "--workers", "1"],
+        HARMED,
+        0,
+        "BLOCK 1 LINE 1 TIME 12\n  2 SECOND 1 TO 8 REGISTER X1 BY 1\nPATH 1 2\nLOST FIRST 0 SECOND 7 THIRD 0\n",
+    ),
+    (
+        "none is told of a listing",
+        WHY,
+        HARMED,
+        0,
+        "BLOCK 1 LINE 1 TIME 12\n  2 SECOND 1 TO 8 REGISTER X1 BY 1\nPATH 1 2\nLOST FIRST 0 SECOND 7 THIRD 0\n",
+    ),
+    (
+        "with --cut it is one",
+        &["s66", "order", "--workers", "1", "--cut"],
+        HARMED,
+        0,
+        "* BLOCK 1 COUNT 1 SOURCE 8 TIME 8 BEST\n          SA1 A1+B1\n*CALL COMXAMP\n* BLOCK 2 COUNT 1 SOURCE 4 TIME 4 BEST\n          BX6 X1\n  NZ X1,*-1\n",
+    ),
+    (
+        "one is told of a block that is only bounded",
+        &["s66", "order", "--workers", "1", "--nodes", "9"],
+        "  FX1 X2*X3\n  FX4 X5*X6\n  FX0 X7*X7\n  NZ X1,*-1\n",
+        7,
+        "* BLOCK 1 COUNT 3 SOURCE 22 TIME 22 AT LEAST 17\n          FX1 X2*X3\n          FX4 X5*X6\n          FX0 X7*X7\n  NZ X1,*-1\n",
+    ),
+    (
+        "an instruction in column 1",
+        ORDER,
+        "SA1 A1+B1\n",
+        0,
+        "SA1 A1+B1\n",
+    ),
+    ("an instruction in column 1", DEPS, "SA1 A1+B1\n", 0, ""),
+    (
+        "nothing is told of a refused source",
+        SUM,
+        "  SA1 A1+B1\n  NZ X1,*-1\n  IX1 X2*X3\n",
+        3,
+        "LINE 3 BAD OPERAND\ns66 lint lists all such lines, --cut leaves them alone\n",
+    ),
+    (
+        "a source in the place of certificates",
+        CHECK,
+        ONE_LOAD,
+        3,
+        "LINE 1 BAD LINE\ns66 check reads what s66 prove prints\n",
+    ),
+    (
+        "a source in the place of certificates, without its newline",
+        CHECK,
+        "  SA1 A1+B1",
+        3,
+        "TRUNCATED\ns66 check reads what s66 prove prints\n",
+    ),
+];
