@@ -65,9 +65,9 @@ impl<'a> LoneSearch<'a> {
         })
     }
 
-    /// Searches until `most` splits are made in all, the best order takes no more than `goal` minor cycles, or the search is over. If out
-    /// of memory it stops sooner.
-    pub fn search(&mut self, most: u32, goal: u32)
+    /// Searches until `most` splits are made in all, the best order takes no more than `goal` minor cycles, or the search is over. `Err`
+    /// is out of memory.
+    pub fn search(&mut self, most: u32, goal: u32) -> Result<(), AllocError>
         ensures { GoesOn self.old self.new }
     {
         search_alone(
@@ -77,7 +77,7 @@ impl<'a> LoneSearch<'a> {
             &mut self.marks,
             most,
             goal,
-        );
+        )
     }
 
     /// Offers an order, if there is one: it is the best from then on if it is faster, and is one of the block under the profile. `Err` is
@@ -94,6 +94,13 @@ impl<'a> LoneSearch<'a> {
         ensures { result.now ≡ record { problem = self.now.problem; numbers = self.now.state.best } }
     {
         self.ledger.best_order()
+    }
+
+    /// How many splits it has made.
+    pub fn splits(&self) -> u32
+        ensures { result ≤ self.now.budget }
+    {
+        self.ledger.splits()
     }
 
     /// Whether no legal order takes less than the best one so far. In time linear in the number of nodes.

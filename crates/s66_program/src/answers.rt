@@ -287,7 +287,7 @@ fn plain_order(
         ..strategy.search
     };
     let mut search = LoneSearch::new(alloc, block, profile, options)?;
-    search.search(options.nodes / 2, goal);
+    search.search(options.nodes / 2, goal)?;
     Ok(search.best().duplicate())
 }
 
@@ -316,7 +316,7 @@ fn sought(
         return Ok(best);
     }
     search.offer(Some(&best))?;
-    search.search(strategy.search.nodes, bound);
+    search.search(strategy.search.nodes, bound)?;
     Ok(faster(best, Some(search.best().duplicate())))
 }
 
@@ -454,7 +454,7 @@ pub fn answer_alone(
 {
     let mut search = LoneSearch::new(alloc, block, profile, strategy.search)?;
     let most = strategy.search.nodes;
-    search.search(first_splits(block), 0);
+    search.search(first_splits(block), 0)?;
     if search.is_best() {
         return found_best(alloc, block, profile, search, is_printed, most);
     }
