@@ -57,8 +57,11 @@ def searches():
     for words in (["order", "--trace", "--workers", "2"], ["order", "--workers", "4"], ["sum", "--workers", "16"]):
         yield [*words, "--nodes", "2100"], SEVEN, {7}
     # whole blocks by the workers
-    for words in (["order"], ["sum"], ["prove"], ["page"], ["why", "--order"]):
+    for words in (["order", "--trace"], ["sum", "--trace"], ["prove"], ["page"], ["why", "--order"]):
         yield [*words, "--deep", "--workers", "2"], SOURCE, {0}
+    # blocks of which a search without facts leaves something to be found
+    for words in (["order", "--trace"], ["prove"]):
+        yield [*words, "--deep", "--workers", "2", "--nodes", "300"], SEVEN, {0, 7}
 
 
 def rows():
@@ -113,9 +116,9 @@ class Row:
         self.answers, self.wrong = collections.Counter(), []
         seen, self.counts = runner.run(command, given)
         self.status, self.output, self.told = seen
-        # a worker that ends early, or comes later than another, leaves other names for what is dominated; and where a search lacks
-        # memory for its first splits, facts may show what its tree would have
-        self.varies = command[1:2] == ["prove"] and any("dominate" in word or word == "--deep" for word in command)
+        # a worker that ends early, or comes later than another, leaves other names for what is dominated; with --deep each block is
+        # searched by one thread, and its answer is the same or none
+        self.varies = command[1:2] == ["prove"] and any("dominate" in word for word in command)
         self.meant = self.meaning(seen)
         self.ample = {"ample": lambda seen: self.meaning(seen) == self.meant}
         if self.status not in statuses:

@@ -1,5 +1,5 @@
--- Used by contracts: what stays so of the fastest order that a search has met.
-use Rattle.std.specs.Prelude.{◌≡◌, ◌≤◌}
+-- Used by contracts: what stays so of a search that goes on.
+use Rattle.std.specs.Prelude.{ℕ, ◌≡◌, ◌≤◌}
 use Rattle.s66_model.specs.Timing.{total_of}
 use Rattle.s66_time.specs.TimedOrder.{TimedOrder}
 
@@ -7,3 +7,21 @@ use Rattle.s66_time.specs.TimedOrder.{TimedOrder}
 pub record IsNoSlower (old new : TimedOrder) : Type 0 where
   pub problem : new.problem ≡ old.problem
   pub total : total_of new.problem new.numbers ≤ total_of old.problem old.numbers
+
+-- the fastest order that a search has met, how many splits it has made, and the most
+pub record Searching : Type 0 where
+  pub best : TimedOrder
+  pub splits : ℕ
+  pub most : ℕ
+
+-- without a split
+pub record Looks (old new : Searching) : Type 0 where
+  pub best : IsNoSlower old.best new.best
+  pub splits : new.splits ≡ old.splits
+  pub most : new.most ≡ old.most
+
+-- with no more splits than it may make
+pub record GoesOn (old new : Searching) : Type 0 where
+  pub best : IsNoSlower old.best new.best
+  pub splits : old.splits ≤ old.most → new.splits ≤ old.most
+  pub most : new.most ≡ old.most

@@ -81,11 +81,11 @@ struct Search<'a> {
 
 impl<'a> Model for Search<'a> {
     ghost use Rattle.std.specs.Prelude.{◌≡◌};
-    ghost use Rattle.s66_time.specs.TimedOrder.{TimedOrder};
+    ghost use Rattle.s66_branch.specs.Branching.{Searching};
 
-    ghost Value = { TimedOrder };
+    ghost Value = { Searching };
 
-    ghost view = { λ s. s.best };
+    ghost view = { λ s. record { best = s.best; splits = s.splits; most = s.most } };
 
     ghost invariant = { λ s. s.trail ≡ s.best.problem };
 }
@@ -104,9 +104,9 @@ fn keep_faster(prefix: &Prefix<'_>, best: &mut Timed)
 }
 
 impl<'a> Search<'a> {
-    ghost use Rattle.std.specs.Prelude.{◌≡◌, ◌≤◌};
+    ghost use Rattle.std.specs.Prelude.{◌≡◌, ◌≤◌, ◌<◌};
     ghost use Rattle.s66_isa.specs.declared.limits.TheConstants.{BLOCK_LIMIT};
-    ghost use Rattle.s66_branch.specs.Branching.{IsNoSlower};
+    ghost use Rattle.s66_branch.specs.Branching.{GoesOn, Looks};
 
     /// The prefix at which the trail is, as that of a node: the place in its word of its next parcel, and its floor.
     fn sought(&self, node: u32, place: u8, floor: u32) -> Sought {
@@ -143,7 +143,7 @@ impl<'a> Search<'a> {
     /// Finds what the prefix of a new node is, whose next parcel has this place in its word, and keeps it if it is open. A whole order that
     /// is faster is the best from then on.
     fn look(&mut self, node: u32, place: u8) -> Result<Found, AllocError>
-        ensures { IsNoSlower self.old self.new }
+        ensures { Looks self.old self.new }
     {
         if self.trail.prefix.is_complete() {
             keep_faster(&self.trail.prefix, &mut self.best);
@@ -165,7 +165,7 @@ impl<'a> Search<'a> {
     /// Adds the child of a node with a number that is ready, to which the trail goes and back, and returns whether it could. The place is
     /// that of the child's next parcel in its word.
     fn add_child(&mut self, parent: u32, place: u8, n: u8) -> Result<bool, AllocError>
-        ensures { IsNoSlower self.old self.new }
+        ensures { Looks self.old self.new }
     {
         let index = self.nodes.len();
         let missing = self.missing_before(n);
@@ -198,7 +198,8 @@ impl<'a> Search<'a> {
 
     /// Adds the children of a node, at which the trail is, and returns whether it could. Its next parcel has this place in its word.
     fn split(&mut self, node: u32, place: u8) -> Result<bool, AllocError>
-        ensures { IsNoSlower self.old self.new }
+        requires { self.old.splits < self.old.most }
+        ensures { GoesOn self.old self.new }
     {
         let first = self.nodes.len();
         let ready = self.trail.prefix.ready().numbers();
@@ -216,7 +217,7 @@ impl<'a> Search<'a> {
 
     /// What closes an open node at which the trail is, if anything does now: a prefix that was met since then and dominates it, or a load.
     fn closed(&mut self, sought: &Sought) -> Option<Fate>
-        ensures { IsNoSlower self.old self.new }
+        ensures { Looks self.old self.new }
     {
         if let Some(fate) = self.dominated(sought) {
             return Some(fate);
@@ -230,7 +231,8 @@ impl<'a> Search<'a> {
 
     /// Splits an open node, unless something closes it now, and returns whether it could.
     fn take(&mut self, next: &Next) -> Result<bool, AllocError>
-        ensures { IsNoSlower self.old self.new }
+        requires { self.old.splits < self.old.most }
+        ensures { GoesOn self.old self.new }
     {
         let Some(own) = self.nodes.at(next.node) else {
             return Ok(false);
@@ -254,7 +256,7 @@ impl<'a> Search<'a> {
     /// Goes on until no open node's floor is so low that a faster order may begin so, an order is enough, or all splits are made. What
     /// each order takes at least then, in minor cycles.
     fn run(&mut self) -> Result<u32, AllocError>
-        ensures { IsNoSlower self.old self.new }
+        ensures { GoesOn self.old self.new }
     {
         let looks = LOOKS * (u64::from(self.most) + 1);
         let mut bound = 0;
@@ -275,7 +277,7 @@ impl<'a> Search<'a> {
 
     /// Opens the root.
     fn open_root(&mut self) -> Result<(), AllocError>
-        ensures { IsNoSlower self.old self.new }
+        ensures { Looks self.old self.new }
     {
         if let Found::IsOpen(floor) = self.look(ROOT, 0)? {
             self.open.push(ROOT, 0, floor)?;
@@ -310,6 +312,7 @@ pub fn branch(
     requires { best.problem ≡ record { block = instrs_of block.now; profile = profile.now } }
     ensures problem { IfOk result (λ branched. branched.best.problem ≡ best.problem) }
     ensures total { IfOk result (λ branched. total_of branched.best.problem branched.best.numbers ≤ total_of best.problem best.numbers) }
+    ensures splits { IfOk result (λ branched. branched.splits ≤ limits.splits) }
 {
     let known = Known::new(block, profile, facts);
     let mut search = Search {

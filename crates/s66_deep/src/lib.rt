@@ -9,5 +9,5 @@ mod ranges;
 mod search;
 mod trees;
 
-pub use look::{Looked, look_at};
+pub use look::{Look, Looked, look_at};
 pub use orders::faster;

@@ -1,4 +1,4 @@
-ghost use Rattle.std.specs.Prelude.{◌≡◌, ◌≤◌, IfOk, IfSome, length};
+ghost use Rattle.std.specs.Prelude.{◌≡◌, ◌≤◌, ◌+◌, ◌/◌, IfOk, IfSome, length};
 ghost use Rattle.s66_isa.specs.declared.limits.TheConstants.{BLOCK_LIMIT};
 ghost use Rattle.s66_line.specs.Block.{instrs_of};
 ghost use Rattle.s66_model.specs.Answer.{source_time};
@@ -36,6 +36,15 @@ pub struct Looked {
     pub splits: u32,
 }
 
+/// What a look at a block came to.
+#[derive(Drop)]
+pub struct Look {
+    /// What is found, if a certificate may have it.
+    pub found: Option<Looked>,
+    /// How many splits were made for it.
+    pub splits: u32,
+}
+
 /// The instructions of a block.
 fn instrs_of(block: &Block) -> ArrayVec<Instr, BLOCK_LIMIT>
     ensures { length result.items ≤ BLOCK_LIMIT }
@@ -63,7 +72,10 @@ fn fitting(looked: Looked, most: u32) -> Option<Looked>
 
 /// What is found of a block under a profile beyond an order of it that was found before: the best of this, the source order, and what
 /// beams and searches find that know facts; and fact lines and a tree of at most so many splits, by which a certificate can show a
-/// bound, as great as may be. Whether the lines show the bound is for a checker to say. `None` if a certificate may not have them.
+/// bound, as great as may be. For that at most half as many more are made. Whether the lines show the bound is for a checker to say.
+///
+/// If the lines are to be printed, those are left out that the bound doesn't need if a single leaf shows it; which these are takes time
+/// to find out.
 ///
 /// `Err` is out of memory.
 pub fn look_at(
@@ -73,9 +85,10 @@ pub fn look_at(
     first: &Timed,
     most: u32,
     is_printed: bool,
-) -> Result<Option<Looked>, AllocError>
+) -> Result<Look, AllocError>
     requires { first.now.problem ≡ record { block = instrs_of block.now; profile = profile.now } }
-    ensures { IfOk result (λ looked. IfSome looked (IsLooked (record { block = instrs_of block.now; profile = profile.now }) most)) }
+    ensures found { IfOk result (λ look. IfSome look.found (IsLooked (record { block = instrs_of block.now; profile = profile.now }) most)) }
+    ensures splits { IfOk result (λ look. look.splits ≤ most + most / 2) }
 {
     let written = source_order(block, profile);
     let source = written.total();
@@ -83,7 +96,11 @@ pub fn look_at(
     let mut finder = Finder::new(alloc, instrs_of(block).as_slice(), profile)?;
     finder.find_loads()?;
     let best = best_by_beams(alloc, block, profile, &finder, best)?;
-    let Searched { best, shown } = search(alloc, block, profile, &finder, best, most)?;
+    let Searched {
+        best,
+        shown,
+        splits: made,
+    } = search(alloc, block, profile, &finder, best, most)?;
     let Written {
         bound,
         lines,
@@ -98,5 +115,8 @@ pub fn look_at(
         tree,
         splits,
     };
-    Ok(fitting(looked, most))
+    Ok(Look {
+        found: fitting(looked, most),
+        splits: made,
+    })
 }

@@ -1,6 +1,6 @@
 //! What trees show beyond fact lines.
 
-ghost use Rattle.std.specs.Prelude.{◌≡◌, IfOk};
+ghost use Rattle.std.specs.Prelude.{◌≡◌, ◌≤◌, ◌+◌, ◌/◌, IfOk};
 ghost use Rattle.s66_line.specs.Block.{instrs_of};
 ghost use Rattle.s66_model.specs.Timing.{Problem};
 ghost use Rattle.s66_deep.specs.Orders.{IsGood};
@@ -40,11 +40,12 @@ pub(crate) enum Shown {
     ByTree(Written),
 }
 
-/// The best order, and what may be shown of all.
+/// The best order, what may be shown of all, and how many splits were made for both.
 #[derive(Drop)]
 pub(crate) struct Searched {
     pub(crate) best: Timed,
     pub(crate) shown: Shown,
+    pub(crate) splits: u32,
 }
 
 /// What a search of so many splits found: the best order, and what its tree shows, if it has one.
@@ -55,7 +56,7 @@ struct Tried {
     shown: Option<Written>,
 }
 
-/// The finder of a bound, without lines that the bound doesn't need if they are printed.
+/// The finder of a bound. If its lines are to be printed, it has only those that the bound needs.
 fn for_print(bound: Bound, is_printed: bool) -> Result<Finder, AllocError> {
     if is_printed {
         bound.finder.needed(bound.value)
@@ -127,7 +128,8 @@ fn search_below(
     splits: u32,
 ) -> Result<Tried, AllocError>
     requires { IsGood (record { block = instrs_of block.now; profile = profile.now }) best }
-    ensures { IfOk result (λ tried. IsGood (record { block = instrs_of block.now; profile = profile.now }) tried.best) }
+    ensures best { IfOk result (λ tried. IsGood (record { block = instrs_of block.now; profile = profile.now }) tried.best) }
+    ensures splits { IfOk result (λ tried. tried.splits ≤ splits) }
 {
     let limits = Limits {
         below: limit,
@@ -172,7 +174,8 @@ fn try_above(
     splits: u32,
 ) -> Result<Tried, AllocError>
     requires { IsGood (record { block = instrs_of block.now; profile = profile.now }) best }
-    ensures { IfOk result (λ tried. IsGood (record { block = instrs_of block.now; profile = profile.now }) tried.best) }
+    ensures best { IfOk result (λ tried. IsGood (record { block = instrs_of block.now; profile = profile.now }) tried.best) }
+    ensures splits { IfOk result (λ tried. tried.splits ≤ splits) }
 {
     let limit = bound.saturating_add(1);
     let below = found_below(finder, limit)?;
@@ -189,7 +192,7 @@ fn try_above(
 }
 
 /// Raises what is shown of all orders, one minor cycle after the other, each by the fact lines of orders that take less than what is to
-/// be shown, until an order takes no more, or so many splits are made.
+/// be shown, until an order takes no more, or so many more splits are made.
 fn raise(
     alloc: Global,
     block: &Block,
@@ -199,27 +202,35 @@ fn raise(
     most: u32,
 ) -> Result<Searched, AllocError>
     requires { IsGood (record { block = instrs_of block.now; profile = profile.now }) searched.best }
-    ensures { IfOk result (λ searched. IsGood (record { block = instrs_of block.now; profile = profile.now }) searched.best) }
+    ensures best { IfOk result (λ raised. IsGood (record { block = instrs_of block.now; profile = profile.now }) raised.best) }
+    ensures splits { IfOk result (λ raised. raised.splits ≤ searched.splits + most) }
 {
     let Searched {
         mut best,
         mut shown,
+        splits,
     } = searched;
-    let mut left = most;
+    let mut made = 0u32;
     for _ in 0..RAISES_LIMIT {
         let bound = shown.bound();
         if best.total() <= bound {
             break;
         }
+        let left = most.saturating_sub(made);
         let tried = try_above(alloc, block, profile, finder, best, bound, left)?;
         best = tried.best;
-        left = left.saturating_sub(tried.splits);
+        made = made.saturating_add(tried.splits);
         shown = shown.or_more(tried.shown);
         if shown.bound() <= bound {
             break;
         }
     }
-    Ok(Searched { best, shown })
+    let splits = splits.saturating_add(made);
+    Ok(Searched {
+        best,
+        shown,
+        splits,
+    })
 }
 
 /// The best order that is found, and what shows that none takes less, or how little less: fact lines and a leaf, or a tree of at most
@@ -233,19 +244,28 @@ pub(crate) fn search(
     most: u32,
 ) -> Result<Searched, AllocError>
     requires { IsGood (record { block = instrs_of block.now; profile = profile.now }) best }
-    ensures { IfOk result (λ searched. IsGood (record { block = instrs_of block.now; profile = profile.now }) searched.best) }
+    ensures best { IfOk result (λ searched. IsGood (record { block = instrs_of block.now; profile = profile.now }) searched.best) }
+    ensures splits { IfOk result (λ searched. searched.splits ≤ most + most / 2) }
 {
     let lined = best_by_lines(alloc, block, profile, finder, BEAM_WIDTH, best)?;
     let Halved { best, below, bound } = halve(alloc, block, profile, lined)?;
     let shown = Shown::ByLeaf(bound);
     if best.total() <= shown.bound() {
-        return Ok(Searched { best, shown });
+        return Ok(Searched {
+            best,
+            shown,
+            splits: 0,
+        });
     }
     let lined = best_by_lines(alloc, block, profile, &below, WIDE_WIDTH, best)?;
     let Lined { best, below: lines } = lined;
     let time = best.total();
     if time <= shown.bound() {
-        return Ok(Searched { best, shown });
+        return Ok(Searched {
+            best,
+            shown,
+            splits: 0,
+        });
     }
     let tried = search_below(
         alloc,
@@ -260,6 +280,7 @@ pub(crate) fn search(
     let searched = Searched {
         best: tried.best,
         shown: shown.or_more(tried.shown),
+        splits: tried.splits,
     };
     raise(alloc, block, profile, &below, searched, most / 2)
 }

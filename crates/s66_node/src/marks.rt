@@ -57,6 +57,8 @@ pub struct Marks<'a> {
     chains: Chains,
     /// Room for the mark of a prefix that is looked for or kept.
     room: Mark,
+    /// Whether memory has run out for a mark.
+    lacks_memory: bool,
 }
 
 impl<'a> Model for Marks<'a> {
@@ -290,7 +292,13 @@ impl<'a> Marks<'a> {
             unsettled: Vec::new(alloc),
             chains: Chains::new(alloc),
             room: Mark::blank(),
+            lacks_memory: false,
         }
+    }
+
+    /// Whether memory has run out for a mark, so that a search goes on otherwise than it does with enough.
+    pub fn lacks_memory(&self) -> bool {
+        self.lacks_memory
     }
 
     /// Forgets all marks, and keeps the memory.
@@ -443,7 +451,8 @@ impl<'a> Marks<'a> {
         if rule == Rule::ClampedStanding && stay >= LIST_LIMIT {
             return;
         }
-        let _ = self.keep(entry, place);
+        let is_kept = self.keep(entry, place).is_ok();
+        self.lacks_memory = self.lacks_memory | !is_kept;
     }
 
     /// Takes the last entry out, with the node that it is. Before the table is empty, `find` may miss entries that are left.

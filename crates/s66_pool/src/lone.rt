@@ -21,6 +21,14 @@ pub struct LoneSearch<'a> {
     marks: Marks<'a>,
 }
 
+/// `Err` if memory has run out for a mark.
+fn all_kept(marks: &Marks<'_>) -> Result<(), AllocError> {
+    if marks.lacks_memory() {
+        return Err(AllocError);
+    }
+    Ok(())
+}
+
 impl<'a> Model for LoneSearch<'a> {
     ghost use Rattle.s66_ledger.specs.Ledgers.{LedgerOf};
     ghost use Rattle.s66_pool.specs.Workers.{IsLone};
@@ -65,9 +73,9 @@ impl<'a> LoneSearch<'a> {
         })
     }
 
-    /// Searches until `most` splits are made in all, the best order takes no more than `goal` minor cycles, or the search is over. If out
-    /// of memory it stops sooner.
-    pub fn search(&mut self, most: u32, goal: u32)
+    /// Searches until `most` splits are made in all, the best order takes no more than `goal` minor cycles, or the search is over. `Err`
+    /// is out of memory, also for a mark: so what it does never depends on how much memory there is.
+    pub fn search(&mut self, most: u32, goal: u32) -> Result<(), AllocError>
         ensures { GoesOn self.old self.new }
     {
         search_alone(
@@ -77,7 +85,8 @@ impl<'a> LoneSearch<'a> {
             &mut self.marks,
             most,
             goal,
-        );
+        )?;
+        all_kept(&self.marks)
     }
 
     /// Offers an order, if there is one: it is the best from then on if it is faster, and is one of the block under the profile. `Err` is
@@ -94,6 +103,13 @@ impl<'a> LoneSearch<'a> {
         ensures { result.now ≡ record { problem = self.now.problem; numbers = self.now.state.best } }
     {
         self.ledger.best_order()
+    }
+
+    /// How many splits it has made.
+    pub fn splits(&self) -> u32
+        ensures { result ≤ self.now.budget }
+    {
+        self.ledger.splits()
     }
 
     /// Whether no legal order takes less than the best one so far. In time linear in the number of nodes.
@@ -117,6 +133,8 @@ impl<'a> LoneSearch<'a> {
             ledger,
             mut marks,
         } = self;
-        ledger.finish_with(alloc, &mut walk, &mut marks)
+        let answer = ledger.finish_with(alloc, &mut walk, &mut marks)?;
+        all_kept(&marks)?;
+        Ok(answer)
     }
 }

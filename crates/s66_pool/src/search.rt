@@ -172,7 +172,7 @@ pub fn run_from<R: AllocGlobal + Threads + Wait + Sync, G: Gate + Sync>(
     offer_schedules(&mut ledger, &mut walk)?;
     offer_first(&mut ledger, first)?;
     let mut marks = Marks::new(alloc, block, profile);
-    search_alone(alloc, &mut ledger, &mut walk, &mut marks, FIRST_SPLITS, 0);
+    search_alone(alloc, &mut ledger, &mut walk, &mut marks, FIRST_SPLITS, 0)?;
     let rule = options.rule;
     let ledger = search_by_workers(rt, ledger, block, profile, rule, gate, &mut marks)?;
     ledger.finish_with(alloc, &mut walk, &mut marks)

@@ -1,5 +1,5 @@
 -- What facts show is an answer to the block.
-use Rattle.std.proofs.Common.{ℕ, ◌≡◌, ◌≤◌, ◌∙◌, List, length, true, ap, arith, inr, refl, subst, sym}
+use Rattle.std.proofs.Common.{ℕ, ◌*◌, ◌≡◌, ◌≤◌, ◌∙◌, List, length, true, ap, arith, inr, refl, subst, sym}
 use Rattle.std.specs.Option.{is_some}
 use Rattle.s66_isa.specs.declared.limits.TheConstants.{BLOCK_LIMIT}
 use Rattle.s66_isa.specs.declared.instr.Instr.{Instr}
@@ -40,8 +40,8 @@ module _ (strategy : Strategy) (p : Profile) (block : Block) (c : Candidate) (l 
   same-document =
       subst (λ (d : Parts). document_of d ≡ document_under strategy.search.rule p block (claimed_by d s.splits)) (sym shown.document) refl
 
-  pub shown-claimed : strategy.deep ≡ true → IsCandidate p block c → IsEnough strategy.search (problem_of p block) (claimed s) → IsClaimed strategy p block s
-  shown-claimed deep is enough =
+  pub shown-claimed : strategy.deep ≡ true → IsCandidate p block c → IsEnough strategy.search (problem_of p block) (claimed s) → 2 * s.splits ≤ 7 * strategy.search.nodes → IsClaimed strategy p block s
+  shown-claimed deep is enough few =
       let back : parts_by p block c.order.numbers c.time l ≡ s.document = sym shown.document in
       let whole : c.order ≡ record { block = instrs_of block; numbers = c.order.numbers } = ap (λ (instrs : List Instr). record { block = instrs; numbers = c.order.numbers }) is.of_block in
       record {
@@ -56,6 +56,7 @@ module _ (strategy : Strategy) (p : Profile) (block : Block) (c : Candidate) (l 
             source = subst (λ (d : Parts). d.time ≤ source_time (problem_of p block)) back is.within;
             first = subst (λ (d : Parts). source_time (problem_of p block) ≡ d.time → d.numbers ≡ numbers (instrs_of block)) back is.first;
             enough = enough;
+            few = few;
           },
         );
         document = same-document;

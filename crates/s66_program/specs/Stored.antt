@@ -1,5 +1,5 @@
 -- Used by contracts within the crate alone: an answer as code stores it.
-use Rattle.std.specs.Prelude.{ℕ, ◌≡◌, ◌≤◌, ◌⊎◌, List, Some, length}
+use Rattle.std.specs.Prelude.{ℕ, ◌*◌, ◌≡◌, ◌≤◌, ◌⊎◌, false, List, Some, length}
 use Rattle.s66_isa.specs.declared.limits.TheConstants.{BLOCK_LIMIT}
 use Rattle.s66_isa.specs.Table.{entries}
 use Rattle.s66_isa.specs.declared.profile.Profile.{Profile}
@@ -21,12 +21,16 @@ use Rattle.s66_program.specs.declared.answers.Found.TheVariants.{Searched, Shown
 use Rattle.s66_program.specs.declared.answers.ByFacts.{ByFacts}
 use Rattle.s66_program.specs.declared.answers.Candidate.{Candidate}
 use Rattle.s66_program.specs.declared.documents.Shows.{Shows}
-use Rattle.s66_text.specs.Answers.{Answer, IsAnswer, document_under, problem_of, searched, texts_of}
+use Rattle.s66_text.specs.Answers.{Answer, AreAll, IsAnswer, document_under, problem_of, searched, texts_of}
 
 -- A SEARCH of the block's orders for an answer
 
 abbrev pub IsSearchOf : Strategy → Profile → Block → LedgerOf → Type 0
 IsSearchOf strategy p block l = (l.rule ≡ strategy.search.rule) × (l.problem ≡ problem_of p block) × (l.budget ≡ strategy.search.nodes)
+
+-- splits that other searches made beside it
+abbrev pub AreBeside : Strategy → ℕ → Type 0
+AreBeside strategy n = (2 * n ≤ 5 * strategy.search.nodes) × (strategy.deep ≡ false → n ≡ 0)
 
 -- FACT LINES
 
@@ -66,7 +70,7 @@ abbrev pub claimed : ByFacts → Answer
 claimed s = claimed_by s.document s.splits
 
 abbrev pub answer_in : Found → Answer
-answer_in (Searched found) = searched (answer_of found)
+answer_in (Searched s) = record (searched (answer_of s.answer)) { splits = s.splits }
 answer_in (Shown s) = claimed s
 
 -- of this candidate, with a document that passes the checker by these lines
@@ -84,14 +88,15 @@ pub record IsClaimed (strategy : Strategy) (p : Profile) (block : Block) (s : By
   pub order : s.order ≡ record { block = instrs_of block; numbers = s.document.numbers }
   pub source : s.source ≡ source_time (problem_of p block)
 
--- of this block
+-- of a search of this block
+abbrev pub IsFound : Strategy → Profile → Block → AnswerOf → Type 0
+IsFound strategy p block found = (found.rule ≡ strategy.search.rule) × (found.problem ≡ problem_of p block) × (found.budget ≡ strategy.search.nodes)
+
 abbrev pub IsFor : Strategy → Profile → Block → Found → Type 0
-IsFor strategy p block (Searched found) =
-    (found.rule ≡ strategy.search.rule) × (found.problem ≡ problem_of p block) × (found.budget ≡ strategy.search.nodes)
+IsFor strategy p block (Searched s) = IsFound strategy p block s.answer × AreAll strategy (answer_of s.answer).splits s.splits
 IsFor strategy p block (Shown s) = IsClaimed strategy p block s
 
--- facts show that the answer's order is best, by a tree of n splits, or as much of the answer as its search did
-abbrev pub IsWorth : (nodes : ℕ) → AnswerOf → (n : ℕ) → Shows → Type 0
-IsWorth nodes found n l =
-    ((l.bound ≡ (answer_of found).time) × (n ≡ splits (tree_of_lines l.tree)) × (n ≤ nodes))
-    ⊎ (((answer_of found).bound ≤ l.bound) × (n ≡ (answer_of found).splits))
+-- facts show that the answer's order is best, by a tree of no more splits than a search may have, or as much of the answer as its
+-- search did
+abbrev pub IsWorth : (nodes : ℕ) → AnswerOf → Shows → Type 0
+IsWorth nodes found l = ((l.bound ≡ (answer_of found).time) × (splits (tree_of_lines l.tree) ≤ nodes)) ⊎ ((answer_of found).bound ≤ l.bound)

@@ -1,22 +1,21 @@
 //! What is answered for a block.
 
-ghost use Rattle.std.specs.Prelude.{◌≡◌, ◌≤◌, true, IfOk, IfSome};
-ghost use Rattle.s66_line.specs.Block.{instrs_of};
+ghost use Rattle.std.specs.Prelude.{◌≡◌, ◌≤◌, ◌+◌, ◌/◌, true, IfOk, IfSome};
+ghost use Rattle.s66_line.specs.Block.{instrs_of, Block as BlockOf};
 ghost use Rattle.s66_isa.specs.declared.profile.Profile.{Profile as ProfileOf};
 ghost use Rattle.s66_cert.specs.declared.limits.TheConstants.{TIME_LIMIT};
 ghost use Rattle.s66_command.specs.declared.strategy.Strategy.{Strategy as StrategyOf};
 ghost use Rattle.s66_deep.specs.Orders.{IsGood, IsLooked};
 ghost use Rattle.s66_model.specs.Answer.{source_time};
 ghost use Rattle.s66_model.specs.Timing.{total_of};
-ghost use Rattle.s66_program.specs.declared.answers.Found.TheVariants.{Searched};
 ghost use Rattle.s66_text.specs.Answers.{problem_of};
 ghost use Rattle.s66_program.specs.Output.{IsSearchWithin};
-ghost use Rattle.s66_program.specs.Stored.{IsFit, IsFor, IsSearchOf, IsShownBy, IsWorth};
+ghost use Rattle.s66_program.specs.Stored.{AreBeside, IsFit, IsFor, IsFound, IsSearchOf, IsShownBy, IsWorth};
 
 use crate::documents::{Shows, document_by, document_of, is_accepted};
 use s66_cert::{Document, Tree};
 use s66_command::Strategy;
-use s66_deep::{Looked, faster, look_at};
+use s66_deep::{Look, Looked, faster, look_at};
 use s66_dep::Order;
 use s66_isa::{BLOCK_LIMIT, Profile};
 use s66_ledger::Answer;
@@ -45,7 +44,15 @@ pub struct ByFacts {
     document: Document,
     /// The total of the source order, in minor cycles.
     source: u32,
-    /// How often orders were split: by the document's tree, or by the search that came before it.
+    /// How often orders were split, in all searches for it.
+    splits: u32,
+}
+
+/// An answer of a search.
+#[derive(Drop)]
+pub struct BySearch {
+    answer: Answer,
+    /// How often orders were split, in this search and those beside it.
     splits: u32,
 }
 
@@ -53,7 +60,7 @@ pub struct ByFacts {
 #[derive(Drop)]
 pub enum Found {
     /// By a search of its orders.
-    Searched(Answer),
+    Searched(BySearch),
     /// By facts, which show more than a search or make it needless.
     Shown(ByFacts),
 }
@@ -73,7 +80,7 @@ impl Found {
         ensures { (strategy : StrategyOf) (p : ProfileOf) (block : BlockOf) → IsFor strategy p block self.now → result.now ≡ record { block = instrs_of block; numbers = (answer_in self.now).order } }
     {
         match self {
-            Found::Searched(answer) => answer.order(),
+            Found::Searched(found) => found.answer.order(),
             Found::Shown(shown) => &shown.order,
         }
     }
@@ -84,7 +91,7 @@ impl Found {
         ensures answer { (strategy : StrategyOf) (p : ProfileOf) (block : BlockOf) → IsFor strategy p block self.now → IsAnswer strategy p block (answer_in self.now) }
     {
         match self {
-            Found::Searched(answer) => answer.time(),
+            Found::Searched(found) => found.answer.time(),
             Found::Shown(shown) => shown.document.time(),
         }
     }
@@ -94,7 +101,7 @@ impl Found {
         ensures { (strategy : StrategyOf) (p : ProfileOf) (block : BlockOf) → IsFor strategy p block self.now → result ≡ source_time (problem_of p block) }
     {
         match self {
-            Found::Searched(answer) => answer.source(),
+            Found::Searched(found) => found.answer.source(),
             Found::Shown(shown) => shown.source,
         }
     }
@@ -104,17 +111,17 @@ impl Found {
         ensures { result ≡ (answer_in self.now).bound }
     {
         match self {
-            Found::Searched(answer) => answer.bound(),
+            Found::Searched(found) => found.answer.bound(),
             Found::Shown(shown) => shown.document.bound(),
         }
     }
 
-    /// How often orders were split to find it.
+    /// How often orders were split to find it, in all searches.
     pub fn splits(&self) -> u32
         ensures { result ≡ (answer_in self.now).splits }
     {
         match self {
-            Found::Searched(answer) => answer.splits(),
+            Found::Searched(found) => found.splits,
             Found::Shown(shown) => shown.splits,
         }
     }
@@ -139,7 +146,7 @@ impl Found {
         ensures { IfOk result (λ document. document_of document ≡ document_under strategy.search.rule profile.now block.now (answer_in self)) }
     {
         match self {
-            Found::Searched(answer) => document_of(alloc, block, profile, &answer),
+            Found::Searched(found) => document_of(alloc, block, profile, &found.answer),
             Found::Shown(shown) => Ok(shown.document),
         }
     }
@@ -199,13 +206,21 @@ fn nearest(block: &Block, answer: Answer) -> Answer
     answer.with_order(timed)
 }
 
-/// What a search finds that is brought to its end.
-fn found_by_search(block: &Block, search: LoneSearch<'_>) -> Result<Found, AllocError>
+/// An answer of a search beside which others made so many splits.
+fn by_search(answer: Answer, beside: u32) -> Found
+    ensures { (strategy : StrategyOf) (p : ProfileOf) (block : BlockOf) → IsFound strategy p block answer → AreBeside strategy beside → IsFor strategy p block result }
+{
+    let splits = answer.splits().saturating_add(beside);
+    Found::Searched(BySearch { answer, splits })
+}
+
+/// What a search finds that is brought to its end, beside which others made so many splits.
+fn found_by_search(block: &Block, search: LoneSearch<'_>, beside: u32) -> Result<Found, AllocError>
     requires { search.problem.block ≡ instrs_of block.now }
-    ensures { (strategy : StrategyOf) (p : ProfileOf) → IsSearchOf strategy p block.now search.entry → IfOk result (IsFor strategy p block.now) }
+    ensures { (strategy : StrategyOf) (p : ProfileOf) → IsSearchOf strategy p block.now search.entry → AreBeside strategy beside → IfOk result (IsFor strategy p block.now) }
 {
     let answer = search.finish()?;
-    Ok(Found::Searched(nearest(block, answer)))
+    Ok(by_search(nearest(block, answer), beside))
 }
 
 /// An order that is nearer to the source and takes as long, if one is found; `source` is what the source order takes, in minor cycles.
@@ -222,18 +237,18 @@ fn nearest_order(block: &Block, best: Timed, source: u32) -> Timed
     nearer(block, &best)
 }
 
-/// An answer's order by facts, if the checker accepts its document; else the answer. `splits` are those that its order and its bound took.
+/// An answer's order by facts, if the checker accepts its document; else the answer. Searches beside it made so many splits.
 fn shown_or_searched(
     alloc: Global,
     block: &Block,
     profile: &Profile,
     answer: Answer,
-    splits: u32,
+    beside: u32,
     shows: Shows,
 ) -> Result<Found, AllocError>
     requires problem { answer.problem ≡ problem_of profile.now block.now }
     requires fit { IsFit shows }
-    ensures { (strategy : StrategyOf) → strategy.deep ≡ true → IsFor strategy profile.now block.now (Searched answer) → IsWorth strategy.search.nodes answer splits shows → IfOk result (IsFor strategy profile.now block.now) }
+    ensures { (strategy : StrategyOf) → strategy.deep ≡ true → IsFound strategy profile.now block.now answer → AreBeside strategy beside → IsWorth strategy.search.nodes answer shows → IfOk result (IsFor strategy profile.now block.now) }
 {
     // so its time is one that a document may claim
     prove!(block.count() <= BLOCK_LIMIT);
@@ -241,33 +256,41 @@ fn shown_or_searched(
         order: answer.order().duplicate(),
         time: answer.time(),
         source: answer.source(),
-        splits,
+        splits: answer.splits().saturating_add(beside),
     };
     match shown_by(alloc, block, profile, candidate, shows)? {
         Some(shown) => Ok(Found::Shown(shown)),
-        None => Ok(Found::Searched(answer)),
+        None => Ok(by_search(answer, beside)),
     }
 }
 
-/// What a search finds that is brought to its end, or its order by facts if these show as much or more.
+/// What a search finds that is brought to its end, or its order by facts if these show as much or more. Searches beside it made so many
+/// splits.
 fn found_or_shown(
     alloc: Global,
     block: &Block,
     profile: &Profile,
     search: LoneSearch<'_>,
+    beside: u32,
     shows: Shows,
 ) -> Result<Found, AllocError>
     requires search { search.problem ≡ problem_of profile.now block.now }
     requires fit { IsFit shows }
-    ensures { (strategy : StrategyOf) → strategy.deep ≡ true → IsSearchOf strategy profile.now block.now search.entry → IfOk result (IsFor strategy profile.now block.now) }
+    ensures { (strategy : StrategyOf) → strategy.deep ≡ true → IsSearchOf strategy profile.now block.now search.entry → AreBeside strategy beside → IfOk result (IsFor strategy profile.now block.now) }
 {
     let found = search.finish()?;
     let answer = nearest(block, found);
     if shows.bound < answer.bound() {
-        return Ok(Found::Searched(answer));
+        return Ok(by_search(answer, beside));
     }
-    let splits = answer.splits();
-    shown_or_searched(alloc, block, profile, answer, splits, shows)
+    shown_or_searched(alloc, block, profile, answer, beside, shows)
+}
+
+/// An order that is sought, and how many splits were made for it.
+#[derive(Drop)]
+struct Sought {
+    best: Timed,
+    splits: u32,
 }
 
 /// The best order of a search that leaves out no beginning that another dominates, of half as many splits. Such a search goes deep sooner. It
@@ -278,21 +301,26 @@ fn plain_order(
     profile: &Profile,
     strategy: Strategy,
     goal: u32,
-) -> Result<Timed, AllocError>
+) -> Result<Sought, AllocError>
     requires { IsSearchWithin strategy.search.workers strategy.search.nodes }
-    ensures { IfOk result (λ timed. timed.problem ≡ problem_of profile.now block.now) }
+    ensures problem { IfOk result (λ plain. plain.best.problem ≡ problem_of profile.now block.now) }
+    ensures splits { IfOk result (λ plain. plain.splits ≤ strategy.search.nodes) }
 {
     let options = Options {
         rule: Rule::NoneNamed,
         ..strategy.search
     };
     let mut search = LoneSearch::new(alloc, block, profile, options)?;
-    search.search(options.nodes / 2, goal);
-    Ok(search.best().duplicate())
+    search.search(options.nodes / 2, goal)?;
+    Ok(Sought {
+        best: search.best().duplicate(),
+        splits: search.splits(),
+    })
 }
 
 /// The best order, or a better one that searches find which end at a bound of all orders; there is nothing to find if it takes no more.
-fn sought(
+/// The splits are those of a search beside this one.
+fn seek(
     alloc: Global,
     block: &Block,
     profile: &Profile,
@@ -300,27 +328,30 @@ fn sought(
     search: &mut LoneSearch<'_>,
     best: Timed,
     bound: u32,
-) -> Result<Timed, AllocError>
+) -> Result<Sought, AllocError>
     requires within { IsSearchWithin strategy.search.workers strategy.search.nodes }
     requires search { IsSearchOf strategy profile.now block.now search.old }
     requires best { IsGood (problem_of profile.now block.now) best }
     ensures search { IsSearchOf strategy profile.now block.now search.new }
-    ensures best { IfOk result (IsGood (problem_of profile.now block.now)) }
+    ensures best { IfOk result (λ sought. IsGood (problem_of profile.now block.now) sought.best) }
+    ensures splits { IfOk result (λ sought. sought.splits ≤ strategy.search.nodes) }
 {
     if best.total() <= bound {
-        return Ok(best);
+        return Ok(Sought { best, splits: 0 });
     }
-    let other = plain_order(alloc, block, profile, strategy, bound)?;
-    let best = faster(best, Some(other));
+    let plain = plain_order(alloc, block, profile, strategy, bound)?;
+    let splits = plain.splits;
+    let best = faster(best, Some(plain.best));
     if best.total() <= bound {
-        return Ok(best);
+        return Ok(Sought { best, splits });
     }
     search.offer(Some(&best))?;
-    search.search(strategy.search.nodes, bound);
-    Ok(faster(best, Some(search.best().duplicate())))
+    search.search(strategy.search.nodes, bound)?;
+    let best = faster(best, Some(search.best().duplicate()));
+    Ok(Sought { best, splits })
 }
 
-/// An answer by what was found beside the search, and by the search, if that has to go on.
+/// An answer by what was found beside the search, with so many splits, and by the search, if that has to go on.
 fn answer_by(
     alloc: Global,
     block: &Block,
@@ -328,11 +359,13 @@ fn answer_by(
     strategy: Strategy,
     search: LoneSearch<'_>,
     looked: Looked,
+    made: u32,
 ) -> Result<Found, AllocError>
     requires within { IsSearchWithin strategy.search.workers strategy.search.nodes }
     requires search { IsSearchOf strategy profile.now block.now search }
     requires deep { strategy.deep ≡ true }
     requires looked { IsLooked (problem_of profile.now block.now) strategy.search.nodes looked }
+    requires made { made ≤ strategy.search.nodes + strategy.search.nodes / 2 }
     ensures { IfOk result (IsFor strategy profile.now block.now) }
 {
     let mut search = search;
@@ -342,25 +375,27 @@ fn answer_by(
         bound,
         lines,
         tree,
-        splits,
+        ..
     } = looked;
     let shows = Shows { bound, lines, tree };
-    let best = sought(alloc, block, profile, strategy, &mut search, best, bound)?;
+    let found = seek(alloc, block, profile, strategy, &mut search, best, bound)?;
+    let Sought { best, splits } = found;
+    let beside = made.saturating_add(splits);
     // so the bound is one that a document may claim
     prove!(block.count() <= BLOCK_LIMIT);
     if best.total() != bound {
-        return found_or_shown(alloc, block, profile, search, shows);
+        return found_or_shown(alloc, block, profile, search, beside, shows);
     }
     let near = nearest_order(block, best, source);
     let candidate = Candidate {
         order: near.order().duplicate(),
         time: near.total(),
         source,
-        splits,
+        splits: search.splits().saturating_add(beside),
     };
     match shown_by(alloc, block, profile, candidate, shows)? {
         Some(shown) => Ok(Found::Shown(shown)),
-        None => found_by_search(block, search),
+        None => found_by_search(block, search, beside),
     }
 }
 
@@ -374,36 +409,36 @@ fn line_count(tree: &Tree) -> usize {
     count
 }
 
-/// An answer that is best, or its order by facts if these show that too, and in fewer lines.
+/// An answer that is best, or its order by facts if these show that too, and in fewer lines. Searches beside it made so many splits.
 fn in_fewer_lines(
     alloc: Global,
     block: &Block,
     profile: &Profile,
     answer: Answer,
     looked: Looked,
+    beside: u32,
     most: u32,
 ) -> Result<Found, AllocError>
     requires problem { answer.problem ≡ problem_of profile.now block.now }
     requires looked { IsLooked (problem_of profile.now block.now) most looked }
     requires most { most ≤ answer.budget }
-    ensures { (strategy : StrategyOf) → strategy.deep ≡ true → IsFor strategy profile.now block.now (Searched answer) → IfOk result (IsFor strategy profile.now block.now) }
+    ensures { (strategy : StrategyOf) → strategy.deep ≡ true → IsFound strategy profile.now block.now answer → AreBeside strategy beside → IfOk result (IsFor strategy profile.now block.now) }
 {
     let Looked {
         bound,
         lines,
         tree,
-        splits,
         ..
     } = looked;
     if bound != answer.time()
         || answer.line_count() <= lines.len().saturating_add(line_count(&tree))
     {
-        return Ok(Found::Searched(answer));
+        return Ok(by_search(answer, beside));
     }
     // so the bound is one that a document may claim
     prove!(block.count() <= BLOCK_LIMIT);
     let shows = Shows { bound, lines, tree };
-    shown_or_searched(alloc, block, profile, answer, splits, shows)
+    shown_or_searched(alloc, block, profile, answer, beside, shows)
 }
 
 /// The answer of a search that found a best order; if documents are printed, one by facts if that is shorter, whose tree has at most so
@@ -423,11 +458,13 @@ fn found_best(
     let found = search.finish()?;
     let answer = nearest(block, found);
     if !is_printed || answer.line_count() <= SHORT_TREE {
-        return Ok(Found::Searched(answer));
+        return Ok(by_search(answer, 0));
     }
-    match look_at(alloc, block, profile, answer.best(), most, true)? {
-        Some(looked) => in_fewer_lines(alloc, block, profile, answer, looked, most),
-        None => Ok(Found::Searched(answer)),
+    let look = look_at(alloc, block, profile, answer.best(), most, true)?;
+    let Look { found, splits } = look;
+    match found {
+        Some(looked) => in_fewer_lines(alloc, block, profile, answer, looked, splits, most),
+        None => Ok(by_search(answer, splits)),
     }
 }
 
@@ -454,13 +491,15 @@ pub fn answer_alone(
 {
     let mut search = LoneSearch::new(alloc, block, profile, strategy.search)?;
     let most = strategy.search.nodes;
-    search.search(first_splits(block), 0);
+    search.search(first_splits(block), 0)?;
     if search.is_best() {
         return found_best(alloc, block, profile, search, is_printed, most);
     }
-    match look_at(alloc, block, profile, search.best(), most, is_printed)? {
-        Some(looked) => answer_by(alloc, block, profile, strategy, search, looked),
-        None => found_by_search(block, search),
+    let look = look_at(alloc, block, profile, search.best(), most, is_printed)?;
+    let Look { found, splits } = look;
+    match found {
+        Some(looked) => answer_by(alloc, block, profile, strategy, search, looked, splits),
+        None => found_by_search(block, search, splits),
     }
 }
 
@@ -477,5 +516,5 @@ pub fn answer_to<R: AllocGlobal + Threads + Wait + Sync>(
     ensures { IfOk result (IsFor strategy profile.now block.now) }
 {
     let answer = run_from(rt, block, profile, strategy.search, None, &Free)?;
-    Ok(Found::Searched(nearest(block, answer)))
+    Ok(by_search(nearest(block, answer), 0))
 }

@@ -1,6 +1,6 @@
 //! What becomes of the output of `order` and `prove` that is read again: contracts of functions that do nothing.
 
-ghost use Rattle.std.specs.Prelude.{ℕ, Bool, false, List, [], ◌∷◌, ◌++◌, length, map, Ok, Err, ◌≡◌, ◌≤◌, ◌<◌, codes};
+ghost use Rattle.std.specs.Prelude.{ℕ, Bool, false, List, [], ◌∷◌, ◌++◌, length, map, Ok, Err, ◌*◌, ◌≡◌, ◌≤◌, ◌<◌, codes};
 ghost use Rattle.s66_isa.specs.declared.profile.Profile.{Profile};
 ghost use Rattle.s66_isa.specs.Lists.{Among};
 ghost use Rattle.s66_isa.specs.Table.{standard};
@@ -51,12 +51,15 @@ pub fn ordered_again_law()
 {}
 
 /// What is answered for a block of an accepted source, under any profile: a legal order with its exact total, and a bound of the totals of
-/// all legal orders. If the bound is below the total, a search spent all its splits.
+/// all legal orders. All searches for it make at most three and a half times as many splits as one may make, and without `--deep` no more than one. If
+/// the bound is below the total, a search spent all its splits.
 pub fn answered_law()
     ensures legal { (strategy : Strategy) (p : Profile) (block : Block) (a : Answer) → IsAnswer strategy p block a → IsLegal (instrs_of block) a.order }
     ensures time { (strategy : Strategy) (p : Profile) (block : Block) (a : Answer) → IsAnswer strategy p block a → a.time ≡ total_of (problem_of p block) a.order }
     ensures bound { (strategy : Strategy) (p : Profile) (source : Reading) (blocks : List Block) (block : Block) (a : Answer) → source_of source ≡ Ok blocks → Among block blocks → strategy.search.nodes ≤ BUDGET_LIMIT → IsAnswer strategy p block a → IsBound (problem_of p block) a.bound }
-    ensures spent { (strategy : Strategy) (p : Profile) (block : Block) (a : Answer) → IsAnswer strategy p block a → a.bound < a.time → a.splits ≡ strategy.search.nodes }
+    ensures spent { (strategy : Strategy) (p : Profile) (block : Block) (a : Answer) → IsAnswer strategy p block a → a.bound < a.time → strategy.search.nodes ≤ a.splits }
+    ensures few { (strategy : Strategy) (p : Profile) (block : Block) (a : Answer) → IsAnswer strategy p block a → 2 * a.splits ≤ 7 * strategy.search.nodes }
+    ensures alone { (strategy : Strategy) (p : Profile) (block : Block) (a : Answer) → strategy.deep ≡ false → IsAnswer strategy p block a → a.splits ≤ strategy.search.nodes }
 {}
 
 /// What is answered for a block of an accepted source, under any profile, makes a document of the block's own problem. The verdict on

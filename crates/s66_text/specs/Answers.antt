@@ -1,5 +1,5 @@
 -- To be believed: what is answered for a block: what a search of its orders finds, or with `--deep` what is shown by facts that all orders below a bound have in common.
-use Rattle.std.specs.Prelude.{ℕ, ◌≡◌, ◌≤◌, ◌⊎◌, if◌then◌else◌, true, List, [], ◌∷◌, map, Option, None, Some}
+use Rattle.std.specs.Prelude.{ℕ, ◌+◌, ◌*◌, ◌≡◌, ◌≤◌, ◌⊎◌, if◌then◌else◌, false, true, List, [], ◌∷◌, map, Option, None, Some}
 use Rattle.std.specs.Option.{is_some}
 use Rattle.s66_isa.specs.declared.limits.TheConstants.{BLOCK_LIMIT}
 use Rattle.s66_isa.specs.declared.profile.Profile.{Profile}
@@ -20,8 +20,8 @@ use Rattle.s66_checker.specs.declared.verdict.Verdict.TheVariants.{Yes}
 use Rattle.s66_checker.specs.Verdict.{verdict}
 use Rattle.s66_command.specs.declared.strategy.Strategy.{Strategy}
 
--- an order, what it takes, what every order takes at least, how often orders were split to find that, and what shows the bound: fact
--- lines, if there are any, and a tree
+-- an order, what it takes, what every order takes at least, how often orders were split to find that, in all searches, and what shows
+-- the bound: fact lines, if there are any, and a tree
 pub record Answer : Type 0 where
   pub order : List ℕ
   pub time : ℕ
@@ -56,16 +56,22 @@ document_under rule p block a =
 abbrev pub searched : search.Answer → Answer
 searched found = record { order = found.order; time = found.time; bound = found.bound; splits = found.splits; facts = None; tree = found.tree }
 
-abbrev pub IsSearched : Options → Problem → Answer → Type 0
-IsSearched options b a = (found : search.Answer) × search.IsAnswer options.rule b options.nodes found × (a ≡ searched found)
+-- all splits that were made, where the search itself made so many: without `--deep` there is no other, and with it others made at most
+-- two and a half times as many as a search may make
+abbrev pub AreAll : Strategy → (own all : ℕ) → Type 0
+AreAll strategy own all = (own ≤ all) × (2 * all ≤ 2 * own + 5 * strategy.search.nodes) × (strategy.deep ≡ false → all ≡ own)
+
+abbrev pub IsSearched : Strategy → Problem → Answer → Type 0
+IsSearched strategy b a =
+    (found : search.Answer) × search.IsAnswer strategy.search.rule b strategy.search.nodes found × (a ≡ record (searched found) { splits = a.splits }) × AreAll strategy found.splits a.splits
 
 -- BY FACTS
 
 -- it is best, and its tree has no more splits than a search may have, or it is no worse than what a search found
 abbrev pub IsEnough : Options → Problem → Answer → Type 0
 IsEnough options b a =
-    ((a.bound ≡ a.time) × (a.splits ≡ splits a.tree) × (a.splits ≤ options.nodes))
-    ⊎ ((found : search.Answer) × search.IsAnswer options.rule b options.nodes found × (a.time ≤ found.time) × (found.bound ≤ a.bound) × (a.splits ≡ found.splits))
+    ((a.bound ≡ a.time) × (splits a.tree ≤ options.nodes))
+    ⊎ ((found : search.Answer) × search.IsAnswer options.rule b options.nodes found × (a.time ≤ found.time) × (found.bound ≤ a.bound) × (found.splits ≤ a.splits))
 
 pub record IsShown (options : Options) (p : Profile) (block : Block) (a : Answer) : Type 0 where
   -- a legal order with its total
@@ -79,11 +85,13 @@ pub record IsShown (options : Options) (p : Profile) (block : Block) (a : Answer
   pub source : a.time ≤ source_time (problem_of p block)
   pub first : source_time (problem_of p block) ≡ a.time → a.order ≡ numbers (instrs_of block)
   pub enough : IsEnough options (problem_of p block) a
+  -- all searches made at most three and a half times as many splits as one may make
+  pub few : 2 * a.splits ≤ 7 * options.nodes
 
 -- WHAT IS ANSWERED
 
 abbrev pub IsAnswer : Strategy → Profile → Block → Answer → Type 0
-IsAnswer strategy p block a = IsSearched strategy.search (problem_of p block) a ⊎ ((strategy.deep ≡ true) × IsShown strategy.search p block a)
+IsAnswer strategy p block a = IsSearched strategy (problem_of p block) a ⊎ ((strategy.deep ≡ true) × IsShown strategy.search p block a)
 
 -- for each block
 abbrev pub AreAnswers : Strategy → Profile → List Block → List Answer → Type 0

@@ -1,4 +1,4 @@
-use Rattle.std.proofs.Common.{◌≡◌, ◌∙◌, IfSome, ap, arith, inl, subst, sym}
+use Rattle.std.proofs.Common.{◌≡◌, ◌*◌, ◌≤◌, ◌∙◌, IfSome, ap, arith, inl, subst, sym}
 use Rattle.s66_line.specs.Block.{instrs_of}
 use Rattle.s66_dep.specs.Ordered.{Ordered}
 use Rattle.s66_model.specs.LegalOrder.{IsLegal}
@@ -9,6 +9,7 @@ use Rattle.s66_program.specs.declared.answers.Candidate.{Candidate}
 use Rattle.s66_program.specs.declared.documents.Shows.{Shows}
 use Rattle.s66_text.specs.Answers.{IsEnough, problem_of}
 use Rattle.s66_program.specs.Stored.{IsShownBy, claimed}
+use Rattle.s66_program.proofs.SearchAnswers.{beside-deep}
 use Rattle.s66_program.proofs.ByFacts.{IsCandidate, as-good, as-long, looked-fit, shown-claimed}
 use Rattle.s66_program.proofs.answers.answer_by.Goals as goal
 
@@ -17,10 +18,14 @@ found_or_shown-requires-clause-fit c =
     looked-fit c.args.profile.now c.args.block.now c.args.strategy.search.nodes c.args.looked c.requires.looked (omega (arith, c.count.ensures.value, c.count.ensures.few))
 
 pub returns-then-total-bound : goal.returns-then-total-bound
-returns-then-total-bound c = c.found_or_shown.ensures c.args.strategy c.requires.deep c.sought.ensures.search
+returns-then-total-bound c =
+    c.found_or_shown.ensures c.args.strategy c.requires.deep c.seek.ensures.search
+    (beside-deep c.args.strategy c.saturating_add-beside.result c.requires.deep (omega (arith, c.saturating_add-beside.ensures, c.requires.made, c.in_ok-found.ensures.splits)))
 
 pub returns-in-None : goal.returns-in-None
-returns-in-None c = c.found_by_search.ensures c.args.strategy c.args.profile.now c.sought.ensures.search
+returns-in-None c =
+    c.found_by_search.ensures c.args.strategy c.args.profile.now c.seek.ensures.search
+    (beside-deep c.args.strategy c.saturating_add-beside.result c.requires.deep (omega (arith, c.saturating_add-beside.ensures, c.requires.made, c.in_ok-found.ensures.splits)))
 
 pub returns-in-Some : goal.returns-in-Some
 returns-in-Some c =
@@ -30,14 +35,14 @@ returns-in-Some c =
     let b : Problem = problem_of p block in
     let looked = c.args.looked in
     let is = c.requires.looked in
-    let best = c.in_ok-best.best in
-    let found = c.in_ok-best.ensures.best in
+    let best = c.in_ok-found.found.best in
+    let found = c.in_ok-found.ensures.best in
     let near = c.nearest_order-near.result in
     let nearer = c.nearest_order-near.ensures in
     let good = as-good b best near nearer.problem nearer.time found nearer.first in
     let same = as-long b best near nearer.problem nearer.time found.problem in
     let shows : Shows = record { bound = looked.bound; lines = looked.lines; tree = looked.tree } in
-    let candidate : Candidate = record { order = c.duplicate.result; time = c.total-2.result; source = looked.source; splits = looked.splits } in
+    let candidate : Candidate = record { order = c.duplicate.result; time = c.total-2.result; source = looked.source; splits = c.saturating_add.result } in
     let s = c.in-Some.shown in
     let shown : IsShownBy p block candidate shows s = subst (λ o. IfSome o (IsShownBy p block candidate shows)) c.in-Some.is c.in_ok-shown.ensures in
     let order : c.duplicate.result ≡ record { block = near.problem.block; numbers = near.numbers } = c.duplicate.ensures ∙ c.order.ensures.value in
@@ -58,6 +63,9 @@ returns-in-Some c =
     let bound : s.document.bound ≡ looked.bound = ap (λ (d : Parts). d.bound) shown.document in
     let counted : splits (tree_of_lines s.document.vertices) ≡ splits (tree_of_lines looked.tree) = ap (λ (d : Parts). splits (tree_of_lines d.vertices)) shown.document in
     let enough : IsEnough strategy.search b (claimed s) =
-    inl (omega (arith, bound, time, total, same, first, c.if-total-bound.false), shown.splits ∙ is.splits.0 ∙ sym counted, omega (arith, shown.splits, is.splits.1))
+    inl (omega (arith, bound, time, total, same, first, c.if-total-bound.false), omega (arith, counted, is.splits.0, is.splits.1))
     in
-    shown-claimed strategy p block candidate shows s shown c.requires.deep right enough
+    let all : 2 * s.splits ≤ 7 * strategy.search.nodes =
+    omega (arith, shown.splits, c.saturating_add.ensures, c.splits.ensures, c.seek.ensures.search.2, c.saturating_add-beside.ensures, c.requires.made, c.in_ok-found.ensures.splits)
+    in
+    shown-claimed strategy p block candidate shows s shown c.requires.deep right enough all

@@ -28,14 +28,14 @@ shown_by-requires-clause-time c =
 
 pub returns-in-Some : goal.returns-in-Some
 returns-in-Some c =
-    λ strategy deep for worth.
+    λ strategy deep for beside worth.
     let p = c.args.profile.now in
     let block = c.args.block.now in
     let b : Problem = problem_of p block in
     let found = c.args.answer in
     let a = answer_of found in
     let is = search-answers strategy p block found for c.time.ensures.answer in
-    let candidate : Candidate = record { order = c.duplicate.result; time = c.time.result; source = c.source.result; splits = c.args.splits } in
+    let candidate : Candidate = record { order = c.duplicate.result; time = c.time.result; source = c.source.result; splits = c.saturating_add.result } in
     let s = c.in-Some.shown in
     let shown : IsShownBy p block candidate c.args.shows s = subst (λ o. IfSome o (IsShownBy p block candidate c.args.shows)) c.in-Some.is c.in_ok-shown.ensures in
     let order : c.duplicate.result ≡ record { block = found.problem.block; numbers = a.order } = c.duplicate.ensures ∙ c.order.ensures in
@@ -55,8 +55,11 @@ returns-in-Some c =
     let counted : splits (tree_of_lines s.document.vertices) ≡ splits (tree_of_lines c.args.shows.tree) = ap (λ (d : Parts). splits (tree_of_lines d.vertices)) shown.document in
     let enough : IsEnough strategy.search b (claimed s) =
     elim worth [
-      | inl best ↦ inl (bound ∙ best.0 ∙ sym c.time.ensures.value ∙ sym time, shown.splits ∙ best.1 ∙ sym counted, omega (arith, shown.splits, best.2))
-      | inr more ↦ inr (a, is, omega (arith, time, c.time.ensures.value), omega (arith, bound, more.0), shown.splits ∙ more.1)
+      | inl best ↦ inl (bound ∙ best.0 ∙ sym c.time.ensures.value ∙ sym time, omega (arith, counted, best.1))
+      | inr more ↦ inr (a, is, omega (arith, time, c.time.ensures.value), omega (arith, bound, more), omega (arith, shown.splits, c.saturating_add.ensures, c.splits.ensures.value, c.splits.ensures.few))
     ]
     in
-    shown-claimed strategy p block candidate c.args.shows s shown deep right enough
+    shown-claimed strategy p block candidate c.args.shows s shown deep right enough (omega (arith, shown.splits, c.saturating_add.ensures, c.splits.ensures.value, is.within, beside.0))
+
+pub returns-in-None : goal.returns-in-None
+returns-in-None c = λ strategy deep for beside worth. c.by_search.ensures strategy c.args.profile.now c.args.block.now for beside

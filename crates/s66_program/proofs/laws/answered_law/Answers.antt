@@ -1,6 +1,6 @@
 use Rattle.std.proofs.Common.{arith}
 use Rattle.s66_text.proofs.AnswerVerdicts.{spelled-block}
-use Rattle.s66_text.proofs.Answered.{answer-bound, answer-legal, answer-spent, answer-time}
+use Rattle.s66_text.proofs.Answered.{answer-alone, answer-bound, answer-few, answer-legal, answer-spent, answer-time}
 use Rattle.s66_program.proofs.laws.answered_law.Goals as goal
 
 pub returns-clause-legal : goal.returns-clause-legal
@@ -14,3 +14,9 @@ returns-clause-bound c = λ strategy p text blocks block a accepted among within
 
 pub returns-clause-spent : goal.returns-clause-spent
 returns-clause-spent c = answer-spent
+
+pub returns-clause-few : goal.returns-clause-few
+returns-clause-few c = answer-few
+
+pub returns-clause-alone : goal.returns-clause-alone
+returns-clause-alone c = answer-alone

@@ -1,5 +1,5 @@
-use Rattle.s66_branch.specs.Branching.{IsNoSlower}
+use Rattle.s66_branch.specs.Branching.{Looks}
 use Rattle.s66_branch.proofs.search.Search.split.Given as goal
 
 abbrev pub invariant-loop-n : goal.invariant-loop-n
-invariant-loop-n l = IsNoSlower l.fn.self l.self
+invariant-loop-n l = Looks l.fn.self l.self

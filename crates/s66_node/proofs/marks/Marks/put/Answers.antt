@@ -6,4 +6,5 @@ use Rattle.s66_node.proofs.marks.Marks.put.Goals as goal
 pub returns-clause-known : goal.returns-clause-known
 returns-clause-known c =
     λ name among.
-    subst (λ (m : MarkTable). (name ≡ c.args.entry.numbers.items) ⊎ Among name m.names) c.self.view_is (c.keep.ensures.known name among)
+    subst (λ (m : MarkTable). (name ≡ c.args.entry.numbers.items) ⊎ Among name m.names) c.self.view_is
+    (c.keep.ensures.known name (subst (λ (m : MarkTable). Among name m.names) c.self-2.view_is among))
