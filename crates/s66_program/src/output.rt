@@ -142,7 +142,10 @@ pub(crate) fn output_for<R: AllocGlobal + Threads + Wait + Sync, O: Observer>(
     match command {
         Command::Check => Ok(untold(command, check_output(alloc, input, observer)?)),
         Command::Lint { cut } => Ok(untold(command, lint_output(alloc, input, cut)?)),
-        Command::Compare { cut, .. } => Ok(untold(command, compare_output(alloc, cut, profile, input)?)),
+        Command::Compare { cut, .. } => Ok(untold(
+            command,
+            compare_output(alloc, cut, profile, input)?,
+        )),
         _ => source_output(rt, command, profile, input, observer),
     }
 }

@@ -23,12 +23,12 @@ pub use cover::{Cover, Covered};
 pub use error::SourceError;
 pub use frame::{FramePart, frame_of};
 pub use halves::{Halves, halves_of};
+pub use keeper::print_keeping;
 pub use laws::{
     block_examples, case_law, copied_law, count_examples, cut_law, left_alone_examples,
     line_examples, line_law, parts_law, plain_law, printed_examples, read_again_examples,
     read_again_law, spelled_law,
 };
-pub use keeper::print_keeping;
 pub use limits::SOURCE_LINES_LIMIT;
 pub use placed::Placed;
 pub use printer::print_source;

@@ -196,7 +196,10 @@ fn shows_pages(rt: HostRuntime) {
         let ran = run(&rt, words, input.as_bytes());
         let written = ran.written.as_slice();
         let told = told_of(name, words).as_bytes();
-        assert!(rt; ran.status == status && ran.stated.as_slice() == told, "{name}");
+        assert!(rt;
+            ran.status == status && ran.stated.as_slice() == told,
+            "{name}"
+        );
         assert!(rt;
             written.starts_with(b"<!DOCTYPE html>\n") && written.ends_with(ends.as_bytes()),
             "{name}: {written:?}"

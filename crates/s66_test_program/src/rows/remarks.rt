@@ -19,7 +19,11 @@ pub(crate) const TOLD: &[(&str, &str, &str)] = &[
     ("empty input", "sum", NO_BLOCK),
     ("20,000 lines", "time", NO_BLOCK),
     ("a macro stays as it is", "order", NO_BLOCK),
-    ("words that are counted, between switches", "order", NO_BLOCK),
+    (
+        "words that are counted, between switches",
+        "order",
+        NO_BLOCK,
+    ),
     (
         "words that another processor changes, between switches",
         "order",
@@ -30,11 +34,7 @@ pub(crate) const TOLD: &[(&str, &str, &str)] = &[
         "order",
         "s66 lint --cut lists 1 line that order may harm\n",
     ),
-    (
-        "B0",
-        "order",
-        "s66 lint lists 1 line that order may harm\n",
-    ),
+    ("B0", "order", "s66 lint lists 1 line that order may harm\n"),
     ("a comment of 200 bytes", "order", NO_BLOCK),
     ("no block", "sum", NO_BLOCK),
     ("no block, with the trace", "sum", NO_BLOCK),

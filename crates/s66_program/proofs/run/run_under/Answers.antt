@@ -18,8 +18,7 @@ returns-in-Ok g c =
     let p = c.args.profile.now in
     let (input, reads, kept) = c.in_ok-held.ensures.ok in
     let seen = subst (IsKeptInput _ input) (sym c.as_slice.ensures.value) kept in
-    let whole = kept-whole p c.args.command _ input _ _ _ c.most_kept.ensures seen c.in_ok-finished.ensures.ok in
-    (
+    let whole = kept-whole p c.args.command _ input _ _ _ c.most_kept.ensures seen c.in_ok-finished.ensures.ok in (
       input,
       reads,
       ((_, subst (λ (i : List ℕ). IsOutput p c.args.command i _ _) whole c.in_ok-finished.ensures.ok, search rules), subst (λ (i : List ℕ). IsRemark c.args.command i _) whole c.in_ok-finished.ensures.remark),
