@@ -1,6 +1,6 @@
 ghost use Rattle.std.specs.Prelude.{◌≡◌, ◌-◌, ◌^◌, ◌<◌, ◌++◌, Err, IfOk, codes, option_map, string_bytes};
 ghost use Rattle.s66_profile.specs.Hint.{hint_in_text};
-ghost use Rattle.s66_outcome.specs.Outcome.{fault_line, status_code};
+ghost use Rattle.s66_outcome.specs.Outcome.{status_code};
 ghost use Rattle.std.specs.IoError.{error_kind};
 ghost use Rattle.s66_outcome.specs.Device.{Tells};
 ghost use Rattle.s66_outcome.specs.Ends.{EndsAt, EndsBy, EndsWith, LacksWords, ShowsUsage};
