@@ -1,0 +1,4 @@
+pub mod Labels
+pub mod Numbered
+pub mod PointTexts
+pub mod Values
