@@ -322,11 +322,11 @@ rules_at name = option_map_or (λ (s : Shape). s.rules) (subcommand_at name) []
 
 pub order-options : HasSearchOptions (rules_at (codes "order"))
 order-options = (
-  (inr refl, (inl refl, (inr refl, (inr refl, (inr refl, (inr refl, (inr refl, (inr refl, (inr refl, tt))))))))),
-  (inr refl, (inr refl, (inl refl, (inr refl, (inr refl, (inr refl, (inr refl, (inr refl, (inr refl, tt))))))))),
-  ((inr refl, (inr refl, (inr refl, (inr refl, (inl refl, (inr refl, (inr refl, (inr refl, (inr refl, tt))))))))), refl),
-  ((inr refl, (inr refl, (inr refl, (inr refl, (inr refl, (inl refl, (inr refl, (inr refl, (inr refl, tt))))))))), refl),
-  ((inr refl, (inr refl, (inr refl, (inr refl, (inr refl, (inr refl, (inl refl, (inr refl, (inr refl, tt))))))))), refl),
+  (inr refl, (inl refl, (inr refl, (inr refl, (inr refl, (inr refl, (inr refl, (inr refl, (inr refl, (inr refl, (inr refl, (inr refl, tt)))))))))))),
+  (inr refl, (inr refl, (inl refl, (inr refl, (inr refl, (inr refl, (inr refl, (inr refl, (inr refl, (inr refl, (inr refl, (inr refl, tt)))))))))))),
+  ((inr refl, (inr refl, (inr refl, (inr refl, (inl refl, (inr refl, (inr refl, (inr refl, (inr refl, (inr refl, (inr refl, (inr refl, tt)))))))))))), refl),
+  ((inr refl, (inr refl, (inr refl, (inr refl, (inr refl, (inl refl, (inr refl, (inr refl, (inr refl, (inr refl, (inr refl, (inr refl, tt)))))))))))), refl),
+  ((inr refl, (inr refl, (inr refl, (inr refl, (inr refl, (inr refl, (inl refl, (inr refl, (inr refl, (inr refl, (inr refl, (inr refl, tt)))))))))))), refl),
 )
 
 pub why-options : HasSearchOptions (rules_at (codes "why"))
@@ -349,20 +349,20 @@ page-options = (
 
 pub prove-options : HasSearchOptions (rules_at (codes "prove"))
 prove-options = (
-  (inr refl, (inl refl, (inr refl, (inr refl, (inr refl, (inr refl, (inr refl, (inr refl, tt)))))))),
-  (inr refl, (inr refl, (inl refl, (inr refl, (inr refl, (inr refl, (inr refl, (inr refl, tt)))))))),
-  ((inr refl, (inr refl, (inr refl, (inr refl, (inl refl, (inr refl, (inr refl, (inr refl, tt)))))))), refl),
-  ((inr refl, (inr refl, (inr refl, (inr refl, (inr refl, (inl refl, (inr refl, (inr refl, tt)))))))), refl),
-  ((inr refl, (inr refl, (inr refl, (inr refl, (inr refl, (inr refl, (inl refl, (inr refl, tt)))))))), refl),
-)
-
-pub sum-options : HasSearchOptions (rules_at (codes "sum"))
-sum-options = (
   (inr refl, (inl refl, (inr refl, (inr refl, (inr refl, (inr refl, (inr refl, (inr refl, (inr refl, tt))))))))),
   (inr refl, (inr refl, (inl refl, (inr refl, (inr refl, (inr refl, (inr refl, (inr refl, (inr refl, tt))))))))),
   ((inr refl, (inr refl, (inr refl, (inr refl, (inl refl, (inr refl, (inr refl, (inr refl, (inr refl, tt))))))))), refl),
   ((inr refl, (inr refl, (inr refl, (inr refl, (inr refl, (inl refl, (inr refl, (inr refl, (inr refl, tt))))))))), refl),
   ((inr refl, (inr refl, (inr refl, (inr refl, (inr refl, (inr refl, (inl refl, (inr refl, (inr refl, tt))))))))), refl),
+)
+
+pub sum-options : HasSearchOptions (rules_at (codes "sum"))
+sum-options = (
+  (inr refl, (inl refl, (inr refl, (inr refl, (inr refl, (inr refl, (inr refl, (inr refl, (inr refl, (inr refl, tt)))))))))),
+  (inr refl, (inr refl, (inl refl, (inr refl, (inr refl, (inr refl, (inr refl, (inr refl, (inr refl, (inr refl, tt)))))))))),
+  ((inr refl, (inr refl, (inr refl, (inr refl, (inl refl, (inr refl, (inr refl, (inr refl, (inr refl, (inr refl, tt)))))))))), refl),
+  ((inr refl, (inr refl, (inr refl, (inr refl, (inr refl, (inl refl, (inr refl, (inr refl, (inr refl, (inr refl, tt)))))))))), refl),
+  ((inr refl, (inr refl, (inr refl, (inr refl, (inr refl, (inr refl, (inl refl, (inr refl, (inr refl, (inr refl, tt)))))))))), refl),
 )
 
 -- the rule is what the words give
@@ -401,4 +401,4 @@ order-of words found strategy order s is has gives (given, read, by) =
   where
     order-by : (given : Bool) → given ≡ has_option (codes "order") words → GivesOrder words (if given then Some strategy else None)
     order-by true same = (sym same, gives)
-    order-by false same = sym same
+    order-by false same = (sym same, gives.0.6)

@@ -1,8 +1,9 @@
 -- To be believed: the command line, by clap's rules: the subcommands `time`, `deps`, `chart`, `why`, `page`, `order`, `prove`,
--- `check`, `lint` and `sum`, and a version. All but `check` and `lint` have the flag `--cut`. `time`, `chart`, `why`, `page`, `order`,
--- `prove` and `sum` have the option `--profile`, the last four also `--workers` and `--nodes`, and one at most of the flags
--- `--dominate`, `--dominate-tree` and `--deep`. `time`, `order` and `sum` have the flag `--trace`, `chart` has `--text` and `why` has `--order`,
--- and with that `why` has the options of a search. `time`, `deps`, `chart`, `why` and `page` have the option `--block`.
+-- `check`, `lint`, `sum` and `compare`, and a version. All but `check` have the flag `--cut`. `time`, `chart`, `why`, `page`, `order`,
+-- `prove`, `sum` and `compare` have the option `--profile`, and those of them that search (`why`, `page`, `order`, `prove` and `sum`) also
+-- `--workers` and `--nodes`, and one at most of the flags `--dominate`, `--dominate-tree` and `--deep`. `time`, `order` and `sum` have the
+-- flag `--trace`, `order` also `--keep` and `--quiet`, `chart` has `--text`, and `why` has `--order`, and with that the options of a search.
+-- All but `check`, `lint` and `compare` have the option `--block`.
 use Rattle.std.specs.Prelude.{◌≡◌, ◌≢◌, ◌⊎◌, ◌≤◌, ◌&&◌, ◌||◌, if◌then◌else◌, IfSome, ℕ, Bool, List, [], false, true, Option, None, Some, codes, option_and_then, pos}
 use Rattle.std.specs.Borrow.{Bor}
 use Rattle.std.specs.Option.{option_map, option_map_or}
@@ -23,7 +24,7 @@ use Rattle.s66_model.specs.declared.rule.Rule.{Rule as LeafRule}
 use Rattle.s66_model.specs.declared.rule.Rule.TheVariants.{NoneNamed, WrittenEarlier, ClampedStanding}
 use Rattle.s66_command.specs.declared.limits.TheConstants.{BLOCK_NUMBER_LIMIT, NODES_DEFAULT, WORKERS_DEFAULT}
 use Rattle.s66_command.specs.declared.command.Command.{Command}
-use Rattle.s66_command.specs.declared.command.Command.TheVariants.{Time, Deps, Chart, Why, Page, Order, Prove, Check, Lint, Sum}
+use Rattle.s66_command.specs.declared.command.Command.TheVariants.{Time, Deps, Chart, Why, Page, Order, Prove, Check, Sum, Compare, Lint}
 use Rattle.s66_command.specs.declared.strategy.Strategy.{Strategy}
 use Rattle.s66_command.specs.declared.usage.Usage.{Usage}
 use Rattle.s66_command.specs.declared.usage.Usage.TheVariants.{Help, Bad, OutOfMemory}
@@ -37,6 +38,12 @@ cut_rule = flag_rule (codes "cut")
 
 abbrev pub trace_rule : Rule
 trace_rule = flag_rule (codes "trace")
+
+abbrev pub keep_rule : Rule
+keep_rule = flag_rule (codes "keep")
+
+abbrev pub quiet_rule : Rule
+quiet_rule = flag_rule (codes "quiet")
 
 abbrev pub text_rule : Rule
 text_rule = flag_rule (codes "text")
@@ -70,7 +77,7 @@ block_rule = number_rule (codes "block") 1 BLOCK_NUMBER_LIMIT
 abbrev pub profile_rule : Rule
 profile_rule = record (new_rule (codes "profile")) { long = Some (codes "profile"); value_names = 1 }
 
--- a subcommand that reads a source and may refuse it
+-- a subcommand that reads a source
 abbrev pub source_app : Text → App
 source_app name = with_rule (new_app name) cut_rule
 
@@ -96,26 +103,30 @@ abbrev pub page_app : App
 page_app = with_rule (search_app (codes "page")) block_rule
 
 abbrev pub order_app : App
-order_app = with_rule (search_app (codes "order")) trace_rule
+order_app = with_rule (with_rule (with_rule (with_rule (search_app (codes "order")) trace_rule) keep_rule) quiet_rule) block_rule
 
 abbrev pub prove_app : App
-prove_app = search_app (codes "prove")
+prove_app = with_rule (search_app (codes "prove")) block_rule
 
 abbrev pub check_app : App
 check_app = new_app (codes "check")
 
 abbrev pub lint_app : App
-lint_app = new_app (codes "lint")
+lint_app = source_app (codes "lint")
 
 abbrev pub sum_app : App
-sum_app = with_rule (search_app (codes "sum")) trace_rule
+sum_app = with_rule (with_rule (search_app (codes "sum")) trace_rule) block_rule
+
+abbrev pub compare_app : App
+compare_app = with_rule (source_app (codes "compare")) profile_rule
 
 abbrev pub s66_app : App
 s66_app =
     let timing = with_subcommand (with_subcommand (new_app (codes "s66")) time_app.top) deps_app.top in
     let drawing = with_subcommand (with_subcommand timing chart_app.top) why_app.top in
     let searching = with_subcommand (with_subcommand (with_subcommand drawing page_app.top) order_app.top) prove_app.top in
-    let a = with_subcommand (with_subcommand (with_subcommand searching check_app.top) lint_app.top) sum_app.top in
+    let reading = with_subcommand (with_subcommand searching check_app.top) lint_app.top in
+    let a = with_subcommand (with_subcommand reading sum_app.top) compare_app.top in
     record a { top = record a.top { subcommand_required = true; has_version = true } }
 
 -- the argument is this one, and not for all subcommands
@@ -189,9 +200,9 @@ GivesOptions words options =
 abbrev pub GivesSearch : List Text → Strategy → Type 0
 GivesSearch words strategy = GivesOptions words strategy.search × GivesFlag (codes "deep") words strategy.deep
 
--- they ask for the best order, and say how to look for it, or don't ask for it
+-- they ask for the best order, and say how to look for it, or don't ask for it; two of the flags are a mistake even then
 abbrev pub GivesOrder : List Text → Option Strategy → Type 0
-GivesOrder words None = has_option (codes "order") words ≡ false
+GivesOrder words None = (has_option (codes "order") words ≡ false) × (gives_two words ≡ false)
 GivesOrder words (Some strategy) = (has_option (codes "order") words ≡ true) × GivesSearch words strategy
 
 -- a number of a text, if there is one, is from the least to the most
@@ -220,16 +231,18 @@ Asks words (Why cut order block profile) =
 Asks words (Page cut strategy block profile) =
     AsksFor words (codes "page") × GivesFlag (codes "cut") words cut × GivesSearch words strategy × GivesBlock words block
     × GivesProfile words profile
-Asks words (Order cut strategy trace profile) =
+Asks words (Order cut strategy trace keep quiet block profile) =
     AsksFor words (codes "order") × GivesFlag (codes "cut") words cut × GivesSearch words strategy × GivesFlag (codes "trace") words trace
+    × GivesFlag (codes "keep") words keep × GivesFlag (codes "quiet") words quiet × GivesBlock words block × GivesProfile words profile
+Asks words (Prove cut strategy block profile) =
+    AsksFor words (codes "prove") × GivesFlag (codes "cut") words cut × GivesSearch words strategy × GivesBlock words block
     × GivesProfile words profile
-Asks words (Prove cut strategy profile) =
-    AsksFor words (codes "prove") × GivesFlag (codes "cut") words cut × GivesSearch words strategy × GivesProfile words profile
 Asks words Check = AsksFor words (codes "check")
-Asks words Lint = AsksFor words (codes "lint")
-Asks words (Sum cut strategy trace profile) =
+Asks words (Sum cut strategy trace block profile) =
     AsksFor words (codes "sum") × GivesFlag (codes "cut") words cut × GivesSearch words strategy × GivesFlag (codes "trace") words trace
-    × GivesProfile words profile
+    × GivesBlock words block × GivesProfile words profile
+Asks words (Compare cut profile) = AsksFor words (codes "compare") × GivesFlag (codes "cut") words cut × GivesProfile words profile
+Asks words (Lint cut) = AsksFor words (codes "lint") × GivesFlag (codes "cut") words cut
 
 -- a kind of error that is no mistake
 abbrev pub IsHelp : ErrorKind → Type 0

@@ -62,6 +62,12 @@ pub enum Command<'a> {
         strategy: Strategy,
         /// Whether the number of splits is printed.
         trace: bool,
+        /// Whether a block that keeps its order is copied as it stands, without a report.
+        keep: bool,
+        /// Whether no report is printed.
+        quiet: bool,
+        /// The number of the only block that is put in order, from 1, while the others are left as they stand; None if all are.
+        block: Option<u32>,
         /// The text of the profile, if it isn't the standard one.
         profile: Option<&'a str>,
     },
@@ -71,6 +77,8 @@ pub enum Command<'a> {
         cut: bool,
         /// How the best order of each block is looked for.
         strategy: Strategy,
+        /// The number of the only block that is printed, from 1; None if all are.
+        block: Option<u32>,
         /// The text of the profile, if it isn't the standard one.
         profile: Option<&'a str>,
     },
@@ -84,11 +92,23 @@ pub enum Command<'a> {
         strategy: Strategy,
         /// Whether the numbers of splits are printed.
         trace: bool,
+        /// The number of the only block that is printed, from 1; None if all are.
+        block: Option<u32>,
+        /// The text of the profile, if it isn't the standard one.
+        profile: Option<&'a str>,
+    },
+    /// Whether one source is another but for legal orders of its blocks.
+    Compare {
+        /// Whether lines that can't be read, and what a macro, a directive or a count covers, are left alone.
+        cut: bool,
         /// The text of the profile, if it isn't the standard one.
         profile: Option<&'a str>,
     },
     /// The lines of a source, which may be any text, that are refused or that may not do what was meant.
-    Lint,
+    Lint {
+        /// Whether only what remains to be done by hand with `--cut` is listed.
+        cut: bool,
+    },
 }
 
 impl<'a> Command<'a> {
@@ -106,8 +126,9 @@ impl<'a> Command<'a> {
             | Command::Page { profile, .. }
             | Command::Order { profile, .. }
             | Command::Prove { profile, .. }
-            | Command::Sum { profile, .. } => profile,
-            Command::Deps { .. } | Command::Check | Command::Lint => None,
+            | Command::Sum { profile, .. }
+            | Command::Compare { profile, .. } => profile,
+            Command::Deps { .. } | Command::Check | Command::Lint { .. } => None,
         }
     }
 }

@@ -2,7 +2,7 @@ ghost use Rattle.std.specs.Prelude.{◌≡◌, IfOk, IfErr, IsOkAnd, List, Match
 ghost use Rattle.clap.specs.Words.{AddsSubcommand, Text, app_of, found_of, kind_of, new_app};
 ghost use Rattle.clap.specs.declared.error.kind.ErrorKind.TheVariants.{ArgumentConflict};
 ghost use Rattle.s66_command.specs.FoundOptions.{AreNodesFound, AreWorkersFound, IsBlockFound, IsOrderFound, IsStrategyFound, IsTaken};
-ghost use Rattle.s66_command.specs.Usage.{Asks, IsArgumentOf, IsCommandOf, IsUsageOf, Refuses, block_rule, chart_app, check_app, deps_app, flag_rule, lint_app, nodes_rule, order_app, page_app, profile_rule, prove_app, rule_unless_two, s66_app, search_app, source_app, sum_app, time_app, why_app, workers_rule};
+ghost use Rattle.s66_command.specs.Usage.{Asks, IsArgumentOf, IsCommandOf, IsUsageOf, Refuses, block_rule, chart_app, check_app, compare_app, deps_app, flag_rule, lint_app, nodes_rule, order_app, page_app, profile_rule, prove_app, rule_unless_two, s66_app, search_app, source_app, sum_app, time_app, why_app, workers_rule};
 ghost use Rattle.s66_command.specs.declared.usage.Usage.TheVariants.{OutOfMemory};
 
 use crate::command::Command as Asked;
@@ -119,6 +119,12 @@ const SUM_ENDING: &str = help_ending!(
     ", 7 some block is only bounded"
 );
 
+const COMPARE_ENDING: &str = help_ending!(
+    "s66 compare --cut < SOURCES",
+    "a source or the profile was refused",
+    ", 5 something else is changed"
+);
+
 const CHECK_ENDING: &str = help_ending!(
     "s66 check < CERTIFICATES",
     "the documents were refused",
@@ -161,7 +167,18 @@ const TEXT_HELP: &str =
 const ORDER_HELP: &str =
     "Explains the best order that was found, and not the source's; the options of a search are for this";
 
+const KEEP_HELP: &str =
+    "Copies a block that keeps its order as it stands, with its NOs and notes, and reports nothing of it";
+
+const QUIET_HELP: &str = "Prints no reports, but the source alone";
+
 const BLOCK_HELP: &str = "Prints only the block of this number, 1 to 20000";
+
+const ORDER_BLOCK_HELP: &str =
+    "Puts only the block of this number in order, 1 to 20000; copies the others as they stand";
+
+const LINT_CUT_HELP: &str =
+    "Leaves out what the other subcommands leave alone with --cut: lists what remains to be done by hand";
 
 /// A flag by its name.
 fn flag<'a>(alloc: Global, name: &'a str, help: &'a str) -> Arg<'a>
@@ -210,13 +227,13 @@ fn nodes_option<'a>(alloc: Global) -> Arg<'a>
 }
 
 /// The option `--block`.
-fn block_option<'a>(alloc: Global) -> Arg<'a>
+fn block_option<'a>(alloc: Global, help: &'a str) -> Arg<'a>
     ensures { IsArgumentOf block_rule result }
 {
     Arg::new(alloc, "block")
         .long("block")
         .value_name("N")
-        .help(BLOCK_HELP)
+        .help(help)
         .value_parser(value_parser!(u32).range(1..=i64::from(BLOCK_NUMBER_LIMIT)))
 }
 
@@ -273,7 +290,7 @@ fn time_command<'a>(alloc: Global) -> Result<Command<'a>, AllocError>
     )?
     .arg(profile_option(alloc))?
     .arg(flag(alloc, "trace", "Prints the times of each instruction"))?
-    .arg(block_option(alloc))
+    .arg(block_option(alloc, BLOCK_HELP))
 }
 
 /// The subcommand `deps`.
@@ -287,7 +304,7 @@ fn deps_command<'a>(alloc: Global) -> Result<Command<'a>, AllocError>
         "s66 deps [OPTIONS] < SOURCE",
         DEPS_ENDING,
     )?
-    .arg(block_option(alloc))
+    .arg(block_option(alloc, BLOCK_HELP))
 }
 
 /// The subcommand `chart`.
@@ -303,7 +320,7 @@ fn chart_command<'a>(alloc: Global) -> Result<Command<'a>, AllocError>
     )?
     .arg(profile_option(alloc))?
     .arg(flag(alloc, "text", TEXT_HELP))?
-    .arg(block_option(alloc))
+    .arg(block_option(alloc, BLOCK_HELP))
 }
 
 /// A subcommand that searches.
@@ -337,7 +354,7 @@ fn why_command<'a>(alloc: Global) -> Result<Command<'a>, AllocError>
         WHY_ENDING,
     )?
     .arg(flag(alloc, "order", ORDER_HELP))?
-    .arg(block_option(alloc))
+    .arg(block_option(alloc, BLOCK_HELP))
 }
 
 /// The subcommand `page`.
@@ -351,7 +368,7 @@ fn page_command<'a>(alloc: Global) -> Result<Command<'a>, AllocError>
         "s66 page [OPTIONS] < SOURCE > PAGE",
         PAGE_ENDING,
     )?
-    .arg(block_option(alloc))
+    .arg(block_option(alloc, BLOCK_HELP))
 }
 
 /// The subcommand `order`.
@@ -365,7 +382,10 @@ fn order_command<'a>(alloc: Global) -> Result<Command<'a>, AllocError>
         "s66 order [OPTIONS] < SOURCE",
         ORDER_ENDING,
     )?
-    .arg(flag(alloc, "trace", "Prints the number of splits of each block"))
+    .arg(flag(alloc, "trace", "Prints the number of splits of each block"))?
+    .arg(flag(alloc, "keep", KEEP_HELP))?
+    .arg(flag(alloc, "quiet", QUIET_HELP))?
+    .arg(block_option(alloc, ORDER_BLOCK_HELP))
 }
 
 /// The subcommand `prove`.
@@ -378,7 +398,8 @@ fn prove_command<'a>(alloc: Global) -> Result<Command<'a>, AllocError>
         "Writes a certificate for each block of a source: the best order that was found, and a bound with its proof",
         "s66 prove [OPTIONS] < SOURCE",
         PROVE_ENDING,
-    )
+    )?
+    .arg(block_option(alloc, BLOCK_HELP))
 }
 
 /// The subcommand `check`.
@@ -395,16 +416,17 @@ fn check_command<'a>(alloc: Global) -> Command<'a>
 }
 
 /// The subcommand `lint`.
-fn lint_command<'a>(alloc: Global) -> Command<'a>
-    ensures { IsCommandOf lint_app result }
+fn lint_command<'a>(alloc: Global) -> Result<Command<'a>, AllocError>
+    ensures { IfOk result (IsCommandOf lint_app) }
 {
     described(
         alloc,
         "lint",
         "Lists each line of a source that is refused, or that may not do what was meant",
-        "s66 lint < SOURCE",
+        "s66 lint [OPTIONS] < SOURCE",
         LINT_ENDING,
     )
+    .arg(flag(alloc, "cut", LINT_CUT_HELP))
 }
 
 /// The subcommand `sum`.
@@ -422,7 +444,22 @@ fn sum_command<'a>(alloc: Global) -> Result<Command<'a>, AllocError>
         alloc,
         "trace",
         "Prints the number of splits of each block, and of all",
-    ))
+    ))?
+    .arg(block_option(alloc, BLOCK_HELP))
+}
+
+/// The subcommand `compare`.
+fn compare_command<'a>(alloc: Global) -> Result<Command<'a>, AllocError>
+    ensures { IfOk result (IsCommandOf compare_app) }
+{
+    source_command(
+        alloc,
+        "compare",
+        "Tells whether one source is another but for legal orders of its blocks: OLD, a line *S66 NEW, then NEW",
+        "s66 compare [OPTIONS] < SOURCES",
+        COMPARE_ENDING,
+    )?
+    .arg(profile_option(alloc))
 }
 
 /// A command line with one subcommand more, if memory was enough for that one.
@@ -454,8 +491,9 @@ fn program<'a>(alloc: Global) -> Result<Command<'a>, AllocError>
     let program = with_subcommand(program, order_command(alloc))?;
     let program = with_subcommand(program, prove_command(alloc))?;
     let program = program.subcommand(check_command(alloc))?;
-    let program = program.subcommand(lint_command(alloc))?;
-    with_subcommand(program, sum_command(alloc))
+    let program = with_subcommand(program, lint_command(alloc))?;
+    let program = with_subcommand(program, sum_command(alloc))?;
+    with_subcommand(program, compare_command(alloc))
 }
 
 /// How many workers search, by the words of a subcommand that searches.
@@ -600,19 +638,30 @@ fn asked<'a>(alloc: Global, matches: &ArgMatches<'a>) -> Result<Asked<'a>, Usage
             strategy: strategy_or_mistake(alloc, given, order_command)?,
             cut: given.get_flag("cut"),
             trace: given.get_flag("trace"),
+            keep: given.get_flag("keep"),
+            quiet: given.get_flag("quiet"),
+            block: block_in(given),
             profile: given.get_str("profile"),
         }),
         "prove" => Ok(Asked::Prove {
             strategy: strategy_or_mistake(alloc, given, prove_command)?,
             cut: given.get_flag("cut"),
+            block: block_in(given),
             profile: given.get_str("profile"),
         }),
         "check" => Ok(Asked::Check),
-        "lint" => Ok(Asked::Lint),
+        "lint" => Ok(Asked::Lint {
+            cut: given.get_flag("cut"),
+        }),
         "sum" => Ok(Asked::Sum {
             strategy: strategy_or_mistake(alloc, given, sum_command)?,
             cut: given.get_flag("cut"),
             trace: given.get_flag("trace"),
+            block: block_in(given),
+            profile: given.get_str("profile"),
+        }),
+        "compare" => Ok(Asked::Compare {
+            cut: given.get_flag("cut"),
             profile: given.get_str("profile"),
         }),
         _ => unreachable!(),

@@ -31,6 +31,9 @@ pub fn order_by(workers: u8, nodes: u32, rule: Rule) -> Command<'static>
         cut: false,
         strategy: search_by(workers, nodes, rule),
         trace: true,
+        keep: false,
+        quiet: false,
+        block: None,
         profile: None,
     }
 }
@@ -43,6 +46,7 @@ pub fn prove_by(workers: u8, nodes: u32, rule: Rule) -> Command<'static>
     Command::Prove {
         cut: false,
         strategy: search_by(workers, nodes, rule),
+        block: None,
         profile: None,
     }
 }

@@ -89,6 +89,7 @@ pub fn summed<R: AllocGlobal + Threads + Wait + Sync>(rt: &R) -> Result<Answered
             deep: false,
         },
         trace: false,
+        block: None,
         profile: None,
     };
     let mut reader = OverRead::new(MULTIPLIES.as_bytes());

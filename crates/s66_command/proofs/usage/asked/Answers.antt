@@ -24,7 +24,8 @@ unreachable-requires-in_default-name c =
       | inr (inr (inr (inr (inr (inr (inr (inl e))))))) ↦ search rules
       | inr (inr (inr (inr (inr (inr (inr (inr (inl e)))))))) ↦ search rules
       | inr (inr (inr (inr (inr (inr (inr (inr (inr (inl e))))))))) ↦ search rules
-      | inr (inr (inr (inr (inr (inr (inr (inr (inr (inr none))))))))) ↦ none
+      | inr (inr (inr (inr (inr (inr (inr (inr (inr (inr (inl e)))))))))) ↦ search rules
+      | inr (inr (inr (inr (inr (inr (inr (inr (inr (inr (inr none)))))))))) ↦ none
     ]
 
 pub returns-in-time : goal.returns-in-time
@@ -109,9 +110,12 @@ returns-in_ok-strategy_or_mistake-in-order c words is =
     let found = found_of c.in-Some.given.now in
     let there = met c.args.matches.now words _ found _ is c.in-Some.ensures.name c.in-Some.ensures.rows c.in-order.is refl in (
       there.0,
-      flag-of words found c.get_flag-in-order.result _ (codes "cut") there.1 ((inl refl, (inr refl, (inr refl, (inr refl, (inr refl, (inr refl, (inr refl, (inr refl, (inr refl, tt))))))))), refl) (c.get_flag-in-order.ensures.value, c.get_flag-in-order.ensures.other),
+      flag-of words found c.get_flag-in-order.result _ (codes "cut") there.1 ((inl refl, (inr refl, (inr refl, (inr refl, (inr refl, (inr refl, (inr refl, (inr refl, (inr refl, (inr refl, (inr refl, (inr refl, tt)))))))))))), refl) (c.get_flag-in-order.ensures.value, c.get_flag-in-order.ensures.other),
       search-of words found c.in_ok-strategy_or_mistake-in-order.field-0 _ there.1 order-options c.in_ok-strategy_or_mistake-in-order.ensures.ok,
-      flag-of words found c.get_flag-in-order-2.result _ (codes "trace") there.1 ((inr refl, (inr refl, (inr refl, (inr refl, (inr refl, (inr refl, (inr refl, (inl refl, (inr refl, tt))))))))), refl) (c.get_flag-in-order-2.ensures.value, c.get_flag-in-order-2.ensures.other),
+      flag-of words found c.get_flag-in-order-2.result _ (codes "trace") there.1 ((inr refl, (inr refl, (inr refl, (inr refl, (inr refl, (inr refl, (inr refl, (inl refl, (inr refl, (inr refl, (inr refl, (inr refl, tt)))))))))))), refl) (c.get_flag-in-order-2.ensures.value, c.get_flag-in-order-2.ensures.other),
+      flag-of words found c.get_flag-in-order-3.result _ (codes "keep") there.1 ((inr refl, (inr refl, (inr refl, (inr refl, (inr refl, (inr refl, (inr refl, (inr refl, (inl refl, (inr refl, (inr refl, (inr refl, tt)))))))))))), refl) (c.get_flag-in-order-3.ensures.value, c.get_flag-in-order-3.ensures.other),
+      flag-of words found c.get_flag-in-order-4.result _ (codes "quiet") there.1 ((inr refl, (inr refl, (inr refl, (inr refl, (inr refl, (inr refl, (inr refl, (inr refl, (inr refl, (inl refl, (inr refl, (inr refl, tt)))))))))))), refl) (c.get_flag-in-order-4.ensures.value, c.get_flag-in-order-4.ensures.other),
+      block-of words found c.block_in-in-order.result _ there.1 (inr refl, (inr refl, (inr refl, (inr refl, (inr refl, (inr refl, (inr refl, (inr refl, (inr refl, (inr refl, (inl refl, (inr refl, tt)))))))))))) c.block_in-in-order.ensures,
       profile-of words found _ c.get_str-in-order.result there.1 c.get_str-in-order.ensures,
     )
 
@@ -128,8 +132,9 @@ returns-in_ok-strategy_or_mistake-in-prove c words is =
     let found = found_of c.in-Some.given.now in
     let there = met c.args.matches.now words _ found _ is c.in-Some.ensures.name c.in-Some.ensures.rows c.in-prove.is refl in (
       there.0,
-      flag-of words found c.get_flag-in-prove.result _ (codes "cut") there.1 ((inl refl, (inr refl, (inr refl, (inr refl, (inr refl, (inr refl, (inr refl, (inr refl, tt)))))))), refl) (c.get_flag-in-prove.ensures.value, c.get_flag-in-prove.ensures.other),
+      flag-of words found c.get_flag-in-prove.result _ (codes "cut") there.1 ((inl refl, (inr refl, (inr refl, (inr refl, (inr refl, (inr refl, (inr refl, (inr refl, (inr refl, tt))))))))), refl) (c.get_flag-in-prove.ensures.value, c.get_flag-in-prove.ensures.other),
       search-of words found c.in_ok-strategy_or_mistake-in-prove.field-0 _ there.1 prove-options c.in_ok-strategy_or_mistake-in-prove.ensures.ok,
+      block-of words found c.block_in-in-prove.result _ there.1 (inr refl, (inr refl, (inr refl, (inr refl, (inr refl, (inr refl, (inr refl, (inl refl, (inr refl, tt))))))))) c.block_in-in-prove.ensures,
       profile-of words found _ c.get_str-in-prove.result there.1 c.get_str-in-prove.ensures,
     )
 
@@ -146,14 +151,29 @@ returns-in_ok-strategy_or_mistake-in-sum c words is =
     let found = found_of c.in-Some.given.now in
     let there = met c.args.matches.now words _ found _ is c.in-Some.ensures.name c.in-Some.ensures.rows c.in-sum.is refl in (
       there.0,
-      flag-of words found c.get_flag-in-sum.result _ (codes "cut") there.1 ((inl refl, (inr refl, (inr refl, (inr refl, (inr refl, (inr refl, (inr refl, (inr refl, (inr refl, tt))))))))), refl) (c.get_flag-in-sum.ensures.value, c.get_flag-in-sum.ensures.other),
+      flag-of words found c.get_flag-in-sum.result _ (codes "cut") there.1 ((inl refl, (inr refl, (inr refl, (inr refl, (inr refl, (inr refl, (inr refl, (inr refl, (inr refl, (inr refl, tt)))))))))), refl) (c.get_flag-in-sum.ensures.value, c.get_flag-in-sum.ensures.other),
       search-of words found c.in_ok-strategy_or_mistake-in-sum.field-0 _ there.1 sum-options c.in_ok-strategy_or_mistake-in-sum.ensures.ok,
-      flag-of words found c.get_flag-in-sum-2.result _ (codes "trace") there.1 ((inr refl, (inr refl, (inr refl, (inr refl, (inr refl, (inr refl, (inr refl, (inl refl, (inr refl, tt))))))))), refl) (c.get_flag-in-sum-2.ensures.value, c.get_flag-in-sum-2.ensures.other),
+      flag-of words found c.get_flag-in-sum-2.result _ (codes "trace") there.1 ((inr refl, (inr refl, (inr refl, (inr refl, (inr refl, (inr refl, (inr refl, (inl refl, (inr refl, (inr refl, tt)))))))))), refl) (c.get_flag-in-sum-2.ensures.value, c.get_flag-in-sum-2.ensures.other),
+      block-of words found c.block_in-in-sum.result _ there.1 (inr refl, (inr refl, (inr refl, (inr refl, (inr refl, (inr refl, (inr refl, (inr refl, (inl refl, (inr refl, tt)))))))))) c.block_in-in-sum.ensures,
       profile-of words found _ c.get_str-in-sum.result there.1 c.get_str-in-sum.ensures,
     )
 
 pub returns-in-check : goal.returns-in-check
 returns-in-check c words is = asks-for c.args.matches.now words _ (codes "check") is c.in-Some.ensures.name c.in-check.is
 
+pub returns-in-compare : goal.returns-in-compare
+returns-in-compare c words is =
+    let found = found_of c.in-Some.given.now in
+    let there = met c.args.matches.now words _ found _ is c.in-Some.ensures.name c.in-Some.ensures.rows c.in-compare.is refl in (
+      there.0,
+      flag-of words found c.get_flag-in-compare.result _ (codes "cut") there.1 ((inl refl, (inr refl, (inr refl, tt))), refl) (c.get_flag-in-compare.ensures.value, c.get_flag-in-compare.ensures.other),
+      profile-of words found _ c.get_str-in-compare.result there.1 c.get_str-in-compare.ensures,
+    )
+
 pub returns-in-lint : goal.returns-in-lint
-returns-in-lint c words is = asks-for c.args.matches.now words _ (codes "lint") is c.in-Some.ensures.name c.in-lint.is
+returns-in-lint c words is =
+    let found = found_of c.in-Some.given.now in
+    let there = met c.args.matches.now words _ found _ is c.in-Some.ensures.name c.in-Some.ensures.rows c.in-lint.is refl in (
+      there.0,
+      flag-of words found c.get_flag-in-lint.result _ (codes "cut") there.1 ((inl refl, (inr refl, tt)), refl) (c.get_flag-in-lint.ensures.value, c.get_flag-in-lint.ensures.other),
+    )

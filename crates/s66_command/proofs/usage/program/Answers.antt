@@ -16,5 +16,6 @@ returns c =
     let with-order = with-made _ _ _ _ c.order_command.result with-page c.order_command.ensures c.in_ok-program-6.ensures in
     let with-prove = with-made _ _ _ _ c.prove_command.result with-order c.prove_command.ensures c.in_ok-program-7.ensures in
     let with-check = with-subcommand _ _ _ _ _ with-prove c.check_command.ensures c.in_ok-program-8.ensures in
-    let with-lint = with-subcommand _ _ _ _ _ with-check c.lint_command.ensures c.in_ok-program-9.ensures in
-    IfOk-weaker c.with_subcommand-8.result _ _ (λ r adds. (with-made _ _ _ _ c.sum_command.result with-lint c.sum_command.ensures adds).0) c.with_subcommand-8.ensures
+    let with-lint = with-made _ _ _ _ c.lint_command.result with-check c.lint_command.ensures c.in_ok-program-9.ensures in
+    let with-sum = with-made _ _ _ _ c.sum_command.result with-lint c.sum_command.ensures c.in_ok-program-10.ensures in
+    IfOk-weaker c.with_subcommand-10.result _ _ (λ r adds. (with-made _ _ _ _ c.compare_command.result with-sum c.compare_command.ensures adds).0) c.with_subcommand-10.ensures
