@@ -3,6 +3,7 @@
 
 mod answers;
 mod documents;
+mod json_text;
 mod kept;
 mod laws;
 mod limits;
