@@ -1,3 +1,4 @@
+pub mod Appended
 pub mod Labels
 pub mod Numbered
 pub mod PointTexts

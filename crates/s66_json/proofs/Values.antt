@@ -171,7 +171,6 @@ block-text n block t found =
     ∙ ap (λ u. name (codes ",\"line\":" ++ u)) (two first (codes ",\"last_line\":") last (size_text block ++ (following ++ rest)))
     ∙ ap (λ u. name (lines (codes ",\"count\":" ++ u))) (two count (codes ",\"parcels\":") parcels (following ++ rest))
     ∙ ap (λ u. name (lines (size u))) (append_assoc (instructions_text p block) ending rest)
-    ∙ ap (λ u. name (lines (size (codes ",\"instructions\":" ++ u)))) (append_assoc all ending rest)
     ∙ ap (λ u. name (lines (size (codes ",\"instructions\":" ++ (all ++ (codes ",\"written\":" ++ u)))))) (append_assoc (timed_text t) (codes "},\"found\":") rest))
 
 -- LINES

@@ -17,6 +17,6 @@ mod wait;
 mod waits;
 mod words;
 
-pub use examples::{found_example, label_example};
+pub use examples::{found_example, instruction_example, label_example, written_example};
 pub use laws::{bytes_law, order_law};
 pub use line::{push_found_line, push_written_line};

@@ -1,7 +1,8 @@
 ghost use Rattle.std.specs.Prelude.{ℕ, ◌≡◌, ◌≤◌, ◌++◌, OnOk, IfOk, length, reverse};
 ghost use Rattle.s66_isa.specs.declared.limits.TheConstants.{BLOCK_LIMIT};
 ghost use Rattle.s66_line.specs.Block.{instrs_of};
-ghost use Rattle.s66_why.specs.Why.{lost, stretches};
+ghost use Rattle.s66_model.specs.Timing.{points_of};
+ghost use Rattle.s66_why.specs.Why.{lost, path, stretches};
 ghost use Rattle.s66_why.specs.declared.stretch.Conflict.{Conflict as ConflictOf};
 ghost use Rattle.s66_json.specs.Json.{fillers_in};
 ghost use Rattle.s66_json.specs.Pieces.{bound_text, lost_text, order_text, path_text, points_text, timed_text};
@@ -87,19 +88,34 @@ fn push_lost(out: &mut Vec<u8>, sums: &Lost) -> Result<(), AllocError>
     push_text(out, b"}")
 }
 
+/// How many NOs fill up the words of an order.
+fn fillers(block: &Block, timed: &Timed) -> usize
+    requires { timed.now.problem.block ≡ instrs_of block.now }
+    ensures { result ≡ fillers_in timed.now }
+{
+    pack(block, timed.order()).fillers.len()
+}
+
+/// The path to the instruction of an order that ends last.
+fn path(timed: &Timed, points: &[PlacedInstr]) -> ArrayVec<u8, BLOCK_LIMIT>
+    requires few { length points.now ≤ BLOCK_LIMIT }
+    requires points { reverse points.now ≡ points_of timed.now.problem timed.now.numbers }
+    ensures { result.items ≡ path (points_of timed.now.problem timed.now.numbers) }
+{
+    reversed(path_from_end(points, timed.total()).as_slice())
+}
+
 /// A timed order, without the brace that closes it.
 pub fn push_timed(out: &mut Vec<u8>, block: &Block, timed: &Timed) -> Result<(), AllocError>
     requires { timed.now.problem.block ≡ instrs_of block.now }
     ensures { OnOk result (out.new.items ≡ out.old.items ++ timed_text timed.now) }
 {
-    let order = timed.order();
-    let fillers = pack(block, order).fillers.len();
     let points = points_of(timed);
     let points = points.as_slice();
-    let path = path_from_end(points, timed.total());
-    push_order_numbers(out, timed.total(), fillers, order.numbers())?;
+    let fillers = fillers(block, timed);
+    push_order_numbers(out, timed.total(), fillers, timed.order().numbers())?;
     let sums = push_points(out, points)?;
-    push_path(out, reversed(path.as_slice()).as_slice())?;
+    push_path(out, path(timed, points).as_slice())?;
     push_lost(out, &sums)
 }
 

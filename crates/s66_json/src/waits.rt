@@ -10,9 +10,9 @@ fn add(waits: &mut ArrayVec<Stretch, 4>, stretch: &Option<Stretch>)
     ensures items { waits.new.items ≡ waits.old.items ++ option_to_list stretch.now }
     ensures few { length waits.new.items ≤ length waits.old.items + 1 }
 {
-    if let Some(stretch) = stretch {
-        waits.push(*stretch);
-    }
+    let Ok(()) = waits.try_extend_from_slice(stretch.as_slice()) else {
+        unreachable!()
+    };
 }
 
 /// For how long an instruction is kept back that comes after these, and by what: until it issues, until it starts, and each of its

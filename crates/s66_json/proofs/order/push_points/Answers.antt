@@ -1,12 +1,10 @@
-use Rattle.std.proofs.Common.{ℕ, ◌≡◌, ◌+◌, ◌*◌, ◌^◌, ◌<◌, ◌++◌, ◌∙◌, Bool, List, [], ◌∷◌, ap, ap₂, append_assoc, arith, length, length-take, refl, reverse, sym, take}
-use Rattle.std.specs.Prelude.{nat_lt}
-use Rattle.serde_json.specs.Written.{comma_if}
+use Rattle.std.proofs.Common.{◌≡◌, ◌+◌, ◌*◌, ◌^◌, ◌++◌, ◌∙◌, List, ap, arith, reverse, sym, take}
 use Rattle.s66_model.specs.Timing.{Point}
 use Rattle.s66_why.specs.declared.stretch.Stretch.{Stretch}
 use Rattle.s66_why.specs.Why.{stretches, stretches_at, lost}
 use Rattle.s66_why.proofs.Earlier.{earlier-more}
 use Rattle.s66_why.proofs.Lines.{lost-more}
-use Rattle.s66_json.specs.Pieces.{is_some, point_text, points_text}
+use Rattle.s66_json.specs.Sums.{sum_of}
 use Rattle.s66_json.proofs.PointTexts.{points-more}
 use Rattle.s66_json.proofs.order.push_points.Goals as goal
 
@@ -20,10 +18,12 @@ loop-position-preserved c =
     let more : stretches (reverse (take (i + 1) ps)) ≡ stretches s ++ stretches_at s p = ap stretches (earlier-more ps i p c.loop-position-test.true c.index-points-position.is) in
     let few = c.add_all.ensures.at_most (2 ^ 34 * i) c.loop-position.invariant.at_most in
     record {
-      text = points-more ps i p c.as_slice-2.result.now c.args.out.now.items c.loop-position.out.items c.push_comma.new.out.items _ c.loop-position-test.true c.index-points-position.is
-          (c.as_slice-2.ensures.value ∙ c.waits_of-waits.ensures) c.loop-position.invariant.text c.in_ok-push_comma.ensures c.in_ok-push_point.ensures;
+      text = points-more ps i p c.as_slice-in-loop-position.result.now c.args.out.now.items c.loop-position.out.items c.push_comma.new.out.items _ c.loop-position-test.true c.index-points-position.is
+          (c.as_slice-in-loop-position.ensures.value ∙ c.waits_of-waits.ensures) c.loop-position.invariant.text c.in_ok-push_comma.ensures c.in_ok-push_point.ensures;
       sums = λ conflict.
-          lost-more conflict 0 _ _ (stretches s) (stretches_at s p) (omega (arith, c.loop-position.invariant.sums conflict)) (c.add_all.ensures.sums conflict ∙ ap (λ (xs : List Stretch). _ + lost conflict xs) waits)
+          let before : sum_of c.loop-position.sums conflict ≡ 0 + lost conflict (stretches s) = omega (arith, c.loop-position.invariant.sums conflict) in
+          lost-more conflict 0 (sum_of c.loop-position.sums conflict) _ (stretches s) (stretches_at s p) before
+          (c.add_all.ensures.sums conflict ∙ ap (λ (xs : List Stretch). sum_of c.loop-position.sums conflict + lost conflict xs) waits)
           ∙ ap (λ (xs : List Stretch). 0 + lost conflict xs) (sym more) ∙ omega arith;
       at_most = (omega (arith, few), omega (arith, few), omega (arith, few));
     }

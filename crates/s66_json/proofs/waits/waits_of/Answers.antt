@@ -29,7 +29,7 @@ loop-write-preserved c =
     let w = c.write-item.result in
     record {
       items =
-          c.add-3.ensures.items ∙ ap₂ (λ (xs ys : List Stretch). xs ++ ys) c.loop-write.invariant.items c.third_stretch.ensures
+          c.add-in-loop-write.ensures.items ∙ ap₂ (λ (xs ys : List Stretch). xs ++ ys) c.loop-write.invariant.items c.third_stretch.ensures
           ∙ sym (parts-more (third_stretch s p) (first_stretch s p) (second_stretch s p) ws i w c.loop-write-test.true c.write-item.is);
-      few = omega (arith, c.add-3.ensures.few, c.loop-write.invariant.few);
+      few = omega (arith, c.add-in-loop-write.ensures.few, c.loop-write.invariant.few);
     }
