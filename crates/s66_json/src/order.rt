@@ -121,12 +121,7 @@ pub fn push_timed(out: &mut Vec<u8>, block: &Block, timed: &Timed) -> Result<(),
 
 /// What every order takes at least, and how many splits there were.
 #[tactic(auto, unfolding(crate::specs::Pieces::bound_text))]
-pub fn push_bound(
-    out: &mut Vec<u8>,
-    bound: u32,
-    splits: u32,
-    best: bool,
-) -> Result<(), AllocError>
+pub fn push_bound(out: &mut Vec<u8>, bound: u32, splits: u32, best: bool) -> Result<(), AllocError>
     ensures { OnOk result (out.new.items ≡ out.old.items ++ bound_text bound splits best) }
 {
     push_field(out, b",\"bound\":", bound as usize)?;

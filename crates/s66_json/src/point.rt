@@ -66,11 +66,7 @@ fn push_times(out: &mut Vec<u8>, point: &PlacedInstr) -> Result<(), AllocError>
 
 /// Its results, and what it waits for.
 #[tactic(auto, unfolding(crate::specs::Pieces::lists_text))]
-fn push_lists(
-    out: &mut Vec<u8>,
-    point: &PlacedInstr,
-    waits: &[Stretch],
-) -> Result<(), AllocError>
+fn push_lists(out: &mut Vec<u8>, point: &PlacedInstr, waits: &[Stretch]) -> Result<(), AllocError>
     ensures { OnOk result (out.new.items ≡ out.old.items ++ lists_text point.now waits.now) }
 {
     push_text(out, b",\"results\":")?;

@@ -152,7 +152,9 @@ fn runs_rows(rt: HostRuntime) {
 #[test]
 fn refuses_bad_profiles(rt: HostRuntime) {
     for &(text, stated) in profile::BAD {
-        for command in ["time", "chart", "why", "page", "order", "prove", "sum", "json"] {
+        for command in [
+            "time", "chart", "why", "page", "order", "prove", "sum", "json",
+        ] {
             let words = ["s66", command, "--profile", text];
             for input in [ONE_LOAD, "  SA1 *+2\n"] {
                 check(&rt, text, &words, input.as_bytes(), 3, stated);

@@ -17,8 +17,8 @@ mod why_text;
 
 pub use check_text::check_output;
 pub use document_text::{push_document, texts_of};
-pub use lint_text::lint_output;
 pub use json_text::push_json_found;
+pub use lint_text::lint_output;
 pub use listing::{Listing, listing_output};
 pub use selection::{blocks_before, shown};
 pub use status::{status_by, status_of};

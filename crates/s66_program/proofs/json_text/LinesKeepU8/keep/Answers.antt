@@ -18,13 +18,13 @@ returns c =
     let a = answer_in c.args.found in
     let line : Profile → List ℕ → ℕ → ℕ → List ℕ =
     λ q ns bound splits.
-        c.args.parts.now.items
-        ++ json_line c.args.number block (as_written q (instrs_of block)) (found_data (record { problem = record { block = instrs_of block; profile = q }; numbers = ns }) bound splits)
+    c.args.parts.now.items
+    ++ json_line c.args.number block (as_written q (instrs_of block)) (found_data (record { problem = record { block = instrs_of block; profile = q }; numbers = ns }) bound splits)
     in (
       a,
       c.is_best.ensures.answer strategy p block c.requires,
       c.in_ok-push_json_found.ensures.line
-      ∙ ap₂ (λ (q : Profile) (o : Ordered). line q o.numbers c.bound.result c.splits.result) c.new-timer.ensures (c.order.ensures strategy p block c.requires)
-      ∙ ap₂ (λ bound splits. line p a.order bound splits) c.bound.ensures c.splits.ensures,
+          ∙ ap₂ (λ (q : Profile) (o : Ordered). line q o.numbers c.bound.result c.splits.result) c.new-timer.ensures (c.order.ensures strategy p block c.requires)
+          ∙ ap₂ (λ bound splits. line p a.order bound splits) c.bound.ensures c.splits.ensures,
       c.is_best.ensures.value,
     )
