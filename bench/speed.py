@@ -100,7 +100,7 @@ def tell_speed(program):
     for name, text in (BLOCKS | EXTREMES).items():
         with tempfile.TemporaryFile() as file:
             file.write(text)
-            for subcommand in ("time", "time --trace", "deps", "chart", "why", "page --workers 1 --nodes 0"):
+            for subcommand in ("time", "time --trace", "deps", "chart", "why", "json", "page --workers 1 --nodes 0"):
                 words = [program] + subcommand.split()
                 best, size = measured_time(words, file)
                 peak = peak_memory(words, file)

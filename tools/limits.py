@@ -28,7 +28,7 @@ SOURCE = f"LOOP   SA1 A1+B1\n  BX6 X1\n  ZR X1,LOOP\n{SEVEN}".encode()
 LONG = b"  SA1 A1+B1\n" * 20000
 LANES = "".join(f"  SX{i % 6} X{i % 6}+B1\n  SX{i % 6} X{i % 6}+B2\n  LX{i % 6} 7\n  FX{(i + 3) % 6} X{i % 6}*X{i % 6}\n" for i in range(32))
 BLOCKS = (f"{LANES}  PS\n" * 4).encode()  # of 128 instructions each
-SEARCHES = [["order", "--trace"], ["order", "--deep"], ["order", "--dominate-tree"], ["prove"], ["sum"], ["page"]]
+SEARCHES = [["order", "--trace"], ["order", "--deep"], ["order", "--dominate-tree"], ["prove"], ["sum"], ["page"], ["json", "--order"]]
 USER = 65_520 + os.getpid() % 14  # one of the numbers that systems leave unused
 UNREAD = (6, b"", b"READ FAILED\n")
 UNWRITTEN = (6, b"", b"WRITE FAILED\n")
@@ -134,10 +134,10 @@ def check_devices(checks, program):
     silent, speaker = os.pipe()
     os.set_blocking(silent, False)
     bad = b"  SA1 *\n"
-    for word in ("time", "chart", "page", "lint", "order", "prove", "sum", "check"):
+    for word in ("time", "chart", "page", "json", "lint", "order", "prove", "sum", "check"):
         for name, file in (("closed", None), ("a folder", folder), ("a pipe that says nothing yet", silent)):
             checks.look(f"{word}: input is {name}", "", with_files(program, [word], b"", {0: file}), UNREAD)
-    for word in ("time", "deps", "chart", "page", "order", "prove", "sum", "--help"):
+    for word in ("time", "deps", "chart", "page", "json", "order", "prove", "sum", "--help"):
         for name, file in (("closed", None), ("full", full), ("a pipe without a reader", before)):
             for given in (SOURCE, LONG) if word == "chart" else (SOURCE,):
                 checks.look(f"{word}: output is {name}", "", with_files(program, [word], given, {1: file}), UNWRITTEN)

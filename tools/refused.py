@@ -57,7 +57,7 @@ def searches():
     for words in (["order", "--trace", "--workers", "2"], ["order", "--workers", "4"], ["sum", "--workers", "16"]):
         yield [*words, "--nodes", "2100"], SEVEN, {7}
     # whole blocks by the workers
-    for words in (["order", "--trace"], ["sum", "--trace"], ["prove"], ["page"], ["why", "--order"]):
+    for words in (["order", "--trace"], ["sum", "--trace"], ["prove"], ["page"], ["why", "--order"], ["json", "--order"]):
         yield [*words, "--deep", "--workers", "2"], SOURCE, {0}
     # blocks of which a search without facts leaves something to be found
     for words in (["order", "--trace"], ["prove"]):
@@ -72,7 +72,7 @@ def rows():
     yield ["time", "more"], "", {2}
     yield ["order", "--workers", "17"], "", {2}
     yield ["order", "--dominate", "--dominate-tree"], "", {2}
-    for words in (["time"], ["time", "--trace"], ["deps"], ["chart"], ["why"]):
+    for words in (["time"], ["time", "--trace"], ["deps"], ["chart"], ["why"], ["json"]):
         yield words, SOURCE, {0}
         yield words, REFUSED_SOURCE, {3}
     yield ["time", "--profile", '{"load":2,"units_multiply":3}'], SOURCE, {0}

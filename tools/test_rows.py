@@ -43,7 +43,7 @@ def constants_of(path, known):
 def bad_profiles(table, shared):
     """The rows of a table BAD: what is refused by each subcommand, whatever the source is."""
     for text, told in table:
-        for word in "time", "chart", "why", "page", "order", "prove", "sum":
+        for word in "time", "chart", "why", "page", "order", "prove", "sum", "json":
             for given in shared["ONE_LOAD"], "  SA1 *+2\n":
                 yield text, ["s66", word, "--profile", text], given, 3, told
 

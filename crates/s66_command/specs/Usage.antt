@@ -1,8 +1,8 @@
 -- To be believed: the command line, by clap's rules: the subcommands `time`, `deps`, `chart`, `why`, `page`, `order`, `prove`,
--- `check`, `lint`, `sum` and `compare`, and a version. All but `check` have the flag `--cut`. `time`, `chart`, `why`, `page`, `order`,
--- `prove`, `sum` and `compare` have the option `--profile`, and those of them that search (`why`, `page`, `order`, `prove` and `sum`) also
+-- `check`, `lint`, `sum`, `compare` and `json`, and a version. All but `check` have the flag `--cut`. `time`, `chart`, `why`, `page`, `order`,
+-- `prove`, `sum`, `compare` and `json` have the option `--profile`, and those of them that search (`why`, `page`, `order`, `prove`, `sum` and `json`) also
 -- `--workers` and `--nodes`, and one at most of the flags `--dominate`, `--dominate-tree` and `--deep`. `time`, `order` and `sum` have the
--- flag `--trace`, `order` also `--keep` and `--quiet`, `chart` has `--text`, and `why` has `--order`, and with that the options of a search.
+-- flag `--trace`, `order` also `--keep` and `--quiet`, `chart` has `--text`, and `why` and `json` have `--order`, and with that the options of a search.
 -- All but `check`, `lint` and `compare` have the option `--block`.
 use Rattle.std.specs.Prelude.{◌≡◌, ◌≢◌, ◌⊎◌, ◌≤◌, ◌&&◌, ◌||◌, if◌then◌else◌, IfSome, ℕ, Bool, List, [], false, true, Option, None, Some, codes, option_and_then, pos}
 use Rattle.std.specs.Borrow.{Bor}
@@ -24,7 +24,7 @@ use Rattle.s66_model.specs.declared.rule.Rule.{Rule as LeafRule}
 use Rattle.s66_model.specs.declared.rule.Rule.TheVariants.{NoneNamed, WrittenEarlier, ClampedStanding}
 use Rattle.s66_command.specs.declared.limits.TheConstants.{BLOCK_NUMBER_LIMIT, NODES_DEFAULT, WORKERS_DEFAULT}
 use Rattle.s66_command.specs.declared.command.Command.{Command}
-use Rattle.s66_command.specs.declared.command.Command.TheVariants.{Time, Deps, Chart, Why, Page, Order, Prove, Check, Sum, Compare, Lint}
+use Rattle.s66_command.specs.declared.command.Command.TheVariants.{Time, Deps, Chart, Why, Page, Order, Prove, Check, Sum, Compare, Json, Lint}
 use Rattle.s66_command.specs.declared.strategy.Strategy.{Strategy}
 use Rattle.s66_command.specs.declared.usage.Usage.{Usage}
 use Rattle.s66_command.specs.declared.usage.Usage.TheVariants.{Help, Bad, OutOfMemory}
@@ -120,13 +120,16 @@ sum_app = with_rule (with_rule (search_app (codes "sum")) trace_rule) block_rule
 abbrev pub compare_app : App
 compare_app = with_rule (source_app (codes "compare")) profile_rule
 
+abbrev pub json_app : App
+json_app = with_rule (with_rule (search_app (codes "json")) order_rule) block_rule
+
 abbrev pub s66_app : App
 s66_app =
     let timing = with_subcommand (with_subcommand (new_app (codes "s66")) time_app.top) deps_app.top in
     let drawing = with_subcommand (with_subcommand timing chart_app.top) why_app.top in
     let searching = with_subcommand (with_subcommand (with_subcommand drawing page_app.top) order_app.top) prove_app.top in
     let reading = with_subcommand (with_subcommand searching check_app.top) lint_app.top in
-    let a = with_subcommand (with_subcommand reading sum_app.top) compare_app.top in
+    let a = with_subcommand (with_subcommand (with_subcommand reading sum_app.top) compare_app.top) json_app.top in
     record a { top = record a.top { subcommand_required = true; has_version = true } }
 
 -- the argument is this one, and not for all subcommands
@@ -242,6 +245,8 @@ Asks words (Sum cut strategy trace block profile) =
     AsksFor words (codes "sum") × GivesFlag (codes "cut") words cut × GivesSearch words strategy × GivesFlag (codes "trace") words trace
     × GivesBlock words block × GivesProfile words profile
 Asks words (Compare cut profile) = AsksFor words (codes "compare") × GivesFlag (codes "cut") words cut × GivesProfile words profile
+Asks words (Json cut order block profile) =
+    AsksFor words (codes "json") × GivesFlag (codes "cut") words cut × GivesOrder words order × GivesBlock words block × GivesProfile words profile
 Asks words (Lint cut) = AsksFor words (codes "lint") × GivesFlag (codes "cut") words cut
 
 -- a kind of error that is no mistake

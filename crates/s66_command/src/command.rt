@@ -104,6 +104,17 @@ pub enum Command<'a> {
         /// The text of the profile, if it isn't the standard one.
         profile: Option<&'a str>,
     },
+    /// Each block of a source as a line of JSON, as it was written and in the best order that was found.
+    Json {
+        /// Whether lines that can't be read, and what a macro, a directive or a count covers, are left alone.
+        cut: bool,
+        /// How the best order of each block is looked for, if it is.
+        order: Option<Strategy>,
+        /// The number of the only block that is printed, from 1; None if all are.
+        block: Option<u32>,
+        /// The text of the profile, if it isn't the standard one.
+        profile: Option<&'a str>,
+    },
     /// The lines of a source, which may be any text, that are refused or that may not do what was meant.
     Lint {
         /// Whether only what remains to be done by hand with `--cut` is listed.
@@ -127,7 +138,8 @@ impl<'a> Command<'a> {
             | Command::Order { profile, .. }
             | Command::Prove { profile, .. }
             | Command::Sum { profile, .. }
-            | Command::Compare { profile, .. } => profile,
+            | Command::Compare { profile, .. }
+            | Command::Json { profile, .. } => profile,
             Command::Deps { .. } | Command::Check | Command::Lint { .. } => None,
         }
     }

@@ -2,7 +2,7 @@ ghost use Rattle.std.specs.Prelude.{◌≡◌, IfOk, IfErr, IsOkAnd, List, Match
 ghost use Rattle.clap.specs.Words.{AddsSubcommand, Text, app_of, found_of, kind_of, new_app};
 ghost use Rattle.clap.specs.declared.error.kind.ErrorKind.TheVariants.{ArgumentConflict};
 ghost use Rattle.s66_command.specs.FoundOptions.{AreNodesFound, AreWorkersFound, IsBlockFound, IsOrderFound, IsStrategyFound, IsTaken};
-ghost use Rattle.s66_command.specs.Usage.{Asks, IsArgumentOf, IsCommandOf, IsUsageOf, Refuses, block_rule, chart_app, check_app, compare_app, deps_app, flag_rule, lint_app, nodes_rule, order_app, page_app, profile_rule, prove_app, rule_unless_two, s66_app, search_app, source_app, sum_app, time_app, why_app, workers_rule};
+ghost use Rattle.s66_command.specs.Usage.{Asks, IsArgumentOf, IsCommandOf, IsUsageOf, Refuses, block_rule, chart_app, check_app, compare_app, deps_app, flag_rule, json_app, lint_app, nodes_rule, order_app, page_app, profile_rule, prove_app, rule_unless_two, s66_app, search_app, source_app, sum_app, time_app, why_app, workers_rule};
 ghost use Rattle.s66_command.specs.declared.usage.Usage.TheVariants.{OutOfMemory};
 
 use crate::command::Command as Asked;
@@ -125,6 +125,12 @@ const COMPARE_ENDING: &str = help_ending!(
     ", 5 something else is changed"
 );
 
+const JSON_ENDING: &str = help_ending!(
+    "s66 json --order --deep < SOURCE",
+    "the source or the profile was refused",
+    ", 7 with --order: some block is only bounded"
+);
+
 const CHECK_ENDING: &str = help_ending!(
     "s66 check < CERTIFICATES",
     "the documents were refused",
@@ -166,6 +172,9 @@ const TEXT_HELP: &str =
 
 const ORDER_HELP: &str =
     "Explains the best order that was found, and not the source's; the options of a search are for this";
+
+const JSON_ORDER_HELP: &str =
+    "Writes the best order that was found too; the options of a search are for this";
 
 const KEEP_HELP: &str =
     "Copies a block that keeps its order as it stands, with its NOs and notes, and reports nothing of it";
@@ -462,6 +471,21 @@ fn compare_command<'a>(alloc: Global) -> Result<Command<'a>, AllocError>
     .arg(profile_option(alloc))
 }
 
+/// The subcommand `json`.
+fn json_command<'a>(alloc: Global) -> Result<Command<'a>, AllocError>
+    ensures { IfOk result (IsCommandOf json_app) }
+{
+    search_command(
+        alloc,
+        "json",
+        "Writes each block of a source as a line of JSON, for programs",
+        "s66 json [OPTIONS] < SOURCE",
+        JSON_ENDING,
+    )?
+    .arg(flag(alloc, "order", JSON_ORDER_HELP))?
+    .arg(block_option(alloc, BLOCK_HELP))
+}
+
 /// A command line with one subcommand more, if memory was enough for that one.
 fn with_subcommand<'a>(
     command: Command<'a>,
@@ -493,7 +517,8 @@ fn program<'a>(alloc: Global) -> Result<Command<'a>, AllocError>
     let program = program.subcommand(check_command(alloc))?;
     let program = with_subcommand(program, lint_command(alloc))?;
     let program = with_subcommand(program, sum_command(alloc))?;
-    with_subcommand(program, compare_command(alloc))
+    let program = with_subcommand(program, compare_command(alloc))?;
+    with_subcommand(program, json_command(alloc))
 }
 
 /// How many workers search, by the words of a subcommand that searches.
@@ -664,6 +689,15 @@ fn asked<'a>(alloc: Global, matches: &ArgMatches<'a>) -> Result<Asked<'a>, Usage
             cut: given.get_flag("cut"),
             profile: given.get_str("profile"),
         }),
+        "json" => {
+            let strategy = strategy_or_mistake(alloc, given, json_command)?;
+            Ok(Asked::Json {
+                cut: given.get_flag("cut"),
+                order: order_in(given, strategy),
+                block: block_in(given),
+                profile: given.get_str("profile"),
+            })
+        }
         _ => unreachable!(),
     }
 }

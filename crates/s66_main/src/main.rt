@@ -34,7 +34,7 @@ fn goes_deep(words: &[String]) -> bool {
     match words {
         [_, subcommand, ..] => matches!(
             subcommand.as_str(),
-            "order" | "why" | "page" | "sum" | "prove" | "check"
+            "order" | "why" | "page" | "json" | "sum" | "prove" | "check"
         ),
         _ => false,
     }

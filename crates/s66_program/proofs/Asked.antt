@@ -2,7 +2,7 @@
 use Rattle.std.proofs.Common.{List, None, Some}
 use Rattle.s66_command.specs.declared.strategy.Strategy.{Strategy}
 use Rattle.s66_command.specs.declared.command.Command.{Command}
-use Rattle.s66_command.specs.declared.command.Command.TheVariants.{Time, Deps, Chart, Why, Page, Order, Prove, Check, Lint, Sum, Compare}
+use Rattle.s66_command.specs.declared.command.Command.TheVariants.{Time, Deps, Chart, Why, Page, Json, Order, Prove, Check, Lint, Sum, Compare}
 use Rattle.s66_program.specs.Output.{IsSearchWithin, IsWithinLimits}
 use Rattle.s66_command.specs.Usage.{Asks, GivesSearch, Text}
 
@@ -16,6 +16,8 @@ asked-within words (Chart cut texts only profile) h = tt
 asked-within words (Why cut None only profile) h = tt
 asked-within words (Why cut (Some strategy) only profile) h = search-within words strategy h.2.1
 asked-within words (Page cut strategy only profile) h = search-within words strategy h.2
+asked-within words (Json cut None only profile) h = tt
+asked-within words (Json cut (Some strategy) only profile) h = search-within words strategy h.2.1
 asked-within words (Order cut strategy trace keep quiet only profile) h = search-within words strategy h.2
 asked-within words (Prove cut strategy only profile) h = search-within words strategy h.2
 asked-within words Check h = tt

@@ -6,7 +6,7 @@ use Rattle.s66_line.specs.Block.{Block}
 use Rattle.s66_source.specs.Source.{source_of}
 use Rattle.s66_source.specs.declared.error.SourceError.{SourceError}
 use Rattle.s66_command.specs.declared.command.Command.{Command}
-use Rattle.s66_command.specs.declared.command.Command.TheVariants.{Time, Deps, Chart, Why, Page, Order, Prove, Check, Lint, Sum, Compare}
+use Rattle.s66_command.specs.declared.command.Command.TheVariants.{Time, Deps, Chart, Why, Page, Json, Order, Prove, Check, Lint, Sum, Compare}
 use Rattle.s66_program.specs.declared.limits.TheConstants.{SOURCE_FRONT}
 use Rattle.s66_outcome.specs.declared.outcome.Fault.{Fault}
 use Rattle.s66_outcome.specs.declared.outcome.Fault.TheVariants as fault
@@ -27,6 +27,8 @@ accepted p (Chart cut texts only profile) input text status reads ((blocks, ok, 
 accepted p (Why cut None only profile) input text status reads ((blocks, ok, is), done) = (blocks, ok)
 accepted p (Why cut (Some strategy) only profile) input text status reads (blocks, ok, is) = (blocks, ok)
 accepted p (Page cut strategy only profile) input text status reads (blocks, ok, is) = (blocks, ok)
+accepted p (Json cut None only profile) input text status reads ((blocks, ok, is), done) = (blocks, ok)
+accepted p (Json cut (Some strategy) only profile) input text status reads (blocks, ok, is) = (blocks, ok)
 accepted p (Order cut strategy trace keep quiet only profile) input text status reads (blocks, ok, is) = (blocks, ok)
 accepted p (Prove cut strategy only profile) input text status reads (blocks, ok, is) = (blocks, ok)
 accepted p Check input text status reads is = absurd (cc)
@@ -54,6 +56,7 @@ no-documents (Deps cut only) source documents = cc
 no-documents (Chart cut texts only profile) source documents = cc
 no-documents (Why cut order only profile) source documents = cc
 no-documents (Page cut strategy only profile) source documents = cc
+no-documents (Json cut order only profile) source documents = cc
 no-documents (Order cut strategy trace keep quiet only profile) source documents = cc
 no-documents (Prove cut strategy only profile) source documents = cc
 no-documents Check source documents = cc
@@ -67,6 +70,7 @@ not-two (Deps cut only) source two = cc
 not-two (Chart cut texts only profile) source two = cc
 not-two (Why cut order only profile) source two = cc
 not-two (Page cut strategy only profile) source two = cc
+not-two (Json cut order only profile) source two = cc
 not-two (Order cut strategy trace keep quiet only profile) source two = cc
 not-two (Prove cut strategy only profile) source two = cc
 not-two Check source two = cc

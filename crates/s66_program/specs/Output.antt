@@ -10,12 +10,13 @@ use Rattle.s66_model.specs.declared.limits.TheConstants.{WORKERS_LIMIT}
 use Rattle.s66_command.specs.declared.strategy.Strategy.{Strategy}
 use Rattle.s66_profile.specs.ProfileText.{profile_in_text}
 use Rattle.s66_command.specs.declared.command.Command.{Command}
-use Rattle.s66_command.specs.declared.command.Command.TheVariants.{Time, Deps, Chart, Why, Page, Order, Prove, Check, Lint, Sum, Compare}
+use Rattle.s66_command.specs.declared.command.Command.TheVariants.{Time, Deps, Chart, Why, Page, Json, Order, Prove, Check, Lint, Sum, Compare}
 use Rattle.s66_command.specs.Profile.{profile_text}
 use Rattle.s66_outcome.specs.declared.outcome.Status.{Status}
 use Rattle.s66_outcome.specs.declared.outcome.Status.TheVariants.{Done, Denied}
 use Rattle.s66_text.specs.declared.listing.Listing.TheVariants as listing
 use Rattle.s66_text.specs.Listing.{IsListing}
+use Rattle.s66_text.specs.JsonText.{IsJsonOutput}
 use Rattle.s66_text.specs.WhyText.{IsWhyOutput}
 use Rattle.s66_text.specs.OrderText.{IsOrderOutput}
 use Rattle.s66_text.specs.PageText.{IsPageOutput}
@@ -34,6 +35,7 @@ IsWithinLimits (Time cut trace only profile) = Unit {0}
 IsWithinLimits (Deps cut only) = Unit {0}
 IsWithinLimits (Chart cut texts only profile) = Unit {0}
 IsWithinLimits (Why cut order only profile) = IfSome order (λ strategy. IsSearchWithin strategy.search.workers strategy.search.nodes)
+IsWithinLimits (Json cut order only profile) = IfSome order (λ strategy. IsSearchWithin strategy.search.workers strategy.search.nodes)
 IsWithinLimits (Page cut strategy only profile) = IsSearchWithin strategy.search.workers strategy.search.nodes
 IsWithinLimits (Order cut strategy trace keep quiet only profile) = IsSearchWithin strategy.search.workers strategy.search.nodes
 IsWithinLimits (Prove cut strategy only profile) = IsSearchWithin strategy.search.workers strategy.search.nodes
@@ -60,6 +62,11 @@ abbrev pub IsWaitsOutput : Profile → Option Strategy → (only : Option ℕ) (
 IsWaitsOutput p None only source text status = IsListing p listing.Why only source text × (status ≡ Done)
 IsWaitsOutput p (Some strategy) only source text status = IsWhyOutput strategy p only source text status
 
+-- what `json` writes of them: their lines as they were written, or also in the best orders that are found so
+abbrev pub IsLinesOutput : Profile → Option Strategy → (only : Option ℕ) (source : Reading) (text : List ℕ) → Status → Type 0
+IsLinesOutput p None only source text status = IsListing p listing.Json only source text × (status ≡ Done)
+IsLinesOutput p (Some strategy) only source text status = IsJsonOutput strategy p only source text status
+
 -- whether a command reads with `--cut`
 abbrev pub is_cut : Command → Bool
 is_cut (Time cut trace only profile) = cut
@@ -67,6 +74,7 @@ is_cut (Deps cut only) = cut
 is_cut (Chart cut texts only profile) = cut
 is_cut (Why cut order only profile) = cut
 is_cut (Page cut strategy only profile) = cut
+is_cut (Json cut order only profile) = cut
 is_cut (Order cut strategy trace keep quiet only profile) = cut
 is_cut (Prove cut strategy only profile) = cut
 is_cut (Sum cut strategy trace only profile) = cut
@@ -90,6 +98,7 @@ IsOutput p (Time cut trace only profile) input text status = IsListing p (listin
 IsOutput p (Deps cut only) input text status = IsListing p listing.Dependences only (record { cut = cut; text = input }) text × (status ≡ Done)
 IsOutput p (Chart cut texts only profile) input text status = IsListing p (listing.Chart texts) only (record { cut = cut; text = input }) text × (status ≡ Done)
 IsOutput p (Why cut order only profile) input text status = IsWaitsOutput p order only (record { cut = cut; text = input }) text status
+IsOutput p (Json cut order only profile) input text status = IsLinesOutput p order only (record { cut = cut; text = input }) text status
 IsOutput p (Page cut strategy only profile) input text status = IsPageOutput strategy p only (record { cut = cut; text = input }) text status
 IsOutput p (Order cut strategy trace keep quiet only profile) input text status = IsOrderOutput strategy p trace (record { cut = cut; text = input }) text status
 IsOutput p (Prove cut strategy only profile) input text status = IsProveOutput strategy p (record { cut = cut; text = input }) text status
@@ -105,6 +114,7 @@ reads_source (Deps cut only) = true
 reads_source (Chart cut texts only profile) = true
 reads_source (Why cut order only profile) = true
 reads_source (Page cut strategy only profile) = true
+reads_source (Json cut order only profile) = true
 reads_source (Order cut strategy trace keep quiet only profile) = true
 reads_source (Prove cut strategy only profile) = true
 reads_source Check = false

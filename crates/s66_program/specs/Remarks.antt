@@ -6,7 +6,7 @@ use Rattle.s66_source.specs.declared.error.SourceError.{SourceError}
 use Rattle.s66_source.specs.Source.{source_of}
 use Rattle.s66_lint.specs.Listing.{AreCounted}
 use Rattle.s66_command.specs.declared.command.Command.{Command}
-use Rattle.s66_command.specs.declared.command.Command.TheVariants.{Why, Page, Order, Prove, Sum}
+use Rattle.s66_command.specs.declared.command.Command.TheVariants.{Why, Page, Json, Order, Prove, Sum}
 use Rattle.s66_outcome.specs.declared.remark.Remark.{Remark}
 use Rattle.s66_program.specs.Output.{is_cut, reads_source, source_in}
 
@@ -14,6 +14,7 @@ use Rattle.s66_program.specs.Output.{is_cut, reads_source, source_in}
 abbrev pub prints_orders : Command → Bool
 prints_orders (Why cut order only profile) = is_some order
 prints_orders (Page cut strategy only profile) = true
+prints_orders (Json cut order only profile) = is_some order
 prints_orders (Order cut strategy trace keep quiet block profile) = true
 prints_orders (Prove cut strategy block profile) = true
 prints_orders (Sum cut strategy trace block profile) = true

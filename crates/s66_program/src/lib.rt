@@ -4,6 +4,7 @@
 mod answers;
 mod compare_text;
 mod documents;
+mod json_text;
 mod kept;
 mod laws;
 mod limits;

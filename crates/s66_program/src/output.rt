@@ -1,9 +1,10 @@
 ghost use Rattle.std.specs.Prelude.{◌≡◌, true, IfOk, IfErr, IfSome};
-ghost use Rattle.s66_program.specs.Output.{IsOutput, IsSearchWithin, IsWaitsOutput, IsWithinLimits, is_cut, reads_source};
+ghost use Rattle.s66_program.specs.Output.{IsOutput, IsLinesOutput, IsSearchWithin, IsWaitsOutput, IsWithinLimits, is_cut, reads_source};
 ghost use Rattle.s66_program.specs.Remarks.{IsRemark};
 ghost use Rattle.s66_program.specs.Run.{IsRefusal};
 
 use crate::compare_text::compare_output;
+use crate::json_text::json_output;
 use crate::order_text::order_output;
 use crate::page_text::page_output;
 use crate::prove_text::prove_output;
@@ -29,6 +30,7 @@ pub(crate) fn is_cut(command: Command) -> bool
         | Command::Chart { cut, .. }
         | Command::Why { cut, .. }
         | Command::Page { cut, .. }
+        | Command::Json { cut, .. }
         | Command::Order { cut, .. }
         | Command::Prove { cut, .. }
         | Command::Sum { cut, .. }
@@ -54,6 +56,25 @@ fn waits_output<R: AllocGlobal + Threads + Wait + Sync, O: Observer>(
     match order {
         None => listing_output(rt.alloc(), profile, &Listing::Why, only, source),
         Some(strategy) => why_output(rt, source, only, profile, strategy, observer),
+    }
+}
+
+/// A line of JSON for each block of a source, or for the only one that is printed: as it was written, or also in the best order that is
+/// found so.
+fn lines_output<R: AllocGlobal + Threads + Wait + Sync, O: Observer>(
+    rt: &R,
+    source: &Source,
+    order: Option<Strategy>,
+    only: Option<u32>,
+    profile: &Profile,
+    observer: &mut O,
+) -> Result<Output, AllocError>
+    requires { IfSome order (λ strategy. IsSearchWithin strategy.search.workers strategy.search.nodes) }
+    ensures { IfOk result (λ output. IsLinesOutput profile.now order only source.now output.text.items output.status) }
+{
+    match order {
+        None => listing_output(rt.alloc(), profile, &Listing::Json, only, source),
+        Some(strategy) => json_output(rt, source, only, profile, strategy, observer),
     }
 }
 
@@ -83,6 +104,9 @@ fn output_of<R: AllocGlobal + Threads + Wait + Sync, O: Observer>(
         }
         Command::Why { order, block, .. } => {
             waits_output(rt, source, order, block, profile, observer)
+        }
+        Command::Json { order, block, .. } => {
+            lines_output(rt, source, order, block, profile, observer)
         }
         Command::Page {
             strategy,

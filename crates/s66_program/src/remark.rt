@@ -22,7 +22,7 @@ fn prints_orders(command: Command) -> bool
     ensures { result ≡ prints_orders command.entry }
 {
     match command {
-        Command::Why { order, .. } => order.is_some(),
+        Command::Why { order, .. } | Command::Json { order, .. } => order.is_some(),
         Command::Page { .. }
         | Command::Order { .. }
         | Command::Prove { .. }

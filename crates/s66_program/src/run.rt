@@ -37,6 +37,7 @@ fn most_kept(command: Command) -> Option<usize>
         | Command::Chart { .. }
         | Command::Why { .. }
         | Command::Page { .. }
+        | Command::Json { .. }
         | Command::Order { .. }
         | Command::Prove { .. }
         | Command::Sum { .. } => Some(SOURCE_FRONT),

@@ -7,6 +7,7 @@ use std::thread::Threads;
 mod chart;
 mod compare;
 mod deps;
+mod json;
 mod left_alone;
 mod lint;
 mod order;
@@ -152,6 +153,7 @@ fn runs_rows(rt: HostRuntime) {
     check_rows(&rt, chart::ROWS);
     check_rows(&rt, why::ROWS);
     check_rows(&rt, page::ROWS);
+    check_rows(&rt, json::ROWS);
     check_rows(&rt, order::ROWS);
     check_rows(&rt, left_alone::ROWS);
     check_rows(&rt, lint::ROWS);
@@ -166,7 +168,9 @@ fn runs_rows(rt: HostRuntime) {
 #[test]
 fn refuses_bad_profiles(rt: HostRuntime) {
     for &(text, stated) in profile::BAD {
-        for command in ["time", "chart", "why", "page", "order", "prove", "sum"] {
+        for command in [
+            "time", "chart", "why", "page", "order", "prove", "sum", "json",
+        ] {
             let words = ["s66", command, "--profile", text];
             for input in [ONE_LOAD, "  SA1 *+2\n"] {
                 check(&rt, text, &words, input.as_bytes(), 3, stated);

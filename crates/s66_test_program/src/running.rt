@@ -16,6 +16,8 @@ pub(crate) const CHART: &[&str] = &["s66", "chart"];
 
 pub(crate) const WHY: &[&str] = &["s66", "why"];
 
+pub(crate) const JSON: &[&str] = &["s66", "json"];
+
 pub(crate) const PAGE: &[&str] = &["s66", "page", "--workers", "1"];
 
 pub(crate) const CHECK: &[&str] = &["s66", "check"];

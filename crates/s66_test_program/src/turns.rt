@@ -83,4 +83,9 @@ fn facts_are_the_same_by_any_workers(rt: HostRuntime) {
         &["s66", "why", "--order", "--deep", "--workers", "1"],
         &["s66", "why", "--order", "--deep", "--workers", "4"],
     );
+    check_same(
+        &rt,
+        &["s66", "json", "--order", "--deep", "--workers", "1"],
+        &["s66", "json", "--order", "--deep", "--workers", "4"],
+    );
 }

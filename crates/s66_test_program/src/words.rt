@@ -43,6 +43,8 @@ const NO_COMMANDS: &[(&[&str], u8)] = &[
     (&["s66", "compare", "--block", "1"], 2),
     (&["s66", "compare", "--deep"], 2),
     (&["s66", "compare", "old", "new"], 2),
+    (&["s66", "json", "--trace"], 2),
+    (&["s66", "json", "--order", "--deep", "--dominate"], 2),
     (&["s66", "page", "--trace"], 2),
     (&["s66", "page", "--dominate", "--dominate-tree"], 2),
     (&["s66", "order", "--workers", "0"], 2),
@@ -77,6 +79,7 @@ const NO_COMMANDS: &[(&[&str], u8)] = &[
     (&["s66", "lint", "--help"], 0),
     (&["s66", "sum", "--help"], 0),
     (&["s66", "compare", "--help"], 0),
+    (&["s66", "json", "--help"], 0),
 ];
 
 /// Words, and the command that they give.
@@ -204,6 +207,31 @@ const COMMANDS: &[(&[&str], Command)] = &[
             cut: false,
             order: None,
             block: None,
+            profile: None,
+        },
+    ),
+    (
+        &["s66", "json", "--cut", "--profile={}"],
+        Command::Json {
+            cut: true,
+            order: None,
+            block: None,
+            profile: Some("{}"),
+        },
+    ),
+    (
+        &["s66", "json", "--order", "--deep", "--block=2"],
+        Command::Json {
+            cut: false,
+            order: Some(Strategy {
+                search: Options {
+                    workers: 4,
+                    nodes: 100_000,
+                    rule: Rule::ClampedStanding,
+                },
+                deep: true,
+            }),
+            block: Some(2),
             profile: None,
         },
     ),

@@ -5,6 +5,7 @@ pub mod TimeText
 pub mod DepsText
 pub mod ChartText
 pub mod WhyText
+pub mod JsonText
 pub mod Listing
 pub mod Answers
 pub mod OrderText

@@ -10,6 +10,7 @@ use Rattle.s66_text.specs.TimeText.{time_lines}
 use Rattle.s66_text.specs.DepsText.{deps_lines}
 use Rattle.s66_text.specs.ChartText.{chart_lines}
 use Rattle.s66_text.specs.Shown.{before, shown}
+use Rattle.s66_text.specs.JsonText.{written_line}
 use Rattle.s66_text.specs.WhyText.{why_lines}
 
 -- what a listing under a profile has of the n-th block, from 1
@@ -18,6 +19,7 @@ block_lines p (listing.Times trace) n block = time_lines p trace n block
 block_lines p listing.Dependences n block = deps_lines n block
 block_lines p (listing.Chart texts) n block = chart_lines p texts n block
 block_lines p listing.Why n block = why_lines p n block
+block_lines p listing.Json n block = written_line p n block
 
 -- of these blocks, before which n blocks come
 abbrev pub lines_of_blocks : Profile → Listing → ℕ → List Block → List ℕ

@@ -6,6 +6,7 @@ mod check_text;
 mod deps_text;
 mod document_text;
 mod fields;
+mod json_text;
 mod lint_text;
 mod listing;
 mod selection;
@@ -16,6 +17,7 @@ mod why_text;
 
 pub use check_text::check_output;
 pub use document_text::{push_document, texts_of};
+pub use json_text::push_json_found;
 pub use lint_text::lint_output;
 pub use listing::{Listing, listing_output};
 pub use selection::{blocks_before, shown};

@@ -4,6 +4,7 @@ ghost use Rattle.s66_text.specs.Listing.{IsListing, block_lines, lines_of_blocks
 
 use crate::chart_text::push_chart_lines;
 use crate::deps_text::push_deps_lines;
+use crate::json_text::push_json_line;
 use crate::selection::{blocks_before, shown};
 use crate::time_text::push_time_lines;
 use crate::why_text::push_why_lines;
@@ -27,6 +28,7 @@ pub enum Listing {
         text: bool,
     },
     Why,
+    Json,
 }
 
 /// The lines of a block, whose number is from 1.
@@ -46,6 +48,7 @@ fn push_block(
         Listing::Dependences => push_deps_lines(out, number, block),
         Listing::Chart { text } => push_chart_lines(alloc, out, timer, *text, number, block),
         Listing::Why => push_why_lines(out, timer, number, block),
+        Listing::Json => push_json_line(out, timer, number, block),
     }
 }
 

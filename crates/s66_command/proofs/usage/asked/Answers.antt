@@ -1,7 +1,7 @@
 use Rattle.std.proofs.Common.{rules, codes, inl, inr, refl}
 use Rattle.clap.specs.Words.{found_of}
 use Rattle.s66_command.specs.Usage.{Asks}
-use Rattle.s66_command.proofs.Named.{asks-for, block-of, flag-of, met, name-known, order-of, order-options, page-options, profile-of, prove-options, search-of, sum-options, two-of, why-options}
+use Rattle.s66_command.proofs.Named.{asks-for, block-of, flag-of, json-options, met, name-known, order-of, order-options, page-options, profile-of, prove-options, search-of, sum-options, two-of, why-options}
 use Rattle.s66_command.proofs.Refused.{handed-on, refused-two}
 use Rattle.s66_command.proofs.usage.asked.Goals as goal
 
@@ -25,7 +25,8 @@ unreachable-requires-in_default-name c =
       | inr (inr (inr (inr (inr (inr (inr (inr (inl e)))))))) ↦ search rules
       | inr (inr (inr (inr (inr (inr (inr (inr (inr (inl e))))))))) ↦ search rules
       | inr (inr (inr (inr (inr (inr (inr (inr (inr (inr (inl e)))))))))) ↦ search rules
-      | inr (inr (inr (inr (inr (inr (inr (inr (inr (inr (inr none)))))))))) ↦ none
+      | inr (inr (inr (inr (inr (inr (inr (inr (inr (inr (inr (inl e))))))))))) ↦ search rules
+      | inr (inr (inr (inr (inr (inr (inr (inr (inr (inr (inr (inr none))))))))))) ↦ none
     ]
 
 pub returns-in-time : goal.returns-in-time
@@ -76,6 +77,25 @@ returns-in_ok-strategy-in-why c words is =
       order-of words found c.in_ok-strategy-in-why.strategy c.order_in.result _ there.1 ((inr refl, (inr refl, (inr refl, (inr refl, (inr refl, (inr refl, (inr refl, (inl refl, (inr refl, (inr refl, tt)))))))))), refl) (search-of words found c.in_ok-strategy-in-why.strategy _ there.1 why-options c.in_ok-strategy-in-why.ensures.ok) c.order_in.ensures,
       block-of words found c.block_in-in-why.result _ there.1 (inr refl, (inr refl, (inr refl, (inr refl, (inr refl, (inr refl, (inr refl, (inr refl, (inl refl, (inr refl, tt)))))))))) c.block_in-in-why.ensures,
       profile-of words found _ c.get_str-in-why.result there.1 c.get_str-in-why.ensures,
+    )
+
+pub returns-in_err-strategy-in-json : goal.returns-in_err-strategy-in-json
+returns-in_err-strategy-in-json c words is =
+    let found = found_of c.in-Some.given.now in
+    let there = met c.args.matches.now words _ found _ is c.in-Some.ensures.name c.in-Some.ensures.rows c.in-json.is refl in
+    let mistake = c.in_err-strategy-in-json.ensures.err in
+    handed-on c.from_residual-in_err-strategy-in-json.result c.in_err-strategy-in-json.field-0.0 words (Asks words) c.from_residual-in_err-strategy-in-json.ensures.1
+    (refused-two c.in_err-strategy-in-json.field-0.0 words there.0.0 (two-of words found _ there.1 json-options mistake.0) mistake.1)
+
+pub returns-in_ok-strategy-in-json : goal.returns-in_ok-strategy-in-json
+returns-in_ok-strategy-in-json c words is =
+    let found = found_of c.in-Some.given.now in
+    let there = met c.args.matches.now words _ found _ is c.in-Some.ensures.name c.in-Some.ensures.rows c.in-json.is refl in (
+      there.0,
+      flag-of words found c.get_flag-in-json.result _ (codes "cut") there.1 ((inl refl, (inr refl, (inr refl, (inr refl, (inr refl, (inr refl, (inr refl, (inr refl, (inr refl, (inr refl, tt)))))))))), refl) (c.get_flag-in-json.ensures.value, c.get_flag-in-json.ensures.other),
+      order-of words found c.in_ok-strategy-in-json.strategy c.order_in-in-json.result _ there.1 ((inr refl, (inr refl, (inr refl, (inr refl, (inr refl, (inr refl, (inr refl, (inl refl, (inr refl, (inr refl, tt)))))))))), refl) (search-of words found c.in_ok-strategy-in-json.strategy _ there.1 json-options c.in_ok-strategy-in-json.ensures.ok) c.order_in-in-json.ensures,
+      block-of words found c.block_in-in-json.result _ there.1 (inr refl, (inr refl, (inr refl, (inr refl, (inr refl, (inr refl, (inr refl, (inr refl, (inl refl, (inr refl, tt)))))))))) c.block_in-in-json.ensures,
+      profile-of words found _ c.get_str-in-json.result there.1 c.get_str-in-json.ensures,
     )
 
 pub returns-in_err-strategy_or_mistake-in-page : goal.returns-in_err-strategy_or_mistake-in-page

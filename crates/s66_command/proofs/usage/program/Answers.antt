@@ -18,4 +18,5 @@ returns c =
     let with-check = with-subcommand _ _ _ _ _ with-prove c.check_command.ensures c.in_ok-program-8.ensures in
     let with-lint = with-made _ _ _ _ c.lint_command.result with-check c.lint_command.ensures c.in_ok-program-9.ensures in
     let with-sum = with-made _ _ _ _ c.sum_command.result with-lint c.sum_command.ensures c.in_ok-program-10.ensures in
-    IfOk-weaker c.with_subcommand-10.result _ _ (λ r adds. (with-made _ _ _ _ c.compare_command.result with-sum c.compare_command.ensures adds).0) c.with_subcommand-10.ensures
+    let with-compare = with-made _ _ _ _ c.compare_command.result with-sum c.compare_command.ensures c.in_ok-program-11.ensures in
+    IfOk-weaker c.with_subcommand-11.result _ _ (λ r adds. (with-made _ _ _ _ c.json_command.result with-compare c.json_command.ensures adds).0) c.with_subcommand-11.ensures

@@ -1,0 +1,5 @@
+pub mod Examples
+pub mod Json
+pub mod Labels
+pub mod Pieces
+pub mod Sums

@@ -1,0 +1,69 @@
+ghost use Rattle.std.specs.Prelude.{◌≡◌, ◌++◌, OnOk};
+ghost use Rattle.s66_line.specs.Block.{instrs_of};
+ghost use Rattle.s66_json.specs.Pieces.{head_text, lines_text, name_of_block, size_text, start_text};
+
+use crate::instruction::push_instructions;
+use crate::label::push_label;
+use crate::order::push_timed;
+use crate::text::push_text;
+use s66_device::push_field;
+use s66_line::Block;
+use s66_time::Timed;
+use std::alloc::AllocError;
+
+/// The number and the label of a block.
+#[tactic(auto, unfolding(crate::specs::Pieces::name_of_block))]
+fn push_name(out: &mut Vec<u8>, number: usize, label: &[u8]) -> Result<(), AllocError>
+    ensures { OnOk result (out.new.items ≡ out.old.items ++ name_of_block number label.now) }
+{
+    push_field(out, b"{\"schema\":1,\"block\":", number)?;
+    push_text(out, b",\"label\":")?;
+    push_label(out, label)
+}
+
+/// Its first and its last line.
+#[tactic(auto, unfolding(crate::specs::Pieces::lines_text))]
+fn push_lines(out: &mut Vec<u8>, block: &Block) -> Result<(), AllocError>
+    ensures { OnOk result (out.new.items ≡ out.old.items ++ lines_text block.now) }
+{
+    let count = block.count();
+    push_field(out, b",\"line\":", block.line(1) as usize)?;
+    push_field(out, b",\"last_line\":", block.line(count) as usize)
+}
+
+/// How many instructions and parcels it has.
+#[tactic(auto, unfolding(crate::specs::Pieces::size_text))]
+fn push_size(out: &mut Vec<u8>, block: &Block) -> Result<(), AllocError>
+    ensures { OnOk result (out.new.items ≡ out.old.items ++ size_text block.now) }
+{
+    push_field(out, b",\"count\":", block.count())?;
+    push_field(out, b",\"parcels\":", block.parcels() as usize)
+}
+
+/// What a block is.
+#[tactic(auto, unfolding(crate::specs::Pieces::head_text))]
+fn push_head(out: &mut Vec<u8>, number: usize, block: &Block) -> Result<(), AllocError>
+    ensures { OnOk result (out.new.items ≡ out.old.items ++ head_text number block.now) }
+{
+    push_name(out, number, block.label())?;
+    push_lines(out, block)?;
+    push_size(out, block)
+}
+
+/// A block, whose number is from 1, as it is written, to where it is said what is found.
+#[tactic(auto, unfolding(crate::specs::Pieces::start_text))]
+pub fn push_start(
+    out: &mut Vec<u8>,
+    number: usize,
+    block: &Block,
+    written: &Timed,
+) -> Result<(), AllocError>
+    requires { written.now.problem.block ≡ instrs_of block.now }
+    ensures { OnOk result (out.new.items ≡ out.old.items ++ start_text number block.now written.now) }
+{
+    push_head(out, number, block)?;
+    push_instructions(out, written.profile(), block)?;
+    push_text(out, b",\"written\":")?;
+    push_timed(out, block, written)?;
+    push_text(out, b"},\"found\":")
+}

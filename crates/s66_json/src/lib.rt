@@ -1,0 +1,22 @@
+//! A block as a line of JSON: its instructions, and the orders in which it is timed.
+#![tactic(auto)]
+
+mod block;
+mod examples;
+mod instruction;
+mod label;
+mod laws;
+mod line;
+mod list;
+mod lost;
+mod order;
+mod point;
+mod string;
+mod text;
+mod wait;
+mod waits;
+mod words;
+
+pub use examples::{found_example, instruction_example, label_example, written_example};
+pub use laws::{bytes_law, order_law};
+pub use line::{push_found_line, push_written_line};

@@ -1,0 +1,131 @@
+ghost use Rattle.std.specs.Prelude.{ℕ, ◌≡◌, ◌≤◌, ◌++◌, OnOk, IfOk, length, reverse};
+ghost use Rattle.s66_isa.specs.declared.limits.TheConstants.{BLOCK_LIMIT};
+ghost use Rattle.s66_line.specs.Block.{instrs_of};
+ghost use Rattle.s66_model.specs.Timing.{points_of};
+ghost use Rattle.s66_why.specs.Why.{lost, path, stretches};
+ghost use Rattle.s66_why.specs.declared.stretch.Conflict.{Conflict as ConflictOf};
+ghost use Rattle.s66_json.specs.Json.{fillers_in};
+ghost use Rattle.s66_json.specs.Pieces.{bound_text, lost_text, order_text, path_text, points_text, timed_text};
+ghost use Rattle.s66_json.specs.Sums.{sum_of};
+
+use crate::list::push_numbers;
+use crate::lost::Lost;
+use crate::point::push_point;
+use crate::text::{push_comma, push_text};
+use crate::waits::waits_of;
+use crate::words::truth;
+use arrayvec::ArrayVec;
+use s66_device::push_field;
+use s66_isa::BLOCK_LIMIT;
+use s66_line::Block;
+use s66_time::{Timed, pack};
+use s66_why::{PlacedInstr, path_from_end, points_of};
+use std::alloc::AllocError;
+
+/// The numbers of an order, and what it takes.
+#[tactic(auto, unfolding(crate::specs::Pieces::order_text))]
+fn push_order_numbers(
+    out: &mut Vec<u8>,
+    time: u32,
+    fillers: usize,
+    numbers: &[u8],
+) -> Result<(), AllocError>
+    ensures { OnOk result (out.new.items ≡ out.old.items ++ order_text time fillers numbers.now) }
+{
+    push_field(out, b"{\"time\":", time as usize)?;
+    push_field(out, b",\"no\":", fillers)?;
+    push_text(out, b",\"order\":")?;
+    push_numbers(out, numbers)?;
+    push_text(out, b",\"at\":[")
+}
+
+/// The instructions of an order, and how long they were kept back.
+fn push_points(out: &mut Vec<u8>, points: &[PlacedInstr]) -> Result<Lost, AllocError>
+    requires { length points.now ≤ BLOCK_LIMIT }
+    ensures text { OnOk result (out.new.items ≡ out.old.items ++ points_text (reverse points.now)) }
+    ensures sums { (conflict : ConflictOf) → IfOk result (λ sums. sum_of sums conflict ≡ lost conflict (stretches (reverse points.now))) }
+{
+    let mut sums = Lost::none();
+    for position in 0..points.len() {
+        let point = &points[position];
+        let waits = waits_of(&points[..position], point);
+        sums.add_all(waits.as_slice());
+        push_comma(out, 0 < position)?;
+        push_point(out, point, waits.as_slice())?;
+    }
+    Ok(sums)
+}
+
+/// The numbers the other way round.
+fn reversed(numbers: &[u8]) -> ArrayVec<u8, BLOCK_LIMIT>
+    requires { length numbers.now ≤ BLOCK_LIMIT }
+    ensures { result.items ≡ reverse numbers.now }
+{
+    let mut reversed = ArrayVec::new();
+    for back in 0..numbers.len() {
+        reversed.push(numbers[numbers.len() - 1 - back]);
+    }
+    reversed
+}
+
+/// The path of an order.
+#[tactic(auto, unfolding(crate::specs::Pieces::path_text))]
+fn push_path(out: &mut Vec<u8>, path: &[u8]) -> Result<(), AllocError>
+    ensures { OnOk result (out.new.items ≡ out.old.items ++ path_text path.now) }
+{
+    push_text(out, b"],\"path\":")?;
+    push_numbers(out, path)
+}
+
+/// For how long instructions were kept back.
+#[tactic(auto, unfolding(crate::specs::Pieces::lost_text))]
+fn push_lost(out: &mut Vec<u8>, sums: &Lost) -> Result<(), AllocError>
+    ensures { OnOk result (out.new.items ≡ out.old.items ++ lost_text sums.now.first sums.now.second sums.now.third) }
+{
+    push_field(out, b",\"lost\":{\"first\":", sums.first)?;
+    push_field(out, b",\"second\":", sums.second)?;
+    push_field(out, b",\"third\":", sums.third)?;
+    push_text(out, b"}")
+}
+
+/// How many NOs fill up the words of an order.
+fn fillers(block: &Block, timed: &Timed) -> usize
+    requires { timed.now.problem.block ≡ instrs_of block.now }
+    ensures { result ≡ fillers_in timed.now }
+{
+    pack(block, timed.order()).fillers.len()
+}
+
+/// The path to the instruction of an order that ends last.
+fn path(timed: &Timed, points: &[PlacedInstr]) -> ArrayVec<u8, BLOCK_LIMIT>
+    requires few { length points.now ≤ BLOCK_LIMIT }
+    requires points { reverse points.now ≡ points_of timed.now.problem timed.now.numbers }
+    ensures { result.items ≡ path (points_of timed.now.problem timed.now.numbers) }
+{
+    reversed(path_from_end(points, timed.total()).as_slice())
+}
+
+/// A timed order, without the brace that closes it.
+pub fn push_timed(out: &mut Vec<u8>, block: &Block, timed: &Timed) -> Result<(), AllocError>
+    requires { timed.now.problem.block ≡ instrs_of block.now }
+    ensures { OnOk result (out.new.items ≡ out.old.items ++ timed_text timed.now) }
+{
+    let points = points_of(timed);
+    let points = points.as_slice();
+    let fillers = fillers(block, timed);
+    push_order_numbers(out, timed.total(), fillers, timed.order().numbers())?;
+    let sums = push_points(out, points)?;
+    push_path(out, path(timed, points).as_slice())?;
+    push_lost(out, &sums)
+}
+
+/// What every order takes at least, and how many splits there were.
+#[tactic(auto, unfolding(crate::specs::Pieces::bound_text))]
+pub fn push_bound(out: &mut Vec<u8>, bound: u32, splits: u32, best: bool) -> Result<(), AllocError>
+    ensures { OnOk result (out.new.items ≡ out.old.items ++ bound_text bound splits best) }
+{
+    push_field(out, b",\"bound\":", bound as usize)?;
+    push_text(out, b",\"best\":")?;
+    push_text(out, truth(best))?;
+    push_field(out, b",\"splits\":", splits as usize)
+}
