@@ -4,7 +4,7 @@ use s66_source::{Cover, counting_text, cover_of};
 
 /// The lines that the operation of a line counts.
 pub(crate) fn cover_by(line: &Line) -> Cover {
-    if line.operation().is_empty() {
+    if line.is_instruction_or_pad() || line.operation().is_empty() {
         return Cover::Nothing;
     }
     cover_of(line.operation(), counting_text(line.letters))

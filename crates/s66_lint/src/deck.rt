@@ -32,11 +32,12 @@ impl<'a> Lines<'a> {
     ghost use Rattle.std.specs.Prelude.{◌≤◌, vec_len, IfOk};
     ghost use Rattle.s66_source.specs.declared.limits.TheConstants.{SOURCE_LINES_LIMIT};
 
-    /// Reads a text, of which `letters` is the same in upper case.
+    /// Reads a text, of which `letters` is the same in upper case; some lines may be refused.
     pub(crate) fn of(
         alloc: Global,
         text: &'a [u8],
         letters: &'a [u8],
+        may_refuse: bool,
     ) -> Result<Lines<'a>, AllocError>
         ensures { IfOk result (λ lines. vec_len lines.lines ≤ SOURCE_LINES_LIMIT) }
     {
@@ -55,7 +56,8 @@ impl<'a> Lines<'a> {
                 });
             }
             is_off = is_off || is_switch(body_of(row), b"OFF");
-            let line = Line::new(after, is_off, row, upper);
+            let mut line = Line::new(is_off, row, upper);
+            line.is_refused = may_refuse && line.is_refused_after(after, row);
             after = line.may_continue();
             is_off = is_off && !is_switch(line.body, b"ON");
             lines.push(line)?;

@@ -1,3 +1,6 @@
+use crate::line::Line;
+use s66_line::split_word;
+
 /// What may be wrong with a line, in the order in which the findings of one line are listed.
 #[derive(Clone, Copy)]
 pub enum Rule {
@@ -35,6 +38,32 @@ pub(crate) struct Finding<'a> {
     pub(crate) rule: Rule,
     pub(crate) first: &'a [u8],
     pub(crate) second: &'a [u8],
+}
+
+impl<'a> Finding<'a> {
+    /// With the words of the line that are shown, as they are written.
+    pub(crate) fn of(rule: Rule, line: &Line<'a>) -> Finding<'a> {
+        let written = line.written();
+        let (first, second) = match rule {
+            Rule::TooLong => (&[][..], &[][..]),
+            Rule::Directive => (split_word(line.body).0, &[][..]),
+            Rule::InColumn1 | Rule::InColumn2 => (written.location, written.operation),
+            Rule::Redefines => (written.location, &[][..]),
+            Rule::NotAnInstruction | Rule::HasABody | Rule::CountsLines => {
+                (written.operation, &[][..])
+            }
+            Rule::BadOperand
+            | Rule::LoadsCode
+            | Rule::StoresIntoCode
+            | Rule::JoinsAWord
+            | Rule::CountsWords => (written.operation, written.operand),
+        };
+        Finding {
+            rule,
+            first,
+            second,
+        }
+    }
 }
 
 /// What was found in the line of this number, with up to two words of it.

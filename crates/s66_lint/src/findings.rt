@@ -82,7 +82,7 @@ pub fn findings_in(alloc: Global, text: &[u8], cut: bool) -> Result<Vec<u8>, All
     ensures { IfOk result (λ findings. IsFindings cut findings.items) }
 {
     let letters = text.to_ascii_uppercase(alloc)?;
-    let lines = Lines::of(alloc, text, letters.as_slice())?;
+    let lines = Lines::of(alloc, text, letters.as_slice(), true)?;
     let all = found_in(alloc, lines.lines.as_slice(), lines.past)?;
     let mut out = Vec::new(alloc);
     push_listing(&mut out, all.as_slice(), cut)?;
@@ -90,12 +90,12 @@ pub fn findings_in(alloc: Global, text: &[u8], cut: bool) -> Result<Vec<u8>, All
     Ok(out)
 }
 
-/// How many lines `findings_in` has for a source of `SOURCE_LINES_LIMIT` lines at most.
+/// How many lines `findings_in` has for a source that is accepted, with `--cut` or without. So without it no line is refused.
 pub fn count_findings(alloc: Global, text: &[u8], cut: bool) -> Result<usize, AllocError>
     ensures { IfOk result (λ count. AreCounted cut count) }
 {
     let letters = text.to_ascii_uppercase(alloc)?;
-    let lines = Lines::of(alloc, text, letters.as_slice())?;
+    let lines = Lines::of(alloc, text, letters.as_slice(), cut)?;
     let all = found_in(alloc, lines.lines.as_slice(), lines.past)?;
     Ok(count_listed(all.as_slice(), cut))
 }

@@ -73,9 +73,8 @@ fn is_refused(after: bool, line: &[u8]) -> bool {
 }
 
 impl<'a> Line<'a> {
-    /// A line as it is written and in upper case, by whether a comma in column 1 would continue the line directly before, and
-    /// whether it stands between two switches.
-    pub(crate) fn new(after: bool, is_off: bool, line: &'a [u8], letters: &'a [u8]) -> Line<'a> {
+    /// A line as it is written and in upper case, by whether it stands between two switches. It is not refused.
+    pub(crate) fn new(is_off: bool, line: &'a [u8], letters: &'a [u8]) -> Line<'a> {
         let letters = body_of(letters);
         let words = Words::of(letters);
         Line {
@@ -86,8 +85,15 @@ impl<'a> Line<'a> {
             continues: is_continuation(letters),
             is_long: line.len() > LINE_BYTES_LIMIT,
             is_off,
-            is_refused: !is_off && is_refused(after, line),
+            is_refused: false,
         }
+    }
+
+    /// Whether it is refused, as it is written, by whether a comma in column 1 would continue the line directly before.
+    pub(crate) fn is_refused_after(&self, after: bool, line: &[u8]) -> bool {
+        !self.is_off
+            && (self.continues || matches!(self.kind, Kind::Instruction))
+            && is_refused(after, line)
     }
 
     /// Its fields as they are written.

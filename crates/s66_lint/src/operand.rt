@@ -92,6 +92,25 @@ pub(crate) fn terms_of<'a>(alloc: Global, sum: &'a [u8]) -> Result<Vec<Term<'a>>
     Ok(terms)
 }
 
+/// Whether an operand in upper case is a list of registers with at most a sign before each, a product of two, or none. It names
+/// nothing then, as most operands.
+pub(crate) fn names_nothing(operand: &[u8]) -> bool {
+    let unsigned = match operand {
+        [] => return true,
+        [b'+' | b'-', rest @ ..] => rest,
+        _ => operand,
+    };
+    if let [x, j, b'*', y, k] = unsigned {
+        return is_register(&[*x, *j]) && is_register(&[*y, *k]);
+    }
+    for name in unsigned.split(|byte| is_sign(*byte) || *byte == b',') {
+        if !is_register(name) {
+            return false;
+        }
+    }
+    true
+}
+
 /// Whether an operand in upper case is a sum of registers, or none: an instruction with it has one parcel.
 pub(crate) fn has_registers_alone(operand: &[u8]) -> bool {
     let unsigned = match operand {

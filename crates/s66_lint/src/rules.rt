@@ -2,11 +2,10 @@ use crate::deck::Deck;
 use crate::finding::{Finding, Rule};
 use crate::form::{is_in_column, redefines};
 use crate::labels::{Label, Labels};
-use crate::line::{Kind, Line, Words};
-use crate::operand::{Term, ends_name, ends_sum, terms_of, without_plus};
+use crate::line::{Kind, Line};
+use crate::operand::{Term, ends_name, ends_sum, names_nothing, terms_of, without_plus};
 use crate::operations::{evaluates, is_branch};
 use crate::spelling::{is_index, is_slip};
-use s66_line::split_word;
 use std::alloc::{AllocError, Global};
 
 /// A source, and the names in it.
@@ -17,20 +16,15 @@ pub(crate) struct Rules<'a> {
     labels: Labels<'a>,
 }
 
-/// Adds a finding that shows these words, if it is there.
+/// Adds a finding in a line, if it is there.
 fn push_if<'a>(
     found: &mut Vec<Finding<'a>>,
     there: bool,
     rule: Rule,
-    first: &'a [u8],
-    second: &'a [u8],
+    line: &Line<'a>,
 ) -> Result<(), AllocError> {
     if there {
-        found.push(Finding {
-            rule,
-            first,
-            second,
-        })?;
+        found.push(Finding::of(rule, line))?;
     }
     Ok(())
 }
@@ -84,9 +78,10 @@ impl<'a> Rules<'a> {
     ) -> Result<Vec<Finding<'a>>, AllocError> {
         let mut found = Vec::new(self.alloc);
         if line.is_long {
-            push_if(&mut found, true, Rule::TooLong, &[], &[])?;
+            push_if(&mut found, true, Rule::TooLong, line)?;
         } else if line.is_comment() && !line.is_off {
-            self.push_directive(&mut found, at, line)?;
+            let there = line.is_directive() && self.deck.is_within_block(at);
+            push_if(&mut found, there, Rule::Directive, line)?;
         } else if !line.is_off {
             self.push_statement(&mut found, at, line)?;
         }
@@ -99,52 +94,38 @@ impl<'a> Rules<'a> {
         at: usize,
         line: &Line<'a>,
     ) -> Result<(), AllocError> {
-        let written = line.written();
-        let (operation, operand) = (written.operation, written.operand);
-        push_if(found, line.is_refused, Rule::BadOperand, operation, operand)?;
-        if !line.continues {
-            self.push_form(found, at, line, written)?;
-            self.push_words(found, at, line, written)?;
+        push_if(found, line.is_refused, Rule::BadOperand, line)?;
+        if line.continues {
+            return Ok(());
         }
-        Ok(())
+        if !line.is_instruction_or_pad() {
+            self.push_form(found, at, line)?;
+        }
+        self.push_words(found, at, line)
     }
 
-    fn push_directive(
-        &self,
-        found: &mut Vec<Finding<'a>>,
-        at: usize,
-        line: &Line<'a>,
-    ) -> Result<(), AllocError> {
-        let (word, _) = split_word(line.body);
-        let there = line.is_directive() && self.deck.is_within_block(at);
-        push_if(found, there, Rule::Directive, word, &[])
-    }
-
-    /// What a statement is itself.
+    /// What a statement is itself that is no instruction.
     fn push_form(
         &self,
         found: &mut Vec<Finding<'a>>,
         at: usize,
         line: &Line<'a>,
-        written: Words<'a>,
     ) -> Result<(), AllocError> {
-        let operation = written.operation;
-        let is_other = matches!(line.kind, Kind::Other);
-        let slips = is_other && !self.deck.before(at).in_peripheral && is_slip(line.operation());
-        push_if(found, slips, Rule::NotAnInstruction, operation, &[])?;
-        if is_other && is_in_column(self.alloc, line.words)? {
+        let slips = !self.deck.before(at).in_peripheral && is_slip(line.operation());
+        push_if(found, slips, Rule::NotAnInstruction, line)?;
+        if is_in_column(self.alloc, line.words)? {
             let rule = if matches!(line.body, [b' ', ..]) {
                 Rule::InColumn2
             } else {
                 Rule::InColumn1
             };
-            push_if(found, true, rule, written.location, operation)?;
+            push_if(found, true, rule, line)?;
         }
         let has_body = self.deck.after(at).has_body;
-        push_if(found, has_body, Rule::HasABody, operation, &[])?;
+        push_if(found, has_body, Rule::HasABody, line)?;
         let there = line.operation() == b"OPDEF".as_slice()
             && redefines(self.alloc, line.words.location)?;
-        push_if(found, there, Rule::Redefines, written.location, &[])
+        push_if(found, there, Rule::Redefines, line)
     }
 
     /// What a statement does to words of code, and to the lines after it.
@@ -153,23 +134,34 @@ impl<'a> Rules<'a> {
         found: &mut Vec<Finding<'a>>,
         at: usize,
         line: &Line<'a>,
-        written: Words<'a>,
     ) -> Result<(), AllocError> {
-        let (operation, operand) = (written.operation, written.operand);
-        if is_load(line.operation()) && self.touches_code(line)? {
-            push_if(found, true, Rule::LoadsCode, operation, operand)?;
-        }
-        if is_store(line.operation()) && self.touches_code(line)? {
-            push_if(found, true, Rule::StoresIntoCode, operation, operand)?;
+        let names_nothing = names_nothing(line.words.operand);
+        if !names_nothing {
+            self.push_touched(found, line)?;
         }
         let joining = self.deck.joining(at);
         let is_outside = !self.deck.before(at).in_definition;
         let joins = is_outside && (joining.joins || joining.slides);
-        push_if(found, joins, Rule::JoinsAWord, operation, operand)?;
-        let counts = self.counts_words(at, line)?;
-        push_if(found, counts, Rule::CountsWords, operation, operand)?;
+        push_if(found, joins, Rule::JoinsAWord, line)?;
+        let counts = !names_nothing && self.counts_words(at, line)?;
+        push_if(found, counts, Rule::CountsWords, line)?;
         let covers = self.deck.after(at).covers_code;
-        push_if(found, covers, Rule::CountsLines, operation, &[])
+        push_if(found, covers, Rule::CountsLines, line)
+    }
+
+    /// Whether it loads or stores a word of code.
+    fn push_touched(
+        &self,
+        found: &mut Vec<Finding<'a>>,
+        line: &Line<'a>,
+    ) -> Result<(), AllocError> {
+        if is_load(line.operation()) && self.touches_code(line)? {
+            push_if(found, true, Rule::LoadsCode, line)?;
+        }
+        if is_store(line.operation()) && self.touches_code(line)? {
+            push_if(found, true, Rule::StoresIntoCode, line)?;
+        }
+        Ok(())
     }
 
     /// Whether a load or a store is of a word of code that may change.
