@@ -1,13 +1,17 @@
 //! What an accepted comparison means: contracts of functions that do nothing.
 
-ghost use Rattle.std.specs.Prelude.{ℕ, List, ◌≡◌, true, None, Some};
+ghost use Rattle.std.specs.Prelude.{ℕ, List, [], ◌∷◌, ◌≡◌, true, false, None, Some, codes};
 ghost use Rattle.s66_isa.specs.declared.profile.Profile.{Profile};
-ghost use Rattle.s66_source.specs.Frame.{FramePart};
-ghost use Rattle.s66_source.specs.LeftAlone.{Reading};
+ghost use Rattle.s66_line.specs.Block.{block_of_texts};
+ghost use Rattle.s66_source.specs.Frame.{FramePart, frame_of};
+ghost use Rattle.s66_source.specs.Halves.{halves_of};
+ghost use Rattle.s66_source.specs.LeftAlone.{Reading, plain};
 ghost use Rattle.s66_compare.specs.Compared.{IsCompared};
 ghost use Rattle.s66_compare.specs.Difference.{DifferFirst, first_difference, shapes};
 ghost use Rattle.s66_compare.specs.Meant.{KeepsSource};
+ghost use Rattle.s66_compare.specs.Verdict.{judged};
 ghost use Rattle.s66_compare.specs.declared.difference.Difference.{Difference};
+ghost use Rattle.s66_compare.specs.declared.verdict.Verdict.TheVariants.{NotLegal, OtherNew, OtherOld, Reordered, Same};
 
 /// If the new source is accepted, each of its blocks has the instructions of the old one in a legal order, and so leaves the same in
 /// all registers and in memory; and what stands beside the blocks is the same.
@@ -19,4 +23,27 @@ pub fn same_meaning_law()
 pub fn difference_law()
     ensures none { (old new : List FramePart) → first_difference old new ≡ None → shapes new ≡ shapes old }
     ensures some { (old new : List FramePart) (d : Difference) → first_difference old new ≡ Some d → DifferFirst old new d }
+{}
+
+/// What is said of blocks of three instructions, of which the second reads what the first loads; and of equal instructions, of which
+/// each depends on the one before it.
+#[tactic(auto, unfolding(s66_model::specs::Dependence::conflict))]
+pub fn verdict_examples()
+    ensures same { judged (block_of_texts (codes "SA1 A1+B1" ∷ codes "BX6 X1" ∷ codes "BX7 X2" ∷ [])) (block_of_texts (codes "SA1 A1+B1" ∷ codes "BX6 X1" ∷ codes "BX7 X2" ∷ [])) ≡ record { verdict = Same; order = 1 ∷ 2 ∷ 3 ∷ [] } }
+    ensures legal { judged (block_of_texts (codes "SA1 A1+B1" ∷ codes "BX6 X1" ∷ codes "BX7 X2" ∷ [])) (block_of_texts (codes "SA1 A1+B1" ∷ codes "BX7 X2" ∷ codes "BX6 X1" ∷ [])) ≡ record { verdict = Reordered; order = 1 ∷ 3 ∷ 2 ∷ [] } }
+    ensures not_legal { judged (block_of_texts (codes "SA1 A1+B1" ∷ codes "BX6 X1" ∷ codes "BX7 X2" ∷ [])) (block_of_texts (codes "BX6 X1" ∷ codes "SA1 A1+B1" ∷ codes "BX7 X2" ∷ [])) ≡ record { verdict = NotLegal 2 1; order = 2 ∷ 1 ∷ 3 ∷ [] } }
+    ensures other_operand { judged (block_of_texts (codes "SA1 A1+B1" ∷ codes "BX6 X1" ∷ codes "BX7 X2" ∷ [])) (block_of_texts (codes "SA1 A1+B1" ∷ codes "BX7 X3" ∷ codes "BX6 X1" ∷ [])) ≡ record { verdict = OtherNew 2; order = 1 ∷ [] } }
+    ensures lost { judged (block_of_texts (codes "SA1 A1+B1" ∷ codes "BX6 X1" ∷ codes "BX7 X2" ∷ [])) (block_of_texts (codes "SA1 A1+B1" ∷ codes "BX7 X2" ∷ [])) ≡ record { verdict = OtherOld 2; order = 1 ∷ 3 ∷ [] } }
+    ensures equal_texts { judged (block_of_texts (codes "LX1 1" ∷ codes "LX1 1" ∷ codes "BX2 X1" ∷ [])) (block_of_texts (codes "LX1 1" ∷ codes "BX2 X1" ∷ codes "LX1 1" ∷ [])) ≡ record { verdict = NotLegal 3 2; order = 1 ∷ 3 ∷ 2 ∷ [] } }
+{}
+
+/// What stands beside the blocks of a small source: a label on a `NO`, a comment, a branch, a `NO` that stands alone, and a switch; and
+/// where texts are parted.
+pub fn frame_examples()
+    ensures frame { frame_of (plain (codes "L NO\n  BX1 X2\n* C\n  BX2 X3\n  EQ L \r\nM NO\n*S66 OFF\n")) ≡
+        record { line = 2; is_block = true; bytes = codes "L" } ∷ record { line = 5; is_block = false; bytes = codes "  EQ L" }
+        ∷ record { line = 6; is_block = false; bytes = codes "M NO" } ∷ record { line = 7; is_block = false; bytes = codes "*S66 OFF" } ∷ [] }
+    ensures halves { halves_of (codes "  BX1 X2\n*s66 new  C\n*S66 NEW") ≡ Some (record { old = codes "  BX1 X2\n"; new = codes "*S66 NEW" }) }
+    ensures last_line { halves_of (codes "*S66 NEW") ≡ Some (record { old = []; new = [] }) }
+    ensures no_mark { halves_of (codes "* S66 NEW\n *S66 NEW\n*S66 NEWER\n") ≡ None }
 {}

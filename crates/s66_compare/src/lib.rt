@@ -10,4 +10,4 @@ mod text;
 mod verdict;
 
 pub use compared::{Compared, compare};
-pub use laws::{difference_law, same_meaning_law};
+pub use laws::{difference_law, frame_examples, same_meaning_law, verdict_examples};
