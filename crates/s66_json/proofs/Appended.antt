@@ -1,5 +1,5 @@
 -- Pieces that are appended one after the other, in one text.
-use Rattle.std.proofs.Common.{ℕ, ◌≡◌, ◌∙◌, List, ◌++◌, ap, append_assoc}
+use Rattle.std.proofs.Common.{ℕ, ◌≡◌, ◌∙◌, List, ◌++◌, append_assoc}
 
 pub of-three : (o a b c : List ℕ) → o ++ a ++ b ++ c ≡ o ++ (a ++ (b ++ c))
 of-three o a b c = append_assoc (o ++ a) b c ∙ append_assoc o a (b ++ c)

@@ -4,7 +4,7 @@ use Rattle.std.proofs.lemmas.Bool.{cond-true, cond-false, le-ltb, lt-ltb}
 use Rattle.std.proofs.lemmas.Nat.{div-add-mod'}
 use Rattle.s66_isa.specs.Lists.{Among}
 use Rattle.s66_isa.proofs.Lists.{cases_le}
-use Rattle.s66_json.specs.Json.{character, characters}
+use Rattle.s66_json.specs.Json.{characters}
 use Rattle.s66_json.specs.Labels.{bytes_in}
 
 one-byte : (b : ℕ) (more : List ℕ) → b < 128 → bytes_in (b ∷ more) ≡ b ∷ bytes_in more

@@ -11,8 +11,7 @@ use Rattle.s66_model.specs.Dependence.{needs}
 use Rattle.s66_model.specs.Timing.{Point, ResultAt, latest_result, total_of}
 use Rattle.s66_time.specs.TimedOrder.{TimedOrder}
 use Rattle.s66_why.specs.declared.stretch.Stretch.{Stretch}
-use Rattle.s66_why.specs.declared.stretch.Conflict.TheVariants.{First, Second, Third}
-use Rattle.s66_why.specs.Why.{lost, path, stretches, stretches_at}
+use Rattle.s66_why.specs.Why.{path, stretches, stretches_at}
 use Rattle.s66_json.specs.Json.{block_data, fillers_in, found_data, instruction_data, items_of, json_line, list_of, num, order_members, parcels_in, point_data, points, points_items, register_data, result_data, result_register, row_of, wait_data, written_data}
 use Rattle.s66_json.specs.Pieces.{bound_text, cause_text, conflict_text, head_text, instruction_text, instructions_text, is_some, label_text, lines_text, list_text, listed, lists_text, lost_of, lost_text, memory_text, name_of_block, name_text, needs_text, numbers_text, operands_text, order_text, path_text, place_text, point_text, points_text, register_text, registers_text, result_text, results_text, size_text, sort_text, source_text, start_text, string_text, timed_text, times_text, truth_text, unit_text, wait_start, wait_text, waits_text, work_text, write_text, writes_text}
 

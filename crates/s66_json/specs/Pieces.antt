@@ -1,6 +1,5 @@
 -- Used by contracts within the crate alone: the text of a value in pieces, as it is appended.
 use Rattle.std.specs.Prelude.{ℕ, Bool, true, false, List, [], ◌∷◌, ◌++◌, codes, decimal, length}
-use Rattle.serde_json.specs.Data.{Data}
 use Rattle.serde_json.specs.Written.{comma_if, compact_text}
 use Rattle.s66_isa.specs.declared.instr.Kind.{Kind}
 use Rattle.s66_isa.specs.declared.instr.Memory.{Memory}
@@ -15,7 +14,7 @@ use Rattle.s66_why.specs.declared.stretch.Conflict.{Conflict}
 use Rattle.s66_why.specs.declared.stretch.Conflict.TheVariants.{First, Second, Third}
 use Rattle.s66_why.specs.declared.stretch.Stretch.{Stretch}
 use Rattle.s66_why.specs.Why.{lost, path, stretches, stretches_at}
-use Rattle.s66_json.specs.Json.{conflict_data, fillers_in, label_data, memory_data, name_data, num, parcels_in, points, register_data, row_of, sort_data, text_data, unit_data}
+use Rattle.s66_json.specs.Json.{conflict_data, fillers_in, label_data, memory_data, name_data, parcels_in, points, register_data, row_of, sort_data, text_data, unit_data}
 
 -- SHORT VALUES
 

@@ -1,6 +1,6 @@
-use Rattle.std.proofs.Common.{ℕ, List, ◌++◌, ◌∙◌, ap, ap₂, codes, decimal, length}
+use Rattle.std.proofs.Common.{◌++◌, ◌∙◌, ap, ap₂, codes, decimal}
 use Rattle.std.proofs.lemmas.Result.{IfOk-equal}
-use Rattle.s66_line.specs.Block.{instrs_of, line_of}
+use Rattle.s66_line.specs.Block.{line_of}
 use Rattle.s66_json.specs.Pieces.{lines_text}
 use Rattle.s66_json.proofs.Appended.{of-four}
 use Rattle.s66_json.proofs.block.push_lines.Goals as goal

@@ -1,4 +1,4 @@
-use Rattle.std.proofs.Common.{List, ◌++◌, ◌∙◌, ap, codes}
+use Rattle.std.proofs.Common.{◌++◌, ◌∙◌, ap, codes}
 use Rattle.std.proofs.lemmas.Result.{IfOk-equal}
 use Rattle.s66_json.specs.Pieces.{head_text, instructions_text, start_text, timed_text}
 use Rattle.s66_json.proofs.Appended.{of-five}

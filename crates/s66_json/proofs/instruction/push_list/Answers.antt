@@ -1,10 +1,9 @@
-use Rattle.std.proofs.Common.{ℕ, List, ◌≡◌, ◌+◌, ◌-◌, ◌++◌, [], ◌∙◌, Bool, true, false, sym, ap, arith, length, get_or, append_assoc, codes}
+use Rattle.std.proofs.Common.{ℕ, List, ◌≡◌, ◌+◌, ◌-◌, ◌++◌, [], ◌∙◌, true, false, sym, ap, arith, length, get_or, append_assoc, codes}
 use Rattle.std.specs.Prelude.{nat_lt}
 use Rattle.std.proofs.lemmas.Bool.{lt-ltb}
 use Rattle.std.proofs.lemmas.Result.{IfOk-equal}
 use Rattle.serde_json.specs.Written.{comma_if}
 use Rattle.s66_isa.specs.Lists.{rising}
-use Rattle.s66_isa.specs.Table.{numbers}
 use Rattle.s66_line.specs.Block.{instrs_of}
 use Rattle.s66_dep.proofs.Readiness.{needs-at}
 use Rattle.s66_json.specs.Pieces.{instruction_text, instructions_text, listed}

@@ -1,4 +1,4 @@
-use Rattle.std.proofs.Common.{List, ◌++◌, ◌∙◌, ap, codes, decimal}
+use Rattle.std.proofs.Common.{◌++◌, ◌∙◌, ap, codes, decimal}
 use Rattle.std.proofs.lemmas.Result.{IfOk-equal}
 use Rattle.s66_isa.specs.Table.{Row}
 use Rattle.s66_json.specs.Pieces.{unit_text, work_text}

@@ -1,4 +1,4 @@
-use Rattle.std.proofs.Common.{List, ◌++◌, ◌∙◌, ap, codes, decimal}
+use Rattle.std.proofs.Common.{◌++◌, ◌∙◌, ap, codes, decimal}
 use Rattle.std.proofs.lemmas.Result.{IfOk-equal}
 use Rattle.s66_json.specs.Pieces.{lost_text}
 use Rattle.s66_json.proofs.Appended.{of-seven}

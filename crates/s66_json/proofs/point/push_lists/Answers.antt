@@ -1,4 +1,4 @@
-use Rattle.std.proofs.Common.{List, ◌++◌, ◌∙◌, ap, codes}
+use Rattle.std.proofs.Common.{◌++◌, ◌∙◌, ap, codes}
 use Rattle.std.proofs.lemmas.Result.{IfOk-equal}
 use Rattle.s66_model.specs.Timing.{Point}
 use Rattle.s66_json.specs.Pieces.{lists_text, results_text, waits_text}

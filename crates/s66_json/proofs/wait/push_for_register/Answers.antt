@@ -1,4 +1,4 @@
-use Rattle.std.proofs.Common.{List, ◌++◌, ◌∙◌, ap, append_assoc, codes}
+use Rattle.std.proofs.Common.{◌++◌, ◌∙◌, ap, append_assoc, codes}
 use Rattle.std.proofs.lemmas.Result.{IfOk-equal}
 use Rattle.s66_json.specs.Pieces.{register_text}
 use Rattle.s66_json.proofs.wait.push_for_register.Goals as goal

@@ -1,4 +1,4 @@
-use Rattle.std.proofs.Common.{◌+◌, ◌≤◌, ◌++◌, ◌∙◌, List, ap, ap₂, arith, flat_map, length, reverse, sym, take}
+use Rattle.std.proofs.Common.{◌++◌, ◌∙◌, List, ap, ap₂, arith, length, reverse, sym}
 use Rattle.s66_why.specs.declared.stretch.Stretch.{Stretch}
 use Rattle.s66_why.specs.Why.{first_stretch, second_stretch, third_stretch}
 use Rattle.s66_why.proofs.Lines.{parts-none, parts-more}
