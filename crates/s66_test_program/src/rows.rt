@@ -6,6 +6,7 @@ use std::thread::Threads;
 
 mod chart;
 mod deps;
+mod kept;
 mod left_alone;
 mod lint;
 mod order;
@@ -139,6 +140,7 @@ fn runs_rows(rt: HostRuntime) {
     check_rows(&rt, chart::ROWS);
     check_rows(&rt, why::ROWS);
     check_rows(&rt, order::ROWS);
+    check_rows(&rt, kept::ROWS);
     check_rows(&rt, left_alone::ROWS);
     check_rows(&rt, lint::ROWS);
     check_rows(&rt, sum::ROWS);
