@@ -6,8 +6,10 @@ mod check_text;
 mod deps_text;
 mod document_text;
 mod fields;
+mod kept_order;
 mod lint_text;
 mod listing;
+mod moved;
 mod selection;
 mod status;
 mod sum_rows;
@@ -16,6 +18,7 @@ mod why_text;
 
 pub use check_text::check_output;
 pub use document_text::{push_document, texts_of};
+pub use kept_order::keeps_order;
 pub use lint_text::lint_output;
 pub use listing::{Listing, listing_output};
 pub use selection::{blocks_before, shown};
