@@ -50,7 +50,7 @@ next-number some number l lines h =
 numbers-after : (some : Line → Bool) (l : Line) (lines : List Line) → (if some l then others (numbers_in some (l ∷ lines)) else numbers_in some (l ∷ lines)) ≡ numbers_in some lines
 numbers-after some l lines =
     elim (some l) as (λ t. (if t then others (map (λ (x : Line). x.number) (if t then l ∷ filter some lines else filter some lines))
-        else map (λ (x : Line). x.number) (if t then l ∷ filter some lines else filter some lines)) ≡ numbers_in some lines) [ true ↦ refl | false ↦ refl ]
+    else map (λ (x : Line). x.number) (if t then l ∷ filter some lines else filter some lines)) ≡ numbers_in some lines) [ true ↦ refl | false ↦ refl ]
 
 -- ALL LINES
 
@@ -77,11 +77,11 @@ kept-lines quiet all (l ∷ lines) s count h =
     ap (λ b. text_at quiet b (begins_with (suc count) ls) s (suc count) l.bytes ++ kept_from (keeper_after quiet s b (begins_with (suc count) ls) ds ls (suc count)) (bytes_in lines)) d
     ∙ ap (λ b. text_at quiet (is_dropped all l) b s (suc count) l.bytes ++ kept_from (keeper_after quiet s (is_dropped all l) b ds ls (suc count)) (bytes_in lines)) e
     ∙ ap (λ n. text_at quiet (is_dropped all l) (is_leading all l) s n l.bytes
-        ++ kept_from (keeper quiet (after_line (is_dropped all l) s n) (if is_dropped all l then others ds else ds) (if is_leading all l then others ls else ls) (suc count)) (bytes_in lines)) (sym h.0)
+    ++ kept_from (keeper quiet (after_line (is_dropped all l) s n) (if is_dropped all l then others ds else ds) (if is_leading all l then others ls else ls) (suc count)) (bytes_in lines)) (sym h.0)
     ∙ ap (λ ns. text_at quiet (is_dropped all l) (is_leading all l) s l.number l.bytes
-        ++ kept_from (keeper quiet there ns (if is_leading all l then others ls else ls) (suc count)) (bytes_in lines)) (numbers-after (is_dropped all) l lines)
+    ++ kept_from (keeper quiet there ns (if is_leading all l then others ls else ls) (suc count)) (bytes_in lines)) (numbers-after (is_dropped all) l lines)
     ∙ ap (λ ns. text_at quiet (is_dropped all l) (is_leading all l) s l.number l.bytes ++ kept_from (keeper quiet there (numbers_in (is_dropped all) lines) ns (suc count)) (bytes_in lines))
-        (numbers-after (is_leading all) l lines)
+    (numbers-after (is_leading all) l lines)
     ∙ ap (λ text. text_at quiet (is_dropped all l) (is_leading all l) s l.number l.bytes ++ text) (kept-lines quiet all lines there (suc count) h.1)
 
 -- a whole source
@@ -91,7 +91,7 @@ print-keeping quiet source blocks before given accepted =
     let all : List Line = classed_lines source in
     ap (λ bs. kept_from (keeper quiet (at_start bs before given) (lines_that is_dropped source) (lines_that is_leading source) 0) (lines_of source.text)) (sym (accepted-is source blocks accepted))
     ∙ ap (λ lines. kept_from (keeper quiet (at_start (blocks_of all) before given) (lines_that is_dropped source) (lines_that is_leading source) 0) lines)
-        (sym (bytes-classed (flagged_lines source) 1 0 0 [] false ∙ bytes-flagged source.cut at_first (lines_of source.text)))
+    (sym (bytes-classed (flagged_lines source) 1 0 0 [] false ∙ bytes-flagged source.cut at_first (lines_of source.text)))
     ∙ kept-lines quiet all all (at_start (blocks_of all) before given) 0 (numbered-classed (flagged_lines source) 1 0 0 [] false)
 
 -- the text of a line up to a newline, and then of those after it

@@ -19,12 +19,12 @@ mod standing;
 pub use counts::{are_digits, counting_text, cover_of, is_decimal_digit, is_one_of};
 pub use cover::{Cover, Covered};
 pub use error::SourceError;
+pub use keeper::print_keeping;
 pub use laws::{
     block_examples, case_law, copied_law, count_examples, cut_law, left_alone_examples,
     line_examples, line_law, parts_law, plain_law, printed_examples, read_again_examples,
     read_again_law, spelled_law,
 };
-pub use keeper::print_keeping;
 pub use limits::SOURCE_LINES_LIMIT;
 pub use placed::Placed;
 pub use printer::print_source;
