@@ -8,6 +8,7 @@ mod chart;
 mod compare;
 mod deps;
 mod json;
+mod kept;
 mod left_alone;
 mod lint;
 mod order;
@@ -155,6 +156,7 @@ fn runs_rows(rt: HostRuntime) {
     check_rows(&rt, page::ROWS);
     check_rows(&rt, json::ROWS);
     check_rows(&rt, order::ROWS);
+    check_rows(&rt, kept::ROWS);
     check_rows(&rt, left_alone::ROWS);
     check_rows(&rt, lint::ROWS);
     check_rows(&rt, sum::ROWS);

@@ -7,6 +7,8 @@ pub mod Dependences
 pub mod FoundAnswers
 pub mod InTurn
 pub mod OrderedAgain
+pub mod KeptAnswers
+pub mod LongestRuns
 pub mod Pieces
 pub mod PlacedAnswers
 pub mod SumRows

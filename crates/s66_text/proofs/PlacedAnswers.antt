@@ -52,7 +52,7 @@ number-within block prefix (m ∷ ms) goes n (inl here) =
     subst (λ k. (1 ≤ k) × (k ≤ length block)) (sym here) (parts.0, parts.1)
 number-within block prefix (m ∷ ms) goes n (inr past) = number-within block (prefix ++ m ∷ []) ms goes.1 n past
 
-legal-within : (block : Block) (order : List ℕ) → IsLegal (instrs_of block) order → (n : ℕ) → Among n order → (1 ≤ n) × (n ≤ length block.entries)
+pub legal-within : (block : Block) (order : List ℕ) → IsLegal (instrs_of block) order → (n : ℕ) → Among n order → (1 ≤ n) × (n ≤ length block.entries)
 legal-within block order legal n among =
     subst (λ k. (1 ≤ n) × (n ≤ k)) (length-map block.entries (λ (e : Entry). e.instr)) (number-within (instrs_of block) [] order (legal-order (instrs_of block) order legal).0 n among)
 

@@ -13,6 +13,8 @@ pub mod PageText
 pub mod ProveText
 pub mod CheckText
 pub mod LintText
+pub mod Moved
+pub mod KeptText
 pub mod SumText
 pub mod SumRows
 pub mod OrderedAgain

@@ -1,5 +1,5 @@
 -- To be believed: what `sum` writes for a source, and how it ends. There is a row for each block, those first whose orders save
--- most time, and what all blocks take, for answers of searches as those of `order`. With the trace each line ends with its splits.
+-- most time, what all blocks take, and how many instructions their orders move, for answers of searches as those of `order`. With the trace each line ends with its splits.
 use Rattle.std.specs.Prelude.{ℕ, ◌+◌, ◌-◌, ◌≡◌, ◌≤◌, ◌<◌, ◌⊎◌, ◌==◌, if◌then◌else◌, Bool, List, [], ◌∷◌, ◌++◌, Option, None, Some, Ok, IsPermutation, codes, decimal, length, slice_index_or, unwrap_or}
 use Rattle.s66_isa.specs.Lists.{tally, weigh}
 use Rattle.s66_isa.specs.declared.profile.Profile.{Profile}
@@ -9,7 +9,9 @@ use Rattle.s66_source.specs.LeftAlone.{Reading}
 use Rattle.s66_source.specs.Source.{source_of}
 use Rattle.s66_command.specs.declared.strategy.Strategy.{Strategy}
 use Rattle.s66_text.specs.Answers.{Answer, AreAnswers}
+use Rattle.s66_text.specs.Moved.{moved}
 use Rattle.s66_text.specs.OrderText.{all_placed, status_of}
+use Rattle.s66_text.specs.Shown.{before, shown}
 use Rattle.s66_outcome.specs.declared.outcome.Status.{Status}
 use Rattle.s66_text.specs.declared.sum_rows.Row.{Row}
 
@@ -26,6 +28,7 @@ row_of n block p =
       time = p.time;
       saved = p.source - p.time;
       bound = p.bound;
+      moved = moved p.order;
       splits = p.splits;
     }
 
@@ -54,10 +57,14 @@ abbrev pub splits_text : Option ℕ → List ℕ
 splits_text None = []
 splits_text (Some splits) = codes " SPLITS " ++ decimal splits
 
+-- how many instructions the orders move, and those splits
+abbrev pub moved_text : (moved : ℕ) → Option ℕ → List ℕ
+moved_text moved splits = codes " MOVED " ++ decimal moved ++ splits_text splits
+
 abbrev pub row_line : Row → List ℕ
 row_line r =
     codes "BLOCK " ++ decimal r.number ++ codes " LINE " ++ decimal r.line ++ codes " COUNT " ++ decimal r.count ++ codes " SOURCE "
-    ++ decimal r.source ++ codes " TIME " ++ decimal r.time ++ bound_text r ++ splits_text r.splits ++ codes "\n"
+    ++ decimal r.source ++ codes " TIME " ++ decimal r.time ++ bound_text r ++ moved_text r.moved r.splits ++ codes "\n"
 
 abbrev pub row_lines : List Row → List ℕ
 row_lines [] = []
@@ -67,10 +74,10 @@ row_lines (r ∷ rows) = row_line r ++ row_lines rows
 abbrev pub total_times : (blocks source time : ℕ) → List ℕ
 total_times blocks source time = codes "TOTAL BLOCKS " ++ decimal blocks ++ codes " SOURCE " ++ decimal source ++ codes " TIME " ++ decimal time
 
--- and how many orders are best, and how many splits there are, if that is to be printed
-abbrev pub total_text : (blocks source time best : ℕ) → Option ℕ → List ℕ
-total_text blocks source time best splits =
-    total_times blocks source time ++ codes " BEST " ++ decimal best ++ splits_text splits ++ codes "\n"
+-- and how many orders are best, how many instructions they move, and how many splits there are, if that is to be printed
+abbrev pub total_text : (blocks source time best moved : ℕ) → Option ℕ → List ℕ
+total_text blocks source time best moved splits =
+    total_times blocks source time ++ codes " BEST " ++ decimal best ++ moved_text moved splits ++ codes "\n"
 
 -- the splits of a row
 abbrev pub splits_in : Row → ℕ
@@ -82,16 +89,18 @@ all_splits trace rows = if trace then Some (weigh splits_in rows) else None
 
 abbrev pub total_line : (trace : Bool) → List Row → List ℕ
 total_line trace rows =
-    total_text (length rows) (weigh (λ (r : Row). r.source) rows) (weigh (λ (r : Row). r.time) rows) (tally is_best rows) (all_splits trace rows)
+    total_text (length rows) (weigh (λ (r : Row). r.source) rows) (weigh (λ (r : Row). r.time) rows) (tally is_best rows)
+    (weigh (λ (r : Row). r.moved) rows) (all_splits trace rows)
 
 -- the rows in their order, and their sums
 abbrev pub IsSumText : (trace : Bool) (rows : List Row) (text : List ℕ) → Type 0
 IsSumText trace rows text =
     (ordered : List Row) × IsPermutation rows ordered × AreInOrder ordered × (text ≡ row_lines ordered ++ total_line trace rows)
 
--- for some answers, the rows of what `order` would print, and their status
-abbrev pub IsSumOutput : Strategy → Profile → (trace : Bool) (source : Reading) (text : List ℕ) → Status → Type 0
-IsSumOutput strategy p trace source text status =
+-- for some answers to the blocks that are shown, the rows of what `order` would print, and their status
+abbrev pub IsSumOutput : Strategy → Profile → (trace : Bool) (only : Option ℕ) (source : Reading) (text : List ℕ) → Status → Type 0
+IsSumOutput strategy p trace only source text status =
     (blocks : List Block) × (source_of source ≡ Ok blocks)
-    × ((answers : List Answer) × AreAnswers strategy p blocks answers × IsSumText trace (rows_of 0 blocks (all_placed p trace blocks answers)) text
+    × ((answers : List Answer) × AreAnswers strategy p (shown only blocks) answers
+    × IsSumText trace (rows_of (before only) (shown only blocks) (all_placed p trace (shown only blocks) answers)) text
     × (status ≡ status_of answers))
