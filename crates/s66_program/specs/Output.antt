@@ -18,7 +18,7 @@ use Rattle.s66_text.specs.declared.listing.Listing.TheVariants as listing
 use Rattle.s66_text.specs.Listing.{IsListing}
 use Rattle.s66_text.specs.JsonText.{IsJsonOutput}
 use Rattle.s66_text.specs.WhyText.{IsWhyOutput}
-use Rattle.s66_text.specs.OrderText.{IsOrderOutput}
+use Rattle.s66_text.specs.KeptText.{IsOrdered}
 use Rattle.s66_text.specs.PageText.{IsPageOutput}
 use Rattle.s66_text.specs.ProveText.{IsProveOutput}
 use Rattle.s66_text.specs.CheckText.{IsCheckOutput}
@@ -100,11 +100,11 @@ IsOutput p (Chart cut texts only profile) input text status = IsListing p (listi
 IsOutput p (Why cut order only profile) input text status = IsWaitsOutput p order only (record { cut = cut; text = input }) text status
 IsOutput p (Json cut order only profile) input text status = IsLinesOutput p order only (record { cut = cut; text = input }) text status
 IsOutput p (Page cut strategy only profile) input text status = IsPageOutput strategy p only (record { cut = cut; text = input }) text status
-IsOutput p (Order cut strategy trace keep quiet only profile) input text status = IsOrderOutput strategy p trace (record { cut = cut; text = input }) text status
-IsOutput p (Prove cut strategy only profile) input text status = IsProveOutput strategy p (record { cut = cut; text = input }) text status
+IsOutput p (Order cut strategy trace keep quiet only profile) input text status = IsOrdered strategy p trace keep quiet only (record { cut = cut; text = input }) text status
+IsOutput p (Prove cut strategy only profile) input text status = IsProveOutput strategy p only (record { cut = cut; text = input }) text status
 IsOutput p Check input text status = IsCheckOutput input text status
 IsOutput p (Lint cut) input text status = IsLintOutput (record { cut = cut; text = input }) text status
-IsOutput p (Sum cut strategy trace only profile) input text status = IsSumOutput strategy p trace (record { cut = cut; text = input }) text status
+IsOutput p (Sum cut strategy trace only profile) input text status = IsSumOutput strategy p trace only (record { cut = cut; text = input }) text status
 IsOutput p (Compare cut profile) input text status = IsCompareOutput p cut input text status
 
 -- the command reads a source, and refuses some

@@ -6,6 +6,7 @@ mod compare_text;
 mod documents;
 mod json_text;
 mod kept;
+mod kept_text;
 mod laws;
 mod limits;
 mod order_text;

@@ -5,7 +5,7 @@ ghost use Rattle.s66_program.specs.Run.{IsRefusal};
 
 use crate::compare_text::compare_output;
 use crate::json_text::json_output;
-use crate::order_text::order_output;
+use crate::kept_text::{Style, ordered_output};
 use crate::page_text::page_output;
 use crate::prove_text::prove_output;
 use crate::remark::{Finished, remark_of, untold};
@@ -116,14 +116,30 @@ fn output_of<R: AllocGlobal + Threads + Wait + Sync, O: Observer>(
         Command::Order {
             strategy,
             trace,
+            keep,
+            quiet,
+            block,
             ..
-        } => order_output(rt, source, profile, strategy, trace, observer),
-        Command::Prove { strategy, .. } => prove_output(rt, source, profile, strategy, observer),
+        } => {
+            let style = Style {
+                trace,
+                keep,
+                quiet,
+                only: block,
+            };
+            ordered_output(rt, source, profile, strategy, style, observer)
+        }
+        Command::Prove {
+            strategy,
+            block,
+            ..
+        } => prove_output(rt, source, profile, strategy, block, observer),
         Command::Sum {
             strategy,
             trace,
+            block,
             ..
-        } => sum_output(rt, source, profile, strategy, trace, observer),
+        } => sum_output(rt, source, profile, strategy, trace, block, observer),
         Command::Check | Command::Lint { .. } | Command::Compare { .. } => unreachable!(),
     }
 }
