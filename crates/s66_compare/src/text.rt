@@ -205,12 +205,7 @@ fn total_of(rows: &[Row]) -> Total
 }
 
 /// How many blocks a source has, and what they take.
-fn push_sums(
-    out: &mut Vec<u8>,
-    name: &[u8],
-    blocks: usize,
-    time: usize,
-) -> Result<(), AllocError>
+fn push_sums(out: &mut Vec<u8>, name: &[u8], blocks: usize, time: usize) -> Result<(), AllocError>
     ensures { OnOk result (out.new.items ≡ out.old.items ++ sums_text name.now blocks time) }
 {
     push_field(out, name, blocks)?;
