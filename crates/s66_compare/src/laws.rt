@@ -38,12 +38,10 @@ pub fn verdict_examples()
 {}
 
 /// What stands beside the blocks of a small source: a label on a `NO`, a comment, a branch, a `NO` that stands alone, and a switch; and
-/// where texts are parted.
+/// a text that is the marking line alone.
 pub fn frame_examples()
     ensures frame { frame_of (plain (codes "L NO\n  BX1 X2\n* C\n  BX2 X3\n  EQ L \r\nM NO\n*S66 OFF\n")) ≡
         record { line = 2; is_block = true; bytes = codes "L" } ∷ record { line = 5; is_block = false; bytes = codes "  EQ L" }
         ∷ record { line = 6; is_block = false; bytes = codes "M NO" } ∷ record { line = 7; is_block = false; bytes = codes "*S66 OFF" } ∷ [] }
-    ensures halves { halves_of (codes "  BX1 X2\n*s66 new  C\n*S66 NEW") ≡ Some (record { old = codes "  BX1 X2\n"; new = codes "*S66 NEW" }) }
     ensures last_line { halves_of (codes "*S66 NEW") ≡ Some (record { old = []; new = [] }) }
-    ensures no_mark { halves_of (codes "* S66 NEW\n *S66 NEW\n*S66 NEWER\n") ≡ None }
 {}
