@@ -1,5 +1,5 @@
 -- Used by contracts within the crate alone: what is kept of answers to blocks, a part of each, one after the other.
-use Rattle.std.specs.Prelude.{ℕ, ◌+◌, ◌≡◌, ◌==◌, ◌&&◌, Bool, true, List, [], ◌∷◌, ◌++◌, slice_index_or}
+use Rattle.std.specs.Prelude.{ℕ, ◌+◌, ◌≡◌, ◌==◌, ◌&&◌, Bool, true, List, [], ◌∷◌, ◌++◌, slice_index_or, Option}
 use Rattle.s66_isa.specs.declared.profile.Profile.{Profile}
 use Rattle.s66_line.specs.Block.{Block}
 use Rattle.s66_source.specs.Printed.{Placed}
@@ -7,6 +7,7 @@ use Rattle.s66_cert.specs.Document.{document_text}
 use Rattle.s66_command.specs.declared.strategy.Strategy.{Strategy}
 use Rattle.s66_page.specs.Found.{Found}
 use Rattle.s66_text.specs.Answers.{Answer, AreAnswers, IsAnswer, document_under}
+use Rattle.s66_text.specs.KeptText.{given_by}
 use Rattle.s66_text.specs.OrderText.{all_best, placed_by}
 use Rattle.s66_text.specs.PageText.{found_by}
 use Rattle.s66_program.specs.declared.kept.Kept.{Kept}
@@ -21,6 +22,9 @@ found_part n block a = found_by block a ∷ []
 
 abbrev pub placed_part : Bool → Profile → ℕ → Block → Answer → List Placed
 placed_part trace p n block a = placed_by p trace block a ∷ []
+
+abbrev pub given_part : (trace keep : Bool) → Profile → ℕ → Block → Answer → List (Option Placed)
+given_part trace keep p n block a = given_by p trace keep block a ∷ []
 
 -- WHAT IS KEPT
 

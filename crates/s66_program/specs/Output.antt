@@ -8,14 +8,14 @@ use Rattle.s66_model.specs.declared.limits.TheConstants.{WORKERS_LIMIT}
 use Rattle.s66_command.specs.declared.strategy.Strategy.{Strategy}
 use Rattle.s66_profile.specs.ProfileText.{profile_in_text}
 use Rattle.s66_command.specs.declared.command.Command.{Command}
-use Rattle.s66_command.specs.declared.command.Command.TheVariants.{Time, Deps, Chart, Why, Page, Order, Prove, Check, Lint, Sum}
+use Rattle.s66_command.specs.declared.command.Command.TheVariants.{Time, Deps, Chart, Why, Page, Order, Prove, Check, Lint, Sum, Compare}
 use Rattle.s66_command.specs.Profile.{profile_text}
 use Rattle.s66_outcome.specs.declared.outcome.Status.{Status}
 use Rattle.s66_outcome.specs.declared.outcome.Status.TheVariants.{Done}
 use Rattle.s66_text.specs.declared.listing.Listing.TheVariants as listing
 use Rattle.s66_text.specs.Listing.{IsListing}
 use Rattle.s66_text.specs.WhyText.{IsWhyOutput}
-use Rattle.s66_text.specs.OrderText.{IsOrderOutput}
+use Rattle.s66_text.specs.KeptText.{IsOrdered}
 use Rattle.s66_text.specs.PageText.{IsPageOutput}
 use Rattle.s66_text.specs.ProveText.{IsProveOutput}
 use Rattle.s66_text.specs.CheckText.{IsCheckOutput}
@@ -33,11 +33,12 @@ IsWithinLimits (Deps cut only) = Unit {0}
 IsWithinLimits (Chart cut texts only profile) = Unit {0}
 IsWithinLimits (Why cut order only profile) = IfSome order (λ strategy. IsSearchWithin strategy.search.workers strategy.search.nodes)
 IsWithinLimits (Page cut strategy only profile) = IsSearchWithin strategy.search.workers strategy.search.nodes
-IsWithinLimits (Order cut strategy trace profile) = IsSearchWithin strategy.search.workers strategy.search.nodes
-IsWithinLimits (Prove cut strategy profile) = IsSearchWithin strategy.search.workers strategy.search.nodes
+IsWithinLimits (Order cut strategy trace keep quiet block profile) = IsSearchWithin strategy.search.workers strategy.search.nodes
+IsWithinLimits (Prove cut strategy block profile) = IsSearchWithin strategy.search.workers strategy.search.nodes
 IsWithinLimits Check = Unit {0}
-IsWithinLimits Lint = Unit {0}
-IsWithinLimits (Sum cut strategy trace profile) = IsSearchWithin strategy.search.workers strategy.search.nodes
+IsWithinLimits (Lint cut) = Unit {0}
+IsWithinLimits (Compare cut profile) = Unit {0}
+IsWithinLimits (Sum cut strategy trace block profile) = IsSearchWithin strategy.search.workers strategy.search.nodes
 
 -- PROFILES
 
@@ -64,10 +65,12 @@ is_cut (Deps cut only) = cut
 is_cut (Chart cut texts only profile) = cut
 is_cut (Why cut order only profile) = cut
 is_cut (Page cut strategy only profile) = cut
-is_cut (Order cut strategy trace profile) = cut
-is_cut (Prove cut strategy profile) = cut
-is_cut (Sum cut strategy trace profile) = cut
-is_cut command = false
+is_cut (Order cut strategy trace keep quiet block profile) = cut
+is_cut (Prove cut strategy block profile) = cut
+is_cut (Sum cut strategy trace block profile) = cut
+is_cut (Lint cut) = cut
+is_cut (Compare cut profile) = cut
+is_cut Check = false
 
 -- an input, as a command reads it
 abbrev pub source_in : Command → List ℕ → Reading
@@ -80,11 +83,12 @@ IsOutput p (Deps cut only) input text status = IsListing p listing.Dependences o
 IsOutput p (Chart cut texts only profile) input text status = IsListing p (listing.Chart texts) only (record { cut = cut; text = input }) text × (status ≡ Done)
 IsOutput p (Why cut order only profile) input text status = IsWaitsOutput p order only (record { cut = cut; text = input }) text status
 IsOutput p (Page cut strategy only profile) input text status = IsPageOutput strategy p only (record { cut = cut; text = input }) text status
-IsOutput p (Order cut strategy trace profile) input text status = IsOrderOutput strategy p trace (record { cut = cut; text = input }) text status
-IsOutput p (Prove cut strategy profile) input text status = IsProveOutput strategy p (record { cut = cut; text = input }) text status
+IsOutput p (Order cut strategy trace keep quiet block profile) input text status = IsOrdered strategy p trace keep quiet block (record { cut = cut; text = input }) text status
+IsOutput p (Prove cut strategy block profile) input text status = IsProveOutput strategy p block (record { cut = cut; text = input }) text status
 IsOutput p Check input text status = IsCheckOutput input text status
-IsOutput p Lint input text status = IsLintOutput input text status
-IsOutput p (Sum cut strategy trace profile) input text status = IsSumOutput strategy p trace (record { cut = cut; text = input }) text status
+IsOutput p (Compare cut profile) input text status = ⊥
+IsOutput p (Lint cut) input text status = IsLintOutput input text status
+IsOutput p (Sum cut strategy trace block profile) input text status = IsSumOutput strategy p trace block (record { cut = cut; text = input }) text status
 
 -- the command reads a source, and refuses some
 abbrev pub reads_source : Command → Bool
@@ -93,11 +97,12 @@ reads_source (Deps cut only) = true
 reads_source (Chart cut texts only profile) = true
 reads_source (Why cut order only profile) = true
 reads_source (Page cut strategy only profile) = true
-reads_source (Order cut strategy trace profile) = true
-reads_source (Prove cut strategy profile) = true
+reads_source (Order cut strategy trace keep quiet block profile) = true
+reads_source (Prove cut strategy block profile) = true
 reads_source Check = false
-reads_source Lint = false
-reads_source (Sum cut strategy trace profile) = true
+reads_source (Lint cut) = false
+reads_source (Compare cut profile) = false
+reads_source (Sum cut strategy trace block profile) = true
 
 -- the command reads documents, and refuses some
 abbrev pub reads_documents : Command → Bool

@@ -1,6 +1,6 @@
 //! What becomes of the output of `order` and `prove` that is read again: contracts of functions that do nothing.
 
-ghost use Rattle.std.specs.Prelude.{ℕ, Bool, false, List, [], ◌∷◌, ◌++◌, length, map, Ok, Err, ◌≡◌, ◌≤◌, ◌<◌, codes};
+ghost use Rattle.std.specs.Prelude.{ℕ, Bool, false, List, [], ◌∷◌, ◌++◌, length, map, Ok, Err, Option, ◌≡◌, ◌≤◌, ◌<◌, codes};
 ghost use Rattle.s66_isa.specs.declared.profile.Profile.{Profile};
 ghost use Rattle.s66_isa.specs.Lists.{Among};
 ghost use Rattle.s66_isa.specs.Table.{standard};
@@ -70,8 +70,8 @@ pub fn proved_law()
 /// What `prove` wrote for a source, under any profile, is a text of documents. For each of them `check` writes YES, with the
 /// answer's time and bound; it writes nothing else, and is done.
 pub fn checked_law()
-    ensures yes { (strategy : Strategy) (p : Profile) (source : Reading) (text : List ℕ) (status : Status) → strategy.search.nodes ≤ BUDGET_LIMIT → IsProveOutput strategy p source text status → (lines : List ℕ) × AreYesLines strategy p source text lines × IsCheckOutput text lines Done }
-    ensures alone { (strategy : Strategy) (p : Profile) (source : Reading) (text lines : List ℕ) (status checked : Status) → strategy.search.nodes ≤ BUDGET_LIMIT → IsProveOutput strategy p source text status → IsCheckOutput text lines checked → AreYesLines strategy p source text lines × (checked ≡ Done) }
+    ensures yes { (strategy : Strategy) (p : Profile) (only : Option ℕ) (source : Reading) (text : List ℕ) (status : Status) → strategy.search.nodes ≤ BUDGET_LIMIT → IsProveOutput strategy p only source text status → (lines : List ℕ) × AreYesLines strategy p only source text lines × IsCheckOutput text lines Done }
+    ensures alone { (strategy : Strategy) (p : Profile) (only : Option ℕ) (source : Reading) (text lines : List ℕ) (status checked : Status) → strategy.search.nodes ≤ BUDGET_LIMIT → IsProveOutput strategy p only source text status → IsCheckOutput text lines checked → AreYesLines strategy p only source text lines × (checked ≡ Done) }
 {}
 
 /// If `check` is done, each document of its input claims what is true: under its own profile its order is legal and takes its

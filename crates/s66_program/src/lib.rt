@@ -4,6 +4,7 @@
 mod answers;
 mod documents;
 mod kept;
+mod kept_text;
 mod laws;
 mod limits;
 mod order_text;

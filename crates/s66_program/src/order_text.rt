@@ -22,7 +22,7 @@ use std::sync::Wait;
 use std::thread::Threads;
 
 /// How an answer's block is to be printed.
-fn placing(answer: &Found, trace: bool) -> Placed
+pub(crate) fn placing(answer: &Found, trace: bool) -> Placed
     ensures { (strategy : StrategyOf) (p : ProfileOf) (block : BlockOf) → IsFor strategy p block answer.now → result ≡ placed_by p trace block (answer_in answer.now) }
 {
     let Ok(order) = ArrayVec::try_from(answer.order().numbers()) else {

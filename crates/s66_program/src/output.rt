@@ -2,7 +2,7 @@ ghost use Rattle.std.specs.Prelude.{◌≡◌, true, IfOk, IfErr, IfSome};
 ghost use Rattle.s66_program.specs.Output.{IsOutput, IsSearchWithin, IsWaitsOutput, IsWithinLimits, is_cut, reads_source};
 ghost use Rattle.s66_program.specs.Run.{IsRefusal};
 
-use crate::order_text::order_output;
+use crate::kept_text::{Style, ordered_output};
 use crate::page_text::page_output;
 use crate::prove_text::prove_output;
 use crate::sum_text::sum_output;
@@ -28,8 +28,10 @@ fn is_cut(command: Command) -> bool
         | Command::Page { cut, .. }
         | Command::Order { cut, .. }
         | Command::Prove { cut, .. }
-        | Command::Sum { cut, .. } => cut,
-        Command::Check | Command::Lint => false,
+        | Command::Sum { cut, .. }
+        | Command::Lint { cut }
+        | Command::Compare { cut, .. } => cut,
+        Command::Check => false,
     }
 }
 
@@ -87,15 +89,31 @@ fn output_of<R: AllocGlobal + Threads + Wait + Sync, O: Observer>(
         Command::Order {
             strategy,
             trace,
+            keep,
+            quiet,
+            block,
             ..
-        } => order_output(rt, source, profile, strategy, trace, observer),
-        Command::Prove { strategy, .. } => prove_output(rt, source, profile, strategy, observer),
+        } => {
+            let style = Style {
+                trace,
+                keep,
+                quiet,
+                only: block,
+            };
+            ordered_output(rt, source, profile, strategy, style, observer)
+        }
+        Command::Prove {
+            strategy,
+            block,
+            ..
+        } => prove_output(rt, source, profile, strategy, block, observer),
         Command::Sum {
             strategy,
             trace,
+            block,
             ..
-        } => sum_output(rt, source, profile, strategy, trace, observer),
-        Command::Check | Command::Lint => unreachable!(),
+        } => sum_output(rt, source, profile, strategy, trace, block, observer),
+        Command::Check | Command::Lint { .. } | Command::Compare { .. } => unreachable!(),
     }
 }
 
@@ -133,7 +151,8 @@ pub fn output_for<R: AllocGlobal + Threads + Wait + Sync, O: Observer>(
     let alloc = rt.alloc();
     match command {
         Command::Check => Ok(check_output(alloc, input, observer)?),
-        Command::Lint => Ok(lint_output(alloc, input)?),
+        Command::Lint { .. } => Ok(lint_output(alloc, input)?),
+        Command::Compare { .. } => Err(Fault::Memory),
         _ => source_output(rt, command, profile, input, observer),
     }
 }

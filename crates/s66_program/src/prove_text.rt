@@ -10,7 +10,7 @@ use s66_isa::Profile;
 use s66_line::Block;
 use s66_outcome::{Observer, Output};
 use s66_source::Source;
-use s66_text::{push_document, status_by};
+use s66_text::{push_document, shown, status_by};
 use std::alloc::{AllocError, Global};
 use std::sync::Wait;
 use std::thread::Threads;
@@ -44,23 +44,24 @@ impl Keep<u8> for Documents {
     }
 }
 
-/// A document for each block of a source, of the answer that a search finds under a profile.
+/// A document for each block of a source, or for the only one that is printed, of the answer that a search finds under a profile.
 pub fn prove_output<R: AllocGlobal + Threads + Wait + Sync, O: Observer>(
     rt: &R,
     source: &Source,
     profile: &Profile,
     strategy: Strategy,
+    only: Option<u32>,
     observer: &mut O,
 ) -> Result<Output, AllocError>
     requires { IsSearchWithin strategy.search.workers strategy.search.nodes }
-    ensures { IfOk result (λ output. IsProveOutput strategy profile.now source.now output.text.items output.status) }
+    ensures { IfOk result (λ output. IsProveOutput strategy profile.now only source.now output.text.items output.status) }
 {
     let documents = Documents { alloc: rt.alloc() };
     let all = keep_all(
         rt,
         &documents,
         0,
-        source.blocks(),
+        shown(source.blocks(), only),
         profile,
         strategy,
         observer,
