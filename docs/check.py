@@ -10,10 +10,11 @@ PROGRAM is the built program. Without a DOCUMENT all are checked:
   help;
 - docs/help: that each file is what the program shows;
 - ARCHITECTURE.md's table of crates: that each file of a crate's code is in a row of that crate;
+- what docs/definitions.py makes in documents: that it is as that makes it now;
 - the files of examples/: that each NAME.time, NAME.chart and NAME.order is to the byte what the program writes of NAME.compass, and
   that check says yes to each document that prove writes of it, at the times of NAME.order.
 
-Each wrong place is told, wrong output as a diff. The last line counts in how many documents, and of the last four, nothing is wrong
+Each wrong place is told, wrong output as a diff. The last line counts in how many documents, and of the last five, nothing is wrong
 and something is. The status is 1 where something is.
 
 Two kinds of fences hold commands. In
@@ -42,6 +43,9 @@ import shutil
 import subprocess
 import sys
 import tempfile
+
+sys.dont_write_bytecode = True
+import definitions
 
 ROOT = os.path.dirname(os.path.dirname(os.path.abspath(__file__)))
 
@@ -284,7 +288,8 @@ def main(arguments):
     if not documents:
         documents = [os.path.join(ROOT, name) for name in DOCUMENTS]
         documents += sorted(glob.glob(os.path.join(ROOT, "docs/*.md")))
-        checks = [wrong_manual("docs/s66.1", program), wrong_help(program), unplaced_files(), wrong_examples(program)]
+        checks = [wrong_manual("docs/s66.1", program), wrong_help(program), unplaced_files()]
+        checks += [definitions.stale(), wrong_examples(program)]
     repository = Repository()
     checks += [wrong_in(document, program, repository) for document in documents]
     failed = 0
