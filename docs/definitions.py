@@ -29,8 +29,12 @@ WORD = re.compile(r"(?<![\w.'-])[A-Za-z][\w']*(?:-\w+)*(?:\.[a-z]\w*)*")
 IMPORTED = re.compile(r"^use Rattle\.(s66_\w+)\.specs\.(\w+)\.\{([^}]*)\}", re.MULTILINE)
 DECLARED = re.compile(r"^use Rattle\.(s66_\w+)\.specs\.declared\.(\w+)\.(\w+)", re.MULTILINE)
 RENAMED = re.compile(r"^use Rattle\.(s66_\w+)\.specs\.(\w+) as (\w+)$", re.MULTILINE)
-EMPTY = re.compile(r"((?:^ *///.*\n)+)(?:^ *#\[.*\n)*^pub fn (\w+_(?:law|examples?)|old_documents_stay)\(\)", re.MULTILINE)
-TYPE = r"((?:^///.*\n)+)(?:^#\[.*\n)*^pub (?:struct|enum) %s\b"
+GHOST = re.compile(r"^ *ghost use Rattle\.(s66_\w+)\.specs\.(\w+)\.\{([^}]*)\}", re.MULTILINE)
+EMPTY = re.compile(
+    r"((?:^///.*\n)+)(?:^#\[.*\n)*^pub fn (\w+_(?:law|examples?)|old_documents_stay)\(\)\n((?:(?!\{\}).*\n)*)", re.MULTILINE
+)
+TYPE = r"((?:^///.*\n)+)(?:^#\[.*\n)*^pub(?:\(\w+\))? (struct|enum) %s\b(?:.*\{\n((?:(?!\}).*\n)*))?"
+CASE = re.compile(r"((?:^    ///.*\n)*)(?:^    #\[.*\n)*^    (\w+)", re.MULTILINE)
 WORDS = re.compile(r"^- `([^`\s]+)`: (.*)\n", re.MULTILINE)
 EXAMPLE = re.compile(r"_examples?$")
 LONGEST_BODY = 110
@@ -279,7 +283,7 @@ def notes():
     return found
 
 
-def definitions_of(specs, paragraphs, words):
+def definitions_of(specs, paragraphs, words, worked):
     """A file of definitions: its subject, its paragraphs, and each definition; those without words at the end."""
     yield f"\n#### `{specs.crate}/specs/{specs.name}.antt`\n\n{specs.subject()}\n"
     if paragraphs:
@@ -297,6 +301,8 @@ def definitions_of(specs, paragraphs, words):
         if not meaning:
             alone.append(item.head())
             continue
+        examples = worked.get((specs.crate, specs.name, item.name), [])
+        meaning += f" (worked in {listed(examples[:3])}{', ..' if examples[3:] else ''})" if examples else ""
         yield ("" if in_list else "\n") + f"- `{item.head()}`: {meaning}\n"
         in_list = True
     if alone:
@@ -310,7 +316,9 @@ def types_of(crate, house):
         path = f"crates/{crate}/src/{module}.rt"
         found = re.search(TYPE % name, read(path), re.MULTILINE) if os.path.isfile(os.path.join(ROOT, path)) else None
         if found:
-            yield name, first_paragraph(found[1])
+            cases = CASE.findall(found[3] or "") if found[2] == "enum" else []
+            said = [f"`{case}`: {first_paragraph(words)}" for words, case in cases if words]
+            yield name, first_paragraph(found[1]) + (f" Of its cases: {' '.join(said)}" if said else "")
 
 
 def first_paragraph(comment):
@@ -318,19 +326,34 @@ def first_paragraph(comment):
     return " ".join(lines[: lines.index("")] if "" in lines else lines)
 
 
-def documented(crate):
-    """The laws and examples of a crate, which are functions that do nothing: name and comment."""
-    top = os.path.join(ROOT, "crates", crate, "src")
-    for folder, _, names in sorted(os.walk(top)):
+class Empty:
+    """A law or an example, a function that does nothing: its comment, and the definitions that its clauses name."""
+
+    def __init__(self, name, comment, used):
+        self.name, self.comment, self.used = name, first_paragraph(comment), used
+        self.is_example = bool(EXAMPLE.search(name))
+
+
+def empty_functions(crate):
+    """The laws and the examples of a crate, file after file."""
+    for folder, _, names in sorted(os.walk(os.path.join(ROOT, "crates", crate, "src"))):
         for name in sorted(names):
-            path = os.path.relpath(os.path.join(folder, name), ROOT)
-            for comment, function in EMPTY.findall(read(path)):
-                yield function, first_paragraph(comment)
+            text = read(os.path.relpath(os.path.join(folder, name), ROOT))
+            imports = {}
+            for of, file, words in GHOST.findall(text):
+                imports.update({word.strip(): (of, file, word.strip()) for word in words.split(",")})
+            for comment, function, clauses in EMPTY.findall(text):
+                yield Empty(function, comment, {imports[word] for word in WORD.findall(clauses) if word in imports})
 
 
 def definitions(house):
     """What DEFINITIONS.md has after its head."""
     said = notes()
+    functions = [(function, crate) for crate in crates() for function in empty_functions(crate)]
+    worked = {}
+    for function, _ in functions:
+        for used in function.used if function.is_example else ():
+            worked.setdefault(used, []).append(function.name)
     for path in sorted(set(said) - {specs.path.removeprefix("crates/") for specs in house.specs.values() if specs.is_believed()}):
         raise Wrong(f"docs/NOTES.md: no file {path} that is to be believed")
     yield "\n## How much a promise needs\n\n"
@@ -338,19 +361,19 @@ def definitions(house):
     yield "\n## The definitions, file by file\n"
     for crate in crates():
         believed = [specs for (of, _), specs in house.specs.items() if of == crate and specs.is_believed()]
-        empty = list(documented(crate))
+        empty = [function for function, of in functions if of == crate]
         if not believed and not empty:
             continue
         yield f"\n### `{crate}`\n"
         for specs in believed:
-            yield from definitions_of(specs, *said.get(specs.path.removeprefix("crates/"), ("", {})))
+            yield from definitions_of(specs, *said.get(specs.path.removeprefix("crates/"), ("", {})), worked)
         types = list(types_of(crate, house))
         if types:
             yield "\n#### Types of the code of which these speak\n\n" + "".join(f"- `{name}`: {words}\n" for name, words in types)
         for is_example, title in ((False, "Laws"), (True, "Examples, each clause of which is computed")):
-            found = [(name, words) for name, words in empty if bool(EXAMPLE.search(name)) == is_example]
+            found = [function for function in empty if function.is_example == is_example]
             if found:
-                yield f"\n#### {title}\n\n" + "".join(f"- `{name}`: {words}\n" for name, words in found)
+                yield f"\n#### {title}\n\n" + "".join(f"- `{function.name}`: {function.comment}\n" for function in found)
 
 
 def map_of(house):
