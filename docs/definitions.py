@@ -10,7 +10,7 @@ A part is what stands between `<!-- made by docs/definitions.py -->` and the nex
   its first line, all definitions, in the words of the comments above them, with a paragraph of NOTES.md where that has one; and
   the laws and the examples of the crate;
 - ARCHITECTURE.md: the files of specs/, and the lemma files of proofs/, each by its first line;
-- PROMISES.md: the laws, and the public calls that have a contract, by the first sentence above each.
+- PROMISES.md: the laws, and the types and functions that the crates offer, with their calls that have a contract.
 
 A definition without a comment is given by its own text if that is one short line, and else named alone.
 """
@@ -36,9 +36,15 @@ EMPTY = re.compile(
 TYPE = r"((?:^///.*\n)+)(?:^#\[.*\n)*^pub(?:\(\w+\))? (struct|enum) %s\b(?:.*\{\n((?:(?!\}).*\n)*))?"
 CASE = re.compile(r"((?:^    ///.*\n)*)(?:^    #\[.*\n)*^    (\w+)", re.MULTILINE)
 WORDS = re.compile(r"^- `([^`\s]+)`: (.*)\n", re.MULTILINE)
+EMPTY_NAME = re.compile(r"_(law|examples?)$|^old_documents_stay$")
+OFFERED = re.compile(r"pub (?:const )?(fn|struct|enum|trait) (\w+)")
+IMPL = re.compile(r"impl(?:<.*?>)? (?:.* for )?([A-Za-z]\w*)")
+EXPORTED = re.compile(r"^pub use (?:\w+::)+(?:\{([^}]*)\}|(\w+));", re.MULTILINE)
 EXAMPLE = re.compile(r"_examples?$")
 LONGEST_BODY = 110
 
+# of what these find nothing is proved but that it is safe, as PROMISES.md says
+ONLY_SAFE = {"s66_paths", "s66_network", "s66_finder", "s66_prefix", "s66_beam", "s66_branch", "s66_deep"}
 ORDER, TOTAL, BOUND = "s66_model/LegalOrder/IsLegal", "s66_model/Timing/total_of", "s66_model/BestAndBound/IsBound"
 DOCUMENT, CLAIMED, SOURCE = "s66_cert/Document/Document", "s66_checker/Verdict/problem_of", "s66_source/Source/source_of"
 # what a reader who wants to believe this has to read: these definitions, with all that they use
@@ -390,6 +396,68 @@ def map_of(house):
             yield f"\n| `{crate}` | |\n|---|---|\n" + "".join(f"| {file} | {cell(words)} |\n" for file, words in rows)
 
 
+def first_sentence(comment):
+    """The first sentence of a comment; a point in a number or a name ends none."""
+    return re.split(r"(?<=[.:])\s+(?=[A-Z`])", first_paragraph(comment), maxsplit=1)[0].rstrip(":")
+
+
+class Public:
+    """A type or a function that a crate offers: what its comment says first, and its calls that have a contract."""
+
+    def __init__(self, name):
+        self.name, self.words, self.calls = name, "", []
+
+
+def publics_of(crate):
+    """What a crate offers that has a contract, in the order of its lib.rt."""
+    lib = read(f"crates/{crate}/src/lib.rt")
+    names = [name.strip() for many, one in EXPORTED.findall(lib) for name in (many or one).split(",")]
+    found = {name: Public(name) for name in names if name}
+    for folder, _, files in sorted(os.walk(os.path.join(ROOT, "crates", crate, "src"))):
+        for file in sorted(files):
+            owner, comment, public = None, [], None
+            for line in read(os.path.relpath(os.path.join(folder, file), ROOT)).splitlines():
+                head = OFFERED.match(line.strip())
+                if line.startswith("impl"):
+                    owner = found.get((IMPL.match(line) or [None, None])[1])
+                elif line.startswith("}"):
+                    owner = None
+                if line.strip().startswith("///"):
+                    comment.append(line)
+                    continue
+                if head and head[1] != "fn" and head[2] in found:
+                    found[head[2]].words = first_sentence("\n".join(comment))
+                elif head and head[1] == "fn":
+                    public = owner or (found.get(head[2]) if not line.startswith(" ") else None)
+                    call = head[2]
+                    if public and public is not owner:
+                        public.words = first_sentence("\n".join(comment))
+                elif line.strip().startswith("ensures") and public:
+                    public.calls.append(call)
+                    public = None
+                elif line.strip() == "{":
+                    public = None
+                if not line.strip().startswith("#["):
+                    comment = []
+    return [public for public in found.values() if public.calls and public.words and not EMPTY_NAME.search(public.name)]
+
+
+def laws_and_calls(house):
+    """What PROMISES.md has of laws and of public calls."""
+    yield "\n## What the definitions mean\n\n| Promise | Contract |\n|---|---|\n"
+    for crate in crates():
+        for function in empty_functions(crate):
+            if not function.is_example:
+                yield f"| {cell(function.comment)} | `{function.name}` (`{crate}`) |\n"
+    yield "\n## The public calls that have a contract\n\nThe words say what a type or a call is for; what is proved of it, its contract says. "
+    yield f"Not named are those of {listed(sorted(ONLY_SAFE))}.\n\n| For | Contract |\n|---|---|\n"
+    for crate in crates():
+        if not crate.startswith(("s66_test_", "s66_tools", "s66_main")) and crate not in ONLY_SAFE:
+            for public in publics_of(crate):
+                calls = [public.name] if public.calls == [public.name] else [public.name, *public.calls]
+                yield f"| {cell(public.words)} | {listed(calls)} (`{crate}`) |\n"
+
+
 def cell(text):
     return text.replace("|", r"\|")
 
@@ -397,7 +465,7 @@ def cell(text):
 def made():
     """Of each document, its path, its text, and the text that it should have."""
     house = House()
-    for path, make in (("docs/DEFINITIONS.md", definitions), ("docs/ARCHITECTURE.md", map_of)):
+    for path, make in (("docs/DEFINITIONS.md", definitions), ("docs/ARCHITECTURE.md", map_of), ("docs/PROMISES.md", laws_and_calls)):
         text = read(path)
         before, start, rest = text.partition(START)
         _, end, after = rest.partition(END)
