@@ -134,15 +134,18 @@ class Definition:
         return " ".join(names)
 
     def parts(self):
-        """The comments above the fields of a record or the cases of a type, each with its name."""
-        comment, found = [], []
+        """The fields of a record or the cases of a type, with the comments above them; a fact's, else, with their own text."""
+        comment, found, is_fact = [], [], self.kind == "record" and "(" in self.lines[0]
         for line in self.lines[1:]:
             text = line.strip()
-            field = re.match(r"(?:pub )?([A-Za-z][\w'-]*) :", text)
+            field = re.match(r"(?:pub )?([A-Za-z][\w'-]*) : (.*)", text)
             if text.startswith("-- "):
                 comment.append(text[3:])
             elif self.kind and field and line.startswith("  ") and not line.startswith("   "):
-                found.append((field[1], " ".join(comment)))
+                words = " ".join(comment)
+                if not words and is_fact and len(field[2]) <= LONGEST_BODY and not field[2].endswith("→"):
+                    words = f"`{field[2]}`"
+                found.append((field[1], words))
                 comment = []
             else:
                 comment = []
