@@ -26,6 +26,7 @@ HEAD = re.compile(r"^(?:abbrev |unfoldable )?pub (?:(record|data) )?([A-Za-z][\w
 VARIABLE = re.compile(r"(?!(?:zero|true|false)$)[a-z]\w*")
 TAIL = re.compile(r"\((?:suc|.* ∷) ([a-z]\w*)\)+")
 WORD = re.compile(r"(?<![\w.'-])[A-Za-z][\w']*(?:-\w+)*(?:\.[a-z]\w*)*")
+LABEL = re.compile(r"(^ +(?:pub )?|[{;] *)[A-Za-z][\w'-]*(?= [:=] )", re.MULTILINE)  # of a field
 IMPORTED = re.compile(r"^use Rattle\.(s66_\w+)\.specs\.(\w+)\.\{([^}]*)\}", re.MULTILINE)
 DECLARED = re.compile(r"^use Rattle\.(s66_\w+)\.specs\.declared\.(\w+)\.(\w+)", re.MULTILINE)
 RENAMED = re.compile(r"^use Rattle\.(s66_\w+)\.specs\.(\w+) as (\w+)$", re.MULTILINE)
@@ -170,7 +171,8 @@ class Definition:
         return said or (f"`{self.body()}`" if self.body() else "")
 
     def words(self):
-        return set(WORD.findall("\n".join(line for line in self.lines if not line.strip().startswith("--"))))
+        code = "\n".join(line for line in self.lines if not line.strip().startswith("--"))
+        return set(WORD.findall(LABEL.sub(r"\1", code)))
 
 
 class Specs:
