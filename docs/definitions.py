@@ -31,13 +31,10 @@ IMPORTED = re.compile(r"^use Rattle\.(s66_\w+)\.specs\.(\w+)\.\{([^}]*)\}", re.M
 DECLARED = re.compile(r"^use Rattle\.(s66_\w+)\.specs\.declared\.(\w+)\.(\w+)", re.MULTILINE)
 RENAMED = re.compile(r"^use Rattle\.(s66_\w+)\.specs\.(\w+) as (\w+)$", re.MULTILINE)
 GHOST = re.compile(r"^ *ghost use Rattle\.(s66_\w+)\.specs\.(\w+)\.\{([^}]*)\}", re.MULTILINE)
-EMPTY = re.compile(
-    r"((?:^///.*\n)+)(?:^#\[.*\n)*^pub fn (\w+_(?:law|examples?)|old_documents_stay)\(\)\n((?:(?!\{\}).*\n)*)", re.MULTILINE
-)
+EMPTY = re.compile(r"((?:^///.*\n)+)(?:^#\[.*\n)*^pub fn (\w+)\(\)\n((?:^ .*\n)+)^\{\}$", re.MULTILINE)
 TYPE = r"((?:^///.*\n)+)(?:^#\[.*\n)*^pub(?:\(\w+\))? (struct|enum) %s\b(?:.*\{\n((?:(?!\}).*\n)*))?"
 CASE = re.compile(r"((?:^    ///.*\n)*)(?:^    #\[.*\n)*^    (\w+)", re.MULTILINE)
 WORDS = re.compile(r"^- `([^`\s]+)`: (.*)\n", re.MULTILINE)
-EMPTY_NAME = re.compile(r"_(law|examples?)$|^old_documents_stay$")
 OFFERED = re.compile(r"pub (?:const )?(fn|struct|enum|trait) (\w+)")
 IMPL = re.compile(r"impl(?:<.*?>)? (?:.* for )?([A-Za-z]\w*)")
 EXPORTED = re.compile(r"^pub use (?:\w+::)+(?:\{([^}]*)\}|(\w+));", re.MULTILINE)
@@ -278,6 +275,9 @@ def needs(house):
     """How many definitions each promise needs, and from where."""
     yield "| To believe | Read, with all that it uses in turn | Definitions |\n|---|---|---|\n"
     for words, roots in TO_BELIEVE:
+        for root in roots:
+            if house.find(*root.split("/")) is None:
+                raise Wrong(f"docs/definitions.py: no definition {root}")
         seen, counts = house.used_by(roots), {}
         for _, file, _ in seen:
             counts[file] = counts.get(file, 0) + 1
@@ -345,16 +345,20 @@ class Empty:
         self.is_example = bool(EXAMPLE.search(name))
 
 
+def sources_of(crate):
+    """The files of a crate's src/."""
+    for folder, _, names in sorted(os.walk(os.path.join(ROOT, "crates", crate, "src"))):
+        yield from (os.path.relpath(os.path.join(folder, name), ROOT) for name in sorted(names))
+
+
 def empty_functions(crate):
     """The laws and the examples of a crate, file after file."""
-    for folder, _, names in sorted(os.walk(os.path.join(ROOT, "crates", crate, "src"))):
-        for name in sorted(names):
-            text = read(os.path.relpath(os.path.join(folder, name), ROOT))
-            imports = {}
-            for of, file, words in GHOST.findall(text):
-                imports.update({word.strip(): (of, file, word.strip()) for word in words.split(",")})
-            for comment, function, clauses in EMPTY.findall(text):
-                yield Empty(function, comment, {imports[word] for word in WORD.findall(clauses) if word in imports})
+    for path in sources_of(crate):
+        text, imports = read(path), {}
+        for of, file, words in GHOST.findall(text):
+            imports.update({word.strip(): (of, file, word.strip()) for word in words.split(",")})
+        for comment, function, clauses in EMPTY.findall(text):
+            yield Empty(function, comment, {imports[word] for word in WORD.findall(clauses) if word in imports})
 
 
 def definitions(house):
@@ -413,52 +417,52 @@ class Public:
         self.name, self.words, self.calls = name, "", []
 
 
-def publics_of(crate):
-    """What a crate offers that has a contract, in the order of its lib.rt."""
-    lib = read(f"crates/{crate}/src/lib.rt")
-    names = [name.strip() for many, one in EXPORTED.findall(lib) for name in (many or one).split(",")]
-    found = {name: Public(name) for name in names if name}
-    for folder, _, files in sorted(os.walk(os.path.join(ROOT, "crates", crate, "src"))):
-        for file in sorted(files):
-            owner, comment, public = None, [], None
-            for line in read(os.path.relpath(os.path.join(folder, file), ROOT)).splitlines():
-                head = OFFERED.match(line.strip())
-                if line.startswith("impl"):
-                    owner = found.get((IMPL.match(line) or [None, None])[1])
-                elif line.startswith("}"):
-                    owner = None
-                if line.strip().startswith("///"):
-                    comment.append(line)
-                    continue
-                if head and head[1] != "fn" and head[2] in found:
-                    found[head[2]].words = first_sentence("\n".join(comment))
-                elif head and head[1] == "fn":
-                    public = owner or (found.get(head[2]) if not line.startswith(" ") else None)
-                    call = head[2]
-                    if public and public is not owner:
-                        public.words = first_sentence("\n".join(comment))
-                elif line.strip().startswith("ensures") and public:
-                    public.calls.append(call)
-                    public = None
-                elif line.strip() == "{":
-                    public = None
-                if not line.strip().startswith("#["):
-                    comment = []
-    return [public for public in found.values() if public.calls and public.words and not EMPTY_NAME.search(public.name)]
+def publics_of(crate, left_out):
+    """What a crate offers that has a contract, in the order of its lib.rt, but for what is left out."""
+    names = [name.strip() for many, one in EXPORTED.findall(read(f"crates/{crate}/src/lib.rt")) for name in (many or one).split(",")]
+    found = {name: Public(name) for name in names if name and name not in left_out}
+    for path in sources_of(crate):
+        owner = public = None  # of which type this is, and of which call's contract
+        comment = []
+        for line in read(path).splitlines():
+            text, offered = line.strip(), OFFERED.match(line.strip())
+            if text.startswith("///"):
+                comment.append(line)
+                continue
+            if line.startswith(("impl", "}")):
+                name = IMPL.match(line)
+                owner = found.get(name[1]) if name else None
+            elif offered:
+                kind, name = offered.groups()
+                own = found.get(name) if not line.startswith(" ") else None
+                if own:
+                    own.words = first_sentence("\n".join(comment))
+                public = (owner or own) if kind == "fn" else None
+            elif text.startswith("ensures") and public:
+                public.calls.append(name)
+                public = None
+            elif text == "{":
+                public = None
+            if not text.startswith("#["):
+                comment = []
+    return [public for public in found.values() if public.calls and public.words]
 
 
 def laws_and_calls(house):
     """What PROMISES.md has of laws and of public calls."""
     yield "\n## What the definitions mean\n\n| Promise | Contract |\n|---|---|\n"
+    empty = {crate: list(empty_functions(crate)) for crate in crates()}
     for crate in crates():
-        for function in empty_functions(crate):
+        for function in empty[crate]:
             if not function.is_example:
                 yield f"| {cell(function.comment)} | `{function.name}` (`{crate}`) |\n"
+    for crate in sorted(ONLY_SAFE - set(crates())):
+        raise Wrong(f"docs/definitions.py: no crate {crate}")
     yield "\n## The public calls that have a contract\n\nThe words say what a type or a call is for; what is proved of it, its contract says. "
     yield f"Not named are those of {listed(sorted(ONLY_SAFE))}.\n\n| For | Contract |\n|---|---|\n"
     for crate in crates():
         if not crate.startswith(("s66_test_", "s66_tools", "s66_main")) and crate not in ONLY_SAFE:
-            for public in publics_of(crate):
+            for public in publics_of(crate, {function.name for function in empty[crate]}):
                 calls = [public.name] if public.calls == [public.name] else [public.name, *public.calls]
                 yield f"| {cell(public.words)} | {listed(calls)} (`{crate}`) |\n"
 
