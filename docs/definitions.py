@@ -172,6 +172,14 @@ class Definition:
         return set(WORD.findall(LABEL.sub(r"\1", code)))
 
 
+def first_comment(lines):
+    """Takes out of lines the comment with which they begin, but for one of what follows directly, and returns it."""
+    taken = []
+    while lines[0].startswith("--") and not (taken and lines[1].startswith("unfoldable pub use ")):
+        taken.append(lines.pop(0)[2:].strip())
+    return " ".join(taken)
+
+
 class Specs:
     """A file of a crate's specs/: what its first line says of it, and its definitions, under its notes."""
 
@@ -180,10 +188,7 @@ class Specs:
         self.path = f"crates/{crate}/specs/{name}.antt"
         text = read(self.path)
         lines = text.splitlines()
-        first = []
-        while lines and lines[0].startswith("--") and not (first and lines[1].startswith("unfoldable pub use ")):
-            first.append(lines.pop(0)[2:].strip())
-        self.first = " ".join(first)
+        self.first = first_comment(lines)
         self.imports = {}
         for of, file, names in IMPORTED.findall(text):
             self.imports.update({name.strip(): (of, file, name.strip()) for name in names.split(",")})
@@ -399,8 +404,7 @@ def map_of(house):
         specs = [house.specs[crate, name] for name in files_in(crate, "specs")]
         rows = [("★ " * file.is_believed() + f"`specs/{file.name}.antt`", file.subject()) for file in specs]
         for name in files_in(crate, "proofs"):
-            first = read(f"crates/{crate}/proofs/{name}.antt").splitlines()[0]
-            rows.append((f"`proofs/{name}.antt`", first.removeprefix("--").strip()))
+            rows.append((f"`proofs/{name}.antt`", first_comment(read(f"crates/{crate}/proofs/{name}.antt").splitlines())))
         if rows:
             yield f"\n| `{crate}` | |\n|---|---|\n" + "".join(f"| {file} | {cell(words)} |\n" for file, words in rows)
 
