@@ -299,7 +299,7 @@ def notes():
     return found
 
 
-def definitions_of(specs, paragraphs, words, worked):
+def definitions_of(specs, paragraphs, words, worked, needed):
     """A file of definitions: its subject, its paragraphs, and each definition; those without words at the end."""
     yield f"\n#### `{specs.crate}/specs/{specs.name}.antt`\n\n{specs.subject()}\n"
     if paragraphs:
@@ -313,16 +313,18 @@ def definitions_of(specs, paragraphs, words, worked):
             yield f"\n**{item}**\n"
             in_list = False
             continue
+        place = specs.crate, specs.name, item.name
+        head = f"**`{item.head()}`**" if place in needed else f"`{item.head()}`"
         meaning = item.meaning(words.get(item.name, ""))
         if not meaning:
-            alone.append(item.head())
+            alone.append(head)
             continue
-        examples = worked.get((specs.crate, specs.name, item.name), [])
+        examples = worked.get(place, [])
         meaning += f" (worked in {listed(examples[:3])}{', ..' if examples[3:] else ''})" if examples else ""
-        yield ("" if in_list else "\n") + f"- `{item.head()}`: {meaning}\n"
+        yield ("" if in_list else "\n") + f"- {head}: {meaning}\n"
         in_list = True
     if alone:
-        yield f"\nBy cases, to be read there: {listed(alone)}.\n"
+        yield f"\nBy cases, to be read there: {', '.join(alone)}.\n"
 
 
 def types_of(crate, house):
@@ -378,6 +380,8 @@ def definitions(house):
         raise Wrong(f"docs/NOTES.md: no file {path} that is to be believed")
     yield "\n## How much a promise needs\n\n"
     yield from needs(house)
+    needed = house.used_by(root for _, roots in TO_BELIEVE for root in roots)
+    yield f"\nAll these together need {len(needed)} definitions, which stand out below.\n"
     yield "\n## The definitions, file by file\n"
     for crate in crates():
         believed = [specs for (of, _), specs in house.specs.items() if of == crate and specs.is_believed()]
@@ -386,7 +390,7 @@ def definitions(house):
             continue
         yield f"\n### `{crate}`\n"
         for specs in believed:
-            yield from definitions_of(specs, *said.get(specs.path.removeprefix("crates/"), ("", {})), worked)
+            yield from definitions_of(specs, *said.get(specs.path.removeprefix("crates/"), ("", {})), worked, needed)
         types = list(types_of(crate, house))
         if types:
             yield "\n#### Types of the code of which these speak\n\n" + "".join(f"- `{name}`: {words}\n" for name, words in types)
