@@ -310,7 +310,7 @@ def definitions_of(specs, paragraphs, words, worked, needed):
     in_list, alone = False, []
     for item in specs.items:
         if isinstance(item, str):
-            yield f"\n**{item}**\n"
+            yield f"\n*{item}*\n"
             in_list = False
             continue
         place = specs.crate, specs.name, item.name
