@@ -5,15 +5,16 @@
 
 PROGRAM is the built program. Without a DOCUMENT all are checked:
 
-- README.md, CONTRIBUTING.md, CHANGELOG.md, the README.md of bench/ and of examples/, and docs/*.md;
+- README.md, CONTRIBUTING.md, CHANGELOG.md, the README.md of bench/, *.md of examples/, and docs/*.md;
 - the manual page docs/s66.1: that its literal displays are what a terminal shows, and that it has each sentence of the program's
   help;
 - docs/help: that each file is what the program shows;
 - ARCHITECTURE.md's table of crates: that each file of a crate's code is in a row of that crate;
+- what docs/definitions.py makes in documents: that it is as that makes it now;
 - the files of examples/: that each NAME.time, NAME.chart and NAME.order is to the byte what the program writes of NAME.compass, and
-  that check says yes to each document that prove writes of it, at the times of NAME.order.
+  that check says yes to each document that prove writes of it, at the times of NAME.order; and that it says yes to each NAME.cert.
 
-Each wrong place is told, wrong output as a diff. The last line counts in how many documents, and of the last four, nothing is wrong
+Each wrong place is told, wrong output as a diff. The last line counts in how many documents, and of the last five, nothing is wrong
 and something is. The status is 1 where something is.
 
 Two kinds of fences hold commands. In
@@ -43,12 +44,15 @@ import subprocess
 import sys
 import tempfile
 
+sys.dont_write_bytecode = True
+import definitions
+
 ROOT = os.path.dirname(os.path.dirname(os.path.abspath(__file__)))
 
 FENCE = re.compile(r"^```(.*)\n((?:.*\n)*?)^```$", re.MULTILINE)
 SPAN = re.compile(r"`([^`\n]+)`")
 PATH = re.compile(r"[\w*.-]+(/[\w*.-]+)*/?")
-SUFFIX = re.compile(r"\.(antt|chart|compass|edit|md|order|py|rt|time|txt)$|\b[a-z]\w*\.1$")
+SUFFIX = re.compile(r"\.(antt|cert|chart|compass|edit|md|order|py|rt|time|txt)$|\b[a-z]\w*\.1$")
 ANY = re.compile(r"\\\*|\b[A-Z]+\b(?!\\.md)")
 NAME = re.compile(r"[A-Za-z]\w*(::\w+)*")
 IS_MIXED = re.compile(r"[a-z0-9]_[a-z0-9]|::|[a-z][A-Z]")
@@ -57,9 +61,11 @@ HELP = re.compile(r"^ +(?:--)?(?!help)\w+(?: <N>)?  +(\S.*)$", re.MULTILINE)
 STATUSES = re.compile(r"^Status: (.*)$", re.MULTILINE)
 COMMENT = re.compile(r"^\s*(//|--).*$", re.MULTILINE)
 BEST = re.compile(r"^\* BLOCK (\d+) COUNT \d+ SOURCE \d+ TIME (\d+) BEST$", re.MULTILINE)
+CLAIM = re.compile(r"^TIME (\d+)\nBOUND (\d+)$", re.MULTILINE)
 ROW = re.compile(r"^\| (?:`(s66_\w+)` )?\| ([^|]*?) ?\| ([^|]*) \|$", re.MULTILINE)
 NAMED_BY_THEMSELVES = {"lib.rt", "main.rt", "limits.rt", "error.rt", "laws.rt", "examples.rt"}
-DOCUMENTS = ["README.md", "CONTRIBUTING.md", "CHANGELOG.md", "bench/README.md", "examples/README.md"]
+DOCUMENTS = ["README.md", "CONTRIBUTING.md", "CHANGELOG.md", "bench/README.md"]
+DOCUMENTS += ["examples/README.md", "examples/CERTIFICATES.md"]
 EXAMPLES = {"time": ["time"], "chart": ["chart"], "order": ["order", "--workers", "1", "--trace"]}
 STATUS_END = "\x1e"  # behind the output of a command: its status, and this
 
@@ -147,7 +153,9 @@ def wrong_examples(program):
             return opened.read()
 
     program = os.path.abspath(program)
-    files = {f"examples/{name}" for name in os.listdir(os.path.join(ROOT, "examples"))} - {"examples/README.md"}
+    files = {f"examples/{name}" for name in os.listdir(os.path.join(ROOT, "examples"))} - set(DOCUMENTS)
+    certificates = {name for name in files if name.endswith(".cert")}
+    files -= certificates
     routines = sorted(name[: -len(".compass")] for name in files if name.endswith(".compass"))
     known = {f"{routine}.{suffix}" for routine in routines for suffix in ["compass", *EXAMPLES]}
     for name in sorted(files ^ known):
@@ -161,6 +169,10 @@ def wrong_examples(program):
         best = BEST.findall(read(f"{routine}.order").decode()) if f"{routine}.order" in files else []
         verdicts = "".join(f"DOCUMENT {block} YES TIME {time} BOUND {time}\n" for block, time in best)
         yield from wrong_output(f"{routine}.compass", ["check"], program, proved.stdout, verdicts.encode())
+    for name in sorted(certificates):
+        text = read(name)
+        claimed = "DOCUMENT 1 YES TIME %s BOUND %s\n" % CLAIM.search(text.decode()).groups()
+        yield from wrong_output(name, ["check"], program, text, claimed.encode())
 
 
 class Repository:
@@ -284,7 +296,8 @@ def main(arguments):
     if not documents:
         documents = [os.path.join(ROOT, name) for name in DOCUMENTS]
         documents += sorted(glob.glob(os.path.join(ROOT, "docs/*.md")))
-        checks = [wrong_manual("docs/s66.1", program), wrong_help(program), unplaced_files(), wrong_examples(program)]
+        checks = [wrong_manual("docs/s66.1", program), wrong_help(program), unplaced_files()]
+        checks += [definitions.stale(), wrong_examples(program)]
     repository = Repository()
     checks += [wrong_in(document, program, repository) for document in documents]
     failed = 0

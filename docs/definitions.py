@@ -1,0 +1,523 @@
+#!/usr/bin/env python3
+"""Makes what documents say of definitions, laws and calls out of the comments above these.
+
+    docs/definitions.py            writes the parts that it makes
+    docs/definitions.py --check    tells which of them aren't current; the status is 1 if one isn't
+
+A part is what stands between `<!-- made by docs/definitions.py -->` and the next `<!-- end -->` of a document:
+
+- DEFINITIONS.md: how many definitions each promise needs; then, of each file of a crate's specs/ that says "To be believed" in
+  its first line, all definitions, in the words of the comments above them, with a paragraph of NOTES.md where that has one; and
+  the laws and the examples of the crate;
+- ARCHITECTURE.md: the files of specs/, and the lemma files of proofs/, each by its first line;
+- PROMISES.md: the laws, and the types and functions that the crates offer, with their calls that have a contract.
+
+A definition without a comment is given by its own text if that is one short line, and else named alone.
+"""
+import os
+import re
+import sys
+
+ROOT = os.path.dirname(os.path.dirname(os.path.abspath(__file__)))
+
+START, END = "<!-- made by docs/definitions.py -->\n", "<!-- end -->\n"
+BELIEVED = "To be believed: "
+HEAD = re.compile(r"^(?:abbrev |unfoldable )?pub (?:(record|data) )?([A-Za-z][\w'-]*)(.*)$")
+VARIABLE = re.compile(r"(?!(?:zero|true|false)$)[a-z]\w*")
+TAIL = re.compile(r"\((?:suc|.* ∷) ([a-z]\w*)\)+")
+WORD = re.compile(r"(?<![\w.'-])[A-Za-z][\w']*(?:-\w+)*(?:\.[a-z]\w*)*")
+LABEL = re.compile(r"(^ +(?:pub )?|[{;] *)[A-Za-z][\w'-]*(?= [:=] )", re.MULTILINE)  # of a field
+IMPORTED = re.compile(r"^use Rattle\.(s66_\w+)\.specs\.(\w+)\.\{([^}]*)\}", re.MULTILINE)
+DECLARED = re.compile(r"^use Rattle\.(s66_\w+)\.specs\.declared\.(\w+)\.(\w+)", re.MULTILINE)
+RENAMED = re.compile(r"^use Rattle\.(s66_\w+)\.specs\.(\w+) as (\w+)$", re.MULTILINE)
+GHOST = re.compile(r"^ *ghost use Rattle\.(s66_\w+)\.specs\.(\w+)\.\{([^}]*)\}", re.MULTILINE)
+EMPTY = re.compile(r"((?:^///.*\n)+)(?:^#\[.*\n)*^pub fn (\w+)\(\)\n((?:^ .*\n)+)^\{\}$", re.MULTILINE)
+TYPE = r"((?:^///.*\n)+)(?:^#\[.*\n)*^pub(?:\(\w+\))? (struct|enum) %s\b(?:.*\{\n((?:(?!\}).*\n)*))?"
+CASE = re.compile(r"((?:^    ///.*\n)*)(?:^    #\[.*\n)*^    (\w+)", re.MULTILINE)
+WORDS = re.compile(r"^- `([^`\s]+)`: (.*)\n", re.MULTILINE)
+OFFERED = re.compile(r"pub (?:const )?(fn|struct|enum|trait) (\w+)")
+IMPL = re.compile(r"impl(?:<.*?>)? (?:.* for )?([A-Za-z]\w*)")
+EXPORTED = re.compile(r"^pub use (?:\w+::)+(?:\{([^}]*)\}|(\w+));", re.MULTILINE)
+EXAMPLE = re.compile(r"_examples?$")
+LONGEST_BODY = 110
+
+# of what these find nothing is proved but that it is safe, as PROMISES.md says
+ONLY_SAFE = {"s66_paths", "s66_network", "s66_finder", "s66_prefix", "s66_beam", "s66_branch", "s66_deep"}
+ORDER, TOTAL, BOUND = "s66_model/LegalOrder/IsLegal", "s66_model/Timing/total_of", "s66_model/BestAndBound/IsBound"
+DOCUMENT, CLAIMED, SOURCE = "s66_cert/Document/Document", "s66_checker/Verdict/problem_of", "s66_source/Source/source_of"
+# what a reader who wants to believe this has to read: these definitions, with all that they use
+TO_BELIEVE = [
+    ("that an order is legal", [ORDER]),
+    ("what an order takes", [TOTAL]),
+    ("that no legal order takes less", [BOUND]),
+    ("which block and profile a document has", [DOCUMENT, CLAIMED]),
+    ("a yes of `verify` (`yes_law`)", [BOUND, DOCUMENT, CLAIMED]),
+    ("status 0 of `check` (`done_law`)", [BOUND, DOCUMENT, CLAIMED, "s66_cert/Document/IsText"]),
+    ("that an order keeps the meaning (`meaning_law`)", ["s66_model/Meaning/KeepsMeaning"]),
+    ("status 0 of `compare` (`same_meaning_law`)", ["s66_source/Halves/halves_of", "s66_compare/Meant/IsReordered", "s66_compare/Meant/KeepsSource"]),
+    ("what `time` says of a source", [TOTAL, "s66_text/TimeText/time_lines", SOURCE]),
+    ("`BEST` and `AT LEAST` of `order` (`answered_law`)", [BOUND, SOURCE, "s66_text/OrderText/all_placed", "s66_source/Printed/printed"]),
+]
+
+
+class Wrong(Exception):
+    """A document from which nothing can be made."""
+
+
+def read(path):
+    with open(os.path.join(ROOT, path), encoding="utf-8") as opened:
+        return opened.read()
+
+
+def crates():
+    """The crates, lowest first."""
+    return [line.split(":")[0] for line in read("crates.txt").splitlines() if line.startswith("s66_")]
+
+
+def files_in(crate, folder):
+    """The files of a crate's specs/ or proofs/ itself, in the order in which the crate lists them, or by name."""
+    top = os.path.join(ROOT, "crates", crate, folder)
+    names = sorted(name[:-5] for name in os.listdir(top) if name.endswith(".antt")) if os.path.isdir(top) else []
+    if folder == "proofs" or "Lib" not in names:
+        return [name for name in names if name != "Lib"]
+    order = re.findall(r"^pub mod (\w+)$", read(f"crates/{crate}/specs/Lib.antt"), re.MULTILINE)
+    return order + [name for name in names if name not in order and name != "Lib"]
+
+
+def patterns(text):
+    """The parts of a clause's left side: names, and what stands in parentheses."""
+    found, depth, start = [], 0, 0
+    for place, letter in enumerate(text + " "):
+        depth += (letter in "([{") - (letter in ")]}")
+        if letter == " " and depth == 0:
+            if text[start:place]:
+                found.append(text[start:place])
+            start = place + 1
+    return found
+
+
+def arguments(text):
+    """Of each argument of a type, without those that are implicit, a short name: the first word of its type."""
+    found, depth, start = [], 0, 0
+    for place, letter in enumerate(text):
+        depth += (letter in "([{") - (letter in ")]}")
+        if letter == "→" and depth == 0:
+            found.append(text[start:place].strip())
+            start = place + 1
+    words = [re.search(r"\w+", of) for of in found if not of.startswith("{")]
+    return ["n" if word is None or word[0] == "ℕ" else word[0].lower() for word in words]
+
+
+class Definition:
+    """A definition of a specs file: its name, its kind, the comment above it, and its lines."""
+
+    def __init__(self, name, kind, comment, lines):
+        self.name, self.kind, self.comment, self.lines = name, kind, comment, lines
+
+    def clauses(self):
+        return [line for line in self.lines[1:] if re.match(re.escape(self.name) + r"(?![\w'-])", line)]
+
+    def head(self):
+        """The name with its parameters: of each, a variable by which some clause calls it, or its type's name."""
+        if self.kind:
+            return " ".join([self.name] + re.findall(r"\(([^:()]+) :", self.lines[0]))
+        heads = [patterns(clause.split(" =")[0])[1:] for clause in self.clauses()]
+        if not heads:
+            return self.name
+        types = arguments(self.lines[0].split(" : ", 1)[-1])
+        names = [self.name]
+        for place, of in enumerate(zip(*heads)):
+            plain = [pattern for pattern in of if VARIABLE.fullmatch(pattern)]
+            tails = [found[1] for found in map(TAIL.fullmatch, of) if found]
+            names.append((plain + tails + [types[place] if place < len(types) else "_"])[0])
+        return " ".join(names)
+
+    def parts(self):
+        """The fields of a record or the cases of a type, with the comments above them; a fact's, else, with their own text."""
+        comment, found, is_fact = [], [], self.kind == "record" and "(" in self.lines[0]
+        for line in self.lines[1:]:
+            text = line.strip()
+            field = re.match(r"(?:pub )?([A-Za-z][\w'-]*) : (.*)", text)
+            if text.startswith("-- "):
+                comment.append(text[3:])
+            elif self.kind and field and line.startswith("  ") and not line.startswith("   "):
+                words = " ".join(comment)
+                if not words and is_fact and len(field[2]) <= LONGEST_BODY and not field[2].endswith("→"):
+                    words = f"`{field[2]}`"
+                found.append((field[1], words))
+                comment = []
+            else:
+                comment = []
+        return found
+
+    def body(self):
+        """The definition's own text if it is one clause in one short line."""
+        clauses = self.clauses()
+        rest = [line for line in self.lines[1:] if line.strip() and not line.strip().startswith("--")]
+        if self.kind or len(clauses) != 1 or len(rest) != 1 or " = " not in clauses[0]:
+            return ""
+        body = clauses[0].split(" = ", 1)[1]
+        return body if len(body) <= LONGEST_BODY else ""
+
+    def meaning(self, note=""):
+        """What it is, in the words of its comments and of a note; nothing if it has neither these nor a short body."""
+        said = "; ".join(words for words in (self.comment, note) if words)
+        if self.kind:
+            parts = [f"`{name}`: {words}" if words else f"`{name}`" for name, words in self.parts()]
+            fields = ("with " if self.kind == "record" else "one of ") + "; ".join(parts) if parts else ""
+            return " — ".join(part for part in (said, fields) if part)
+        return said or (f"`{self.body()}`" if self.body() else "")
+
+    def words(self):
+        code = "\n".join(line for line in self.lines if not line.strip().startswith("--"))
+        return set(WORD.findall(LABEL.sub(r"\1", code)))
+
+
+def first_comment(lines):
+    """Takes out of lines the comment with which they begin, but for one of what follows directly, and returns it."""
+    taken = []
+    while lines[0].startswith("--") and not (taken and lines[1].startswith("unfoldable pub use ")):
+        taken.append(lines.pop(0)[2:].strip())
+    return " ".join(taken)
+
+
+class Specs:
+    """A file of a crate's specs/: what its first line says of it, and its definitions, under its notes."""
+
+    def __init__(self, crate, name):
+        self.crate, self.name = crate, name
+        self.path = f"crates/{crate}/specs/{name}.antt"
+        text = read(self.path)
+        lines = text.splitlines()
+        self.first = first_comment(lines)
+        self.imports = {}
+        for of, file, names in IMPORTED.findall(text):
+            self.imports.update({name.strip(): (of, file, name.strip()) for name in names.split(",")})
+        self.declared = set(DECLARED.findall(text))
+        self.renamed = {short: (of, file) for of, file, short in RENAMED.findall(text)}
+        self.items = []  # definitions, and notes that stand by themselves
+        comment, indent = [], ""
+        for line in lines:
+            if line == "mutual" or line[:1].strip():
+                indent = "  " if line == "mutual" else ""
+            line = line.removeprefix(indent)
+            head = HEAD.match(line)
+            if line.startswith("--"):
+                comment.append(line[2:].strip())
+            elif head and head[2] not in ("use", "mod"):
+                self.items.append(Definition(head[2], head[1], " ".join(comment), [line]))
+                comment = []
+            elif not line.strip():
+                if comment:
+                    self.items.append(" ".join(comment))
+                comment = []
+            elif line == "mutual":
+                continue
+            elif self.definitions() and not line.startswith(("use ", "pub use ")):
+                last = self.definitions()[-1]
+                last.lines += [f"-- {text}" for text in comment] + [line]
+                comment = []
+        if comment:
+            self.items.append(" ".join(comment))
+
+    def is_believed(self):
+        return self.first.startswith(BELIEVED)
+
+    def subject(self):
+        said = self.first.removeprefix(BELIEVED)
+        return said[:1].upper() + said[1:]
+
+    def definitions(self):
+        return [item for item in self.items if isinstance(item, Definition)]
+
+    def source_of(self, word):
+        """The crate, the file and the name of the definition that a word of this file means, if it is one of specs/."""
+        first, _, second = word.partition(".")
+        if first in self.renamed and second:
+            return (*self.renamed[first], second.split(".")[0])
+        if first in {definition.name for definition in self.definitions()}:
+            return (self.crate, self.name, first)
+        return self.imports.get(first)
+
+
+class House:
+    """The specs files of all crates, in the order in which each crate lists them."""
+
+    def __init__(self):
+        self.specs = {}
+        for crate in crates():
+            for name in files_in(crate, "specs"):
+                self.specs[crate, name] = Specs(crate, name)
+        self.owners = {}  # of each case of a type, the type
+        for (crate, name), specs in self.specs.items():
+            for definition in specs.definitions():
+                for part, _ in definition.parts() if definition.kind == "data" else []:
+                    self.owners[crate, name, part] = definition.name
+
+    def find(self, crate, name, word):
+        specs = self.specs.get((crate, name))
+        word = self.owners.get((crate, name, word), word)
+        return next((d for d in specs.definitions() if d.name == word), None) if specs else None
+
+    def used_by(self, roots):
+        """These definitions and all that they use in turn, as crate, file and name."""
+        todo, seen = [tuple(root.split("/")) for root in roots], {}
+        while todo:
+            crate, name, word = todo.pop()
+            definition = self.find(crate, name, word)
+            if definition is None or (crate, name, definition.name) in seen:
+                continue
+            seen[crate, name, definition.name] = definition
+            sources = map(self.specs[crate, name].source_of, sorted(definition.words()))
+            todo += [source for source in sources if source]
+        return seen
+
+
+def listed(names):
+    return ", ".join(f"`{name}`" for name in names)
+
+
+def needs(house):
+    """How many definitions each promise needs, and from where."""
+    yield "| To believe | Read, with all that it uses in turn | Definitions |\n|---|---|---|\n"
+    for words, roots in TO_BELIEVE:
+        for root in roots:
+            if house.find(*root.split("/")) is None:
+                raise Wrong(f"docs/definitions.py: no definition {root}")
+        seen, counts = house.used_by(roots), {}
+        for _, file, _ in seen:
+            counts[file] = counts.get(file, 0) + 1
+        most_first = sorted(counts, key=lambda file: (-counts[file], file))
+        files = ", ".join(f"{counts[file]} of `{file}.antt`" for file in most_first)
+        yield f"| {words} | {listed(root.split('/')[-1] for root in roots)}: {files} | {len(seen)} |\n"
+
+
+def notes():
+    """What NOTES.md says of each file: its paragraphs, and words for single definitions."""
+    found = {}
+    for path, text in re.findall(r"^## `(\S+)`\n((?:(?!## ).*\n)*)", read("docs/NOTES.md"), re.MULTILINE):
+        found[path] = (WORDS.sub("", text).strip(), dict(WORDS.findall(text)))
+    return found
+
+
+def definitions_of(specs, paragraphs, words, worked, needed):
+    """A file of definitions: its subject, its paragraphs, and each definition; those without words at the end."""
+    yield f"\n#### `{specs.crate}/specs/{specs.name}.antt`\n\n{specs.subject()}\n"
+    if paragraphs:
+        yield f"\n{paragraphs}\n"
+    for name in words:
+        if name not in {definition.name for definition in specs.definitions()}:
+            raise Wrong(f"docs/NOTES.md: no {name} in {specs.path}")
+    in_list, alone = False, []
+    for item in specs.items:
+        if isinstance(item, str):
+            yield f"\n*{item}*\n"
+            in_list = False
+            continue
+        place = specs.crate, specs.name, item.name
+        head = f"**`{item.head()}`**" if place in needed else f"`{item.head()}`"
+        meaning = item.meaning(words.get(item.name, ""))
+        if not meaning:
+            alone.append(head)
+            continue
+        examples = worked.get(place, [])
+        meaning += f" (worked in {listed(examples[:3])}{', ..' if examples[3:] else ''})" if examples else ""
+        yield ("" if in_list else "\n") + f"- {head}: {meaning}\n"
+        in_list = True
+    if alone:
+        yield f"\nBy cases, to be read there: {', '.join(alone)}.\n"
+
+
+def types_of(crate, house):
+    """The types of a crate's code of which definitions speak, each with what its comment says first."""
+    believed = [specs for specs in house.specs.values() if specs.is_believed()]
+    for _, module, name in sorted({type for specs in believed for type in specs.declared if type[0] == crate}):
+        path = f"crates/{crate}/src/{module}.rt"
+        found = re.search(TYPE % name, read(path), re.MULTILINE) if os.path.isfile(os.path.join(ROOT, path)) else None
+        if found:
+            cases = CASE.findall(found[3] or "") if found[2] == "enum" else []
+            said = [f"`{case}`: {first_paragraph(words)}" for words, case in cases if words]
+            yield name, first_paragraph(found[1]) + (f" Of its cases: {' '.join(said)}" if said else "")
+
+
+def first_paragraph(comment):
+    lines = [line.strip()[3:].strip() for line in comment.splitlines()]
+    return " ".join(lines[: lines.index("")] if "" in lines else lines)
+
+
+class Empty:
+    """A law or an example, a function that does nothing: its comment, and the definitions that its clauses name."""
+
+    def __init__(self, name, comment, used):
+        self.name, self.comment, self.used = name, first_paragraph(comment), used
+        self.is_example = bool(EXAMPLE.search(name))
+
+
+def sources_of(crate):
+    """The files of a crate's src/."""
+    for folder, _, names in sorted(os.walk(os.path.join(ROOT, "crates", crate, "src"))):
+        yield from (os.path.relpath(os.path.join(folder, name), ROOT) for name in sorted(names))
+
+
+def empty_functions(crate):
+    """The laws and the examples of a crate, file after file."""
+    for path in sources_of(crate):
+        text, imports = read(path), {}
+        for of, file, words in GHOST.findall(text):
+            imports.update({word.strip(): (of, file, word.strip()) for word in words.split(",")})
+        for comment, function, clauses in EMPTY.findall(text):
+            yield Empty(function, comment, {imports[word] for word in WORD.findall(clauses) if word in imports})
+
+
+def definitions(house):
+    """What DEFINITIONS.md has after its head."""
+    said = notes()
+    functions = [(function, crate) for crate in crates() for function in empty_functions(crate)]
+    worked = {}
+    for function, _ in functions:
+        for used in function.used if function.is_example else ():
+            worked.setdefault(used, []).append(function.name)
+    for path in sorted(set(said) - {specs.path.removeprefix("crates/") for specs in house.specs.values() if specs.is_believed()}):
+        raise Wrong(f"docs/NOTES.md: no file {path} that is to be believed")
+    yield "\n## How much a promise needs\n\n"
+    yield from needs(house)
+    needed = house.used_by(root for _, roots in TO_BELIEVE for root in roots)
+    yield f"\nAll these together need {len(needed)} definitions, which stand out below.\n"
+    yield "\n## The definitions, file by file\n"
+    for crate in crates():
+        believed = [specs for (of, _), specs in house.specs.items() if of == crate and specs.is_believed()]
+        empty = [function for function, of in functions if of == crate]
+        if not believed and not empty:
+            continue
+        yield f"\n### `{crate}`\n"
+        for specs in believed:
+            yield from definitions_of(specs, *said.get(specs.path.removeprefix("crates/"), ("", {})), worked, needed)
+        types = list(types_of(crate, house))
+        if types:
+            yield "\n#### Types of the code of which these speak\n\n" + "".join(f"- `{name}`: {words}\n" for name, words in types)
+        for is_example, title in ((False, "Laws"), (True, "Examples, each clause of which is computed")):
+            found = [function for function in empty if function.is_example == is_example]
+            if found:
+                yield f"\n#### {title}\n\n" + "".join(f"- `{function.name}`: {function.comment}\n" for function in found)
+
+
+def map_of(house):
+    """The files of specs/ and the lemma files of each crate, by their first lines."""
+    yield "\n## Definitions and lemmas, file by file\n\n"
+    yield "Made of the first line of each. A star marks what a reader must believe (`DEFINITIONS.md`).\n"
+    for crate in crates():
+        specs = [house.specs[crate, name] for name in files_in(crate, "specs")]
+        rows = [("★ " * file.is_believed() + f"`specs/{file.name}.antt`", file.subject()) for file in specs]
+        for name in files_in(crate, "proofs"):
+            rows.append((f"`proofs/{name}.antt`", first_comment(read(f"crates/{crate}/proofs/{name}.antt").splitlines())))
+        if rows:
+            yield f"\n| `{crate}` | |\n|---|---|\n" + "".join(f"| {file} | {cell(words)} |\n" for file, words in rows)
+
+
+def first_sentence(comment):
+    """The first sentence of a comment; a point in a number or a name ends none."""
+    return re.split(r"(?<=[.:])\s+(?=[A-Z`])", first_paragraph(comment), maxsplit=1)[0].rstrip(":")
+
+
+class Public:
+    """A type or a function that a crate offers: what its comment says first, and its calls that have a contract."""
+
+    def __init__(self, name):
+        self.name, self.words, self.calls = name, "", []
+
+
+def publics_of(crate, left_out):
+    """What a crate offers that has a contract, in the order of its lib.rt, but for what is left out."""
+    names = [name.strip() for many, one in EXPORTED.findall(read(f"crates/{crate}/src/lib.rt")) for name in (many or one).split(",")]
+    found = {name: Public(name) for name in names if name and name not in left_out}
+    for path in sources_of(crate):
+        owner = public = None  # of which type this is, and of which call's contract
+        comment = []
+        for line in read(path).splitlines():
+            text, offered = line.strip(), OFFERED.match(line.strip())
+            if text.startswith("///"):
+                comment.append(line)
+                continue
+            if line.startswith(("impl", "}")):
+                name = IMPL.match(line)
+                owner = found.get(name[1]) if name else None
+            elif offered:
+                kind, name = offered.groups()
+                own = found.get(name) if not line.startswith(" ") else None
+                if own:
+                    own.words = first_sentence("\n".join(comment))
+                public = (owner or own) if kind == "fn" else None
+            elif text.startswith("ensures") and public:
+                public.calls.append(name)
+                public = None
+            elif text == "{":
+                public = None
+            if not text.startswith("#["):
+                comment = []
+    return [public for public in found.values() if public.calls and public.words]
+
+
+def laws_and_calls(house):
+    """What PROMISES.md has of laws and of public calls."""
+    yield "\n## What the definitions mean\n\n| Promise | Contract |\n|---|---|\n"
+    empty = {crate: list(empty_functions(crate)) for crate in crates()}
+    for crate in crates():
+        for function in empty[crate]:
+            if not function.is_example:
+                yield f"| {cell(function.comment)} | `{function.name}` (`{crate}`) |\n"
+    for crate in sorted(ONLY_SAFE - set(crates())):
+        raise Wrong(f"docs/definitions.py: no crate {crate}")
+    yield "\n## The public calls that have a contract\n\nThe words say what a type or a call is for; what is proved of it, its contract says. "
+    yield f"Not named are those of {listed(sorted(ONLY_SAFE))}.\n\n| For | Contract |\n|---|---|\n"
+    for crate in crates():
+        if not crate.startswith(("s66_test_", "s66_tools", "s66_main")) and crate not in ONLY_SAFE:
+            for public in publics_of(crate, {function.name for function in empty[crate]}):
+                calls = [public.name] if public.calls == [public.name] else [public.name, *public.calls]
+                yield f"| {cell(public.words)} | {listed(calls)} (`{crate}`) |\n"
+
+
+def cell(text):
+    return text.replace("|", r"\|")
+
+
+def made():
+    """Of each document, its path, its text, and the text that it should have."""
+    house = House()
+    for path, make in (("docs/DEFINITIONS.md", definitions), ("docs/ARCHITECTURE.md", map_of), ("docs/PROMISES.md", laws_and_calls)):
+        text = read(path)
+        before, start, rest = text.partition(START)
+        _, end, after = rest.partition(END)
+        if not start or not end:
+            raise Wrong(f"{path}: lacks {START.strip()} or {END.strip()}")
+        yield path, text, before + start + "".join(make(house)) + "\n" + end + after
+
+
+def stale():
+    """A line for each document that isn't current."""
+    try:
+        for path, text, wanted in made():
+            if text != wanted:
+                yield f"{path}: not as docs/definitions.py makes it: run that"
+    except Wrong as wrong:
+        yield str(wrong)
+
+
+def main(arguments):
+    if arguments == ["--check"]:
+        lines = list(stale())
+        print("".join(f"{line}\n" for line in lines), end="")
+        return 1 if lines else 0
+    if arguments:
+        sys.exit(__doc__.split("\n\n")[1].strip())
+    try:
+        documents = list(made())
+    except Wrong as wrong:
+        sys.exit(str(wrong))
+    for path, _, wanted in documents:
+        with open(os.path.join(ROOT, path), "w", encoding="utf-8") as file:
+            file.write(wanted)
+    return 0
+
+
+if __name__ == "__main__":
+    sys.exit(main(sys.argv[1:]))
