@@ -11,8 +11,10 @@ use Rattle.s66_program.specs.declared.limits.TheConstants.{SOURCE_FRONT}
 use Rattle.s66_outcome.specs.declared.outcome.Fault.{Fault}
 use Rattle.s66_outcome.specs.declared.outcome.Fault.TheVariants as fault
 use Rattle.s66_outcome.specs.declared.outcome.Status.{Status}
+use Rattle.s66_outcome.specs.declared.remark.Remark.{Remark}
 use Rattle.s66_outcome.specs.Kept.{IsFull, IsKeptInput}
 use Rattle.s66_program.specs.Output.{IsOutput, is_cut, reads_documents, reads_source, source_in}
+use Rattle.s66_program.specs.Remarks.{IsRemark}
 use Rattle.s66_program.specs.Run.{IsRefusal}
 use Rattle.s66_program.proofs.Fronts.{front-refused}
 
@@ -41,12 +43,21 @@ full-refused command None held rest is full = absurd full
 full-refused command (Some n) held rest (limit, reads) full = (reads, front-refused (is_cut command) held rest (subst (λ k. k ≤ length held) limit full))
 
 -- what is kept is the whole input, if the command writes something for it
-pub kept-whole : (p : Profile) (command : Command) (most : Option ℕ) (input held text : List ℕ) (status : Status) → IsMost command most → IsKeptInput most input held → IsOutput p command held text status → held ≡ input
+kept-whole : (p : Profile) (command : Command) (most : Option ℕ) (input held text : List ℕ) (status : Status) → IsMost command most → IsKeptInput most input held → IsOutput p command held text status → held ≡ input
 kept-whole p command most input held text status most-is (rest, is, inl none) output = sym (is ∙ ap (λ r. held ++ r) none ∙ append-nil held)
 kept-whole p command most input held text status most-is (rest, is, inr full) output =
     let stated = full-refused command most held rest most-is full in
     let known = accepted p command held text status stated.0 output in
     absurd (cc)
+
+pub whole-output : (p : Profile) (command : Command) (most : Option ℕ) (input held text : List ℕ) (status : Status) → IsMost command most → IsKeptInput most input held → IsOutput p command held text status → IsOutput p command input text status
+whole-output p command most input held text status most-is kept output =
+    subst (λ i. IsOutput p command i text status) (kept-whole p command most input held text status most-is kept output) output
+
+pub whole-remark : (p : Profile) (command : Command) (most : Option ℕ) (input held text : List ℕ) (status : Status) (r : Remark) → IsMost command most → IsKeptInput most input held → IsOutput p command held text status →
+    IsRemark command held r → IsRemark command input r
+whole-remark p command most input held text status r most-is kept output remark =
+    subst (λ i. IsRemark command i r) (kept-whole p command most input held text status most-is kept output) remark
 
 no-documents : (command : Command) → reads_source command ≡ true → reads_documents command ≡ true → ⊥
 no-documents (Time cut trace only profile) source documents = cc
