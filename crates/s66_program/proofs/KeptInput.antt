@@ -1,24 +1,35 @@
 -- What is kept of an input decides what becomes of it.
-use Rattle.std.proofs.Common.{◌≡◌, ◌≤◌, ℕ, true, List, ◌++◌, length, Option, None, Some, IfSome, Ok, Err, inl, inr, ap, sym, subst, ◌∙◌}
+use Rattle.std.proofs.Common.{◌≡◌, ◌≤◌, ℕ, Bool, true, false, List, ◌++◌, length, Option, None, Some, IfSome, Ok, Err, inl, inr, ap, sym, subst, ◌∙◌}
 use Rattle.std.proofs.lemmas.List.{append-nil}
 use Rattle.s66_isa.specs.declared.profile.Profile.{Profile}
 use Rattle.s66_line.specs.Block.{Block}
+use Rattle.s66_source.specs.LeftAlone.{Reading}
 use Rattle.s66_source.specs.Source.{source_of}
 use Rattle.s66_source.specs.declared.error.SourceError.{SourceError}
+use Rattle.s66_command.specs.declared.strategy.Strategy.{Strategy}
 use Rattle.s66_command.specs.declared.command.Command.{Command}
 use Rattle.s66_command.specs.declared.command.Command.TheVariants.{Time, Deps, Chart, Why, Page, Json, Order, Prove, Check, Lint, Sum, Compare}
+use Rattle.s66_text.specs.KeptText.{IsOrderedBy, is_other}
 use Rattle.s66_program.specs.declared.limits.TheConstants.{SOURCE_FRONT}
 use Rattle.s66_outcome.specs.declared.outcome.Fault.{Fault}
 use Rattle.s66_outcome.specs.declared.outcome.Fault.TheVariants as fault
 use Rattle.s66_outcome.specs.declared.outcome.Status.{Status}
+use Rattle.s66_outcome.specs.declared.remark.Remark.{Remark}
 use Rattle.s66_outcome.specs.Kept.{IsFull, IsKeptInput}
 use Rattle.s66_program.specs.Output.{IsOutput, is_cut, reads_documents, reads_source, reads_two, source_in}
+use Rattle.s66_program.specs.Remarks.{IsRemark}
 use Rattle.s66_program.specs.Run.{IsRefusal}
 use Rattle.s66_program.proofs.Fronts.{front-refused}
 
 -- the most that a command needs of a source, and None of another input
 abbrev pub IsMost : Command → Option ℕ → Type 0
 IsMost command most = IfSome most (λ n. (n ≡ SOURCE_FRONT) × (reads_source command ≡ true))
+
+-- with options or without them, the source is accepted
+ordered-accepted : (other : Bool) (strategy : Strategy) (p : Profile) (trace keep quiet : Bool) (only : Option ℕ) (source : Reading) (text : List ℕ) (status : Status) →
+    IsOrderedBy other strategy p trace keep quiet only source text status → (blocks : List Block) × (source_of source ≡ Ok blocks)
+ordered-accepted true strategy p trace keep quiet only source text status (blocks, ok, is) = (blocks, ok)
+ordered-accepted false strategy p trace keep quiet only source text status (blocks, ok, is) = (blocks, ok)
 
 accepted : (p : Profile) (command : Command) (input text : List ℕ) (status : Status) → reads_source command ≡ true → IsOutput p command input text status → (blocks : List Block) × (source_of (source_in command input) ≡ Ok blocks)
 accepted p (Time cut trace only profile) input text status reads ((blocks, ok, is), done) = (blocks, ok)
@@ -29,7 +40,8 @@ accepted p (Why cut (Some strategy) only profile) input text status reads (block
 accepted p (Page cut strategy only profile) input text status reads (blocks, ok, is) = (blocks, ok)
 accepted p (Json cut None only profile) input text status reads ((blocks, ok, is), done) = (blocks, ok)
 accepted p (Json cut (Some strategy) only profile) input text status reads (blocks, ok, is) = (blocks, ok)
-accepted p (Order cut strategy trace keep quiet only profile) input text status reads (blocks, ok, is) = (blocks, ok)
+accepted p (Order cut strategy trace keep quiet only profile) input text status reads is =
+    ordered-accepted (is_other keep quiet only) strategy p trace keep quiet only (record { cut = cut; text = input }) text status is
 accepted p (Prove cut strategy only profile) input text status reads (blocks, ok, is) = (blocks, ok)
 accepted p Check input text status reads is = absurd (cc)
 accepted p (Lint cut) input text status reads is = absurd (cc)
@@ -43,12 +55,21 @@ full-refused command None held rest is full = absurd full
 full-refused command (Some n) held rest (limit, reads) full = (reads, front-refused (is_cut command) held rest (subst (λ k. k ≤ length held) limit full))
 
 -- what is kept is the whole input, if the command writes something for it
-pub kept-whole : (p : Profile) (command : Command) (most : Option ℕ) (input held text : List ℕ) (status : Status) → IsMost command most → IsKeptInput most input held → IsOutput p command held text status → held ≡ input
+kept-whole : (p : Profile) (command : Command) (most : Option ℕ) (input held text : List ℕ) (status : Status) → IsMost command most → IsKeptInput most input held → IsOutput p command held text status → held ≡ input
 kept-whole p command most input held text status most-is (rest, is, inl none) output = sym (is ∙ ap (λ r. held ++ r) none ∙ append-nil held)
 kept-whole p command most input held text status most-is (rest, is, inr full) output =
     let stated = full-refused command most held rest most-is full in
     let known = accepted p command held text status stated.0 output in
     absurd (cc)
+
+pub whole-output : (p : Profile) (command : Command) (most : Option ℕ) (input held text : List ℕ) (status : Status) → IsMost command most → IsKeptInput most input held → IsOutput p command held text status → IsOutput p command input text status
+whole-output p command most input held text status most-is kept output =
+    subst (λ i. IsOutput p command i text status) (kept-whole p command most input held text status most-is kept output) output
+
+pub whole-remark : (p : Profile) (command : Command) (most : Option ℕ) (input held text : List ℕ) (status : Status) (r : Remark) → IsMost command most → IsKeptInput most input held → IsOutput p command held text status →
+    IsRemark command held r → IsRemark command input r
+whole-remark p command most input held text status r most-is kept output remark =
+    subst (λ i. IsRemark command i r) (kept-whole p command most input held text status most-is kept output) remark
 
 no-documents : (command : Command) → reads_source command ≡ true → reads_documents command ≡ true → ⊥
 no-documents (Time cut trace only profile) source documents = cc

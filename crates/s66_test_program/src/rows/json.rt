@@ -39,6 +39,6 @@ pub(crate) const ROWS: &[Row] = &[
         JSON,
         "  BX6 X1\n  BX6 X1/X2\n",
         3,
-        "LINE 2 BAD OPERAND\ns66 lint lists all such lines\n",
+        "LINE 2 BAD OPERAND\ns66 lint lists all such lines, --cut leaves them alone\n",
     ),
 ];

@@ -93,7 +93,7 @@ pub(crate) const ROWS: &[Row] = &[
         &["s66", "order", "--keep", "--block", "1"],
         "  BX1 X2\n  SA1 *+2\n",
         3,
-        "LINE 2 BAD OPERAND\ns66 lint lists all such lines\n",
+        "LINE 2 BAD OPERAND\ns66 lint lists all such lines, --cut leaves them alone\n",
     ),
     (
         "without an option",

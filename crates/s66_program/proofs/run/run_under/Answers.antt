@@ -1,8 +1,6 @@
-use Rattle.std.proofs.Common.{List, ℕ, refl, rules, subst, sym}
+use Rattle.std.proofs.Common.{refl, rules, subst, sym}
 use Rattle.s66_outcome.specs.Kept.{IsKeptInput}
-use Rattle.s66_program.specs.Output.{IsOutput}
-use Rattle.s66_program.specs.Remarks.{IsRemark}
-use Rattle.s66_program.proofs.KeptInput.{kept-whole, whole-refusal}
+use Rattle.s66_program.proofs.KeptInput.{whole-output, whole-refusal, whole-remark}
 use Rattle.s66_program.proofs.RefusedInput.{refused-input}
 use Rattle.s66_program.proofs.run.run_under.Goals as goal
 
@@ -15,19 +13,15 @@ returns-in_err-finished g c =
 
 pub returns-in-Ok : goal.returns-in-Ok
 returns-in-Ok g c =
-    let p = c.args.profile.now in
     let (input, reads, kept) = c.in_ok-held.ensures.ok in
     let seen = subst (IsKeptInput _ input) (sym c.as_slice.ensures.value) kept in
-    let whole = kept-whole p c.args.command _ input _ _ _ c.most_kept.ensures seen c.in_ok-finished.ensures.ok in (
-      input,
-      reads,
-      ((_, subst (λ (i : List ℕ). IsOutput p c.args.command i _ _) whole c.in_ok-finished.ensures.ok, search rules), subst (λ (i : List ℕ). IsRemark c.args.command i _) whole c.in_ok-finished.ensures.remark),
-    )
+    let whole = whole-output c.args.profile.now c.args.command _ input _ _ _ c.most_kept.ensures seen c.in_ok-finished.ensures.ok in
+    let told = whole-remark c.args.profile.now c.args.command _ input _ _ _ _ c.most_kept.ensures seen c.in_ok-finished.ensures.ok c.in_ok-finished.ensures.remark in
+    (input, reads, (_, whole, search rules), told)
 
 pub returns : goal.returns
 returns g c =
-    let p = c.args.profile.now in
     let (input, reads, kept) = c.in_ok-held.ensures.ok in
     let seen = subst (IsKeptInput _ input) (sym c.as_slice.ensures.value) kept in
-    let whole = kept-whole p c.args.command _ input _ _ _ c.most_kept.ensures seen c.in_ok-finished.ensures.ok in
-    (input, reads, (_, _, subst (λ (i : List ℕ). IsOutput p c.args.command i _ _) whole c.in_ok-finished.ensures.ok, search rules))
+    let whole = whole-output c.args.profile.now c.args.command _ input _ _ _ c.most_kept.ensures seen c.in_ok-finished.ensures.ok in
+    (input, reads, (_, _, whole, search rules))
