@@ -3,6 +3,7 @@ use Rattle.s66_command.specs.declared.command.Command.{Command}
 use Rattle.s66_outcome.specs.declared.outcome.Output.{Output}
 use Rattle.s66_source.specs.LeftAlone.{Reading}
 use Rattle.s66_text.specs.PageText.{IsPageOutput}
+use Rattle.s66_text.specs.SumText.{IsSumOutput}
 use Rattle.s66_program.specs.Output.{IsOutput, is_cut}
 use Rattle.s66_program.proofs.output.output_of.Goals as goal
 
@@ -18,3 +19,12 @@ returns-in-Page g c =
     let same : source ≡ record { cut = page.cut; text = source.text } = by-parts source page.cut (c.requires.cut ∙ ap is_cut page.is) in
     let wrote = subst (λ (s : Reading). IfOk c.page_output.result (λ (output : Output). IsPageOutput page.strategy p page.block s output.text.items output.status)) same c.page_output.ensures in
     subst (λ (command : Command). IfOk c.page_output.result (λ (output : Output). IsOutput p command source.text output.text.items output.status)) (sym page.is) wrote
+
+pub returns-in-Sum : goal.returns-in-Sum
+returns-in-Sum g c =
+    let p = c.args.profile.now in
+    let source = c.args.source.now in
+    let sum = c.in-Sum in
+    let same : source ≡ record { cut = sum.cut; text = source.text } = by-parts source sum.cut (c.requires.cut ∙ ap is_cut sum.is) in
+    let wrote = subst (λ (s : Reading). IfOk c.sum_output.result (λ (output : Output). IsSumOutput sum.strategy p sum.trace sum.block s output.text.items output.status)) same c.sum_output.ensures in
+    subst (λ (command : Command). IfOk c.sum_output.result (λ (output : Output). IsOutput p command source.text output.text.items output.status)) (sym sum.is) wrote
