@@ -14,9 +14,11 @@ pub(crate) const TOLD: &[(&str, &str, &str)] = &[
     ("empty input", "chart", NO_BLOCK),
     ("empty input, why", "why", NO_BLOCK),
     ("empty input, page", "page", NO_BLOCK),
+    ("empty input, json", "json", NO_BLOCK),
     ("empty input", "order", NO_BLOCK),
     ("empty input", "prove", NO_BLOCK),
     ("empty input", "sum", NO_BLOCK),
+    ("nothing to keep", "order", NO_BLOCK),
     ("20,000 lines", "time", NO_BLOCK),
     ("a macro stays as it is", "order", NO_BLOCK),
     (
