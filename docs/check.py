@@ -29,7 +29,8 @@ it writes to standard output and error. Where its status isn't 0, the next comma
 copied as a whole: its commands write nothing and have status 0. No other fence has a line that begins with "$ ".
 
 The commands of a document run one after the other, in one folder of its own. At first that holds what a reader at the
-root of the repository has at hand: the program as ./s66, and examples/. The program is s66 on the PATH too.
+root of the repository has at hand: the script ./s66, with the program as it is built, and examples/. On the PATH s66 is
+the program itself.
 
 Names stand in backquotes outside of fences. The name of a file or folder may leave out folders in front, and a star or
 a word of capitals in it stands for any text. A name with a `_`, a `::` or a capital inside is that of a crate or of
@@ -89,14 +90,26 @@ def fences_of(text):
     return [Fence(text[: found.start()].count("\n") + 1, found[1], found[2]) for found in FENCE.finditer(text)]
 
 
+def put_script(folder, program):
+    """Puts the script ./s66 into a folder, as if the program had been proved and built there."""
+    out = os.path.join(folder, "crates/s66_main/out")
+    os.makedirs(out)
+    os.mkdir(os.path.join(folder, "tools"))
+    for name in ("s66", "tools/build.sh"):
+        shutil.copy(os.path.join(ROOT, name), os.path.join(folder, name))
+    os.symlink(os.path.abspath(program), os.path.join(out, "s66_main"))
+    with open(os.path.join(out, "proved"), "w", encoding="utf-8") as mark:
+        print("tools", file=mark)
+
+
 def run(commands, program):
     """The output and the status of each command; status 2 of those that the shell didn't come to."""
     with tempfile.TemporaryDirectory() as top:
         folder, bin = os.path.join(top, "s66"), os.path.join(top, "bin")
         os.mkdir(bin)
+        os.symlink(os.path.abspath(program), os.path.join(bin, "s66"))
         shutil.copytree(os.path.join(ROOT, "examples"), os.path.join(folder, "examples"))
-        for place in (folder, bin):
-            os.symlink(os.path.abspath(program), os.path.join(place, "s66"))
+        put_script(folder, program)
         told = 'status=$?; printf "\\036%s\\036" $status; (exit $status)\n'
         done = subprocess.run(
             ["sh", "-c", "".join(command + told for command in commands)],
