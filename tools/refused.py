@@ -78,6 +78,8 @@ def rows():
     yield ["time", "--profile", '{"load":2,"units_multiply":3}'], SOURCE, {0}
     yield ["time", "--profile", '{"load":0}'], SOURCE, {3}
     yield ["lint"], SOURCE, {0}
+    yield ["compare"], SOURCE + "*S66 NEW\n" + SOURCE, {0}
+    yield ["compare"], SOURCE + "*S66 NEW\n" + REFUSED_SOURCE, {3}
     yield ["lint"], REFUSED_SOURCE, {5}
     yield from searches()
 
