@@ -11,11 +11,9 @@ use s66_node::{Walk, copy_of};
 /// How often a changed order is timed at most.
 const TRIES_LIMIT: u32 = 2_000;
 
-/// An order of a walk's block, and what it takes.
+/// An order of a block, and what it takes. Others are timed by a walk of the block, which may be anywhere.
 #[derive(Drop)]
-pub(crate) struct Draft<'a> {
-    /// By which others are timed.
-    pub(crate) walk: Walk<'a>,
+pub(crate) struct Draft {
     pub(crate) numbers: ArrayVec<u8, BLOCK_LIMIT>,
     /// How many pairs of the numbers stand in reverse.
     pub(crate) pairs: u32,
@@ -33,13 +31,11 @@ enum Tried {
     AsFast,
 }
 
-impl<'a> Draft<'a> {
-    pub(crate) fn new(walk: Walk<'a>, numbers: &[u8], pairs: u32, total: u32) -> Draft<'a>
+impl Draft {
+    pub(crate) fn new(numbers: &[u8], pairs: u32, total: u32) -> Draft
         requires { length numbers.now ≤ BLOCK_LIMIT }
-        ensures { result.walk.problem ≡ walk.entry.problem }
     {
         Draft {
-            walk,
             numbers: copy_of(numbers),
             pairs,
             total,
@@ -47,15 +43,15 @@ impl<'a> Draft<'a> {
         }
     }
 
-    fn tried(&mut self, numbers: &[u8]) -> Tried
-        ensures problem { self.new.walk.problem ≡ self.old.walk.problem }
+    fn tried(&mut self, walk: &mut Walk, numbers: &[u8]) -> Tried
+        ensures problem { walk.new.problem ≡ walk.old.problem }
         ensures same { self.new.numbers ≡ self.old.numbers }
     {
         self.tries = self.tries.saturating_sub(1);
-        if !self.walk.try_go_to(numbers) {
+        if !walk.try_go_to(numbers) {
             return Tried::Illegal;
         }
-        if self.walk.floor_value() == self.total {
+        if walk.floor_value() == self.total {
             Tried::AsFast
         } else {
             Tried::OtherTime
@@ -64,16 +60,16 @@ impl<'a> Draft<'a> {
 
     /// Takes these numbers, which have so many pairs in reverse, if they have fewer and are a legal order that is as fast. False if
     /// they are seen to be in no legal order.
-    fn take(&mut self, numbers: &[u8], pairs: u32) -> bool
+    fn take(&mut self, walk: &mut Walk, numbers: &[u8], pairs: u32) -> bool
         requires length { length numbers.now ≡ length self.old.numbers.items }
         requires few { length numbers.now ≤ BLOCK_LIMIT }
-        ensures problem { self.new.walk.problem ≡ self.old.walk.problem }
+        ensures problem { walk.new.problem ≡ walk.old.problem }
         ensures length { length self.new.numbers.items ≡ length self.old.numbers.items }
     {
         if self.pairs <= pairs || self.tries == 0 {
             return true;
         }
-        match self.tried(numbers) {
+        match self.tried(walk, numbers) {
             Tried::Illegal => false,
             Tried::OtherTime => true,
             Tried::AsFast => {
@@ -85,32 +81,32 @@ impl<'a> Draft<'a> {
     }
 
     /// Moves the number at a place towards the front, to where the fewest pairs stand in reverse.
-    fn move_forward(&mut self, from: usize)
+    fn move_forward(&mut self, walk: &mut Walk, from: usize)
         requires { from < length self.old.numbers.items }
-        ensures problem { self.new.walk.problem ≡ self.old.walk.problem }
+        ensures problem { walk.new.problem ≡ walk.old.problem }
         ensures length { length self.new.numbers.items ≡ length self.old.numbers.items }
     {
         let mut numbers = copy_of(self.numbers.as_slice());
         let mut pairs = self.pairs;
         for step in 0..from {
             pairs = exchange(numbers.as_mut_slice(), from - 1 - step, pairs);
-            if !self.take(numbers.as_slice(), pairs) {
+            if !self.take(walk, numbers.as_slice(), pairs) {
                 return;
             }
         }
     }
 
     /// Moves the number at a place towards the end, to where the fewest pairs stand in reverse.
-    fn move_back(&mut self, from: usize)
+    fn move_back(&mut self, walk: &mut Walk, from: usize)
         requires { from < length self.old.numbers.items }
-        ensures problem { self.new.walk.problem ≡ self.old.walk.problem }
+        ensures problem { walk.new.problem ≡ walk.old.problem }
         ensures length { length self.new.numbers.items ≡ length self.old.numbers.items }
     {
         let mut numbers = copy_of(self.numbers.as_slice());
         let mut pairs = self.pairs;
         for place in from + 1..self.numbers.len() {
             pairs = exchange(numbers.as_mut_slice(), place - 1, pairs);
-            if !self.take(numbers.as_slice(), pairs) {
+            if !self.take(walk, numbers.as_slice(), pairs) {
                 return;
             }
         }
@@ -128,26 +124,26 @@ impl<'a> Draft<'a> {
     }
 
     /// Takes a number out and puts it where the fewest pairs stand in reverse.
-    fn settle(&mut self, number: u8)
-        ensures problem { self.new.walk.problem ≡ self.old.walk.problem }
+    fn settle(&mut self, walk: &mut Walk, number: u8)
+        ensures problem { walk.new.problem ≡ walk.old.problem }
         ensures length { length self.new.numbers.items ≡ length self.old.numbers.items }
     {
         let Some(place) = self.place_of(number) else {
             return;
         };
         let pairs = self.pairs;
-        self.move_forward(place);
+        self.move_forward(walk, place);
         if self.pairs == pairs {
-            self.move_back(place);
+            self.move_back(walk, place);
         }
     }
 
     /// Settles each number, the lowest first.
-    pub(crate) fn settle_all(&mut self)
-        ensures { self.new.walk.problem ≡ self.old.walk.problem }
+    pub(crate) fn settle_all(&mut self, walk: &mut Walk)
+        ensures { walk.new.problem ≡ walk.old.problem }
     {
         for index in 0..self.numbers.len() {
-            self.settle((index + 1) as u8);
+            self.settle(walk, (index + 1) as u8);
         }
     }
 }

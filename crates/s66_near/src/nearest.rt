@@ -15,13 +15,13 @@ use s66_time::Timed;
 const ROUNDS_LIMIT: u32 = 64;
 
 /// Settles all numbers of an order until none moves. The walk may be anywhere.
-fn settled<'a>(walk: Walk<'a>, timed: &Timed, pairs: u32) -> Draft<'a>
-    ensures { result.walk.problem ≡ walk.entry.problem }
+fn settled(walk: &mut Walk, timed: &Timed, pairs: u32) -> Draft
+    ensures { walk.new.problem ≡ walk.old.problem }
 {
-    let mut draft = Draft::new(walk, timed.order().numbers(), pairs, timed.total());
+    let mut draft = Draft::new(timed.order().numbers(), pairs, timed.total());
     for _ in 0..ROUNDS_LIMIT {
         let before = draft.pairs;
-        draft.settle_all();
+        draft.settle_all(walk);
         if draft.pairs == before {
             break;
         }
@@ -41,12 +41,9 @@ pub fn nearer(block: &Block, timed: &Timed) -> Timed
 {
     let total = timed.total();
     let pairs = pairs_in_reverse(timed.order().numbers());
-    let Draft {
-        mut walk,
-        numbers,
-        ..
-    } = settled(Walk::new(block, timed.profile()), timed, pairs);
-    let numbers = numbers.as_slice();
+    let mut walk = Walk::new(block, timed.profile());
+    let draft = settled(&mut walk, timed, pairs);
+    let numbers = draft.numbers.as_slice();
     if walk.try_go_to(numbers)
         && walk.is_complete()
         && walk.floor_value() == total

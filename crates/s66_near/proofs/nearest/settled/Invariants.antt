@@ -2,4 +2,4 @@ use Rattle.std.proofs.Common.{◌≡◌}
 use Rattle.s66_near.proofs.nearest.settled.Given as goal
 
 abbrev pub invariant-loop : goal.invariant-loop
-invariant-loop l = l.draft.walk.problem ≡ l.fn.walk.problem
+invariant-loop l = l.walk.problem ≡ l.fn.walk.problem

@@ -4,7 +4,7 @@ use Rattle.s66_near.proofs.draft.Draft.move_back.Given as goal
 abbrev pub invariant-loop-place : goal.invariant-loop-place
 invariant-loop-place l =
     record {
-      problem : l.self.walk.problem ≡ l.fn.self.walk.problem;
+      problem : l.walk.problem ≡ l.fn.walk.problem;
       as_many : length l.self.numbers.items ≡ length l.fn.self.numbers.items;
       as_long : length l.numbers.items ≡ length l.fn.self.numbers.items;
     }

@@ -4,7 +4,7 @@ use Rattle.s66_near.proofs.draft.Draft.move_forward.Given as goal
 abbrev pub invariant-loop-step : goal.invariant-loop-step
 invariant-loop-step l =
     record {
-      problem : l.self.walk.problem ≡ l.fn.self.walk.problem;
+      problem : l.walk.problem ≡ l.fn.walk.problem;
       as_many : length l.self.numbers.items ≡ length l.fn.self.numbers.items;
       as_long : length l.numbers.items ≡ length l.fn.self.numbers.items;
     }

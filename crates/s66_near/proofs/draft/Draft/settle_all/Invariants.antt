@@ -2,4 +2,4 @@ use Rattle.std.proofs.Common.{◌≡◌}
 use Rattle.s66_near.proofs.draft.Draft.settle_all.Given as goal
 
 abbrev pub invariant-loop-index : goal.invariant-loop-index
-invariant-loop-index l = l.self.walk.problem ≡ l.fn.self.walk.problem
+invariant-loop-index l = l.walk.problem ≡ l.fn.walk.problem
