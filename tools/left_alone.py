@@ -4,9 +4,11 @@
     tools/left_alone.py [--count N] [--seed N] -- PROGRAM
 
 The second opinion is tools/source_rules.py. For each of N sources, 1000 unless given, this compares with and without --cut what
-`lint` prints, the blocks of `deps`, the lines of `order`, the statuses, refusals, and what is told of a source after a success. Each mismatch is printed with a small source
-that shows it, which is left in /tmp, and at the end how often each finding was wanted. The status is 1 if something is wrong, in
-the table EXAMPLES or in the program.
+`lint` prints, the blocks of `deps`, the lines of `order`, the statuses, refusals, and what is told of a source after a success. It
+also puts the comments *S66 OFF and *S66 ON around what --cut leaves alone: then `deps` without --cut has to find the same blocks, and
+`lint` nothing that --cut leaves alone, nor anything that it didn't find before. Each mismatch is printed with a small source that
+shows it, which is left in /tmp, and at the end how often each finding was wanted. The status is 1 if something is wrong, in the table
+EXAMPLES or in the program.
 """
 import argparse
 import collections
@@ -22,6 +24,7 @@ BRANCHES = "RJ JP ZR NZ PL NG MI IR OR DF ID EQ NE GE GT LT LE XJ".split()
 REFUSED = "refused"
 FINDINGS = (r"(?m)^(?:LINE \d+ )?(TOO LONG|TOO MANY LINES|BAD OPERAND|NOT AN INSTRUCTION|IN COLUMN|DIRECTIVE|HAS A BODY|REDEFINES|LOADS CODE"
             "|STORES INTO CODE|JOINS A WORD|COUNTS WORDS|COUNTS LINES)")
+SWITCHED = [["switched", "by", "line"], ["switched", "by", "stretch"]]
 COMMANDS = [["lint"], ["lint", "--cut"], ["deps"], ["deps", "--cut"], ["order", "--nodes", "0"], ["order", "--nodes", "0", "--cut"]]
 
 # Sources, with | in the place of newlines, and for each line c if it is left alone with --cut, o if in any case.
@@ -156,6 +159,39 @@ SORTS = {  # lines, or operations and their operands, with # in the place of a c
 }
 
 
+def switched(text, by_line):
+    """An accepted source with the two switches around each line, or each stretch of lines, that --cut leaves alone; and of each line
+    its place in the source, or None of a switch that was put in. A switch ON of the source ends a stretch."""
+    source, is_off, lines, places = Source(text), False, [], []
+    for place, (line, is_left) in enumerate(zip(source.lines, source.left_alone(True))):
+        marks = ["*S66 ON"] * is_off + ["*S66 OFF"] * is_left if is_off != is_left or by_line and is_left else []
+        lines += [*marks, line.text]
+        places += [*[None] * len(marks), place]
+        is_off = is_left and line.mark != "ON"
+    return "".join(line + "\n" for line in lines).encode("latin-1"), places
+
+
+def found_in(text, places):
+    """What `lint` lists of a source, with the places of its lines in another one."""
+    rows = re.findall(r"(?m)^LINE (\d+) (.*)$", lint_of(text)[0].decode("latin-1"))
+    return {(places[int(number) - 1], found) for number, found in rows}
+
+
+def switched_fault(program, text, words):
+    """What is wrong with a source that has switches around what --cut leaves alone, or nothing."""
+    reading = Reading(text, True)
+    lines, places = ([], []) if reading.refusal else switched(text, "line" in words)
+    if not lines or len(places) > MOST_LINES:
+        return ""
+    had, found = found_in(text, range(MOST_LINES)), found_in(lines, places)
+    if found - had or any(row.endswith(" (CUT)") for _, row in found):
+        return f"{lines}: found {found}, and before {had}"
+    heads = [f"BLOCK {n} LINE {places.index(block[0]) + 1} COUNT {len(block)}" for n, block in enumerate(reading.blocks, 1)]
+    blocks = re.findall(r"(?m)^(BLOCK.*) DEPENDENCES \d+$", run(program, ["deps"], lines)[0].decode("latin-1"))
+    seen = run(program, ["lint"], lines)
+    return "" if (blocks, seen) == (heads, (*lint_of(lines), b"")) else f"{lines}: wanted {heads}, {lint_of(lines)}, and not {blocks}, {seen}"
+
+
 def make_line(sort, labelled, lower, wide, returns):
     """A line of a sort: these are the chances of a label, of lower case, of some 200 bytes, and of carriage returns."""
     text = choice(SORTS[sort].split("|")).replace("#", choice(COUNTS))
@@ -194,6 +230,13 @@ def run(program, words, source):
     return done.stdout, done.returncode, done.stderr
 
 
+def command_fault(program, text, words):
+    """What a command does otherwise than wanted, or nothing."""
+    seen = run(program, words, text)
+    fault = fault_of(words, text, seen)
+    return fault and f"{seen}; {fault}"
+
+
 def smaller(lines, is_wrong):
     """Fewer lines that are wrong as well."""
     for size in (10_000, 1000, 100, 10, 1):
@@ -204,10 +247,10 @@ def smaller(lines, is_wrong):
 
 
 def mismatches(program, source):
-    """What each command does otherwise than wanted, with a small source that shows it."""
-    for words in COMMANDS:
+    """What each command does otherwise than wanted, and without --cut a source with switches, with a small source that shows it."""
+    for words in COMMANDS + SWITCHED:
         def fault(lines):
-            return fault_of(words, b"".join(lines), run(program, words, b"".join(lines)))
+            return (switched_fault if words in SWITCHED else command_fault)(program, b"".join(lines), words)
         if fault([source]):
             lines = smaller(re.findall(b"[^\n]*\n|[^\n]+", source), fault)
             yield words, b"".join(lines), fault(lines)
@@ -232,8 +275,8 @@ def main():
             name, wrong = f"/tmp/left_alone.{asked.seed}.{number}.{''.join(words)}", wrong + 1
             with open(name, "wb") as file:
                 file.write(small)
-            print(f"{' '.join(words)} < {name}: {small}: {run(asked.program, words, small)}; {fault}")
-    runs = len(EXAMPLES) + asked.count * len(COMMANDS)
+            print(f"{' '.join(words)} < {name}: {small}: {fault}")
+    runs = len(EXAMPLES) + asked.count * len(COMMANDS + SWITCHED)
     told = ", ".join(f"{what} {n}" for what, n in sorted(counts.items()))
     print(f"{runs - wrong} passed, {wrong} failed ({asked.count} sources; lint: {told})")
     return 1 if wrong else 0

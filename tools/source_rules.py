@@ -81,16 +81,20 @@ class Line:
             count = operand.split(",")[0] if self.word == "ECHO" else "".join(operand.split(",", commas)[commas:])
         return int(count or "0") if re.fullmatch("[0-9]*", count) else UNKNOWN
 
-    def is_code(self):
+    def makes_code(self):
+        """Whether it is code, be it between switches."""
         is_other = self.word in FALL_THROUGH or self.word == "EQ" and "," in self.operand
-        return not (self.is_off or self.is_long) and (self.kind in (INSTRUCTION, PAD) or is_other)
+        return not self.is_long and (self.kind in (INSTRUCTION, PAD) or is_other)
+
+    def is_code(self):
+        return not self.is_off and self.makes_code()
 
     def is_mark(self):
         """Whether it is there for its name alone."""
         return not self.word or self.word == "BSS" and self.operand == "0"
 
     def is_wordless(self):
-        return not (self.is_off or self.is_long) and self.kind == OTHER and (self.is_mark() or self.word in WORDLESS)
+        return not self.is_long and self.kind == OTHER and (self.is_mark() or self.word in WORDLESS)
 
     def name(self):
         is_none = not self.is_statement or self.is_long or self.location in ("+", "-") or REGISTER.fullmatch(self.location)
@@ -234,9 +238,9 @@ class Findings:
             self.peripheral.append(inside)
 
     def code_named(self, at):
-        """The place of the line of code in whose word the name of a line stands, or None."""
+        """The place of the line of code, be it between switches, in whose word the name of a line stands, or None."""
         line, near = self.lines[at], self.next
-        if line.is_code():
+        if line.makes_code():
             return at
         if line.word in ("EQU", "="):
             here = re.fullmatch(r"\*(?:([+-])[0-9]+)?", line.operand)
@@ -244,24 +248,27 @@ class Findings:
         elif not line.is_mark():
             near = None
         place = near and near[at]
-        return place if place is not None and self.lines[place].is_code() else None
+        return place if place is not None and self.lines[place].makes_code() else None
+
+    def is_code(self, place):
+        return place is not None and self.lines[place].is_code()
 
     def find_labels(self):
         """Of each name: the lines of code in whose words it stands; whether code is behind and before an entry; all its places."""
         self.code, self.behind, self.ahead, self.places, self.addresses = {}, set(), set(), {}, set()
         for at, line in enumerate(self.lines):
-            name, is_read = line.name(), not (line.is_off or self.source.inside[at])
-            place = self.code_named(at) if is_read else None
+            name, inside = line.name(), self.source.inside[at]
             if not name:
                 continue
+            place, is_read = None if inside else self.code_named(at), not (line.is_off or inside)
             self.places.setdefault(name, []).append(at)
-            if place is not None:
+            if is_read and self.is_code(place):
                 self.code.setdefault(name, []).append(place)
             elif is_read and line.is_one_word():
                 after, before = self.after[at], self.last[at]
-                is_next = after is not None and self.lines[after].is_code() and (line.is_jump() or not self.lines[after].name())
+                is_next = self.is_code(after) and (line.is_jump() or not self.lines[after].name())
                 self.behind.update([name] * is_next)
-                self.ahead.update([name] * (before is not None and self.lines[before].is_code()))
+                self.ahead.update([name] * self.is_code(before))
             if place is not None or line.word not in NO_ADDRESS:
                 self.addresses.add(name)
 
@@ -298,7 +305,7 @@ class Findings:
             line = self.lines[place]
             if place != at and line.begins_word():
                 break
-            if line.kind != PAD and not line.is_code():
+            if line.kind != PAD and not line.makes_code():
                 return line.word in CLOSE_WORD and (not instructions or instructions == 1 and not pads)
             pads, instructions = pads + (line.kind == PAD), instructions + (line.kind != PAD)
             if instructions > 1:
@@ -338,7 +345,7 @@ class Findings:
         """Whether a line counts words from its own."""
         line, after, before = self.lines[at], self.next[at], self.before[at]
         if line.word in ("EQU", "="):
-            return self.code_named(at) is not None and line.operand != "*"
+            return self.is_code(self.code_named(at)) and line.operand != "*"
         if line.kind != INSTRUCTION and line.word not in BRANCHES | EVALUATE:
             return False
         forced = before is not None and self.lines[before].kind == INSTRUCTION and not self.lines[before].may_join()

@@ -1,1 +1,3 @@
+mod AloneLines
 mod Listings
+mod SwitchedLines

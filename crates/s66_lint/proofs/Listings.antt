@@ -1,7 +1,8 @@
 -- Findings stay in order with those of the next lines; what is listed of them and of one more.
-use Rattle.std.proofs.Common.{◌≡◌, ◌≤◌, ◌++◌, ◌∷◌, ℕ, true, List, [], nat_le, arith}
+use Rattle.std.proofs.Common.{◌≡◌, ◌≤◌, ◌++◌, ◌∷◌, ℕ, Bool, true, false, List, [], length, nat_le, refl, arith}
 use Rattle.std.proofs.lemmas.Bool.{and_parts, and_from}
-use Rattle.s66_lint.specs.Listing.{is_in_order}
+use Rattle.s66_isa.specs.Lists.{tally}
+use Rattle.s66_lint.specs.Listing.{is_in_order, is_listed}
 use Rattle.s66_lint.specs.declared.finding.Found.{Found}
 
 -- up to a later line
@@ -17,3 +18,8 @@ order-with first last [] f same h = grind (arith, same, h)
 order-with first last (g ∷ all) f same h =
     let (here, rest) = and_parts (nat_le first g.number) (is_in_order g.number last all) h in
     and_from (nat_le first g.number) (is_in_order g.number last (all ++ f ∷ [])) here (order-with g.number last all f same rest)
+
+-- without `--cut` each finding is listed
+pub all-listed : (alone : List Bool) (all : List Found) → length all ≡ tally (is_listed false alone) all
+all-listed alone [] = refl
+all-listed alone (f ∷ all) = omega (arith, all-listed alone all)

@@ -1,8 +1,10 @@
 -- To be believed: what `lint` prints of a source: a line for each finding, in the order of the lines of the source; with `--cut`, those
--- alone that `--cut` doesn't leave alone.
+-- alone that aren't marked.
 use Rattle.std.specs.Prelude.{◌≡◌, ℕ, suc, Bool, true, false, ◌&&◌, not, if◌then◌else◌, List, [], ◌∷◌, ◌++◌, codes, decimal, nat_le}
 use Rattle.s66_isa.specs.Lists.{tally}
+use Rattle.s66_source.specs.LeftAlone.{Reading}
 use Rattle.s66_source.specs.declared.limits.TheConstants.{SOURCE_LINES_LIMIT}
+use Rattle.s66_lint.specs.Marks.{alone_lines, is_marked}
 use Rattle.s66_lint.specs.declared.finding.Found.{Found}
 use Rattle.s66_lint.specs.declared.finding.Rule.{Rule}
 use Rattle.s66_lint.specs.declared.finding.Rule.TheVariants.{TooLong, BadOperand, NotAnInstruction, InColumn1, InColumn2, Directive, HasABody, Redefines, LoadsCode, StoresIntoCode, JoinsAWord, CountsWords, CountsLines}
@@ -22,32 +24,25 @@ rule_words JoinsAWord = codes " JOINS A WORD"
 rule_words CountsWords = codes " COUNTS WORDS"
 rule_words CountsLines = codes " COUNTS LINES"
 
--- what `--cut` leaves alone
-abbrev pub is_cut : Rule → Bool
-is_cut BadOperand = true
-is_cut Directive = true
-is_cut HasABody = true
-is_cut CountsLines = true
-is_cut rule = false
-
 abbrev pub after_blank : List ℕ → List ℕ
 after_blank [] = []
 after_blank (b ∷ word) = 32 ∷ b ∷ word
 
--- what was found in the line of a number, with up to two words of it
-abbrev pub finding_line : Found → List ℕ
-finding_line f =
+-- what was found in the line of a number, with up to two words of it, and marked if `--cut` leaves alone what is meant; alone: whether it
+-- does so with each line
+abbrev pub finding_line : (alone : List Bool) → Found → List ℕ
+finding_line alone f =
     codes "LINE " ++ decimal f.number ++ rule_words f.rule ++ after_blank f.first.now ++ after_blank f.second.now
-    ++ (if is_cut f.rule then codes " (CUT)\n" else codes "\n")
+    ++ (if is_marked alone f then codes " (CUT)\n" else codes "\n")
 
 -- it is listed, with `--cut` or without
-abbrev pub is_listed : (cut : Bool) → Found → Bool
-is_listed cut f = not (cut && is_cut f.rule)
+abbrev pub is_listed : (cut : Bool) (alone : List Bool) → Found → Bool
+is_listed cut alone f = not (cut && is_marked alone f)
 
 -- a line for each that is listed
-abbrev pub listing : (cut : Bool) → List Found → List ℕ
-listing cut [] = []
-listing cut (f ∷ found) = (if is_listed cut f then finding_line f else []) ++ listing cut found
+abbrev pub listing : (cut : Bool) (alone : List Bool) → List Found → List ℕ
+listing cut alone [] = []
+listing cut alone (f ∷ found) = (if is_listed cut alone f then finding_line alone f else []) ++ listing cut alone found
 
 -- of lines from number first to number last, in their order
 abbrev pub is_in_order : ℕ → ℕ → List Found → Bool
@@ -63,10 +58,11 @@ abbrev pub past_line : (has_more : Bool) → List ℕ
 past_line false = []
 past_line true = codes "TOO MANY LINES\n"
 
--- the text lists some findings
-abbrev pub IsFindings : (cut : Bool) (text : List ℕ) → Type 0
-IsFindings cut text = (found : List Found) × AreFindings found × ((has_more : Bool) × (text ≡ listing cut found ++ past_line has_more))
+-- the text lists some findings of a source
+abbrev pub IsFindings : (source : Reading) (text : List ℕ) → Type 0
+IsFindings source text =
+    (found : List Found) × AreFindings found × ((has_more : Bool) × (text ≡ listing source.cut (alone_lines source.text) found ++ past_line has_more))
 
--- so many of some findings are listed
-abbrev pub AreCounted : (cut : Bool) (count : ℕ) → Type 0
-AreCounted cut count = (found : List Found) × AreFindings found × (count ≡ tally (is_listed cut) found)
+-- so many of some findings of a source are listed
+abbrev pub AreCounted : (source : Reading) (count : ℕ) → Type 0
+AreCounted source count = (found : List Found) × AreFindings found × (count ≡ tally (is_listed source.cut (alone_lines source.text)) found)

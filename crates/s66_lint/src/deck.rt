@@ -161,9 +161,9 @@ impl<'a> Deck<'a> {
         self.lines.get(at?)
     }
 
-    /// The index of the line of code in whose word the name stands that the line at this index may have.
+    /// The index of the line of code, be it between switches, in whose word the name stands that the line at this index may have.
     pub(crate) fn code_named(&self, at: usize, line: &Line) -> Option<usize> {
-        if line.is_code() {
+        if line.makes_code() {
             return Some(at);
         }
         let is_before = match line.operation() {
@@ -176,10 +176,14 @@ impl<'a> Deck<'a> {
         } else {
             self.after(at).next
         };
-        if self.is_code(near) { near } else { None }
+        if self.line(near)?.makes_code() {
+            near
+        } else {
+            None
+        }
     }
 
-    /// Whether the line at this index, if there is one, is code.
+    /// Whether the line at this index, if there is one, is code and not between switches.
     pub(crate) fn is_code(&self, at: Option<usize>) -> bool {
         match self.line(at) {
             Some(line) => line.is_code(),

@@ -1,7 +1,10 @@
 ghost use Rattle.std.specs.Prelude.{ℕ, suc, ◌≡◌, ◌≤◌, ◌++◌, true, length, IfOk, OnOk};
 ghost use Rattle.s66_source.specs.declared.limits.TheConstants.{SOURCE_LINES_LIMIT};
-ghost use Rattle.s66_lint.specs.Listing.{AreCounted, AreFindings, IsFindings, is_in_order, past_line};
+ghost use Rattle.s66_isa.specs.Lists.{tally};
+ghost use Rattle.s66_lint.specs.Listing.{AreCounted, AreFindings, IsFindings, is_in_order, is_listed, past_line};
+ghost use Rattle.s66_lint.specs.Marks.{alone_lines};
 
+use crate::cut::alone_lines;
 use crate::deck::{Deck, Lines};
 use crate::finding::{Finding, Found, Rule};
 use crate::line::Line;
@@ -79,23 +82,35 @@ fn push_past(out: &mut Vec<u8>, has_more: bool) -> Result<(), AllocError>
 /// A line for each finding in a source, which may be any text, in the order of its lines, and of the first `SOURCE_LINES_LIMIT`
 /// lines alone. With `cut` those are left out that `--cut` leaves alone.
 pub fn findings_in(alloc: Global, text: &[u8], cut: bool) -> Result<Vec<u8>, AllocError>
-    ensures { IfOk result (λ findings. IsFindings cut findings.items) }
+    ensures { IfOk result (λ findings. IsFindings (record { cut = cut; text = text.now }) findings.items) }
 {
     let letters = text.to_ascii_uppercase(alloc)?;
     let lines = Lines::of(alloc, text, letters.as_slice(), true)?;
     let all = found_in(alloc, lines.lines.as_slice(), lines.past)?;
+    let alone = alone_lines(alloc, text)?;
     let mut out = Vec::new(alloc);
-    push_listing(&mut out, all.as_slice(), cut)?;
+    push_listing(&mut out, alone.as_slice(), all.as_slice(), cut)?;
     push_past(&mut out, lines.past.is_some())?;
     Ok(out)
 }
 
+/// How many findings are listed, with `--cut` or without. What is left alone matters only with it.
+fn count_in(alloc: Global, text: &[u8], all: &[Found], cut: bool) -> Result<usize, AllocError>
+    ensures { IfOk result (λ count. count ≡ tally (is_listed cut (alone_lines text.now)) all.now) }
+{
+    if !cut {
+        return Ok(all.len());
+    }
+    let alone = alone_lines(alloc, text)?;
+    Ok(count_listed(alone.as_slice(), all))
+}
+
 /// How many lines `findings_in` has for a source that is accepted, with `--cut` or without. So without it no line is refused.
 pub fn count_findings(alloc: Global, text: &[u8], cut: bool) -> Result<usize, AllocError>
-    ensures { IfOk result (λ count. AreCounted cut count) }
+    ensures { IfOk result (λ count. AreCounted (record { cut = cut; text = text.now }) count) }
 {
     let letters = text.to_ascii_uppercase(alloc)?;
     let lines = Lines::of(alloc, text, letters.as_slice(), cut)?;
     let all = found_in(alloc, lines.lines.as_slice(), lines.past)?;
-    Ok(count_listed(all.as_slice(), cut))
+    count_in(alloc, text, all.as_slice(), cut)
 }

@@ -34,20 +34,19 @@ impl Label {
 
     /// Of a name that stands in the line at this index.
     fn at(deck: &Deck, at: usize, line: &Line) -> Label {
-        let is_read = !line.is_off && !deck.before(at).in_definition;
-        let code = if is_read {
-            deck.code_named(at, line)
-        } else {
+        let in_definition = deck.before(at).in_definition;
+        let named = if in_definition {
             None
+        } else {
+            deck.code_named(at, line)
         };
-        let is_entry = is_read && code.is_none();
+        let is_read = !line.is_off && !in_definition;
+        let is_code = is_read && deck.is_code(named);
+        let is_entry = is_read && !is_code;
         Label {
-            is_address: code.is_some() || line.has_address(),
-            is_code: code.is_some(),
-            is_held: match code {
-                Some(code) => deck.after(code).is_held,
-                None => true,
-            },
+            is_address: named.is_some() || line.has_address(),
+            is_code,
+            is_held: !is_code || is_held(deck, named),
             is_before_code: is_entry && is_before_code(deck, at, line),
             is_behind_code: is_entry && line.is_one_word() && deck.is_code(deck.before(at).last),
             leads_to_change: deck.after(at).leads_to_change,
@@ -74,6 +73,14 @@ impl Label {
             } else {
                 self.is_before_code
             }
+    }
+}
+
+/// Whether the word of code that begins with the line at this index can't change.
+fn is_held(deck: &Deck, code: Option<usize>) -> bool {
+    match code {
+        Some(code) => deck.after(code).is_held,
+        None => true,
     }
 }
 

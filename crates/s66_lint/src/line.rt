@@ -153,20 +153,24 @@ impl<'a> Line<'a> {
         self.operation() == b"EQ".as_slice() && self.has_comma()
     }
 
-    /// Whether it is code: an instruction, also a refused one, a pad, a conditional branch, or a transfer of central memory.
-    pub(crate) fn is_code(&self) -> bool {
-        !self.is_off
-            && !self.is_long
+    /// Whether it is code, be it between switches: an instruction, also a refused one, a pad, a conditional branch, or a transfer of
+    /// central memory.
+    pub(crate) fn makes_code(&self) -> bool {
+        !self.is_long
             && !self.continues
             && (self.is_instruction_or_pad()
                 || falls_through(self.operation())
                 || self.is_comparison())
     }
 
+    /// Whether it is code, and not between switches.
+    pub(crate) fn is_code(&self) -> bool {
+        !self.is_off && self.makes_code()
+    }
+
     /// Whether it is a statement that makes no word.
     pub(crate) fn is_wordless(&self) -> bool {
         matches!(self.kind, Kind::Other)
-            && !self.is_off
             && !self.is_long
             && (self.is_mark() || is_wordless(self.operation()))
     }

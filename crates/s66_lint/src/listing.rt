@@ -1,6 +1,7 @@
-ghost use Rattle.std.specs.Prelude.{◌≡◌, ◌++◌, codes, if◌then◌else◌, OnOk};
+ghost use Rattle.std.specs.Prelude.{◌≡◌, ◌++◌, codes, if◌then◌else◌, true, OnOk};
 ghost use Rattle.s66_isa.specs.Lists.{tally};
-ghost use Rattle.s66_lint.specs.Listing.{after_blank, finding_line, is_cut, is_listed, listing, rule_words};
+ghost use Rattle.s66_lint.specs.Listing.{after_blank, finding_line, is_listed, listing, rule_words};
+ghost use Rattle.s66_lint.specs.Marks.{is_alone_at, is_marked};
 
 use crate::finding::{Found, Rule};
 use s66_device::push_field;
@@ -26,21 +27,31 @@ fn words_of(rule: Rule) -> &'static [u8]
     }
 }
 
-/// Whether `--cut` leaves alone what is found.
-fn is_cut(rule: Rule) -> bool
-    ensures { result ≡ is_cut rule }
+/// Whether `--cut` leaves alone the line at this place, from 0.
+fn is_alone_at(alone: &[bool], place: usize) -> bool
+    ensures { result ≡ is_alone_at alone.now place }
 {
-    matches!(
-        rule,
-        Rule::BadOperand | Rule::Directive | Rule::HasABody | Rule::CountsLines
-    )
+    alone.get(place).copied().unwrap_or(false)
+}
+
+/// Whether `--cut` leaves alone what a finding means: a refused line or a directive itself, or the lines after one that covers these.
+fn is_marked(alone: &[bool], found: &Found) -> bool
+    ensures { result ≡ is_marked alone.now found.now }
+{
+    match found.rule {
+        Rule::BadOperand | Rule::Directive => {
+            is_alone_at(alone, (found.number as usize).saturating_sub(1))
+        }
+        Rule::HasABody | Rule::CountsLines => is_alone_at(alone, found.number as usize),
+        _ => false,
+    }
 }
 
 /// The end of the line that states a finding.
-fn ending_of(rule: Rule) -> &'static [u8]
-    ensures { result.now ≡ (if is_cut rule then codes " (CUT)\n" else codes "\n") }
+fn ending_of(is_marked: bool) -> &'static [u8]
+    ensures { result.now ≡ (if is_marked then codes " (CUT)\n" else codes "\n") }
 {
-    if is_cut(rule) { b" (CUT)\n" } else { b"\n" }
+    if is_marked { b" (CUT)\n" } else { b"\n" }
 }
 
 /// A word after a blank, if there is one.
@@ -54,43 +65,48 @@ fn push_word(out: &mut Vec<u8>, word: &[u8]) -> Result<(), AllocError>
     out.extend_from_slice(word)
 }
 
-/// The line that states what was found.
-fn push_found(out: &mut Vec<u8>, found: &Found) -> Result<(), AllocError>
-    ensures { OnOk result (out.new.items ≡ out.old.items ++ finding_line found.now) }
+/// The line that states what was found. `alone` says of each line whether `--cut` leaves it alone.
+fn push_found(out: &mut Vec<u8>, alone: &[bool], found: &Found) -> Result<(), AllocError>
+    ensures { OnOk result (out.new.items ≡ out.old.items ++ finding_line alone.now found.now) }
 {
     push_field(out, b"LINE ", found.number as usize)?;
     out.extend_from_slice(words_of(found.rule))?;
     push_word(out, found.first)?;
     push_word(out, found.second)?;
-    out.extend_from_slice(ending_of(found.rule))
+    out.extend_from_slice(ending_of(is_marked(alone, found)))
 }
 
 /// Whether a finding is listed, with `--cut` or without.
-fn is_listed(found: &Found, cut: bool) -> bool
-    ensures { result ≡ is_listed cut found.now }
+fn is_listed(alone: &[bool], found: &Found, cut: bool) -> bool
+    ensures { result ≡ is_listed cut alone.now found.now }
 {
-    !(cut && is_cut(found.rule))
+    !(cut && is_marked(alone, found))
 }
 
-/// A line for each finding that is listed, with `--cut` or without.
-pub(crate) fn push_listing(out: &mut Vec<u8>, all: &[Found], cut: bool) -> Result<(), AllocError>
-    ensures { OnOk result (out.new.items ≡ out.old.items ++ listing cut all.now) }
+/// A line for each finding that is listed, with `--cut` or without. `alone` says of each line whether `--cut` leaves it alone.
+pub(crate) fn push_listing(
+    out: &mut Vec<u8>,
+    alone: &[bool],
+    all: &[Found],
+    cut: bool,
+) -> Result<(), AllocError>
+    ensures { OnOk result (out.new.items ≡ out.old.items ++ listing cut alone.now all.now) }
 {
     for found in all {
-        if is_listed(found, cut) {
-            push_found(out, found)?;
+        if is_listed(alone, found, cut) {
+            push_found(out, alone, found)?;
         }
     }
     Ok(())
 }
 
-/// How many findings are listed, with `--cut` or without.
-pub(crate) fn count_listed(all: &[Found], cut: bool) -> usize
-    ensures { result ≡ tally (is_listed cut) all.now }
+/// How many findings are listed with `--cut`. `alone` says of each line whether that leaves it alone.
+pub(crate) fn count_listed(alone: &[bool], all: &[Found]) -> usize
+    ensures { result ≡ tally (is_listed true alone.now) all.now }
 {
     let mut count = 0;
     for found in all {
-        if is_listed(found, cut) {
+        if is_listed(alone, found, true) {
             count += 1;
         }
     }

@@ -244,7 +244,8 @@ impl<'a> Rules<'a> {
         let operation = line.operation();
         let operand = line.words.operand;
         if matches!(operation, b"EQU" | b"=") {
-            return Ok(self.deck.code_named(at, line).is_some() && operand != b"*".as_slice());
+            let is_code = self.deck.is_code(self.deck.code_named(at, line));
+            return Ok(is_code && operand != b"*".as_slice());
         }
         if !matches!(line.kind, Kind::Instruction)
             && !is_branch(operation)

@@ -44,7 +44,7 @@ impl Word {
         }
     }
 
-    /// With the statement before them.
+    /// With the statement before them; one between switches can't change.
     pub(crate) fn with(&self, line: &Line) -> Word {
         if matches!(line.kind, Kind::Pad) {
             Word {
@@ -52,7 +52,7 @@ impl Word {
                 has_pads: true,
                 end: self.end,
             }
-        } else if line.is_code() {
+        } else if line.makes_code() {
             Word {
                 instructions: self.instructions.saturating_add(1),
                 has_pads: self.has_pads,

@@ -3,6 +3,7 @@ use Rattle.std.specs.Prelude.{ℕ, ◌≡◌, ◌&&◌, Bool, true, false, List,
 use Rattle.std.specs.Option.{is_some}
 use Rattle.s66_line.specs.Block.{Block}
 use Rattle.s66_source.specs.declared.error.SourceError.{SourceError}
+use Rattle.s66_source.specs.LeftAlone.{Reading}
 use Rattle.s66_source.specs.Source.{source_of}
 use Rattle.s66_lint.specs.Listing.{AreCounted}
 use Rattle.s66_command.specs.declared.command.Command.{Command}
@@ -25,13 +26,13 @@ abbrev pub has_no_block : Result (List Block) SourceError → Bool
 has_no_block (Ok []) = true
 has_no_block result = false
 
--- how many lines `lint` lists, with `--cut` or without, or nothing of that
-abbrev pub IsCount : (prints_orders cut : Bool) (listed : ℕ) → Type 0
-IsCount true cut listed = AreCounted cut listed
-IsCount false cut listed = listed ≡ 0
+-- how many lines `lint` lists of a source, with `--cut` or without, or nothing of that
+abbrev pub IsCount : (prints_orders : Bool) (source : Reading) (listed : ℕ) → Type 0
+IsCount true source listed = AreCounted source listed
+IsCount false source listed = listed ≡ 0
 
 -- what is told after a command has written its text for this input
 abbrev pub IsRemark : Command → (input : List ℕ) → Remark → Type 0
 IsRemark command input r =
     (r.has_no_block ≡ (reads_source command && has_no_block (source_of (source_in command input))))
-    × (r.cut ≡ is_cut command) × IsCount (prints_orders command) (is_cut command) r.listed
+    × (r.cut ≡ is_cut command) × IsCount (prints_orders command) (source_in command input) r.listed

@@ -48,7 +48,7 @@ fn has_no_block(source: &Source) -> bool
 
 /// How many lines `lint` lists of this input, or 0 if that isn't told.
 fn listed_of(alloc: Global, command: Command, input: &[u8]) -> Result<usize, AllocError>
-    ensures { IfOk result (IsCount (prints_orders command.entry) (is_cut command.entry)) }
+    ensures { IfOk result (IsCount (prints_orders command.entry) (source_in command.entry input.now)) }
 {
     if !prints_orders(command) {
         return Ok(0);

@@ -15,4 +15,4 @@ lint_status false (b ∷ text) = Listed
 -- lines of findings in the order of the source's lines, with `--cut` of those alone that it doesn't leave alone, and a status by whether
 -- the source is then refused
 abbrev pub IsLintOutput : (source : Reading) (text : List ℕ) → Status → Type 0
-IsLintOutput source text status = IsFindings source.cut text × (status ≡ lint_status (is_err (source_of source)) text)
+IsLintOutput source text status = IsFindings source text × (status ≡ lint_status (is_err (source_of source)) text)

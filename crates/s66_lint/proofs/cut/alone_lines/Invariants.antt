@@ -1,0 +1,17 @@
+use Rattle.std.proofs.Common.{◌≡◌, ◌≤◌, ◌-◌, ◌++◌, [], length, take}
+use Rattle.s66_line.specs.Fields.{lines_from}
+use Rattle.s66_source.specs.declared.limits.TheConstants.{SOURCE_LINES_LIMIT}
+use Rattle.s66_lint.specs.Marks.{alone_from, alone_lines}
+use Rattle.s66_lint.proofs.cut.alone_lines.Given as goal
+
+-- what is known of the lines so far, and then of the rest, is what is known of all
+abbrev pub invariant-loop-end : goal.invariant-loop-end
+invariant-loop-end l = record {
+  whole : l.alone.items ++ take (SOURCE_LINES_LIMIT - length l.alone.items) (alone_from l.standing (lines_from [] l.rest)) ≡ alone_lines l.text;
+  few : length l.alone.items ≤ SOURCE_LINES_LIMIT;
+  bodies : l.standing.bodies ≤ length l.alone.items;
+  within : length l.rest ≤ length l.text;
+}
+
+abbrev pub decreases-loop-end : goal.decreases-loop-end
+decreases-loop-end l = length l.rest

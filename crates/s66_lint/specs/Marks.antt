@@ -1,0 +1,38 @@
+-- To be believed: which findings of `lint` are marked by `(CUT)`: those of what `--cut` leaves alone.
+use Rattle.std.specs.Prelude.{ℕ, ◌-◌, Bool, true, false, List, map, slice_index_or, take}
+use Rattle.s66_line.specs.Fields.{lines_of}
+use Rattle.s66_line.specs.declared.limits.TheConstants.{LINE_BYTES_LIMIT}
+use Rattle.s66_source.specs.LeftAlone.{Flagged, at_first, flagged_from}
+use Rattle.s66_source.specs.declared.standing.Standing.{Standing}
+use Rattle.s66_source.specs.declared.limits.TheConstants.{SOURCE_LINES_LIMIT}
+use Rattle.s66_lint.specs.declared.finding.Found.{Found}
+use Rattle.s66_lint.specs.declared.finding.Rule.{Rule}
+use Rattle.s66_lint.specs.declared.finding.Rule.TheVariants.{BadOperand, CountsLines, Directive, HasABody}
+
+-- a line up to the limit of its bytes
+abbrev pub front : List ℕ → List ℕ
+front line = take LINE_BYTES_LIMIT line
+
+-- whether `--cut` leaves each of these lines alone, by what stands before them
+abbrev pub alone_from : Standing → List (List ℕ) → List Bool
+alone_from s lines = map (λ (m : Flagged). m.alone) (flagged_from true s (map front lines))
+
+-- and each line of a text, up to the limit of lines
+abbrev pub alone_lines : List ℕ → List Bool
+alone_lines text = take SOURCE_LINES_LIMIT (alone_from at_first (lines_of text))
+
+-- the line at a place, from 0, is left alone
+abbrev pub is_alone_at : List Bool → ℕ → Bool
+is_alone_at alone place = slice_index_or alone place false
+
+-- a finding of this rule means a line that is left alone: a refused line or a directive itself, the line after one that covers others
+abbrev pub means_alone : Rule → (here next : Bool) → Bool
+means_alone BadOperand here next = here
+means_alone Directive here next = here
+means_alone HasABody here next = next
+means_alone CountsLines here next = next
+means_alone rule here next = false
+
+-- what was found is marked
+abbrev pub is_marked : List Bool → Found → Bool
+is_marked alone f = means_alone f.rule (is_alone_at alone (f.number - 1)) (is_alone_at alone f.number)
