@@ -70,7 +70,7 @@ takes old taken (text ∷ texts) =
 pub paired-fresh : (old new : Block) → Fresh (length (instrs_of old)) [] (paired old new)
 paired-fresh old new = (let all = takes old [] (texts_of new) in subst (Fresh (length (instrs_of old)) []) (sym all.all) all.fresh)
 
-length-texts : (block : Block) → length (texts_of block) ≡ length (instrs_of block)
+pub length-texts : (block : Block) → length (texts_of block) ≡ length (instrs_of block)
 length-texts block = length-map (numbers (instrs_of block)) (text_of block) ∙ length-rising (length (instrs_of block)) 1
 
 pub paired-texts : (old new : Block) → length (instrs_of new) ≤ length (paired old new) → map (text_of old) (paired old new) ≡ texts_of new
@@ -80,7 +80,7 @@ paired-texts old new enough =
 
 -- NOTHING IS MISSING
 
-needed : (d h : Bool) → (d && not h) ≡ false → d ≡ true → h ≡ true
+pub needed : (d h : Bool) → (d && not h) ≡ false → d ≡ true → h ≡ true
 needed true true h is = refl
 needed true false h is = absurd (true≢false h)
 needed false h none is = absurd (true≢false (sym is))

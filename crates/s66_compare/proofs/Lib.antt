@@ -5,5 +5,7 @@ pub mod Differences
 pub mod Legal
 pub mod Meanings
 pub mod Accepted
+pub mod KeptPairs
+pub mod PlacedPairs
 pub mod Texts
 pub mod Totals

@@ -20,7 +20,7 @@ IsSpelled block = (n : ℕ) → 1 ≤ n → n ≤ length (instrs_of block) → I
 abbrev operation_of_text : List ℕ → Operation
 operation_of_text text = record { instr = instr_in_text text; constant = constant_of (instr_in_text text).op.code (operand_in text) }
 
-in-text : (text : List ℕ) (n : Instr) → Spells text n → n ≡ instr_in_text text
+pub in-text : (text : List ℕ) (n : Instr) → Spells text n → n ≡ instr_in_text text
 in-text text n spells = rw spells refl
 
 operation-text : (block : Block) (n : ℕ) → IsTextOf (text_of block n) (instr_at (instrs_of block) n) → operation_at (instrs_of block) (constants_in block) n ≡ operation_of_text (text_of block n)

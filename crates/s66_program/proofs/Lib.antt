@@ -4,6 +4,7 @@ pub mod FactDocuments
 pub mod Fronts
 pub mod KeptInput
 pub mod KeptParts
+pub mod OrderCompared
 pub mod RefusedInput
 pub mod SearchAnswers
 pub mod TwoSources

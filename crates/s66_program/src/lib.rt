@@ -9,6 +9,7 @@ mod kept;
 mod kept_text;
 mod laws;
 mod limits;
+mod order_laws;
 mod order_text;
 mod output;
 mod page_text;
@@ -25,6 +26,7 @@ pub use laws::{
     total_limit_law,
 };
 pub use limits::SOURCE_FRONT;
+pub use order_laws::{compared_law, reported_law};
 pub use program::run_program;
 pub use run::{run_command, run_observed};
 pub use s66_command::{

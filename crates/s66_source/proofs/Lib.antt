@@ -10,6 +10,7 @@ pub mod LeadingPads
 pub mod KeptLines
 pub mod PlacedBlocks
 pub mod PrintedLines
+pub mod MergedLines
 pub mod ReadBack
 pub mod ReadStanding
 pub mod ReadLine

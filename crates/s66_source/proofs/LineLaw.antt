@@ -109,7 +109,7 @@ Rising-behind low l (m ∷ more) lines h = let rest = Rising-behind (suc l.numbe
 
 -- A NOTE OF ONE BLOCK
 
-abbrev AreFilled : List (List Line) → Type 0
+abbrev pub AreFilled : List (List Line) → Type 0
 AreFilled parts = (part : List Line) → Among part parts → 1 ≤ length part
 
 -- a line up to the first of a block, or from its last on, is no note of it

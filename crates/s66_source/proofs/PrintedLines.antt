@@ -68,7 +68,7 @@ bytes-classed (line ∷ lines) number run index label after =
     let c : Class = class_at after line in
     ap (λ ls. line.bytes ∷ ls) (bytes-classed lines (suc number) (run_after run c) (place_after index c) (label_after label c line.bytes) (is_code c))
 
-Rising-ordered : (number run : ℕ) (lines : List Line) → Ordered number run lines → Rising number lines
+pub Rising-ordered : (number run : ℕ) (lines : List Line) → Ordered number run lines → Rising number lines
 Rising-ordered number run [] h = tt
 Rising-ordered number run (l ∷ lines) h = (omega (arith, h.0), subst (λ k. Rising (suc k) lines) (sym h.0) (Rising-ordered (suc number) (run_behind l) lines h.2))
 
@@ -98,7 +98,7 @@ of-instructions (l ∷ lines) m among = by_test (is_instruction l.class) refl (o
     by_test true stated later (inr among) = (inr (later among).0, (later among).1)
     by_test false stated later among = (inr (later among).0, (later among).1)
 
-Rising-after : (low : ℕ) (xs ys : List Line) → Rising low (xs ++ ys) → Rising low ys
+pub Rising-after : (low : ℕ) (xs ys : List Line) → Rising low (xs ++ ys) → Rising low ys
 Rising-after low [] ys h = h
 Rising-after low (x ∷ xs) ys h = Rising-lower low (suc x.number) ys (omega (arith, h.0)) (Rising-after (suc x.number) xs ys h.1)
 
@@ -127,7 +127,7 @@ no_entry e es h = cc
 first-entry : (e f : Entry) (es fs : List Entry) → e ∷ es ≡ f ∷ fs → (e ≡ f) × (es ≡ fs)
 first-entry e f es fs h = (cc, cc)
 
-first-line : (l m : Line) (ls ms : List Line) → l ∷ ls ≡ m ∷ ms → (l ≡ m) × (ls ≡ ms)
+pub first-line : (l m : Line) (ls ms : List Line) → l ∷ ls ≡ m ∷ ms → (l ≡ m) × (ls ≡ ms)
 first-line l m ls ms h = (cc, cc)
 
 line_of-left : (label : List ℕ) (entries : List Entry) (k : ℕ) (e : Entry) (es : List Entry) → drop k entries ≡ e ∷ es → line_of (record { label = label; entries = entries }) (suc k) ≡ e.line
@@ -271,10 +271,10 @@ instruction-not_copied all l located n stated = rw stated refl
 no-note-of_code : (l : Line) (block : Block) → is_comment_class l.class ≡ false → is_note_of l block ≡ false
 no-note-of_code l block stated = rw stated refl
 
-instructions-yes : (l : Line) (lines : List Line) → is_instruction l.class ≡ true → instructions (l ∷ lines) ≡ l ∷ instructions lines
+pub instructions-yes : (l : Line) (lines : List Line) → is_instruction l.class ≡ true → instructions (l ∷ lines) ≡ l ∷ instructions lines
 instructions-yes l lines stated = rw stated refl
 
-instructions-no : (l : Line) (lines : List Line) → is_instruction l.class ≡ false → instructions (l ∷ lines) ≡ instructions lines
+pub instructions-no : (l : Line) (lines : List Line) → is_instruction l.class ≡ false → instructions (l ∷ lines) ≡ instructions lines
 instructions-no l lines stated = rw stated refl
 
 -- one instruction of the run is enough

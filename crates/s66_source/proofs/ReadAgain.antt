@@ -172,7 +172,7 @@ sound-left (l ∷ lines) h =
 
 -- BLOCKS TO COME begin at a line to come
 
-abbrev FirstFrom : ℕ → List (List Line) → Type 0
+abbrev pub FirstFrom : ℕ → List (List Line) → Type 0
 FirstFrom low [] = Unit {0}
 FirstFrom low ([] ∷ parts) = ⊥
 FirstFrom low ((l ∷ more) ∷ parts) = low ≤ l.number
@@ -203,7 +203,7 @@ first-from (line ∷ lines) number run index label after =
         (parts_from (suc number) (run_after run (Instruction located n)) (place_after index (Instruction located n)) (label_after label (Instruction located n) line.bytes) true lines) (omega arith) rest
 
 -- a line at which no block begins is printed as a copy, or not at all
-text-copied : (all : List Line) (n : ℕ) (parts : List (List Line)) (ps : List Placed) (l : Line) (lines : List Line) → FirstFrom (suc l.number) parts →
+pub text-copied : (all : List Line) (n : ℕ) (parts : List (List Line)) (ps : List Placed) (l : Line) (lines : List Line) → FirstFrom (suc l.number) parts →
     text_of_lines all n (map block_of parts) ps (l ∷ lines) ≡ copied_text all l ++ text_of_lines all n (map block_of parts) ps lines
 text-copied all n [] [] l lines h = refl
 text-copied all n [] (p ∷ ps) l lines h = refl

@@ -152,14 +152,14 @@ inside-onto (suc k) n bytes h =
     elim (n / 10 == 0) as (λ t. every is_inside (if t then digit_glyph false (n % 10) ∷ bytes else digits_onto k 10 false (n / 10) (digit_glyph false (n % 10) ∷ bytes)) ≡ true)
     [ true ↦ one | false ↦ inside-onto k (n / 10) (digit_glyph false (n % 10) ∷ bytes) one ]
 
-inside-decimal : (n : ℕ) → every is_inside (decimal n) ≡ true
+pub inside-decimal : (n : ℕ) → every is_inside (decimal n) ≡ true
 unfolding digits
 inside-decimal n = inside-onto 64 n [] refl
 
 inside-append : (first second : List ℕ) → every is_inside first ≡ true → every is_inside second ≡ true → every is_inside (first ++ second) ≡ true
 inside-append first second h k = every-append is_inside first second h k
 
-inside-times : (n count source time : ℕ) → every is_inside (times_text n count source time) ≡ true
+pub inside-times : (n count source time : ℕ) → every is_inside (times_text n count source time) ≡ true
 inside-times n count source time =
     inside-append (codes "* BLOCK " ++ decimal n ++ codes " COUNT " ++ decimal count ++ codes " SOURCE " ++ decimal source ++ codes " TIME ") (decimal time)
     (inside-append (codes "* BLOCK " ++ decimal n ++ codes " COUNT " ++ decimal count ++ codes " SOURCE " ++ decimal source) (codes " TIME ")

@@ -68,10 +68,10 @@ skip_blanks-trimmed (b ∷ bytes) = by_blank (is_blank b) (every is_trailing (b 
 ends_no_line-word : (bytes : List ℕ) → EndsNoLine (upper bytes) → EndsNoLine bytes
 ends_no_line-word bytes h = sym (ends_no_line-upper bytes) ∙ h
 
-operation-again : (bytes : List ℕ) (n : Instr) → Spells bytes n → word (trim is_trailing bytes) ≡ word bytes
+pub operation-again : (bytes : List ℕ) (n : Instr) → Spells bytes n → word (trim is_trailing bytes) ≡ word bytes
 operation-again bytes n spells = word-trimmed bytes (ends_no_line-word (word bytes) (spelled-ends_no_line (operation_in bytes) (operand_in bytes) n spells).0.0)
 
-operand-again : (bytes : List ℕ) (n : Instr) → Spells bytes n → word (skip_blanks (after_word (trim is_trailing bytes))) ≡ word (skip_blanks (after_word bytes))
+pub operand-again : (bytes : List ℕ) (n : Instr) → Spells bytes n → word (skip_blanks (after_word (trim is_trailing bytes))) ≡ word (skip_blanks (after_word bytes))
 operand-again bytes n spells =
     let clean = spelled-ends_no_line (operation_in bytes) (operand_in bytes) n spells in
     ap (λ w. word (skip_blanks w)) (after_word-trimmed bytes (ends_no_line-word (word bytes) clean.0.0))

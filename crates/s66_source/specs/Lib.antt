@@ -8,6 +8,7 @@ pub mod ReadAgain
 pub mod Gives
 pub mod Pads
 pub mod Keeping
+pub mod Merged
 pub mod Printer
 pub mod Keeper
 pub mod Reader

@@ -10,6 +10,7 @@ mod halves;
 mod keeper;
 mod laws;
 mod limits;
+mod merged_laws;
 mod operation;
 mod pads;
 mod placed;
@@ -30,6 +31,7 @@ pub use laws::{
     read_again_law, spelled_law,
 };
 pub use limits::SOURCE_LINES_LIMIT;
+pub use merged_laws::{merged_examples, merged_law};
 pub use placed::Placed;
 pub use printer::print_source;
 pub use source::{Source, read_source, read_source_with};

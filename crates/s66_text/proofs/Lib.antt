@@ -11,4 +11,5 @@ pub mod KeptAnswers
 pub mod LongestRuns
 pub mod Pieces
 pub mod PlacedAnswers
+pub mod Reports
 pub mod SumRows

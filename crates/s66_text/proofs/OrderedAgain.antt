@@ -19,7 +19,7 @@ use Rattle.s66_text.proofs.Answered.{answer-legal, answer-time}
 use Rattle.s66_text.proofs.PlacedAnswers.{all-within}
 
 -- a legal order has a number for each instruction
-all-complete : (strategy : Strategy) (profile : Profile) (trace : Bool) (blocks : List Block) (answers : List Answer) → AreAnswers strategy profile blocks answers → AreComplete blocks (all_placed profile trace blocks answers)
+pub all-complete : (strategy : Strategy) (profile : Profile) (trace : Bool) (blocks : List Block) (answers : List Answer) → AreAnswers strategy profile blocks answers → AreComplete blocks (all_placed profile trace blocks answers)
 all-complete strategy profile trace [] [] are = tt
 all-complete strategy profile trace [] (a ∷ answers) are = absurd are
 all-complete strategy profile trace (block ∷ blocks) [] are = absurd are

@@ -18,6 +18,7 @@ pub mod KeptText
 pub mod SumText
 pub mod SumRows
 pub mod OrderedAgain
+pub mod Reports
 pub mod CheckedAnswers
 pub mod PlacedAnswers
 pub mod ProvedAnswers

@@ -1,0 +1,6 @@
+use Rattle.std.proofs.Common.{arith}
+use Rattle.s66_text.proofs.Reports.{blocks-reported}
+use Rattle.s66_program.proofs.order_laws.reported_law.Goals as goal
+
+pub returns : goal.returns
+returns c = λ strategy p trace source text status within is. blocks-reported strategy p trace source text status (omega (arith, within)) is
