@@ -14,7 +14,7 @@ use s66_command::Strategy;
 use s66_isa::Profile;
 use s66_line::Block;
 use s66_outcome::{Observer, Output};
-use s66_source::{Placed, Source, print_keeping};
+use s66_source::{Columns, Placed, Source, print_keeping};
 use s66_text::{blocks_before, keeps_order, shown, status_by};
 use std::alloc::AllocError;
 use std::sync::Wait;
@@ -95,7 +95,14 @@ fn kept_output<R: AllocGlobal + Threads + Wait + Sync, O: Observer>(
     let all = keep_all(rt, &givings, 0, blocks, profile, strategy, observer)?;
     let given = all.parts.as_slice();
     Ok(Output {
-        text: print_keeping(rt.alloc(), source, before, given, style.quiet)?,
+        text: print_keeping(
+            rt.alloc(),
+            source,
+            before,
+            given,
+            style.quiet,
+            Columns::Usual,
+        )?,
         status: status_by(all.all_best),
     })
 }

@@ -7,6 +7,7 @@ use Rattle.s66_source.specs.Keeping.{printed_keeping}
 use Rattle.s66_source.specs.LeftAlone.{Reading}
 use Rattle.s66_source.specs.Printed.{Placed}
 use Rattle.s66_source.specs.Source.{source_of}
+use Rattle.s66_source.specs.declared.columns.Columns.TheVariants.{Usual}
 use Rattle.s66_command.specs.declared.strategy.Strategy.{Strategy}
 use Rattle.s66_text.specs.Answers.{Answer, AreAnswers}
 use Rattle.s66_text.specs.OrderText.{IsOrderOutput, placed_by, status_of}
@@ -31,7 +32,7 @@ abbrev pub IsKeptOutput : Strategy → Profile → (trace keep quiet : Bool) (on
 IsKeptOutput strategy p trace keep quiet only source text status =
     (blocks : List Block) × (source_of source ≡ Ok blocks)
     × ((answers : List Answer) × AreAnswers strategy p (shown only blocks) answers
-    × (text ≡ printed_keeping quiet source (before only) (all_given p trace keep (shown only blocks) answers)) × (status ≡ status_of answers))
+    × (text ≡ printed_keeping quiet Usual source (before only) (all_given p trace keep (shown only blocks) answers)) × (status ≡ status_of answers))
 
 -- one of the options is there
 abbrev pub is_other : (keep quiet : Bool) → Option ℕ → Bool
