@@ -64,8 +64,8 @@ others (x ∷ xs) = xs
 abbrev pub copied : List ℕ → List ℕ
 copied bytes = body bytes ++ codes "\n"
 
--- of the n-th block, which is printed: in the place of the first its report, unless there are to be none, and in that of the last all,
--- without a label after so many blanks
+-- of the n-th block, which is printed: in the place of the first its report, unless there are to be none, and in that of the last all of
+-- them, after so many blanks where there is no label
 abbrev pub text_anew : (quiet : Bool) (indents : List ℕ) (n passed : ℕ) → Block → Placed → List ℕ
 text_anew quiet indents n passed block p =
     (if passed == 0 && not quiet then report n (length block.entries) p else [])
