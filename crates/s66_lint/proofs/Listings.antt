@@ -20,6 +20,7 @@ order-with first last (g ∷ all) f same h =
     and_from (nat_le first g.number) (is_in_order g.number last (all ++ f ∷ [])) here (order-with g.number last all f same rest)
 
 -- without `--cut` each finding is listed
-pub all-listed : (alone : List Bool) (all : List Found) → length all ≡ tally (is_listed false alone) all
-all-listed alone [] = refl
-all-listed alone (f ∷ all) = omega (arith, all-listed alone all)
+pub all-listed : (cut : Bool) (alone : List Bool) (all : List Found) → cut ≡ false → length all ≡ tally (is_listed cut alone) all
+all-listed true alone all h = cc
+all-listed false alone [] h = refl
+all-listed false alone (f ∷ all) h = omega (arith, all-listed false alone all h)
