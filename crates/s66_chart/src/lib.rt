@@ -9,4 +9,4 @@ mod text_chart;
 
 pub use examples::{chart_examples, text_chart_example};
 pub use picture::chart;
-pub use text_chart::push_text_chart;
+pub use text_chart::{push_blanks, push_in_places, push_text_chart, text_width};

@@ -17,8 +17,8 @@ use s66_line::Block;
 use s66_time::Timed;
 use std::alloc::AllocError;
 
-/// Appends blanks.
-fn push_blanks(out: &mut Vec<u8>, count: usize) -> Result<(), AllocError>
+/// Appends blanks. `Err` is out of memory.
+pub fn push_blanks(out: &mut Vec<u8>, count: usize) -> Result<(), AllocError>
     ensures { OnOk result (out.new.items ≡ out.old.items ++ replicate count 32) }
 {
     for done in 0..count {
@@ -28,7 +28,7 @@ fn push_blanks(out: &mut Vec<u8>, count: usize) -> Result<(), AllocError>
 }
 
 /// How many places the texts of a block need.
-fn text_width(block: &Block) -> usize
+pub fn text_width(block: &Block) -> usize
     ensures value { result ≡ text_width block.now }
     ensures few { result ≤ TEXT_LIMIT }
 {
@@ -39,8 +39,8 @@ fn text_width(block: &Block) -> usize
     width
 }
 
-/// A text on the left of this many places, and a blank.
-fn push_in_places(out: &mut Vec<u8>, text: &[u8], width: usize) -> Result<(), AllocError>
+/// Appends a text on the left of this many places, and a blank. `Err` is out of memory.
+pub fn push_in_places(out: &mut Vec<u8>, text: &[u8], width: usize) -> Result<(), AllocError>
     ensures { OnOk result (out.new.items ≡ out.old.items ++ in_places width text.now) }
 {
     out.extend_from_slice(text)?;

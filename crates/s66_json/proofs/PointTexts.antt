@@ -5,14 +5,14 @@ use Rattle.std.proofs.lemmas.Bool.{lt-ltb}
 use Rattle.std.proofs.lemmas.List.{length-reverse}
 use Rattle.serde_json.specs.Written.{comma_if}
 use Rattle.s66_model.specs.Timing.{Point}
+use Rattle.s66_why.specs.declared.lost.Lost.{Lost}
 use Rattle.s66_why.specs.declared.stretch.Stretch.{Stretch}
 use Rattle.s66_why.specs.declared.stretch.Conflict.{Conflict}
 use Rattle.s66_why.specs.declared.stretch.Conflict.TheVariants.{First, Second, Third}
+use Rattle.s66_why.specs.Sums.{sum_of}
 use Rattle.s66_why.specs.Why.{lost, stretches_at}
 use Rattle.s66_why.proofs.Earlier.{earlier-more}
-use Rattle.s66_json.specs.declared.lost.Lost.{Lost}
 use Rattle.s66_json.specs.Pieces.{is_some, lost_of, lost_text, point_text, points_text}
-use Rattle.s66_json.specs.Sums.{sum_of}
 
 some-length : (s : List Point) → is_some s ≡ nat_lt 0 (length s)
 some-length [] = refl

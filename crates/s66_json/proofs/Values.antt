@@ -11,9 +11,9 @@ use Rattle.s66_model.specs.Dependence.{needs}
 use Rattle.s66_model.specs.Timing.{Point, ResultAt, latest_result, total_of}
 use Rattle.s66_time.specs.TimedOrder.{TimedOrder}
 use Rattle.s66_why.specs.declared.stretch.Stretch.{Stretch}
-use Rattle.s66_why.specs.Why.{path, stretches, stretches_at}
+use Rattle.s66_why.specs.Why.{added, path, stretches, stretches_at}
 use Rattle.s66_json.specs.Json.{block_data, fillers_in, found_data, instruction_data, items_of, json_line, list_of, num, order_members, parcels_in, point_data, points, points_items, register_data, result_data, result_register, row_of, wait_data, written_data}
-use Rattle.s66_json.specs.Pieces.{bound_text, cause_text, conflict_text, head_text, instruction_text, instructions_text, is_some, label_text, lines_text, list_text, listed, lists_text, lost_of, lost_text, memory_text, name_of_block, name_text, needs_text, numbers_text, operands_text, order_text, path_text, place_text, point_text, points_text, register_text, registers_text, result_text, results_text, size_text, sort_text, source_text, start_text, string_text, timed_text, times_text, truth_text, unit_text, wait_start, wait_text, waits_text, work_text, write_text, writes_text}
+use Rattle.s66_json.specs.Pieces.{bound_text, cause_text, conflict_text, head_text, instruction_text, instructions_text, is_some, label_text, lines_text, list_text, listed, lists_text, lost_of, lost_text, memory_text, name_of_block, name_text, needs_text, numbers_text, operands_text, order_text, path_text, place_text, point_text, points_text, register_text, registers_text, result_text, results_text, size_text, sort_text, source_text, start_text, steps_text, string_text, timed_text, times_text, truth_text, unit_text, wait_start, wait_text, waits_text, work_text, write_text, writes_text}
 
 -- PIECES OF PIECES
 
@@ -83,7 +83,7 @@ points-items (p ∷ s) more =
     ∙ sym (two (points_text s) (comma_if (is_some s)) (point_text p (stretches_at s p)) (items_text true more))
 
 pub order-text : (t : TimedOrder) (more : Members) → codes "{" ++ members_text false (order_members t more) ≡ timed_text t ++ members_text true more
-unfolding timed_text order_text path_text lost_text escape_byte
+unfolding timed_text order_text path_text steps_text lost_text escape_byte
 order-text t more =
     let s : List Point = points t in
     let rest = members_text true more in
@@ -91,18 +91,23 @@ order-text t more =
     let filled = decimal (fillers_in t) in
     let own = numbers_text t.numbers in
     let way = numbers_text (path s) in
+    let adds = numbers_text (added s) in
     let ends = lost_of (stretches s) ++ rest in
+    let head = order_text (total_of t.problem t.numbers) (fillers_in t) t.numbers in
     let start : List ℕ → List ℕ = λ u. codes "{\"time\":" ++ (time ++ (codes ",\"no\":" ++ (filled ++ (codes ",\"order\":" ++ u)))) in
-    let whole : List ℕ → List ℕ → List ℕ → List ℕ = λ a b c. start (a ++ (codes ",\"at\":[" ++ (b ++ (codes ",\"path\":" ++ (c ++ ends))))) in
+    let after : List ℕ → List ℕ → List ℕ = λ c d. codes ",\"path\":" ++ (c ++ (codes ",\"steps\":" ++ (d ++ ends))) in
+    let whole : List ℕ → List ℕ → List ℕ → List ℕ = λ a b u. start (a ++ (codes ",\"at\":[" ++ (b ++ u))) in
     let listed_points : items_text false (points_items s no_items) ≡ points_text s ++ codes "]" = points-items s no_items in
-    ap (λ a. whole a (items_text false (points_items s no_items)) (compact_text (list_of num (path s)))) (numbers-text t.numbers)
-    ∙ ap₂ (λ b c. whole own b c) listed_points (numbers-text (path s))
-    ∙ ap (λ u. start (own ++ (codes ",\"at\":[" ++ u))) (append_assoc (points_text s) (codes "]") (codes ",\"path\":" ++ (way ++ ends)))
+    ap (λ a. whole a (items_text false (points_items s no_items)) (after (compact_text (list_of num (path s))) (compact_text (list_of num (added s))))) (numbers-text t.numbers)
+    ∙ ap (λ b. whole own b (after (compact_text (list_of num (path s))) (compact_text (list_of num (added s))))) listed_points
+    ∙ ap₂ (λ c d. whole own (points_text s ++ codes "]") (after c d)) (numbers-text (path s)) (numbers-text (added s))
+    ∙ ap (λ u. start (own ++ (codes ",\"at\":[" ++ u))) (append_assoc (points_text s) (codes "]") (after way adds))
     ∙ sym
-    (append_assoc (order_text (total_of t.problem t.numbers) (fillers_in t) t.numbers) (points_text s ++ (path_text (path s) ++ lost_of (stretches s))) rest
-    ∙ ap (λ u. order_text (total_of t.problem t.numbers) (fillers_in t) t.numbers ++ u) (two (points_text s) (path_text (path s)) (lost_of (stretches s)) rest)
-    ∙ ap (λ u. codes "{\"time\":" ++ u) (three time (codes ",\"no\":") filled (codes ",\"order\":") (own ++ codes ",\"at\":[") (points_text s ++ (path_text (path s) ++ ends)))
-    ∙ ap start (append_assoc own (codes ",\"at\":[") (points_text s ++ (path_text (path s) ++ ends))))
+    (append_assoc head (points_text s ++ (path_text (path s) ++ (steps_text (added s) ++ lost_of (stretches s)))) rest
+    ∙ ap (λ u. head ++ u) (two (points_text s) (path_text (path s)) (steps_text (added s) ++ lost_of (stretches s)) rest)
+    ∙ ap (λ u. head ++ (points_text s ++ (path_text (path s) ++ u))) (append_assoc (steps_text (added s)) (lost_of (stretches s)) rest)
+    ∙ ap (λ u. codes "{\"time\":" ++ u) (three time (codes ",\"no\":") filled (codes ",\"order\":") (own ++ codes ",\"at\":[") (points_text s ++ (path_text (path s) ++ (steps_text (added s) ++ ends))))
+    ∙ ap start (append_assoc own (codes ",\"at\":[") (points_text s ++ (path_text (path s) ++ (steps_text (added s) ++ ends)))))
 
 pub written-text : (t : TimedOrder) → compact_text (written_data t) ≡ timed_text t ++ codes "}"
 written-text t = order-text t no_members

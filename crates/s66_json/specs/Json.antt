@@ -20,7 +20,7 @@ use Rattle.s66_why.specs.declared.cause.Cause.TheVariants.{Writes, Takes, Refere
 use Rattle.s66_why.specs.declared.stretch.Conflict.{Conflict}
 use Rattle.s66_why.specs.declared.stretch.Conflict.TheVariants.{First, Second, Third}
 use Rattle.s66_why.specs.declared.stretch.Stretch.{Stretch}
-use Rattle.s66_why.specs.Why.{bank_name, lost, path, stretches, stretches_at}
+use Rattle.s66_why.specs.Why.{added, bank_name, lost, path, stretches, stretches_at}
 
 -- NUMBERS, TEXTS AND LISTS
 
@@ -129,7 +129,7 @@ abbrev pub order_members : TimedOrder → Members → Members
 order_members t more =
     member (codes "time") (num (total_of t.problem t.numbers)) (member (codes "no") (num (fillers_in t)) (member (codes "order") (list_of num t.numbers)
     (member (codes "at") (array (points_items (points t) no_items)) (member (codes "path") (list_of num (path (points t)))
-    (member (codes "lost") (lost_data (stretches (points t))) more)))))
+    (member (codes "steps") (list_of num (added (points t))) (member (codes "lost") (lost_data (stretches (points t))) more))))))
 
 abbrev pub written_data : TimedOrder → Data
 written_data t = object (order_members t no_members)

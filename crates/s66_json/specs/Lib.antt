@@ -2,4 +2,3 @@ pub mod Examples
 pub mod Json
 pub mod Labels
 pub mod Pieces
-pub mod Sums

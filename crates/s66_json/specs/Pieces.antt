@@ -13,7 +13,7 @@ use Rattle.s66_why.specs.declared.cause.Cause.{Cause}
 use Rattle.s66_why.specs.declared.stretch.Conflict.{Conflict}
 use Rattle.s66_why.specs.declared.stretch.Conflict.TheVariants.{First, Second, Third}
 use Rattle.s66_why.specs.declared.stretch.Stretch.{Stretch}
-use Rattle.s66_why.specs.Why.{lost, path, stretches, stretches_at}
+use Rattle.s66_why.specs.Why.{added, lost, path, stretches, stretches_at}
 use Rattle.s66_json.specs.Json.{conflict_data, fillers_in, label_data, memory_data, name_data, parcels_in, points, register_data, row_of, sort_data, text_data, unit_data}
 
 -- SHORT VALUES
@@ -121,10 +121,14 @@ order_text time filled ns = codes "{\"time\":" ++ (decimal time ++ (codes ",\"no
 unfoldable pub path_text : List ℕ → List ℕ
 path_text ns = codes "],\"path\":" ++ numbers_text ns
 
+unfoldable pub steps_text : List ℕ → List ℕ
+steps_text ns = codes ",\"steps\":" ++ numbers_text ns
+
 -- of a timed order, without the brace that closes it
 unfoldable pub timed_text : TimedOrder → List ℕ
 timed_text t =
-    order_text (total_of t.problem t.numbers) (fillers_in t) t.numbers ++ (points_text (points t) ++ (path_text (path (points t)) ++ lost_of (stretches (points t))))
+    order_text (total_of t.problem t.numbers) (fillers_in t) t.numbers
+    ++ (points_text (points t) ++ (path_text (path (points t)) ++ (steps_text (added (points t)) ++ lost_of (stretches (points t)))))
 
 abbrev pub truth_text : Bool → List ℕ
 truth_text true = codes "true"

@@ -12,7 +12,7 @@ ghost use Rattle.s66_json.specs.Json.{found_data, instruction_data, json_line, w
 #[tactic(auto, unfolding(s66_isa::specs::Table::row, s66_model::specs::Timing::issue_of, s66_model::specs::Timing::start_of, s66_model::specs::Timing::point, s66_why::specs::Why::digits, json::specs::Print::escape_byte))]
 pub fn label_example()
     ensures { json_line 7 labelled (in_order labelled (1 ∷ [])) null ≡
-        codes "{\"schema\":1,\"block\":7,\"label\":\"A\\\"" ++ 195 ∷ 169 ∷ codes "\",\"line\":3,\"last_line\":3,\"count\":1,\"parcels\":1,\"instructions\":[{\"n\":1,\"line\":3,\"text\":\"SA6 B1\",\"unit\":\"increment\",\"parcels\":1,\"works\":3,\"reads\":[\"B1\",\"X6\"],\"writes\":[\"A6\"],\"memory\":\"store\",\"after\":[]}],\"written\":{\"time\":4,\"no\":0,\"order\":[1],\"at\":[{\"n\":1,\"parcel\":0,\"issue\":0,\"start\":0,\"done\":3,\"free\":4,\"results\":[{\"register\":\"A6\",\"done\":3}],\"waits\":[]}],\"path\":[1],\"lost\":{\"first\":0,\"second\":0,\"third\":0}},\"found\":null}\n" }
+        codes "{\"schema\":1,\"block\":7,\"label\":\"A\\\"" ++ 195 ∷ 169 ∷ codes "\",\"line\":3,\"last_line\":3,\"count\":1,\"parcels\":1,\"instructions\":[{\"n\":1,\"line\":3,\"text\":\"SA6 B1\",\"unit\":\"increment\",\"parcels\":1,\"works\":3,\"reads\":[\"B1\",\"X6\"],\"writes\":[\"A6\"],\"memory\":\"store\",\"after\":[]}],\"written\":{\"time\":4,\"no\":0,\"order\":[1],\"at\":[{\"n\":1,\"parcel\":0,\"issue\":0,\"start\":0,\"done\":3,\"free\":4,\"results\":[{\"register\":\"A6\",\"done\":3}],\"waits\":[]}],\"path\":[1],\"steps\":[4],\"lost\":{\"first\":0,\"second\":0,\"third\":0}},\"found\":null}\n" }
 {}
 
 /// A load.
@@ -28,7 +28,7 @@ pub fn written_example()
         codes "{\"time\":16,\"no\":0,\"order\":[1,2,3],\"at\":[" ++
         codes "{\"n\":1,\"parcel\":0,\"issue\":0,\"start\":0,\"done\":8,\"free\":4,\"results\":[{\"register\":\"A1\",\"done\":3},{\"register\":\"X1\",\"done\":8}],\"waits\":[]}," ++
         codes "{\"n\":2,\"parcel\":1,\"issue\":1,\"start\":8,\"done\":11,\"free\":12,\"results\":[{\"register\":\"X6\",\"done\":11}],\"waits\":[{\"conflict\":\"second\",\"from\":1,\"to\":8,\"for\":\"register\",\"name\":\"X1\",\"by\":1}]}," ++
-        codes "{\"n\":3,\"parcel\":2,\"issue\":12,\"start\":12,\"done\":15,\"free\":16,\"results\":[{\"register\":\"X7\",\"done\":15}],\"waits\":[{\"conflict\":\"first\",\"from\":2,\"to\":12,\"for\":\"unit\",\"name\":\"boolean\",\"by\":2}]}],\"path\":[1,2,3],\"lost\":{\"first\":10,\"second\":7,\"third\":0}}" }
+        codes "{\"n\":3,\"parcel\":2,\"issue\":12,\"start\":12,\"done\":15,\"free\":16,\"results\":[{\"register\":\"X7\",\"done\":15}],\"waits\":[{\"conflict\":\"first\",\"from\":2,\"to\":12,\"for\":\"unit\",\"name\":\"boolean\",\"by\":2}]}],\"path\":[1,2,3],\"steps\":[8,4,4],\"lost\":{\"first\":10,\"second\":7,\"third\":0}}" }
 {}
 
 /// And in an order that takes four minor cycles less.
@@ -38,5 +38,5 @@ pub fn found_example()
         codes "{\"time\":12,\"no\":0,\"order\":[1,3,2],\"at\":[" ++
         codes "{\"n\":1,\"parcel\":0,\"issue\":0,\"start\":0,\"done\":8,\"free\":4,\"results\":[{\"register\":\"A1\",\"done\":3},{\"register\":\"X1\",\"done\":8}],\"waits\":[]}," ++
         codes "{\"n\":3,\"parcel\":1,\"issue\":1,\"start\":1,\"done\":4,\"free\":5,\"results\":[{\"register\":\"X7\",\"done\":4}],\"waits\":[]}," ++
-        codes "{\"n\":2,\"parcel\":2,\"issue\":5,\"start\":8,\"done\":11,\"free\":12,\"results\":[{\"register\":\"X6\",\"done\":11}],\"waits\":[{\"conflict\":\"first\",\"from\":2,\"to\":5,\"for\":\"unit\",\"name\":\"boolean\",\"by\":3},{\"conflict\":\"second\",\"from\":5,\"to\":8,\"for\":\"register\",\"name\":\"X1\",\"by\":1}]}],\"path\":[1,2],\"lost\":{\"first\":3,\"second\":3,\"third\":0},\"bound\":12,\"best\":true,\"splits\":0}" }
+        codes "{\"n\":2,\"parcel\":2,\"issue\":5,\"start\":8,\"done\":11,\"free\":12,\"results\":[{\"register\":\"X6\",\"done\":11}],\"waits\":[{\"conflict\":\"first\",\"from\":2,\"to\":5,\"for\":\"unit\",\"name\":\"boolean\",\"by\":3},{\"conflict\":\"second\",\"from\":5,\"to\":8,\"for\":\"register\",\"name\":\"X1\",\"by\":1}]}],\"path\":[1,2],\"steps\":[8,4],\"lost\":{\"first\":3,\"second\":3,\"third\":0},\"bound\":12,\"best\":true,\"splits\":0}" }
 {}

@@ -8,13 +8,11 @@ mod label;
 mod laws;
 mod line;
 mod list;
-mod lost;
 mod order;
 mod point;
 mod string;
 mod text;
 mod wait;
-mod waits;
 mod words;
 
 pub use examples::{found_example, instruction_example, label_example, written_example};

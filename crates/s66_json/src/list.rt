@@ -1,10 +1,12 @@
-ghost use Rattle.std.specs.Prelude.{◌≡◌, ◌++◌, OnOk};
+ghost use Rattle.std.specs.Prelude.{◌≡◌, ◌++◌, OnOk, map};
+ghost use Rattle.s66_why.specs.declared.path.Step.{Step as StepOf};
 ghost use Rattle.s66_json.specs.Pieces.{numbers_text, registers_text, writes_text};
 
 use crate::text::{push_comma, push_text};
 use crate::words::push_register;
 use s66_device::push_field;
 use s66_isa::{Reg, Write};
+use s66_why::Step;
 use std::alloc::AllocError;
 
 /// A list of numbers.
@@ -16,6 +18,19 @@ pub fn push_numbers(out: &mut Vec<u8>, numbers: &[u8]) -> Result<(), AllocError>
     for (i, number) in numbers.iter().enumerate() {
         push_comma(out, 0 < i)?;
         push_field(out, b"", *number as usize)?;
+    }
+    push_text(out, b"]")
+}
+
+/// A list of what steps add.
+#[tactic(auto, unfolding(crate::specs::Pieces::numbers_text))]
+pub fn push_added(out: &mut Vec<u8>, steps: &[Step]) -> Result<(), AllocError>
+    ensures { OnOk result (out.new.items ≡ out.old.items ++ numbers_text (map (λ (x : StepOf). x.adds) steps.now)) }
+{
+    push_text(out, b"[")?;
+    for (i, step) in steps.iter().enumerate() {
+        push_comma(out, 0 < i)?;
+        push_field(out, b"", step.adds as usize)?;
     }
     push_text(out, b"]")
 }

@@ -1,25 +1,21 @@
-ghost use Rattle.std.specs.Prelude.{ℕ, ◌≡◌, ◌≤◌, ◌++◌, OnOk, IfOk, length, reverse};
+ghost use Rattle.std.specs.Prelude.{ℕ, ◌≡◌, ◌≤◌, ◌++◌, OnOk, IfOk, length, map, reverse};
 ghost use Rattle.s66_isa.specs.declared.limits.TheConstants.{BLOCK_LIMIT};
 ghost use Rattle.s66_line.specs.Block.{instrs_of};
-ghost use Rattle.s66_model.specs.Timing.{points_of};
-ghost use Rattle.s66_why.specs.Why.{lost, path, stretches};
+ghost use Rattle.s66_why.specs.Sums.{sum_of};
+ghost use Rattle.s66_why.specs.Why.{lost, stretches};
+ghost use Rattle.s66_why.specs.declared.path.Step.{Step as StepOf};
 ghost use Rattle.s66_why.specs.declared.stretch.Conflict.{Conflict as ConflictOf};
 ghost use Rattle.s66_json.specs.Json.{fillers_in};
-ghost use Rattle.s66_json.specs.Pieces.{bound_text, lost_text, order_text, path_text, points_text, timed_text};
-ghost use Rattle.s66_json.specs.Sums.{sum_of};
+ghost use Rattle.s66_json.specs.Pieces.{bound_text, lost_text, order_text, path_text, points_text, steps_text, timed_text};
 
-use crate::list::push_numbers;
-use crate::lost::Lost;
+use crate::list::{push_added, push_numbers};
 use crate::point::push_point;
 use crate::text::{push_comma, push_text};
-use crate::waits::waits_of;
 use crate::words::truth;
-use arrayvec::ArrayVec;
 use s66_device::push_field;
-use s66_isa::BLOCK_LIMIT;
 use s66_line::Block;
 use s66_time::{Timed, pack};
-use s66_why::{PlacedInstr, path_from_end, points_of};
+use s66_why::{Lost, PlacedInstr, Step, path_of, points_of, steps_of, waits_of};
 use std::alloc::AllocError;
 
 /// The numbers of an order, and what it takes.
@@ -56,18 +52,6 @@ fn push_points(out: &mut Vec<u8>, points: &[PlacedInstr]) -> Result<Lost, AllocE
     Ok(sums)
 }
 
-/// The numbers the other way round.
-fn reversed(numbers: &[u8]) -> ArrayVec<u8, BLOCK_LIMIT>
-    requires { length numbers.now ≤ BLOCK_LIMIT }
-    ensures { result.items ≡ reverse numbers.now }
-{
-    let mut reversed = ArrayVec::new();
-    for back in 0..numbers.len() {
-        reversed.push(numbers[numbers.len() - 1 - back]);
-    }
-    reversed
-}
-
 /// The path of an order.
 #[tactic(auto, unfolding(crate::specs::Pieces::path_text))]
 fn push_path(out: &mut Vec<u8>, path: &[u8]) -> Result<(), AllocError>
@@ -75,6 +59,15 @@ fn push_path(out: &mut Vec<u8>, path: &[u8]) -> Result<(), AllocError>
 {
     push_text(out, b"],\"path\":")?;
     push_numbers(out, path)
+}
+
+/// What the steps of the path add.
+#[tactic(auto, unfolding(crate::specs::Pieces::steps_text))]
+fn push_steps(out: &mut Vec<u8>, steps: &[Step]) -> Result<(), AllocError>
+    ensures { OnOk result (out.new.items ≡ out.old.items ++ steps_text (map (λ (x : StepOf). x.adds) steps.now)) }
+{
+    push_text(out, b",\"steps\":")?;
+    push_added(out, steps)
 }
 
 /// For how long instructions were kept back.
@@ -96,15 +89,6 @@ fn fillers(block: &Block, timed: &Timed) -> usize
     pack(block, timed.order()).fillers.len()
 }
 
-/// The path to the instruction of an order that ends last.
-fn path(timed: &Timed, points: &[PlacedInstr]) -> ArrayVec<u8, BLOCK_LIMIT>
-    requires few { length points.now ≤ BLOCK_LIMIT }
-    requires points { reverse points.now ≡ points_of timed.now.problem timed.now.numbers }
-    ensures { result.items ≡ path (points_of timed.now.problem timed.now.numbers) }
-{
-    reversed(path_from_end(points, timed.total()).as_slice())
-}
-
 /// A timed order, without the brace that closes it.
 pub fn push_timed(out: &mut Vec<u8>, block: &Block, timed: &Timed) -> Result<(), AllocError>
     requires { timed.now.problem.block ≡ instrs_of block.now }
@@ -115,7 +99,10 @@ pub fn push_timed(out: &mut Vec<u8>, block: &Block, timed: &Timed) -> Result<(),
     let fillers = fillers(block, timed);
     push_order_numbers(out, timed.total(), fillers, timed.order().numbers())?;
     let sums = push_points(out, points)?;
-    push_path(out, path(timed, points).as_slice())?;
+    let steps = steps_of(points, timed.total());
+    let steps = steps.as_slice();
+    push_path(out, path_of(steps).as_slice())?;
+    push_steps(out, steps)?;
     push_lost(out, &sums)
 }
 

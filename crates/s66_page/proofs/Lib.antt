@@ -1,4 +1,5 @@
 pub mod Escaping
 pub mod Pieces
 pub mod Points
+pub mod Rows
 mod Totals

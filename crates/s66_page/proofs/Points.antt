@@ -31,10 +31,6 @@ texts-more f xs i d out mid new lt first more =
 pub weigh-more : {X : Type 0} (f : X → ℕ) (xs : List X) (i : ℕ) (d : X) → i < length xs → weigh f (take (i + 1) xs) ≡ weigh f (take i xs) + f (get_or xs i d)
 weigh-more f xs i d lt = ap (weigh f) (take_more xs i d lt) ∙ weigh-append f (take i xs) (get_or xs i d ∷ []) ∙ omega arith
 
-pub texts-append : {X : Type 0} (f : X → List ℕ) (out mid new : List ℕ) (xs ys : List X) → mid ≡ out ++ flat_map f xs → new ≡ mid ++ flat_map f ys → new ≡ out ++ flat_map f (xs ++ ys)
-texts-append f out mid new xs ys first more =
-    more ∙ ap (λ zs. zs ++ flat_map f ys) first ∙ append_assoc out (flat_map f xs) (flat_map f ys) ∙ ap (λ zs. out ++ zs) (sym (flat_map-append f xs ys))
-
 pub rows-more : (block : Block) (on : List ℕ) (ps : List Point) (i : ℕ) (p : Point) (text : List ℕ) (earlier : List Point) (w : Work) (out mid new : List ℕ) → i < length ps → p ≡ get_or ps i p →
     text ≡ bytes_of block p.number → earlier ≡ take i ps → w ≡ work p → mid ≡ out ++ instruction_rows block on (reverse (take i ps)) →
     new ≡ mid ++ (row_head text on p.number (length earlier + 1) ++ row_marks (stretches_at (reverse earlier) p) w) → new ≡ out ++ instruction_rows block on (reverse (take (i + 1) ps))

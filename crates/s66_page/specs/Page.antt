@@ -1,5 +1,5 @@
 -- To be believed: the page that shows orders of blocks, a row for each instruction and each unit, in minor cycles.
-use Rattle.std.specs.Prelude.{ℕ, zero, suc, Bool, ◌+◌, ◌-◌, ◌*◌, ◌/◌, if◌then◌else◌, ◌==◌, List, [], ◌∷◌, ◌++◌, codes, decimal, filter, flat_map, length, map, nat_le, nat_lt, reverse}
+use Rattle.std.specs.Prelude.{ℕ, zero, suc, Bool, false, ◌+◌, ◌-◌, ◌*◌, ◌/◌, if◌then◌else◌, ◌==◌, List, [], ◌∷◌, ◌++◌, codes, decimal, filter, flat_map, length, map, nat_le, nat_lt, reverse}
 use Rattle.std.specs.List.{range_with_len, list_any}
 use Rattle.s66_isa.specs.Lists.{tally, weigh}
 use Rattle.s66_isa.specs.declared.profile.Profile.{Profile}
@@ -196,9 +196,9 @@ table_start total = codes "<table class='order' style='--n:" ++ decimal total ++
 unfoldable pub order_head : (title : List ℕ) (total : ℕ) → List ℕ
 order_head title total = heading title total ++ table_start total ++ ticks total ++ codes "</svg>\n<tbody>\n"
 
--- the numbers of the path, the latest first
+-- the numbers of the path
 abbrev pub on_path : TimedOrder → List ℕ
-on_path t = reverse (path (points_of t.problem t.numbers))
+on_path t = path (points_of t.problem t.numbers)
 
 abbrev pub works : TimedOrder → List Work
 works t = map work (reverse (points_of t.problem t.numbers))
@@ -206,13 +206,13 @@ works t = map work (reverse (points_of t.problem t.numbers))
 abbrev pub cycles_of : TimedOrder → ℕ
 cycles_of t = total_of t.problem t.numbers
 
--- what `why` says of it
-unfoldable pub why_below : TimedOrder → List ℕ
-why_below t = codes "</table>\n<pre>" ++ why_text t ++ codes "</pre>\n"
+-- what `why` says of it, without texts
+unfoldable pub why_below : Block → TimedOrder → List ℕ
+why_below block t = codes "</table>\n<pre>" ++ why_text false block t ++ codes "</pre>\n"
 
 unfoldable pub order_text : Block → (title : List ℕ) → TimedOrder → List ℕ
 order_text block title t =
-    order_head title (cycles_of t) ++ instruction_rows block (on_path t) (points_of t.problem t.numbers) ++ all_kind_rows (cycles_of t) (works t) ++ why_below t
+    order_head title (cycles_of t) ++ instruction_rows block (on_path t) (points_of t.problem t.numbers) ++ all_kind_rows (cycles_of t) (works t) ++ why_below block t
 
 -- BLOCKS
 

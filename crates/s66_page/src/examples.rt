@@ -20,6 +20,7 @@ pub fn block_example()
         codes "<tr class='unit'><th>     BOOLEAN TAKEN 100 % WORKS 75 %<td><svg><rect class='taken' x='0em' width='4em'><title>1</title></rect><rect class='BOOLEAN' x='0em' width='3em'><title>1</title></rect><text x='0em' y='12'><tspan>1</tspan></text></svg>\n" ++
         codes "</table>\n" ++
         codes "<pre>PATH 1\n" ++
+        codes "STEPS 4 TIME 4\n" ++
         codes "LOST FIRST 0 SECOND 0 THIRD 0\n" ++
         codes "</pre>\n" }
 {}

@@ -1,8 +1,16 @@
-ghost use Rattle.std.specs.Prelude.{ℕ, List, ◌≡◌, ◌<◌, ◌^◌, false, true, codes};
+ghost use Rattle.std.specs.Prelude.{ℕ, List, ◌≡◌, ◌<◌, ◌-◌, ◌^◌, false, true, codes, length, take};
 ghost use Rattle.s66_isa.specs.Lists.{Among, every};
+ghost use Rattle.s66_isa.specs.Table.{latency_of};
+ghost use Rattle.s66_line.specs.Block.{Block as BlockOf};
+ghost use Rattle.s66_model.specs.Timing.{Point as PointOf, points_of};
+ghost use Rattle.s66_time.specs.TimedOrder.{TimedOrder, point_at};
 ghost use Rattle.s66_page.specs.Escape.{escaped_byte, escaped, is_harmless, is_reference_or};
+ghost use Rattle.s66_page.specs.Page.{instruction_row, on_path, order_text};
+ghost use Rattle.s66_page.specs.Rows.{Holds, place_of_bar, title_of_times};
 ghost use Rattle.s66_page.specs.Still.{is_still};
 ghost use Rattle.s66_page.specs.declared.start.TheConstants.{PAGE_START, PAGE_HEAD};
+ghost use Rattle.s66_why.specs.Why.{stretches_at};
+ghost use Rattle.s66_why.specs.declared.stretch.Stretch.{Stretch as StretchOf};
 
 /// A source can't break out of its text. Whatever its bytes are, an escaped text has printed bytes of ASCII and tabs alone, and no
 /// bracket or quote, so that no element or attribute begins or ends in it. Each byte is itself, or a reference to one character.
@@ -15,6 +23,15 @@ pub fn escape_law()
 pub fn head_law()
     ensures start { is_still PAGE_START.now ≡ true }
     ensures head { is_still PAGE_HEAD.now ≡ true }
+{}
+
+/// What is shown of an order holds a row for each instruction. The row tells the times that `time --trace` prints, and has a bar
+/// from the start for the latency of the last result, and one for each stretch in which the instruction is kept back.
+pub fn row_law()
+    ensures rows { (block : BlockOf) (title : List ℕ) (t : TimedOrder) (i : ℕ) → i < length t.numbers → Holds (order_text block title t) (instruction_row block (on_path t) (points_of t.problem (take i t.numbers)) (point_at t i)) }
+    ensures times { (block : BlockOf) (on_path : List ℕ) (s : List PointOf) (p : PointOf) → Holds (instruction_row block on_path s p) (title_of_times p) }
+    ensures work { (block : BlockOf) (on_path : List ℕ) (s : List PointOf) (p : PointOf) → Holds (instruction_row block on_path s p) (place_of_bar p.start (latency_of p.row)) }
+    ensures waits { (block : BlockOf) (on_path : List ℕ) (s : List PointOf) (p : PointOf) (x : StretchOf) → Among x (stretches_at s p) → Holds (instruction_row block on_path s p) (place_of_bar x.from (x.to - x.from)) }
 {}
 
 /// Texts that are not still, each for another word.

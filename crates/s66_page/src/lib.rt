@@ -20,6 +20,6 @@ pub use block::{push_block, push_index_row};
 pub use escape::push_escaped;
 pub use examples::{block_example, index_example, row_example, title_example, unit_example};
 pub use found::Found;
-pub use laws::{escape_law, head_law, still_examples};
+pub use laws::{escape_law, head_law, row_law, still_examples};
 pub use order::push_order;
 pub use page::push_page;

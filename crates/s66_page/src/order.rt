@@ -10,7 +10,7 @@ use crate::unit::push_all_kind_rows;
 use crate::work::works_of;
 use s66_line::Block;
 use s66_time::Timed;
-use s66_why::{path_from_end, points_of, push_why};
+use s66_why::{path_of, points_of, push_why, steps_of};
 use std::alloc::AllocError;
 
 /// The number above a tenth minor cycle.
@@ -92,18 +92,20 @@ fn push_all_rows(out: &mut Vec<u8>, block: &Block, timed: &Timed) -> Result<(), 
     let points = points.as_slice();
     let works = works_of(timed, points);
     let works = works.as_slice();
-    let on_path = path_from_end(points, timed.total());
+    let steps = steps_of(points, timed.total());
+    let on_path = path_of(steps.as_slice());
     push_rows(out, block, timed, on_path.as_slice(), points, works)?;
     push_all_kind_rows(out, timed.total(), works)
 }
 
 /// What `why` says of an order, below its table.
 #[tactic(auto, unfolding(crate::specs::Page::why_below))]
-fn push_why_below(out: &mut Vec<u8>, timed: &Timed) -> Result<(), AllocError>
-    ensures { OnOk result (out.new.items ≡ out.old.items ++ why_below timed.now) }
+fn push_why_below(out: &mut Vec<u8>, block: &Block, timed: &Timed) -> Result<(), AllocError>
+    requires { timed.now.problem.block ≡ instrs_of block.now }
+    ensures { OnOk result (out.new.items ≡ out.old.items ++ why_below block.now timed.now) }
 {
     push_text(out, b"</table>\n<pre>")?;
-    push_why(out, timed)?;
+    push_why(out, false, block, timed)?;
     push_text(out, b"</pre>\n")
 }
 
@@ -122,5 +124,5 @@ pub fn push_order(
 {
     push_order_head(out, title, timed.total())?;
     push_all_rows(out, block, timed)?;
-    push_why_below(out, timed)
+    push_why_below(out, block, timed)
 }

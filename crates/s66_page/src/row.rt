@@ -1,4 +1,4 @@
-ghost use Rattle.std.specs.Prelude.{◌≡◌, ◌+◌, ◌<◌, ◌≤◌, ◌++◌, OnOk, flat_map, length, map, option_to_list, reverse};
+ghost use Rattle.std.specs.Prelude.{◌≡◌, ◌+◌, ◌<◌, ◌≤◌, ◌++◌, OnOk, flat_map, length, map, reverse};
 ghost use Rattle.s66_line.specs.Block.{bytes_of, instrs_of};
 ghost use Rattle.s66_model.specs.Timing.{points_of};
 ghost use Rattle.s66_time.specs.TimedOrder.{point_at};
@@ -12,7 +12,7 @@ use crate::work::Work;
 use s66_device::push_field;
 use s66_line::Block;
 use s66_time::Timed;
-use s66_why::{PlacedInstr, Stretch, first_stretch, push_in_three, second_stretch, third_stretch};
+use s66_why::{PlacedInstr, Stretch, push_in_three, waits_of};
 use std::alloc::AllocError;
 
 /// Where an instruction moved that has a place in an order, from 1.
@@ -64,67 +64,45 @@ enum Shown {
     Words,
 }
 
-/// A stretch, if there is one.
-fn push_stretch(
-    out: &mut Vec<u8>,
-    shown: Shown,
-    stretch: &Option<Stretch>,
-) -> Result<(), AllocError>
-    ensures { OnOk result (out.new.items ≡ out.old.items ++ flat_map (shown_as shown) (option_to_list stretch.now)) }
+/// A stretch of minor cycles in which an instruction is kept back.
+fn push_stretch(out: &mut Vec<u8>, shown: Shown, stretch: &Stretch) -> Result<(), AllocError>
+    ensures { OnOk result (out.new.items ≡ out.old.items ++ shown_as shown stretch.now) }
 {
-    match (stretch, shown) {
-        (None, _) => Ok(()),
-        (Some(stretch), Shown::Bar) => push_stretch_bar(out, stretch),
-        (Some(stretch), Shown::Words) => push_stretch_words(out, stretch),
+    match shown {
+        Shown::Bar => push_stretch_bar(out, stretch),
+        Shown::Words => push_stretch_words(out, stretch),
     }
 }
 
 /// The minor cycles in which an instruction is kept back.
-fn push_stretches(
-    out: &mut Vec<u8>,
-    shown: Shown,
-    earlier: &[PlacedInstr],
-    point: &PlacedInstr,
-) -> Result<(), AllocError>
-    ensures { OnOk result (out.new.items ≡ out.old.items ++ flat_map (shown_as shown) (stretches_at (reverse earlier.now) point.now)) }
+fn push_stretches(out: &mut Vec<u8>, shown: Shown, waits: &[Stretch]) -> Result<(), AllocError>
+    ensures { OnOk result (out.new.items ≡ out.old.items ++ flat_map (shown_as shown) waits.now) }
 {
-    push_stretch(out, shown, &first_stretch(earlier, point))?;
-    push_stretch(out, shown, &second_stretch(earlier, point))?;
-    for write in point.row.writes.as_slice() {
-        push_stretch(out, shown, &third_stretch(earlier, point, write))?;
+    for stretch in waits {
+        push_stretch(out, shown, stretch)?;
     }
     Ok(())
 }
 
 /// The words of an instruction whose last result is done then.
 #[tactic(auto, unfolding(crate::specs::Page::row_words))]
-fn push_row_words(
-    out: &mut Vec<u8>,
-    earlier: &[PlacedInstr],
-    point: &PlacedInstr,
-    done: u32,
-) -> Result<(), AllocError>
-    ensures { OnOk result (out.new.items ≡ out.old.items ++ row_words (stretches_at (reverse earlier.now) point.now) done) }
+fn push_row_words(out: &mut Vec<u8>, waits: &[Stretch], done: u32) -> Result<(), AllocError>
+    ensures { OnOk result (out.new.items ≡ out.old.items ++ row_words waits.now done) }
 {
     push_field(out, b"<text x='", done as usize)?;
     push_text(out, b"em' y='12' dx='2'>")?;
-    push_stretches(out, Shown::Words, earlier, point)?;
+    push_stretches(out, Shown::Words, waits)?;
     push_text(out, b"</text></svg>\n")
 }
 
 /// What is drawn of an instruction.
 #[tactic(auto, unfolding(crate::specs::Page::row_marks))]
-fn push_row_marks(
-    out: &mut Vec<u8>,
-    earlier: &[PlacedInstr],
-    point: &PlacedInstr,
-    work: &Work,
-) -> Result<(), AllocError>
-    ensures { OnOk result (out.new.items ≡ out.old.items ++ row_marks (stretches_at (reverse earlier.now) point.now) work.now) }
+fn push_row_marks(out: &mut Vec<u8>, waits: &[Stretch], work: &Work) -> Result<(), AllocError>
+    ensures { OnOk result (out.new.items ≡ out.old.items ++ row_marks waits.now work.now) }
 {
-    push_stretches(out, Shown::Bar, earlier, point)?;
+    push_stretches(out, Shown::Bar, waits)?;
     push_work_bar(out, work)?;
-    push_row_words(out, earlier, point, work.done)
+    push_row_words(out, waits, work.done)
 }
 
 /// The row of an instruction.
@@ -138,8 +116,9 @@ fn push_row(
 ) -> Result<(), AllocError>
     ensures { OnOk result (out.new.items ≡ out.old.items ++ (row_head text.now on_path.now point.now.number (length earlier.now + 1) ++ row_marks (stretches_at (reverse earlier.now) point.now) work.now)) }
 {
+    let waits = waits_of(earlier, point);
     push_row_head(out, text, on_path, point.number, earlier.len() + 1)?;
-    push_row_marks(out, earlier, point, work)
+    push_row_marks(out, waits.as_slice(), work)
 }
 
 /// The text in the source of the instruction at a position.

@@ -25,16 +25,21 @@ use Rattle.s66_why.proofs.Found.{ArePositive, NoneDone, found-or-none, or_else-f
 
 -- THE POINTS OF NUMBERS
 
-pub positive-after : (b : Problem) (s : List Point) (ns : List ℕ) → ArePositive s → AreFromOne ns → ArePositive (points_after b s ns)
-positive-after b s [] positive from = positive
-positive-after b s (n ∷ ns) positive from =
-    positive-after b (point_of b s n ∷ s) ns
+-- what holds of their numbers holds of those of the points
+pub points-met : (b : Problem) (P : ℕ → Type 0) (s : List Point) (ns : List ℕ) → ((q : Point) → Among q s → P q.number) → ((n : ℕ) → Among n ns → P n) →
+    (q : Point) → Among q (points_after b s ns) → P q.number
+points-met b P s [] old new = old
+points-met b P s (n ∷ ns) old new =
+    points-met b P (point_of b s n ∷ s) ns
     (λ q among.
     elim among [
-      | inl e ↦ omega (arith, ap (λ (p : Point). p.number) e, point_of-number b s n, from n (inl refl))
-      | inr past ↦ positive q past
+      | inl e ↦ subst P (sym (ap (λ (p : Point). p.number) e ∙ point_of-number b s n)) (new n (inl refl))
+      | inr past ↦ old q past
     ])
-    (λ m among. from m (inr among))
+    (λ m among. new m (inr among))
+
+pub positive-after : (b : Problem) (s : List Point) (ns : List ℕ) → ArePositive s → AreFromOne ns → ArePositive (points_after b s ns)
+positive-after b s ns positive from = points-met b (λ n. 1 ≤ n) s ns positive from
 
 -- what Timing says of a point, after the points s
 pub record IsPlaced (b : Problem) (s : List Point) (p : Point) : Type 0 where

@@ -5,5 +5,6 @@ pub mod Forbidden
 pub mod Found
 pub mod Last
 pub mod Lines
+pub mod Numbers
 pub mod Paths
 pub mod Writes

@@ -9,12 +9,12 @@ use Rattle.s66_why.specs.declared.stretch.Conflict.TheVariants.{First, Second, T
 use Rattle.s66_why.specs.declared.stretch.Stretch.{Stretch}
 use Rattle.s66_why.specs.declared.lost.Lost.{Lost}
 use Rattle.s66_why.specs.Sums.{sum_of, sums_line}
-use Rattle.s66_why.specs.Why.{conflict_number, lost, lost_line, stretch_line}
+use Rattle.s66_why.specs.Why.{conflict_number, lost, lost_line}
 
-pub lines-more : (out mid new : List ℕ) (xs ys : List Stretch) → mid ≡ out ++ flat_map stretch_line xs → new ≡ mid ++ flat_map stretch_line ys → new ≡ out ++ flat_map stretch_line (xs ++ ys)
-lines-more out mid new xs ys first more =
-    more ∙ ap (λ zs. zs ++ flat_map stretch_line ys) first ∙ append_assoc out (flat_map stretch_line xs) (flat_map stretch_line ys)
-    ∙ ap (λ zs. out ++ zs) (sym (flat_map-append stretch_line xs ys))
+pub lines-more : (line : Stretch → List ℕ) (out mid new : List ℕ) (xs ys : List Stretch) → mid ≡ out ++ flat_map line xs → new ≡ mid ++ flat_map line ys → new ≡ out ++ flat_map line (xs ++ ys)
+lines-more line out mid new xs ys first more =
+    more ∙ ap (λ zs. zs ++ flat_map line ys) first ∙ append_assoc out (flat_map line xs) (flat_map line ys)
+    ∙ ap (λ zs. out ++ zs) (sym (flat_map-append line xs ys))
 
 pub lost-append : (conflict : Conflict) (xs ys : List Stretch) → lost conflict (xs ++ ys) ≡ lost conflict xs + lost conflict ys
 lost-append conflict xs ys = weigh-append (λ (x : Stretch). if conflict_number x.conflict == conflict_number conflict then x.to - x.from else 0) xs ys

@@ -1,10 +1,11 @@
 -- The path that is printed is one: each of its steps lets the next go on, and what they add is the time.
-use Rattle.std.proofs.Common.{ℕ, ◌+◌, ◌-◌, ◌≤◌, ◌<◌, ◌≡◌, ◌⊎◌, ◌∙◌, ◌==◌, ◌&&◌, Bool, cond, max, nat_lt, true, false, true≢false, List, [], ◌∷◌, ◌++◌, length, map, reverse, refl, ap, sym, subst, arith, inl, inr}
+use Rattle.std.proofs.Common.{ℕ, ◌+◌, ◌-◌, ◌≤◌, ◌<◌, ◌≡◌, ◌⊎◌, ◌∙◌, ◌==◌, ◌&&◌, Bool, cond, max, nat_lt, true, false, true≢false, List, [], ◌∷◌, ◌++◌, if◌then◌else◌, length, map, reverse, refl, ap, sym, subst, arith, inl, inr}
 use Rattle.std.proofs.lemmas.Bool.{and_cases, and_from, and_parts, cases_Bool, cond-true, cond-false, eq-eqb, eqb-true, eqb-false, ltb-false, ltb-true, ne_eqb, or_cases, or_left, or_parts, or_right}
+use Rattle.std.proofs.lemmas.List.{reverse-append}
 use Rattle.s66_isa.specs.declared.reg.Reg.{Reg}
 use Rattle.s66_isa.specs.Lists.{Among, greatest, has, weigh}
 use Rattle.s66_isa.specs.Table.{Write, same_kind, same_reg}
-use Rattle.s66_isa.proofs.Lists.{cases_le, greatest-le, greatest-le-greatest, among-rest, le-greatest}
+use Rattle.s66_isa.proofs.Lists.{cases_le, greatest-le, greatest-le-greatest, among-rest, le-greatest, weigh-append}
 use Rattle.s66_isa.proofs.SameRegister.{same_reg-self, same_reg-true}
 use Rattle.s66_model.specs.Timing.{Problem, Point, ResultAt, done_at, done_of, end_of, free_after, last_done, parcel_of, point, point_of, points_after, points_of, readers_wait, result_at, total}
 use Rattle.s66_model.specs.Packing.{fits_at}
@@ -16,11 +17,14 @@ use Rattle.s66_why.specs.declared.cause.Cause.TheVariants.{Writes, Takes, Refere
 use Rattle.s66_why.specs.declared.cause.Holder.{Holder}
 use Rattle.s66_why.specs.declared.path.Link.{Link}
 use Rattle.s66_why.specs.declared.path.Link.TheVariants.{Held, InLine}
+use Rattle.s66_why.specs.declared.path.Milestone.{Milestone}
+use Rattle.s66_why.specs.declared.path.Step.{Step}
+use Rattle.s66_why.specs.declared.path.Wait.{Wait}
 use Rattle.s66_why.specs.declared.stretch.Conflict.{Conflict}
 use Rattle.s66_why.specs.declared.stretch.Conflict.TheVariants.{First, Second, Third}
-use Rattle.s66_why.specs.Why.{before, before_issue, before_start, decides, first_holder, holder, is_held, lets_go, next_link, second_holder, slot, third_holder, walk}
+use Rattle.s66_why.specs.Why.{before, before_issue, before_start, decides, first_holder, holder, is_held, lets_go, next_wait, passes, second_holder, slot, steps, steps_from, third_holder, walk}
 use Rattle.s66_why.specs.Forbids.{AreFromOne}
-use Rattle.s66_why.specs.Paths.{AddsUp, AreOnce, GoesOn, IsPath, Leads, LetsGoWith, Step, made_at, unhindered}
+use Rattle.s66_why.specs.Paths.{AddsUp, AreOnce, GoesOn, IsPath, Leads, LetsGoWith, made_at, unhindered}
 use Rattle.s66_why.proofs.Alike.{AreAlike, row-alike}
 use Rattle.s66_why.proofs.AmongParts.{greatest-met}
 use Rattle.s66_why.proofs.Forbidden.{IsHeldBy, IsPlaced, first-held, placed, positive-after, second-held, third-held}
@@ -168,6 +172,59 @@ sound-from : (b : Problem) (later : List Point) (q : Point) (e : List Point) →
 sound-from b [] q e sound = sound
 sound-from b (x ∷ later) q e sound = sound-from b later q e sound.1
 
+-- MILESTONES
+
+abbrev held_until : Holder → ℕ → Wait
+held_until h t = record { link = Held h; until = t }
+
+abbrev line_until : ℕ → Wait
+line_until t = record { link = InLine; until = t }
+
+abbrev stone : ℕ → ℕ → Milestone
+stone number time = record { number = number; time = time }
+
+abbrev step : ℕ → ℕ → Step
+step number adds = record { number = number; adds = adds }
+
+-- the time of the first
+abbrev first_time : List Milestone → ℕ
+first_time [] = 0
+first_time (x ∷ xs) = x.time
+
+-- the steps to these, the latest first
+abbrev steps_back : List Milestone → List Step
+steps_back [] = []
+steps_back (x ∷ xs) = step x.number (x.time - first_time xs) ∷ steps_back xs
+
+-- when the last of these is, after that minor cycle
+abbrev last_from : ℕ → List Milestone → ℕ
+last_from t [] = t
+last_from t (x ∷ xs) = last_from x.time xs
+
+steps_from-append : (t : ℕ) (xs : List Milestone) (x : Milestone) → steps_from t (xs ++ x ∷ []) ≡ steps_from t xs ++ step x.number (x.time - last_from t xs) ∷ []
+steps_from-append t [] x = refl
+steps_from-append t (y ∷ ys) x = ap (λ zs. step y.number (y.time - t) ∷ zs) (steps_from-append y.time ys x)
+
+last_from-append : (t : ℕ) (xs : List Milestone) (x : Milestone) → last_from t (xs ++ x ∷ []) ≡ x.time
+last_from-append t [] x = refl
+last_from-append t (y ∷ ys) x = last_from-append y.time ys x
+
+last-of_reverse : (xs : List Milestone) → last_from 0 (reverse xs) ≡ first_time xs
+last-of_reverse [] = refl
+last-of_reverse (x ∷ xs) = ap (last_from 0) (reverse-append (x ∷ []) xs) ∙ last_from-append 0 (reverse xs) x
+
+steps-of_reverse : (xs : List Milestone) → reverse (steps_from 0 (reverse xs)) ≡ steps_back xs
+steps-of_reverse [] = refl
+steps-of_reverse (x ∷ xs) =
+    let ys : List Milestone = reverse xs in
+    let last : Step = step x.number (x.time - last_from 0 ys) in
+    ap (λ zs. reverse (steps_from 0 zs)) (reverse-append (x ∷ []) xs) ∙ ap reverse (steps_from-append 0 ys x) ∙ reverse-append (steps_from 0 ys) (last ∷ [])
+    ∙ ap (λ zs. last ∷ zs) (steps-of_reverse xs) ∙ ap (λ k. step x.number (x.time - k) ∷ steps_back xs) (last-of_reverse xs)
+
+weigh-reverse : {X : Type 0} (f : X → ℕ) (xs : List X) → weigh f (reverse xs) ≡ weigh f xs
+weigh-reverse f [] = refl
+weigh-reverse f (x ∷ xs) = omega (arith, ap (weigh f) (reverse-append (x ∷ []) xs), weigh-append f (reverse xs) (x ∷ []), weigh-reverse f xs)
+
 -- WHEN AN INSTRUCTION LETS GO
 
 module _ (b : Problem) (e : List Point) (p : Point) (sound : IsSound b e p) where
@@ -313,11 +370,11 @@ module _ (b : Problem) (e : List Point) (p : Point) (sound : IsSound b e p) wher
 
   -- what it waited for last before it let go
   before-is : (cause : Cause) (vs : List Write) →
-      ((w : Write) × Among w vs × (decides cause p w ≡ true) × (is_held e p w ≡ true) × (before cause e p vs ≡ Held (third_holder e w)))
+      ((w : Write) × Among w vs × (decides cause p w ≡ true) × (is_held e p w ≡ true) × (before cause e p vs ≡ held_until (third_holder e w) (readers_wait e w.reg)))
       ⊎ (((w : Write) → Among w vs → (decides cause p w && is_held e p w) ≡ false) × (before cause e p vs ≡ before_start e p))
   before-is cause [] = inr (λ w none. absurd none, refl)
   before-is cause (w ∷ vs) =
-      let here : Link = Held (third_holder e w) in
+      let here : Wait = held_until (third_holder e w) (readers_wait e w.reg) in
       elim (cases_Bool (decides cause p w && is_held e p w)) [
         | inl holds ↦
             let parts = and_parts (decides cause p w) (is_held e p w) holds in
@@ -337,25 +394,25 @@ module _ (b : Problem) (e : List Point) (p : Point) (sound : IsSound b e p) wher
 -- A LINE
 
 -- p issues in its slot: so do all before it, or all after some q, which doesn't
-abbrev LineOf : List Point → Point → Type 0
-LineOf e p =
-    ((walk InLine e ≡ []) × (p.issue ≡ p.parcel))
+abbrev LineOf : ℕ → List Point → Point → Type 0
+LineOf t e p =
+    ((walk (line_until t) e ≡ []) × (p.issue ≡ p.parcel))
     ⊎ ((later : List Point) × (q : Point) × (rest : List Point) × (e ≡ later ++ q ∷ rest) × (slot rest q < q.issue) × (p.issue ≡ q.issue + (p.parcel - q.parcel))
-    × (q.parcel ≤ p.parcel) × (walk InLine e ≡ q.number ∷ walk (next_link InLine rest q) rest))
+    × (q.parcel ≤ p.parcel) × (walk (line_until t) e ≡ stone q.number q.issue ∷ walk (next_wait InLine rest q) rest))
 
-line-of : (b : Problem) (e : List Point) (p : Point) → IsSound b e p → AllSound b e → p.issue ≡ slot e p → LineOf e p
-line-of b [] p sound all is = inl (refl, omega (arith, is, sound.parcel, none-first p.row.parcels))
-line-of b (q ∷ s) p sound all is =
+line-of : (b : Problem) (t : ℕ) (e : List Point) (p : Point) → IsSound b e p → AllSound b e → p.issue ≡ slot e p → LineOf t e p
+line-of b t [] p sound all is = inl (refl, omega (arith, is, sound.parcel, none-first p.row.parcels))
+line-of b t (q ∷ s) p sound all is =
     let after : p.parcel ≡ fits_at (q.parcel + q.row.parcels) p.row.parcels = sound.parcel in
     let behind : q.parcel ≤ p.parcel = omega (arith, after, fits_at-ge (q.parcel + q.row.parcels) p.row.parcels) in
     let gap : p.issue ≡ q.issue + (p.parcel - q.parcel) = is in
+    let here : List Milestone = stone q.number q.issue ∷ walk (next_wait InLine s q) s in
     elim (cases_Bool (nat_lt (slot s q) q.issue)) [
-      | inl late ↦
-          inr ([], q, s, refl, ltb-true (slot s q) q.issue late, gap, behind, cond-true (nat_lt (slot s q) q.issue) (q.number ∷ walk (next_link InLine s q) s) (walk InLine s) late)
+      | inl late ↦ inr ([], q, s, refl, ltb-true (slot s q) q.issue late, gap, behind, cond-true (nat_lt (slot s q) q.issue) here (walk (line_until t) s) late)
       | inr early ↦
-          let there : walk InLine (q ∷ s) ≡ walk InLine s = cond-false (nat_lt (slot s q) q.issue) (q.number ∷ walk (next_link InLine s q) s) (walk InLine s) early in
-          let here : q.issue ≡ slot s q = omega (arith, ltb-false (slot s q) q.issue early, all.0.placed.issue.late, all.0.placed.slot) in
-          elim (line-of b s q all.0 all.1 here) [
+          let there : walk (line_until t) (q ∷ s) ≡ walk (line_until t) s = cond-false (nat_lt (slot s q) q.issue) here (walk (line_until t) s) early in
+          let in_slot : q.issue ≡ slot s q = omega (arith, ltb-false (slot s q) q.issue early, all.0.placed.issue.late, all.0.placed.slot) in
+          elim (line-of b t s q all.0 all.1 in_slot) [
             | inl (none, at) ↦ inl (there ∙ none, omega (arith, gap, at, behind))
             | inr (later, r, rest, split, late, more, le, walks) ↦
                 inr (q ∷ later, r, rest, ap (λ zs. q ∷ zs) split, late, omega (arith, gap, more, behind, le), omega (arith, behind, le), there ∙ walks)
@@ -365,19 +422,24 @@ line-of b (q ∷ s) p sound all is =
 -- THE WALK
 
 -- a walk to a holder goes to the one instruction of its number
-walk-skip : (b : Problem) (h : Holder) (later : List Point) (q : Point) (e : List Point) → q.number ≡ h.number → AllSound b (later ++ q ∷ e) →
-    walk (Held h) (later ++ q ∷ e) ≡ q.number ∷ walk (next_link (Held h) e q) e
-walk-skip b h [] q e is sound = cond-true (q.number == h.number) (q.number ∷ walk (next_link (Held h) e q) e) (walk (Held h) e) (eq-eqb q.number h.number is)
-walk-skip b h (x ∷ later) q e is sound =
+walk-skip : (b : Problem) (h : Holder) (t : ℕ) (later : List Point) (q : Point) (e : List Point) → q.number ≡ h.number → AllSound b (later ++ q ∷ e) →
+    walk (held_until h t) (later ++ q ∷ e) ≡ stone q.number t ∷ walk (next_wait (Held h) e q) e
+walk-skip b h t [] q e is sound =
+    cond-true (q.number == h.number) (stone q.number t ∷ walk (next_wait (Held h) e q) e) (walk (held_until h t) e) (eq-eqb q.number h.number is)
+walk-skip b h t (x ∷ later) q e is sound =
     let rest : List Point = later ++ q ∷ e in
     let apart : x.number ≡ h.number → ⊥ = λ same. sound.0.apart q (among-rest q later (q ∷ e) (inl refl)) (same ∙ sym is) in
-    cond-false (x.number == h.number) (x.number ∷ walk (next_link (Held h) rest x) rest) (walk (Held h) rest) (ne_eqb x.number h.number apart)
-    ∙ walk-skip b h later q e is sound.1
+    cond-false (x.number == h.number) (stone x.number t ∷ walk (next_wait (Held h) rest x) rest) (walk (held_until h t) rest) (ne_eqb x.number h.number apart)
+    ∙ walk-skip b h t later q e is sound.1
 
 module _ (b : Problem) where
   -- the steps that the walk gives from a link on that leads to p at t
+  abbrev steps_to : List Point → Point → Link → ℕ → List Step
+  steps_to e p link t = steps_back (stone p.number t ∷ walk (next_wait link e p) e)
+
+  -- are those of a path
   abbrev HasSteps : List Point → Point → Link → ℕ → Type 0
-  HasSteps e p link t = (xs : List Step) × (map (λ (x : Step). x.number) xs ≡ p.number ∷ walk (next_link link e p) e) × IsPath b e p link t xs
+  HasSteps e p link t = IsPath b e p link t (steps_to e p link t)
 
   -- a link leads there, and the walk takes it
   abbrev Aims : List Point → Point → Link → ℕ → Type 0
@@ -392,20 +454,23 @@ module _ (b : Problem) where
   reach-at [] q e reach = reach.0
   reach-at (x ∷ later) q e reach = reach-at later q e reach.1
 
+  -- the path with the rest of the walk
+  with-rest : (e : List Point) (p : Point) (link : Link) (t : ℕ) (ms : List Milestone) → walk (next_wait link e p) e ≡ ms →
+      IsPath b e p link t (steps_back (stone p.number t ∷ ms)) → HasSteps e p link t
+  with-rest e p link t ms is path = subst (λ (ns : List Milestone). IsPath b e p link t (steps_back (stone p.number t ∷ ns))) (sym is) path
+
   -- p waited for a holder until `to`, and then for nothing more
   onward : (e : List Point) (p : Point) (link : Link) (t : ℕ) → AllSound b e → AllReach e → Leads link p t → (conflict : Conflict) (from to : ℕ) (h : Holder) → from < to →
-      IsHeldBy b e p conflict from to h → GoesOn conflict link p h.cause to t → to ≤ t → next_link link e p ≡ Held h → HasSteps e p link t
+      IsHeldBy b e p conflict from to h → GoesOn conflict link p h.cause to t → to ≤ t → next_wait link e p ≡ held_until h to → HasSteps e p link t
   onward e p link t sound reach leads conflict from to h waits (q, among, number, kept, lets) goes le next =
       let split = among-split q e among in
       let by : Link = Held (record { cause = h.cause; number = q.number }) in
       let below : HasSteps split.1 q by to = reach-at split.0 q split.1 (subst AllReach split.2 reach) by to (refl, lets, omega (arith, waits)) in
-      let walks : walk (next_link link e p) e ≡ q.number ∷ walk (next_link (Held h) split.1 q) split.1 =
-      ap (λ l. walk l e) next ∙ ap (walk (Held h)) split.2 ∙ walk-skip b h split.0 q split.1 number (subst (AllSound b) split.2 sound) in
-      let adds : t ≡ to + (t - to) = omega (arith, le) in (
-        record { number = p.number; adds = t - to } ∷ below.0,
-        ap (λ ns. p.number ∷ ns) (below.1 ∙ sym walks),
-        (refl, leads, inl (to, h.cause, q, split.1, ((split.0, split.2), (conflict, from, waits, kept, goes)), adds, below.2)),
-      )
+      let walks : walk (next_wait link e p) e ≡ stone q.number to ∷ walk (next_wait (Held h) split.1 q) split.1 =
+      ap (λ w. walk w e) next ∙ ap (walk (held_until h to)) split.2 ∙ walk-skip b h to split.0 q split.1 number (subst (AllSound b) split.2 sound) in
+      let adds : t ≡ to + (t - to) = omega (arith, le) in
+      with-rest e p link t (stone q.number to ∷ walk (next_wait (Held h) split.1 q) split.1) walks
+      (refl, leads, inl (to, h.cause, q, split.1, ((split.0, split.2), (conflict, from, waits, kept, goes)), adds, below))
 
   -- a wait that ends then, as it is said of the minor cycle before
   until : (to : ℕ) (P : ℕ → Type 0) → 1 ≤ to → ((k : ℕ) → to ≡ k + 1 → P (k + 1)) → P to
@@ -429,44 +494,43 @@ module _ (b : Problem) where
 
   -- p waits for nothing before it starts: it stands in line
   in-line : (e : List Point) (p : Point) (h : Holder) (t : ℕ) → IsSound b e p → AllSound b e → AllReach e → Leads (Held h) p t → p.start ≤ t →
-      GoesOn First (Held h) p Ends p.issue t → p.issue ≡ slot e p → next_link (Held h) e p ≡ InLine → HasSteps e p (Held h) t
+      GoesOn First (Held h) p Ends p.issue t → p.issue ≡ slot e p → next_wait (Held h) e p ≡ line_until p.issue → HasSteps e p (Held h) t
   in-line e p h t sound all reach leads late goes is next =
       let started : p.issue ≤ t = omega (arith, late, goes.0) in
-      elim (line-of b e p sound all is) [
-        | inl (none, at) ↦ (
-          record { number = p.number; adds = t } ∷ [],
-          ap (λ ns. p.number ∷ ns) (sym (ap (λ l. walk l e) next ∙ none)),
-          (refl, leads, inr ((is, goes), inl (refl, at, refl))),
-        )
+      elim (line-of b p.issue e p sound all is) [
+        | inl (none, at) ↦
+            let adds : t ≡ t - 0 = omega arith in
+            with-rest e p (Held h) t [] (ap (λ w. walk w e) next ∙ none) (refl, leads, inr ((is, goes), inl (refl, at, adds)))
         | inr (later, q, rest, split, held, gap, le, walks) ↦
             let below : HasSteps rest q InLine q.issue = reach-at later q rest (subst AllReach split reach) InLine q.issue (refl, held) in
-            let adds : t ≡ q.issue + (t - q.issue) = omega (arith, started, gap) in (
-              record { number = p.number; adds = t - q.issue } ∷ below.0,
-              ap (λ ns. p.number ∷ ns) (below.1 ∙ sym (ap (λ l. walk l e) next ∙ walks)),
-              (refl, leads, inr ((is, goes), inr (q, rest, ((later, split), gap), adds, below.2))),
-            )
+            let adds : t ≡ q.issue + (t - q.issue) = omega (arith, started, gap) in
+            with-rest e p (Held h) t (stone q.number q.issue ∷ walk (next_wait InLine rest q) rest) (ap (λ w. walk w e) next ∙ walks)
+            (refl, leads, inr ((is, goes), inr (q, rest, ((later, split), gap), adds, below)))
       ]
 
   -- nothing that it made waited, so what it waited for before it started
   from-start : (e : List Point) (p : Point) (h : Holder) (t : ℕ) → IsSound b e p → AllSound b e → AllReach e → Leads (Held h) p t → p.start ≤ t →
-      lets_go h.cause t (unhindered p) ≡ true → next_link (Held h) e p ≡ before_start e p → HasSteps e p (Held h) t
+      lets_go h.cause t (unhindered p) ≡ true → next_wait (Held h) e p ≡ before_start e p → HasSteps e p (Held h) t
   from-start e p h t sound all reach leads late free next =
       elim (cases_Bool (nat_lt p.issue p.start)) [
         | inl waits ↦
             let second = ltb-true p.issue p.start waits in
             onward e p (Held h) t all reach leads Second p.issue p.start (second_holder e p) second (second-of e p sound second) free late
-            (next ∙ cond-true (nat_lt p.issue p.start) (Held (second_holder e p)) (before_issue e p) waits)
+            (next ∙ cond-true (nat_lt p.issue p.start) (held_until (second_holder e p) p.start) (before_issue e p) waits)
         | inr starts ↦
             let same : p.start ≡ p.issue = omega (arith, ltb-false p.issue p.start starts, sound.placed.start) in
-            let issued : next_link (Held h) e p ≡ before_issue e p = next ∙ cond-false (nat_lt p.issue p.start) (Held (second_holder e p)) (before_issue e p) starts in
+            let issued : next_wait (Held h) e p ≡ before_issue e p =
+            next ∙ cond-false (nat_lt p.issue p.start) (held_until (second_holder e p) p.start) (before_issue e p) starts in
+            let linked : (l : Link) → (if nat_lt (slot e p) p.issue then Held (first_holder e p) else InLine) ≡ l → next_wait (Held h) e p ≡ record { link = l; until = p.issue } =
+            λ l leads_to. issued ∙ ap (λ (k : Link). record { link = k; until = p.issue }) leads_to in
             elim (cases_Bool (nat_lt (slot e p) p.issue)) [
               | inl waits ↦
                   let first = ltb-true (slot e p) p.issue waits in
                   onward e p (Held h) t all reach leads First (slot e p) p.issue (first_holder e p) first (first-of e p sound first) (same, free) (omega (arith, late, same))
-                  (issued ∙ cond-true (nat_lt (slot e p) p.issue) (Held (first_holder e p)) InLine waits)
+                  (linked (Held (first_holder e p)) (cond-true (nat_lt (slot e p) p.issue) (Held (first_holder e p)) InLine waits))
               | inr slots ↦
                   let is : p.issue ≡ slot e p = omega (arith, ltb-false (slot e p) p.issue slots, sound.placed.issue.late, sound.placed.slot) in
-                  in-line e p h t sound all reach leads late (same, free) is (issued ∙ cond-false (nat_lt (slot e p) p.issue) (Held (first_holder e p)) InLine slots)
+                  in-line e p h t sound all reach leads late (same, free) is (linked InLine (cond-false (nat_lt (slot e p) p.issue) (Held (first_holder e p)) InLine slots))
             ]
       ]
 
@@ -514,15 +578,16 @@ path-adds_up b (n ∷ ns) some from once =
     elim (found-or-none Ends t s positive) [
       | inl f ↦
           let split = among-split f.point s f.among in
-          let last : Link = Held (record { cause = Ends; number = f.point.number }) in
-          let steps = reach-at b split.0 f.point split.1 (subst (AllReach b) split.2 (reach b s sound)) last t (refl, f.lets, some-total b n ns) in
+          let q : Point = f.point in
+          let e : List Point = split.1 in
+          let last : Link = Held (record { cause = Ends; number = q.number }) in
+          let path : IsPath b e q last t (steps_to b e q last t) = reach-at b split.0 q e (subst (AllReach b) split.2 (reach b s sound)) last t (refl, f.lets, some-total b n ns) in
           let h : Holder = holder Ends t s in
-          let walks : walk (Held h) s ≡ f.point.number ∷ walk (next_link (Held h) split.1 f.point) split.1 =
-          ap (walk (Held h)) split.2 ∙ walk-skip b h split.0 f.point split.1 f.number (subst (AllSound b) split.2 sound) in (
-            steps.0,
-            ap reverse (walks ∙ sym steps.1),
-            adds-up b split.1 f.point last t steps.0 steps.2,
-            (f.point, split.1, (split.0, split.2), steps.2),
+          let walks : walk (held_until h t) s ≡ stone q.number t ∷ walk (next_wait (Held h) e q) e =
+          ap (walk (held_until h t)) split.2 ∙ walk-skip b h t split.0 q e f.number (subst (AllSound b) split.2 sound) in
+          let back : reverse (steps s) ≡ steps_to b e q last t = steps-of_reverse (walk (held_until h t) s) ∙ ap steps_back walks in (
+            sym (weigh-reverse (λ (x : Step). x.adds) (steps s)) ∙ ap (weigh (λ (x : Step). x.adds)) back ∙ adds-up b e q last t (steps_to b e q last t) path,
+            (q, e, (split.0, split.2), subst (IsPath b e q last t) (sym back) path),
           )
       | inr none ↦
           let met = greatest-met end_of s (some-total b n ns) in

@@ -8,15 +8,11 @@ use Rattle.s66_why.specs.declared.cause.Cause.{Cause}
 use Rattle.s66_why.specs.declared.cause.Cause.TheVariants.{Writes, Takes, Reads, Ends}
 use Rattle.s66_why.specs.declared.path.Link.{Link}
 use Rattle.s66_why.specs.declared.path.Link.TheVariants.{Held, InLine}
+use Rattle.s66_why.specs.declared.path.Step.{Step}
 use Rattle.s66_why.specs.declared.stretch.Conflict.{Conflict}
 use Rattle.s66_why.specs.declared.stretch.Conflict.TheVariants.{First, Second, Third}
-use Rattle.s66_why.specs.Why.{lets_go, path, slot}
+use Rattle.s66_why.specs.Why.{lets_go, slot, steps}
 use Rattle.s66_why.specs.Forbids.{IsKeptBack}
-
--- a step: an instruction, and the minor cycles that it adds
-pub record Step : Type 0 where
-  pub number : ℕ
-  pub adds : ℕ
 
 -- p is one of these points, and e are those before it
 abbrev pub StandsAfter : List Point → Point → List Point → Type 0
@@ -86,9 +82,10 @@ abbrev pub AreOnce : List ℕ → Type 0
 AreOnce [] = Unit {0}
 AreOnce (n ∷ ns) = (has n ns ≡ false) × AreOnce ns
 
--- the path of the points of an order adds up: its steps, the latest first, go from minor cycle 0 to the end of the instruction that
--- ends last, and add the time of the order
+-- the steps of the points of an order, whose numbers are printed, are those of a path: they go from minor cycle 0 to the end of the
+-- instruction that ends last, and add the time of the order
 abbrev pub AddsUp : Problem → List Point → Type 0
 AddsUp b s =
-    (steps : List Step) × (path s ≡ reverse (map (λ (x : Step). x.number) steps)) × (weigh (λ (x : Step). x.adds) steps ≡ total s)
-    × ((p : Point) × (e : List Point) × StandsAfter s p e × IsPath b e p (Held (record { cause = Ends; number = p.number })) (total s) steps)
+    (weigh (λ (x : Step). x.adds) (steps s) ≡ total s)
+    × ((p : Point) × (e : List Point) × StandsAfter s p e
+    × IsPath b e p (Held (record { cause = Ends; number = p.number })) (total s) (reverse (steps s)))

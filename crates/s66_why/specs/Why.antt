@@ -5,8 +5,10 @@ use Rattle.s66_isa.specs.Lists.{after_blanks, weigh}
 use Rattle.s66_isa.specs.Table.{Reg, Write, same_reg, same_kind, has_reg, memory_pair}
 use Rattle.s66_isa.specs.declared.reg.Bank.{Bank}
 use Rattle.s66_isa.specs.declared.reg.Bank.TheVariants.{A, B, X}
+use Rattle.s66_line.specs.Block.{Block, text_of}
 use Rattle.s66_model.specs.Timing.{Point, done_at, end_of, points_of, readers_wait, total}
 use Rattle.s66_time.specs.TimedOrder.{TimedOrder}
+use Rattle.s66_chart.specs.TextChart.{in_places, text_width}
 use Rattle.s66_why.specs.declared.cause.Cause.{Cause}
 use Rattle.s66_why.specs.declared.cause.Cause.TheVariants.{Writes, Takes, References, Reads, Ends}
 use Rattle.s66_why.specs.declared.cause.Holder.{Holder}
@@ -15,6 +17,9 @@ use Rattle.s66_why.specs.declared.stretch.Conflict.TheVariants.{First, Second, T
 use Rattle.s66_why.specs.declared.stretch.Stretch.{Stretch}
 use Rattle.s66_why.specs.declared.path.Link.{Link}
 use Rattle.s66_why.specs.declared.path.Link.TheVariants.{Held, InLine}
+use Rattle.s66_why.specs.declared.path.Milestone.{Milestone}
+use Rattle.s66_why.specs.declared.path.Step.{Step}
+use Rattle.s66_why.specs.declared.path.Wait.{Wait}
 -- the examples open it, to compute numbers
 unfoldable pub use Rattle.std.specs.Fmt.{digits}
 
@@ -102,12 +107,12 @@ stretches (p ∷ s) = stretches s ++ stretches_at s p
 -- THE PATH
 
 -- what p waited for last until it issued: a holder, or whatever held the line before it
-abbrev pub before_issue : List Point → Point → Link
-before_issue s p = if nat_lt (slot s p) p.issue then Held (first_holder s p) else InLine
+abbrev pub before_issue : List Point → Point → Wait
+before_issue s p = record { link = if nat_lt (slot s p) p.issue then Held (first_holder s p) else InLine; until = p.issue }
 
 -- until it started
-abbrev pub before_start : List Point → Point → Link
-before_start s p = if nat_lt p.issue p.start then Held (second_holder s p) else before_issue s p
+abbrev pub before_start : List Point → Point → Wait
+before_start s p = if nat_lt p.issue p.start then record { link = Held (second_holder s p); until = p.start } else before_issue s p
 
 -- when this result of p is done, p lets go for this cause
 abbrev pub decides : Cause → Point → Write → Bool
@@ -122,27 +127,51 @@ abbrev pub is_held : List Point → Point → Write → Bool
 is_held s p w = nat_lt (p.start + w.latency) (readers_wait s w.reg)
 
 -- until it let go for this cause, which one of these results may have decided that was held
-abbrev pub before : Cause → List Point → Point → List Write → Link
+abbrev pub before : Cause → List Point → Point → List Write → Wait
 before cause s p [] = before_start s p
-before cause s p (w ∷ ws) = if decides cause p w && is_held s p w then Held (third_holder s w) else before cause s p ws
+before cause s p (w ∷ ws) =
+    if decides cause p w && is_held s p w then record { link = Held (third_holder s w); until = readers_wait s w.reg } else before cause s p ws
 
 -- p is where the link leads
 abbrev pub is_linked : Link → List Point → Point → Bool
 is_linked (Held h) s p = p.number == h.number
 is_linked InLine s p = nat_lt (slot s p) p.issue
 
-abbrev pub next_link : Link → List Point → Point → Link
-next_link (Held h) s p = before h.cause s p p.row.writes
-next_link InLine s p = Held (first_holder s p)
+-- what p waited for last before the next one of the path went on
+abbrev pub next_wait : Link → List Point → Point → Wait
+next_wait (Held h) s p = before h.cause s p p.row.writes
+next_wait InLine s p = record { link = Held (first_holder s p); until = p.issue }
 
--- the numbers from a link on, the latest first
-abbrev pub walk : Link → List Point → List ℕ
-walk link [] = []
-walk link (p ∷ s) = if is_linked link s p then p.number ∷ walk (next_link link s p) s else walk link s
+-- the minor cycle in which p lets the next one go on: that until which it waited, or in line that in which p issues
+abbrev pub passes : Link → (until : ℕ) → Point → ℕ
+passes (Held h) until p = until
+passes InLine until p = p.issue
 
--- the numbers to the instruction that ends last
+-- the milestones from a wait on, the latest first
+abbrev pub walk : Wait → List Point → List Milestone
+walk w [] = []
+walk w (p ∷ s) = if is_linked w.link s p then record { number = p.number; time = passes w.link w.until p } ∷ walk (next_wait w.link s p) s else walk w s
+
+-- those of the path to the instruction that ends last, the first first
+abbrev pub milestones : List Point → List Milestone
+milestones s = reverse (walk (record { link = Held (holder Ends (total s) s); until = total s }) s)
+
+-- the steps to these milestones: how much later each is than the one before it, and the first than this minor cycle
+abbrev pub steps_from : ℕ → List Milestone → List Step
+steps_from t [] = []
+steps_from t (x ∷ xs) = record { number = x.number; adds = x.time - t } ∷ steps_from x.time xs
+
+-- those of the path, from minor cycle 0 on
+abbrev pub steps : List Point → List Step
+steps s = steps_from 0 (milestones s)
+
+-- the numbers of the path
 abbrev pub path : List Point → List ℕ
-path s = reverse (walk (Held (holder Ends (total s) s)) s)
+path s = map (λ (x : Step). x.number) (steps s)
+
+-- what each of its steps adds
+abbrev pub added : List Point → List ℕ
+added s = map (λ (x : Step). x.adds) (steps s)
 
 -- WHAT IS WRITTEN
 
@@ -166,17 +195,50 @@ conflict_name First = codes "FIRST"
 conflict_name Second = codes "SECOND"
 conflict_name Third = codes "THIRD"
 
--- right in three places
-abbrev pub in_three : ℕ → List ℕ
-in_three n = replicate (3 - length (decimal n)) 32 ++ decimal n
+-- right in so many places
+abbrev pub on_right : (places n : ℕ) → List ℕ
+on_right places n = replicate (places - length (decimal n)) 32 ++ decimal n
 
-abbrev pub stretch_line : Stretch → List ℕ
-stretch_line x =
-    in_three x.number ++ codes " " ++ conflict_name x.conflict ++ codes " " ++ decimal x.from ++ codes " TO " ++ decimal x.to
-    ++ cause_text x.holder.cause ++ codes " BY " ++ decimal x.holder.number ++ codes "\n"
+abbrev pub in_three : ℕ → List ℕ
+in_three n = on_right 3 n
+
+-- with texts: that of an instruction, in as many places as those of its block need
+abbrev pub text_after_number : Bool → Block → ℕ → List ℕ
+text_after_number texts block n = if texts then in_places (text_width block) (text_of block n) else []
+
+-- with texts: that of an instruction after a blank
+abbrev pub text_at_end : Bool → Block → ℕ → List ℕ
+text_at_end texts block n = if texts then codes " " ++ text_of block n else []
+
+-- from when to when, what is waited for, and who holds it
+abbrev pub stretch_text : Stretch → List ℕ
+stretch_text x =
+    conflict_name x.conflict ++ codes " " ++ decimal x.from ++ codes " TO " ++ decimal x.to ++ cause_text x.holder.cause ++ codes " BY " ++ decimal x.holder.number
+
+abbrev pub stretch_line : Bool → Block → Stretch → List ℕ
+stretch_line texts block x =
+    in_three x.number ++ codes " " ++ text_after_number texts block x.number ++ stretch_text x ++ text_at_end texts block x.holder.number ++ codes "\n"
 
 abbrev pub path_line : List ℕ → List ℕ
 path_line numbers = codes "PATH" ++ after_blanks numbers ++ codes "\n"
+
+-- what each step adds, and the time that this is in sum
+abbrev pub steps_line : List Step → (time : ℕ) → List ℕ
+steps_line xs time = codes "STEPS" ++ after_blanks (map (λ (x : Step). x.adds) xs) ++ codes " TIME " ++ decimal time ++ codes "\n"
+
+-- of a step: the number, the text, what it adds
+abbrev pub step_row : Block → Step → List ℕ
+step_row block x = in_three x.number ++ codes " " ++ in_places (text_width block) (text_of block x.number) ++ on_right 4 x.adds ++ codes "\n"
+
+-- below such rows: the time, their sum
+abbrev pub time_row : Block → ℕ → List ℕ
+time_row block time = codes "TIME" ++ in_places (text_width block) [] ++ on_right 4 time ++ codes "\n"
+
+-- the steps of a path that takes this time: in two lines, or with texts in rows
+abbrev pub path_lines : Bool → Block → List Step → (time : ℕ) → List ℕ
+path_lines texts block xs time =
+    if texts then codes "PATH\n" ++ flat_map (step_row block) xs ++ time_row block time
+    else (path_line (map (λ (x : Step). x.number) xs) ++ steps_line xs time)
 
 abbrev pub conflict_number : Conflict → ℕ
 conflict_number First = 1
@@ -192,8 +254,10 @@ lost_line xs =
     codes "LOST FIRST " ++ decimal (lost First xs) ++ codes " SECOND " ++ decimal (lost Second xs) ++ codes " THIRD " ++ decimal (lost Third xs) ++ codes "\n"
 
 -- of the points of an order
-abbrev pub text_of_points : List Point → List ℕ
-text_of_points s = flat_map stretch_line (stretches s) ++ path_line (path s) ++ lost_line (stretches s)
+abbrev pub text_of_points : Bool → Block → List Point → List ℕ
+text_of_points texts block s =
+    flat_map (stretch_line texts block) (stretches s) ++ path_lines texts block (steps s) (total s) ++ lost_line (stretches s)
 
-abbrev pub why_text : TimedOrder → List ℕ
-why_text t = text_of_points (points_of t.problem t.numbers)
+-- of an order of the block, with its texts or without
+abbrev pub why_text : Bool → Block → TimedOrder → List ℕ
+why_text texts block t = text_of_points texts block (points_of t.problem t.numbers)

@@ -15,8 +15,8 @@ pub fn cause_law()
     ensures { (b : Problem) (ns : List ℕ) (n : ℕ) (x : StretchOf) → length ns ≤ BLOCK_LIMIT → AreFromOne ns → Among x (stretches_at (points_of b ns) (point_of b (points_of b ns) n)) → IsForbidden b (points_of b ns) (point_of b (points_of b ns) n) x }
 {}
 
-/// The path of an order begins at minor cycle 0 and ends at its time. On each of its instructions the next one waits by a rule, or
-/// stands in line behind it, and the minor cycles that they add are that time.
+/// The steps of an order, whose numbers are printed, are those of a path: it begins at minor cycle 0 and ends at the order's time. On
+/// each of its instructions the next one waits by a rule, or stands in line behind it, and what the steps add is that time.
 pub fn path_law()
     ensures { (b : Problem) (ns : List ℕ) → 1 ≤ length ns → AreFromOne ns → AreOnce ns → AddsUp b (points_of b ns) }
 {}

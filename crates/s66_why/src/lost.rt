@@ -1,4 +1,4 @@
-ghost use Rattle.std.specs.Prelude.{ℕ, ◌≡◌, ◌≤◌, ◌+◌, ◌^◌, [], ◌∷◌};
+ghost use Rattle.std.specs.Prelude.{ℕ, ◌≡◌, ◌≤◌, ◌+◌, ◌^◌, [], ◌∷◌, length};
 ghost use Rattle.s66_why.specs.Why.{lost};
 ghost use Rattle.s66_why.specs.Sums.{sum_of, AreAtMost};
 ghost use Rattle.s66_why.specs.declared.stretch.Conflict.{Conflict as ConflictOf};
@@ -26,7 +26,7 @@ impl Lost {
     }
 
     /// Counts a stretch too.
-    pub fn add(&mut self, stretch: &Stretch)
+    fn add(&mut self, stretch: &Stretch)
         requires { AreAtMost (2 ^ 63) self.old }
         ensures sums { (conflict : ConflictOf) → sum_of self.new conflict ≡ sum_of self.old conflict + lost conflict (stretch.now ∷ []) }
         ensures at_most { (n : ℕ) → AreAtMost n self.old → AreAtMost (n + 2 ^ 32) self.new }
@@ -36,6 +36,18 @@ impl Lost {
             Conflict::First => self.first += cycles,
             Conflict::Second => self.second += cycles,
             Conflict::Third => self.third += cycles,
+        }
+    }
+
+    /// Counts the stretches of an instruction too.
+    pub fn add_all(&mut self, stretches: &[Stretch])
+        requires few { length stretches.now ≤ 4 }
+        requires at_most { AreAtMost (2 ^ 62) self.old }
+        ensures sums { (conflict : ConflictOf) → sum_of self.new conflict ≡ sum_of self.old conflict + lost conflict stretches.now }
+        ensures at_most { (n : ℕ) → AreAtMost n self.old → AreAtMost (n + 2 ^ 34) self.new }
+    {
+        for stretch in stretches {
+            self.add(stretch);
         }
     }
 }

@@ -1,7 +1,8 @@
-ghost use Rattle.std.specs.Prelude.{◌≡◌, ◌≤◌, length, reverse};
+ghost use Rattle.std.specs.Prelude.{◌≡◌, ◌≤◌, length, map, reverse};
 ghost use Rattle.s66_isa.specs.declared.limits.TheConstants.{BLOCK_LIMIT};
 ghost use Rattle.s66_model.specs.Timing.{total};
-ghost use Rattle.s66_why.specs.Why.{before_issue, before_start, decides, before, is_held, is_linked, next_link, walk, path};
+ghost use Rattle.s66_why.specs.Why.{before_issue, before_start, decides, before, is_held, is_linked, next_wait, passes, steps, steps_from, walk};
+ghost use Rattle.s66_why.specs.declared.path.Step.{Step as StepOf};
 
 use crate::cause::{Cause, Holder};
 use crate::holders::{first_holder, holder, second_holder, third_holder};
@@ -19,23 +20,51 @@ pub enum Link {
     InLine,
 }
 
+/// What an instruction waited for last, and the minor cycle in which that was over; or that it stood in line until it issued then.
+#[derive(Clone, Copy)]
+pub struct Wait {
+    pub link: Link,
+    pub until: u32,
+}
+
+/// An instruction of the path, and the minor cycle in which it lets the next one go on.
+#[derive(Clone, Copy, Default, Drop)]
+pub struct Milestone {
+    pub number: u8,
+    pub time: u32,
+}
+
+/// An instruction of the path, and the minor cycles that it adds to the time of the order.
+#[derive(Clone, Copy, Default, Drop)]
+pub struct Step {
+    pub number: u8,
+    pub adds: u32,
+}
+
 /// What an instruction waited for last until it issued.
-fn before_issue(earlier: &[PlacedInstr], point: &PlacedInstr) -> Link
+fn before_issue(earlier: &[PlacedInstr], point: &PlacedInstr) -> Wait
     ensures { result ≡ before_issue (reverse earlier.now) point.now }
 {
-    if slot(earlier, point) < point.issue {
+    let link = if slot(earlier, point) < point.issue {
         Link::Held(first_holder(earlier, point))
     } else {
         Link::InLine
+    };
+    Wait {
+        link,
+        until: point.issue,
     }
 }
 
 /// What an instruction waited for last until it started.
-fn before_start(earlier: &[PlacedInstr], point: &PlacedInstr) -> Link
+fn before_start(earlier: &[PlacedInstr], point: &PlacedInstr) -> Wait
     ensures { result ≡ before_start (reverse earlier.now) point.now }
 {
     if point.issue < point.start {
-        Link::Held(second_holder(earlier, point))
+        Wait {
+            link: Link::Held(second_holder(earlier, point)),
+            until: point.start,
+        }
     } else {
         before_issue(earlier, point)
     }
@@ -67,12 +96,15 @@ fn is_held(earlier: &[PlacedInstr], point: &PlacedInstr, write: &Write) -> bool
 }
 
 /// What an instruction waited for last until it let go for this cause.
-fn before(cause: &Cause, earlier: &[PlacedInstr], point: &PlacedInstr) -> Link
+fn before(cause: &Cause, earlier: &[PlacedInstr], point: &PlacedInstr) -> Wait
     ensures { result ≡ before cause.now (reverse earlier.now) point.now point.now.row.writes }
 {
     for write in point.row.writes.as_slice() {
         if decides(cause, point, write) && is_held(earlier, point, write) {
-            return Link::Held(third_holder(earlier, write));
+            return Wait {
+                link: Link::Held(third_holder(earlier, write)),
+                until: readers_wait(earlier, write.reg),
+            };
         }
     }
     before_start(earlier, point)
@@ -88,40 +120,95 @@ fn is_linked(link: &Link, earlier: &[PlacedInstr], point: &PlacedInstr) -> bool
     }
 }
 
-/// The link from an instruction to which a link led.
-fn next_link(link: &Link, earlier: &[PlacedInstr], point: &PlacedInstr) -> Link
-    ensures { result ≡ next_link link.now (reverse earlier.now) point.now }
+/// What an instruction waited for last, to which a link led, before the next one of the path went on.
+fn next_wait(link: &Link, earlier: &[PlacedInstr], point: &PlacedInstr) -> Wait
+    ensures { result ≡ next_wait link.now (reverse earlier.now) point.now }
 {
     match link {
         Link::Held(holder) => before(&holder.cause, earlier, point),
-        Link::InLine => Link::Held(first_holder(earlier, point)),
+        Link::InLine => {
+            Wait {
+                link: Link::Held(first_holder(earlier, point)),
+                until: point.issue,
+            }
+        }
     }
 }
 
-/// The numbers of the instructions from a link on, the latest first. Each of these looks back over those before it.
-fn walk(link: Link, points: &[PlacedInstr]) -> ArrayVec<u8, BLOCK_LIMIT>
+impl Wait {
+    /// The minor cycle in which an instruction, to which this leads, lets the next one of the path go on.
+    fn passes(&self, point: &PlacedInstr) -> u32
+        ensures { result ≡ passes self.now.link self.now.until point.now }
+    {
+        match self.link {
+            Link::Held(_) => self.until,
+            Link::InLine => point.issue,
+        }
+    }
+}
+
+/// The milestones from a wait on, the latest first. Each of them looks back over the instructions before it.
+fn walk(wait: Wait, points: &[PlacedInstr]) -> ArrayVec<Milestone, BLOCK_LIMIT>
     requires { length points.now ≤ BLOCK_LIMIT }
-    ensures { result.items ≡ walk link (reverse points.now) }
+    ensures { result.items ≡ walk wait (reverse points.now) }
 {
-    let mut numbers = ArrayVec::new();
-    let mut link = link;
+    let mut milestones = ArrayVec::new();
+    let mut wait = wait;
     for back in 0..points.len() {
         let position = points.len() - 1 - back;
         let earlier = &points[..position];
         let point = &points[position];
-        if is_linked(&link, earlier, point) {
-            numbers.push(point.number);
-            link = next_link(&link, earlier, point);
+        if is_linked(&wait.link, earlier, point) {
+            milestones.push(Milestone {
+                number: point.number,
+                time: wait.passes(point),
+            });
+            wait = next_wait(&wait.link, earlier, point);
         }
     }
-    numbers
+    milestones
 }
 
-/// The path to the instruction that ends last, the latest first, if the order ends then.
-pub fn path_from_end(points: &[PlacedInstr], end: u32) -> ArrayVec<u8, BLOCK_LIMIT>
+/// The steps to these milestones, of which the latest comes first.
+fn steps_to(milestones: &[Milestone]) -> ArrayVec<Step, BLOCK_LIMIT>
+    requires { length milestones.now ≤ BLOCK_LIMIT }
+    ensures { result.items ≡ steps_from 0 (reverse milestones.now) }
+{
+    let mut steps = ArrayVec::new();
+    let mut from = 0;
+    for back in 0..milestones.len() {
+        let milestone = milestones[milestones.len() - 1 - back];
+        steps.push(Step {
+            number: milestone.number,
+            adds: milestone.time.saturating_sub(from),
+        });
+        from = milestone.time;
+    }
+    steps
+}
+
+/// The steps of the path of an order that ends then: the instructions that its time comes from, of which each waits for the one
+/// before it or stands in line behind it, up to the one that ends last.
+pub fn steps_of(points: &[PlacedInstr], end: u32) -> ArrayVec<Step, BLOCK_LIMIT>
     requires few { length points.now ≤ BLOCK_LIMIT }
     requires end { end ≡ total (reverse points.now) }
-    ensures { reverse result.items ≡ path (reverse points.now) }
+    ensures { result.items ≡ steps (reverse points.now) }
 {
-    walk(Link::Held(holder(points, Cause::Ends, end)), points)
+    let wait = Wait {
+        link: Link::Held(holder(points, Cause::Ends, end)),
+        until: end,
+    };
+    steps_to(walk(wait, points).as_slice())
+}
+
+/// The numbers of the instructions of steps.
+pub fn path_of(steps: &[Step]) -> ArrayVec<u8, BLOCK_LIMIT>
+    requires { length steps.now ≤ BLOCK_LIMIT }
+    ensures { result.items ≡ map (λ (x : StepOf). x.number) steps.now }
+{
+    let mut numbers = ArrayVec::new();
+    for step in steps {
+        numbers.push(step.number);
+    }
+    numbers
 }

@@ -1,6 +1,7 @@
 ghost use Rattle.std.specs.Prelude.{◌≡◌, ◌+◌, ◌<◌, ◌≤◌, length, map, reverse, take};
 ghost use Rattle.s66_isa.specs.Lists.{greatest};
 ghost use Rattle.s66_isa.specs.Table.{Write as WriteOf};
+ghost use Rattle.s66_model.specs.LegalOrder.{IsLegal};
 ghost use Rattle.s66_model.specs.Timing.{points_of, result_at};
 ghost use Rattle.s66_time.specs.TimedOrder.{point_at};
 ghost use Rattle.s66_time.specs.declared.limits.TheConstants.{TOTAL_LIMIT};
@@ -55,7 +56,8 @@ fn placed(timed: &Timed, position: usize, earlier: &[PlacedInstr]) -> PlacedInst
 
 /// The instructions of a timed order, in order. Each looks back over those before it.
 pub fn points_of(timed: &Timed) -> ArrayVec<PlacedInstr, BLOCK_LIMIT>
-    ensures { result.items ≡ reverse (points_of timed.now.problem timed.now.numbers) }
+    ensures value { result.items ≡ reverse (points_of timed.now.problem timed.now.numbers) }
+    ensures legal { IsLegal timed.now.problem.block timed.now.numbers }
 {
     let mut points = ArrayVec::new();
     for position in 0..timed.order().numbers().len() {

@@ -4,7 +4,7 @@ use Rattle.s66_why.specs.declared.stretch.Stretch.{Stretch}
 use Rattle.s66_why.specs.Why.{stretches, stretches_at, lost}
 use Rattle.s66_why.proofs.Earlier.{earlier-more}
 use Rattle.s66_why.proofs.Lines.{lost-more}
-use Rattle.s66_json.specs.Sums.{sum_of}
+use Rattle.s66_why.specs.Sums.{sum_of}
 use Rattle.s66_json.proofs.PointTexts.{points-more}
 use Rattle.s66_json.proofs.order.push_points.Goals as goal
 

@@ -2,7 +2,7 @@ use Rattle.std.proofs.Common.{◌≡◌, ◌*◌, ◌^◌, ◌++◌, take, rever
 use Rattle.s66_why.specs.declared.stretch.Conflict.{Conflict}
 use Rattle.s66_why.specs.Why.{lost, stretches}
 use Rattle.s66_json.specs.Pieces.{points_text}
-use Rattle.s66_json.specs.Sums.{sum_of, AreAtMost}
+use Rattle.s66_why.specs.Sums.{sum_of, AreAtMost}
 use Rattle.s66_json.proofs.order.push_points.Given as goal
 
 abbrev pub invariant-loop-position : goal.invariant-loop-position

@@ -1,4 +1,4 @@
-use Rattle.std.proofs.Common.{◌++◌, codes}
+use Rattle.std.proofs.Common.{◌++◌, codes, false}
 use Rattle.s66_why.specs.Why.{why_text}
 use Rattle.s66_page.specs.Page.{why_below}
 use Rattle.s66_page.proofs.Pieces.{more, last}
@@ -9,6 +9,6 @@ unfolding why_below
 returns c =
     let out = c.args.out.now.items in
     let front = codes "</table>\n<pre>" in
-    let text = why_text c.args.timed.now in
+    let text = why_text false c.args.block.now c.args.timed.now in
     last c.push_text-2.result out c.push_why.new.out.items c.push_text-2.new.out.items (front ++ text) (codes "</pre>\n") (more out c.push_text.new.out.items c.push_why.new.out.items front text c.in_ok-push_text.ensures c.in_ok-push_why.ensures)
     c.push_text-2.ensures

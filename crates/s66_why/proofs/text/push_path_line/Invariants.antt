@@ -1,6 +1,8 @@
-use Rattle.std.proofs.Common.{◌≡◌, ◌-◌, ◌++◌, codes, length, take, reverse}
+use Rattle.std.proofs.Common.{◌≡◌, ◌++◌, codes, drop, map}
 use Rattle.s66_isa.specs.Lists.{after_blanks}
+use Rattle.s66_why.specs.declared.path.Step.{Step}
 use Rattle.s66_why.proofs.text.push_path_line.Given as goal
 
-abbrev pub invariant-loop-back : goal.invariant-loop-back
-invariant-loop-back l = l.out.items ++ after_blanks (reverse (take (length l.numbers - l.back) l.numbers)) ≡ l.fn.out.items ++ codes "PATH" ++ after_blanks (reverse l.numbers)
+abbrev pub invariant-loop-step : goal.invariant-loop-step
+invariant-loop-step l =
+    l.out.items ++ after_blanks (map (λ (x : Step). x.number) (drop l.step-index l.steps)) ≡ l.fn.out.items ++ codes "PATH" ++ after_blanks (map (λ (x : Step). x.number) l.steps)

@@ -3,8 +3,8 @@ use Rattle.std.proofs.lemmas.List.{take_more}
 use Rattle.s66_why.specs.declared.stretch.Stretch.{Stretch}
 use Rattle.s66_why.specs.Why.{lost}
 use Rattle.s66_why.proofs.Lines.{lost-more}
-use Rattle.s66_json.specs.Sums.{sum_of}
-use Rattle.s66_json.proofs.lost.Lost.add_all.Goals as goal
+use Rattle.s66_why.specs.Sums.{sum_of}
+use Rattle.s66_why.proofs.lost.Lost.add_all.Goals as goal
 
 pub add-requires : goal.add-requires
 add-requires c =

@@ -1,8 +1,9 @@
 ghost use Rattle.std.specs.Prelude.{◌≡◌, ◌≤◌, ◌+◌, ◌++◌, length, option_to_list, reverse};
 ghost use Rattle.s66_why.specs.Why.{stretches_at};
 
+use crate::placed::PlacedInstr;
+use crate::stretch::{Stretch, first_stretch, second_stretch, third_stretch};
 use arrayvec::ArrayVec;
-use s66_why::{PlacedInstr, Stretch, first_stretch, second_stretch, third_stretch};
 
 /// Adds a stretch to a list, if there is one.
 fn add(waits: &mut ArrayVec<Stretch, 4>, stretch: &Option<Stretch>)

@@ -3,7 +3,7 @@ use Rattle.s66_why.specs.declared.stretch.Stretch.{Stretch}
 use Rattle.s66_why.specs.Why.{first_stretch, second_stretch, third_stretch}
 use Rattle.s66_why.proofs.Lines.{parts-none, parts-more}
 use Rattle.s66_why.proofs.Writes.{short-latency}
-use Rattle.s66_json.proofs.waits.waits_of.Goals as goal
+use Rattle.s66_why.proofs.waits.waits_of.Goals as goal
 
 pub loop-write-init : goal.loop-write-init
 loop-write-init c =
