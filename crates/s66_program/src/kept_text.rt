@@ -14,7 +14,7 @@ use s66_command::Strategy;
 use s66_isa::Profile;
 use s66_line::Block;
 use s66_outcome::{Observer, Output};
-use s66_source::{Placed, Source, print_keeping};
+use s66_source::{Columns, Placed, Source, print_keeping};
 use s66_text::{blocks_before, keeps_order, shown, status_by};
 use std::alloc::AllocError;
 use std::sync::Wait;
@@ -27,6 +27,8 @@ pub struct Style {
     pub trace: bool,
     /// Whether a block that keeps its order is copied as it stands, without a report.
     pub keep: bool,
+    /// In which columns the operations of the other blocks stand.
+    pub columns: Columns,
     /// Whether no report is printed.
     pub quiet: bool,
     /// The only block that is put in order; the others are copied as they stand.
@@ -84,7 +86,7 @@ fn kept_output<R: AllocGlobal + Threads + Wait + Sync, O: Observer>(
     observer: &mut O,
 ) -> Result<Output, AllocError>
     requires { IsSearchWithin strategy.search.workers strategy.search.nodes }
-    ensures { IfOk result (λ output. IsKeptOutput strategy profile.now style.trace style.keep style.quiet style.only source.now output.text.items output.status) }
+    ensures { IfOk result (λ output. IsKeptOutput strategy profile.now style.trace style.keep style.columns style.quiet style.only source.now output.text.items output.status) }
 {
     let blocks = shown(source.blocks(), style.only);
     let before = blocks_before(style.only);
@@ -95,7 +97,14 @@ fn kept_output<R: AllocGlobal + Threads + Wait + Sync, O: Observer>(
     let all = keep_all(rt, &givings, 0, blocks, profile, strategy, observer)?;
     let given = all.parts.as_slice();
     Ok(Output {
-        text: print_keeping(rt.alloc(), source, before, given, style.quiet)?,
+        text: print_keeping(
+            rt.alloc(),
+            source,
+            before,
+            given,
+            style.quiet,
+            style.columns,
+        )?,
         status: status_by(all.all_best),
     })
 }
@@ -110,7 +119,7 @@ pub fn ordered_output<R: AllocGlobal + Threads + Wait + Sync, O: Observer>(
     observer: &mut O,
 ) -> Result<Output, AllocError>
     requires { IsSearchWithin strategy.search.workers strategy.search.nodes }
-    ensures { IfOk result (λ output. IsOrdered strategy profile.now style.trace style.keep style.quiet style.only source.now output.text.items output.status) }
+    ensures { IfOk result (λ output. IsOrdered strategy profile.now style.trace style.keep style.columns style.quiet style.only source.now output.text.items output.status) }
 {
     if style.keep || style.quiet || style.only.is_some() {
         kept_output(rt, source, profile, strategy, style, observer)

@@ -12,3 +12,4 @@ pub mod LongestRuns
 pub mod Pieces
 pub mod PlacedAnswers
 pub mod SumRows
+pub mod Parcels

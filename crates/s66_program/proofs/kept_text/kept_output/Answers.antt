@@ -37,8 +37,8 @@ returns g c =
       (
         answers,
         are,
-        c.in_ok-print_keeping.ensures ∙ ap (λ k. printed_keeping style.quiet source k c.as_slice-given.result.now) c.blocks_before-before.ensures.value
-            ∙ ap (printed_keeping style.quiet source (before style.only)) (c.as_slice-given.ensures.value ∙ is),
+        c.in_ok-print_keeping.ensures ∙ ap (λ k. printed_keeping style.quiet style.columns source k c.as_slice-given.result.now) c.blocks_before-before.ensures.value
+            ∙ ap (printed_keeping style.quiet style.columns source (before style.only)) (c.as_slice-given.ensures.value ∙ is),
         c.status_by.ensures ∙ ap (λ b. if b then Done else Bounded) best,
       ),
     )
