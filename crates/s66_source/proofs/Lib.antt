@@ -7,9 +7,11 @@ pub mod CaseLaw
 pub mod LineLaw
 pub mod PadsLaw
 pub mod LeadingPads
+pub mod IndentedLines
 pub mod KeptLines
 pub mod PlacedBlocks
 pub mod PrintedLines
+pub mod NoneStands
 pub mod ReadBack
 pub mod ReadStanding
 pub mod ReadLine

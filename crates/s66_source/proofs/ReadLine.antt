@@ -1,6 +1,7 @@
 -- An instruction line that is printed, read again.
-use Rattle.std.proofs.Common.{◌≡◌, ◌<◌, ◌+◌, ◌-◌, ◌==◌, ◌&&◌, ◌||◌, ℕ, zero, suc, Bool, true, false, not, if◌then◌else◌, true≢false, List, [], ◌∷◌, ◌++◌, Option, None, Some, is_some, option_and_then, length, replicate, refl, sym, ap, ◌∙◌, subst, arith, eqb-true, nat_le, nat_lt, append_assoc, length-append}
+use Rattle.std.proofs.Common.{◌≡◌, ◌<◌, ◌≤◌, ◌+◌, ◌-◌, ◌==◌, ◌&&◌, ◌||◌, ℕ, zero, suc, Bool, true, false, not, if◌then◌else◌, true≢false, List, [], ◌∷◌, ◌++◌, Option, None, Some, is_some, option_and_then, length, replicate, refl, sym, ap, ◌∙◌, subst, arith, eqb-true, nat_le, nat_lt, append_assoc, length-append}
 use Rattle.std.proofs.lemmas.Bool.{and_parts, and_from, or_parts, not-true, ne_eqb, lt-ltb, ltb-true, lt-leb}
+use Rattle.std.proofs.lemmas.List.{length-replicate}
 use Rattle.std.proofs.Math.Bool.{and-false}
 use Rattle.s66_isa.specs.declared.instr.Instr.{Instr}
 use Rattle.s66_isa.specs.Lists.{every}
@@ -214,16 +215,18 @@ skip-padding zero bytes = refl
 skip-padding (suc k) bytes = skip-padding k bytes
 
 -- without a label
-unlabelled : (bytes : List ℕ) (n : Instr) → Spells bytes n → IsRead (label_field [] ++ trim is_trailing bytes) [] bytes n
-unlabelled bytes n spells =
+pub read-indented : (k : ℕ) (bytes : List ℕ) (n : Instr) → k ≤ 26 → Spells bytes n → IsRead (replicate (suc (suc k)) 32 ++ trim is_trailing bytes) [] bytes n
+read-indented k bytes n few spells =
     let tail : List ℕ = trim is_trailing bytes in
+    let front : List ℕ = replicate (suc (suc k)) 32 in
     let filled = filled-again bytes n spells in
-    let at : skip_blanks tail ≡ tail = skip_blanks-word tail filled in
+    let at : skip_blanks (front ++ tail) ≡ tail = skip-padding (suc (suc k)) tail ∙ skip_blanks-word tail filled in
     let some = some-length tail filled in
-    let many : length (label_field [] ++ tail) ≡ 10 + length tail = length-append (label_field []) tail in
-    let front : blanks (label_field [] ++ tail) ≡ 10 = ap (λ bs. length (label_field [] ++ tail) - length bs) at ∙ omega (arith, many) in
-    read-by (label_field [] ++ tail) [] bytes n spells (body-again (label_field []) bytes n spells)
-    (few-blanks 32 (replicate 9 32 ++ tail) 10 refl front (omega (arith, many, some)) (omega arith))
+    let wide : length front ≡ suc (suc k) = length-replicate (suc (suc k)) 32 in
+    let many : length (front ++ tail) ≡ length front + length tail = length-append front tail in
+    let count : blanks (front ++ tail) ≡ suc (suc k) = ap (λ bs. length (front ++ tail) - length bs) at ∙ omega (arith, many, wide) in
+    read-by (front ++ tail) [] bytes n spells (body-again front bytes n spells)
+    (few-blanks 32 (replicate (suc k) 32 ++ tail) (suc (suc k)) refl count (omega (arith, many, wide, some)) (omega (arith, few)))
     refl refl at (λ none. absurd (true≢false (sym none)))
 
 -- with one in column 2
@@ -290,7 +293,7 @@ with-label b name bytes n is spells =
         in-first b name bytes k n stated (not-true (b == 42) inner.1) (not-true (b == 44) outer.1) inner.0 spells kept
 
 pub read-line : (label bytes : List ℕ) (n : Instr) → IsLabel label → Spells bytes n → IsRead (label_field label ++ trim is_trailing bytes) label bytes n
-read-line [] bytes n is spells = unlabelled bytes n spells
+read-line [] bytes n is spells = read-indented 8 bytes n (omega arith) spells
 read-line (b ∷ name) bytes n is spells = with-label b name bytes n is.0 spells
 
 -- THE LABEL OF A LINE OF CODE

@@ -3,10 +3,12 @@ use Rattle.std.specs.Prelude.{ℕ, suc, ◌-◌, ◌≤◌, ◌==◌, ◌&&◌, 
 use Rattle.s66_isa.specs.Lists.{Among}
 use Rattle.s66_line.specs.Fields.{body}
 use Rattle.s66_line.specs.Block.{Block, line_of}
+use Rattle.s66_source.specs.Columns.{indented_lines, indents}
 use Rattle.s66_source.specs.LeftAlone.{Reading}
 use Rattle.s66_source.specs.Source.{Line, blocks_of, classed_lines}
 use Rattle.s66_source.specs.Roles.{is_dropped, is_leading}
-use Rattle.s66_source.specs.Printed.{Placed, report, instruction_lines}
+use Rattle.s66_source.specs.Printed.{Placed, report}
+use Rattle.s66_source.specs.declared.columns.Columns.{Columns}
 
 -- HOW BLOCKS ARE PRINTED: so many stand, and then there is for each block how it is printed, or None if it stands; further blocks stand
 
@@ -40,9 +42,9 @@ is_given (Some p ∷ given) = true
 abbrev pub stands_next : Place → Bool
 stands_next s = not (length s.blocks == 0) && (nat_lt 0 s.before || not (is_given s.given))
 
--- A NO is of the block of the instruction before it in its run; if none comes before it there, it is of the next block
-abbrev pub pad_stands : (leads : Bool) → Place → Bool
-pad_stands leads s = if s.passed == 0 && not leads then s.stood else stands_next s
+-- A leading NO, before which no instruction of its run comes, is of the next block; any other is of that of the instruction before it
+abbrev pub pad_stands : (leading : Bool) → Place → Bool
+pad_stands leading s = if s.passed == 0 && not leading then s.stood else stands_next s
 
 -- AN INSTRUCTION
 
@@ -62,18 +64,20 @@ others (x ∷ xs) = xs
 abbrev pub copied : List ℕ → List ℕ
 copied bytes = body bytes ++ codes "\n"
 
--- of the n-th block, which is printed: in the place of the first its report, unless there are to be none, and in that of the last all
-abbrev pub text_anew : (quiet : Bool) (n passed : ℕ) → Block → Placed → List ℕ
-text_anew quiet n passed block p =
+-- of the n-th block, which is printed: in the place of the first its report, unless there are to be none, and in that of the last all of
+-- them, after so many blanks where there is no label
+abbrev pub text_anew : (quiet : Bool) (indents : List ℕ) (n passed : ℕ) → Block → Placed → List ℕ
+text_anew quiet indents n passed block p =
     (if passed == 0 && not quiet then report n (length block.entries) p else [])
-    ++ (if suc passed == length block.entries then instruction_lines block block.label p.order else [])
+    ++ (if suc passed == length block.entries then indented_lines indents block block.label p.order else [])
 
-abbrev pub text_given : (quiet : Bool) (n passed : ℕ) → List Block → List (Option Placed) → List ℕ → List ℕ
-text_given quiet n passed (block ∷ blocks) (Some p ∷ given) bytes = text_anew quiet n passed block p
-text_given quiet n passed blocks given bytes = copied bytes
+abbrev pub text_given : (quiet : Bool) (indents : List ℕ) (n passed : ℕ) → List Block → List (Option Placed) → List ℕ → List ℕ
+text_given quiet indents n passed (block ∷ blocks) (Some p ∷ given) bytes = text_anew quiet indents n passed block p
+text_given quiet indents n passed blocks given bytes = copied bytes
 
-abbrev pub instruction_text : (quiet : Bool) → Place → List ℕ → List ℕ
-instruction_text quiet s bytes = if nat_lt 0 s.before then copied bytes else text_given quiet s.number s.passed s.blocks s.given bytes
+abbrev pub instruction_text : (quiet : Bool) (indents : List ℕ) → Place → List ℕ → List ℕ
+instruction_text quiet indents s bytes =
+    if nat_lt 0 s.before then copied bytes else text_given quiet indents s.number s.passed s.blocks s.given bytes
 
 abbrev pub after_block : Place → Place
 after_block s =
@@ -91,25 +95,32 @@ after_instruction s = if ends_block s.passed s.blocks then after_block s else (r
 
 -- A LINE with this number, which is a NO that is left out if its block is printed, or is not
 
-abbrev pub text_at : (quiet dropped leads : Bool) → Place → ℕ → List ℕ → List ℕ
-text_at quiet dropped leads s number bytes =
-    if dropped then (if pad_stands leads s then copied bytes else [])
-    else (if is_at number s.passed s.blocks then instruction_text quiet s bytes else copied bytes)
+abbrev pub text_at : (quiet : Bool) (indents : List ℕ) (dropped leading : Bool) → Place → ℕ → List ℕ → List ℕ
+text_at quiet indents dropped leading s number bytes =
+    if dropped then (if pad_stands leading s then copied bytes else [])
+    else (if is_at number s.passed s.blocks then instruction_text quiet indents s bytes else copied bytes)
 
 abbrev pub after_line : (dropped : Bool) → Place → ℕ → Place
 after_line dropped s number = if dropped then s else (if is_at number s.passed s.blocks then after_instruction s else s)
 
 -- ALL LINES
 
-abbrev pub text_from : (quiet : Bool) (all : List Line) → Place → List Line → List ℕ
-text_from quiet all s [] = []
-text_from quiet all s (line ∷ lines) =
-    text_at quiet (is_dropped all line) (is_leading all line) s line.number line.bytes ++ text_from quiet all (after_line (is_dropped all line) s line.number) lines
+-- the blanks before each instruction of the first block
+abbrev pub next_indents : Columns → List Line → List Block → List ℕ
+next_indents columns all [] = []
+next_indents columns all (block ∷ blocks) = indents columns all block
+
+abbrev pub text_from : (quiet : Bool) → Columns → (all : List Line) → Place → List Line → List ℕ
+text_from quiet columns all s [] = []
+text_from quiet columns all s (line ∷ lines) =
+    text_at quiet (next_indents columns all s.blocks) (is_dropped all line) (is_leading all line) s line.number line.bytes
+    ++ text_from quiet columns all (after_line (is_dropped all line) s line.number) lines
 
 -- before the first line
 abbrev pub at_start : List Block → ℕ → List (Option Placed) → Place
 at_start blocks before given = record { blocks = blocks; before = before; given = given; number = 1; passed = 0; stood = false }
 
 -- a source, so many of whose blocks stand before those that are given
-abbrev pub printed_keeping : (quiet : Bool) → Reading → (before : ℕ) → List (Option Placed) → List ℕ
-printed_keeping quiet source before given = text_from quiet (classed_lines source) (at_start (blocks_of (classed_lines source)) before given) (classed_lines source)
+abbrev pub printed_keeping : (quiet : Bool) → Columns → Reading → (before : ℕ) → List (Option Placed) → List ℕ
+printed_keeping quiet columns source before given =
+    text_from quiet columns (classed_lines source) (at_start (blocks_of (classed_lines source)) before given) (classed_lines source)

@@ -7,6 +7,7 @@ pub mod Printed
 pub mod ReadAgain
 pub mod Gives
 pub mod Pads
+pub mod Columns
 pub mod Keeping
 pub mod Printer
 pub mod Keeper

@@ -1,16 +1,19 @@
 ghost use Rattle.std.specs.Prelude.{ℕ, ◌≡◌, ◌≤◌, ◌++◌, codes, decimal, length, OnOk};
 ghost use Rattle.s66_isa.specs.Lists.{Among};
 ghost use Rattle.s66_line.specs.Fields.{body, trim};
-ghost use Rattle.s66_source.specs.Printed.{is_trailing, bound_text, splits_line, times_text, report, label_field, instruction_line, instruction_lines};
+ghost use Rattle.s66_source.specs.Columns.{indented_line, indented_lines, line_start};
+ghost use Rattle.s66_source.specs.Printed.{is_trailing, bound_text, splits_line, times_text, report, label_field, instruction_lines};
 ghost use Rattle.s66_isa.specs.declared.limits.TheConstants.{BLOCK_LIMIT};
 
+use crate::columns::USUAL_INDENT;
 use crate::placed::Placed;
 use s66_device::push_field;
+use s66_isa::BLOCK_LIMIT;
 use s66_line::{Block, body_of};
 use std::alloc::AllocError;
 
-/// The bytes before the operation of an instruction that is printed.
-const LABEL_WIDTH: usize = 10;
+/// The bytes to which a label is filled.
+const LABEL_WIDTH: usize = USUAL_INDENT as usize;
 
 /// That this order is best, or what every order takes at least.
 fn push_bound(out: &mut Vec<u8>, placed: &Placed) -> Result<(), AllocError>
@@ -97,13 +100,50 @@ pub(crate) fn without_trailing(bytes: &[u8]) -> &[u8]
     &bytes[..end]
 }
 
-/// The line of an instruction after a label, by its bytes from the operation on.
-fn push_instruction(out: &mut Vec<u8>, label: &[u8], bytes: &[u8]) -> Result<(), AllocError>
-    ensures { OnOk result (out.new.items ≡ out.old.items ++ instruction_line label.now bytes.now) }
+/// What comes before the operation of an instruction: its label, or so many blanks if it has none.
+fn push_start(out: &mut Vec<u8>, label: &[u8], indent: u8) -> Result<(), AllocError>
+    ensures { OnOk result (out.new.items ≡ out.old.items ++ line_start label.now indent) }
 {
-    push_label(out, label)?;
+    if label.is_empty() {
+        out.extend_from_slice(&[b' '; 256][..indent as usize])
+    } else {
+        push_label(out, label)
+    }
+}
+
+/// The line of an instruction after a label, or so many blanks if there is none, by its bytes from the operation on.
+fn push_instruction(
+    out: &mut Vec<u8>,
+    label: &[u8],
+    indent: u8,
+    bytes: &[u8],
+) -> Result<(), AllocError>
+    ensures { OnOk result (out.new.items ≡ out.old.items ++ indented_line label.now indent bytes.now) }
+{
+    push_start(out, label, indent)?;
     out.extend_from_slice(without_trailing(bytes))?;
     out.extend_from_slice(b"\n")
+}
+
+/// The lines of the instructions of these numbers, the first with the label of the block, by the blanks before each instruction of the
+/// block that has no label.
+pub(crate) fn push_indented(
+    out: &mut Vec<u8>,
+    block: &Block,
+    order: &[u8],
+    indents: &[u8],
+) -> Result<(), AllocError>
+    requires order { (n : ℕ) → Among n order.now → (1 ≤ n) × (n ≤ length block.now.entries) }
+    requires indents { length block.now.entries ≤ length indents.now }
+    ensures { OnOk result (out.new.items ≡ out.old.items ++ indented_lines indents.now block.now block.now.label order.now) }
+{
+    let mut label = block.label();
+    for number in order {
+        let number = *number as usize;
+        push_instruction(out, label, indents[number - 1], block.bytes(number))?;
+        label = &[];
+    }
+    Ok(())
 }
 
 /// The lines of the instructions of these numbers, the first with the label of the block.
@@ -115,12 +155,8 @@ pub(crate) fn push_instructions(
     requires { (n : ℕ) → Among n order.now → (1 ≤ n) × (n ≤ length block.now.entries) }
     ensures { OnOk result (out.new.items ≡ out.old.items ++ instruction_lines block.now block.now.label order.now) }
 {
-    let mut label = block.label();
-    for number in order {
-        push_instruction(out, label, block.bytes(*number as usize))?;
-        label = &[];
-    }
-    Ok(())
+    prove!(block.count() <= BLOCK_LIMIT);
+    push_indented(out, block, order, &[USUAL_INDENT; BLOCK_LIMIT])
 }
 
 /// A line as it was read, without the carriage returns at its end.

@@ -1,13 +1,16 @@
-ghost use Rattle.std.specs.Prelude.{ℕ, ◌≡◌, ◌≤◌, ◌<◌, ◌++◌, if◌then◌else◌, length, nat_lt, IfOk, OnOk, drop};
+ghost use Rattle.std.specs.Prelude.{ℕ, suc, ◌≡◌, ◌≤◌, ◌<◌, ◌++◌, if◌then◌else◌, length, nat_lt, IfOk, OnOk, drop};
 ghost use Rattle.s66_isa.specs.Lists.{Among};
 ghost use Rattle.s66_source.specs.Keeping.{AreGiven, others, printed_keeping, text_anew};
 ghost use Rattle.s66_source.specs.Printer.{begins_with};
 ghost use Rattle.s66_source.specs.Source.{blocks_of, classed_lines};
 
-use crate::block_text::{push_copied, push_instructions, push_report};
+use crate::block_text::{push_copied, push_indented, push_report};
+use crate::columns::Columns;
 use crate::placed::Placed;
 use crate::source::Source;
+use arrayvec::ArrayVec;
 use memchr::memchr;
+use s66_isa::BLOCK_LIMIT;
 use s66_line::Block;
 use std::alloc::{AllocError, Global};
 use std::marker::Model;
@@ -46,25 +49,28 @@ fn given_after(given: &[Option<Placed>], before: usize) -> &[Option<Placed>]
 }
 
 /// What is printed in the place of an instruction of a block that is printed, before which `passed` instructions of the block come: in
-/// that of the first the report, unless there are to be none, in that of the last all instructions.
+/// that of the first the report, unless there are to be none, in that of the last all instructions. `indents` are the blanks before each
+/// of its instructions up to this one.
 fn push_anew(
     out: &mut Vec<u8>,
     quiet: bool,
+    indents: &[u8],
     number: u32,
     passed: usize,
     block: &Block,
     placed: &Placed,
 ) -> Result<(), AllocError>
+    requires indents { length indents.now ≡ suc passed }
     requires passed { passed < length block.now.entries }
     requires placed { (n : ℕ) → Among n placed.now.order → (1 ≤ n) × (n ≤ length block.now.entries) }
-    ensures { OnOk result (out.new.items ≡ out.old.items ++ text_anew quiet number passed block.now placed.now) }
+    ensures { OnOk result (out.new.items ≡ out.old.items ++ text_anew quiet indents.now number passed block.now placed.now) }
 {
     let count = block.count();
     if passed == 0 && !quiet {
         push_report(out, number, count, placed)?;
     }
     if passed + 1 == count {
-        push_instructions(out, block, placed.order.as_slice())?;
+        push_indented(out, block, placed.order.as_slice(), indents)?;
     }
     Ok(())
 }
@@ -74,6 +80,7 @@ fn push_anew(
 struct Keeper<'s, 'a> {
     /// Whether no report is printed.
     quiet: bool,
+    columns: Columns,
     /// The blocks whose last instruction is among the lines to come.
     blocks: &'s [Block<'a>],
     /// How many of them stand before those that are given.
@@ -88,6 +95,8 @@ struct Keeper<'s, 'a> {
     number: u32,
     /// How many of its instructions were passed.
     passed: usize,
+    /// The blanks before each of them, if it is printed.
+    indents: ArrayVec<u8, BLOCK_LIMIT>,
     /// Whether the last block that was passed stands.
     stood: bool,
     /// How many lines were passed.
@@ -99,14 +108,14 @@ impl<'s, 'a> Model for Keeper<'s, 'a> {
 
     ghost Value = { Keeper };
 
-    ghost view = { λ k. record { quiet = k.quiet; place = record { blocks = k.blocks.now; before = k.before; given = k.given.now; number = k.number; passed = k.passed; stood = k.stood }; dropped = k.dropped.now; leading = k.leading.now; lines = k.lines } };
+    ghost view = { λ k. record { quiet = k.quiet; columns = k.columns; place = record { blocks = k.blocks.now; before = k.before; given = k.given.now; number = k.number; passed = k.passed; stood = k.stood }; indents = k.indents.items; dropped = k.dropped.now; leading = k.leading.now; lines = k.lines } };
 }
 
 impl<'s, 'a> Keeper<'s, 'a> {
     ghost use Rattle.std.specs.Prelude.{◌≡◌, ◌≤◌, ◌<◌, ◌+◌, ◌++◌, true, suc, [], if◌then◌else◌, length, OnOk};
     ghost use Rattle.s66_line.specs.Fields.{lines_from};
-    ghost use Rattle.s66_source.specs.Keeping.{after_block, after_instruction, copied, instruction_text, is_at, pad_stands, stands_next};
-    ghost use Rattle.s66_source.specs.Keeper.{IsKeeper, IsPlace, after_kept, is_leading_next, kept_from, kept_text};
+    ghost use Rattle.s66_source.specs.Keeping.{after_block, after_instruction, copied, ends_block, instruction_text, pad_stands, stands_next};
+    ghost use Rattle.s66_source.specs.Keeper.{IsKeeper, IsPlace, after_kept, is_instruction_next, is_leading_next, kept_from, kept_text, with_indent};
     ghost use Rattle.s66_source.specs.declared.limits.TheConstants.{SOURCE_LINES_LIMIT};
 
     /// Whether there is a block to come, and it stands.
@@ -127,10 +136,10 @@ impl<'s, 'a> Keeper<'s, 'a> {
     }
 
     /// Whether a `NO` stands, before which an instruction of its run comes or not.
-    fn pad_stands(&self, leads: bool) -> bool
-        ensures { result ≡ pad_stands leads self.now.place }
+    fn pad_stands(&self, leading: bool) -> bool
+        ensures { result ≡ pad_stands leading self.now.place }
     {
-        if self.passed == 0 && !leads {
+        if self.passed == 0 && !leading {
             self.stood
         } else {
             self.stands()
@@ -141,7 +150,7 @@ impl<'s, 'a> Keeper<'s, 'a> {
     fn is_at_instruction(&self) -> bool
         requires lines { self.now.lines < SOURCE_LINES_LIMIT }
         requires keeper { IsKeeper self.now }
-        ensures { result ≡ is_at (suc self.now.lines) self.now.place.passed self.now.place.blocks }
+        ensures { result ≡ is_instruction_next self.now }
     {
         match self.blocks {
             [block, ..] => {
@@ -155,7 +164,7 @@ impl<'s, 'a> Keeper<'s, 'a> {
     /// Whether the next line is a `NO` before which no instruction of its run comes; such a line is passed.
     fn take_leading(&mut self) -> bool
         requires { self.old.lines < SOURCE_LINES_LIMIT }
-        ensures leads { result ≡ is_leading_next self.old }
+        ensures leading { result ≡ is_leading_next self.old }
         ensures rest { self.new ≡ record self.old { leading = if is_leading_next self.old then others self.old.leading else self.old.leading } }
     {
         if !begins_with(self.leading, self.lines + 1) {
@@ -165,11 +174,26 @@ impl<'s, 'a> Keeper<'s, 'a> {
         true
     }
 
-    /// Prints in the place of an instruction.
+    /// Takes in the line of an instruction.
+    fn put_indent(&mut self, line: &[u8])
+        requires keeper { IsKeeper self.old }
+        requires here { is_instruction_next self.old ≡ true }
+        ensures { self.new ≡ record self.old { indents = with_indent self.old line.now } }
+    {
+        let [block, ..] = self.blocks else {
+            return;
+        };
+        prove!(block.count() >= 1);
+        prove!(block.count() <= BLOCK_LIMIT);
+        self.indents.push(self.columns.indent(line));
+    }
+
+    /// Prints in the place of an instruction, whose line was taken in.
     fn print_instruction(&self, out: &mut Vec<u8>, line: &[u8]) -> Result<(), AllocError>
-        requires keeper { IsKeeper self.now }
-        requires here { is_at (suc self.now.lines) self.now.place.passed self.now.place.blocks ≡ true }
-        ensures { OnOk result (out.new.items ≡ out.old.items ++ instruction_text self.now.quiet self.now.place line.now) }
+        requires place { IsPlace self.now.place }
+        requires indents { length self.now.indents ≡ suc self.now.place.passed }
+        requires here { is_instruction_next self.now ≡ true }
+        ensures { OnOk result (out.new.items ≡ out.old.items ++ instruction_text self.now.quiet self.now.indents self.now.place line.now) }
     {
         if self.before > 0 {
             return push_copied(out, line);
@@ -182,7 +206,15 @@ impl<'s, 'a> Keeper<'s, 'a> {
             return push_copied(out, line);
         };
         match first {
-            Some(placed) => push_anew(out, self.quiet, self.number, self.passed, block, placed),
+            Some(placed) => push_anew(
+                out,
+                self.quiet,
+                self.indents.as_slice(),
+                self.number,
+                self.passed,
+                block,
+                placed,
+            ),
             None => push_copied(out, line),
         }
     }
@@ -191,7 +223,7 @@ impl<'s, 'a> Keeper<'s, 'a> {
     fn pass_block(&mut self)
         requires number { self.old.place.number ≤ suc SOURCE_LINES_LIMIT }
         requires place { IsPlace self.old.place }
-        ensures rest { self.new ≡ record self.old { place = after_block self.old.place } }
+        ensures rest { self.new ≡ record self.old { place = after_block self.old.place; indents = [] } }
         ensures place { IsPlace self.new.place }
     {
         self.stood = self.stands();
@@ -200,16 +232,20 @@ impl<'s, 'a> Keeper<'s, 'a> {
         self.blocks = others(self.blocks);
         self.number += 1;
         self.passed = 0;
+        self.indents.clear();
     }
 
-    /// Passes an instruction.
+    /// Passes an instruction, whose line was taken in.
     fn pass_instruction(&mut self)
         requires lines { self.old.lines < SOURCE_LINES_LIMIT }
-        requires keeper { IsKeeper self.old }
-        requires here { is_at (suc self.old.lines) self.old.place.passed self.old.place.blocks ≡ true }
-        ensures rest { self.new ≡ record self.old { place = after_instruction self.old.place } }
+        requires place { IsPlace self.old.place }
+        requires number { self.old.place.number ≤ suc self.old.lines }
+        requires indents { length self.old.indents ≡ suc self.old.place.passed }
+        requires here { is_instruction_next self.old ≡ true }
+        ensures rest { self.new ≡ record self.old { place = after_instruction self.old.place; indents = if ends_block self.old.place.passed self.old.place.blocks then [] else self.old.indents } }
         ensures place { IsPlace self.new.place }
         ensures number { self.new.place.number ≤ suc (suc self.old.lines) }
+        ensures indents { length self.new.indents ≡ self.new.place.passed }
     {
         let [block, ..] = self.blocks else {
             return;
@@ -223,10 +259,10 @@ impl<'s, 'a> Keeper<'s, 'a> {
     }
 
     /// Prints a line that is left out unless its block stands.
-    fn print_pad(&self, out: &mut Vec<u8>, line: &[u8], leads: bool) -> Result<(), AllocError>
-        ensures { OnOk result (out.new.items ≡ out.old.items ++ (if pad_stands leads self.now.place then copied line.now else [])) }
+    fn print_pad(&self, out: &mut Vec<u8>, line: &[u8], leading: bool) -> Result<(), AllocError>
+        ensures { OnOk result (out.new.items ≡ out.old.items ++ (if pad_stands leading self.now.place then copied line.now else [])) }
     {
-        if self.pad_stands(leads) {
+        if self.pad_stands(leading) {
             push_copied(out, line)
         } else {
             Ok(())
@@ -238,14 +274,15 @@ impl<'s, 'a> Keeper<'s, 'a> {
         requires lines { self.old.lines < SOURCE_LINES_LIMIT }
         requires keeper { IsKeeper self.old }
         ensures text { OnOk result (out.new.items ≡ out.old.items ++ kept_text self.old line.now) }
-        ensures rest { OnOk result (self.new ≡ after_kept self.old) }
+        ensures rest { OnOk result (self.new ≡ after_kept self.old line.now) }
         ensures keeper { OnOk result (IsKeeper self.new) }
     {
-        let leads = self.take_leading();
+        let leading = self.take_leading();
         if begins_with(self.dropped, self.lines + 1) {
-            self.print_pad(out, line, leads)?;
+            self.print_pad(out, line, leading)?;
             self.dropped = &self.dropped[1..];
         } else if self.is_at_instruction() {
+            self.put_indent(line);
             self.print_instruction(out, line)?;
             self.pass_instruction();
         } else {
@@ -284,19 +321,22 @@ impl<'s, 'a> Keeper<'s, 'a> {
 
 /// A source, so many of whose blocks stand before those that are given. Of these stand those without an order, and so do all blocks after
 /// them. Each line of a block that stands is as it was read, and so are the `NO`s of it; all other blocks are printed as `print_source`
-/// does, without reports if it is `quiet`.
+/// does, without reports if it is `quiet`, and with the operations of lines without a label in these columns. Only the first line of a
+/// block can have a label.
 pub fn print_keeping(
     alloc: Global,
     source: &Source,
     before: usize,
     given: &[Option<Placed>],
     quiet: bool,
+    columns: Columns,
 ) -> Result<Vec<u8>, AllocError>
     requires { AreGiven (drop before (blocks_of (classed_lines source.now))) given.now }
-    ensures { IfOk result (λ text. text.items ≡ printed_keeping quiet source.now before given.now) }
+    ensures { IfOk result (λ text. text.items ≡ printed_keeping quiet columns source.now before given.now) }
 {
     let mut keeper = Keeper {
         quiet,
+        columns,
         blocks: source.blocks(),
         before,
         given,
@@ -304,6 +344,7 @@ pub fn print_keeping(
         leading: source.leading(),
         number: 1,
         passed: 0,
+        indents: ArrayVec::new(),
         stood: false,
         lines: 0,
     };

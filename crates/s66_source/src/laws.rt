@@ -1,8 +1,12 @@
 ghost use Rattle.std.specs.Prelude.{◌≡◌, ◌≤◌, ℕ, List, ◌∷◌, ◌++◌, Some, None, Ok, Err, ◌≢◌, Bool, true, false, map, length, codes, [], not, replicate};
 ghost use Rattle.s66_isa.specs.Table.{instr, instr_at};
 ghost use Rattle.s66_isa.specs.Lists.{Among, tally, every};
-ghost use Rattle.s66_line.specs.Fields.{is_newline, upper, body, lines_of};
-ghost use Rattle.s66_line.specs.InstructionText.{IsTextOf};
+ghost use Rattle.s66_isa.specs.declared.instr.Instr.{Instr};
+ghost use Rattle.s66_line.specs.Fields.{is_newline, upper, body, from_operation, lines_of, trim};
+ghost use Rattle.s66_line.specs.InstructionText.{IsTextOf, Spells};
+ghost use Rattle.s66_line.specs.declared.class.Class.TheVariants.{Instruction};
+ghost use Rattle.s66_source.specs.Columns.{indent, indented_lines, indents};
+ghost use Rattle.s66_source.specs.declared.columns.Columns.TheVariants.{Own, Usual};
 ghost use Rattle.s66_source.specs.UpperRead.{upper_read};
 ghost use Rattle.s66_source.specs.Counts.{cover_of};
 ghost use Rattle.s66_source.specs.LeftAlone.{Flagged, Reading, flagged_lines, is_off_switch, plain};
@@ -13,7 +17,8 @@ ghost use Rattle.s66_line.specs.Block.{Block, instrs_of, text_of, constants_in};
 ghost use Rattle.s66_line.specs.Class.{class_of, is_instruction};
 ghost use Rattle.s66_isa.specs.declared.limits.TheConstants.{BLOCK_LIMIT};
 ghost use Rattle.s66_source.specs.BlockParts.{AreParts};
-ghost use Rattle.s66_source.specs.Printed.{Placed, ArePlaced, label_field, printed};
+ghost use Rattle.s66_source.specs.Keeping.{printed_keeping};
+ghost use Rattle.s66_source.specs.Printed.{Placed, ArePlaced, instruction_lines, is_trailing, label_field, printed};
 ghost use Rattle.s66_source.specs.ReadAgain.{AreComplete, ArePlacedAgain};
 ghost use Rattle.s66_source.specs.Roles.{is_note, is_note_of, is_dropped, is_copied, roles, lines_that, mixed_source, outside_source};
 
@@ -52,6 +57,19 @@ pub fn copied_law()
 /// refused if a line or the source has grown too long.
 pub fn read_again_law()
     ensures { (source : Reading) (blocks again : List Block) (ps : List Placed) → source_of source ≡ Ok blocks → ArePlaced blocks ps → AreComplete blocks ps → source_of (record { cut = source.cut; text = printed source ps }) ≡ Ok again → ArePlacedAgain blocks ps again }
+{}
+
+/// Where no block stands, a source is printed as by its orders alone.
+pub fn none_stands_law()
+    ensures { (source : Reading) (blocks : List Block) (ps : List Placed) → source_of source ≡ Ok blocks → ArePlaced blocks ps → printed_keeping false Usual source 0 (map (λ (p : Placed). Some p) ps) ≡ printed source ps }
+{}
+
+/// An operation in the usual column is printed as without the option. A line whose operation keeps its column is read as the
+/// instruction that it spells.
+pub fn columns_law()
+    ensures usual { (all : List Line) (block : Block) (order : List ℕ) → ((n : ℕ) → Among n order → (1 ≤ n) × (n ≤ length block.entries)) → indented_lines (indents Usual all block) block block.label order ≡ instruction_lines block block.label order }
+    ensures class { (after : Bool) (line bytes : List ℕ) (n : Instr) → Spells bytes n → class_of after (replicate (indent Own line) 32 ++ trim is_trailing bytes) ≡ Instruction false n }
+    ensures bytes { (line bytes : List ℕ) (n : Instr) → Spells bytes n → from_operation (body (replicate (indent Own line) 32 ++ trim is_trailing bytes)) ≡ trim is_trailing bytes }
 {}
 
 /// With `--cut` no operand is refused.
@@ -159,6 +177,21 @@ pub fn printed_examples()
         codes "          SA1    A1+B1   NEXT WORD\n" }
     ensures long_label { label_field (codes " ABCDEFGHI") ≡ codes " ABCDEFGHI " }
     ensures short_label { label_field (codes "ABCDEFGHI") ≡ codes "ABCDEFGHI " }
+{}
+
+/// How many blanks come before an operation that keeps its column: after a label, after a tab alone, and in a line with a long label. And
+/// a source printed so, of which one block stands.
+pub fn columns_examples()
+    ensures label { indent Own (codes "LOOP  SA1 A1") ≡ 6 }
+    ensures tab { indent Own (codes "\tBX6 X1") ≡ 2 }
+    ensures long { indent Own (codes " A.LABEL.OF.THIRTY.BYTES.AND.ONE  BX6 X1\r") ≡ 28 }
+    ensures kept { printed_keeping true Own (plain (codes "LOOP  SA1 A1+B1\n    BX6 X1\n* NOTE\n      BX7 X2     COPY \r\n ZR X1,L\n   BX1 X2\n")) 0 (Some (record { order = 3 ∷ 1 ∷ 2 ∷ []; source = 16; time = 12; bound = 12; splits = None }) ∷ None ∷ []) ≡
+        codes "* NOTE\n" ++
+        codes "LOOP      BX7 X2     COPY\n" ++
+        codes "      SA1 A1+B1\n" ++
+        codes "    BX6 X1\n" ++
+        codes " ZR X1,L\n" ++
+        codes "   BX1 X2\n" }
 {}
 
 /// A source printed with the instructions of its first block exchanged, and read again. The label of a `NO` that was left out is

@@ -2,6 +2,7 @@
 #![tactic(auto)]
 
 mod block_text;
+mod columns;
 mod counts;
 mod cover;
 mod error;
@@ -18,6 +19,7 @@ mod reader;
 mod source;
 mod standing;
 
+pub use columns::Columns;
 pub use counts::{are_digits, counting_text, cover_of, is_decimal_digit, is_one_of};
 pub use cover::{Cover, Covered};
 pub use error::SourceError;
@@ -25,9 +27,9 @@ pub use frame::{FramePart, frame_of};
 pub use halves::{Halves, halves_of};
 pub use keeper::print_keeping;
 pub use laws::{
-    block_examples, case_law, copied_law, count_examples, cut_law, left_alone_examples,
-    line_examples, line_law, parts_law, plain_law, printed_examples, read_again_examples,
-    read_again_law, spelled_law,
+    block_examples, case_law, columns_examples, columns_law, copied_law, count_examples, cut_law,
+    left_alone_examples, line_examples, line_law, none_stands_law, parts_law, plain_law,
+    printed_examples, read_again_examples, read_again_law, spelled_law,
 };
 pub use limits::SOURCE_LINES_LIMIT;
 pub use placed::Placed;

@@ -10,5 +10,5 @@ print_all-requires-clause-lines c =
 pub returns : goal.returns
 returns c =
     c.in_ok-print_all.ensures.text
-    ∙ rw (c.new-out.ensures.items, c.dropped.ensures, c.leading.ensures, c.text.ensures)
-    (print-keeping c.args.quiet c.args.source.now c.blocks-2.result.now c.args.before c.args.given.now c.blocks-2.ensures)
+    ∙ rw (c.new-out.ensures.items, c.new.ensures, c.dropped.ensures, c.leading.ensures, c.text.ensures)
+    (print-keeping c.args.quiet c.args.columns c.args.source.now c.blocks-2.result.now c.args.before c.args.given.now c.blocks-2.ensures)

@@ -1,0 +1,11 @@
+use Rattle.s66_source.proofs.IndentedLines.{own-class, own-left, usual-indents}
+use Rattle.s66_source.proofs.laws.columns_law.Goals as goal
+
+pub returns-clause-usual : goal.returns-clause-usual
+returns-clause-usual c = usual-indents
+
+pub returns-clause-class : goal.returns-clause-class
+returns-clause-class c = own-class
+
+pub returns-clause-bytes : goal.returns-clause-bytes
+returns-clause-bytes c = own-left
