@@ -307,6 +307,8 @@ def faults_of(shown, events, path, rows, total, orders):
         return faults + [f"{len(shown['blocks'])} blocks and {len(shown['orders'])} orders, not {len(rows)} and {len(orders)}"]
     if overlaps([piece[1:] for piece in shown["pieces"]]):
         faults.append("a piece of the page lies over the next one")
+    if [text.splitlines() for text in shown["why"]] != [why for *_, why in orders]:
+        faults.append("below an order stands otherwise than why says")
     for number, (order, (_, time, trace, why)) in enumerate(zip(shown["orders"], orders), 1):
         faults += [f"order {number}: {fault}" for fault in order_faults(order, time, trace, why)]
         faults += [f"order {number}: row {row} lies over the next one" for row in overlaps([row["place"] for row in order["rows"]])]

@@ -5,14 +5,13 @@ use Rattle.s66_isa.specs.KindNames.{kind_name}
 use Rattle.s66_isa.specs.Lists.{Among}
 use Rattle.s66_isa.specs.Table.{latency_of}
 use Rattle.s66_line.specs.Block.{Block, bytes_of}
-use Rattle.s66_model.specs.Timing.{Problem, Point, latest_result, point_of, points_after, points_of}
+use Rattle.s66_model.specs.Timing.{Problem, Point, point_of, points_after, points_of}
 use Rattle.s66_model.proofs.PointTimes.{points_after-append}
 use Rattle.s66_time.specs.TimedOrder.{TimedOrder, point_at}
 use Rattle.s66_time.proofs.Positions.{point-at, points-push}
 use Rattle.s66_why.specs.declared.stretch.Stretch.{Stretch}
 use Rattle.s66_why.specs.Why.{conflict_name, stretches_at}
 use Rattle.s66_page.specs.declared.row.Shown.TheVariants.{Bar}
-use Rattle.s66_page.specs.declared.work.Work.{Work}
 use Rattle.s66_page.specs.Page.{all_kind_rows, bar, bar_start, cycles_of, instruction_row, instruction_rows, on_path, order_head, order_text, row_head, row_marks, row_words, shown_as, span, stretch_bar, stretch_title, why_below, work, work_bar, work_title, works}
 use Rattle.s66_page.specs.Rows.{Holds, place_of_bar, title_of_times}
 

@@ -5,7 +5,7 @@ use Rattle.std.proofs.lemmas.List.{reverse-append, take-append-drop}
 use Rattle.s66_isa.specs.declared.limits.TheConstants.{BLOCK_LIMIT}
 use Rattle.s66_isa.specs.Lists.{Among}
 use Rattle.s66_isa.proofs.Lists.{among-front, among-rest}
-use Rattle.s66_model.specs.Timing.{Problem, Point, point_of, points_after, points_of, total}
+use Rattle.s66_model.specs.Timing.{Problem, Point, point_of, points_after, points_of}
 use Rattle.s66_model.proofs.PointTimes.{point_of-number, points_after-append}
 use Rattle.s66_why.specs.declared.path.Milestone.{Milestone}
 use Rattle.s66_why.specs.declared.path.Step.{Step}

@@ -22,7 +22,7 @@ use Rattle.s66_why.specs.declared.path.Step.{Step}
 use Rattle.s66_why.specs.declared.path.Wait.{Wait}
 use Rattle.s66_why.specs.declared.stretch.Conflict.{Conflict}
 use Rattle.s66_why.specs.declared.stretch.Conflict.TheVariants.{First, Second, Third}
-use Rattle.s66_why.specs.Why.{before, before_issue, before_start, decides, first_holder, holder, is_held, lets_go, next_wait, passes, second_holder, slot, steps, steps_from, third_holder, walk}
+use Rattle.s66_why.specs.Why.{before, before_issue, before_start, decides, first_holder, holder, is_held, lets_go, next_wait, second_holder, slot, steps, steps_from, third_holder, walk}
 use Rattle.s66_why.specs.Forbids.{AreFromOne}
 use Rattle.s66_why.specs.Paths.{AddsUp, AreOnce, GoesOn, IsPath, Leads, LetsGoWith, made_at, unhindered}
 use Rattle.s66_why.proofs.Alike.{AreAlike, row-alike}

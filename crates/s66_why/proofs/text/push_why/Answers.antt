@@ -9,7 +9,6 @@ use Rattle.s66_model.specs.LegalOrder.{IsLegal}
 use Rattle.s66_model.specs.Timing.{Point, Problem, points_of, total}
 use Rattle.s66_model.proofs.PointTimes.{points_after-length}
 use Rattle.s66_why.specs.declared.path.Step.{Step}
-use Rattle.s66_why.specs.declared.stretch.Stretch.{Stretch}
 use Rattle.s66_why.specs.Numbers.{AreOf, IsOf, StepsAreOf}
 use Rattle.s66_why.specs.Sums.{sums_line}
 use Rattle.s66_why.specs.Why.{lost, lost_line, path_lines, steps, stretch_line, stretches}
