@@ -1,8 +1,7 @@
 -- To be believed: why no order is faster, in sentences: what is said of a document whose verdict is yes, each number in it one that its lines are checked by.
-use Rattle.std.specs.Prelude.{ℕ, zero, suc, ◌+◌, ◌-◌, ◌*◌, Bool, if◌then◌else◌, ◌&&◌, ◌==◌, List, [], ◌∷◌, ◌++◌, codes, decimal, flat_map, get_or, length, map, replicate, Option, None, Some}
+use Rattle.std.specs.Prelude.{ℕ, ◌+◌, ◌-◌, if◌then◌else◌, ◌&&◌, ◌==◌, List, [], ◌∷◌, ◌++◌, codes, decimal, length, map, Option, None, Some}
 use Rattle.std.specs.List.{filter}
 use Rattle.s66_isa.specs.declared.instr.Kind.{Kind}
-use Rattle.s66_isa.specs.declared.instr.Kind.TheVariants.{Boolean, Shift, Add, LongAdd, Multiply, Divide, Increment}
 use Rattle.s66_isa.specs.declared.reg.Reg.{Reg}
 use Rattle.s66_isa.specs.Lists.{greatest}
 use Rattle.s66_isa.specs.Table.{Row, Write, has_reg, numbers, same_kind}
@@ -11,54 +10,12 @@ use Rattle.s66_model.specs.LegalOrder.{sum_remaining}
 use Rattle.s66_model.specs.Leaves.{Whole, Chain, Load, Parcels, if_last, link, load, tail, uses, work_of}
 use Rattle.s66_model.specs.Tree.{Tree, Alone, Parted, Vertex, AtTerminal, AtSplit, splits}
 use Rattle.s66_model.specs.DominatedLeaves.{Ending, Bounding, Dominated, Next, Turned, AtLine, LoadFrom}
-use Rattle.s66_why.specs.Why.{bank_name}
 use Rattle.s66_cert.specs.Document.{Document}
+use Rattle.s66_moments.specs.declared.moment.Moment.TheVariants.{Origin, End}
+use Rattle.s66_moments.specs.Known.{known_first}
 use Rattle.s66_checker.specs.Verdict.{problem_of, facts_of}
-
--- WORDS
-
--- an instruction: its number, and its text as the document has it
-abbrev pub instruction : Document → ℕ → List ℕ
-instruction d n = decimal n ++ codes " " ++ get_or d.block (n - 1) []
-
-abbrev pub register : Reg → List ℕ
-register r = bank_name r.bank ++ decimal r.digit
-
-abbrev pub unit_name : Kind → List ℕ
-unit_name Boolean = codes "Boolean"
-unit_name Shift = codes "Shift"
-unit_name Add = codes "Add"
-unit_name LongAdd = codes "Long Add"
-unit_name Multiply = codes "Multiply"
-unit_name Divide = codes "Divide"
-unit_name Increment = codes "Increment"
-
--- what comes after one of some, by how many come later
-abbrev pub separator : ℕ → List ℕ
-separator zero = []
-separator (suc zero) = codes " and "
-separator (suc (suc more)) = codes ", "
-
--- one after the other
-abbrev pub listed : (ℕ → List ℕ) → List ℕ → List ℕ
-listed words [] = []
-listed words (n ∷ ns) = words n ++ separator (length ns) ++ listed words ns
-
--- so many, in the plural unless it is one
-abbrev pub counted : ℕ → List ℕ → List ℕ
-counted n word = decimal n ++ codes " " ++ word ++ (if n == 1 then [] else codes "s")
-
--- ROWS: a minor cycle, right in four places, and what can't be sooner
-
-pub record Reason : Type 0 where
-  pub number : ℕ
-  pub words : List ℕ
-
-abbrev pub in_four : ℕ → List ℕ
-in_four n = replicate (4 - length (decimal n)) 32 ++ decimal n
-
-abbrev pub row_text : Reason → List ℕ
-row_text r = in_four r.number ++ codes "  " ++ r.words ++ codes "\n"
+use Rattle.s66_reasons.specs.Words.{Reason, counted, each_words, instruction, listed, register, rows_text, unit_name}
+use Rattle.s66_reasons.specs.FactWords.{facts_from, load_sentence}
 
 -- A CHAIN: what an instruction waits for of the one before it, and the end of the last
 
@@ -119,23 +76,26 @@ work d kind = sum_remaining (problem_of d).block [] (λ n. work_of kind (row_at 
 abbrev pub longest_use : Document → List ℕ → ℕ
 longest_use d ns = greatest (λ n. (row_at (problem_of d) n).hold + 1) ns
 
--- for how long each of so many needs it, by what all need and what one does at most
-abbrev pub each_words : (count total most : ℕ) → List ℕ
-each_words count total most =
-    if count == 1 then decimal total
-    else (if total == count * most then decimal most ++ codes " each" else codes "up to " ++ decimal most)
-
 abbrev pub sharing_words : (copies : ℕ) → List ℕ
 sharing_words copies = if copies == 1 then codes ", one after the other" else codes ", shared by " ++ decimal copies
 
 abbrev pub unit_words : Kind → (copies : ℕ) → List ℕ
 unit_words kind copies = unit_name kind ++ codes " unit" ++ (if copies == 1 then [] else codes "s")
 
+abbrev pub no_need_words : Kind → (copies : ℕ) → List ℕ
+no_need_words kind copies = codes "no instruction needs the " ++ unit_words kind copies
+
+abbrev pub who_needs_words : Document → Kind → (copies : ℕ) → List ℕ → List ℕ
+who_needs_words d kind copies ns =
+    listed (instruction d) ns ++ (if length ns == 1 then codes " needs the " else codes " need the ") ++ unit_words kind copies
+
+abbrev pub how_long_words : (copies total count most : ℕ) → List ℕ
+how_long_words copies total count most = codes " for " ++ each_words count total most ++ codes ": " ++ decimal total ++ sharing_words copies
+
 abbrev pub load_words : Document → Kind → (copies total : ℕ) → List ℕ → List ℕ
-load_words d kind copies total [] = codes "no instruction needs the " ++ unit_words kind copies
-load_words d kind copies total (n ∷ ns) =
-    listed (instruction d) (n ∷ ns) ++ (if length ns == 0 then codes " needs" else codes " need") ++ codes " the " ++ unit_words kind copies
-    ++ codes " for " ++ each_words (length (n ∷ ns)) total (longest_use d (n ∷ ns)) ++ codes ": " ++ decimal total ++ sharing_words copies
+load_words d kind copies total ns =
+    if length ns == 0 then no_need_words kind copies
+    else who_needs_words d kind copies ns ++ how_long_words copies total (length ns) (longest_use d ns)
 
 abbrev pub load_row : Document → Kind → Reason
 load_row d kind =
@@ -159,6 +119,16 @@ last_row d n =
           ++ decimal (tail (row_at (problem_of d) n)) ++ codes " to the end";
     }
 
+-- BY FACTS: what the leaf says takes the bound by what is known after the fact lines
+
+abbrev pub path_rows : Document → ℕ → List Reason
+path_rows d n =
+    record { number = 0; words = instruction d n ++ codes " can issue" }
+    ∷ record { number = d.bound; words = codes "the end, by the longest path from there" } ∷ []
+
+abbrev pub left_row : Document → ℕ → List ℕ → Reason
+left_row d after ns = record { number = d.bound; words = load_sentence (problem_of d) Origin End after d.bound ns }
+
 -- A LEAF
 
 abbrev pub leaf_rows : Document → Ending → List Reason
@@ -167,13 +137,10 @@ leaf_rows d (Bounding (Chain ns)) = chain_rows d ns
 leaf_rows d (Bounding (Load kind)) = load_row d kind ∷ []
 leaf_rows d (Bounding Parcels) = map (last_row d) (numbers (problem_of d).block)
 leaf_rows d (Dominated name) = []
-leaf_rows d (Next number) = []
+leaf_rows d (Next n) = path_rows d n
 leaf_rows d (Turned first second) = []
 leaf_rows d (AtLine line) = []
-leaf_rows d (LoadFrom after ns) = []
-
-abbrev pub rows_text : List Reason → List ℕ
-rows_text rows = flat_map row_text rows
+leaf_rows d (LoadFrom after ns) = left_row d after ns ∷ []
 
 -- WHAT IS SAID
 
@@ -181,31 +148,38 @@ rows_text rows = flat_map row_text rows
 abbrev pub opening : Document → List ℕ
 opening d = codes "Every order takes " ++ decimal d.bound ++ codes " or more"
 
+-- how many splits its tree has, and how many fact lines
 abbrev pub and_facts : ℕ → List ℕ
 and_facts count = if count == 0 then [] else codes " and " ++ counted count (codes "fact")
 
--- by these words and the fact lines
-abbrev pub by_words : Document → List ℕ → List ℕ
-by_words d words = opening d ++ codes ", by " ++ words ++ and_facts (length (facts_of d)) ++ codes ".\n"
+abbrev pub counts_text : Document → List ℕ
+counts_text d = codes ", by " ++ counted (splits d.tree) (codes "split") ++ and_facts (length (facts_of d)) ++ codes ".\n"
+
+-- a leaf by facts is said after them
+abbrev pub facts_before : Document → Ending → List ℕ
+facts_before d (Bounding leaf) = []
+facts_before d (Dominated name) = []
+facts_before d (Next number) = facts_from d (known_first (problem_of d)) 1 (facts_of d)
+facts_before d (Turned first second) = []
+facts_before d (AtLine line) = []
+facts_before d (LoadFrom after ns) = facts_from d (known_first (problem_of d)) 1 (facts_of d)
 
 -- the first line of a tree
 abbrev pub top : {M : Type 0} → Tree M → Vertex M
 top (Alone terminal) = AtTerminal terminal
 top (Parted numbers siblings) = AtSplit numbers
 
-abbrev pub body : Document → Vertex Ending → List ℕ
-body d (AtSplit numbers) = by_words d (counted (splits d.tree) (codes "split"))
-body d (AtTerminal (Next number)) = by_words d (codes "the longest path from " ++ instruction d number)
-body d (AtTerminal (LoadFrom after ns)) = by_words d (codes "what its units have to do")
-body d (AtTerminal (Bounding leaf)) = opening d ++ codes ":\n" ++ rows_text (leaf_rows d (Bounding leaf))
-body d (AtTerminal (Dominated name)) = opening d ++ codes ":\n"
-body d (AtTerminal (Turned first second)) = opening d ++ codes ":\n"
-body d (AtTerminal (AtLine line)) = opening d ++ codes ":\n"
+abbrev pub leaf_text : Document → Ending → List ℕ
+leaf_text d ending = facts_before d ending ++ rows_text (leaf_rows d ending)
 
-abbrev pub last_line : Document → List ℕ
-last_line d =
-    if d.time == d.bound then codes "So the order of " ++ decimal d.time ++ codes " is best.\n"
-    else codes "The order found takes " ++ decimal d.time ++ codes ".\n"
+abbrev pub body : Document → Vertex Ending → List ℕ
+body d (AtSplit numbers) = opening d ++ counts_text d
+body d (AtTerminal ending) = opening d ++ codes ":\n" ++ leaf_text d ending
+
+abbrev pub last_line : (time bound : ℕ) → List ℕ
+last_line time bound =
+    if time == bound then codes "So the order of " ++ decimal time ++ codes " is best.\n"
+    else codes "The order found takes " ++ decimal time ++ codes ".\n"
 
 abbrev pub reasons_text : Document → List ℕ
-reasons_text d = body d (top d.tree) ++ last_line d
+reasons_text d = body d (top d.tree) ++ last_line d.time d.bound

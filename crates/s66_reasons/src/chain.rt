@@ -1,11 +1,13 @@
 //! The rows of a chain: what each of its instructions waits for of the one before it, and the end of the last.
 
-ghost use Rattle.std.specs.Prelude.{◌≡◌, ◌≤◌, ◌<◌, ◌^◌, ◌++◌, OnOk, length};
+ghost use Rattle.std.specs.Prelude.{◌≡◌, ◌≤◌, ◌<◌, ◌^◌, ◌++◌, OnOk, None, Some, length};
 ghost use Rattle.s66_isa.specs.declared.limits.TheConstants.{BLOCK_LIMIT};
 ghost use Rattle.s66_model.specs.Timing.{row_at};
+ghost use Rattle.s66_model.specs.Leaves.{link};
 ghost use Rattle.s66_cert.specs.DocumentParts.{document_of};
 ghost use Rattle.s66_checker.specs.Verdict.{problem_of};
-ghost use Rattle.s66_reasons.specs.Reasons.{awaited, chain_rows, end_row, end_words, last_result, lasting, link_row, link_words, row_text, rows_text};
+ghost use Rattle.s66_reasons.specs.Reasons.{awaited, chain_rows, end_row, end_words, last_result, lasting, link_row, link_words};
+ghost use Rattle.s66_reasons.specs.Words.{row_text, rows_text};
 ghost use Rattle.s66_reasons.specs.Within.{AreWithin};
 
 use crate::words::{push_instruction, push_number, push_register};
@@ -61,7 +63,7 @@ fn push_link_words(
     awaited: Option<Reg>,
 ) -> Result<(), AllocError>
     requires { later.now ≡ row_at (problem_of (document_of document.now)) n }
-    ensures { OnOk result (out.new.items ≡ out.old.items ++ link_words (document_of document.now) m n awaited.entry) }
+    ensures { OnOk result (out.new.items ≡ out.old.items ++ link_words (document_of document.now) m n awaited) }
 {
     match awaited {
         None => {
@@ -86,6 +88,30 @@ fn push_link_words(
     }
 }
 
+/// The unit of n is free at last.
+fn push_unit_end(out: &mut Vec<u8>, document: &Document, n: u8) -> Result<(), AllocError>
+    ensures { OnOk result (out.new.items ≡ out.old.items ++ end_words (document_of document.now) n None) }
+{
+    out.extend_from_slice(b"the unit of ")?;
+    push_instruction(out, document, n)?;
+    out.extend_from_slice(b" is free, and that is the end")
+}
+
+/// A result of n is there at last.
+fn push_result_end(
+    out: &mut Vec<u8>,
+    document: &Document,
+    n: u8,
+    which: Reg,
+) -> Result<(), AllocError>
+    ensures { OnOk result (out.new.items ≡ out.old.items ++ end_words (document_of document.now) n (Some which)) }
+{
+    push_register(out, which)?;
+    out.extend_from_slice(b" of ")?;
+    push_instruction(out, document, n)?;
+    out.extend_from_slice(b" is there, and that is the end")
+}
+
 /// What comes last of all that n does.
 fn push_end_words(
     out: &mut Vec<u8>,
@@ -93,20 +119,11 @@ fn push_end_words(
     n: u8,
     last: Option<Reg>,
 ) -> Result<(), AllocError>
-    ensures { OnOk result (out.new.items ≡ out.old.items ++ end_words (document_of document.now) n last.entry) }
+    ensures { OnOk result (out.new.items ≡ out.old.items ++ end_words (document_of document.now) n last) }
 {
     match last {
-        None => {
-            out.extend_from_slice(b"the unit of ")?;
-            push_instruction(out, document, n)?;
-            out.extend_from_slice(b" is free, and that is the end")
-        }
-        Some(which) => {
-            push_register(out, which)?;
-            out.extend_from_slice(b" of ")?;
-            push_instruction(out, document, n)?;
-            out.extend_from_slice(b" is there, and that is the end")
-        }
+        None => push_unit_end(out, document, n),
+        Some(which) => push_result_end(out, document, n, which),
     }
 }
 

@@ -3,9 +3,14 @@
 #![tactic(auto)]
 
 mod chain;
+mod facts;
+mod laws;
 mod parcels;
 mod reasons;
 mod units;
 mod words;
+mod work;
 
+pub use laws::reasons_law;
 pub use reasons::push_reasons;
+pub use work::Work;

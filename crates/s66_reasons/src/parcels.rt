@@ -1,13 +1,14 @@
 //! The rows of the parcels: whichever instruction issues last, it issues after the parcels of all others.
 
-ghost use Rattle.std.specs.Prelude.{◌≡◌, ◌≤◌, ◌-◌, ◌*◌, ◌++◌, [], OnOk, length, map};
+ghost use Rattle.std.specs.Prelude.{◌≡◌, ◌≤◌, ◌*◌, ◌++◌, [], OnOk, length, map};
 ghost use Rattle.s66_isa.specs.declared.limits.TheConstants.{BLOCK_LIMIT};
 ghost use Rattle.s66_isa.specs.Table.{numbers};
 ghost use Rattle.s66_model.specs.Timing.{row_at};
 ghost use Rattle.s66_model.specs.LegalOrder.{sum_remaining};
 ghost use Rattle.s66_cert.specs.DocumentParts.{document_of};
 ghost use Rattle.s66_checker.specs.Verdict.{problem_of};
-ghost use Rattle.s66_reasons.specs.Reasons.{last_row, row_text, rows_text};
+ghost use Rattle.s66_reasons.specs.Reasons.{last_row};
+ghost use Rattle.s66_reasons.specs.Words.{row_text, rows_text};
 
 use crate::words::{push_instruction, push_number};
 use s66_cert::Document;

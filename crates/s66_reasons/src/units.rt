@@ -1,6 +1,6 @@
 //! The row of a kind of unit: which instructions need it, and for how long.
 
-ghost use Rattle.std.specs.Prelude.{◌≡◌, ◌≤◌, ◌++◌, ◌<◌, ◌^◌, OnOk, length};
+ghost use Rattle.std.specs.Prelude.{◌≡◌, ◌≤◌, ◌+◌, ◌++◌, [], OnOk, length};
 ghost use Rattle.std.specs.List.{filter};
 ghost use Rattle.s66_isa.specs.declared.limits.TheConstants.{BLOCK_LIMIT};
 ghost use Rattle.s66_isa.specs.Lists.{greatest};
@@ -8,10 +8,11 @@ ghost use Rattle.s66_isa.specs.Table.{numbers, same_kind};
 ghost use Rattle.s66_model.specs.Timing.{copies, row_at};
 ghost use Rattle.s66_cert.specs.DocumentParts.{document_of};
 ghost use Rattle.s66_checker.specs.Verdict.{problem_of};
-ghost use Rattle.s66_reasons.specs.Reasons.{each_words, load_row, load_words, longest_use, numbers_of, row_text, sharing_words, unit_words};
+ghost use Rattle.s66_reasons.specs.Reasons.{how_long_words, load_row, load_words, no_need_words, sharing_words, unit_words, who_needs_words};
+ghost use Rattle.s66_reasons.specs.Words.{each_words, row_text};
 ghost use Rattle.s66_reasons.specs.Within.{AreWithin};
 
-use crate::words::{push_instructions, push_number, unit_name};
+use crate::words::{push_between, push_instructions, push_number, unit_name};
 use arrayvec::ArrayVec;
 use s66_cert::Document;
 use s66_checker::{load, remaining_work};
@@ -35,7 +36,7 @@ fn numbers_of(prefix: &Prefix, kind: Kind) -> ArrayVec<u8, BLOCK_LIMIT>
 }
 
 /// For how long one of these needs its unit at most.
-fn longest_use(prefix: &Prefix, numbers: &[u8]) -> u32
+pub(crate) fn longest_use(prefix: &Prefix, numbers: &[u8]) -> u32
     requires { AreWithin (length prefix.now.problem.block) numbers.now }
     ensures { result ≡ greatest (λ n. (row_at prefix.now.problem n).hold + 1) numbers.now }
 {
@@ -47,7 +48,7 @@ fn longest_use(prefix: &Prefix, numbers: &[u8]) -> u32
 }
 
 /// For how long each of so many needs its unit.
-fn push_each(out: &mut Vec<u8>, count: usize, total: u32, most: u32) -> Result<(), AllocError>
+pub(crate) fn push_each(out: &mut Vec<u8>, count: usize, total: u32, most: u32) -> Result<(), AllocError>
     requires { count ≤ BLOCK_LIMIT }
     ensures { OnOk result (out.new.items ≡ out.old.items ++ each_words count total most) }
 {
@@ -68,7 +69,7 @@ fn push_sharing(out: &mut Vec<u8>, copies: u32) -> Result<(), AllocError>
     if copies == 1 {
         out.extend_from_slice(b", one after the other")
     } else {
-        push_field(out, b", shared by ", copies as usize)
+        push_between(out, b", shared by ", copies as usize, b"")
     }
 }
 
@@ -79,6 +80,47 @@ fn push_unit(out: &mut Vec<u8>, kind: Kind, copies: u32) -> Result<(), AllocErro
     out.extend_from_slice(unit_name(kind))?;
     let ending: &[u8] = if copies == 1 { b" unit" } else { b" units" };
     out.extend_from_slice(ending)
+}
+
+/// No instruction needs the units of a kind.
+fn push_no_need(out: &mut Vec<u8>, kind: Kind, copies: u32) -> Result<(), AllocError>
+    ensures { OnOk result (out.new.items ≡ out.old.items ++ no_need_words kind copies) }
+{
+    out.extend_from_slice(b"no instruction needs the ")?;
+    push_unit(out, kind, copies)
+}
+
+/// Which instructions need the units of a kind.
+fn push_who_needs(
+    out: &mut Vec<u8>,
+    document: &Document,
+    kind: Kind,
+    copies: u32,
+    numbers: &[u8],
+) -> Result<(), AllocError>
+    ensures { OnOk result (out.new.items ≡ out.old.items ++ who_needs_words (document_of document.now) kind copies numbers.now) }
+{
+    push_instructions(out, document, numbers)?;
+    let need: &[u8] = if numbers.len() == 1 { b" needs the " } else { b" need the " };
+    out.extend_from_slice(need)?;
+    push_unit(out, kind, copies)
+}
+
+/// For how long they do, and how the units share it.
+fn push_how_long(
+    out: &mut Vec<u8>,
+    copies: u32,
+    total: u32,
+    count: usize,
+    most: u32,
+) -> Result<(), AllocError>
+    requires { count ≤ BLOCK_LIMIT }
+    ensures { OnOk result (out.new.items ≡ out.old.items ++ how_long_words copies total count most) }
+{
+    out.extend_from_slice(b" for ")?;
+    push_each(out, count, total, most)?;
+    push_field(out, b": ", total as usize)?;
+    push_sharing(out, copies)
 }
 
 /// What these instructions, which are all of a kind, need of its units.
@@ -97,17 +139,10 @@ fn push_load_words(
 {
     let copies = prefix.copies(kind);
     if numbers.is_empty() {
-        out.extend_from_slice(b"no instruction needs the ")?;
-        return push_unit(out, kind, copies);
+        return push_no_need(out, kind, copies);
     }
-    push_instructions(out, document, numbers)?;
-    let need: &[u8] = if numbers.len() == 1 { b" needs the " } else { b" need the " };
-    out.extend_from_slice(need)?;
-    push_unit(out, kind, copies)?;
-    out.extend_from_slice(b" for ")?;
-    push_each(out, numbers.len(), total, longest_use(prefix, numbers))?;
-    push_field(out, b": ", total as usize)?;
-    push_sharing(out, copies)
+    push_who_needs(out, document, kind, copies, numbers)?;
+    push_how_long(out, copies, total, numbers.len(), longest_use(prefix, numbers))
 }
 
 /// The row of the load of a kind of unit.

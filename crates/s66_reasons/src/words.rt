@@ -1,6 +1,6 @@
-ghost use Rattle.std.specs.Prelude.{ℕ, List, ◌≡◌, ◌++◌, OnOk, codes};
+ghost use Rattle.std.specs.Prelude.{ℕ, List, ◌≡◌, ◌++◌, OnOk, codes, decimal};
 ghost use Rattle.s66_cert.specs.DocumentParts.{document_of};
-ghost use Rattle.s66_reasons.specs.Reasons.{counted, in_four, instruction, listed, register, separator, unit_name};
+ghost use Rattle.s66_reasons.specs.Words.{counted, in_four, instruction, listed, register, separator, unit_name};
 
 use itoa::Buffer;
 use s66_cert::Document;
@@ -9,15 +9,35 @@ use s66_isa::{Kind, Reg};
 use s66_why::bank_name;
 use std::alloc::AllocError;
 
-/// A number right in four places, and two blanks.
-pub(crate) fn push_number(out: &mut Vec<u8>, number: usize) -> Result<(), AllocError>
-    ensures { OnOk result (out.new.items ≡ out.old.items ++ in_four number ++ codes "  ") }
+/// Words with a number between.
+pub(crate) fn push_between(
+    out: &mut Vec<u8>,
+    before: &[u8],
+    number: usize,
+    after: &[u8],
+) -> Result<(), AllocError>
+    ensures { OnOk result (out.new.items ≡ out.old.items ++ (before.now ++ decimal number ++ after.now)) }
+{
+    push_field(out, before, number)?;
+    out.extend_from_slice(after)
+}
+
+/// A number right in four places.
+fn push_in_four(out: &mut Vec<u8>, number: usize) -> Result<(), AllocError>
+    ensures { OnOk result (out.new.items ≡ out.old.items ++ in_four number) }
 {
     let mut buffer = Buffer::new();
     let digits = buffer.format(number).as_bytes();
     let margin = &b"    "[..4usize.saturating_sub(digits.len())];
     out.extend_from_slice(margin)?;
-    out.extend_from_slice(digits)?;
+    out.extend_from_slice(digits)
+}
+
+/// A number right in four places, and two blanks.
+pub(crate) fn push_number(out: &mut Vec<u8>, number: usize) -> Result<(), AllocError>
+    ensures { OnOk result (out.new.items ≡ out.old.items ++ (in_four number ++ codes "  ")) }
+{
+    push_in_four(out, number)?;
     out.extend_from_slice(b"  ")
 }
 
@@ -60,7 +80,7 @@ pub(crate) fn unit_name(kind: Kind) -> &'static [u8]
 }
 
 /// What comes after one of some, by how many come later.
-fn separator(later: usize) -> &'static [u8]
+pub(crate) fn separator(later: usize) -> &'static [u8]
     ensures { result.now ≡ separator later }
 {
     match later {
