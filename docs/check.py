@@ -58,7 +58,8 @@ ANY = re.compile(r"\\\*|\b[A-Z]+\b(?!\\.md)")
 NAME = re.compile(r"[A-Za-z]\w*(::\w+)*")
 IS_MIXED = re.compile(r"[a-z0-9]_[a-z0-9]|::|[a-z][A-Z]")
 DISPLAY = re.compile(r"^\.Bd -literal.*\n((?:.*\n)*?)^\.Ed$", re.MULTILINE)
-HELP = re.compile(r"^ +(?:--)?(?!help)\w+(?: <N>)?  +(\S.*)$", re.MULTILINE)
+HELP = re.compile(r"^ +(?:--)?(?!help)[\w-]+(?: <N>| <TEXT>)?  +(\S.*)$", re.MULTILINE)
+CONTINUED = re.compile(r"\n {8,}(?=\S)")
 STATUSES = re.compile(r"^Status: (.*)$", re.MULTILINE)
 COMMENT = re.compile(r"^\s*(//|--).*$", re.MULTILINE)
 BEST = re.compile(r"^\* BLOCK (\d+) COUNT \d+ SOURCE \d+ TIME (\d+) BEST$", re.MULTILINE)
@@ -256,7 +257,8 @@ def wrong_manual(name, program):
     subcommands = re.findall(r"^  (?!help)([a-z]+)  ", help_of_all, re.MULTILINE)
     if not subcommands:
         yield f"{name}: the program's help has no subcommands"
-    for text in [help_of_all] + [text for text, _ in run([f"s66 {word} --help\n" for word in subcommands], program)]:
+    for shown in [help_of_all] + [text for text, _ in run([f"s66 {word} -h\n" for word in subcommands], program)]:
+        text = CONTINUED.sub(" ", shown)
         statuses = [status.split(" ", 1)[1] for line in STATUSES.findall(text) for status in line.split(", ")]
         for sentence in HELP.findall(text) + statuses:
             if sentence not in manual:

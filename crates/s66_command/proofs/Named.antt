@@ -21,8 +21,8 @@ use Rattle.s66_model.specs.declared.limits.TheConstants.{BUDGET_LIMIT, WORKERS_L
 use Rattle.s66_model.specs.declared.rule.Rule.{Rule as LeafRule}
 use Rattle.s66_command.specs.declared.limits.TheConstants.{BLOCK_NUMBER_LIMIT, NODES_DEFAULT, WORKERS_DEFAULT}
 use Rattle.s66_command.specs.declared.strategy.Strategy.{Strategy}
-use Rattle.s66_command.specs.FoundOptions.{IsBlockFound, IsFlagFound, IsNumber, IsNumberFound, IsOrderFound, IsReadAs, IsRuleFound, IsStrategyFound, IsTaken}
-use Rattle.s66_command.specs.Usage.{AsksFor, GivesBlock, GivesOrder, GivesProfile, GivesSearch, IsNumberIn, gives_two, has_option, option_text, rule_given, rule_unless_two, s66_app, subcommand_name}
+use Rattle.s66_command.specs.FoundOptions.{AreColumnsFound, IsBlockFound, IsFlagFound, IsNumber, IsNumberFound, IsOrderFound, IsReadAs, IsRuleFound, IsStrategyFound, IsTaken}
+use Rattle.s66_command.specs.Usage.{AsksFor, GivesBlock, GivesColumns, GivesOrder, GivesProfile, GivesSearch, IsNumberIn, are_columns_alone, gives_columns_alone, gives_two, has_option, option_text, rule_given, rule_unless_two, s66_app, subcommand_name}
 use Rattle.s66_command.proofs.Faults.{first-none, full, second-none}
 use Rattle.s66_command.proofs.Flags.{HasFlag, flag-is}
 use Rattle.s66_command.proofs.OptionRanges.{HasNumber, number-is}
@@ -229,7 +229,7 @@ name-at (Some b) = refl
 name-is : (m : ArgMatches) (words : List Text) → IsTaken m words → subcommand_name_of m ≡ subcommand_name words
 name-is m words is = name-at (out-ArgMatches m).subcommand ∙ ap (option_map (λ s. s.0)) is.1
 
-pub asks-for : (m : ArgMatches) (words : List Text) (given name : Text) → IsTaken m words → Some given ≡ subcommand_name_of m → given ≡ name →
+asks-for : (m : ArgMatches) (words : List Text) (given name : Text) → IsTaken m words → Some given ≡ subcommand_name_of m → given ≡ name →
     AsksFor words name
 asks-for m words given name is gives same = (is.0, sym (name-is m words is) ∙ sym gives ∙ ap (λ n. Some n) same)
 
@@ -322,56 +322,56 @@ rules_at name = option_map_or (λ (s : Shape). s.rules) (subcommand_at name) []
 
 pub order-options : HasSearchOptions (rules_at (codes "order"))
 order-options = (
-  (inr refl, (inl refl, (inr refl, (inr refl, (inr refl, (inr refl, (inr refl, (inr refl, (inr refl, (inr refl, (inr refl, (inr refl, tt)))))))))))),
-  (inr refl, (inr refl, (inl refl, (inr refl, (inr refl, (inr refl, (inr refl, (inr refl, (inr refl, (inr refl, (inr refl, (inr refl, tt)))))))))))),
-  ((inr refl, (inr refl, (inr refl, (inr refl, (inl refl, (inr refl, (inr refl, (inr refl, (inr refl, (inr refl, (inr refl, (inr refl, tt)))))))))))), refl),
-  ((inr refl, (inr refl, (inr refl, (inr refl, (inr refl, (inl refl, (inr refl, (inr refl, (inr refl, (inr refl, (inr refl, (inr refl, tt)))))))))))), refl),
-  ((inr refl, (inr refl, (inr refl, (inr refl, (inr refl, (inr refl, (inl refl, (inr refl, (inr refl, (inr refl, (inr refl, (inr refl, tt)))))))))))), refl),
-)
-
-pub why-options : HasSearchOptions (rules_at (codes "why"))
-why-options = (
-  (inr refl, (inl refl, (inr refl, (inr refl, (inr refl, (inr refl, (inr refl, (inr refl, (inr refl, (inr refl, tt)))))))))),
-  (inr refl, (inr refl, (inl refl, (inr refl, (inr refl, (inr refl, (inr refl, (inr refl, (inr refl, (inr refl, tt)))))))))),
-  ((inr refl, (inr refl, (inr refl, (inr refl, (inl refl, (inr refl, (inr refl, (inr refl, (inr refl, (inr refl, tt)))))))))), refl),
-  ((inr refl, (inr refl, (inr refl, (inr refl, (inr refl, (inl refl, (inr refl, (inr refl, (inr refl, (inr refl, tt)))))))))), refl),
-  ((inr refl, (inr refl, (inr refl, (inr refl, (inr refl, (inr refl, (inl refl, (inr refl, (inr refl, (inr refl, tt)))))))))), refl),
-)
-
-pub json-options : HasSearchOptions (rules_at (codes "json"))
-json-options = (
-  (inr refl, (inl refl, (inr refl, (inr refl, (inr refl, (inr refl, (inr refl, (inr refl, (inr refl, (inr refl, tt)))))))))),
-  (inr refl, (inr refl, (inl refl, (inr refl, (inr refl, (inr refl, (inr refl, (inr refl, (inr refl, (inr refl, tt)))))))))),
-  ((inr refl, (inr refl, (inr refl, (inr refl, (inl refl, (inr refl, (inr refl, (inr refl, (inr refl, (inr refl, tt)))))))))), refl),
-  ((inr refl, (inr refl, (inr refl, (inr refl, (inr refl, (inl refl, (inr refl, (inr refl, (inr refl, (inr refl, tt)))))))))), refl),
-  ((inr refl, (inr refl, (inr refl, (inr refl, (inr refl, (inr refl, (inl refl, (inr refl, (inr refl, (inr refl, tt)))))))))), refl),
-)
-
-pub page-options : HasSearchOptions (rules_at (codes "page"))
-page-options = (
-  (inr refl, (inl refl, (inr refl, (inr refl, (inr refl, (inr refl, (inr refl, (inr refl, (inr refl, tt))))))))),
-  (inr refl, (inr refl, (inl refl, (inr refl, (inr refl, (inr refl, (inr refl, (inr refl, (inr refl, tt))))))))),
-  ((inr refl, (inr refl, (inr refl, (inr refl, (inl refl, (inr refl, (inr refl, (inr refl, (inr refl, tt))))))))), refl),
-  ((inr refl, (inr refl, (inr refl, (inr refl, (inr refl, (inl refl, (inr refl, (inr refl, (inr refl, tt))))))))), refl),
-  ((inr refl, (inr refl, (inr refl, (inr refl, (inr refl, (inr refl, (inl refl, (inr refl, (inr refl, tt))))))))), refl),
-)
-
-pub prove-options : HasSearchOptions (rules_at (codes "prove"))
-prove-options = (
-  (inr refl, (inl refl, (inr refl, (inr refl, (inr refl, (inr refl, (inr refl, (inr refl, (inr refl, tt))))))))),
-  (inr refl, (inr refl, (inl refl, (inr refl, (inr refl, (inr refl, (inr refl, (inr refl, (inr refl, tt))))))))),
-  ((inr refl, (inr refl, (inr refl, (inr refl, (inl refl, (inr refl, (inr refl, (inr refl, (inr refl, tt))))))))), refl),
-  ((inr refl, (inr refl, (inr refl, (inr refl, (inr refl, (inl refl, (inr refl, (inr refl, (inr refl, tt))))))))), refl),
-  ((inr refl, (inr refl, (inr refl, (inr refl, (inr refl, (inr refl, (inl refl, (inr refl, (inr refl, tt))))))))), refl),
+  (inr refl, (inr refl, (inr refl, (inr refl, (inl refl, (inr refl, (inr refl, (inr refl, (inr refl, (inr refl, (inr refl, (inr refl, (inr refl, tt))))))))))))),
+  (inr refl, (inr refl, (inr refl, (inl refl, (inr refl, (inr refl, (inr refl, (inr refl, (inr refl, (inr refl, (inr refl, (inr refl, (inr refl, tt))))))))))))),
+  ((inr refl, (inr refl, (inr refl, (inr refl, (inr refl, (inl refl, (inr refl, (inr refl, (inr refl, (inr refl, (inr refl, (inr refl, (inr refl, tt))))))))))))), refl),
+  ((inr refl, (inr refl, (inr refl, (inr refl, (inr refl, (inr refl, (inl refl, (inr refl, (inr refl, (inr refl, (inr refl, (inr refl, (inr refl, tt))))))))))))), refl),
+  ((inl refl, (inr refl, (inr refl, (inr refl, (inr refl, (inr refl, (inr refl, (inr refl, (inr refl, (inr refl, (inr refl, (inr refl, (inr refl, tt))))))))))))), refl),
 )
 
 pub sum-options : HasSearchOptions (rules_at (codes "sum"))
 sum-options = (
-  (inr refl, (inl refl, (inr refl, (inr refl, (inr refl, (inr refl, (inr refl, (inr refl, (inr refl, (inr refl, tt)))))))))),
-  (inr refl, (inr refl, (inl refl, (inr refl, (inr refl, (inr refl, (inr refl, (inr refl, (inr refl, (inr refl, tt)))))))))),
-  ((inr refl, (inr refl, (inr refl, (inr refl, (inl refl, (inr refl, (inr refl, (inr refl, (inr refl, (inr refl, tt)))))))))), refl),
+  (inr refl, (inr refl, (inr refl, (inr refl, (inl refl, (inr refl, (inr refl, (inr refl, (inr refl, (inr refl, (inr refl, tt))))))))))),
+  (inr refl, (inr refl, (inr refl, (inl refl, (inr refl, (inr refl, (inr refl, (inr refl, (inr refl, (inr refl, (inr refl, tt))))))))))),
+  ((inr refl, (inr refl, (inr refl, (inr refl, (inr refl, (inl refl, (inr refl, (inr refl, (inr refl, (inr refl, (inr refl, tt))))))))))), refl),
+  ((inr refl, (inr refl, (inr refl, (inr refl, (inr refl, (inr refl, (inl refl, (inr refl, (inr refl, (inr refl, (inr refl, tt))))))))))), refl),
+  ((inl refl, (inr refl, (inr refl, (inr refl, (inr refl, (inr refl, (inr refl, (inr refl, (inr refl, (inr refl, (inr refl, tt))))))))))), refl),
+)
+
+pub prove-options : HasSearchOptions (rules_at (codes "prove"))
+prove-options = (
+  (inr refl, (inr refl, (inr refl, (inr refl, (inl refl, (inr refl, (inr refl, (inr refl, (inr refl, tt))))))))),
+  (inr refl, (inr refl, (inr refl, (inl refl, (inr refl, (inr refl, (inr refl, (inr refl, (inr refl, tt))))))))),
+  ((inr refl, (inr refl, (inr refl, (inr refl, (inr refl, (inl refl, (inr refl, (inr refl, (inr refl, tt))))))))), refl),
+  ((inr refl, (inr refl, (inr refl, (inr refl, (inr refl, (inr refl, (inl refl, (inr refl, (inr refl, tt))))))))), refl),
+  ((inl refl, (inr refl, (inr refl, (inr refl, (inr refl, (inr refl, (inr refl, (inr refl, (inr refl, tt))))))))), refl),
+)
+
+pub why-options : HasSearchOptions (rules_at (codes "why"))
+why-options = (
+  (inr refl, (inr refl, (inr refl, (inr refl, (inl refl, (inr refl, (inr refl, (inr refl, (inr refl, (inr refl, (inr refl, tt))))))))))),
+  (inr refl, (inr refl, (inr refl, (inl refl, (inr refl, (inr refl, (inr refl, (inr refl, (inr refl, (inr refl, (inr refl, tt))))))))))),
+  ((inr refl, (inr refl, (inr refl, (inr refl, (inr refl, (inl refl, (inr refl, (inr refl, (inr refl, (inr refl, (inr refl, tt))))))))))), refl),
+  ((inr refl, (inr refl, (inr refl, (inr refl, (inr refl, (inr refl, (inl refl, (inr refl, (inr refl, (inr refl, (inr refl, tt))))))))))), refl),
+  ((inl refl, (inr refl, (inr refl, (inr refl, (inr refl, (inr refl, (inr refl, (inr refl, (inr refl, (inr refl, (inr refl, tt))))))))))), refl),
+)
+
+pub page-options : HasSearchOptions (rules_at (codes "page"))
+page-options = (
+  (inr refl, (inr refl, (inr refl, (inr refl, (inl refl, (inr refl, (inr refl, (inr refl, (inr refl, tt))))))))),
+  (inr refl, (inr refl, (inr refl, (inl refl, (inr refl, (inr refl, (inr refl, (inr refl, (inr refl, tt))))))))),
+  ((inr refl, (inr refl, (inr refl, (inr refl, (inr refl, (inl refl, (inr refl, (inr refl, (inr refl, tt))))))))), refl),
+  ((inr refl, (inr refl, (inr refl, (inr refl, (inr refl, (inr refl, (inl refl, (inr refl, (inr refl, tt))))))))), refl),
+  ((inl refl, (inr refl, (inr refl, (inr refl, (inr refl, (inr refl, (inr refl, (inr refl, (inr refl, tt))))))))), refl),
+)
+
+pub json-options : HasSearchOptions (rules_at (codes "json"))
+json-options = (
+  (inr refl, (inr refl, (inr refl, (inr refl, (inl refl, (inr refl, (inr refl, (inr refl, (inr refl, (inr refl, tt)))))))))),
+  (inr refl, (inr refl, (inr refl, (inl refl, (inr refl, (inr refl, (inr refl, (inr refl, (inr refl, (inr refl, tt)))))))))),
   ((inr refl, (inr refl, (inr refl, (inr refl, (inr refl, (inl refl, (inr refl, (inr refl, (inr refl, (inr refl, tt)))))))))), refl),
   ((inr refl, (inr refl, (inr refl, (inr refl, (inr refl, (inr refl, (inl refl, (inr refl, (inr refl, (inr refl, tt)))))))))), refl),
+  ((inl refl, (inr refl, (inr refl, (inr refl, (inr refl, (inr refl, (inr refl, (inr refl, (inr refl, (inr refl, tt)))))))))), refl),
 )
 
 -- the rule is what the words give
@@ -383,7 +383,7 @@ rule-given words found rule s is (workers, nodes, has, has-tree, has-deep) (domi
     let same-deep = flag-of words found deep s (codes "deep") is has-deep deep-read in
     by ∙ ap (λ b. rule_unless_two b any deep) same ∙ ap₂ (rule_unless_two (has_option (codes "dominate") words)) same-any same-deep
 
-one-given : (two : Bool) (rule by : LeafRule) → Some rule ≡ (if two then None else Some by) → (rule ≡ by) × (two ≡ false)
+one-given : {T : Type 0} (two : Bool) (rule by : T) → Some rule ≡ (if two then None else Some by) → (rule ≡ by) × (two ≡ false)
 one-given true rule by is = absurd (true≢false (ap is_some is))
 one-given false rule by is = (ap (λ o. unwrap_or o rule) is, refl)
 
@@ -395,7 +395,7 @@ search-of words found strategy s is has (workers, nodes, rule, deep) =
     let (same, one) = one-given (gives_two words) strategy.search.rule (rule_given words) (rule-given words found (Some strategy.search.rule) s is has rule) in
     ((by.0, by.1, by.2, up-to.0, up-to.2, same, one), flag-of words found strategy.deep s (codes "deep") is has.4 deep)
 
-two-given : (two : Bool) (by : LeafRule) → None ≡ (if two then None else Some by) → two ≡ true
+two-given : {T : Type 0} (two : Bool) (by : T) → None ≡ (if two then None else Some by) → two ≡ true
 two-given true by is = refl
 two-given false by is = absurd (true≢false (ap is_some (sym is)))
 
@@ -411,3 +411,23 @@ order-of words found strategy order s is has gives (given, read, by) =
     order-by : (given : Bool) → given ≡ has_option (codes "order") words → GivesOrder words (if given then Some strategy else None)
     order-by true same = (sym same, gives)
     order-by false same = (sym same, gives.0.6)
+
+-- what is read of the flags for columns is by the words
+columns-given : (words : List Text) (found : Found) (asked : Option Bool) (s : Shape) → IsMatched found words s → HasFlagOf (codes "columns") s.rules →
+    HasFlagOf (codes "keep") s.rules → AreColumnsFound found asked →
+    asked ≡ (if gives_columns_alone words then None else Some (has_option (codes "columns") words))
+columns-given words found asked s is has has-keep (columns, keep, read, keep-read, by) =
+    let same = flag-of words found columns s (codes "columns") is has read in
+    let same-keep = flag-of words found keep s (codes "keep") is has-keep keep-read in
+    by ∙ ap₂ (λ c k. if are_columns_alone c k then None else Some c) same same-keep
+
+-- columns are kept, or not, as the words say
+pub columns-of : (words : List Text) (found : Found) (columns : Bool) (s : Shape) → IsMatched found words s → HasFlagOf (codes "columns") s.rules →
+    HasFlagOf (codes "keep") s.rules → AreColumnsFound found (Some columns) → GivesColumns words columns
+columns-of words found columns s is has has-keep read =
+    one-given (gives_columns_alone words) columns (has_option (codes "columns") words) (columns-given words found (Some columns) s is has has-keep read)
+
+pub alone-of : (words : List Text) (found : Found) (s : Shape) → IsMatched found words s → HasFlagOf (codes "columns") s.rules →
+    HasFlagOf (codes "keep") s.rules → AreColumnsFound found None → gives_columns_alone words ≡ true
+alone-of words found s is has has-keep read =
+    two-given (gives_columns_alone words) (has_option (codes "columns") words) (columns-given words found None s is has has-keep read)

@@ -10,7 +10,7 @@ use Rattle.s66_model.specs.declared.limits.TheConstants.{BUDGET_LIMIT, WORKERS_L
 use Rattle.s66_model.specs.declared.rule.Rule.{Rule as LeafRule}
 use Rattle.s66_command.specs.declared.limits.TheConstants.{BLOCK_NUMBER_LIMIT, NODES_DEFAULT, WORKERS_DEFAULT}
 use Rattle.s66_command.specs.declared.strategy.Strategy.{Strategy}
-use Rattle.s66_command.specs.Usage.{IsNumberIn, number_in, rule_unless_two, s66_app}
+use Rattle.s66_command.specs.Usage.{IsNumberIn, are_columns_alone, number_in, rule_unless_two, s66_app}
 
 -- the words have no fault, and the matches are theirs
 abbrev pub IsTaken : ArgMatches → List Text → Type 0
@@ -63,3 +63,9 @@ IsStrategyFound found None = IsRuleFound found None
 abbrev pub IsOrderFound : Found → Strategy → Option Strategy → Type 0
 IsOrderFound found strategy order =
     (given : Bool) × IsFlagFound found (codes "order") given × (order ≡ (if given then Some strategy else None))
+
+-- whether columns are kept, unless the flag for that was found without the one that it needs
+abbrev pub AreColumnsFound : Found → Option Bool → Type 0
+AreColumnsFound found asked =
+    (columns : Bool) × (keep : Bool) × IsFlagFound found (codes "columns") columns × IsFlagFound found (codes "keep") keep
+    × (asked ≡ (if are_columns_alone columns keep then None else Some columns))

@@ -8,12 +8,12 @@ abbrev pub profile_text : Command → Option (List ℕ)
 profile_text (Time cut trace block profile) = option_map (λ text. text.now) profile
 profile_text (Deps cut block) = None
 profile_text (Chart cut text block profile) = option_map (λ text. text.now) profile
-profile_text (Why cut order block profile) = option_map (λ text. text.now) profile
+profile_text (Why cut order text block profile) = option_map (λ text. text.now) profile
 profile_text (Page cut strategy block profile) = option_map (λ text. text.now) profile
-profile_text (Order cut strategy trace keep quiet block profile) = option_map (λ text. text.now) profile
+profile_text (Order cut strategy trace keep columns quiet block profile) = option_map (λ text. text.now) profile
 profile_text (Prove cut strategy block profile) = option_map (λ text. text.now) profile
-profile_text Check = None
-profile_text (Sum cut strategy trace block profile) = option_map (λ text. text.now) profile
+profile_text (Check text) = None
+profile_text (Sum cut strategy trace words block profile) = option_map (λ text. text.now) profile
 profile_text (Compare cut profile) = option_map (λ text. text.now) profile
 profile_text (Json cut order block profile) = option_map (λ text. text.now) profile
 profile_text (Lint cut) = None

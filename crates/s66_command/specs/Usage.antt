@@ -1,10 +1,10 @@
--- To be believed: the command line, by clap's rules: the subcommands `time`, `deps`, `chart`, `why`, `page`, `order`, `prove`,
--- `check`, `lint`, `sum`, `compare` and `json`, and a version. All but `check` have the flag `--cut`. `time`, `chart`, `why`, `page`, `order`,
--- `prove`, `sum`, `compare` and `json` have the option `--profile`, and those of them that search (`why`, `page`, `order`, `prove`, `sum` and `json`) also
--- `--workers` and `--nodes`, and one at most of the flags `--dominate`, `--dominate-tree` and `--deep`. `time`, `order` and `sum` have the
--- flag `--trace`, `order` also `--keep` and `--quiet`, `chart` has `--text`, and `why` and `json` have `--order`, and with that the options of a search.
--- All but `check`, `lint` and `compare` have the option `--block`.
-use Rattle.std.specs.Prelude.{◌≡◌, ◌≢◌, ◌⊎◌, ◌≤◌, ◌&&◌, ◌||◌, if◌then◌else◌, IfSome, ℕ, Bool, List, [], false, true, Option, None, Some, codes, option_and_then, pos}
+-- To be believed: the command line, by clap's rules: the subcommands `lint`, `order`, `compare`, `sum`, `prove`, `check`, `time`, `why`, `chart`,
+-- `deps`, `page` and `json`, and a version. All but `check` have the flag `--cut`. `order`, `compare`, `sum`, `prove`, `time`, `why`, `chart`, `page`
+-- and `json` have the option `--profile`, and those of them that search (`order`, `sum`, `prove`, `why`, `page` and `json`) also `--nodes` and
+-- `--workers`, and one at most of the flags `--deep`, `--dominate` and `--dominate-tree`. `order`, `sum` and `time` have the flag `--trace`, `order` also
+-- `--keep`, with that `--columns`, and `--quiet`, `sum` has `--words`, `check`, `why` and `chart` have `--text`, and `why` and `json` have `--order`, and
+-- with that the options of a search. All but `check`, `lint` and `compare` have the option `--block`.
+use Rattle.std.specs.Prelude.{◌≡◌, ◌≢◌, ◌⊎◌, ◌≤◌, ◌&&◌, ◌||◌, not, if◌then◌else◌, IfSome, ℕ, Bool, List, [], false, true, Option, None, Some, codes, option_and_then, pos}
 use Rattle.std.specs.Borrow.{Bor}
 use Rattle.std.specs.Option.{option_map, option_map_or}
 use Rattle.std.specs.Str.Parse.{digits_value, without_leading_plus}
@@ -41,6 +41,12 @@ trace_rule = flag_rule (codes "trace")
 
 abbrev pub keep_rule : Rule
 keep_rule = flag_rule (codes "keep")
+
+abbrev pub columns_rule : Rule
+columns_rule = flag_rule (codes "columns")
+
+abbrev pub words_rule : Rule
+words_rule = flag_rule (codes "words")
 
 abbrev pub quiet_rule : Rule
 quiet_rule = flag_rule (codes "quiet")
@@ -93,29 +99,31 @@ chart_app = with_rule (with_rule (with_rule (source_app (codes "chart")) profile
 -- a subcommand that searches, and may leave out what is dominated or look for facts first
 abbrev pub search_app : Text → App
 search_app name =
-    let counted = with_rule (with_rule (source_app name) workers_rule) nodes_rule in
-    with_rule (with_rule (with_rule (with_rule counted profile_rule) dominate_rule) dominate_tree_rule) deep_rule
+    let reading = with_rule (with_rule (with_rule (new_app name) deep_rule) cut_rule) profile_rule in
+    with_rule (with_rule (with_rule (with_rule reading nodes_rule) workers_rule) dominate_rule) dominate_tree_rule
 
 abbrev pub why_app : App
-why_app = with_rule (with_rule (search_app (codes "why")) order_rule) block_rule
+why_app = with_rule (with_rule (with_rule (search_app (codes "why")) order_rule) text_rule) block_rule
 
 abbrev pub page_app : App
 page_app = with_rule (search_app (codes "page")) block_rule
 
 abbrev pub order_app : App
-order_app = with_rule (with_rule (with_rule (with_rule (search_app (codes "order")) trace_rule) keep_rule) quiet_rule) block_rule
+order_app =
+    let keeping = with_rule (with_rule (with_rule (search_app (codes "order")) trace_rule) keep_rule) columns_rule in
+    with_rule (with_rule keeping quiet_rule) block_rule
 
 abbrev pub prove_app : App
 prove_app = with_rule (search_app (codes "prove")) block_rule
 
 abbrev pub check_app : App
-check_app = new_app (codes "check")
+check_app = with_rule (new_app (codes "check")) text_rule
 
 abbrev pub lint_app : App
 lint_app = source_app (codes "lint")
 
 abbrev pub sum_app : App
-sum_app = with_rule (with_rule (search_app (codes "sum")) trace_rule) block_rule
+sum_app = with_rule (with_rule (with_rule (search_app (codes "sum")) trace_rule) words_rule) block_rule
 
 abbrev pub compare_app : App
 compare_app = with_rule (source_app (codes "compare")) profile_rule
@@ -125,11 +133,10 @@ json_app = with_rule (with_rule (search_app (codes "json")) order_rule) block_ru
 
 abbrev pub s66_app : App
 s66_app =
-    let timing = with_subcommand (with_subcommand (new_app (codes "s66")) time_app.top) deps_app.top in
-    let drawing = with_subcommand (with_subcommand timing chart_app.top) why_app.top in
-    let searching = with_subcommand (with_subcommand (with_subcommand drawing page_app.top) order_app.top) prove_app.top in
-    let reading = with_subcommand (with_subcommand searching check_app.top) lint_app.top in
-    let a = with_subcommand (with_subcommand (with_subcommand reading sum_app.top) compare_app.top) json_app.top in
+    let ordering = with_subcommand (with_subcommand (with_subcommand (new_app (codes "s66")) lint_app.top) order_app.top) compare_app.top in
+    let proving = with_subcommand (with_subcommand (with_subcommand ordering sum_app.top) prove_app.top) check_app.top in
+    let timing = with_subcommand (with_subcommand (with_subcommand proving time_app.top) why_app.top) chart_app.top in
+    let a = with_subcommand (with_subcommand (with_subcommand timing deps_app.top) page_app.top) json_app.top in
     record a { top = record a.top { subcommand_required = true; has_version = true } }
 
 -- the argument is this one, and not for all subcommands
@@ -188,9 +195,21 @@ rule_given words = rule_by (has_option (codes "dominate") words) (has_option (co
 abbrev pub gives_two : List Text → Bool
 gives_two words = are_two (has_option (codes "dominate") words) (has_option (codes "dominate-tree") words) (has_option (codes "deep") words)
 
+-- the flag `--columns` is given without `--keep`, which it needs
+abbrev pub are_columns_alone : (columns keep : Bool) → Bool
+are_columns_alone columns keep = columns && not keep
+
+-- by the words
+abbrev pub gives_columns_alone : List Text → Bool
+gives_columns_alone words = are_columns_alone (has_option (codes "columns") words) (has_option (codes "keep") words)
+
 -- they give the subcommand the flag of this name, or don't
 abbrev pub GivesFlag : (name : Text) → List Text → Bool → Type 0
 GivesFlag name words flag = flag ≡ has_option name words
+
+-- they give it the flag `--columns`, and then also `--keep`, or don't
+abbrev pub GivesColumns : List Text → Bool → Type 0
+GivesColumns words columns = GivesFlag (codes "columns") words columns × (gives_columns_alone words ≡ false)
 
 -- they give a search these options: numbers within their limits, and a rule by one flag at most
 abbrev pub GivesOptions : List Text → Options → Type 0
@@ -229,21 +248,23 @@ Asks words (Deps cut block) = AsksFor words (codes "deps") × GivesFlag (codes "
 Asks words (Chart cut text block profile) =
     AsksFor words (codes "chart") × GivesFlag (codes "cut") words cut × GivesFlag (codes "text") words text × GivesBlock words block
     × GivesProfile words profile
-Asks words (Why cut order block profile) =
-    AsksFor words (codes "why") × GivesFlag (codes "cut") words cut × GivesOrder words order × GivesBlock words block × GivesProfile words profile
+Asks words (Why cut order text block profile) =
+    AsksFor words (codes "why") × GivesFlag (codes "cut") words cut × GivesOrder words order × GivesFlag (codes "text") words text × GivesBlock words block
+    × GivesProfile words profile
 Asks words (Page cut strategy block profile) =
     AsksFor words (codes "page") × GivesFlag (codes "cut") words cut × GivesSearch words strategy × GivesBlock words block
     × GivesProfile words profile
-Asks words (Order cut strategy trace keep quiet block profile) =
+Asks words (Order cut strategy trace keep columns quiet block profile) =
     AsksFor words (codes "order") × GivesFlag (codes "cut") words cut × GivesSearch words strategy × GivesFlag (codes "trace") words trace
-    × GivesFlag (codes "keep") words keep × GivesFlag (codes "quiet") words quiet × GivesBlock words block × GivesProfile words profile
+    × GivesFlag (codes "keep") words keep × GivesColumns words columns × GivesFlag (codes "quiet") words quiet × GivesBlock words block
+    × GivesProfile words profile
 Asks words (Prove cut strategy block profile) =
     AsksFor words (codes "prove") × GivesFlag (codes "cut") words cut × GivesSearch words strategy × GivesBlock words block
     × GivesProfile words profile
-Asks words Check = AsksFor words (codes "check")
-Asks words (Sum cut strategy trace block profile) =
+Asks words (Check text) = AsksFor words (codes "check") × GivesFlag (codes "text") words text
+Asks words (Sum cut strategy trace words_printed block profile) =
     AsksFor words (codes "sum") × GivesFlag (codes "cut") words cut × GivesSearch words strategy × GivesFlag (codes "trace") words trace
-    × GivesBlock words block × GivesProfile words profile
+    × GivesFlag (codes "words") words words_printed × GivesBlock words block × GivesProfile words profile
 Asks words (Compare cut profile) = AsksFor words (codes "compare") × GivesFlag (codes "cut") words cut × GivesProfile words profile
 Asks words (Json cut order block profile) =
     AsksFor words (codes "json") × GivesFlag (codes "cut") words cut × GivesOrder words order × GivesBlock words block × GivesProfile words profile
@@ -259,11 +280,13 @@ IsUsageOf k (Help text) = IsHelp k
 IsUsageOf k (Bad text) = (IsHelp k → ⊥) × (k ≢ kind.OutOfMemory)
 IsUsageOf k OutOfMemory = Unit {0}
 
--- the words are no command: they ask for help, or they have a fault that is no help, or they have none but give two flags that exclude one another
+-- the words are no command: they ask for help, or they have a fault that is no help, or they have none but give two flags that exclude one
+-- another, or one without that which it needs
 abbrev pub Refuses : List Text → Usage → Type 0
 Refuses words (Help text) = (k : ErrorKind) × IsAmong k (fault_of s66_app words) × IsHelp k
 Refuses words (Bad text) =
-    ((k : ErrorKind) × IsAmong k (fault_of s66_app words) × (IsHelp k → ⊥)) ⊎ ((fault_of s66_app words ≡ []) × (gives_two words ≡ true))
+    ((k : ErrorKind) × IsAmong k (fault_of s66_app words) × (IsHelp k → ⊥))
+    ⊎ ((fault_of s66_app words ≡ []) × ((gives_two words ≡ true) ⊎ (gives_columns_alone words ≡ true)))
 Refuses words OutOfMemory = Unit {0}
 
 abbrev pub usage_code : Usage → ℕ

@@ -38,6 +38,8 @@ pub enum Command<'a> {
         cut: bool,
         /// How the best order of each block is looked for, if that is the one that is explained and not the source order.
         order: Option<Strategy>,
+        /// Whether the text of each instruction stands beside its number.
+        text: bool,
         /// The number of the only block that is printed, from 1; None if all are.
         block: Option<u32>,
         /// The text of the profile, if it isn't the standard one.
@@ -64,6 +66,8 @@ pub enum Command<'a> {
         trace: bool,
         /// Whether a block that keeps its order is copied as it stands, without a report.
         keep: bool,
+        /// Whether the operation of each line of a block that is put in order stands in the column in which it stood; only with `keep`.
+        columns: bool,
         /// Whether no report is printed.
         quiet: bool,
         /// The number of the only block that is put in order, from 1, while the others are left as they stand; None if all are.
@@ -83,7 +87,10 @@ pub enum Command<'a> {
         profile: Option<&'a str>,
     },
     /// The verdict on each document.
-    Check,
+    Check {
+        /// Whether sentences say why no order is faster.
+        text: bool,
+    },
     /// How long each block of a source takes in the best order that was found, and all of them.
     Sum {
         /// Whether lines that can't be read, and what a macro, a directive or a count covers, are left alone.
@@ -92,6 +99,8 @@ pub enum Command<'a> {
         strategy: Strategy,
         /// Whether the numbers of splits are printed.
         trace: bool,
+        /// Whether the words that each block takes are printed, as it was written and in the best order that was found.
+        words: bool,
         /// The number of the only block that is printed, from 1; None if all are.
         block: Option<u32>,
         /// The text of the profile, if it isn't the standard one.
@@ -140,7 +149,7 @@ impl<'a> Command<'a> {
             | Command::Sum { profile, .. }
             | Command::Compare { profile, .. }
             | Command::Json { profile, .. } => profile,
-            Command::Deps { .. } | Command::Check | Command::Lint { .. } => None,
+            Command::Deps { .. } | Command::Check { .. } | Command::Lint { .. } => None,
         }
     }
 }

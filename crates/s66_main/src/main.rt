@@ -1,8 +1,12 @@
 //! The process: its words, its standard streams, and its status.
 #![tactic(auto)]
 
+mod closed_pipe;
+
+use crate::closed_pipe::{Silenced, Watched};
 use s66_device::{OverRead, OverWrite};
 use s66_program::{Progress, refuse_words, run_program};
+use std::cell::Cell;
 use std::io::{IsTerminal, Write};
 use std::process::ExitCode;
 use std::{env, io};
@@ -52,8 +56,9 @@ fn main(rt: HostRuntime) -> ExitCode {
         _ => touch_stack(&rt),
     }
     let mut reader = OverRead::new(rt.stdin());
-    let mut writer = OverWrite::new(rt.stdout());
-    let mut errors = OverWrite::new(rt.stderr());
+    let is_closed = Cell::new(false);
+    let mut writer = OverWrite::new(Watched::new(rt.stdout(), &is_closed));
+    let mut errors = OverWrite::new(Silenced::new(rt.stderr(), &is_closed));
     let mut terminal = rt.stderr();
     let is_terminal = terminal.is_terminal();
     let mut progress = Progress::new(&rt, is_terminal.then_some(&mut terminal));

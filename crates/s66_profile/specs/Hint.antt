@@ -19,4 +19,4 @@ hint_in_members (member name value more) =
 
 -- what is wrong with a text
 abbrev pub hint_in_text : List ℕ → List ℕ
-hint_in_text text = unwrap_or (option_map hint_in_members (option_and_then as_object (read text))) (codes "no JSON object")
+hint_in_text text = unwrap_or (option_map hint_in_members (option_and_then as_object (read text))) (codes "no JSON object; --profile takes a text, not a file")

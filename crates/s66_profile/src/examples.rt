@@ -56,9 +56,9 @@ pub fn refusal_examples()
 /// Why texts give no profile.
 #[tactic(auto, unfolding(serde_json::proofs::OnLiterals::serde_json_on_literals))]
 pub fn hint_examples()
-    ensures file_name { hint_in_text (codes "slow.json") ≡ codes "no JSON object" }
-    ensures nothing { hint_in_text [] ≡ codes "no JSON object" }
-    ensures array { hint_in_text (codes "[]") ≡ codes "no JSON object" }
+    ensures file_name { hint_in_text (codes "slow.json") ≡ codes "no JSON object; --profile takes a text, not a file" }
+    ensures nothing { hint_in_text [] ≡ codes "no JSON object; --profile takes a text, not a file" }
+    ensures array { hint_in_text (codes "[]") ≡ codes "no JSON object; --profile takes a text, not a file" }
     ensures other_key { hint_in_text (codes "{\"units_mult\":1}") ≡ codes "no number of a profile is called \"units_mult\"" }
     ensures zero { hint_in_text (codes "{\"multiply\":0}") ≡ codes "\"multiply\" is no whole number 1 to 100" }
     ensures above { hint_in_text (codes "{\"multiply\":101}") ≡ codes "\"multiply\" is no whole number 1 to 100" }

@@ -9,7 +9,7 @@ use serde_json::{Map, Value};
 use std::alloc::{AllocError, Global};
 
 /// What is wrong with a text that is no JSON object.
-const NO_OBJECT: &str = "no JSON object";
+const NO_OBJECT: &str = "no JSON object; --profile takes a text, not a file";
 
 /// A key as JSON writes it: in quotes, with each quote, each backslash and each byte below a space escaped. Other bytes stand as they
 /// are, also those of the control characters U+007F to U+009F.

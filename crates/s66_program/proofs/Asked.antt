@@ -10,17 +10,17 @@ search-within : (words : List Text) (strategy : Strategy) → GivesSearch words 
 search-within words strategy h = (h.0.1, h.0.2, h.0.4)
 
 pub asked-within : (words : List Text) (command : Command) → Asks words command → IsWithinLimits command
-asked-within words (Time cut trace only profile) h = tt
-asked-within words (Deps cut only) h = tt
-asked-within words (Chart cut texts only profile) h = tt
-asked-within words (Why cut None only profile) h = tt
-asked-within words (Why cut (Some strategy) only profile) h = search-within words strategy h.2.1
-asked-within words (Page cut strategy only profile) h = search-within words strategy h.2
-asked-within words (Json cut None only profile) h = tt
-asked-within words (Json cut (Some strategy) only profile) h = search-within words strategy h.2.1
-asked-within words (Order cut strategy trace keep quiet only profile) h = search-within words strategy h.2
-asked-within words (Prove cut strategy only profile) h = search-within words strategy h.2
-asked-within words Check h = tt
+asked-within words (Time cut trace only profile) h = h.3.1
+asked-within words (Deps cut only) h = h.2.1
+asked-within words (Chart cut texts only profile) h = h.3.1
+asked-within words (Why cut None texts only profile) h = (tt, h.4.1)
+asked-within words (Why cut (Some strategy) texts only profile) h = (search-within words strategy h.2.1, h.4.1)
+asked-within words (Page cut strategy only profile) h = (search-within words strategy h.2, h.3.1)
+asked-within words (Json cut None only profile) h = (tt, h.3.1)
+asked-within words (Json cut (Some strategy) only profile) h = (search-within words strategy h.2.1, h.3.1)
+asked-within words (Order cut strategy trace keep columns quiet only profile) h = (search-within words strategy h.2, h.7.1)
+asked-within words (Prove cut strategy only profile) h = (search-within words strategy h.2, h.3.1)
+asked-within words (Check texts) h = tt
 asked-within words (Lint cut) h = tt
-asked-within words (Sum cut strategy trace only profile) h = search-within words strategy h.2
+asked-within words (Sum cut strategy trace printed only profile) h = (search-within words strategy h.2, h.5.1)
 asked-within words (Compare cut profile) h = tt

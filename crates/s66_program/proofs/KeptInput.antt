@@ -4,6 +4,7 @@ use Rattle.std.proofs.lemmas.List.{append-nil}
 use Rattle.s66_isa.specs.declared.profile.Profile.{Profile}
 use Rattle.s66_line.specs.Block.{Block}
 use Rattle.s66_source.specs.LeftAlone.{Reading}
+use Rattle.s66_source.specs.declared.columns.Columns.{Columns}
 use Rattle.s66_source.specs.Source.{source_of}
 use Rattle.s66_source.specs.declared.error.SourceError.{SourceError}
 use Rattle.s66_command.specs.declared.strategy.Strategy.{Strategy}
@@ -16,7 +17,7 @@ use Rattle.s66_outcome.specs.declared.outcome.Fault.TheVariants as fault
 use Rattle.s66_outcome.specs.declared.outcome.Status.{Status}
 use Rattle.s66_outcome.specs.declared.remark.Remark.{Remark}
 use Rattle.s66_outcome.specs.Kept.{IsFull, IsKeptInput}
-use Rattle.s66_program.specs.Output.{IsOutput, is_cut, reads_documents, reads_source, reads_two, source_in}
+use Rattle.s66_program.specs.Output.{IsOutput, columns_by, is_cut, reads_documents, reads_source, reads_two, source_in}
 use Rattle.s66_program.specs.Remarks.{IsRemark}
 use Rattle.s66_program.specs.Run.{IsRefusal}
 use Rattle.s66_program.proofs.Fronts.{front-refused}
@@ -26,26 +27,26 @@ abbrev pub IsMost : Command → Option ℕ → Type 0
 IsMost command most = IfSome most (λ n. (n ≡ SOURCE_FRONT) × (reads_source command ≡ true))
 
 -- with options or without them, the source is accepted
-ordered-accepted : (other : Bool) (strategy : Strategy) (p : Profile) (trace keep quiet : Bool) (only : Option ℕ) (source : Reading) (text : List ℕ) (status : Status) →
-    IsOrderedBy other strategy p trace keep quiet only source text status → (blocks : List Block) × (source_of source ≡ Ok blocks)
-ordered-accepted true strategy p trace keep quiet only source text status (blocks, ok, is) = (blocks, ok)
-ordered-accepted false strategy p trace keep quiet only source text status (blocks, ok, is) = (blocks, ok)
+ordered-accepted : (other : Bool) (strategy : Strategy) (p : Profile) (trace keep : Bool) (columns : Columns) (quiet : Bool) (only : Option ℕ) (source : Reading) (text : List ℕ) (status : Status) →
+    IsOrderedBy other strategy p trace keep columns quiet only source text status → (blocks : List Block) × (source_of source ≡ Ok blocks)
+ordered-accepted true strategy p trace keep columns quiet only source text status (blocks, ok, is) = (blocks, ok)
+ordered-accepted false strategy p trace keep columns quiet only source text status (blocks, ok, is) = (blocks, ok)
 
 accepted : (p : Profile) (command : Command) (input text : List ℕ) (status : Status) → reads_source command ≡ true → IsOutput p command input text status → (blocks : List Block) × (source_of (source_in command input) ≡ Ok blocks)
 accepted p (Time cut trace only profile) input text status reads ((blocks, ok, is), done) = (blocks, ok)
 accepted p (Deps cut only) input text status reads ((blocks, ok, is), done) = (blocks, ok)
 accepted p (Chart cut texts only profile) input text status reads ((blocks, ok, is), done) = (blocks, ok)
-accepted p (Why cut None only profile) input text status reads ((blocks, ok, is), done) = (blocks, ok)
-accepted p (Why cut (Some strategy) only profile) input text status reads (blocks, ok, is) = (blocks, ok)
+accepted p (Why cut None texts only profile) input text status reads ((blocks, ok, is), done) = (blocks, ok)
+accepted p (Why cut (Some strategy) texts only profile) input text status reads (blocks, ok, is) = (blocks, ok)
 accepted p (Page cut strategy only profile) input text status reads (blocks, ok, is) = (blocks, ok)
 accepted p (Json cut None only profile) input text status reads ((blocks, ok, is), done) = (blocks, ok)
 accepted p (Json cut (Some strategy) only profile) input text status reads (blocks, ok, is) = (blocks, ok)
-accepted p (Order cut strategy trace keep quiet only profile) input text status reads is =
-    ordered-accepted (is_other keep quiet only) strategy p trace keep quiet only (record { cut = cut; text = input }) text status is
+accepted p (Order cut strategy trace keep columns quiet only profile) input text status reads is =
+    ordered-accepted (is_other keep quiet only) strategy p trace keep (columns_by columns) quiet only (record { cut = cut; text = input }) text status is
 accepted p (Prove cut strategy only profile) input text status reads (blocks, ok, is) = (blocks, ok)
-accepted p Check input text status reads is = absurd (cc)
+accepted p (Check texts) input text status reads is = absurd (cc)
 accepted p (Lint cut) input text status reads is = absurd (cc)
-accepted p (Sum cut strategy trace only profile) input text status reads (blocks, ok, is) = (blocks, ok)
+accepted p (Sum cut strategy trace words only profile) input text status reads (blocks, ok, is) = (blocks, ok)
 accepted p (Compare cut profile) input text status reads is = absurd (cc)
 
 -- a full front is refused, and so is the input, for the same
@@ -75,28 +76,28 @@ no-documents : (command : Command) → reads_source command ≡ true → reads_d
 no-documents (Time cut trace only profile) source documents = cc
 no-documents (Deps cut only) source documents = cc
 no-documents (Chart cut texts only profile) source documents = cc
-no-documents (Why cut order only profile) source documents = cc
+no-documents (Why cut order texts only profile) source documents = cc
 no-documents (Page cut strategy only profile) source documents = cc
 no-documents (Json cut order only profile) source documents = cc
-no-documents (Order cut strategy trace keep quiet only profile) source documents = cc
+no-documents (Order cut strategy trace keep columns quiet only profile) source documents = cc
 no-documents (Prove cut strategy only profile) source documents = cc
-no-documents Check source documents = cc
+no-documents (Check texts) source documents = cc
 no-documents (Lint cut) source documents = cc
-no-documents (Sum cut strategy trace only profile) source documents = cc
+no-documents (Sum cut strategy trace words only profile) source documents = cc
 no-documents (Compare cut profile) source documents = cc
 
 not-two : (command : Command) → reads_source command ≡ true → reads_two command ≡ true → ⊥
 not-two (Time cut trace only profile) source two = cc
 not-two (Deps cut only) source two = cc
 not-two (Chart cut texts only profile) source two = cc
-not-two (Why cut order only profile) source two = cc
+not-two (Why cut order texts only profile) source two = cc
 not-two (Page cut strategy only profile) source two = cc
 not-two (Json cut order only profile) source two = cc
-not-two (Order cut strategy trace keep quiet only profile) source two = cc
+not-two (Order cut strategy trace keep columns quiet only profile) source two = cc
 not-two (Prove cut strategy only profile) source two = cc
-not-two Check source two = cc
+not-two (Check texts) source two = cc
 not-two (Lint cut) source two = cc
-not-two (Sum cut strategy trace only profile) source two = cc
+not-two (Sum cut strategy trace words only profile) source two = cc
 not-two (Compare cut profile) source two = cc
 
 refused-for : (command : Command) (input held : List ℕ) (f : Fault) → reads_source command ≡ true → source_of (source_in command input) ≡ source_of (source_in command held) → IsRefusal command held f → IsRefusal command input f

@@ -5,8 +5,11 @@ use Rattle.s66_isa.specs.Table.{standard}
 use Rattle.s66_model.specs.declared.limits.TheConstants.{BUDGET_LIMIT}
 use Rattle.s66_source.specs.Halves.{Halves, halves_of}
 use Rattle.s66_source.specs.LeftAlone.{Reading}
+use Rattle.s66_source.specs.declared.columns.Columns.{Columns}
+use Rattle.s66_source.specs.declared.columns.Columns.TheVariants.{Usual, Own}
 use Rattle.s66_compare.specs.Compared.{IsCompared}
 use Rattle.s66_model.specs.declared.limits.TheConstants.{WORKERS_LIMIT}
+use Rattle.s66_command.specs.declared.limits.TheConstants.{BLOCK_NUMBER_LIMIT}
 use Rattle.s66_command.specs.declared.strategy.Strategy.{Strategy}
 use Rattle.s66_profile.specs.ProfileText.{profile_in_text}
 use Rattle.s66_command.specs.declared.command.Command.{Command}
@@ -29,19 +32,23 @@ use Rattle.s66_text.specs.SumText.{IsSumOutput}
 abbrev pub IsSearchWithin : (workers nodes : ℕ) → Type 0
 IsSearchWithin workers nodes = (1 ≤ workers) × (workers ≤ WORKERS_LIMIT) × (nodes ≤ BUDGET_LIMIT)
 
+-- the number of the only block that is printed, if there is one
+abbrev pub IsBlockWithin : (only : Option ℕ) → Type 0
+IsBlockWithin only = IfSome only (λ n. (1 ≤ n) × (n ≤ BLOCK_NUMBER_LIMIT))
+
 -- the numbers of a command are within their limits
 abbrev pub IsWithinLimits : Command → Type 0
-IsWithinLimits (Time cut trace only profile) = Unit {0}
-IsWithinLimits (Deps cut only) = Unit {0}
-IsWithinLimits (Chart cut texts only profile) = Unit {0}
-IsWithinLimits (Why cut order only profile) = IfSome order (λ strategy. IsSearchWithin strategy.search.workers strategy.search.nodes)
-IsWithinLimits (Json cut order only profile) = IfSome order (λ strategy. IsSearchWithin strategy.search.workers strategy.search.nodes)
-IsWithinLimits (Page cut strategy only profile) = IsSearchWithin strategy.search.workers strategy.search.nodes
-IsWithinLimits (Order cut strategy trace keep quiet only profile) = IsSearchWithin strategy.search.workers strategy.search.nodes
-IsWithinLimits (Prove cut strategy only profile) = IsSearchWithin strategy.search.workers strategy.search.nodes
-IsWithinLimits Check = Unit {0}
+IsWithinLimits (Time cut trace only profile) = IsBlockWithin only
+IsWithinLimits (Deps cut only) = IsBlockWithin only
+IsWithinLimits (Chart cut texts only profile) = IsBlockWithin only
+IsWithinLimits (Why cut order texts only profile) = IfSome order (λ strategy. IsSearchWithin strategy.search.workers strategy.search.nodes) × IsBlockWithin only
+IsWithinLimits (Json cut order only profile) = IfSome order (λ strategy. IsSearchWithin strategy.search.workers strategy.search.nodes) × IsBlockWithin only
+IsWithinLimits (Page cut strategy only profile) = IsSearchWithin strategy.search.workers strategy.search.nodes × IsBlockWithin only
+IsWithinLimits (Order cut strategy trace keep columns quiet only profile) = IsSearchWithin strategy.search.workers strategy.search.nodes × IsBlockWithin only
+IsWithinLimits (Prove cut strategy only profile) = IsSearchWithin strategy.search.workers strategy.search.nodes × IsBlockWithin only
+IsWithinLimits (Check texts) = Unit {0}
 IsWithinLimits (Lint cut) = Unit {0}
-IsWithinLimits (Sum cut strategy trace only profile) = IsSearchWithin strategy.search.workers strategy.search.nodes
+IsWithinLimits (Sum cut strategy trace words only profile) = IsSearchWithin strategy.search.workers strategy.search.nodes × IsBlockWithin only
 IsWithinLimits (Compare cut profile) = Unit {0}
 
 -- PROFILES
@@ -58,26 +65,30 @@ IsUnder command p = profile_asked (profile_text command) ≡ Some p
 -- COMMANDS
 
 -- what `why` writes of the blocks that are shown: as they were written, or in the best orders that are found so
-abbrev pub IsWaitsOutput : Profile → Option Strategy → (only : Option ℕ) (source : Reading) (text : List ℕ) → Status → Type 0
-IsWaitsOutput p None only source text status = IsListing p listing.Why only source text × (status ≡ Done)
-IsWaitsOutput p (Some strategy) only source text status = IsWhyOutput strategy p only source text status
+abbrev pub IsWaitsOutput : Profile → Option Strategy → (texts : Bool) (only : Option ℕ) (source : Reading) (text : List ℕ) → Status → Type 0
+IsWaitsOutput p None texts only source text status = IsListing p (listing.Why texts) only source text × (status ≡ Done)
+IsWaitsOutput p (Some strategy) texts only source text status = IsWhyOutput strategy p texts only source text status
 
 -- what `json` writes of them: their lines as they were written, or also in the best orders that are found so
 abbrev pub IsLinesOutput : Profile → Option Strategy → (only : Option ℕ) (source : Reading) (text : List ℕ) → Status → Type 0
 IsLinesOutput p None only source text status = IsListing p listing.Json only source text × (status ≡ Done)
 IsLinesOutput p (Some strategy) only source text status = IsJsonOutput strategy p only source text status
 
+-- in which columns the operations of a block stand that is put in order, with `--columns` or without it
+abbrev pub columns_by : Bool → Columns
+columns_by own = if own then Own else Usual
+
 -- whether a command reads with `--cut`
 abbrev pub is_cut : Command → Bool
 is_cut (Time cut trace only profile) = cut
 is_cut (Deps cut only) = cut
 is_cut (Chart cut texts only profile) = cut
-is_cut (Why cut order only profile) = cut
+is_cut (Why cut order texts only profile) = cut
 is_cut (Page cut strategy only profile) = cut
 is_cut (Json cut order only profile) = cut
-is_cut (Order cut strategy trace keep quiet only profile) = cut
+is_cut (Order cut strategy trace keep columns quiet only profile) = cut
 is_cut (Prove cut strategy only profile) = cut
-is_cut (Sum cut strategy trace only profile) = cut
+is_cut (Sum cut strategy trace words only profile) = cut
 is_cut (Compare cut profile) = cut
 is_cut (Lint cut) = cut
 is_cut command = false
@@ -97,14 +108,14 @@ abbrev pub IsOutput : Profile → Command → (input text : List ℕ) → Status
 IsOutput p (Time cut trace only profile) input text status = IsListing p (listing.Times trace) only (record { cut = cut; text = input }) text × (status ≡ Done)
 IsOutput p (Deps cut only) input text status = IsListing p listing.Dependences only (record { cut = cut; text = input }) text × (status ≡ Done)
 IsOutput p (Chart cut texts only profile) input text status = IsListing p (listing.Chart texts) only (record { cut = cut; text = input }) text × (status ≡ Done)
-IsOutput p (Why cut order only profile) input text status = IsWaitsOutput p order only (record { cut = cut; text = input }) text status
+IsOutput p (Why cut order texts only profile) input text status = IsWaitsOutput p order texts only (record { cut = cut; text = input }) text status
 IsOutput p (Json cut order only profile) input text status = IsLinesOutput p order only (record { cut = cut; text = input }) text status
 IsOutput p (Page cut strategy only profile) input text status = IsPageOutput strategy p only (record { cut = cut; text = input }) text status
-IsOutput p (Order cut strategy trace keep quiet only profile) input text status = IsOrdered strategy p trace keep quiet only (record { cut = cut; text = input }) text status
+IsOutput p (Order cut strategy trace keep columns quiet only profile) input text status = IsOrdered strategy p trace keep (columns_by columns) quiet only (record { cut = cut; text = input }) text status
 IsOutput p (Prove cut strategy only profile) input text status = IsProveOutput strategy p only (record { cut = cut; text = input }) text status
-IsOutput p Check input text status = IsCheckOutput input text status
+IsOutput p (Check texts) input text status = IsCheckOutput texts input text status
 IsOutput p (Lint cut) input text status = IsLintOutput (record { cut = cut; text = input }) text status
-IsOutput p (Sum cut strategy trace only profile) input text status = IsSumOutput strategy p trace only (record { cut = cut; text = input }) text status
+IsOutput p (Sum cut strategy trace words only profile) input text status = IsSumOutput strategy p trace words only (record { cut = cut; text = input }) text status
 IsOutput p (Compare cut profile) input text status = IsCompareOutput p cut input text status
 
 -- the command reads a source, and refuses some
@@ -112,19 +123,19 @@ abbrev pub reads_source : Command → Bool
 reads_source (Time cut trace only profile) = true
 reads_source (Deps cut only) = true
 reads_source (Chart cut texts only profile) = true
-reads_source (Why cut order only profile) = true
+reads_source (Why cut order texts only profile) = true
 reads_source (Page cut strategy only profile) = true
 reads_source (Json cut order only profile) = true
-reads_source (Order cut strategy trace keep quiet only profile) = true
+reads_source (Order cut strategy trace keep columns quiet only profile) = true
 reads_source (Prove cut strategy only profile) = true
-reads_source Check = false
+reads_source (Check texts) = false
 reads_source (Lint cut) = false
-reads_source (Sum cut strategy trace only profile) = true
+reads_source (Sum cut strategy trace words only profile) = true
 reads_source (Compare cut profile) = false
 
 -- the command reads documents, and refuses some
 abbrev pub reads_documents : Command → Bool
-reads_documents Check = true
+reads_documents (Check texts) = true
 reads_documents command = false
 
 -- the command reads two sources, of which the second begins after a line that marks it, and refuses some

@@ -13,12 +13,12 @@ use Rattle.s66_program.specs.Output.{is_cut, reads_source, source_in}
 
 -- it prints orders that were looked for, or their times: what `lint` lists may be harmed by them
 abbrev pub prints_orders : Command → Bool
-prints_orders (Why cut order only profile) = is_some order
+prints_orders (Why cut order texts only profile) = is_some order
 prints_orders (Page cut strategy only profile) = true
 prints_orders (Json cut order only profile) = is_some order
-prints_orders (Order cut strategy trace keep quiet block profile) = true
+prints_orders (Order cut strategy trace keep columns quiet block profile) = true
 prints_orders (Prove cut strategy block profile) = true
-prints_orders (Sum cut strategy trace block profile) = true
+prints_orders (Sum cut strategy trace words block profile) = true
 prints_orders command = false
 
 -- a source is accepted, and has no block

@@ -27,6 +27,8 @@ pub struct Style {
     pub trace: bool,
     /// Whether a block that keeps its order is copied as it stands, without a report.
     pub keep: bool,
+    /// In which columns the operations of the other blocks stand.
+    pub columns: Columns,
     /// Whether no report is printed.
     pub quiet: bool,
     /// The only block that is put in order; the others are copied as they stand.
@@ -84,7 +86,7 @@ fn kept_output<R: AllocGlobal + Threads + Wait + Sync, O: Observer>(
     observer: &mut O,
 ) -> Result<Output, AllocError>
     requires { IsSearchWithin strategy.search.workers strategy.search.nodes }
-    ensures { IfOk result (λ output. IsKeptOutput strategy profile.now style.trace style.keep style.quiet style.only source.now output.text.items output.status) }
+    ensures { IfOk result (λ output. IsKeptOutput strategy profile.now style.trace style.keep style.columns style.quiet style.only source.now output.text.items output.status) }
 {
     let blocks = shown(source.blocks(), style.only);
     let before = blocks_before(style.only);
@@ -101,7 +103,7 @@ fn kept_output<R: AllocGlobal + Threads + Wait + Sync, O: Observer>(
             before,
             given,
             style.quiet,
-            Columns::Usual,
+            style.columns,
         )?,
         status: status_by(all.all_best),
     })
@@ -117,7 +119,7 @@ pub fn ordered_output<R: AllocGlobal + Threads + Wait + Sync, O: Observer>(
     observer: &mut O,
 ) -> Result<Output, AllocError>
     requires { IsSearchWithin strategy.search.workers strategy.search.nodes }
-    ensures { IfOk result (λ output. IsOrdered strategy profile.now style.trace style.keep style.quiet style.only source.now output.text.items output.status) }
+    ensures { IfOk result (λ output. IsOrdered strategy profile.now style.trace style.keep style.columns style.quiet style.only source.now output.text.items output.status) }
 {
     if style.keep || style.quiet || style.only.is_some() {
         kept_output(rt, source, profile, strategy, style, observer)

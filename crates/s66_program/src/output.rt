@@ -1,5 +1,5 @@
 ghost use Rattle.std.specs.Prelude.{◌≡◌, true, IfOk, IfErr, IfSome};
-ghost use Rattle.s66_program.specs.Output.{IsOutput, IsLinesOutput, IsSearchWithin, IsWaitsOutput, IsWithinLimits, is_cut, reads_source};
+ghost use Rattle.s66_program.specs.Output.{IsOutput, IsLinesOutput, IsSearchWithin, IsWaitsOutput, IsWithinLimits, columns_by, is_cut, reads_source};
 ghost use Rattle.s66_program.specs.Remarks.{IsRemark};
 ghost use Rattle.s66_program.specs.Run.{IsRefusal};
 
@@ -9,12 +9,12 @@ use crate::kept_text::{Style, ordered_output};
 use crate::page_text::page_output;
 use crate::prove_text::prove_output;
 use crate::remark::{Finished, remark_of, untold};
-use crate::sum_text::sum_output;
+use crate::sum_text::{Fields, sum_output};
 use crate::why_text::why_output;
 use s66_command::{Command, Strategy};
 use s66_isa::Profile;
 use s66_outcome::{Fault, Observer, Output};
-use s66_source::{Source, read_source_with};
+use s66_source::{Columns, Source, read_source_with};
 use s66_text::{Listing, check_output, lint_output, listing_output};
 use std::alloc::AllocError;
 use std::sync::Wait;
@@ -36,8 +36,15 @@ pub(crate) fn is_cut(command: Command) -> bool
         | Command::Sum { cut, .. }
         | Command::Lint { cut }
         | Command::Compare { cut, .. } => cut,
-        Command::Check => false,
+        Command::Check { .. } => false,
     }
+}
+
+/// In which columns the operations of a block stand that is put in order.
+fn columns_by(own: bool) -> Columns
+    ensures { result ≡ columns_by own }
+{
+    if own { Columns::Own } else { Columns::Usual }
 }
 
 /// What the instructions of a source's blocks wait for, or of the only one that is printed: as it was written, or in the best order
@@ -46,16 +53,17 @@ fn waits_output<R: AllocGlobal + Threads + Wait + Sync, O: Observer>(
     rt: &R,
     source: &Source,
     order: Option<Strategy>,
+    text: bool,
     only: Option<u32>,
     profile: &Profile,
     observer: &mut O,
 ) -> Result<Output, AllocError>
     requires { IfSome order (λ strategy. IsSearchWithin strategy.search.workers strategy.search.nodes) }
-    ensures { IfOk result (λ output. IsWaitsOutput profile.now order only source.now output.text.items output.status) }
+    ensures { IfOk result (λ output. IsWaitsOutput profile.now order text only source.now output.text.items output.status) }
 {
     match order {
-        None => listing_output(rt.alloc(), profile, &Listing::Why, only, source),
-        Some(strategy) => why_output(rt, source, only, profile, strategy, observer),
+        None => listing_output(rt.alloc(), profile, &Listing::Why { text }, only, source),
+        Some(strategy) => why_output(rt, source, text, only, profile, strategy, observer),
     }
 }
 
@@ -102,9 +110,12 @@ fn output_of<R: AllocGlobal + Threads + Wait + Sync, O: Observer>(
         Command::Chart { text, block, .. } => {
             listing_output(alloc, profile, &Listing::Chart { text }, block, source)
         }
-        Command::Why { order, block, .. } => {
-            waits_output(rt, source, order, block, profile, observer)
-        }
+        Command::Why {
+            order,
+            text,
+            block,
+            ..
+        } => waits_output(rt, source, order, text, block, profile, observer),
         Command::Json { order, block, .. } => {
             lines_output(rt, source, order, block, profile, observer)
         }
@@ -117,6 +128,7 @@ fn output_of<R: AllocGlobal + Threads + Wait + Sync, O: Observer>(
             strategy,
             trace,
             keep,
+            columns,
             quiet,
             block,
             ..
@@ -124,6 +136,7 @@ fn output_of<R: AllocGlobal + Threads + Wait + Sync, O: Observer>(
             let style = Style {
                 trace,
                 keep,
+                columns: columns_by(columns),
                 quiet,
                 only: block,
             };
@@ -137,10 +150,14 @@ fn output_of<R: AllocGlobal + Threads + Wait + Sync, O: Observer>(
         Command::Sum {
             strategy,
             trace,
+            words,
             block,
             ..
-        } => sum_output(rt, source, profile, strategy, trace, block, observer),
-        Command::Check | Command::Lint { .. } | Command::Compare { .. } => unreachable!(),
+        } => {
+            let fields = Fields { trace, words };
+            sum_output(rt, source, profile, strategy, fields, block, observer)
+        }
+        Command::Check { .. } | Command::Lint { .. } | Command::Compare { .. } => unreachable!(),
     }
 }
 
@@ -180,7 +197,9 @@ pub(crate) fn output_for<R: AllocGlobal + Threads + Wait + Sync, O: Observer>(
 {
     let alloc = rt.alloc();
     match command {
-        Command::Check => Ok(untold(command, check_output(alloc, input, observer)?)),
+        Command::Check { text } => {
+            Ok(untold(command, check_output(alloc, text, input, observer)?))
+        }
         Command::Lint { cut } => Ok(untold(command, lint_output(alloc, input, cut)?)),
         Command::Compare { cut, .. } => Ok(untold(
             command,

@@ -30,7 +30,7 @@ fn prints_orders(command: Command) -> bool
         Command::Time { .. }
         | Command::Deps { .. }
         | Command::Chart { .. }
-        | Command::Check
+        | Command::Check { .. }
         | Command::Lint { .. }
         | Command::Compare { .. } => false,
     }

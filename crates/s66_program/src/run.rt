@@ -31,7 +31,7 @@ fn most_kept(command: Command) -> Option<usize>
     ensures { IfSome result (λ most. (most ≡ SOURCE_FRONT) × (reads_source command.entry ≡ true)) }
 {
     match command {
-        Command::Check | Command::Lint { .. } | Command::Compare { .. } => None,
+        Command::Check { .. } | Command::Lint { .. } | Command::Compare { .. } => None,
         Command::Time { .. }
         | Command::Deps { .. }
         | Command::Chart { .. }

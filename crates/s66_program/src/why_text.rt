@@ -17,10 +17,12 @@ use std::thread::Threads;
 
 /// What the instructions of blocks wait for in the orders of answers.
 #[derive(Drop)]
-struct Waits;
+struct Waits {
+    text: bool,
+}
 
 impl Keep<u8> for Waits {
-    ghost part = { λ _ strategy. answer_lines };
+    ghost part = { λ waits strategy. answer_lines waits.text };
 
     fn prints_documents(&self) -> bool {
         false
@@ -37,7 +39,7 @@ impl Keep<u8> for Waits {
     ) -> Result<bool, AllocError> {
         let mut timer = Timer::new(profile);
         let timed = timer.time(block, found.order());
-        push_waits(parts, number, block, &timed)?;
+        push_waits(parts, self.text, number, block, &timed)?;
         Ok(found.is_best())
     }
 }
@@ -47,17 +49,19 @@ impl Keep<u8> for Waits {
 pub fn why_output<R: AllocGlobal + Threads + Wait + Sync, O: Observer>(
     rt: &R,
     source: &Source,
+    text: bool,
     only: Option<u32>,
     profile: &Profile,
     strategy: Strategy,
     observer: &mut O,
 ) -> Result<Output, AllocError>
     requires { IsSearchWithin strategy.search.workers strategy.search.nodes }
-    ensures { IfOk result (λ output. IsWhyOutput strategy profile.now only source.now output.text.items output.status) }
+    ensures { IfOk result (λ output. IsWhyOutput strategy profile.now text only source.now output.text.items output.status) }
 {
     let blocks = shown(source.blocks(), only);
     let before = blocks_before(only);
-    let all = keep_all(rt, &Waits, before, blocks, profile, strategy, observer)?;
+    let waits = Waits { text };
+    let all = keep_all(rt, &waits, before, blocks, profile, strategy, observer)?;
     Ok(Output {
         text: all.parts,
         status: status_by(all.all_best),

@@ -7,6 +7,9 @@ use std::process::Abort;
 use std::sync::Wait;
 use std::thread::Threads;
 
+/// `check` without sentences.
+pub const PLAIN_CHECK: Command<'static> = Command::Check { text: false };
+
 /// A search by workers, of at most so many splits, by a rule.
 fn search_by(workers: u8, nodes: u32, rule: Rule) -> Strategy
     requires { IsSearchWithin workers nodes }
@@ -32,6 +35,7 @@ pub fn order_by(workers: u8, nodes: u32, rule: Rule) -> Command<'static>
         strategy: search_by(workers, nodes, rule),
         trace: true,
         keep: false,
+        columns: false,
         quiet: false,
         block: None,
         profile: None,

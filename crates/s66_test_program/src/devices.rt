@@ -146,7 +146,10 @@ fn reads_nothing_for_a_bad_profile(rt: HostRuntime) {
     let words = &["s66", "time", "--profile", "[]"];
     let ran = run_observed(&rt, words, &mut reader, &mut Silent);
     assert!(rt; ran.status == 3 && ran.written.is_empty());
-    assert!(rt; ran.stated.as_slice() == b"BAD PROFILE\nno JSON object\n".as_slice());
+    assert!(rt;
+        ran.stated.as_slice()
+            == b"BAD PROFILE\nno JSON object; --profile takes a text, not a file\n".as_slice()
+    );
     assert!(rt; reader.reads == 0 && reader.failed == 0);
 }
 

@@ -1,12 +1,12 @@
 ghost use Rattle.std.specs.Prelude.{◌≤◌};
 ghost use Rattle.s66_model.specs.declared.limits.TheConstants.{WORKERS_LIMIT};
 
-use crate::commands::{check_output, order_by, prove_by};
+use crate::commands::{PLAIN_CHECK, check_output, order_by, prove_by};
 use crate::documents::{ONE_DOMINATED, THREE_DOMINATED, THREE_MULTIPLIES};
 use crate::verdicts::{altered, check_denied, check_refused};
 use s66_cert::CertError;
 use s66_model::Rule;
-use s66_program::{Command, Status};
+use s66_program::Status;
 use s66_test_search::THREE_ALIKE;
 use std::process::Abort;
 use std::sync::Wait;
@@ -37,10 +37,10 @@ const ALTERED_LEAVES: &[(&str, &str, &str)] = &[
 #[test]
 fn checks_dominated_leaves(rt: HostRuntime) {
     let yes = "DOCUMENT 1 YES TIME 33 BOUND 33\n";
-    check_output(&rt, Command::Check, ONE_DOMINATED, Status::Done, yes);
+    check_output(&rt, PLAIN_CHECK, ONE_DOMINATED, Status::Done, yes);
     check_denied(&rt, ONE_DOMINATED, ALTERED_LEAVES);
     let third = altered(&rt, ONE_DOMINATED, "CERTIFICATE 2", "CERTIFICATE 3");
-    check_output(&rt, Command::Check, third.as_str(), Status::Done, yes);
+    check_output(&rt, PLAIN_CHECK, third.as_str(), Status::Done, yes);
     check_denied(&rt, third.as_str(), ALTERED_LEAVES);
 }
 
@@ -60,13 +60,13 @@ const ALTERED_NAMES: &[(&str, &str, &str)] = &[
 #[test]
 fn checks_which_nodes_are_named(rt: HostRuntime) {
     let yes = "DOCUMENT 1 YES TIME 8 BOUND 8\n";
-    check_output(&rt, Command::Check, THREE_DOMINATED, Status::Done, yes);
+    check_output(&rt, PLAIN_CHECK, THREE_DOMINATED, Status::Done, yes);
     check_denied(&rt, THREE_DOMINATED, ALTERED_NAMES);
     let second = altered(&rt, THREE_DOMINATED, "CERTIFICATE 3", "CERTIFICATE 2");
-    check_output(&rt, Command::Check, second.as_str(), Status::Done, yes);
+    check_output(&rt, PLAIN_CHECK, second.as_str(), Status::Done, yes);
     let split = altered(&rt, THREE_DOMINATED, "D 1 2\n", "S 3\nT\n");
     let later = altered(&rt, split.as_str(), "S 3\nT\n", "D 2 1\n");
-    check_output(&rt, Command::Check, later.as_str(), Status::Done, yes);
+    check_output(&rt, PLAIN_CHECK, later.as_str(), Status::Done, yes);
     check_denied(
         &rt,
         later.as_str(),

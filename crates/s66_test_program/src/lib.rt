@@ -23,6 +23,8 @@ mod progress;
 #[cfg(test)]
 mod proofs;
 #[cfg(test)]
+mod reasons;
+#[cfg(test)]
 mod rows;
 #[cfg(test)]
 mod running;

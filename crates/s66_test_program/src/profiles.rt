@@ -45,8 +45,11 @@ const REFUSED: &[&str] = &[
 
 /// Texts, and why they give no profile.
 const HINTS: &[(&str, &str)] = &[
-    ("slow.json", "no JSON object"),
-    ("[]", "no JSON object"),
+    (
+        "slow.json",
+        "no JSON object; --profile takes a text, not a file",
+    ),
+    ("[]", "no JSON object; --profile takes a text, not a file"),
     (
         "{\"units_mult\":1}",
         "no number of a profile is called \"units_mult\"",

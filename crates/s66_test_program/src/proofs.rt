@@ -1,8 +1,8 @@
-use crate::commands::{check_output, prove_by, run};
+use crate::commands::{PLAIN_CHECK, check_output, prove_by, run};
 use crate::documents::{ONE_LOAD, THREE_MULTIPLIES};
 use crate::rows::STORE_THEN_LOAD;
 use s66_model::Rule;
-use s66_program::{Command, Status};
+use s66_program::Status;
 use s66_test_search::{MULTIPLIES, SEVEN_MULTIPLIES};
 
 /// A source, and its documents.
@@ -60,7 +60,7 @@ fn proves_and_checks_large_trees(rt: HostRuntime) {
             .extend_from_slice(document.as_slice())
             .expect(&rt, "memory");
     }
-    let (result, verdicts) = run(&rt, Command::Check, documents.as_slice());
+    let (result, verdicts) = run(&rt, PLAIN_CHECK, documents.as_slice());
     assert_eq!(rt; result, Ok(Status::Done));
     let yes =
         "DOCUMENT 1 YES TIME 44 BOUND 44\nDOCUMENT 2 YES TIME 44 BOUND 44\nDOCUMENT 3 YES TIME 44 BOUND 44\nDOCUMENT 4 YES TIME 44 BOUND 44\nDOCUMENT 5 YES TIME 44 BOUND 44\n";
@@ -74,7 +74,7 @@ fn proves_and_checks_a_block_of_128(rt: HostRuntime) {
     let source = "  BX0 X0\n".repeat(rt.alloc(), 128).expect(&rt, "memory");
     let (result, document) = run(&rt, prove, source.as_bytes());
     assert_eq!(rt; result, Ok(Status::Done));
-    let (result, verdict) = run(&rt, Command::Check, document.as_slice());
+    let (result, verdict) = run(&rt, PLAIN_CHECK, document.as_slice());
     assert_eq!(rt; result, Ok(Status::Done));
     let yes = "DOCUMENT 1 YES TIME 512 BOUND 512\n";
     assert_eq!(rt; verdict.as_slice(), yes.as_bytes());

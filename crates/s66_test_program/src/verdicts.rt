@@ -1,7 +1,7 @@
-use crate::commands::{check_output, run};
+use crate::commands::{PLAIN_CHECK, check_output, run};
 use crate::documents::{FORCED_PAIRS, LINES_NAMED, ONE_LOAD, THREE_MULTIPLIES};
 use s66_cert::CertError;
-use s66_program::{Command, Fault, Status};
+use s66_program::{Fault, Status};
 use std::process::Abort;
 use std::sync::Wait;
 use std::thread::Threads;
@@ -85,7 +85,7 @@ pub(crate) fn check_denied<R: AllocGlobal + Abort + Threads + Wait + Sync>(
 ) {
     for &(old, new, verdict) in rows {
         let text = altered(rt, document, old, new);
-        check_output(rt, Command::Check, text.as_str(), Status::Denied, verdict);
+        check_output(rt, PLAIN_CHECK, text.as_str(), Status::Denied, verdict);
     }
 }
 
@@ -98,9 +98,9 @@ fn denies_altered_documents(rt: HostRuntime) {
 #[test]
 fn denies_altered_facts(rt: HostRuntime) {
     let yes = "DOCUMENT 1 YES TIME 11 BOUND 11\n";
-    check_output(&rt, Command::Check, FORCED_PAIRS, Status::Done, yes);
+    check_output(&rt, PLAIN_CHECK, FORCED_PAIRS, Status::Done, yes);
     let yes = "DOCUMENT 1 YES TIME 8 BOUND 7\n";
-    check_output(&rt, Command::Check, LINES_NAMED, Status::Done, yes);
+    check_output(&rt, PLAIN_CHECK, LINES_NAMED, Status::Done, yes);
     check_denied(&rt, FORCED_PAIRS, ALTERED_PAIRS);
     check_denied(&rt, LINES_NAMED, ALTERED_NAMES);
 }
@@ -117,23 +117,23 @@ fn checks_under_its_profile(rt: HostRuntime) {
     let slower = altered(&rt, ONE_LOAD, "PROFILE 3", "PROFILE 4");
     let true_of_it = altered(&rt, slower.as_str(), "TIME 12", "TIME 13");
     let yes = "DOCUMENT 1 YES TIME 13 BOUND 12\n";
-    check_output(&rt, Command::Check, true_of_it.as_str(), Status::Done, yes);
+    check_output(&rt, PLAIN_CHECK, true_of_it.as_str(), Status::Done, yes);
     // no Boolean in it
     let same = altered(&rt, THREE_MULTIPLIES, "PROFILE 3", "PROFILE 4");
     let yes = "DOCUMENT 1 YES TIME 22 BOUND 22\n";
-    check_output(&rt, Command::Check, same.as_str(), Status::Done, yes);
+    check_output(&rt, PLAIN_CHECK, same.as_str(), Status::Done, yes);
 }
 
 #[test]
 fn tells_each_document(rt: HostRuntime) {
-    check_output(&rt, Command::Check, "", Status::Done, "");
+    check_output(&rt, PLAIN_CHECK, "", Status::Done, "");
     let both = altered(&rt, ONE_LOAD, "", THREE_MULTIPLIES);
-    check_output(&rt, Command::Check, both.as_str(), Status::Done, BOTH);
+    check_output(&rt, PLAIN_CHECK, both.as_str(), Status::Done, BOTH);
     let above = altered(&rt, both.as_str(), "BOUND 12\n", "BOUND 13\n");
-    check_output(&rt, Command::Check, above.as_str(), Status::Denied, FIRST);
+    check_output(&rt, PLAIN_CHECK, above.as_str(), Status::Denied, FIRST);
     let lower = altered(&rt, ONE_LOAD, "BOUND 12", "BOUND 11");
     let verdict = "DOCUMENT 1 YES TIME 12 BOUND 11\n";
-    check_output(&rt, Command::Check, lower.as_str(), Status::Done, verdict);
+    check_output(&rt, PLAIN_CHECK, lower.as_str(), Status::Done, verdict);
 }
 
 /// What of three multiplies' document is altered, and why it is no document.
@@ -163,7 +163,7 @@ pub(crate) fn check_refused<R: AllocGlobal + Abort + Threads + Wait + Sync>(
     text: &str,
     refusal: CertError,
 ) {
-    let (result, written) = run(rt, Command::Check, text.as_bytes());
+    let (result, written) = run(rt, PLAIN_CHECK, text.as_bytes());
     assert_eq!(rt; result, Err(Fault::Document(refusal)), "{text}");
     assert!(rt; written.is_empty(), "{text}");
 }

@@ -1,10 +1,10 @@
 ghost use Rattle.std.specs.Prelude.{◌≤◌};
 ghost use Rattle.s66_model.specs.declared.limits.TheConstants.{WORKERS_LIMIT};
 
-use crate::commands::{check_output, order_by, prove_by, run};
+use crate::commands::{PLAIN_CHECK, check_output, order_by, prove_by, run};
 use crate::documents::THREE_MULTIPLIES;
 use s66_model::Rule;
-use s66_program::{Command, Status};
+use s66_program::Status;
 use s66_test_search::MULTIPLIES;
 use std::process::Abort;
 use std::sync::Wait;
@@ -38,7 +38,7 @@ fn check_proof<R: AllocGlobal + Abort + Threads + Wait + Sync>(rt: &R, workers: 
     let prove = prove_by(workers, 9, Rule::NoneNamed);
     let (result, document) = run(rt, prove, MULTIPLIES.as_bytes());
     assert_eq!(rt; result, Ok(Status::Bounded));
-    let (result, verdict) = run(rt, Command::Check, document.as_slice());
+    let (result, verdict) = run(rt, PLAIN_CHECK, document.as_slice());
     assert_eq!(rt; result, Ok(Status::Done));
     let yes = b"DOCUMENT 1 YES TIME 22 BOUND 17\n";
     assert_eq!(rt; verdict.as_slice(), yes.as_slice());

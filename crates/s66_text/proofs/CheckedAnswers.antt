@@ -1,5 +1,5 @@
 -- The documents of answers to the blocks of a source are a text, in one way, and the verdict on each is yes.
-use Rattle.std.proofs.Common.{ℕ, zero, suc, ◌+◌, ◌-◌, ◌≡◌, ◌≤◌, ◌&&◌, ◌∙◌, true, if◌then◌else◌, Option, None, Some, List, [], ◌∷◌, ◌++◌, drop, take, refl, sym, ap, ap₂, arith, inl, inr}
+use Rattle.std.proofs.Common.{ℕ, zero, suc, ◌+◌, ◌-◌, ◌≡◌, ◌≤◌, ◌&&◌, ◌∙◌, true, false, if◌then◌else◌, Option, None, Some, List, [], ◌∷◌, ◌++◌, drop, take, refl, sym, ap, ap₂, arith, inl, inr}
 use Rattle.s66_isa.specs.declared.profile.Profile.{Profile}
 use Rattle.s66_isa.specs.Lists.{Among, every}
 use Rattle.s66_isa.specs.declared.limits.TheConstants.{BLOCK_LIMIT}
@@ -50,7 +50,7 @@ module _ (strategy : Strategy) (p : Profile) (within : strategy.search.nodes ≤
   documents-are (block ∷ blocks) (a ∷ answers) spelled are =
       (answer-document strategy p block a (spelled block (inl refl)) within are.0, documents-are blocks answers (λ b among. spelled b (inr among)) are.1)
 
-  lines-are : (n : ℕ) (blocks : List Block) (answers : List Answer) → AreSpelled blocks → AreAnswers strategy p blocks answers → verdict_lines n (all_documents strategy.search.rule p blocks answers) ≡ yes_lines n answers
+  lines-are : (n : ℕ) (blocks : List Block) (answers : List Answer) → AreSpelled blocks → AreAnswers strategy p blocks answers → verdict_lines false n (all_documents strategy.search.rule p blocks answers) ≡ yes_lines n answers
   lines-are n [] [] spelled are = refl
   lines-are n [] (a ∷ answers) spelled are = absurd are
   lines-are n (block ∷ blocks) [] spelled are = absurd are
@@ -66,7 +66,7 @@ module _ (strategy : Strategy) (p : Profile) (within : strategy.search.nodes ≤
       ap₂ (λ v rest. is_yes v && rest) (answer-verdict strategy p block a (spelled block (inl refl)) within are.0) (all-yes blocks answers (λ b among. spelled b (inr among)) are.1)
 
   module _ (only : Option ℕ) (source : Reading) (text : List ℕ) (status : Status) where
-    pub checked-yes : IsProveOutput strategy p only source text status → (lines : List ℕ) × AreYesLines strategy p only source text lines × IsCheckOutput text lines Done
+    pub checked-yes : IsProveOutput strategy p only source text status → (lines : List ℕ) × AreYesLines strategy p only source text lines × IsCheckOutput false text lines Done
     checked-yes (blocks, accepted, (answers, are, is, ends)) =
         let of_them : List Block = shown only blocks in
         let spelled : AreSpelled of_them = λ block among. spelled-block source blocks accepted block (of-shown only blocks block among) in (
@@ -80,12 +80,12 @@ module _ (strategy : Strategy) (p : Profile) (within : strategy.search.nodes ≤
           ),
         )
 
-    pub checked-alone : (lines : List ℕ) (checked : Status) → IsProveOutput strategy p only source text status → IsCheckOutput text lines checked → AreYesLines strategy p only source text lines × (checked ≡ Done)
+    pub checked-alone : (lines : List ℕ) (checked : Status) → IsProveOutput strategy p only source text status → IsCheckOutput false text lines checked → AreYesLines strategy p only source text lines × (checked ≡ Done)
     checked-alone lines checked (blocks, accepted, (answers, are, is, ends)) (ds, read, are-verdicts, so) =
         let of_them : List Block = shown only blocks in
         let spelled : AreSpelled of_them = λ block among. spelled-block source blocks accepted block (of-shown only blocks block among) in
         let text-is : IsText BLOCK_LIMIT text (all_documents strategy.search.rule p of_them answers) = (documents-are of_them answers spelled are, is) in
         let same : ds ≡ all_documents strategy.search.rule p of_them answers = one-list BLOCK_LIMIT BLOCK_LIMIT SPLIT_LIMIT SPLIT_LIMIT text ds (all_documents strategy.search.rule p of_them answers) (omega arith) (omega arith) read text-is in (
-          (blocks, accepted, (answers, are, is, are-verdicts ∙ ap (verdict_lines 0) same ∙ lines-are 0 of_them answers spelled are)),
+          (blocks, accepted, (answers, are, is, are-verdicts ∙ ap (verdict_lines false 0) same ∙ lines-are 0 of_them answers spelled are)),
           so ∙ ap verdicts_status same ∙ ap (λ yes. if yes then Done else Denied) (all-yes of_them answers spelled are),
         )

@@ -13,3 +13,4 @@ pub mod Pieces
 pub mod PlacedAnswers
 pub mod Reports
 pub mod SumRows
+pub mod Parcels

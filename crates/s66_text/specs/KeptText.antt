@@ -1,4 +1,4 @@
--- To be believed: what `order` writes with `--keep`, `--quiet` or `--block`, and how it ends.
+-- To be believed: what `order` writes with `--keep`, with `--columns` or without it, `--quiet` or `--block`, and how it ends.
 use Rattle.std.specs.Prelude.{ℕ, suc, ◌≡◌, ◌==◌, ◌&&◌, ◌||◌, if◌then◌else◌, Bool, true, false, List, [], ◌∷◌, Option, Some, None, Ok}
 use Rattle.std.specs.Option.{is_some}
 use Rattle.s66_isa.specs.declared.profile.Profile.{Profile}
@@ -7,7 +7,7 @@ use Rattle.s66_source.specs.Keeping.{printed_keeping}
 use Rattle.s66_source.specs.LeftAlone.{Reading}
 use Rattle.s66_source.specs.Printed.{Placed}
 use Rattle.s66_source.specs.Source.{source_of}
-use Rattle.s66_source.specs.declared.columns.Columns.TheVariants.{Usual}
+use Rattle.s66_source.specs.declared.columns.Columns.{Columns}
 use Rattle.s66_command.specs.declared.strategy.Strategy.{Strategy}
 use Rattle.s66_text.specs.Answers.{Answer, AreAnswers}
 use Rattle.s66_text.specs.OrderText.{IsOrderOutput, placed_by, status_of}
@@ -28,20 +28,20 @@ all_given p trace keep (block ∷ blocks) (a ∷ answers) = given_by p trace kee
 all_given p trace keep blocks answers = []
 
 -- for some answers to the blocks that are shown, the source printed by them, all other blocks of which stand, and their status
-abbrev pub IsKeptOutput : Strategy → Profile → (trace keep quiet : Bool) (only : Option ℕ) (source : Reading) (text : List ℕ) → Status → Type 0
-IsKeptOutput strategy p trace keep quiet only source text status =
+abbrev pub IsKeptOutput : Strategy → Profile → (trace keep : Bool) → Columns → (quiet : Bool) (only : Option ℕ) (source : Reading) (text : List ℕ) → Status → Type 0
+IsKeptOutput strategy p trace keep columns quiet only source text status =
     (blocks : List Block) × (source_of source ≡ Ok blocks)
     × ((answers : List Answer) × AreAnswers strategy p (shown only blocks) answers
-    × (text ≡ printed_keeping quiet Usual source (before only) (all_given p trace keep (shown only blocks) answers)) × (status ≡ status_of answers))
+    × (text ≡ printed_keeping quiet columns source (before only) (all_given p trace keep (shown only blocks) answers)) × (status ≡ status_of answers))
 
 -- one of the options is there
 abbrev pub is_other : (keep quiet : Bool) → Option ℕ → Bool
 is_other keep quiet only = keep || (quiet || is_some only)
 
-abbrev pub IsOrderedBy : Bool → Strategy → Profile → (trace keep quiet : Bool) (only : Option ℕ) (source : Reading) (text : List ℕ) → Status → Type 0
-IsOrderedBy true strategy p trace keep quiet only source text status = IsKeptOutput strategy p trace keep quiet only source text status
-IsOrderedBy false strategy p trace keep quiet only source text status = IsOrderOutput strategy p trace source text status
+abbrev pub IsOrderedBy : Bool → Strategy → Profile → (trace keep : Bool) → Columns → (quiet : Bool) (only : Option ℕ) (source : Reading) (text : List ℕ) → Status → Type 0
+IsOrderedBy true strategy p trace keep columns quiet only source text status = IsKeptOutput strategy p trace keep columns quiet only source text status
+IsOrderedBy false strategy p trace keep columns quiet only source text status = IsOrderOutput strategy p trace source text status
 
 -- what `order` writes with these options or without them
-abbrev pub IsOrdered : Strategy → Profile → (trace keep quiet : Bool) (only : Option ℕ) (source : Reading) (text : List ℕ) → Status → Type 0
-IsOrdered strategy p trace keep quiet only source text status = IsOrderedBy (is_other keep quiet only) strategy p trace keep quiet only source text status
+abbrev pub IsOrdered : Strategy → Profile → (trace keep : Bool) → Columns → (quiet : Bool) (only : Option ℕ) (source : Reading) (text : List ℕ) → Status → Type 0
+IsOrdered strategy p trace keep columns quiet only source text status = IsOrderedBy (is_other keep quiet only) strategy p trace keep columns quiet only source text status

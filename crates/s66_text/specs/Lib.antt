@@ -14,6 +14,7 @@ pub mod ProveText
 pub mod CheckText
 pub mod LintText
 pub mod Moved
+pub mod Words
 pub mod KeptText
 pub mod SumText
 pub mod SumRows

@@ -18,7 +18,7 @@ abbrev pub block_lines : Profile → Listing → ℕ → Block → List ℕ
 block_lines p (listing.Times trace) n block = time_lines p trace n block
 block_lines p listing.Dependences n block = deps_lines n block
 block_lines p (listing.Chart texts) n block = chart_lines p texts n block
-block_lines p listing.Why n block = why_lines p n block
+block_lines p (listing.Why texts) n block = why_lines p texts n block
 block_lines p listing.Json n block = written_line p n block
 
 -- of these blocks, before which n blocks come

@@ -1,7 +1,9 @@
 -- To be believed: what `sum` writes for a source, and how it ends. There is a row for each block, those first whose orders save
--- most time, what all blocks take, and how many instructions their orders move, for answers of searches as those of `order`. With the trace each line ends with its splits.
+-- most time, what all blocks take, and how many instructions their orders move, for answers of searches as those of `order`. With the trace each line has its splits, and with
+-- `--words` the words that a block takes.
 use Rattle.std.specs.Prelude.{ℕ, ◌+◌, ◌-◌, ◌≡◌, ◌≤◌, ◌<◌, ◌⊎◌, ◌==◌, if◌then◌else◌, Bool, List, [], ◌∷◌, ◌++◌, Option, None, Some, Ok, IsPermutation, codes, decimal, length, slice_index_or, unwrap_or}
 use Rattle.s66_isa.specs.Lists.{tally, weigh}
+use Rattle.s66_isa.specs.Table.{numbers}
 use Rattle.s66_isa.specs.declared.profile.Profile.{Profile}
 use Rattle.s66_line.specs.Block.{instrs_of, line_of, Block}
 use Rattle.s66_source.specs.Printed.{Placed}
@@ -10,6 +12,7 @@ use Rattle.s66_source.specs.Source.{source_of}
 use Rattle.s66_command.specs.declared.strategy.Strategy.{Strategy}
 use Rattle.s66_text.specs.Answers.{Answer, AreAnswers}
 use Rattle.s66_text.specs.Moved.{moved}
+use Rattle.s66_text.specs.Words.{words_of}
 use Rattle.s66_text.specs.OrderText.{all_placed, status_of}
 use Rattle.s66_text.specs.Shown.{before, shown}
 use Rattle.s66_outcome.specs.declared.outcome.Status.{Status}
@@ -30,6 +33,8 @@ row_of n block p =
       bound = p.bound;
       moved = moved p.order;
       splits = p.splits;
+      source_words = words_of (instrs_of block) (numbers (instrs_of block));
+      words = words_of (instrs_of block) p.order;
     }
 
 -- of these blocks, before which n come
@@ -61,23 +66,28 @@ splits_text (Some splits) = codes " SPLITS " ++ decimal splits
 abbrev pub moved_text : (moved : ℕ) → Option ℕ → List ℕ
 moved_text moved splits = codes " MOVED " ++ decimal moved ++ splits_text splits
 
-abbrev pub row_line : Row → List ℕ
-row_line r =
-    codes "BLOCK " ++ decimal r.number ++ codes " LINE " ++ decimal r.line ++ codes " COUNT " ++ decimal r.count ++ codes " SOURCE "
-    ++ decimal r.source ++ codes " TIME " ++ decimal r.time ++ bound_text r ++ moved_text r.moved r.splits ++ codes "\n"
+-- how many words are taken as written and as ordered, if that is to be printed
+abbrev pub words_text : Bool → (source found : ℕ) → List ℕ
+words_text shown source found = if shown then (codes " WORDS " ++ decimal source ++ codes " FOUND " ++ decimal found) else []
 
-abbrev pub row_lines : List Row → List ℕ
-row_lines [] = []
-row_lines (r ∷ rows) = row_line r ++ row_lines rows
+abbrev pub row_line : (words : Bool) → Row → List ℕ
+row_line words r =
+    codes "BLOCK " ++ decimal r.number ++ codes " LINE " ++ decimal r.line ++ codes " COUNT " ++ decimal r.count ++ codes " SOURCE "
+    ++ decimal r.source ++ codes " TIME " ++ decimal r.time ++ bound_text r ++ moved_text r.moved r.splits
+    ++ words_text words r.source_words r.words ++ codes "\n"
+
+abbrev pub row_lines : (words : Bool) → List Row → List ℕ
+row_lines words [] = []
+row_lines words (r ∷ rows) = row_line words r ++ row_lines words rows
 
 -- how many blocks there are, and what they take as written and as ordered
 abbrev pub total_times : (blocks source time : ℕ) → List ℕ
 total_times blocks source time = codes "TOTAL BLOCKS " ++ decimal blocks ++ codes " SOURCE " ++ decimal source ++ codes " TIME " ++ decimal time
 
--- and how many orders are best, how many instructions they move, and how many splits there are, if that is to be printed
-abbrev pub total_text : (blocks source time best moved : ℕ) → Option ℕ → List ℕ
-total_text blocks source time best moved splits =
-    total_times blocks source time ++ codes " BEST " ++ decimal best ++ moved_text moved splits ++ codes "\n"
+-- and how many orders are best, how many instructions they move, and how many splits and words there are, if that is to be printed
+abbrev pub total_text : (blocks source time best moved : ℕ) → Option ℕ → (words : List ℕ) → List ℕ
+total_text blocks source time best moved splits words =
+    total_times blocks source time ++ codes " BEST " ++ decimal best ++ moved_text moved splits ++ words ++ codes "\n"
 
 -- the splits of a row
 abbrev pub splits_in : Row → ℕ
@@ -87,20 +97,24 @@ splits_in r = unwrap_or r.splits 0
 abbrev pub all_splits : Bool → List Row → Option ℕ
 all_splits trace rows = if trace then Some (weigh splits_in rows) else None
 
-abbrev pub total_line : (trace : Bool) → List Row → List ℕ
-total_line trace rows =
+-- the words of all rows
+abbrev pub all_words : (words : Bool) → List Row → List ℕ
+all_words words rows = words_text words (weigh (λ (r : Row). r.source_words) rows) (weigh (λ (r : Row). r.words) rows)
+
+abbrev pub total_line : (trace words : Bool) → List Row → List ℕ
+total_line trace words rows =
     total_text (length rows) (weigh (λ (r : Row). r.source) rows) (weigh (λ (r : Row). r.time) rows) (tally is_best rows)
-    (weigh (λ (r : Row). r.moved) rows) (all_splits trace rows)
+    (weigh (λ (r : Row). r.moved) rows) (all_splits trace rows) (all_words words rows)
 
 -- the rows in their order, and their sums
-abbrev pub IsSumText : (trace : Bool) (rows : List Row) (text : List ℕ) → Type 0
-IsSumText trace rows text =
-    (ordered : List Row) × IsPermutation rows ordered × AreInOrder ordered × (text ≡ row_lines ordered ++ total_line trace rows)
+abbrev pub IsSumText : (trace words : Bool) (rows : List Row) (text : List ℕ) → Type 0
+IsSumText trace words rows text =
+    (ordered : List Row) × IsPermutation rows ordered × AreInOrder ordered × (text ≡ row_lines words ordered ++ total_line trace words rows)
 
 -- for some answers to the blocks that are shown, the rows of what `order` would print, and their status
-abbrev pub IsSumOutput : Strategy → Profile → (trace : Bool) (only : Option ℕ) (source : Reading) (text : List ℕ) → Status → Type 0
-IsSumOutput strategy p trace only source text status =
+abbrev pub IsSumOutput : Strategy → Profile → (trace words : Bool) (only : Option ℕ) (source : Reading) (text : List ℕ) → Status → Type 0
+IsSumOutput strategy p trace words only source text status =
     (blocks : List Block) × (source_of source ≡ Ok blocks)
     × ((answers : List Answer) × AreAnswers strategy p (shown only blocks) answers
-    × IsSumText trace (rows_of (before only) (shown only blocks) (all_placed p trace (shown only blocks) answers)) text
+    × IsSumText trace words (rows_of (before only) (shown only blocks) (all_placed p trace (shown only blocks) answers)) text
     × (status ≡ status_of answers))

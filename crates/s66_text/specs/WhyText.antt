@@ -1,5 +1,5 @@
--- To be believed: what `why` writes of a source, and how it ends: for each block a line as that of `chart`, and what its instructions wait for, as the block was written or with `--order` in the order of an answer of a search.
-use Rattle.std.specs.Prelude.{ℕ, ◌+◌, ◌≡◌, List, [], ◌∷◌, ◌++◌, Ok, Option}
+-- To be believed: what `why` writes of a source, and how it ends: for each block a line as that of `chart`, and what its instructions wait for, as the block was written or with `--order` in the order of an answer of a search; with `--text` the text of each instruction stands beside its number.
+use Rattle.std.specs.Prelude.{ℕ, Bool, ◌+◌, ◌≡◌, List, [], ◌∷◌, ◌++◌, Ok, Option}
 use Rattle.s66_isa.specs.declared.profile.Profile.{Profile}
 use Rattle.s66_line.specs.Block.{instrs_of, Block}
 use Rattle.s66_source.specs.LeftAlone.{Reading}
@@ -15,25 +15,25 @@ use Rattle.s66_text.specs.OrderText.{status_of}
 use Rattle.s66_text.specs.Shown.{before, shown}
 
 -- of the n-th block, from 1, in an order
-abbrev pub waits_lines : ℕ → Block → TimedOrder → List ℕ
-waits_lines n block t = timed_line n block t ++ why_text t
+abbrev pub waits_lines : (texts : Bool) → ℕ → Block → TimedOrder → List ℕ
+waits_lines texts n block t = timed_line n block t ++ why_text texts block t
 
 -- as it was written
-abbrev pub why_lines : Profile → ℕ → Block → List ℕ
-why_lines p n block = waits_lines n block (as_written p (instrs_of block))
+abbrev pub why_lines : Profile → (texts : Bool) → ℕ → Block → List ℕ
+why_lines p texts n block = waits_lines texts n block (as_written p (instrs_of block))
 
 -- in the order of an answer, whose numbers are those of the source
-abbrev pub answer_lines : Profile → ℕ → Block → Answer → List ℕ
-answer_lines p n block a = waits_lines n block (record { problem = problem_of p block; numbers = a.order })
+abbrev pub answer_lines : (texts : Bool) → Profile → ℕ → Block → Answer → List ℕ
+answer_lines texts p n block a = waits_lines texts n block (record { problem = problem_of p block; numbers = a.order })
 
 -- of these blocks, before which n come
-abbrev pub lines_of_answers : Profile → ℕ → List Block → List Answer → List ℕ
-lines_of_answers p n (block ∷ blocks) (a ∷ answers) = answer_lines p (n + 1) block a ++ lines_of_answers p (n + 1) blocks answers
-lines_of_answers p n blocks answers = []
+abbrev pub lines_of_answers : (texts : Bool) → Profile → ℕ → List Block → List Answer → List ℕ
+lines_of_answers texts p n (block ∷ blocks) (a ∷ answers) = answer_lines texts p (n + 1) block a ++ lines_of_answers texts p (n + 1) blocks answers
+lines_of_answers texts p n blocks answers = []
 
 -- for some answers to the blocks that are shown, their lines and their status
-abbrev pub IsWhyOutput : Strategy → Profile → (only : Option ℕ) (source : Reading) (text : List ℕ) → Status → Type 0
-IsWhyOutput strategy p only source text status =
+abbrev pub IsWhyOutput : Strategy → Profile → (texts : Bool) (only : Option ℕ) (source : Reading) (text : List ℕ) → Status → Type 0
+IsWhyOutput strategy p texts only source text status =
     (blocks : List Block) × (source_of source ≡ Ok blocks)
     × ((answers : List Answer) × AreAnswers strategy p (shown only blocks) answers
-    × (text ≡ lines_of_answers p (before only) (shown only blocks) answers) × (status ≡ status_of answers))
+    × (text ≡ lines_of_answers texts p (before only) (shown only blocks) answers) × (status ≡ status_of answers))

@@ -16,6 +16,7 @@ mod status;
 mod sum_rows;
 mod time_text;
 mod why_text;
+mod words;
 
 pub use check_text::check_output;
 pub use document_text::{push_document, texts_of};

@@ -27,7 +27,10 @@ pub enum Listing {
         /// Whether each row comes after the text of its instruction.
         text: bool,
     },
-    Why,
+    Why {
+        /// Whether the text of each instruction stands beside its number.
+        text: bool,
+    },
     Json,
 }
 
@@ -47,7 +50,7 @@ fn push_block(
         Listing::Times { trace } => push_time_lines(out, timer, *trace, number, block),
         Listing::Dependences => push_deps_lines(out, number, block),
         Listing::Chart { text } => push_chart_lines(alloc, out, timer, *text, number, block),
-        Listing::Why => push_why_lines(out, timer, number, block),
+        Listing::Why { text } => push_why_lines(out, timer, *text, number, block),
         Listing::Json => push_json_line(out, timer, number, block),
     }
 }

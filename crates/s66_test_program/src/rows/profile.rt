@@ -109,7 +109,16 @@ pub(crate) const BAD: &[(&str, &str)] = &[
         "{\"branch\":3}",
         "BAD PROFILE\nno number of a profile is called \"branch\"\n",
     ),
-    ("[]", "BAD PROFILE\nno JSON object\n"),
-    ("{", "BAD PROFILE\nno JSON object\n"),
-    ("", "BAD PROFILE\nno JSON object\n"),
+    (
+        "[]",
+        "BAD PROFILE\nno JSON object; --profile takes a text, not a file\n",
+    ),
+    (
+        "{",
+        "BAD PROFILE\nno JSON object; --profile takes a text, not a file\n",
+    ),
+    (
+        "",
+        "BAD PROFILE\nno JSON object; --profile takes a text, not a file\n",
+    ),
 ];

@@ -39,11 +39,22 @@ pub(crate) const TOLD: &[(&str, &str, &str)] = &[
     ("B0", "order", "s66 lint lists 1 line that order may harm\n"),
     ("a comment of 200 bytes", "order", NO_BLOCK),
     ("no block", "sum", NO_BLOCK),
+    ("no block has no word", "sum", NO_BLOCK),
     ("no block, with the trace", "sum", NO_BLOCK),
     (
         "four blocks",
         "sum",
         "s66 lint lists 1 line that order may harm\n",
+    ),
+    (
+        "four blocks, with their words",
+        "sum",
+        "s66 lint lists 1 line that order may harm\n",
+    ),
+    (
+        "words after splits",
+        "sum",
+        "s66 lint lists 3 lines that order may harm\n",
     ),
     (
         "three alike",
@@ -122,14 +133,14 @@ pub(crate) const ROWS: &[Row] = &[
         &["s66", "why", "--order", "--workers", "1"],
         HARMED,
         0,
-        "BLOCK 1 LINE 1 TIME 12\n  2 SECOND 1 TO 8 REGISTER X1 BY 1\nPATH 1 2\nLOST FIRST 0 SECOND 7 THIRD 0\n",
+        "BLOCK 1 LINE 1 TIME 12\n  2 SECOND 1 TO 8 REGISTER X1 BY 1\nPATH 1 2\nSTEPS 8 4 TIME 12\nLOST FIRST 0 SECOND 7 THIRD 0\n",
     ),
     (
         "none is told of a listing",
         WHY,
         HARMED,
         0,
-        "BLOCK 1 LINE 1 TIME 12\n  2 SECOND 1 TO 8 REGISTER X1 BY 1\nPATH 1 2\nLOST FIRST 0 SECOND 7 THIRD 0\n",
+        "BLOCK 1 LINE 1 TIME 12\n  2 SECOND 1 TO 8 REGISTER X1 BY 1\nPATH 1 2\nSTEPS 8 4 TIME 12\nLOST FIRST 0 SECOND 7 THIRD 0\n",
     ),
     (
         "with --cut it is one",

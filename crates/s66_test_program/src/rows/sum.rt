@@ -6,6 +6,10 @@ use s66_test_search::{MULTIPLIES, THREE_ALIKE};
 const FOUR_BLOCKS: &str =
     "  NX1 B0,X2\n  SB0 5\n  SX3 B0\n  ZR X1,L\n  SA1 A1+B1\n  BX6 X1\n  BX7 X2\n  EQ L\n  BX7 X2\n  LX3 1\n  IX4 X5+X6\n  SA1 A1+100\n+ BX1 X2\n";
 
+/// A block of three words, two of whose parcels a `NO` fills: parcels 0, 1 and 2, 4 and 5, 6, 8 and 9. Each of its best orders fits
+/// into two words.
+const TWO_FILLERS: &str = "  SB5 B1+B2\n  SB4 7\n  SB3 B3+1\n  BX6 X1\n  SA1 A1+100\n";
+
 /// Orders of which one is as good as any other.
 pub(crate) const ROWS: &[Row] = &[
     (
@@ -91,6 +95,41 @@ pub(crate) const ROWS: &[Row] = &[
         "  BX1 X2\n  ZR X1,L\n  BX1 X2\n  ZR X1,L\n  BX7 X2\n  ZR X1,L\n  BX1 X2\n",
         0,
         "BLOCK 3 LINE 5 COUNT 1 SOURCE 4 TIME 4 BEST MOVED 0 SPLITS 0\nTOTAL BLOCKS 1 SOURCE 4 TIME 4 BEST 1 MOVED 0 SPLITS 0\n",
+    ),
+    (
+        "four blocks, with their words",
+        &["s66", "sum", "--workers", "1", "--words"],
+        FOUR_BLOCKS,
+        0,
+        "BLOCK 2 LINE 5 COUNT 3 SOURCE 16 TIME 12 BEST MOVED 1 WORDS 1 FOUND 1\nBLOCK 3 LINE 9 COUNT 4 SOURCE 12 TIME 8 BEST MOVED 1 WORDS 2 FOUND 2\nBLOCK 1 LINE 1 COUNT 3 SOURCE 7 TIME 6 BEST MOVED 1 WORDS 1 FOUND 1\nBLOCK 4 LINE 13 COUNT 1 SOURCE 4 TIME 4 BEST MOVED 0 WORDS 1 FOUND 1\nTOTAL BLOCKS 4 SOURCE 39 TIME 30 BEST 4 MOVED 3 WORDS 5 FOUND 5\n",
+    ),
+    (
+        "a word less",
+        &["s66", "sum", "--deep", "--words"],
+        TWO_FILLERS,
+        0,
+        "BLOCK 1 LINE 1 COUNT 5 SOURCE 16 TIME 10 BEST MOVED 2 WORDS 3 FOUND 2\nTOTAL BLOCKS 1 SOURCE 16 TIME 10 BEST 1 MOVED 2 WORDS 3 FOUND 2\n",
+    ),
+    (
+        "words after splits",
+        &["s66", "sum", "--words", "--workers", "1", "--trace"],
+        THREE_ALIKE,
+        0,
+        "BLOCK 1 LINE 1 COUNT 3 SOURCE 8 TIME 8 BEST MOVED 0 SPLITS 10 WORDS 1 FOUND 1\nTOTAL BLOCKS 1 SOURCE 8 TIME 8 BEST 1 MOVED 0 SPLITS 10 WORDS 1 FOUND 1\n",
+    ),
+    (
+        "no block has no word",
+        &["s66", "sum", "--words"],
+        "* NOTE\n  NO\n",
+        0,
+        "TOTAL BLOCKS 0 SOURCE 0 TIME 0 BEST 0 MOVED 0 WORDS 0 FOUND 0\n",
+    ),
+    (
+        "the words of the block that is printed",
+        &["s66", "sum", "--workers", "1", "--block", "2", "--words"],
+        "  SA1 A1+100\n  EQ L\n  SB4 7\n  SB3 B3+1\n  SB2 B2+1\n",
+        0,
+        "BLOCK 2 LINE 3 COUNT 3 SOURCE 8 TIME 8 BEST MOVED 0 WORDS 2 FOUND 2\nTOTAL BLOCKS 1 SOURCE 8 TIME 8 BEST 1 MOVED 0 WORDS 2 FOUND 2\n",
     ),
     (
         "a refused source",

@@ -1,8 +1,8 @@
 use Rattle.std.proofs.Common.{rules, codes, inl, inr, refl}
 use Rattle.clap.specs.Words.{found_of}
 use Rattle.s66_command.specs.Usage.{Asks}
-use Rattle.s66_command.proofs.Named.{asks-for, block-of, flag-of, json-options, met, name-known, order-of, order-options, page-options, profile-of, prove-options, search-of, sum-options, two-of, why-options}
-use Rattle.s66_command.proofs.Refused.{handed-on, refused-two}
+use Rattle.s66_command.proofs.Named.{alone-of, block-of, columns-of, flag-of, json-options, met, name-known, order-of, order-options, page-options, profile-of, prove-options, search-of, sum-options, two-of, why-options}
+use Rattle.s66_command.proofs.Refused.{handed-on, refused-alone, refused-two}
 use Rattle.s66_command.proofs.usage.asked.Goals as goal
 
 pub unreachable-requires : goal.unreachable-requires
@@ -73,9 +73,10 @@ returns-in_ok-strategy-in-why c words is =
     let found = found_of c.in-Some.given.now in
     let there = met c.args.matches.now words _ found _ is c.in-Some.ensures.name c.in-Some.ensures.rows c.in-why.is refl in (
       there.0,
-      flag-of words found c.get_flag-in-why.result _ (codes "cut") there.1 ((inl refl, (inr refl, (inr refl, (inr refl, (inr refl, (inr refl, (inr refl, (inr refl, (inr refl, (inr refl, tt)))))))))), refl) (c.get_flag-in-why.ensures.value, c.get_flag-in-why.ensures.other),
-      order-of words found c.in_ok-strategy-in-why.strategy c.order_in.result _ there.1 ((inr refl, (inr refl, (inr refl, (inr refl, (inr refl, (inr refl, (inr refl, (inl refl, (inr refl, (inr refl, tt)))))))))), refl) (search-of words found c.in_ok-strategy-in-why.strategy _ there.1 why-options c.in_ok-strategy-in-why.ensures.ok) c.order_in.ensures,
-      block-of words found c.block_in-in-why.result _ there.1 (inr refl, (inr refl, (inr refl, (inr refl, (inr refl, (inr refl, (inr refl, (inr refl, (inl refl, (inr refl, tt)))))))))) c.block_in-in-why.ensures,
+      flag-of words found c.get_flag-in-why.result _ (codes "cut") there.1 ((inr refl, (inl refl, (inr refl, (inr refl, (inr refl, (inr refl, (inr refl, (inr refl, (inr refl, (inr refl, (inr refl, tt))))))))))), refl) (c.get_flag-in-why.ensures.value, c.get_flag-in-why.ensures.other),
+      order-of words found c.in_ok-strategy-in-why.strategy c.order_in.result _ there.1 ((inr refl, (inr refl, (inr refl, (inr refl, (inr refl, (inr refl, (inr refl, (inl refl, (inr refl, (inr refl, (inr refl, tt))))))))))), refl) (search-of words found c.in_ok-strategy-in-why.strategy _ there.1 why-options c.in_ok-strategy-in-why.ensures.ok) c.order_in.ensures,
+      flag-of words found c.get_flag-in-why-2.result _ (codes "text") there.1 ((inr refl, (inr refl, (inr refl, (inr refl, (inr refl, (inr refl, (inr refl, (inr refl, (inl refl, (inr refl, (inr refl, tt))))))))))), refl) (c.get_flag-in-why-2.ensures.value, c.get_flag-in-why-2.ensures.other),
+      block-of words found c.block_in-in-why.result _ there.1 (inr refl, (inr refl, (inr refl, (inr refl, (inr refl, (inr refl, (inr refl, (inr refl, (inr refl, (inl refl, (inr refl, tt))))))))))) c.block_in-in-why.ensures,
       profile-of words found _ c.get_str-in-why.result there.1 c.get_str-in-why.ensures,
     )
 
@@ -92,7 +93,7 @@ returns-in_ok-strategy-in-json c words is =
     let found = found_of c.in-Some.given.now in
     let there = met c.args.matches.now words _ found _ is c.in-Some.ensures.name c.in-Some.ensures.rows c.in-json.is refl in (
       there.0,
-      flag-of words found c.get_flag-in-json.result _ (codes "cut") there.1 ((inl refl, (inr refl, (inr refl, (inr refl, (inr refl, (inr refl, (inr refl, (inr refl, (inr refl, (inr refl, tt)))))))))), refl) (c.get_flag-in-json.ensures.value, c.get_flag-in-json.ensures.other),
+      flag-of words found c.get_flag-in-json.result _ (codes "cut") there.1 ((inr refl, (inl refl, (inr refl, (inr refl, (inr refl, (inr refl, (inr refl, (inr refl, (inr refl, (inr refl, tt)))))))))), refl) (c.get_flag-in-json.ensures.value, c.get_flag-in-json.ensures.other),
       order-of words found c.in_ok-strategy-in-json.strategy c.order_in-in-json.result _ there.1 ((inr refl, (inr refl, (inr refl, (inr refl, (inr refl, (inr refl, (inr refl, (inl refl, (inr refl, (inr refl, tt)))))))))), refl) (search-of words found c.in_ok-strategy-in-json.strategy _ there.1 json-options c.in_ok-strategy-in-json.ensures.ok) c.order_in-in-json.ensures,
       block-of words found c.block_in-in-json.result _ there.1 (inr refl, (inr refl, (inr refl, (inr refl, (inr refl, (inr refl, (inr refl, (inr refl, (inl refl, (inr refl, tt)))))))))) c.block_in-in-json.ensures,
       profile-of words found _ c.get_str-in-json.result there.1 c.get_str-in-json.ensures,
@@ -111,7 +112,7 @@ returns-in_ok-strategy_or_mistake-in-page c words is =
     let found = found_of c.in-Some.given.now in
     let there = met c.args.matches.now words _ found _ is c.in-Some.ensures.name c.in-Some.ensures.rows c.in-page.is refl in (
       there.0,
-      flag-of words found c.get_flag-in-page.result _ (codes "cut") there.1 ((inl refl, (inr refl, (inr refl, (inr refl, (inr refl, (inr refl, (inr refl, (inr refl, (inr refl, tt))))))))), refl) (c.get_flag-in-page.ensures.value, c.get_flag-in-page.ensures.other),
+      flag-of words found c.get_flag-in-page.result _ (codes "cut") there.1 ((inr refl, (inl refl, (inr refl, (inr refl, (inr refl, (inr refl, (inr refl, (inr refl, (inr refl, tt))))))))), refl) (c.get_flag-in-page.ensures.value, c.get_flag-in-page.ensures.other),
       search-of words found c.in_ok-strategy_or_mistake-in-page.field-0 _ there.1 page-options c.in_ok-strategy_or_mistake-in-page.ensures.ok,
       block-of words found c.block_in-in-page.result _ there.1 (inr refl, (inr refl, (inr refl, (inr refl, (inr refl, (inr refl, (inr refl, (inl refl, (inr refl, tt))))))))) c.block_in-in-page.ensures,
       profile-of words found _ c.get_str-in-page.result there.1 c.get_str-in-page.ensures,
@@ -125,17 +126,26 @@ returns-in_err-strategy_or_mistake-in-order c words is =
     handed-on c.from_residual-in_err-strategy_or_mistake-in-order.result c.in_err-strategy_or_mistake-in-order.field-0.0 words (Asks words) c.from_residual-in_err-strategy_or_mistake-in-order.ensures.1
     (refused-two c.in_err-strategy_or_mistake-in-order.field-0.0 words there.0.0 (two-of words found _ there.1 order-options mistake.0) mistake.1)
 
-pub returns-in_ok-strategy_or_mistake-in-order : goal.returns-in_ok-strategy_or_mistake-in-order
-returns-in_ok-strategy_or_mistake-in-order c words is =
+pub returns-in_err-columns_or_mistake-in-order : goal.returns-in_err-columns_or_mistake-in-order
+returns-in_err-columns_or_mistake-in-order c words is =
+    let found = found_of c.in-Some.given.now in
+    let there = met c.args.matches.now words _ found _ is c.in-Some.ensures.name c.in-Some.ensures.rows c.in-order.is refl in
+    let mistake = c.in_err-columns_or_mistake-in-order.ensures.err in
+    handed-on c.from_residual-in_err-columns_or_mistake-in-order.result c.in_err-columns_or_mistake-in-order.field-0.0 words (Asks words) c.from_residual-in_err-columns_or_mistake-in-order.ensures.1
+    (refused-alone c.in_err-columns_or_mistake-in-order.field-0.0 words there.0.0 (alone-of words found _ there.1 ((inr refl, (inr refl, (inr refl, (inr refl, (inr refl, (inr refl, (inr refl, (inr refl, (inr refl, (inl refl, (inr refl, (inr refl, (inr refl, tt))))))))))))), refl) ((inr refl, (inr refl, (inr refl, (inr refl, (inr refl, (inr refl, (inr refl, (inr refl, (inl refl, (inr refl, (inr refl, (inr refl, (inr refl, tt))))))))))))), refl) mistake.0) mistake.1)
+
+pub returns-in_ok-columns_or_mistake-in-order : goal.returns-in_ok-columns_or_mistake-in-order
+returns-in_ok-columns_or_mistake-in-order c words is =
     let found = found_of c.in-Some.given.now in
     let there = met c.args.matches.now words _ found _ is c.in-Some.ensures.name c.in-Some.ensures.rows c.in-order.is refl in (
       there.0,
-      flag-of words found c.get_flag-in-order.result _ (codes "cut") there.1 ((inl refl, (inr refl, (inr refl, (inr refl, (inr refl, (inr refl, (inr refl, (inr refl, (inr refl, (inr refl, (inr refl, (inr refl, tt)))))))))))), refl) (c.get_flag-in-order.ensures.value, c.get_flag-in-order.ensures.other),
+      flag-of words found c.get_flag-in-order.result _ (codes "cut") there.1 ((inr refl, (inl refl, (inr refl, (inr refl, (inr refl, (inr refl, (inr refl, (inr refl, (inr refl, (inr refl, (inr refl, (inr refl, (inr refl, tt))))))))))))), refl) (c.get_flag-in-order.ensures.value, c.get_flag-in-order.ensures.other),
       search-of words found c.in_ok-strategy_or_mistake-in-order.field-0 _ there.1 order-options c.in_ok-strategy_or_mistake-in-order.ensures.ok,
-      flag-of words found c.get_flag-in-order-2.result _ (codes "trace") there.1 ((inr refl, (inr refl, (inr refl, (inr refl, (inr refl, (inr refl, (inr refl, (inl refl, (inr refl, (inr refl, (inr refl, (inr refl, tt)))))))))))), refl) (c.get_flag-in-order-2.ensures.value, c.get_flag-in-order-2.ensures.other),
-      flag-of words found c.get_flag-in-order-3.result _ (codes "keep") there.1 ((inr refl, (inr refl, (inr refl, (inr refl, (inr refl, (inr refl, (inr refl, (inr refl, (inl refl, (inr refl, (inr refl, (inr refl, tt)))))))))))), refl) (c.get_flag-in-order-3.ensures.value, c.get_flag-in-order-3.ensures.other),
-      flag-of words found c.get_flag-in-order-4.result _ (codes "quiet") there.1 ((inr refl, (inr refl, (inr refl, (inr refl, (inr refl, (inr refl, (inr refl, (inr refl, (inr refl, (inl refl, (inr refl, (inr refl, tt)))))))))))), refl) (c.get_flag-in-order-4.ensures.value, c.get_flag-in-order-4.ensures.other),
-      block-of words found c.block_in-in-order.result _ there.1 (inr refl, (inr refl, (inr refl, (inr refl, (inr refl, (inr refl, (inr refl, (inr refl, (inr refl, (inr refl, (inl refl, (inr refl, tt)))))))))))) c.block_in-in-order.ensures,
+      flag-of words found c.get_flag-in-order-2.result _ (codes "trace") there.1 ((inr refl, (inr refl, (inr refl, (inr refl, (inr refl, (inr refl, (inr refl, (inl refl, (inr refl, (inr refl, (inr refl, (inr refl, (inr refl, tt))))))))))))), refl) (c.get_flag-in-order-2.ensures.value, c.get_flag-in-order-2.ensures.other),
+      flag-of words found c.get_flag-in-order-3.result _ (codes "keep") there.1 ((inr refl, (inr refl, (inr refl, (inr refl, (inr refl, (inr refl, (inr refl, (inr refl, (inl refl, (inr refl, (inr refl, (inr refl, (inr refl, tt))))))))))))), refl) (c.get_flag-in-order-3.ensures.value, c.get_flag-in-order-3.ensures.other),
+      columns-of words found c.in_ok-columns_or_mistake-in-order.field-0 _ there.1 ((inr refl, (inr refl, (inr refl, (inr refl, (inr refl, (inr refl, (inr refl, (inr refl, (inr refl, (inl refl, (inr refl, (inr refl, (inr refl, tt))))))))))))), refl) ((inr refl, (inr refl, (inr refl, (inr refl, (inr refl, (inr refl, (inr refl, (inr refl, (inl refl, (inr refl, (inr refl, (inr refl, (inr refl, tt))))))))))))), refl) c.in_ok-columns_or_mistake-in-order.ensures.ok,
+      flag-of words found c.get_flag-in-order-4.result _ (codes "quiet") there.1 ((inr refl, (inr refl, (inr refl, (inr refl, (inr refl, (inr refl, (inr refl, (inr refl, (inr refl, (inr refl, (inl refl, (inr refl, (inr refl, tt))))))))))))), refl) (c.get_flag-in-order-4.ensures.value, c.get_flag-in-order-4.ensures.other),
+      block-of words found c.block_in-in-order.result _ there.1 (inr refl, (inr refl, (inr refl, (inr refl, (inr refl, (inr refl, (inr refl, (inr refl, (inr refl, (inr refl, (inr refl, (inl refl, (inr refl, tt))))))))))))) c.block_in-in-order.ensures,
       profile-of words found _ c.get_str-in-order.result there.1 c.get_str-in-order.ensures,
     )
 
@@ -152,7 +162,7 @@ returns-in_ok-strategy_or_mistake-in-prove c words is =
     let found = found_of c.in-Some.given.now in
     let there = met c.args.matches.now words _ found _ is c.in-Some.ensures.name c.in-Some.ensures.rows c.in-prove.is refl in (
       there.0,
-      flag-of words found c.get_flag-in-prove.result _ (codes "cut") there.1 ((inl refl, (inr refl, (inr refl, (inr refl, (inr refl, (inr refl, (inr refl, (inr refl, (inr refl, tt))))))))), refl) (c.get_flag-in-prove.ensures.value, c.get_flag-in-prove.ensures.other),
+      flag-of words found c.get_flag-in-prove.result _ (codes "cut") there.1 ((inr refl, (inl refl, (inr refl, (inr refl, (inr refl, (inr refl, (inr refl, (inr refl, (inr refl, tt))))))))), refl) (c.get_flag-in-prove.ensures.value, c.get_flag-in-prove.ensures.other),
       search-of words found c.in_ok-strategy_or_mistake-in-prove.field-0 _ there.1 prove-options c.in_ok-strategy_or_mistake-in-prove.ensures.ok,
       block-of words found c.block_in-in-prove.result _ there.1 (inr refl, (inr refl, (inr refl, (inr refl, (inr refl, (inr refl, (inr refl, (inl refl, (inr refl, tt))))))))) c.block_in-in-prove.ensures,
       profile-of words found _ c.get_str-in-prove.result there.1 c.get_str-in-prove.ensures,
@@ -171,15 +181,21 @@ returns-in_ok-strategy_or_mistake-in-sum c words is =
     let found = found_of c.in-Some.given.now in
     let there = met c.args.matches.now words _ found _ is c.in-Some.ensures.name c.in-Some.ensures.rows c.in-sum.is refl in (
       there.0,
-      flag-of words found c.get_flag-in-sum.result _ (codes "cut") there.1 ((inl refl, (inr refl, (inr refl, (inr refl, (inr refl, (inr refl, (inr refl, (inr refl, (inr refl, (inr refl, tt)))))))))), refl) (c.get_flag-in-sum.ensures.value, c.get_flag-in-sum.ensures.other),
+      flag-of words found c.get_flag-in-sum.result _ (codes "cut") there.1 ((inr refl, (inl refl, (inr refl, (inr refl, (inr refl, (inr refl, (inr refl, (inr refl, (inr refl, (inr refl, (inr refl, tt))))))))))), refl) (c.get_flag-in-sum.ensures.value, c.get_flag-in-sum.ensures.other),
       search-of words found c.in_ok-strategy_or_mistake-in-sum.field-0 _ there.1 sum-options c.in_ok-strategy_or_mistake-in-sum.ensures.ok,
-      flag-of words found c.get_flag-in-sum-2.result _ (codes "trace") there.1 ((inr refl, (inr refl, (inr refl, (inr refl, (inr refl, (inr refl, (inr refl, (inl refl, (inr refl, (inr refl, tt)))))))))), refl) (c.get_flag-in-sum-2.ensures.value, c.get_flag-in-sum-2.ensures.other),
-      block-of words found c.block_in-in-sum.result _ there.1 (inr refl, (inr refl, (inr refl, (inr refl, (inr refl, (inr refl, (inr refl, (inr refl, (inl refl, (inr refl, tt)))))))))) c.block_in-in-sum.ensures,
+      flag-of words found c.get_flag-in-sum-2.result _ (codes "trace") there.1 ((inr refl, (inr refl, (inr refl, (inr refl, (inr refl, (inr refl, (inr refl, (inl refl, (inr refl, (inr refl, (inr refl, tt))))))))))), refl) (c.get_flag-in-sum-2.ensures.value, c.get_flag-in-sum-2.ensures.other),
+      flag-of words found c.get_flag-in-sum-3.result _ (codes "words") there.1 ((inr refl, (inr refl, (inr refl, (inr refl, (inr refl, (inr refl, (inr refl, (inr refl, (inl refl, (inr refl, (inr refl, tt))))))))))), refl) (c.get_flag-in-sum-3.ensures.value, c.get_flag-in-sum-3.ensures.other),
+      block-of words found c.block_in-in-sum.result _ there.1 (inr refl, (inr refl, (inr refl, (inr refl, (inr refl, (inr refl, (inr refl, (inr refl, (inr refl, (inl refl, (inr refl, tt))))))))))) c.block_in-in-sum.ensures,
       profile-of words found _ c.get_str-in-sum.result there.1 c.get_str-in-sum.ensures,
     )
 
 pub returns-in-check : goal.returns-in-check
-returns-in-check c words is = asks-for c.args.matches.now words _ (codes "check") is c.in-Some.ensures.name c.in-check.is
+returns-in-check c words is =
+    let found = found_of c.in-Some.given.now in
+    let there = met c.args.matches.now words _ found _ is c.in-Some.ensures.name c.in-Some.ensures.rows c.in-check.is refl in (
+      there.0,
+      flag-of words found c.get_flag-in-check.result _ (codes "text") there.1 ((inl refl, (inr refl, tt)), refl) (c.get_flag-in-check.ensures.value, c.get_flag-in-check.ensures.other),
+    )
 
 pub returns-in-compare : goal.returns-in-compare
 returns-in-compare c words is =

@@ -1,7 +1,6 @@
 use Rattle.std.proofs.Common.{◌∙◌, ap, drop, if◌then◌else◌, refl, subst, sym}
 use Rattle.s66_source.specs.Keeping.{AreGiven, printed_keeping}
 use Rattle.s66_source.specs.Source.{blocks_of, classed_lines}
-use Rattle.s66_source.specs.declared.columns.Columns.TheVariants.{Usual}
 use Rattle.s66_outcome.specs.declared.outcome.Status.TheVariants.{Done, Bounded}
 use Rattle.s66_text.specs.KeptText.{all_given}
 use Rattle.s66_text.specs.Shown.{before, shown}
@@ -38,8 +37,8 @@ returns g c =
       (
         answers,
         are,
-        c.in_ok-print_keeping.ensures ∙ ap (λ k. printed_keeping style.quiet Usual source k c.as_slice-given.result.now) c.blocks_before-before.ensures.value
-            ∙ ap (printed_keeping style.quiet Usual source (before style.only)) (c.as_slice-given.ensures.value ∙ is),
+        c.in_ok-print_keeping.ensures ∙ ap (λ k. printed_keeping style.quiet style.columns source k c.as_slice-given.result.now) c.blocks_before-before.ensures.value
+            ∙ ap (printed_keeping style.quiet style.columns source (before style.only)) (c.as_slice-given.ensures.value ∙ is),
         c.status_by.ensures ∙ ap (λ b. if b then Done else Bounded) best,
       ),
     )

@@ -27,7 +27,7 @@ done-all true h = refl
 done-all false h = absurd (cc)
 
 pub returns : goal.returns
-returns c = λ input text (ds, read, is, ends). (
+returns c = λ texts input text (ds, read, is, ends). (
   ds,
   read,
   λ d among.

@@ -26,5 +26,5 @@ returns-in-Sum g c =
     let source = c.args.source.now in
     let sum = c.in-Sum in
     let same : source ≡ record { cut = sum.cut; text = source.text } = by-parts source sum.cut (c.requires.cut ∙ ap is_cut sum.is) in
-    let wrote = subst (λ (s : Reading). IfOk c.sum_output.result (λ (output : Output). IsSumOutput sum.strategy p sum.trace sum.block s output.text.items output.status)) same c.sum_output.ensures in
+    let wrote = subst (λ (s : Reading). IfOk c.sum_output.result (λ (output : Output). IsSumOutput sum.strategy p sum.trace sum.words sum.block s output.text.items output.status)) same c.sum_output.ensures in
     subst (λ (command : Command). IfOk c.sum_output.result (λ (output : Output). IsOutput p command source.text output.text.items output.status)) (sym sum.is) wrote

@@ -7,6 +7,6 @@ use Rattle.s66_text.proofs.check_text.check_all.Given as goal
 
 abbrev pub invariant-loop-i : goal.invariant-loop-i
 invariant-loop-i g l = record {
-  text : l.text.items ++ verdict_lines l.i (map document_of (drop l.i l.documents)) ≡ verdict_lines 0 (map document_of l.documents);
+  text : l.text.items ++ verdict_lines l.with_text l.i (map document_of (drop l.i l.documents)) ≡ verdict_lines l.with_text 0 (map document_of l.documents);
   status : (l.all_yes && every (λ d. is_yes (verdict d)) (map document_of (drop l.i l.documents))) ≡ every (λ d. is_yes (verdict d)) (map document_of l.documents);
 }

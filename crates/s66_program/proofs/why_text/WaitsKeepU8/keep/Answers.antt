@@ -22,6 +22,6 @@ returns c =
     in (
       a,
       c.is_best.ensures.answer strategy p block c.requires,
-      c.in_ok-push_waits.ensures ∙ ap (λ (t : TimedOrder). c.args.parts.now.items ++ waits_lines c.args.number block t) timed,
+      c.in_ok-push_waits.ensures ∙ ap (λ (t : TimedOrder). c.args.parts.now.items ++ waits_lines c.args.self.now.text c.args.number block t) timed,
       c.is_best.ensures.value,
     )

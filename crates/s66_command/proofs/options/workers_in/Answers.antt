@@ -1,0 +1,11 @@
+use Rattle.std.proofs.Common.{arith, codes}
+use Rattle.std.specs.Str.Parse.{ExplainsUnsignedError, HasUnsignedDigitsIfOk, ParsesUnsigned}
+use Rattle.s66_model.specs.declared.limits.TheConstants.{WORKERS_LIMIT}
+use Rattle.s66_command.specs.declared.limits.TheConstants.{WORKERS_DEFAULT}
+use Rattle.s66_command.proofs.OptionRanges.{number-read}
+use Rattle.s66_command.proofs.options.workers_in.Goals as goal
+
+pub returns : goal.returns
+returns c =
+    number-read (codes "workers") 1 WORKERS_LIMIT _ (λ t r. ParsesUnsigned 8 10 t r × ExplainsUnsignedError 10 t r × HasUnsignedDigitsIfOk t r) 8 (λ t r gives. gives.0) (omega arith) WORKERS_DEFAULT _
+    c.get_one.result c.unwrap_or.result (omega arith) (omega arith) c.get_one.ensures.none c.get_one.ensures.value c.unwrap_or.ensures

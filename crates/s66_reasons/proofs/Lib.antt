@@ -1,0 +1,5 @@
+pub mod Claimed
+pub mod Listed
+pub mod Rows
+pub mod Splits
+pub mod Texts

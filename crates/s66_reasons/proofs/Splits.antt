@@ -1,0 +1,22 @@
+-- The first line of a tree, and how many of its lines are splits.
+use Rattle.std.proofs.Common.{◌≡◌, ◌+◌, ◌++◌, List, ◌∷◌, refl, arith}
+use Rattle.s66_isa.specs.Lists.{tally}
+use Rattle.s66_isa.proofs.Lists.{tally-append}
+use Rattle.s66_model.specs.Tree.{Tree, Alone, Parted, Siblings, NoMore, Unsplit, Split, Vertex, AtTerminal, AtSplit, flat, flat_siblings, splits, sibling_splits}
+use Rattle.s66_model.specs.DominatedLeaves.{Ending}
+use Rattle.s66_reasons.specs.Reasons.{top}
+use Rattle.s66_reasons.specs.Within.{is_split}
+
+siblings-splits : (siblings : Siblings Ending) → tally is_split (flat_siblings siblings) ≡ sibling_splits siblings
+siblings-splits NoMore = refl
+siblings-splits (Unsplit ending siblings) = omega (arith, siblings-splits siblings)
+siblings-splits (Split numbers sub siblings) =
+    omega (arith, tally-append is_split (flat_siblings sub) (flat_siblings siblings), siblings-splits sub, siblings-splits siblings)
+
+pub tree-splits : (tree : Tree Ending) → tally is_split (flat tree) ≡ splits tree
+tree-splits (Alone ending) = refl
+tree-splits (Parted numbers siblings) = omega (arith, siblings-splits siblings)
+
+pub first-line : (tree : Tree Ending) (line : Vertex Ending) (lines : List (Vertex Ending)) → flat tree ≡ line ∷ lines → top tree ≡ line
+first-line (Alone ending) line lines is = cc
+first-line (Parted numbers siblings) line lines is = cc

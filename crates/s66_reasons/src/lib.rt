@@ -1,0 +1,16 @@
+//! Why no order is faster, in sentences, by a certificate alone: what its leaf is checked by, number by number, or how many splits and
+//! facts it has.
+#![tactic(auto)]
+
+mod chain;
+mod facts;
+mod laws;
+mod parcels;
+mod reasons;
+mod units;
+mod words;
+mod work;
+
+pub use laws::reasons_law;
+pub use reasons::push_reasons;
+pub use work::Work;
