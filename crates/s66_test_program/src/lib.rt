@@ -7,6 +7,8 @@ mod codes;
 #[cfg(test)]
 mod commands;
 #[cfg(test)]
+mod deep;
+#[cfg(test)]
 mod devices;
 #[cfg(test)]
 mod documents;
