@@ -43,7 +43,7 @@ alike-same p q alike =
     let both = and_parts (if p.is_block then q.is_block else not q.is_block) (bytes_eq p.bytes q.bytes) alike in
     ap₂ (λ (b : Bool) (bytes : List ℕ). record { is_block = b; bytes = bytes }) (same-sort p.is_block q.is_block both.0) ((bytes_eq-Decides p.bytes q.bytes).0 both.1)
 
-same-alike : (p q : FramePart) → shape_of p ≡ shape_of q → is_alike p q ≡ true
+pub same-alike : (p q : FramePart) → shape_of p ≡ shape_of q → is_alike p q ≡ true
 same-alike p q same =
     let sort : p.is_block ≡ q.is_block = ap (λ (s : Shape). s.is_block) same in
     let bytes : p.bytes ≡ q.bytes = ap (λ (s : Shape). s.bytes) same in

@@ -5,7 +5,10 @@ pub mod Differences
 pub mod Legal
 pub mod Meanings
 pub mod Accepted
+pub mod FrameAgain
+pub mod FrameRuns
 pub mod KeptPairs
+pub mod LinesAgain
 pub mod PlacedPairs
 pub mod Texts
 pub mod Totals

@@ -1,16 +1,15 @@
 //! What one reads in the bytes of what `order` wrote: contracts of functions that do nothing.
 
-ghost use Rattle.std.specs.Prelude.{ℕ, Bool, true, List, Ok, ◌≡◌, ◌≤◌, is_none};
+ghost use Rattle.std.specs.Prelude.{ℕ, Bool, true, List, Ok, Some, ◌≡◌, ◌≤◌};
 ghost use Rattle.s66_command.specs.declared.strategy.Strategy.{Strategy};
 ghost use Rattle.s66_compare.specs.Compared.{IsCompared};
-ghost use Rattle.s66_compare.specs.Difference.{first_difference};
-ghost use Rattle.s66_compare.specs.Rows.{is_legal, rows_of};
-ghost use Rattle.s66_isa.specs.Lists.{every};
 ghost use Rattle.s66_isa.specs.declared.profile.Profile.{Profile};
 ghost use Rattle.s66_line.specs.Block.{Block};
 ghost use Rattle.s66_model.specs.declared.limits.TheConstants.{BUDGET_LIMIT};
 ghost use Rattle.s66_outcome.specs.declared.outcome.Status.{Status};
-ghost use Rattle.s66_source.specs.Frame.{frame_of};
+ghost use Rattle.s66_outcome.specs.declared.outcome.Status.TheVariants.{Done};
+ghost use Rattle.s66_program.specs.Output.{IsCompareOutput};
+ghost use Rattle.s66_source.specs.Halves.{Halves, halves_of};
 ghost use Rattle.s66_source.specs.LeftAlone.{Reading};
 ghost use Rattle.s66_source.specs.Source.{source_of};
 ghost use Rattle.s66_text.specs.OrderText.{IsOrderOutput};
@@ -22,9 +21,10 @@ pub fn reported_law()
     ensures { (strategy : Strategy) (p : Profile) (trace : Bool) (source : Reading) (text : List ℕ) (status : Status) → strategy.search.nodes ≤ BUDGET_LIMIT → IsOrderOutput strategy p trace source text status → ReportsBlocks p trace source text }
 {}
 
-/// If what `order` wrote for a source is accepted again, `compare` finds each of its blocks to be the source's in a legal order: so the
-/// comparison is accepted unless what stands beside the blocks differs.
+/// If what `order` wrote for a source is accepted again, `compare` accepts it: each block is the source's in a legal order, and nothing that
+/// stands beside the blocks differs. So `compare` of the two ends with status 0.
 pub fn compared_law()
-    ensures blocks { (strategy : Strategy) (p q : Profile) (trace : Bool) (source : Reading) (text : List ℕ) (status : Status) (blocks again : List Block) → IsOrderOutput strategy p trace source text status → source_of source ≡ Ok blocks → source_of (record { cut = source.cut; text = text }) ≡ Ok again → every is_legal (rows_of q blocks again) ≡ true }
-    ensures accepted { (strategy : Strategy) (p q : Profile) (trace : Bool) (source : Reading) (text compared : List ℕ) (status : Status) (accepted : Bool) → IsOrderOutput strategy p trace source text status → IsCompared q source (record { cut = source.cut; text = text }) compared accepted → accepted ≡ is_none (first_difference (frame_of source) (frame_of (record { cut = source.cut; text = text }))) }
+    ensures compared { (strategy : Strategy) (p q : Profile) (trace : Bool) (source : Reading) (text : List ℕ) (status : Status) (again : List Block) → IsOrderOutput strategy p trace source text status → source_of (record { cut = source.cut; text = text }) ≡ Ok again → (compared : List ℕ) × IsCompared q source (record { cut = source.cut; text = text }) compared true }
+    ensures accepted { (strategy : Strategy) (p q : Profile) (trace : Bool) (source : Reading) (text compared : List ℕ) (status : Status) (accepted : Bool) → IsOrderOutput strategy p trace source text status → IsCompared q source (record { cut = source.cut; text = text }) compared accepted → accepted ≡ true }
+    ensures done { (strategy : Strategy) (p q : Profile) (trace cut : Bool) (halves : Halves) (input compared : List ℕ) (status ended : Status) → halves_of input ≡ Some halves → IsOrderOutput strategy p trace (record { cut = cut; text = halves.old }) halves.new status → IsCompareOutput q cut input compared ended → ended ≡ Done }
 {}

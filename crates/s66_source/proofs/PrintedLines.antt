@@ -72,7 +72,7 @@ pub Rising-ordered : (number run : ℕ) (lines : List Line) → Ordered number r
 Rising-ordered number run [] h = tt
 Rising-ordered number run (l ∷ lines) h = (omega (arith, h.0), subst (λ k. Rising (suc k) lines) (sym h.0) (Rising-ordered (suc number) (run_behind l) lines h.2))
 
-run_behind-le : (l : Line) → l.run ≤ run_behind l
+pub run_behind-le : (l : Line) → l.run ≤ run_behind l
 run_behind-le l = elim (ends_run l.class) as (λ t. l.run ≤ (if t then suc l.run else l.run)) [ true ↦ omega arith | false ↦ omega arith ]
 
 -- an instruction to come is of no earlier run

@@ -34,12 +34,12 @@ use Rattle.s66_line.proofs.Wholes.{is_inside, AreLines-lines_of}
 
 -- THE PARTS of the lines to come: what is left of the part that is begun, and the parts after it
 
-abbrev left : List (List Line) → List Line
+abbrev pub left : List (List Line) → List Line
 left [] = []
 left ([] ∷ parts) = []
 left ((l ∷ more) ∷ parts) = if begins_block l then [] else l ∷ more
 
-abbrev behind : List (List Line) → List (List Line)
+abbrev pub behind : List (List Line) → List (List Line)
 behind [] = []
 behind ([] ∷ parts) = parts
 behind ((l ∷ more) ∷ parts) = if begins_block l then (l ∷ more) ∷ parts else parts
@@ -51,24 +51,24 @@ put-before l ((next ∷ more) ∷ parts) =
     elim (begins_block next) as (λ t. (if t then (l ∷ []) ∷ (next ∷ more) ∷ parts else (l ∷ next ∷ more) ∷ parts) ≡ (l ∷ (if t then [] else next ∷ more)) ∷ (if t then (next ∷ more) ∷ parts else parts))
     [ true ↦ refl | false ↦ refl ]
 
-left-put : (l : Line) (parts : List (List Line)) → left (put_before l parts) ≡ (if begins_block l then [] else l ∷ left parts)
+pub left-put : (l : Line) (parts : List (List Line)) → left (put_before l parts) ≡ (if begins_block l then [] else l ∷ left parts)
 left-put l parts = ap left (put-before l parts)
 
-behind-put : (l : Line) (parts : List (List Line)) → behind (put_before l parts) ≡ (if begins_block l then (l ∷ left parts) ∷ behind parts else behind parts)
+pub behind-put : (l : Line) (parts : List (List Line)) → behind (put_before l parts) ≡ (if begins_block l then (l ∷ left parts) ∷ behind parts else behind parts)
 behind-put l parts = ap behind (put-before l parts)
 
-left-begins : (parts : List (List Line)) → Begins parts → left parts ≡ []
+pub left-begins : (parts : List (List Line)) → Begins parts → left parts ≡ []
 left-begins [] h = refl
 left-begins ([] ∷ parts) h = refl
 left-begins ((l ∷ more) ∷ parts) h = rw h refl
 
-behind-begins : (parts : List (List Line)) → Begins parts → behind parts ≡ parts
+pub behind-begins : (parts : List (List Line)) → Begins parts → behind parts ≡ parts
 behind-begins [] h = refl
 behind-begins ([] ∷ parts) h = absurd h
 behind-begins ((l ∷ more) ∷ parts) h = rw h refl
 
 -- the parts of these lines
-abbrev parts_from : ℕ → ℕ → ℕ → List ℕ → Bool → List Flagged → List (List Line)
+abbrev pub parts_from : ℕ → ℕ → ℕ → List ℕ → Bool → List Flagged → List (List Line)
 parts_from number run index label after lines = parts_of (instructions (classes_from number run index label after lines))
 
 -- A PART HAS AT MOST BLOCK_LIMIT LINES
@@ -76,10 +76,10 @@ parts_from number run index label after lines = parts_of (instructions (classes_
 abbrev Fits : List Flagged → Type 0
 Fits lines = (number run index : ℕ) (label : List ℕ) (after : Bool) → index % BLOCK_LIMIT + length (left (parts_from number run index label after lines)) ≤ BLOCK_LIMIT
 
-begun-below : (index : ℕ) → index % BLOCK_LIMIT < BLOCK_LIMIT
+pub begun-below : (index : ℕ) → index % BLOCK_LIMIT < BLOCK_LIMIT
 begun-below index = mod_below index BLOCK_LIMIT (omega arith)
 
-none-left : (lines : List Flagged) (number run index : ℕ) (label : List ℕ) (after : Bool) → index % BLOCK_LIMIT ≡ 0 → left (parts_from number run index label after lines) ≡ []
+pub none-left : (lines : List Flagged) (number run index : ℕ) (label : List ℕ) (after : Bool) → index % BLOCK_LIMIT ≡ 0 → left (parts_from number run index label after lines) ≡ []
 none-left lines number run index label after h = left-begins (parts_from number run index label after lines) (fresh lines number run index label after h)
 
 -- one instruction more of the part
@@ -113,7 +113,7 @@ fits-instruction lines fits l number run index label at =
     (elim (begins_block l) as (λ t. index % BLOCK_LIMIT + length (if t then [] else l ∷ left rest) ≤ BLOCK_LIMIT) [ true ↦ omega (arith, below) | false ↦ omega (arith, next) ])
 
 -- the parts of a line of this class and the lines after it
-abbrev parts_by : ℕ → ℕ → ℕ → List ℕ → Class → List ℕ → List Flagged → List (List Line)
+abbrev pub parts_by : ℕ → ℕ → ℕ → List ℕ → Class → List ℕ → List Flagged → List (List Line)
 parts_by number run index label c line lines = parts_of (instructions (from_class number run index label c line lines))
 
 fits-class : (c : Class) (line : List ℕ) (lines : List Flagged) → Fits lines → (number run index : ℕ) (label : List ℕ) → index % BLOCK_LIMIT + length (left (parts_by number run index label c line lines)) ≤ BLOCK_LIMIT
@@ -130,13 +130,13 @@ fits-class (Instruction true n) line lines fits number run index label =
     let none = ap (λ (ls : List Line). length ls) (left-put l (parts_from (suc number) (suc run) 1 (label_bytes (body line)) true lines)) in
     omega (arith, below, none)
 
-fits-all : (lines : List Flagged) → Fits lines
+pub fits-all : (lines : List Flagged) → Fits lines
 fits-all [] number run index label after = let below = begun-below index in omega (arith, below)
 fits-all (line ∷ lines) number run index label after = fits-class (class_at after line) line.bytes lines (fits-all lines) number run index label
 
 -- THE LINES OF A PART spell their instructions
 
-taken-by : (alone : Bool) (c : Class) (located : Bool) (n : Instr) → (if alone then Other else c) ≡ Instruction located n → (alone ≡ false) × (c ≡ Instruction located n)
+pub taken-by : (alone : Bool) (c : Class) (located : Bool) (n : Instr) → (if alone then Other else c) ≡ Instruction located n → (alone ≡ false) × (c ≡ Instruction located n)
 taken-by true c located n h = cc
 taken-by false c located n h = (refl, h)
 
@@ -164,7 +164,7 @@ sound-instructions cut s (line ∷ lines) number run index label after h =
         let is = (taken-by (is_alone cut s line (is_continued lines)) (class_of after line) located n stated).1 in
         ((spells-of_class after line located n is, every-from_operation is_inside (body line) (every-trimmed is_inside is_return line inside)), rest)
 
-sound-left : (lines : List Line) → AreSoundLines lines → AreSoundLines (left (parts_of lines))
+pub sound-left : (lines : List Line) → AreSoundLines lines → AreSoundLines (left (parts_of lines))
 sound-left [] h = tt
 sound-left (l ∷ lines) h =
     subst AreSoundLines (sym (left-put l (parts_of lines)))
@@ -186,7 +186,7 @@ first-put : (low : ℕ) (l : Line) (parts : List (List Line)) → low ≤ l.numb
 first-put low l parts le h =
     subst (FirstFrom low) (sym (behind-put l parts)) (elim (begins_block l) as (λ t. FirstFrom low (if t then (l ∷ left parts) ∷ behind parts else behind parts)) [ true ↦ le | false ↦ h ])
 
-first-from : (lines : List Flagged) (number run index : ℕ) (label : List ℕ) (after : Bool) → FirstFrom number (behind (parts_from number run index label after lines))
+pub first-from : (lines : List Flagged) (number run index : ℕ) (label : List ℕ) (after : Bool) → FirstFrom number (behind (parts_from number run index label after lines))
 first-from [] number run index label after = tt
 first-from (line ∷ lines) number run index label after =
     let c : Class = class_at after line in
@@ -231,7 +231,7 @@ other-first all n number run index label ps (Pad located) line lines stated comm
 other-first all n number run index label ps (Instruction located i) line lines stated comma = cc
 
 -- with `--cut` a comma comes next in the printed text if it does in the source
-next-same : (cut : Bool) (s : Standing) (lines : List (List ℕ)) (all : List Line) (n : ℕ) (ps : List Placed) (number run index : ℕ) (label : List ℕ) (after : Bool) →
+pub next-same : (cut : Bool) (s : Standing) (lines : List (List ℕ)) (all : List Line) (n : ℕ) (ps : List Placed) (number run index : ℕ) (label : List ℕ) (after : Bool) →
     (cut && continues (text_from cut s all n ps number run index label after lines)) ≡ (cut && is_continued lines)
 next-same false s lines all n ps number run index label after = refl
 next-same true s [] all n ps number run index label after = refl
@@ -285,7 +285,7 @@ ReadsClass cut c line lines = (s : Standing) (all : List Line) (n number run ind
 
 -- A LINE THAT IS COPIED, or that is left out
 
-rest-taken : (l : Line) (lines : List Line) → refusal (l ∷ lines) ≡ None → refusal lines ≡ None
+pub rest-taken : (l : Line) (lines : List Line) → refusal (l ∷ lines) ≡ None → refusal lines ≡ None
 rest-taken l lines h = (neither (refusal_at l) (refusal lines) h).1
 
 -- the lines after it are read after it, or as if it weren't there
@@ -306,7 +306,7 @@ copied-line cut s all n parts ps l lines after continued t again stated inside a
         ∙ read-copied cut s t after continued l.bytes (text_of_lines all n (map block_of parts) ps lines) l.number again inside next (ap (operand_refusal l.number) stated ∙ accepted) h)
 
 -- a comment changes nothing of what stands
-stays-comment : (cut : Bool) (s : Standing) (after continued : Bool) (line : List ℕ) → class_at after (flagged_at cut s line continued) ≡ Comment → after_line cut s line ≡ s
+pub stays-comment : (cut : Bool) (s : Standing) (after continued : Bool) (line : List ℕ) → class_at after (flagged_at cut s line continued) ≡ Comment → after_line cut s line ≡ s
 stays-comment cut s after continued line stated =
     let parts = comment-line after (is_alone cut s line continued) line (ap is_comment_class stated) in
     let is = taken cut s line continued parts.0 in
@@ -345,7 +345,7 @@ ready-labelled lines number run label after t some =
     (λ here empty. absurd (true≢false (sym some ∙ ap is_filled empty)), λ all. absurd (omega (arith, none, all)))
 
 -- what is in front of code that isn't left alone is a label
-located-label : (after alone : Bool) (line : List ℕ) → begins_run (class_at after (record { alone = alone; bytes = line })) ≡ true → every is_inside line ≡ true →
+pub located-label : (after alone : Bool) (line : List ℕ) → begins_run (class_at after (record { alone = alone; bytes = line })) ≡ true → every is_inside line ≡ true →
     IsLabel (label_bytes (body line)) × (is_filled (label_bytes (body line)) ≡ true)
 located-label after true line begins inside = absurd (true≢false (sym begins))
 located-label after false line begins inside = label-of_code after line begins inside
@@ -384,7 +384,7 @@ reads-other cut line lines reads s all n number run index label after ps t again
 
 -- AN INSTRUCTION
 
-label-or_none : (t : Bool) (label : List ℕ) → IsLabel label → IsLabel (if t then label else [])
+pub label-or_none : (t : Bool) (label : List ℕ) → IsLabel label → IsLabel (if t then label else [])
 label-or_none true label is = is
 label-or_none false label is = (refl, refl)
 
@@ -393,21 +393,21 @@ one-more : (blocks later again new : List Block) (made : Block) → later ≡ bl
 one-more blocks later again new made h k = k ∙ ap (λ bs. bs ++ new) h ∙ append_assoc blocks (made ∷ []) new
 
 -- the lines after an instruction, and their parts
-abbrev lines_after : ℕ → Line → List Flagged → List Line
+abbrev pub lines_after : ℕ → Line → List Flagged → List Line
 lines_after run l lines = classes_from (suc l.number) run (suc l.index) l.label true lines
 
-abbrev parts_after : ℕ → Line → List Flagged → List (List Line)
+abbrev pub parts_after : ℕ → Line → List Flagged → List (List Line)
 parts_after run l lines = parts_of (instructions (lines_after run l lines))
 
 -- the parts from one that begins with it on
-abbrev parts_at : ℕ → Line → List Flagged → List (List Line)
+abbrev pub parts_at : ℕ → Line → List Flagged → List (List Line)
 parts_at run l lines = (l ∷ left (parts_after run l lines)) ∷ behind (parts_after run l lines)
 
 -- what an instruction that isn't left alone leaves: what stands is as it was, and no continuation comes next
-record IsLeft (cut : Bool) (s stands : Standing) (lines : List (List ℕ)) : Type 0 where
-  free : is_holding cut s ≡ false
-  stays : stands ≡ s
-  ended : (cut && is_continued lines) ≡ false
+pub record IsLeft (cut : Bool) (s stands : Standing) (lines : List (List ℕ)) : Type 0 where
+  pub free : is_holding cut s ≡ false
+  pub stays : stands ≡ s
+  pub ended : (cut && is_continued lines) ≡ false
 
 -- the first of a block
 reads-first : (cut : Bool) (lines : List (List ℕ)) → Reads cut lines → (s stands : Standing) (all : List Line) (n run : ℕ) (l : Line) (ps : List Placed) (t : SourceState) (again : List Block) →
@@ -457,7 +457,7 @@ ready-more lines number run index count label t inside one ready = by_full (eqb 
         let next = next-index index (index % BLOCK_LIMIT) refl (eqb-false (suc (index % BLOCK_LIMIT)) BLOCK_LIMIT stated) in
         (λ here empty. absurd (omega (arith, next, here)), λ many. ready.1 (omega (arith, next, many, one)))
 
-sound-line : (after : Bool) (l : Line) (located : Bool) (i : Instr) → l.class ≡ Instruction located i → class_of after l.bytes ≡ Instruction located i → every is_inside l.bytes ≡ true → AreSoundLines (l ∷ [])
+pub sound-line : (after : Bool) (l : Line) (located : Bool) (i : Instr) → l.class ≡ Instruction located i → class_of after l.bytes ≡ Instruction located i → every is_inside l.bytes ≡ true → AreSoundLines (l ∷ [])
 sound-line after l located i is stated inside =
     let spelled : Spells (from_operation (body l.bytes)) (instr_in l.class) = subst (λ c. Spells (from_operation (body l.bytes)) (instr_in c)) (sym is) (spells-of_class after l.bytes located i stated) in
     ((spelled, every-from_operation is_inside (body l.bytes) (every-trimmed is_inside is_return l.bytes inside)), tt)
@@ -503,13 +503,13 @@ reads-put cut lines reads s stands all n run l located i ps t again stated left_
         (text-copied all n (behind parts) ps l rest (first-from flagged (suc l.number) run (suc l.index) l.label true)
         ∙ ap (λ copied. copied ++ text_of_lines all n (map block_of (behind parts)) ps rest) (instruction-not_copied all l located i stated)) h))
 
-left-by : (cut : Bool) (s : Standing) (after : Bool) (line : List ℕ) (lines : List (List ℕ)) (located : Bool) (i : Instr) → class_at after (flagged_at cut s line (is_continued lines)) ≡ Instruction located i →
+pub left-by : (cut : Bool) (s : Standing) (after : Bool) (line : List ℕ) (lines : List (List ℕ)) (located : Bool) (i : Instr) → class_at after (flagged_at cut s line (is_continued lines)) ≡ Instruction located i →
     IsLeft cut s (after_line cut s line) lines
 left-by cut s after line lines located i stated =
     let is = taken cut s line (is_continued lines) (taken-by (is_alone cut s line (is_continued lines)) (class_of after line) located i stated).0 in
     record { free = is.free; stays = code-stays cut (is_continued lines) after s line (ap is_code stated); ended = is.ended }
 
-class-taken : (cut : Bool) (s : Standing) (after : Bool) (line : List ℕ) (lines : List (List ℕ)) (located : Bool) (i : Instr) → class_at after (flagged_at cut s line (is_continued lines)) ≡ Instruction located i →
+pub class-taken : (cut : Bool) (s : Standing) (after : Bool) (line : List ℕ) (lines : List (List ℕ)) (located : Bool) (i : Instr) → class_at after (flagged_at cut s line (is_continued lines)) ≡ Instruction located i →
     class_of after line ≡ Instruction located i
 class-taken cut s after line lines located i stated = (taken-by (is_alone cut s line (is_continued lines)) (class_of after line) located i stated).1
 
@@ -540,7 +540,7 @@ reads-labelled cut i line lines reads s all n number run index label after ps t 
 
 -- ALL LINES
 
-none-refused : (number : ℕ) (lines : List Line) (l : Line) → l.class ≡ Refused → refusal (l ∷ lines) ≡ None → ⊥
+pub none-refused : (number : ℕ) (lines : List Line) (l : Line) → l.class ≡ Refused → refusal (l ∷ lines) ≡ None → ⊥
 none-refused number lines l stated taken = some-refused l.number l.class stated (operand-none (l ∷ lines) l taken (inl refl))
   where
     some-refused : (number : ℕ) (c : Class) → c ≡ Refused → operand_refusal number c ≡ None → ⊥

@@ -37,7 +37,7 @@ AreSound [] = Unit {0}
 AreSound (e ∷ es) = IsSound e × AreSound es
 
 -- the bytes of a number spell its instruction
-abbrev IsSoundAt : Block → ℕ → Type 0
+abbrev pub IsSoundAt : Block → ℕ → Type 0
 IsSoundAt block n = Spells (bytes_of block n) (instr_at (instrs_of block) n) × (every is_inside (bytes_of block n) ≡ true)
 
 record Found (entries : List Entry) (n : ℕ) : Type 0 where
@@ -55,7 +55,7 @@ found (e ∷ es) (suc n) h few =
 pub bytes_of-entry : (block : Block) (n : ℕ) (e : Entry) → entry_at block n ≡ Some e → bytes_of block n ≡ e.bytes
 bytes_of-entry block n e here = rw here refl
 
-sound-at : (block : Block) (n : ℕ) → AreSound block.entries → 1 ≤ n → n ≤ length block.entries → IsSoundAt block n
+pub sound-at : (block : Block) (n : ℕ) → AreSound block.entries → 1 ≤ n → n ≤ length block.entries → IsSoundAt block n
 sound-at block zero h some few = absurd (omega (arith, some))
 sound-at block (suc n) h some few =
     let there = found block.entries n h (omega (arith, few)) in
@@ -74,7 +74,7 @@ same-run true label other s h = ap (λ l. begin_run_if true l s) (h refl)
 same-run false label other s h = refl
 
 -- it begins with no comma
-quiet-instruction : (cut : Bool) (label bytes : List ℕ) (n : Instr) (text : List ℕ) → IsLabel label → Spells bytes n → IsQuiet cut (instruction_line label bytes ++ text)
+pub quiet-instruction : (cut : Bool) (label bytes : List ℕ) (n : Instr) (text : List ℕ) → IsLabel label → Spells bytes n → IsQuiet cut (instruction_line label bytes ++ text)
 quiet-instruction cut label bytes n text is spells =
     let line : List ℕ = label_field label ++ trim is_trailing bytes in
     let parts = code-line false line (ap is_code ((read-line label bytes n is spells).classed false)) in

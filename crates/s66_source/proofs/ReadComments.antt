@@ -63,7 +63,7 @@ read-class cut s t line text c again inside stated h =
 
 -- A COPIED LINE is of its class again
 
-same-class : (alone comment comma after other : Bool) (c : Class) (number : ℕ) →
+pub same-class : (alone comment comma after other : Bool) (c : Class) (number : ℕ) →
     operand_refusal number (if alone then Other else (if comment then Comment else (if comma then (if after then Refused else Other) else c))) ≡ None →
     ((if alone then Other else (if comment then Comment else (if comma then (if other then Refused else Other) else c))) ≡ Refused → ⊥) →
     (if alone then Other else (if comment then Comment else (if comma then (if other then Refused else Other) else c)))
@@ -124,7 +124,7 @@ passes-append cut s first second p q = record {
       record { count = two.count; after = two.after; read = two.read };
 }
 
-comment-class : (after : Bool) (line : List ℕ) → is_comment (body line) ≡ true → class_of after line ≡ Comment
+pub comment-class : (after : Bool) (line : List ℕ) → is_comment (body line) ≡ true → class_of after line ≡ Comment
 comment-class after line comment = rw comment refl
 
 pub taken-class : (after alone : Bool) (line : List ℕ) (c : Class) → alone ≡ false → class_of after line ≡ c → class_at after (record { alone = alone; bytes = line }) ≡ c
@@ -170,7 +170,7 @@ inside-times n count source time =
     (inside-append (codes "* BLOCK ") (decimal n) refl (inside-decimal n)) refl) (inside-decimal count)) refl) (inside-decimal source)) refl) (inside-decimal time)
 
 -- the line of the times, up to this end
-passes-times : (cut : Bool) (s : Standing) (n count source time : ℕ) (end : List ℕ) → is_holding cut s ≡ false → every is_inside end ≡ true → Passes cut s (times_text n count source time ++ (end ++ codes "\n"))
+pub passes-times : (cut : Bool) (s : Standing) (n count source time : ℕ) (end : List ℕ) → is_holding cut s ≡ false → every is_inside end ≡ true → Passes cut s (times_text n count source time ++ (end ++ codes "\n"))
 passes-times cut s n count source time end free inside =
     let times : List ℕ = times_text n count source time in
     subst (Passes cut s) (append_assoc times end (codes "\n")) (passes-comment cut s (times ++ end) free (and_right cut false refl) (inside-append times end (inside-times n count source time) inside) refl)
@@ -237,13 +237,13 @@ comment-line after alone line h =
     comment-parts alone (is_comment there) (continues there) after (by_operation (is_located there) words (upper (operand there)))
     (no-comment (is_pad words) (is_some (operation_of words)) (is_located there) (instr_of words (upper (operand there)))) h
 
-passes-line : (cut : Bool) (s : Standing) (l : Line) → is_holding cut s ≡ false → IsOfSource cut l → is_comment_class l.class ≡ true → Passes cut s (body l.bytes ++ codes "\n")
+pub passes-line : (cut : Bool) (s : Standing) (l : Line) → is_holding cut s ≡ false → IsOfSource cut l → is_comment_class l.class ≡ true → Passes cut s (body l.bytes ++ codes "\n")
 passes-line cut s l free is comment =
     let parts = comment-line is.after (is_alone cut is.standing l.bytes is.continued) l.bytes (sym (ap is_comment_class is.class) ∙ comment) in
     let unflagged = flagged-body cut l.bytes ∙ (taken cut is.standing l.bytes is.continued parts.0).unflagged in
     passes-comment cut s (body l.bytes) free unflagged (every-trimmed is_inside is_return l.bytes is.inside) (ap is_comment (trim-twice is_return l.bytes) ∙ parts.1)
 
-note-comment : (l : Line) (block : Block) → is_note_of l block ≡ true → is_comment_class l.class ≡ true
+pub note-comment : (l : Line) (block : Block) → is_note_of l block ≡ true → is_comment_class l.class ≡ true
 note-comment l block h =
     (and_parts (is_comment_class l.class) (nat_lt (line_of block 1) l.number)
     (and_parts (is_comment_class l.class && nat_lt (line_of block 1) l.number) (nat_lt l.number (line_of block (length block.entries))) h).0).0

@@ -1,8 +1,11 @@
-use Rattle.s66_program.proofs.OrderCompared.{blocks-compared, order-compared}
+use Rattle.s66_program.proofs.OrderCompared.{compared-accepted, compared-done, order-compared}
 use Rattle.s66_program.proofs.order_laws.compared_law.Goals as goal
 
-pub returns-clause-blocks : goal.returns-clause-blocks
-returns-clause-blocks c = blocks-compared
+pub returns-clause-compared : goal.returns-clause-compared
+returns-clause-compared c = order-compared
 
 pub returns-clause-accepted : goal.returns-clause-accepted
-returns-clause-accepted c = order-compared
+returns-clause-accepted c = compared-accepted
+
+pub returns-clause-done : goal.returns-clause-done
+returns-clause-done c = compared-done

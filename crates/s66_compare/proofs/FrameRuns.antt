@@ -1,0 +1,315 @@
+-- The frame of a source, line by line: a NO stands in it once its run has ended without an instruction.
+use Rattle.std.proofs.Common.{◌≡◌, ◌≢◌, ◌≤◌, ◌<◌, ◌+◌, ◌%◌, ◌==◌, ◌&&◌, ◌||◌, ◌∙◌, not, ℕ, zero, suc, Bool, true, false, true≢false, if◌then◌else◌, List, [], ◌∷◌, ◌++◌, None, map, refl, sym, ap, ap₂, arith, append_assoc, eqb, eq-eqb}
+use Rattle.std.specs.Prelude.{Ok}
+use Rattle.std.proofs.Math.Bool.{and-false}
+use Rattle.std.proofs.lemmas.Bool.{ne_eqb, or_right}
+use Rattle.std.proofs.lemmas.List.{append-nil}
+use Rattle.s66_isa.specs.Lists.{some_of}
+use Rattle.s66_isa.specs.declared.limits.TheConstants.{BLOCK_LIMIT}
+use Rattle.s66_line.specs.Block.{Block, line_of}
+use Rattle.s66_line.specs.Class.{is_instruction}
+use Rattle.s66_line.specs.Fields.{body, from_location, label_bytes, trim}
+use Rattle.s66_line.specs.declared.class.Class.{Class}
+use Rattle.s66_line.specs.declared.class.Class.TheVariants.{Comment, Other, Refused, Pad, Instruction}
+use Rattle.s66_source.specs.Frame.{FramePart, block_part, frame_of, frame_of_lines, is_beside, line_part, part_beside}
+use Rattle.s66_source.specs.LeftAlone.{Flagged, Reading, class_at, flagged_lines}
+use Rattle.s66_source.specs.Printed.{is_trailing}
+use Rattle.s66_source.specs.Roles.{has_block}
+use Rattle.s66_source.specs.Source.{Line, begins_block, block_of, blocks_of, classed_lines, classes_from, instructions, parts_of, put_before, refusal, source_of}
+use Rattle.s66_source.proofs.LineLaw.{no_refusal}
+use Rattle.s66_source.proofs.PrintedLines.{Ordered, ordered-classed, run_behind, run_behind-le}
+use Rattle.s66_source.proofs.ReadAgain.{FirstFrom, behind, behind-begins, behind-put, first-from, left, none-refused, parts_by, parts_from, rest-taken}
+use Rattle.s66_source.proofs.ReaderBlocks.{fresh, from_class}
+use Rattle.s66_compare.specs.Difference.{Shape, shape_of, shapes}
+
+-- WHAT IS KNOWN before a line
+
+abbrev pub line_shape : List ℕ → Shape
+line_shape bytes = record { is_block = false; bytes = trim is_trailing bytes }
+
+abbrev pub block_shape : List ℕ → Shape
+block_shape label = record { is_block = true; bytes = from_location label }
+
+-- the line before is code; the NOs of a run that has no instruction so far; how many instructions it has; and its label
+pub record Reached : Type 0 where
+  pub after : Bool
+  pub pads : List Shape
+  pub index : ℕ
+  pub label : List ℕ
+
+abbrev pub reached : Bool → List Shape → ℕ → List ℕ → Reached
+reached after pads index label = record { after = after; pads = pads; index = index; label = label }
+
+abbrev pub begun : ℕ → Bool
+begun zero = false
+begun (suc n) = true
+
+-- the label of a block that begins after so many instructions of its run
+abbrev pub first_label : ℕ → List ℕ → List ℕ
+first_label zero label = label
+first_label (suc n) label = []
+
+-- what a line of this class adds to the frame
+abbrev pub emit : Reached → Class → List ℕ → List Shape
+emit r Comment line = []
+emit r Other line = r.pads ++ line_shape line ∷ []
+emit r Refused line = []
+emit r (Pad false) line = []
+emit r (Pad true) line = r.pads
+emit r (Instruction false i) line = if r.index % BLOCK_LIMIT == 0 then block_shape (first_label r.index r.label) ∷ [] else []
+emit r (Instruction true i) line = r.pads ++ block_shape (label_bytes (body line)) ∷ []
+
+abbrev pub next : Reached → Class → List ℕ → Reached
+next r Comment line = reached false r.pads r.index r.label
+next r Other line = reached false [] 0 []
+next r Refused line = reached false r.pads r.index r.label
+next r (Pad false) line = reached true (if begun r.index then [] else r.pads ++ line_shape line ∷ []) r.index r.label
+next r (Pad true) line = reached true (line_shape line ∷ []) 0 (label_bytes (body line))
+next r (Instruction false i) line = reached true [] (suc r.index) r.label
+next r (Instruction true i) line = reached true [] 1 (label_bytes (body line))
+
+abbrev pub runs : Reached → List Flagged → List Shape
+runs r [] = r.pads
+runs r (line ∷ lines) = emit r (class_at r.after line) line.bytes ++ runs (next r (class_at r.after line) line.bytes) lines
+
+-- WHETHER A RUN HAS AN INSTRUCTION among lines
+
+abbrev pub has_run : ℕ → List Line → Bool
+has_run run lines = some_of (λ (l : Line). l.run == run && is_instruction l.class) lines
+
+pub run-skip : (run : ℕ) (l : Line) (lines : List Line) → is_instruction l.class ≡ false → has_run run (l ∷ lines) ≡ has_run run lines
+run-skip run l lines stated = ap (λ t. (eqb l.run run && t) || has_run run lines) stated ∙ ap (λ t. t || has_run run lines) (and-false (eqb l.run run))
+
+run-here : (run : ℕ) (l : Line) (lines : List Line) → l.run ≡ run → is_instruction l.class ≡ true → has_run run (l ∷ lines) ≡ true
+run-here run l lines same stated = rw (eq-eqb l.run run same, stated) refl
+
+run-other : (run : ℕ) (l : Line) (lines : List Line) → l.run ≢ run → has_run run (l ∷ lines) ≡ has_run run lines
+run-other run l lines other = rw (ne_eqb l.run run other) refl
+
+run-append : (run : ℕ) (before lines : List Line) → has_run run (before ++ lines) ≡ (has_run run before || has_run run lines)
+run-append run [] lines = refl
+run-append run (l ∷ before) lines =
+    elim (eqb l.run run && is_instruction l.class) as (λ t. (t || has_run run (before ++ lines)) ≡ ((t || has_run run before) || has_run run lines))
+    [ true ↦ refl | false ↦ run-append run before lines ]
+
+or-false : (b : Bool) → (b || false) ≡ b
+or-false true = refl
+or-false false = refl
+
+-- of no later run
+abbrev UpTo : ℕ → List Line → Type 0
+UpTo run [] = Unit {0}
+UpTo run (l ∷ lines) = (l.run ≤ run) × UpTo run lines
+
+UpTo-later : (run later : ℕ) (lines : List Line) → run ≤ later → UpTo run lines → UpTo later lines
+UpTo-later run later [] least up_to = tt
+UpTo-later run later (l ∷ lines) least up_to = (omega (arith, least, up_to.0), UpTo-later run later lines least up_to.1)
+
+UpTo-push : (run : ℕ) (lines : List Line) (l : Line) → UpTo run lines → l.run ≤ run → UpTo run (lines ++ l ∷ [])
+UpTo-push run [] l up_to last = (last, tt)
+UpTo-push run (m ∷ lines) l up_to last = (up_to.0, UpTo-push run lines l up_to.1 last)
+
+none-past : (run : ℕ) (lines : List Line) → UpTo run lines → has_run (suc run) lines ≡ false
+none-past run [] up_to = refl
+none-past run (l ∷ lines) up_to = run-other (suc run) l lines (λ same. omega (arith, same, up_to.0)) ∙ none-past run lines up_to.1
+
+none-later : (run number low : ℕ) (lines : List Line) → run < low → Ordered number low lines → has_run run lines ≡ false
+none-later run number low [] below ordered = refl
+none-later run number low (l ∷ lines) below ordered =
+    run-other run l lines (λ same. omega (arith, same, below, ordered.1)) ∙ none-later run (suc number) (run_behind l) lines (omega (arith, below, ordered.1, run_behind-le l)) ordered.2
+
+-- these lines come before, and so many instructions of the run are among them
+pub record Within (all before lines : List Line) (run index : ℕ) : Type 0 where
+  pub whole : all ≡ before ++ lines
+  pub past : UpTo run before
+  pub begins : has_run run before ≡ begun index
+
+-- one line more, in the run or a later one
+within-next : (all before : List Line) (l : Line) (lines : List Line) (run later index i : ℕ) → Within all before (l ∷ lines) run index → run ≤ later → l.run ≤ later → has_run later (before ++ l ∷ []) ≡ begun i → Within all (before ++ l ∷ []) lines later i
+within-next all before l lines run later index i within least last is =
+    record { whole = within.whole ∙ sym (append_assoc before (l ∷ []) lines); past = UpTo-push later before l (UpTo-later run later before least within.past) last; begins = is }
+
+-- that is no instruction, in the run
+pub within-same : (all before : List Line) (l : Line) (lines : List Line) (run index : ℕ) → Within all before (l ∷ lines) run index → l.run ≡ run → is_instruction l.class ≡ false → Within all (before ++ l ∷ []) lines run index
+within-same all before l lines run index within same stated =
+    within-next all before l lines run run index index within (omega arith) (omega (arith, same))
+    (run-append run before (l ∷ []) ∙ ap (λ b. has_run run before || b) (run-skip run l [] stated) ∙ or-false (has_run run before) ∙ within.begins)
+
+-- with which a run ends, or that begins one
+pub within-new : (all before : List Line) (l : Line) (lines : List Line) (run index : ℕ) → Within all before (l ∷ lines) run index → l.run ≤ suc run → is_instruction l.class ≡ false → Within all (before ++ l ∷ []) lines (suc run) 0
+within-new all before l lines run index within last stated =
+    within-next all before l lines run (suc run) index 0 within (omega arith) last
+    (run-append (suc run) before (l ∷ []) ∙ ap (λ b. has_run (suc run) before || b) (run-skip (suc run) l [] stated) ∙ or-false (has_run (suc run) before) ∙ none-past run before within.past)
+
+-- an instruction of the run, or the first of the next one
+pub within-more : (all before : List Line) (l : Line) (lines : List Line) (run later index i : ℕ) → Within all before (l ∷ lines) run index → run ≤ later → l.run ≡ later → is_instruction l.class ≡ true → Within all (before ++ l ∷ []) lines later (suc i)
+within-more all before l lines run later index i within least same stated =
+    within-next all before l lines run later index (suc i) within least (omega (arith, same))
+    (run-append later before (l ∷ []) ∙ ap (λ b. has_run later before || b) (run-here later l [] same stated) ∙ or_right (has_run later before) true refl)
+
+-- whether a NO of the run, or of a new one, is of a run with an instruction
+pub block-same : (all before : List Line) (l : Line) (lines : List Line) (run index : ℕ) → Within all before (l ∷ lines) run index → l.run ≡ run → is_instruction l.class ≡ false → has_block all l ≡ (begun index || has_run run lines)
+block-same all before l lines run index within same stated =
+    ap (λ k. has_run k all) same ∙ ap (has_run run) within.whole ∙ run-append run before (l ∷ lines) ∙ ap₂ (λ a b. a || b) within.begins (run-skip run l lines stated)
+
+pub block-new : (all before : List Line) (l : Line) (lines : List Line) (run index : ℕ) → Within all before (l ∷ lines) run index → l.run ≡ suc run → is_instruction l.class ≡ false → has_block all l ≡ has_run (suc run) lines
+block-new all before l lines run index within same stated =
+    ap (λ k. has_run k all) same ∙ ap (has_run (suc run)) within.whole ∙ run-append (suc run) before (l ∷ lines) ∙ ap₂ (λ a b. a || b) (none-past run before within.past) (run-skip (suc run) l lines stated)
+
+-- no instruction of the run comes once it has ended
+pub none-ahead : (run number : ℕ) (l : Line) (lines : List Line) → Ordered number (suc run) lines → is_instruction l.class ≡ false → has_run run (l ∷ lines) ≡ false
+none-ahead run number l lines ordered stated = run-skip run l lines stated ∙ none-later run number (suc run) lines (omega arith) ordered
+
+pub none-behind : (run number : ℕ) (l : Line) (lines : List Line) → Ordered number (suc run) lines → l.run ≡ suc run → has_run run (l ∷ lines) ≡ false
+none-behind run number l lines ordered same = run-other run l lines (λ here. omega (arith, here, same)) ∙ none-later run number (suc run) lines (omega arith) ordered
+
+pub some-ahead : (run : ℕ) (l : Line) (lines : List Line) → l.run ≡ run → is_instruction l.class ≡ true → has_run run (l ∷ lines) ≡ true
+some-ahead run l lines same stated = run-here run l lines same stated
+
+-- THE FRAME, line by line
+
+shapes-append : (ps qs : List FramePart) → shapes (ps ++ qs) ≡ shapes ps ++ shapes qs
+shapes-append [] qs = refl
+shapes-append (p ∷ ps) qs = ap (λ ss. shape_of p ∷ ss) (shapes-append ps qs)
+
+frame-line : (all : List Line) (parts : List (List Line)) (l : Line) (lines : List Line) → FirstFrom (suc l.number) parts →
+    frame_of_lines all (map block_of parts) (l ∷ lines) ≡ part_beside all l ++ frame_of_lines all (map block_of parts) lines
+frame-line all [] l lines h = refl
+frame-line all ([] ∷ parts) l lines h = absurd h
+frame-line all ((m ∷ more) ∷ parts) l lines h = rw (ne_eqb m.number l.number (λ same. absurd (omega (arith, same, h)))) refl
+
+frame-first : (all : List Line) (block : Block) (blocks : List Block) (l : Line) (lines : List Line) → line_of block 1 ≡ l.number → frame_of_lines all (block ∷ blocks) (l ∷ lines) ≡ block_part block ∷ frame_of_lines all blocks lines
+frame-first all block blocks l lines same = rw (eq-eqb (line_of block 1) l.number same) refl
+
+abbrev if_beside : Bool → List ℕ → List Shape
+if_beside b line = if b then line_shape line ∷ [] else []
+
+-- a line at which no block begins
+shapes-line : (all : List Line) (parts : List (List Line)) (l : Line) (lines : List Line) (b : Bool) → FirstFrom (suc l.number) parts → is_beside all l ≡ b →
+    shapes (frame_of_lines all (map block_of parts) (l ∷ lines)) ≡ if_beside b l.bytes ++ shapes (frame_of_lines all (map block_of parts) lines)
+shapes-line all parts l lines b first beside =
+    ap shapes (frame-line all parts l lines first) ∙ shapes-append (part_beside all l) (frame_of_lines all (map block_of parts) lines)
+    ∙ ap (λ ps. ps ++ shapes (frame_of_lines all (map block_of parts) lines)) (ap (λ t. shapes (if t then line_part l ∷ [] else [])) beside ∙ by_test b)
+  where
+    by_test : (t : Bool) → shapes (if t then line_part l ∷ [] else []) ≡ if_beside t l.bytes
+    by_test true = refl
+    by_test false = refl
+
+pub first-label : (index : ℕ) (label : List ℕ) → (if index == 0 then label else []) ≡ first_label index label
+first-label zero label = refl
+first-label (suc n) label = ap (λ t. if t then label else []) (ne_eqb (suc n) 0 (λ none. omega (arith, none)))
+
+-- an instruction, with which a block begins or goes on
+shapes-put : (all : List Line) (parts : List (List Line)) (l : Line) (lines : List Line) → FirstFrom (suc l.number) (behind parts) → is_beside all l ≡ false →
+    shapes (frame_of_lines all (map block_of (behind (put_before l parts))) (l ∷ lines))
+    ≡ (if begins_block l then block_shape (first_label l.index l.label) ∷ [] else []) ++ shapes (frame_of_lines all (map block_of (behind parts)) lines)
+shapes-put all parts l lines first beside =
+    ap (λ found. shapes (frame_of_lines all (map block_of found) (l ∷ lines))) (behind-put l parts) ∙ by_begins (begins_block l)
+  where
+    by_begins : (t : Bool) → shapes (frame_of_lines all (map block_of (if t then (l ∷ left parts) ∷ behind parts else behind parts)) (l ∷ lines))
+        ≡ (if t then block_shape (first_label l.index l.label) ∷ [] else []) ++ shapes (frame_of_lines all (map block_of (behind parts)) lines)
+    by_begins true =
+        ap shapes (frame-first all (block_of (l ∷ left parts)) (map block_of (behind parts)) l lines refl)
+        ∙ ap (λ label. block_shape label ∷ shapes (frame_of_lines all (map block_of (behind parts)) lines)) (first-label l.index l.label)
+    by_begins false = shapes-line all (behind parts) l lines false first beside
+
+-- THE LINES TO COME
+
+no-pads : (t : Bool) (more : List Shape) → (if t then [] else []) ++ more ≡ more
+no-pads true more = refl
+no-pads false more = refl
+
+pads-kept : (b a : Bool) (pads more : List Shape) (x : Shape) → (b ≡ true → pads ≡ []) →
+    (if a then [] else (if b then [] else pads ++ x ∷ [])) ++ more ≡ (if a then [] else pads) ++ ((if not (b || a) then x ∷ [] else []) ++ more)
+pads-kept true true pads more x none = refl
+pads-kept true false pads more x none = sym (ap (λ ps. ps ++ more) (none refl))
+pads-kept false true pads more x none = refl
+pads-kept false false pads more x none = append_assoc pads (x ∷ []) more
+
+pads-new : (a : Bool) (pads more : List Shape) (x : Shape) → pads ++ ((if a then [] else x ∷ []) ++ more) ≡ (if false then [] else pads) ++ ((if not a then x ∷ [] else []) ++ more)
+pads-new true pads more x = refl
+pads-new false pads more x = refl
+
+abbrev Framed : List Flagged → Type 0
+Framed lines = (all before : List Line) (number run index : ℕ) (label : List ℕ) (after : Bool) (pads : List Shape) →
+    Within all before (classes_from number run index label after lines) run index → refusal (classes_from number run index label after lines) ≡ None → (begun index ≡ true → pads ≡ []) →
+    runs (reached after pads index label) lines
+    ≡ (if has_run run (classes_from number run index label after lines) then [] else pads) ++ shapes (frame_of_lines all (map block_of (behind (parts_from number run index label after lines))) (classes_from number run index label after lines))
+
+framed-class : (c : Class) (line : List ℕ) (lines : List Flagged) → Framed lines → (all before : List Line) (number run index : ℕ) (label : List ℕ) (after : Bool) (pads : List Shape) →
+    Within all before (from_class number run index label c line lines) run index → refusal (from_class number run index label c line lines) ≡ None → (begun index ≡ true → pads ≡ []) →
+    emit (reached after pads index label) c line ++ runs (next (reached after pads index label) c line) lines
+    ≡ (if has_run run (from_class number run index label c line lines) then [] else pads) ++ shapes (frame_of_lines all (map block_of (behind (parts_by number run index label c line lines))) (from_class number run index label c line lines))
+framed-class Comment line lines framed all before number run index label after pads within taken none =
+    let l : Line = record { number = number; bytes = line; class = Comment; run = run; index = index; label = label } in
+    let rest : List Line = classes_from (suc number) run index label false lines in
+    framed all (before ++ l ∷ []) (suc number) run index label false pads (within-same all before l rest run index within refl refl) (rest-taken l rest taken) none
+    ∙ ap₂ (λ (t : Bool) (ss : List Shape). (if t then [] else pads) ++ ss) (sym (run-skip run l rest refl))
+    (sym (shapes-line all (behind (parts_from (suc number) run index label false lines)) l rest false (first-from lines (suc number) run index label false) refl))
+framed-class Refused line lines framed all before number run index label after pads within taken none =
+    absurd (none-refused number (classes_from (suc number) run index label false lines) (record { number = number; bytes = line; class = Refused; run = run; index = index; label = label }) refl taken)
+framed-class Other line lines framed all before number run index label after pads within taken none =
+    let l : Line = record { number = number; bytes = line; class = Other; run = run; index = index; label = label } in
+    let rest : List Line = classes_from (suc number) (suc run) 0 [] false lines in
+    let parts : List (List Line) = behind (parts_from (suc number) (suc run) 0 [] false lines) in
+    let more : List Shape = shapes (frame_of_lines all (map block_of parts) rest) in
+    ap (λ ss. (pads ++ line_shape line ∷ []) ++ ss)
+    (framed all (before ++ l ∷ []) (suc number) (suc run) 0 [] false [] (within-new all before l rest run index within (omega arith) refl) (rest-taken l rest taken) (λ h. refl) ∙ no-pads (has_run (suc run) rest) more)
+    ∙ append_assoc pads (line_shape line ∷ []) more
+    ∙ ap₂ (λ (t : Bool) (ss : List Shape). (if t then [] else pads) ++ ss) (sym (none-ahead run (suc number) l rest (ordered-classed lines (suc number) (suc run) 0 [] false) refl))
+    (sym (shapes-line all parts l rest true (first-from lines (suc number) (suc run) 0 [] false) refl))
+framed-class (Pad false) line lines framed all before number run index label after pads within taken none =
+    let l : Line = record { number = number; bytes = line; class = Pad false; run = run; index = index; label = label } in
+    let rest : List Line = classes_from (suc number) run index label true lines in
+    let parts : List (List Line) = behind (parts_from (suc number) run index label true lines) in
+    let more : List Shape = shapes (frame_of_lines all (map block_of parts) rest) in
+    let kept : List Shape = if begun index then [] else pads ++ line_shape line ∷ [] in
+    framed all (before ++ l ∷ []) (suc number) run index label true kept (within-same all before l rest run index within refl refl) (rest-taken l rest taken)
+    (λ h. ap (λ (t : Bool). if t then [] else pads ++ line_shape line ∷ []) h)
+    ∙ pads-kept (begun index) (has_run run rest) pads more (line_shape line) none
+    ∙ ap₂ (λ (t : Bool) (ss : List Shape). (if t then [] else pads) ++ ss) (sym (run-skip run l rest refl))
+    (sym (shapes-line all parts l rest (not (begun index || has_run run rest)) (first-from lines (suc number) run index label true) (ap not (block-same all before l rest run index within refl refl))))
+framed-class (Pad true) line lines framed all before number run index label after pads within taken none =
+    let new : List ℕ = label_bytes (body line) in
+    let l : Line = record { number = number; bytes = line; class = Pad true; run = suc run; index = 0; label = new } in
+    let rest : List Line = classes_from (suc number) (suc run) 0 new true lines in
+    let parts : List (List Line) = behind (parts_from (suc number) (suc run) 0 new true lines) in
+    let more : List Shape = shapes (frame_of_lines all (map block_of parts) rest) in
+    ap (λ ss. pads ++ ss)
+    (framed all (before ++ l ∷ []) (suc number) (suc run) 0 new true (line_shape line ∷ []) (within-new all before l rest run index within (omega arith) refl) (rest-taken l rest taken) (λ h. absurd (true≢false (sym h))))
+    ∙ pads-new (has_run (suc run) rest) pads more (line_shape line)
+    ∙ ap₂ (λ (t : Bool) (ss : List Shape). (if t then [] else pads) ++ ss) (sym (none-ahead run (suc number) l rest (ordered-classed lines (suc number) (suc run) 0 new true) refl))
+    (sym (shapes-line all parts l rest (not (has_run (suc run) rest)) (first-from lines (suc number) (suc run) 0 new true) (ap not (block-new all before l rest run index within refl refl))))
+framed-class (Instruction false i) line lines framed all before number run index label after pads within taken none =
+    let l : Line = record { number = number; bytes = line; class = Instruction false i; run = run; index = index; label = label } in
+    let rest : List Line = classes_from (suc number) run (suc index) label true lines in
+    let parts : List (List Line) = parts_from (suc number) run (suc index) label true lines in
+    let more : List Shape = shapes (frame_of_lines all (map block_of (behind parts)) rest) in
+    ap (λ ss. (if begins_block l then block_shape (first_label index label) ∷ [] else []) ++ ss)
+    (framed all (before ++ l ∷ []) (suc number) run (suc index) label true [] (within-more all before l rest run run index index within (omega arith) refl refl) (rest-taken l rest taken) (λ h. refl) ∙ no-pads (has_run run rest) more)
+    ∙ ap₂ (λ (t : Bool) (ss : List Shape). (if t then [] else pads) ++ ss) (sym (some-ahead run l rest refl refl)) (sym (shapes-put all parts l rest (first-from lines (suc number) run (suc index) label true) refl))
+framed-class (Instruction true i) line lines framed all before number run index label after pads within taken none =
+    let new : List ℕ = label_bytes (body line) in
+    let l : Line = record { number = number; bytes = line; class = Instruction true i; run = suc run; index = 0; label = new } in
+    let rest : List Line = classes_from (suc number) (suc run) 1 new true lines in
+    let parts : List (List Line) = parts_from (suc number) (suc run) 1 new true lines in
+    let more : List Shape = shapes (frame_of_lines all (map block_of (behind parts)) rest) in
+    ap (λ ss. (pads ++ block_shape new ∷ []) ++ ss)
+    (framed all (before ++ l ∷ []) (suc number) (suc run) 1 new true [] (within-more all before l rest run (suc run) index 0 within (omega arith) refl refl) (rest-taken l rest taken) (λ h. refl) ∙ no-pads (has_run (suc run) rest) more)
+    ∙ append_assoc pads (block_shape new ∷ []) more
+    ∙ ap₂ (λ (t : Bool) (ss : List Shape). (if t then [] else pads) ++ ss) (sym (none-behind run (suc number) l rest (ordered-classed lines (suc number) (suc run) 1 new true) refl)) (sym (shapes-put all parts l rest (first-from lines (suc number) (suc run) 1 new true) refl))
+
+frames-all : (lines : List Flagged) → Framed lines
+frames-all [] all before number run index label after pads within taken none = sym (append-nil pads)
+frames-all (line ∷ lines) all before number run index label after pads within taken none =
+    framed-class (class_at after line) line.bytes lines (frames-all lines) all before number run index label after pads within taken none
+
+-- A WHOLE SOURCE
+
+pub frame-runs : (source : Reading) (blocks : List Block) → source_of source ≡ Ok blocks → runs (reached false [] 0 []) (flagged_lines source) ≡ shapes (frame_of source)
+frame-runs source blocks accepted =
+    let all : List Line = classed_lines source in
+    let parts : List (List Line) = parts_of (instructions all) in
+    frames-all (flagged_lines source) all [] 1 0 0 [] false [] (record { whole = refl; past = tt; begins = refl }) (no_refusal (refusal all) (blocks_of all) blocks accepted) (λ h. refl)
+    ∙ no-pads (has_run 0 all) (shapes (frame_of_lines all (map block_of (behind parts)) all))
+    ∙ ap (λ found. shapes (frame_of_lines all (map block_of found) all)) (behind-begins parts (fresh (flagged_lines source) 1 0 0 [] false refl))
