@@ -17,7 +17,7 @@ front line = take LINE_BYTES_LIMIT line
 abbrev pub alone_from : Standing → List (List ℕ) → List Bool
 alone_from s lines = map (λ (m : Flagged). m.alone) (flagged_from true s (map front lines))
 
--- and each line of a text, up to the limit of lines
+-- whether it leaves each line of a text alone, up to the limit of lines
 abbrev pub alone_lines : List ℕ → List Bool
 alone_lines text = take SOURCE_LINES_LIMIT (alone_from at_first (lines_of text))
 
@@ -25,7 +25,8 @@ alone_lines text = take SOURCE_LINES_LIMIT (alone_from at_first (lines_of text))
 abbrev pub is_alone_at : List Bool → ℕ → Bool
 is_alone_at alone place = slice_index_or alone place false
 
--- a finding of this rule means a line that is left alone: a refused line or a directive itself, the line after one that covers others
+-- what a finding of this rule means is left alone: a refused line or a directive itself, the line after one that covers others; any
+-- other means no line
 abbrev pub means_alone : Rule → (here next : Bool) → Bool
 means_alone BadOperand here next = here
 means_alone Directive here next = here
@@ -33,6 +34,6 @@ means_alone HasABody here next = next
 means_alone CountsLines here next = next
 means_alone rule here next = false
 
--- what was found is marked
+-- a finding is marked
 abbrev pub is_marked : List Bool → Found → Bool
 is_marked alone f = means_alone f.rule (is_alone_at alone (f.number - 1)) (is_alone_at alone f.number)

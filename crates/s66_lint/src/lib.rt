@@ -24,4 +24,4 @@ mod word;
 
 pub use finding::{Found, Rule};
 pub use findings::{count_findings, findings_in};
-pub use laws::switched_law;
+pub use laws::{switched_examples, switched_law};
