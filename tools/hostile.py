@@ -4,9 +4,10 @@
     tools/hostile.py PROGRAM
 
 Documents for `check`: each front of one, numbers of 10,000 digits, a million nodes and one more, a tree of the deepest block,
-names that point to each wrong place, and 362,879 leaves that name one node. Sources: a gigabyte of newlines, of blanks without a newline,
+names that point to each wrong place, 362,879 leaves that name one node, and as many fact lines as there may be. Sources: a gigabyte of newlines, of blanks without a newline,
 and of instructions, for each subcommand. What each has to answer stands beside it. None may take more than 10 seconds of
-processor time or more than 200 MB of address space, and a source of a gigabyte no more than 32 MB. The status is 1 if something is
+processor time, a document of fact lines no more than 10 for each megabyte that it has, or more than 200 MB of address space, and a
+source of a gigabyte no more than 32 MB. The status is 1 if something is
 wrong.
 """
 import itertools
@@ -24,6 +25,7 @@ ALIKE = ("S66 CERTIFICATE 3\n" + PROFILE + "BLOCK 3\nI SB0 B1\nI SB0 B1\nI SB0 B
          "S 1 2 3\nS 2 3\nS 3\nT\nS 2\nT\nS 1 3\nD 1 2\nS 1\nT\nS 1 2\nD 1 3\nD 2 3\nEND\n")
 CHAIN = ("S66 CERTIFICATE 1\n" + PROFILE + "BLOCK 3\nI SA1 A1+B1\nI BX6 X1\nI BX7 X2\nTIME 12\nBOUND 12\nORDER 1 3 2\nC 1 2\nEND\n")
 SECONDS, MEGABYTES, FRONT_MEGABYTES = 10, 200, 32
+MOST_FACTS, MOST = 4096, 128
 GIGABYTE = 1 << 30
 # the second lines after a source that is refused, and after what is no certificate
 LISTED, LONG = b"s66 lint lists all such lines, --cut leaves them alone\n", b"a line has at most 200 bytes; s66 lint lists all that have more\n"
@@ -126,6 +128,35 @@ def many_leaves():
         yield f"362,879 leaves that name the {where} node of their set", text, yes(21, 21)
 
 
+def fact_lines():
+    """As many fact lines as there may be, of blocks of the greatest length: what they say is known already, or each makes paths longer."""
+    one_increment = PROFILE[:-2] + "1\n"
+    slow = one_increment.replace("8 3 8 1", "8 100 8 1")
+    chain, alone = ["BX1 X1"] * MOST, ["SB0 B1"] * MOST
+    between = ["UX3 B1,X2", *alone[2:], "UX4 B1,X2"]
+    halves = [*alone[:63], "UX3 B1,X2", *alone[64:]]
+    in_turn = itertools.cycle(("A I1 S128 0 0 64", "A I2 S127 0 0 64"))
+    pairs = ((first, first + distance) for distance in range(MOST - 1, 0, -1) for first in range(1, MOST + 1 - distance))
+    waits = range(100, 100 + MOST_FACTS)
+    uses = (" ".join(map(str, range(2, 4 + wait // 101))) for wait in waits)
+    turned = [f"F {n + 1} {n}" for n in range(MOST - 1, 0, -1)]
+    for name, profile, block, time, lines in (
+        ("one load", PROFILE, chain, 512, itertools.repeat("A I1 S128 0 0 64")),
+        ("two loads in turn", PROFILE, chain, 512, in_turn),
+        ("loads between moments that differ", PROFILE, chain, 512, (f"A I{m} S{n} 0 0 {n}" for m, n in pairs)),
+        ("loads that grow", slow, between, 12729, (f"A I1 I128 0 {wait} {numbers}" for wait, numbers in zip(waits, uses))),
+        ("loads, many numbers side by side", one_increment, halves, 508, in_turn),
+        ("loads, numbers against the order", one_increment, alone, 512, itertools.chain(turned, itertools.repeat("A I128 S1 0 0 64"))),
+        ("one pair", PROFILE, chain, 512, itertools.repeat("F 1 2")),
+        ("pairs", one_increment, alone, 512, (f"F {m} {n}" for m in range(1, 65) for n in range(65, MOST + 1))),
+    ):
+        texts = "".join(f"I {text}\n" for text in block)
+        order = " ".join(map(str, range(1, MOST + 1)))
+        facts = "".join(f"{line}\n" for line in itertools.islice(lines, MOST_FACTS))
+        text = f"S66 CERTIFICATE 4\n{profile}BLOCK {MOST}\n{texts}TIME {time}\nBOUND 0\nORDER {order}\n{facts}P\nEND\n"
+        yield f"{MOST_FACTS} fact lines: {name}", text, yes(time, 0)
+
+
 def fronts():
     for length in range(1, len(MULTIPLIES)):
         yield f"a front of {length} bytes", MULTIPLIES[:length], TRUNCATED
@@ -182,13 +213,15 @@ def main(arguments):
         return 2
     program, wrong, count, most = os.path.abspath(arguments[0]), 0, 0, (0, "")
     documents = itertools.chain(fronts(), long_numbers(), many_nodes(), deep_trees(), wrong_names(), many_leaves())
-    checks = ((["check"], name, [text.encode()], answer, MEGABYTES) for name, text, answer in documents)
-    for words, name, feed, answer, megabytes in itertools.chain(checks, long_sources()):
+    checks = ((["check"], name, [text.encode()], answer, MEGABYTES, SECONDS) for name, text, answer in documents)
+    facts = ((["check"], name, [text.encode()], answer, MEGABYTES, SECONDS * len(text) / 1e6) for name, text, answer in fact_lines())
+    sources = ((*source, SECONDS) for source in long_sources())
+    for words, name, feed, answer, megabytes, limit in itertools.chain(checks, facts, sources):
         seen, seconds = run([program, *words], feed, megabytes)
         count += 1
         label = f"{' '.join(words)}: {name}"
         most = max(most, (seconds, label))
-        if seen != answer or seconds > SECONDS:
+        if seen != answer or seconds > limit:
             wrong += 1
             print(f"wrong: {label}: {seen[0], seen[1][:80], seen[2][:80]} after {seconds:.1f} seconds; wanted {answer}")
     print(f"{count - wrong} passed, {wrong} failed (inputs; the longest took {most[0]:.1f} seconds: {most[1]})")

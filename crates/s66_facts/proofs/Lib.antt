@@ -1,5 +1,6 @@
 pub mod MarkBits
 pub mod Latest
+pub mod Chained
 pub mod Edges
 pub mod Results
 pub mod Covered

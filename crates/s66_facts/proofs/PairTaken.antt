@@ -1,5 +1,9 @@
 -- A pair that is taken leaves no ring.
-use Rattle.std.proofs.Common.{ℕ, ◌≡◌, ◌≢◌, Bool, false, true, List, length, sym, subst, ◌∙◌}
+use Rattle.std.proofs.Common.{ℕ, ◌≤◌, ◌≡◌, ◌≢◌, ◌||◌, ◌&&◌, ◌==◌, Bool, false, true, List, length, sym, ap, subst, arith, inl, inr, ◌∙◌}
+use Rattle.std.proofs.Math.Path.{fun_ext}
+use Rattle.std.proofs.lemmas.Bool.{and_parts, or_cases, cases_Bool, eqb-true}
+use Rattle.s66_moments.specs.declared.fact_line.FactLine.TheVariants.{Pair}
+use Rattle.s66_moments.specs.Known.{with_line}
 use Rattle.s66_moments.specs.declared.fact_line.KnownArc.{KnownArc}
 use Rattle.s66_moments.specs.Facts.{IsNumber}
 use Rattle.s66_moments.specs.Networks.{IsTransitive, HasNoRing, with_pair}
@@ -8,7 +12,9 @@ use Rattle.s66_moments.proofs.Rings.{pair-transitive, pair-no_ring}
 use Rattle.s66_moments.proofs.KnownLines.{up-pair}
 use Rattle.s66_facts.specs.declared.marks.Marks.{Marks}
 use Rattle.s66_facts.specs.Marked.{is_marked, before_in}
-use Rattle.s66_facts.specs.Ground.{Ground, IsOrdered}
+use Rattle.s66_facts.specs.Ground.{Ground, IsOrdered, known_of}
+use Rattle.s66_facts.proofs.Covered.{before-range}
+use Rattle.s66_facts.proofs.Settled.{or-no, or-yes}
 use Rattle.s66_facts.proofs.NearEach.{at, apart-marked, pair-more, turned-pair, turned-ring}
 
 pub pair-ordered : (g : Ground) (marks : List Marks) (m n : ℕ) → IsOrdered g → length marks ≡ length g.marks → before_in marks ≡ with_pair (before_in g.marks) m n → IsNumber g.problem m → IsNumber g.problem n → m ≢ n → before_in g.marks n m ≡ false → IsOrdered (record { problem = g.problem; marks = marks; loads = g.loads })
@@ -44,3 +50,38 @@ module _ (g : Ground) (ordered : IsOrdered g) (m n : ℕ) (is_m : IsNumber g.pro
 
     pub after-more : (i j : ℕ) → before_in after i j ≡ true → before_in after2 i j ≡ true
     after-more = pair-more after after2 n m pairs_after
+
+-- A PAIR THAT IS KNOWN says nothing new
+
+module _ (g : Ground) (ordered : IsOrdered g) (m n : ℕ) (is_m : IsNumber g.problem m) (is_n : IsNumber g.problem n) (first : before_in g.marks m n ≡ true) where
+  abbrev before : ℕ → ℕ → Bool
+  before = before_in g.marks
+
+  number-of : (j : ℕ) → 1 ≤ j → j ≤ length g.marks → IsNumber g.problem j
+  number-of j low high = (low, omega (arith, high, ordered.count))
+
+  up-to_n : (i : ℕ) → (i == m || before i m) ≡ true → before i n ≡ true
+  up-to_n i is =
+      elim (or_cases (i == m) (before i m) is) [
+        | inl here ↦ ap (λ k. before k n) (eqb-true i m here) ∙ first
+        | inr past ↦ ordered.transitive i m n (number-of i (before-range g.marks i m past).0 (before-range g.marks i m past).1) is_m is_n past first
+      ]
+
+  across : (i j : ℕ) → (i == m || before i m) ≡ true → (j == n || before n j) ≡ true → before i j ≡ true
+  across i j is_i is_j =
+      elim (or_cases (j == n) (before n j) is_j) [
+        | inl here ↦ ap (before i) (eqb-true j n here) ∙ up-to_n i is_i
+        | inr past ↦
+            let up : before i n ≡ true = up-to_n i is_i in
+            ordered.transitive i n j (number-of i (before-range g.marks i n up).0 (before-range g.marks i n up).1) is_n (number-of j (before-range g.marks n j past).2 (before-range g.marks n j past).3) up past
+      ]
+
+  pair-same : (i j : ℕ) → with_pair before m n i j ≡ before i j
+  pair-same i j =
+      elim (cases_Bool ((i == m || before i m) && (j == n || before n j))) [
+        | inl both ↦ (let (is_i, is_j) = and_parts (i == m || before i m) (j == n || before n j) both in or-yes (before i j) ((i == m || before i m) && (j == n || before n j)) (across i j is_i is_j))
+        | inr off ↦ or-no (before i j) ((i == m || before i m) && (j == n || before n j)) off
+      ]
+
+  pub known-pair : known_of g ≡ with_line (known_of g) (Pair m n)
+  known-pair = ap (λ (f : ℕ → ℕ → Bool). record { before = f; loads = g.loads }) (sym (fun_ext (λ i. fun_ext (λ j. pair-same i j))))

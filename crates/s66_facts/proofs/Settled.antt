@@ -1,12 +1,12 @@
 -- Times that are right if those of the others are: they stay so while another's times change or more is known, and all are right once all are so.
-use Rattle.std.proofs.Common.{ℕ, zero, suc, ◌+◌, ◌-◌, ◌≤◌, ◌<◌, ◌≡◌, ◌≢◌, ◌⊎◌, not, ◌||◌, ◌&&◌, ◌==◌, Bool, true, false, true≢false, cond, List, [], ◌∷◌, ◌++◌, length, get_or, set, refl, sym, ap, arith, inl, inr, leb, ◌∙◌, subst, Option, None}
-use Rattle.std.proofs.lemmas.Bool.{and_parts, and_left, and_right, or_cases, or_parts, or_left, not-true, cases_eq, cases_Bool, eqb-true, leb-true}
+use Rattle.std.proofs.Common.{ℕ, zero, suc, ◌+◌, ◌-◌, ◌≤◌, ◌<◌, ◌≡◌, ◌≢◌, ◌⊎◌, not, ◌||◌, ◌&&◌, ◌==◌, Bool, true, false, true≢false, cond, List, [], ◌∷◌, ◌++◌, length, set, refl, sym, ap, arith, inl, inr, ◌∙◌, subst, Option, None}
+use Rattle.std.proofs.lemmas.Bool.{and_from, and_parts, and_left, and_right, or_cases, or_parts, or_left, or_right, not-true, cases_eq, cases_Bool, eqb-true}
 use Rattle.s66_isa.specs.declared.limits.TheConstants.{BLOCK_LIMIT}
 use Rattle.s66_isa.specs.Lists.{Among}
 use Rattle.s66_isa.specs.Table.{Write, numbers}
 use Rattle.s66_model.specs.Timing.{Problem, row_at}
 use Rattle.s66_moments.specs.declared.moment.Stage.{Stage}
-use Rattle.s66_moments.specs.declared.moment.Stage.TheVariants.{Issue, Start, Done, Free}
+use Rattle.s66_moments.specs.declared.moment.Stage.TheVariants.{Issue, Start, Done}
 use Rattle.s66_moments.specs.declared.moment.Moment.{Moment}
 use Rattle.s66_moments.specs.declared.moment.Moment.TheVariants.{Origin, At, End}
 use Rattle.s66_moments.specs.declared.fact_line.KnownArc.{KnownArc}
@@ -14,12 +14,10 @@ use Rattle.s66_moments.specs.declared.fact_line.FactLine.TheVariants.{Pair}
 use Rattle.s66_moments.specs.Moments.{only_if}
 use Rattle.s66_moments.specs.Facts.{IsNumber}
 use Rattle.s66_moments.specs.Networks.{with_pair, same_moment}
-use Rattle.s66_moments.specs.Known.{Known, later, latest, span, is_front, is_back, leads_up, with_line}
-use Rattle.s66_moments.proofs.MoreArcs.{same_moment-true}
-use Rattle.s66_moments.proofs.KnownLines.{up-parts}
+use Rattle.s66_moments.specs.Known.{Known, later, latest, span, is_front, is_back, with_line}
 use Rattle.s66_facts.specs.declared.marks.Marks.{Marks}
 use Rattle.s66_facts.specs.declared.times.Times.{Times}
-use Rattle.s66_facts.specs.Marked.{is_marked, is_in, no_marks, before_in}
+use Rattle.s66_facts.specs.Marked.{is_marked, before_in}
 use Rattle.s66_facts.specs.Ground.{Ground, known_of, ground_arcs, IsOrdered}
 use Rattle.s66_facts.specs.Passes.{add, when, no_times, later_times, times_at, gathered, time_at_moment, issue_after, start_after, done_after, after_one, after_all, by_loads_to, at_once, head_results, head_free, with_free, heads_of, first_of, second_of, start_before, done_before, before_one, before_all, by_loads_from, tail_free, tail_results, latest_result, tails_of, share_unit, AreResults, AreTimes}
 use Rattle.s66_facts.specs.Rounds.{AreAllHeads, AreAllTails}
@@ -195,6 +193,18 @@ module _ (g : Ground) (ordered : IsOrdered g) (times : List Times) (settled new 
               | inr none ↦ none
             ]
 
+-- WHAT IS MARKED stays so, but for what waits for others
+
+pub still-marked : (settled touched rest new : Marks) (n : ℕ) → ((m : ℕ) → 1 ≤ m → m ≤ BLOCK_LIMIT → is_marked rest m ≡ (is_marked settled m && not (is_marked touched m))) → ((m : ℕ) → 1 ≤ m → is_marked new m ≡ (m == n || is_marked rest m)) →
+    (k : ℕ) → 1 ≤ k → k ≤ BLOCK_LIMIT → is_marked settled k ≡ true → is_marked touched k ≡ false → is_marked new k ≡ true
+still-marked settled touched rest new n less marked k low high now off =
+    marked k low ∙ or_right (k == n) (is_marked rest k) (less k low high ∙ and_from (is_marked settled k) (not (is_marked touched k)) now (ap not off))
+
+-- nothing is asked for that isn't so
+pub none-asked : (first settled : Bool) → (first ≡ true → settled ≡ true) → settled ≡ false → first ≡ false
+none-asked false settled asks off = refl
+none-asked true settled asks off = absurd (true≢false (sym (asks refl) ∙ off))
+
 -- ALL SETTLED
 
 module _ (g : Ground) (ordered : IsOrdered g) (times : List Times) where
@@ -230,11 +240,11 @@ as-good b time other n s t mine its are =
     results (v ∷ []) p q r = p ∙ (sym q ∙ r)
     results (v ∷ (w ∷ ws)) p q r = (p.0 ∙ (sym q.0 ∙ r.0), p.1 ∙ (sym q.1 ∙ r.1))
 
-or-no : (x y : Bool) → y ≡ false → (x || y) ≡ x
+pub or-no : (x y : Bool) → y ≡ false → (x || y) ≡ x
 or-no true y off = refl
 or-no false y off = off
 
-or-yes : (x y : Bool) → x ≡ true → (x || y) ≡ x
+pub or-yes : (x y : Bool) → x ≡ true → (x || y) ≡ x
 or-yes x y on = or_left x y on ∙ sym on
 
 -- MORE KNOWN, by a graph of the same block

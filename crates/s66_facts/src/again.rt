@@ -1,6 +1,6 @@
 //! The longest paths once something more is known: only the times of numbers that may change are found again.
 
-ghost use Rattle.std.specs.Prelude.{ℕ, ◌≡◌, ◌≤◌, ◌||◌, not, true, false, length};
+ghost use Rattle.std.specs.Prelude.{ℕ, ◌+◌, ◌≡◌, ◌≤◌, ◌||◌, not, IsTrue, true, false, length};
 ghost use Rattle.s66_isa.specs.declared.limits.TheConstants.{BLOCK_LIMIT};
 ghost use Rattle.s66_moments.specs.declared.moment.Stage.TheVariants.{Issue, Start};
 ghost use Rattle.s66_moments.specs.declared.moment.Moment.TheVariants.{At};
@@ -9,13 +9,12 @@ ghost use Rattle.s66_moments.specs.Networks.{same_moment};
 ghost use Rattle.s66_moments.specs.Known.{is_front, is_back};
 ghost use Rattle.s66_facts.specs.Marked.{is_marked, before_in};
 ghost use Rattle.s66_facts.specs.Ground.{IsOrdered};
-ghost use Rattle.s66_facts.specs.Rounds.{AreAllHeads, AreAllTails};
+ghost use Rattle.s66_facts.specs.Rounds.{AreAllHeads, AreAllTails, IsReady, IsReadyBack, IsMarkedUpTo, IsMarkedBack};
 ghost use Rattle.s66_facts.specs.Settled.{AreSettledHeads, AreSettledTails, keeps_before, keeps_after};
 
 use crate::graph::Graph;
 use crate::heads::heads_of;
 use crate::marks::Marks;
-use crate::rounds::{are_all, heads, tails};
 use crate::tails::tails_of;
 use crate::times::{Times, same_moment, times_at};
 use s66_isa::BLOCK_LIMIT;
@@ -108,9 +107,14 @@ fn settle_head(
     requires few { length graph.now.problem.block ≤ BLOCK_LIMIT }
     requires ordered { IsOrdered graph.now }
     requires from { is_front from.now ≡ true }
-    ensures { AreSettledHeads graph.now from.now times.old settled → AreSettledHeads graph.now from.now times.new result }
+    ensures right { AreSettledHeads graph.now from.now times.old settled → AreSettledHeads graph.now from.now times.new result }
+    ensures kept { (k : ℕ) → IsNumber graph.now.problem k → is_marked settled k ≡ true → (before_in graph.now.marks n k ≡ true → is_marked settled n ≡ true) → is_marked result k ≡ true }
+    ensures ready { IsReady graph.now settled n → is_marked result n ≡ true }
 {
-    if settled.has(n) || !graph.before(n).are_within(&settled) {
+    if settled.has(n) {
+        return settled;
+    }
+    if !graph.near_before(n).are_within(&settled) {
         return settled;
     }
     let time = heads_of(graph, from, times, n);
@@ -133,9 +137,14 @@ fn settle_tail(
     requires few { length graph.now.problem.block ≤ BLOCK_LIMIT }
     requires ordered { IsOrdered graph.now }
     requires to { is_back to.now ≡ true }
-    ensures { AreSettledTails graph.now to.now times.old settled → AreSettledTails graph.now to.now times.new result }
+    ensures right { AreSettledTails graph.now to.now times.old settled → AreSettledTails graph.now to.now times.new result }
+    ensures kept { (k : ℕ) → IsNumber graph.now.problem k → is_marked settled k ≡ true → (before_in graph.now.marks k n ≡ true → is_marked settled n ≡ true) → is_marked result k ≡ true }
+    ensures ready { IsReadyBack graph.now settled n → is_marked result n ≡ true }
 {
-    if settled.has(n) || !graph.after(n).are_within(&settled) {
+    if settled.has(n) {
+        return settled;
+    }
+    if !graph.near_after(n).are_within(&settled) {
         return settled;
     }
     let time = tails_of(graph, to, times, n);
@@ -156,7 +165,8 @@ fn settle_heads(
     requires few { length graph.now.problem.block ≤ BLOCK_LIMIT }
     requires ordered { IsOrdered graph.now }
     requires from { is_front from.now ≡ true }
-    ensures { AreSettledHeads graph.now from.now times.old settled → AreSettledHeads graph.now from.now times.new result }
+    ensures right { AreSettledHeads graph.now from.now times.old settled → AreSettledHeads graph.now from.now times.new result }
+    ensures more { (h : ℕ) → IsMarkedUpTo graph.now h settled → IsMarkedUpTo graph.now (h + 1) result }
 {
     let mut done = settled;
     for position in 0..graph.count() {
@@ -175,13 +185,27 @@ fn settle_tails(
     requires few { length graph.now.problem.block ≤ BLOCK_LIMIT }
     requires ordered { IsOrdered graph.now }
     requires to { is_back to.now ≡ true }
-    ensures { AreSettledTails graph.now to.now times.old settled → AreSettledTails graph.now to.now times.new result }
+    ensures right { AreSettledTails graph.now to.now times.old settled → AreSettledTails graph.now to.now times.new result }
+    ensures more { (h : ℕ) → IsMarkedBack graph.now h settled → IsMarkedBack graph.now (h + 1) result }
 {
     let mut done = settled;
     for position in 0..graph.count() {
         done = settle_tail(graph, to, times, done, graph.count() - position);
     }
     done
+}
+
+/// Whether all numbers are marked.
+fn are_all(graph: &Graph, done: &Marks) -> bool
+    requires { length graph.now.problem.block ≤ BLOCK_LIMIT }
+    ensures { IsTrue result → (n : ℕ) → IsNumber graph.now.problem n → is_marked done.now n ≡ true }
+{
+    for position in 0..graph.count() {
+        if !done.has(position + 1) {
+            return false;
+        }
+    }
+    true
 }
 
 /// The longest paths from a moment, by times that agree for the numbers that are settled. It takes the time of one step for each number
@@ -206,8 +230,7 @@ pub(crate) fn heads_again(
             return times;
         }
     }
-    // each round settles one number at least, so this is never reached
-    heads(graph, from)
+    times
 }
 
 /// The longest paths to a moment, in the same way.
@@ -231,8 +254,7 @@ pub(crate) fn tails_again(
             return times;
         }
     }
-    // as above
-    tails(graph, to)
+    times
 }
 
 /// The longest paths from a moment to all instructions: each is settled once, with what stands before it settled first.

@@ -9,7 +9,7 @@ use crate::again::{
 };
 use crate::graph::Graph;
 use crate::loads::{are_used, is_load_line};
-use crate::times::{Times, reaches_both, reaches_through, times_at};
+use crate::times::{Times, reaches_both, reaches_through, same_moment, times_at};
 use s66_isa::{BLOCK_LIMIT, Instr, Profile};
 use s66_moments::{LoadLine, Moment};
 use std::marker::Model;
@@ -23,10 +23,18 @@ pub struct Facts {
     heads: [Times; BLOCK_LIMIT],
     /// To the end.
     tails: [Times; BLOCK_LIMIT],
+    /// A moment, and the longest paths from there: those of the last load line that was looked at.
+    from: Moment,
+    heads_from: [Times; BLOCK_LIMIT],
+    /// Its other moment, and the longest paths up to there.
+    to: Moment,
+    tails_to: [Times; BLOCK_LIMIT],
 }
 
 impl Model for Facts {
+    ghost use Rattle.std.specs.Prelude.{◌≡◌, true};
     ghost use Rattle.s66_moments.specs.declared.moment.Moment.TheVariants.{Origin, End};
+    ghost use Rattle.s66_moments.specs.Known.{is_front, is_back};
     ghost use Rattle.s66_facts.specs.Ground.{Ground};
     ghost use Rattle.s66_facts.specs.Rounds.{AreAllHeads, AreAllTails};
 
@@ -34,7 +42,7 @@ impl Model for Facts {
 
     ghost view = { λ f. f.graph };
 
-    ghost invariant = { λ f. AreAllHeads f.graph Origin f.heads × AreAllTails f.graph End f.tails };
+    ghost invariant = { λ f. AreAllHeads f.graph Origin f.heads × AreAllTails f.graph End f.tails × (is_front f.from ≡ true) × AreAllHeads f.graph f.from f.heads_from × (is_back f.to ≡ true) × AreAllTails f.graph f.to f.tails_to };
 }
 
 impl Facts {
@@ -62,6 +70,10 @@ impl Facts {
             graph,
             heads,
             tails,
+            from: Moment::Origin,
+            heads_from: heads,
+            to: Moment::End,
+            tails_to: tails,
         }
     }
 
@@ -96,15 +108,18 @@ impl Facts {
         times_at(&self.heads, n)
     }
 
-    /// The longest paths from the moments of all instructions to the end or to an issue or a start. Those to the end are kept; others
-    /// take time quadratic in the block's length, cubic at most if many numbers are known to stand before what is written before them,
-    /// and linear in the loads for each number.
+    /// The longest paths from the moments of all instructions to the end or to an issue or a start. Those to the end are kept, and those
+    /// for the last load line; others take time quadratic in the block's length, cubic at most if many numbers are known to stand before
+    /// what is written before them, and linear in the loads that say something new.
     pub fn tails_to(&self, to: &Moment) -> [Times; BLOCK_LIMIT]
         requires { is_back to.now ≡ true }
         ensures { (n : ℕ) → IsNumber self.now.problem n → AreTimes self.now.problem (λ m. span self.now.problem (arcs_of self.now.problem (known_of self.now)) m to.now) n (times_at result n) }
     {
         // as in `new`
         let _count = self.graph.count();
+        if same_moment(&self.to, to) {
+            return self.tails_to;
+        }
         match to {
             Moment::End => self.tails,
             Moment::Origin | Moment::At(..) => all_tails(&self.graph, to),
@@ -118,6 +133,9 @@ impl Facts {
     {
         // as in `new`
         let _count = self.graph.count();
+        if same_moment(&self.from, from) {
+            return self.heads_from;
+        }
         match from {
             Moment::Origin => self.heads,
             Moment::At(..) | Moment::End => all_heads(&self.graph, from),
@@ -132,6 +150,10 @@ impl Facts {
             graph: self.graph.duplicate(),
             heads: self.heads,
             tails: self.tails,
+            from: self.from,
+            heads_from: self.heads_from,
+            to: self.to,
+            tails_to: self.tails_to,
         }
     }
 
@@ -191,12 +213,19 @@ impl Facts {
         }
         // as in `new`
         let _count = self.graph.count();
+        if self.is_before(m, n) {
+            return true;
+        }
         let same_before = same_before(&self.graph, m, n);
         let same_after = same_after(&self.graph, m, n);
         self.graph.add_pair(m, n);
         let _count = self.graph.count();
         self.heads = heads_again(&self.graph, &Moment::Origin, &self.heads, same_before);
         self.tails = tails_again(&self.graph, &Moment::End, &self.tails, same_after);
+        self.from = Moment::Origin;
+        self.heads_from = self.heads;
+        self.to = Moment::End;
+        self.tails_to = self.tails;
         true
     }
 
@@ -212,10 +241,21 @@ impl Facts {
         are_used(&self.graph, line, &heads, &tails)
     }
 
-    /// Takes a load line in if it is a fact of all legal orders, by what is known, and returns whether it is: its instructions need units
-    /// of one kind, begin their use of them late enough after its first moment, and have to be over before its last one, so this one
-    /// comes its wait later at least. If it isn't, nothing changes. It takes the time of the longest paths from a moment and to another.
-    pub fn take_load(&mut self, line: &LoadLine) -> bool
+    /// Keeps the longest paths from the first moment of a load line and up to its last one.
+    fn keep(&mut self, line: &LoadLine)
+        ensures { self.new ≡ self.old }
+    {
+        if !is_load_line(&self.graph, line) {
+            return;
+        }
+        self.heads_from = self.heads_from(&line.from);
+        self.from = line.from;
+        self.tails_to = self.tails_to(&line.to);
+        self.to = line.to;
+    }
+
+    /// Takes a load line in if it is a fact of all legal orders, by what is known, and returns whether it is.
+    fn take(&mut self, line: &LoadLine) -> bool
         requires room { length self.old.loads < FACT_LIMIT }
         ensures taken { result ≡ is_load_taken self.old.problem (known_of self.old) line.now }
         ensures problem { self.new.problem ≡ self.old.problem }
@@ -232,6 +272,22 @@ impl Facts {
         let _count = self.graph.count();
         self.heads = heads_again(&self.graph, &Moment::Origin, &self.heads, not_to);
         self.tails = tails_again(&self.graph, &Moment::End, &self.tails, not_from);
+        self.heads_from = heads_again(&self.graph, &self.from, &self.heads_from, not_to);
+        self.tails_to = tails_again(&self.graph, &self.to, &self.tails_to, not_from);
         true
+    }
+
+    /// Takes a load line in if it is a fact of all legal orders, by what is known, and returns whether it is: its instructions need units
+    /// of one kind, begin their use of them late enough after its first moment, and have to be over before its last one, so this one
+    /// comes its wait later at least. If it isn't, nothing changes. It takes the time of the longest paths from a moment and to
+    /// another, but for those moments of the load line before it.
+    pub fn take_load(&mut self, line: &LoadLine) -> bool
+        requires room { length self.old.loads < FACT_LIMIT }
+        ensures taken { result ≡ is_load_taken self.old.problem (known_of self.old) line.now }
+        ensures problem { self.new.problem ≡ self.old.problem }
+        ensures known { known_of self.new ≡ (if result then with_line (known_of self.old) (Load line.now) else known_of self.old) }
+    {
+        self.keep(line);
+        self.take(line)
     }
 }

@@ -5,8 +5,8 @@ ghost use Rattle.s66_isa.specs.Table.{row};
 ghost use Rattle.s66_isa.specs.declared.limits.TheConstants.{BLOCK_LIMIT};
 ghost use Rattle.s66_facts.specs.declared.limits.TheConstants.{FACT_LIMIT};
 
+use crate::arcs::Arcs;
 use crate::closure::{before_each, marks_at};
-use crate::limits::FACT_LIMIT;
 use crate::marks::{Marks, copy_of, none_each};
 use crate::near::near_each;
 use crate::pairs::{turned, with_pair};
@@ -29,7 +29,7 @@ pub(crate) struct Graph {
     near_before: ArrayVec<Marks, BLOCK_LIMIT>,
     /// Those of the latter.
     near_after: ArrayVec<Marks, BLOCK_LIMIT>,
-    loads: ArrayVec<KnownArc, FACT_LIMIT>,
+    loads: Arcs,
 }
 
 impl Model for Graph {
@@ -38,9 +38,9 @@ impl Model for Graph {
 
     ghost Value = { Ground };
 
-    ghost view = { λ g. record { problem = record { block = g.block.items; profile = g.profile }; marks = g.before.items; loads = g.loads.items } };
+    ghost view = { λ g. record { problem = record { block = g.block.items; profile = g.profile }; marks = g.before.items; loads = g.loads } };
 
-    ghost invariant = { λ g. IsKept g.block.items g.profile g.rows.items g.before.items g.after.items g.near_before.items g.near_after.items g.loads.items };
+    ghost invariant = { λ g. IsKept g.block.items g.profile g.rows.items g.before.items g.after.items g.near_before.items g.near_after.items g.loads };
 }
 
 /// The rows of a block's instructions under a profile.
@@ -97,7 +97,7 @@ impl Graph {
             after,
             near_before,
             near_after,
-            loads: ArrayVec::new(),
+            loads: Arcs::none(),
         }
     }
 
@@ -130,9 +130,6 @@ impl Graph {
         let Ok(block) = ArrayVec::try_from(self.block.as_slice()) else {
             unreachable!()
         };
-        let Ok(loads) = ArrayVec::try_from(self.loads.as_slice()) else {
-            unreachable!()
-        };
         Graph {
             block,
             profile: self.profile,
@@ -141,7 +138,7 @@ impl Graph {
             after: copy_of(self.after.as_slice()),
             near_before: copy_of(self.near_before.as_slice()),
             near_after: copy_of(self.near_after.as_slice()),
-            loads,
+            loads: self.loads.duplicate(),
         }
     }
 
@@ -275,9 +272,9 @@ impl Graph {
     }
 
     /// The arcs of loads.
-    pub(crate) fn loads(&self) -> &[KnownArc]
+    pub(crate) fn loads(&self) -> &Arcs
         ensures { result.now ≡ self.now.loads }
     {
-        self.loads.as_slice()
+        &self.loads
     }
 }

@@ -4,6 +4,7 @@ ghost use Rattle.std.specs.Prelude.{ℕ, ◌≡◌, ◌≤◌, true};
 ghost use Rattle.s66_isa.specs.declared.limits.TheConstants.{BLOCK_LIMIT};
 ghost use Rattle.s66_moments.specs.Facts.{IsNumber};
 ghost use Rattle.s66_moments.specs.Known.{is_front};
+ghost use Rattle.s66_facts.specs.Chained.{number_of};
 ghost use Rattle.s66_facts.specs.Marked.{is_marked};
 ghost use Rattle.s66_facts.specs.Ground.{IsOrdered};
 ghost use Rattle.s66_facts.specs.Settled.{IsHead};
@@ -12,11 +13,11 @@ ghost use Rattle.s66_facts.specs.Passes.{issue_after, start_after, done_after, a
 use crate::graph::Graph;
 use crate::marks::Marks;
 use crate::times::{
-    Times, add, latency_to, later, latest_held, latest_read, latest_written, same_moment,
-    time_at_moment, times_at, when, zero_if_same,
+    Times, add, latency_to, later, latest_held, latest_read, latest_written, times_at, when,
+    zero_if_same,
 };
 use s66_isa::{BLOCK_LIMIT, Reg, has_register, is_memory_conflict};
-use s66_moments::{KnownArc, Moment, Stage};
+use s66_moments::{Moment, Stage};
 
 /// The issue of n after m.
 fn issue_after(graph: &Graph, n: u8, m: u8, time: &Times) -> Option<u64>
@@ -95,20 +96,16 @@ fn after_all(graph: &Graph, near: Marks, times: &[Times; BLOCK_LIMIT], n: u8) ->
 
 /// The latest by loads that lead to a moment.
 fn by_loads_to(
-    loads: &[KnownArc],
+    graph: &Graph,
     times: &[Times; BLOCK_LIMIT],
     from: &Moment,
     to: &Moment,
 ) -> Option<u64>
-    ensures { result ≡ by_loads_to loads.now times.now from.now to.now }
+    requires { (1 ≤ number_of to.now) × (number_of to.now ≤ BLOCK_LIMIT) }
+    ensures { result ≡ by_loads_to graph.now.loads times.now from.now to.now }
 {
     let origin = zero_if_same(from, &Moment::Origin);
-    let mut latest = None;
-    for load in loads {
-        let time = add(time_at_moment(times, origin, None, &load.from), load.wait);
-        latest = later(latest, when(same_moment(&load.to, to), time));
-    }
-    latest
+    graph.loads().latest_to(times, origin, to)
 }
 
 /// A moment from itself, or from the origin.
@@ -126,10 +123,11 @@ fn head_issue(
     n: u8,
     after: &Times,
 ) -> Option<u64>
+    requires { (1 ≤ n) × (n ≤ BLOCK_LIMIT) }
     ensures { result ≡ head_issue graph.now.loads from.now times.now n after.now }
 {
     let to = Moment::At(n, Stage::Issue);
-    let by_loads = by_loads_to(graph.loads(), times, from, &to);
+    let by_loads = by_loads_to(graph, times, from, &to);
     later(at_once(from, &to), later(after.issue, by_loads))
 }
 
@@ -142,10 +140,11 @@ fn head_start(
     after: &Times,
     issue: Option<u64>,
 ) -> Option<u64>
+    requires { (1 ≤ n) × (n ≤ BLOCK_LIMIT) }
     ensures { result ≡ head_start graph.now.loads from.now times.now n after.now issue }
 {
     let to = Moment::At(n, Stage::Start);
-    let by_loads = by_loads_to(graph.loads(), times, from, &to);
+    let by_loads = by_loads_to(graph, times, from, &to);
     later(
         later(at_once(from, &to), issue),
         later(after.start, by_loads),
@@ -226,6 +225,8 @@ fn heads_after(
     requires near { (m : ℕ) → 1 ≤ m → m ≤ BLOCK_LIMIT → is_marked near m ≡ true → IsNumber graph.now.problem m }
     ensures { result ≡ heads_of graph.now (is_marked near) from.now times.now n }
 {
+    // its clauses say that the block is short
+    let _count = graph.count();
     let after = after_all(graph, near, times, n);
     let issue = head_issue(graph, from, times, n, &after);
     let start = head_start(graph, from, times, n, &after, issue);
@@ -234,7 +235,8 @@ fn heads_after(
     Times { free, ..time }
 }
 
-/// All its moments, by the times of what stands before it. It takes a step for each number that decides them, and a look at each load.
+/// All its moments, by the times of what stands before it. It takes a step for each number that decides them, and a
+/// look at each load that leads to it and says something new.
 pub(crate) fn heads_of(graph: &Graph, from: &Moment, times: &[Times; BLOCK_LIMIT], n: u8) -> Times
     requires n { IsNumber graph.now.problem n }
     requires ordered { IsOrdered graph.now }

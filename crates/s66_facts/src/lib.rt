@@ -3,6 +3,7 @@
 #![tactic(auto, unfolding(s66_isa::specs::Table::row))]
 
 mod again;
+mod arcs;
 mod closure;
 mod facts;
 mod graph;
@@ -12,7 +13,6 @@ mod loads;
 mod marks;
 mod near;
 mod pairs;
-mod rounds;
 mod tails;
 mod times;
 

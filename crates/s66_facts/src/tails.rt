@@ -4,6 +4,7 @@ ghost use Rattle.std.specs.Prelude.{ℕ, ◌≡◌, ◌≤◌, true};
 ghost use Rattle.s66_isa.specs.declared.limits.TheConstants.{BLOCK_LIMIT};
 ghost use Rattle.s66_moments.specs.Facts.{IsNumber};
 ghost use Rattle.s66_moments.specs.Known.{is_back};
+ghost use Rattle.s66_facts.specs.Chained.{number_of};
 ghost use Rattle.s66_facts.specs.Marked.{is_marked};
 ghost use Rattle.s66_facts.specs.Ground.{IsOrdered};
 ghost use Rattle.s66_facts.specs.Settled.{IsTail};
@@ -16,7 +17,7 @@ use crate::times::{
     time_at_moment, times_at, when, zero_if_same,
 };
 use s66_isa::{BLOCK_LIMIT, Reg, has_register, is_memory_conflict};
-use s66_moments::{KnownArc, Moment, Stage};
+use s66_moments::{Moment, Stage};
 
 /// The start of n before m.
 fn start_before(graph: &Graph, n: u8, m: u8, time: &Times) -> Option<u64>
@@ -84,20 +85,16 @@ fn before_all(graph: &Graph, near: Marks, times: &[Times; BLOCK_LIMIT], n: u8) -
 
 /// The latest by loads that come from a moment.
 fn by_loads_from(
-    loads: &[KnownArc],
+    graph: &Graph,
     times: &[Times; BLOCK_LIMIT],
     to: &Moment,
     from: &Moment,
 ) -> Option<u64>
-    ensures { result ≡ by_loads_from loads.now times.now to.now from.now }
+    requires { (1 ≤ number_of from.now) × (number_of from.now ≤ BLOCK_LIMIT) }
+    ensures { result ≡ by_loads_from graph.now.loads times.now to.now from.now }
 {
     let end = zero_if_same(to, &Moment::End);
-    let mut latest = None;
-    for load in loads {
-        let time = add(time_at_moment(times, None, end, &load.to), load.wait);
-        latest = later(latest, when(same_moment(&load.from, from), time));
-    }
-    latest
+    graph.loads().latest_from(times, end, from)
 }
 
 /// From a result of n in a register, by what waits for it, and by the free of its unit if that holds it.
@@ -150,13 +147,14 @@ fn tail_start(
     before: &Times,
     time: &Times,
 ) -> Option<u64>
-    requires { IsNumber graph.now.problem n }
+    requires number { IsNumber graph.now.problem n }
+    requires few { n ≤ BLOCK_LIMIT }
     ensures { result ≡ tail_start graph.now to.now times.now n before.now time.now }
 {
     let from = Moment::At(n, Stage::Start);
     let row = graph.row(n);
     let by_unit = add(time.free, row.hold + 1);
-    let by_loads = by_loads_from(graph.loads(), times, to, &from);
+    let by_loads = by_loads_from(graph, times, to, &from);
     later(
         later(zero_if_same(&from, to), by_unit),
         later(latest_result(row, time), later(before.start, by_loads)),
@@ -172,10 +170,11 @@ fn tail_issue(
     before: &Times,
     start: Option<u64>,
 ) -> Option<u64>
+    requires { (1 ≤ n) × (n ≤ BLOCK_LIMIT) }
     ensures { result ≡ tail_issue graph.now.loads to.now times.now n before.now start }
 {
     let from = Moment::At(n, Stage::Issue);
-    let by_loads = by_loads_from(graph.loads(), times, to, &from);
+    let by_loads = by_loads_from(graph, times, to, &from);
     later(
         later(zero_if_same(&from, to), start),
         later(before.issue, by_loads),
@@ -194,6 +193,8 @@ fn tails_before(
     requires near { (m : ℕ) → 1 ≤ m → m ≤ BLOCK_LIMIT → is_marked near m ≡ true → IsNumber graph.now.problem m }
     ensures { result ≡ tails_of graph.now (is_marked near) to.now times.now n }
 {
+    // its clauses say that the block is short
+    let _count = graph.count();
     let before = before_all(graph, near, times, n);
     let free = later(zero_if_same(to, &Moment::End), before.free);
     let time = tail_results(graph, to, n, &before, free);
@@ -206,7 +207,8 @@ fn tails_before(
     }
 }
 
-/// From all its moments, by the times of what stands after it. It takes a step for each number that decides them, and a look at each load.
+/// From all its moments, by the times of what stands after it. It takes a step for each number that decides them, and a
+/// look at each load that comes from it and says something new.
 pub(crate) fn tails_of(graph: &Graph, to: &Moment, times: &[Times; BLOCK_LIMIT], n: u8) -> Times
     requires n { IsNumber graph.now.problem n }
     requires ordered { IsOrdered graph.now }

@@ -1,4 +1,4 @@
-use Rattle.std.proofs.Common.{ℕ, ◌-◌, ◌≡◌, List, true, false, length, get_or, sym, ap, subst, ◌∙◌}
+use Rattle.std.proofs.Common.{ℕ, ◌-◌, ◌≡◌, List, false, length, get_or, sym, ap, subst, ◌∙◌}
 use Rattle.s66_moments.specs.Facts.{IsNumber}
 use Rattle.s66_moments.specs.Networks.{with_pair}
 use Rattle.s66_facts.specs.declared.marks.Marks.{Marks}
@@ -12,7 +12,7 @@ pub near_each-near_before-requires-clause-apart : goal.near_each-near_before-req
 near_each-near_before-requires-clause-apart c =
     let m = c.args.m in
     let n = c.args.n in
-    let g : Ground = record { problem = record { block = c.self.inside.block.items; profile = c.self.inside.profile }; marks = c.self.inside.before.items; loads = c.self.inside.loads.items } in
+    let g : Ground = record { problem = record { block = c.self.inside.block.items; profile = c.self.inside.profile }; marks = c.self.inside.before.items; loads = c.self.inside.loads } in
     let marks = c.with_pair-before.result.items in
     let after = c.self.inside.after.items in
     let after2 = c.with_pair-after.result.items in
@@ -31,7 +31,7 @@ pub near_each-near_before-requires-clause-more : goal.near_each-near_before-requ
 near_each-near_before-requires-clause-more c = λ i j first.
     let m = c.args.m in
     let n = c.args.n in
-    let g : Ground = record { problem = record { block = c.self.inside.block.items; profile = c.self.inside.profile }; marks = c.self.inside.before.items; loads = c.self.inside.loads.items } in
+    let g : Ground = record { problem = record { block = c.self.inside.block.items; profile = c.self.inside.profile }; marks = c.self.inside.before.items; loads = c.self.inside.loads } in
     let marks = c.with_pair-before.result.items in
     let after = c.self.inside.after.items in
     let after2 = c.with_pair-after.result.items in
@@ -49,7 +49,7 @@ pub near_each-near_after-requires-clause-apart : goal.near_each-near_after-requi
 near_each-near_after-requires-clause-apart c =
     let m = c.args.m in
     let n = c.args.n in
-    let g : Ground = record { problem = record { block = c.self.inside.block.items; profile = c.self.inside.profile }; marks = c.self.inside.before.items; loads = c.self.inside.loads.items } in
+    let g : Ground = record { problem = record { block = c.self.inside.block.items; profile = c.self.inside.profile }; marks = c.self.inside.before.items; loads = c.self.inside.loads } in
     let marks = c.with_pair-before.result.items in
     let after = c.self.inside.after.items in
     let after2 = c.with_pair-after.result.items in
@@ -70,7 +70,7 @@ pub near_each-near_after-requires-clause-more : goal.near_each-near_after-requir
 near_each-near_after-requires-clause-more c = λ i j first.
     let m = c.args.m in
     let n = c.args.n in
-    let g : Ground = record { problem = record { block = c.self.inside.block.items; profile = c.self.inside.profile }; marks = c.self.inside.before.items; loads = c.self.inside.loads.items } in
+    let g : Ground = record { problem = record { block = c.self.inside.block.items; profile = c.self.inside.profile }; marks = c.self.inside.before.items; loads = c.self.inside.loads } in
     let marks = c.with_pair-before.result.items in
     let after = c.self.inside.after.items in
     let after2 = c.with_pair-after.result.items in
@@ -90,7 +90,7 @@ pub invariant_of-self : goal.invariant_of-self
 invariant_of-self c =
     let m = c.args.m in
     let n = c.args.n in
-    let g : Ground = record { problem = record { block = c.self.inside.block.items; profile = c.self.inside.profile }; marks = c.self.inside.before.items; loads = c.self.inside.loads.items } in
+    let g : Ground = record { problem = record { block = c.self.inside.block.items; profile = c.self.inside.profile }; marks = c.self.inside.before.items; loads = c.self.inside.loads } in
     let marks = c.with_pair-before.result.items in
     let after = c.self.inside.after.items in
     let after2 = c.with_pair-after.result.items in

@@ -28,7 +28,7 @@ invariant_of-result c =
     subst (λ (ms : List Marks). (n : ℕ) → 1 ≤ n → n ≤ length ms → (m : ℕ) → 1 ≤ m → is_marked (get_or after (n - 1) no_marks) m ≡ before_in ms n m) c.as_slice-2.ensures.value c.turned-after.ensures.each in
     let turned : (m n : ℕ) → before_in after n m ≡ before_in marks m n = turned-is b marks after count count_after each in
     record {
-      ordered = subst (λ (loads : List KnownArc). IsOrdered (record { problem = b; marks = marks; loads = loads })) (sym c.new.ensures) (first-ordered b marks few count closed);
+      ordered = subst (λ (loads : List KnownArc). IsOrdered (record { problem = b; marks = marks; loads = loads })) (sym c.none.ensures) (first-ordered b marks few count closed);
       known_rows = c.rows_of.ensures ∙ ap (map (row c.args.profile.now)) (sym copied);
       count = count_after;
       turned = turned;
@@ -44,4 +44,4 @@ returns-clause-known c =
     let marks = c.before_each-before.result.items in
     let count : length marks ≡ length block = c.before_each-before.ensures.count ∙ ap (λ (is : List Instr). length is) (sym copied) in
     let closed : IsClosedUpTo block marks (length block) = subst (λ (is : List Instr). IsClosedUpTo is marks (length is)) (sym copied) c.before_each-before.ensures.closed in
-    subst (λ (loads : List KnownArc). known_of (record { problem = b; marks = marks; loads = loads }) ≡ known_first b) (sym c.new.ensures) (first-known b marks count closed)
+    subst (λ (loads : List KnownArc). known_of (record { problem = b; marks = marks; loads = loads }) ≡ known_first b) (sym c.none.ensures) (first-known b marks count closed)

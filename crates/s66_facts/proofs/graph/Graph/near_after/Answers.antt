@@ -8,7 +8,7 @@ use Rattle.s66_facts.proofs.graph.Graph.near_after.Goals as goal
 
 pub returns : goal.returns
 returns c =
-    let g : Ground = record { problem = record { block = c.self.inside.block.items; profile = c.self.inside.profile }; marks = c.self.inside.before.items; loads = c.self.inside.loads.items } in
+    let g : Ground = record { problem = record { block = c.self.inside.block.items; profile = c.self.inside.profile }; marks = c.self.inside.before.items; loads = c.self.inside.loads } in
     let n = c.args.n in
     let is_n : IsNumber g.problem n = subst (λ (k : Ground). IsNumber k.problem n) (sym c.self.view_is) c.requires in
     subst (λ (k : Ground). IsNear k.problem (λ m i. before_in k.marks i m) c.marks_at.result n) c.self.view_is
