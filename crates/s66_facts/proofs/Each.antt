@@ -1,9 +1,9 @@
 -- Marks of each number, one after the other.
-use Rattle.std.proofs.Common.{ℕ, ◌+◌, ◌-◌, ◌≤◌, ◌≡◌, ◌&&◌, true, false, List, [], ◌∷◌, ◌++◌, length, get_or, refl, sym, ap, arith, inl, inr, leb, ◌∙◌, subst}
-use Rattle.std.proofs.lemmas.Bool.{and_from, and_parts, le-leb, cases_lt}
+use Rattle.std.proofs.Common.{ℕ, ◌+◌, ◌-◌, ◌≤◌, ◌≡◌, List, [], ◌∷◌, ◌++◌, length, get_or, refl, sym, ap, arith, inl, inr, ◌∙◌, subst}
+use Rattle.std.proofs.lemmas.Bool.{le-leb, cases_lt}
 use Rattle.std.proofs.lemmas.List.{length-append, get_or_append_left, get_or_push}
 use Rattle.s66_facts.specs.declared.marks.Marks.{Marks}
-use Rattle.s66_facts.specs.Marked.{is_marked, no_marks, is_in, before_in}
+use Rattle.s66_facts.specs.Marked.{is_marked, no_marks, before_in}
 
 pub each-push : (P : ℕ → Marks → Type 0) (all whole : List Marks) (own : Marks) (position : ℕ) → length all ≡ position → ((n : ℕ) → 1 ≤ n → n ≤ position → P n (get_or all (n - 1) no_marks)) → P (position + 1) own → whole ≡ all ++ own ∷ []
     → (length whole ≡ position + 1) × ((n : ℕ) → 1 ≤ n → n ≤ position + 1 → P n (get_or whole (n - 1) no_marks))

@@ -8,7 +8,7 @@ use Rattle.s66_moments.specs.Facts.{IsNumber}
 use Rattle.s66_moments.specs.Networks.{HasNoRing, with_pair}
 use Rattle.s66_facts.specs.declared.marks.Marks.{Marks}
 use Rattle.s66_facts.specs.Marked.{is_marked, is_in, no_marks, before_in}
-use Rattle.s66_facts.specs.Near.{covers, IsCovered, IsNear, AreNear}
+use Rattle.s66_facts.specs.Near.{IsCovered, IsNear, AreNear}
 use Rattle.s66_facts.proofs.Covered.{before-range}
 use Rattle.s66_facts.proofs.Each.{within-marked}
 

@@ -1,12 +1,12 @@
 -- Times that are right if those of the others are: they stay so while another's times change or more is known, and all are right once all are so.
-use Rattle.std.proofs.Common.{ℕ, zero, suc, ◌+◌, ◌-◌, ◌≤◌, ◌<◌, ◌≡◌, ◌≢◌, ◌⊎◌, not, ◌||◌, ◌&&◌, ◌==◌, Bool, true, false, true≢false, cond, List, [], ◌∷◌, ◌++◌, length, get_or, set, refl, sym, ap, arith, inl, inr, leb, ◌∙◌, subst, Option, None}
-use Rattle.std.proofs.lemmas.Bool.{and_from, and_parts, and_left, and_right, or_cases, or_parts, or_left, or_right, not-true, cases_eq, cases_Bool, eqb-true, leb-true}
+use Rattle.std.proofs.Common.{ℕ, zero, suc, ◌+◌, ◌-◌, ◌≤◌, ◌<◌, ◌≡◌, ◌≢◌, ◌⊎◌, not, ◌||◌, ◌&&◌, ◌==◌, Bool, true, false, true≢false, cond, List, [], ◌∷◌, ◌++◌, length, set, refl, sym, ap, arith, inl, inr, ◌∙◌, subst, Option, None}
+use Rattle.std.proofs.lemmas.Bool.{and_from, and_parts, and_left, and_right, or_cases, or_parts, or_left, or_right, not-true, cases_eq, cases_Bool, eqb-true}
 use Rattle.s66_isa.specs.declared.limits.TheConstants.{BLOCK_LIMIT}
 use Rattle.s66_isa.specs.Lists.{Among}
 use Rattle.s66_isa.specs.Table.{Write, numbers}
 use Rattle.s66_model.specs.Timing.{Problem, row_at}
 use Rattle.s66_moments.specs.declared.moment.Stage.{Stage}
-use Rattle.s66_moments.specs.declared.moment.Stage.TheVariants.{Issue, Start, Done, Free}
+use Rattle.s66_moments.specs.declared.moment.Stage.TheVariants.{Issue, Start, Done}
 use Rattle.s66_moments.specs.declared.moment.Moment.{Moment}
 use Rattle.s66_moments.specs.declared.moment.Moment.TheVariants.{Origin, At, End}
 use Rattle.s66_moments.specs.declared.fact_line.KnownArc.{KnownArc}
@@ -14,12 +14,10 @@ use Rattle.s66_moments.specs.declared.fact_line.FactLine.TheVariants.{Pair}
 use Rattle.s66_moments.specs.Moments.{only_if}
 use Rattle.s66_moments.specs.Facts.{IsNumber}
 use Rattle.s66_moments.specs.Networks.{with_pair, same_moment}
-use Rattle.s66_moments.specs.Known.{Known, later, latest, span, is_front, is_back, leads_up, with_line}
-use Rattle.s66_moments.proofs.MoreArcs.{same_moment-true}
-use Rattle.s66_moments.proofs.KnownLines.{up-parts}
+use Rattle.s66_moments.specs.Known.{Known, later, latest, span, is_front, is_back, with_line}
 use Rattle.s66_facts.specs.declared.marks.Marks.{Marks}
 use Rattle.s66_facts.specs.declared.times.Times.{Times}
-use Rattle.s66_facts.specs.Marked.{is_marked, is_in, no_marks, before_in}
+use Rattle.s66_facts.specs.Marked.{is_marked, before_in}
 use Rattle.s66_facts.specs.Ground.{Ground, known_of, ground_arcs, IsOrdered}
 use Rattle.s66_facts.specs.Passes.{add, when, no_times, later_times, times_at, gathered, time_at_moment, issue_after, start_after, done_after, after_one, after_all, by_loads_to, at_once, head_results, head_free, with_free, heads_of, first_of, second_of, start_before, done_before, before_one, before_all, by_loads_from, tail_free, tail_results, latest_result, tails_of, share_unit, AreResults, AreTimes}
 use Rattle.s66_facts.specs.Rounds.{AreAllHeads, AreAllTails}

@@ -1,6 +1,5 @@
 -- Used by contracts within the crate alone: which numbers have times that are right if those of the others are, so that all are right once all numbers have.
 use Rattle.std.specs.Prelude.{ℕ, ◌≡◌, Bool, true, not, ◌||◌, ◌==◌, List}
-use Rattle.s66_model.specs.Timing.{Problem}
 use Rattle.s66_moments.specs.declared.moment.Moment.{Moment}
 use Rattle.s66_moments.specs.Facts.{IsNumber}
 use Rattle.s66_moments.specs.Known.{span}

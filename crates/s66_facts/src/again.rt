@@ -208,53 +208,49 @@ fn are_all(graph: &Graph, done: &Marks) -> bool
     true
 }
 
-/// The longest paths from a moment, by times that agree for the numbers that are settled. It takes the time of one step for each number
+/// Makes times the longest paths from a moment: for numbers that are settled they agree. It takes the time of one step for each number
 /// that isn't settled or stands after one whose times change.
 pub(crate) fn heads_again(
     graph: &Graph,
     from: &Moment,
-    old: &[Times; BLOCK_LIMIT],
+    times: &mut [Times; BLOCK_LIMIT],
     settled: Marks,
-) -> [Times; BLOCK_LIMIT]
+)
     requires few { length graph.now.problem.block ≤ BLOCK_LIMIT }
     requires ordered { IsOrdered graph.now }
     requires from { is_front from.now ≡ true }
-    requires settled { AreSettledHeads graph.now from.now old.now settled }
-    ensures { AreAllHeads graph.now from.now result }
+    requires settled { AreSettledHeads graph.now from.now times.old settled }
+    ensures { AreAllHeads graph.now from.now times.new }
 {
-    let mut times = *old;
     let mut done = settled;
     for _round in 0..graph.count() {
-        done = settle_heads(graph, from, &mut times, done);
+        done = settle_heads(graph, from, times, done);
         if are_all(graph, &done) {
-            return times;
+            return;
         }
     }
-    times
 }
 
-/// The longest paths to a moment, in the same way.
+/// Makes them the longest paths to a moment, in the same way.
 pub(crate) fn tails_again(
     graph: &Graph,
     to: &Moment,
-    old: &[Times; BLOCK_LIMIT],
+    times: &mut [Times; BLOCK_LIMIT],
     settled: Marks,
-) -> [Times; BLOCK_LIMIT]
+)
     requires few { length graph.now.problem.block ≤ BLOCK_LIMIT }
     requires ordered { IsOrdered graph.now }
     requires to { is_back to.now ≡ true }
-    requires settled { AreSettledTails graph.now to.now old.now settled }
-    ensures { AreAllTails graph.now to.now result }
+    requires settled { AreSettledTails graph.now to.now times.old settled }
+    ensures { AreAllTails graph.now to.now times.new }
 {
-    let mut times = *old;
     let mut done = settled;
     for _round in 0..graph.count() {
-        done = settle_tails(graph, to, &mut times, done);
+        done = settle_tails(graph, to, times, done);
         if are_all(graph, &done) {
-            return times;
+            return;
         }
     }
-    times
 }
 
 /// The longest paths from a moment to all instructions: each is settled once, with what stands before it settled first.
@@ -264,7 +260,9 @@ pub(crate) fn all_heads(graph: &Graph, from: &Moment) -> [Times; BLOCK_LIMIT]
     requires from { is_front from.now ≡ true }
     ensures { AreAllHeads graph.now from.now result }
 {
-    heads_again(graph, from, &[Times::none(); BLOCK_LIMIT], Marks::none())
+    let mut times = [Times::none(); BLOCK_LIMIT];
+    heads_again(graph, from, &mut times, Marks::none());
+    times
 }
 
 /// The longest paths from all instructions to a moment, in the same way.
@@ -274,5 +272,7 @@ pub(crate) fn all_tails(graph: &Graph, to: &Moment) -> [Times; BLOCK_LIMIT]
     requires to { is_back to.now ≡ true }
     ensures { AreAllTails graph.now to.now result }
 {
-    tails_again(graph, to, &[Times::none(); BLOCK_LIMIT], Marks::none())
+    let mut times = [Times::none(); BLOCK_LIMIT];
+    tails_again(graph, to, &mut times, Marks::none());
+    times
 }

@@ -220,8 +220,8 @@ impl Facts {
         let same_after = same_after(&self.graph, m, n);
         self.graph.add_pair(m, n);
         let _count = self.graph.count();
-        self.heads = heads_again(&self.graph, &Moment::Origin, &self.heads, same_before);
-        self.tails = tails_again(&self.graph, &Moment::End, &self.tails, same_after);
+        heads_again(&self.graph, &Moment::Origin, &mut self.heads, same_before);
+        tails_again(&self.graph, &Moment::End, &mut self.tails, same_after);
         self.from = Moment::Origin;
         self.heads_from = self.heads;
         self.to = Moment::End;
@@ -241,17 +241,39 @@ impl Facts {
         are_used(&self.graph, line, &heads, &tails)
     }
 
-    /// Keeps the longest paths from the first moment of a load line and up to its last one.
+    /// Keeps the longest paths from a moment.
+    fn keep_from(&mut self, from: &Moment)
+        requires { is_front from.now ≡ true }
+        ensures { self.new ≡ self.old }
+    {
+        if same_moment(&self.from, from) {
+            return;
+        }
+        self.heads_from = self.heads_from(from);
+        self.from = *from;
+    }
+
+    /// Keeps the longest paths up to a moment.
+    fn keep_to(&mut self, to: &Moment)
+        requires { is_back to.now ≡ true }
+        ensures { self.new ≡ self.old }
+    {
+        if same_moment(&self.to, to) {
+            return;
+        }
+        self.tails_to = self.tails_to(to);
+        self.to = *to;
+    }
+
+    /// Keeps those from the first moment of a load line and up to its last one.
     fn keep(&mut self, line: &LoadLine)
         ensures { self.new ≡ self.old }
     {
         if !is_load_line(&self.graph, line) {
             return;
         }
-        self.heads_from = self.heads_from(&line.from);
-        self.from = line.from;
-        self.tails_to = self.tails_to(&line.to);
-        self.to = line.to;
+        self.keep_from(&line.from);
+        self.keep_to(&line.to);
     }
 
     /// Takes a load line in if it is a fact of all legal orders, by what is known, and returns whether it is.
@@ -270,10 +292,10 @@ impl Facts {
         let not_from = all_but(&self.graph, &line.from);
         self.graph.add_load(&line.from, line.wait, &line.to);
         let _count = self.graph.count();
-        self.heads = heads_again(&self.graph, &Moment::Origin, &self.heads, not_to);
-        self.tails = tails_again(&self.graph, &Moment::End, &self.tails, not_from);
-        self.heads_from = heads_again(&self.graph, &self.from, &self.heads_from, not_to);
-        self.tails_to = tails_again(&self.graph, &self.to, &self.tails_to, not_from);
+        heads_again(&self.graph, &Moment::Origin, &mut self.heads, not_to);
+        tails_again(&self.graph, &Moment::End, &mut self.tails, not_from);
+        heads_again(&self.graph, &self.from, &mut self.heads_from, not_to);
+        tails_again(&self.graph, &self.to, &mut self.tails_to, not_from);
         true
     }
 

@@ -1,4 +1,4 @@
-use Rattle.std.proofs.Common.{ℕ, ◌+◌, ◌≡◌, ◌≤◌, true, sym, subst, arith, inl, inr}
+use Rattle.std.proofs.Common.{◌+◌, ◌≡◌, ◌≤◌, true, sym, subst, arith, inl, inr}
 use Rattle.s66_isa.proofs.Lists.{cases_le}
 use Rattle.s66_moments.specs.Facts.{IsNumber}
 use Rattle.s66_facts.specs.Marked.{is_marked}

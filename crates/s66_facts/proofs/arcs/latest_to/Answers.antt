@@ -1,4 +1,4 @@
-use Rattle.std.proofs.Common.{ℕ, ◌≡◌, ◌-◌, ◌<◌, ◌≤◌, ap, sym, subst, arith, length, get_or, ◌∙◌, Option, None}
+use Rattle.std.proofs.Common.{ℕ, ◌≡◌, ◌-◌, ◌<◌, ◌≤◌, ap, arith, length, get_or, ◌∙◌, Option, None}
 use Rattle.s66_moments.specs.declared.fact_line.KnownArc.{KnownArc}
 use Rattle.s66_moments.specs.Known.{later}
 use Rattle.s66_facts.specs.Chained.{along, by_arc_to, no_arc}

@@ -1,4 +1,4 @@
-use Rattle.std.proofs.Common.{ℕ, ◌≡◌, ◌≤◌, false, length, arith}
+use Rattle.std.proofs.Common.{ℕ, ◌≡◌, false, arith}
 use Rattle.s66_facts.specs.Marked.{is_marked}
 use Rattle.s66_facts.proofs.Each.{each-push}
 use Rattle.s66_facts.proofs.marks.none_each.Goals as goal

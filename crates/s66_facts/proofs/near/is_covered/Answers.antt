@@ -1,7 +1,7 @@
-use Rattle.std.proofs.Common.{ℕ, ◌-◌, ◌≡◌, ◌==◌, not, true, length, get_or, sym, ap, arith, ◌∙◌}
+use Rattle.std.proofs.Common.{ℕ, ◌≡◌, ◌==◌, not, true, sym, ap, arith, ◌∙◌}
 use Rattle.std.proofs.lemmas.Bool.{and_parts}
 use Rattle.s66_moments.specs.Facts.{IsNumber}
-use Rattle.s66_facts.specs.Marked.{is_marked, no_marks, before_in}
+use Rattle.s66_facts.specs.Marked.{is_marked, before_in}
 use Rattle.s66_facts.proofs.Each.{within-marked}
 use Rattle.s66_facts.proofs.near.is_covered.Goals as goal
 

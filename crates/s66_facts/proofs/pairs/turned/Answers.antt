@@ -1,5 +1,4 @@
-use Rattle.std.proofs.Common.{ℕ, ◌≡◌, ◌≤◌, List, length, ap, arith}
-use Rattle.s66_facts.specs.declared.marks.Marks.{Marks}
+use Rattle.std.proofs.Common.{ℕ, ◌≡◌, ◌≤◌}
 use Rattle.s66_facts.specs.Marked.{is_marked, before_in}
 use Rattle.s66_facts.proofs.Each.{each-push}
 use Rattle.s66_facts.proofs.pairs.turned.Goals as goal

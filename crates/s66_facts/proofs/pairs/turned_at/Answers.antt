@@ -1,5 +1,4 @@
-use Rattle.std.proofs.Common.{◌+◌, ◌≡◌, ◌<◌, true, false, length, sym, subst, arith, ap, ◌∙◌}
-use Rattle.s66_facts.specs.Marked.{is_marked, no_marks, before_in}
+use Rattle.std.proofs.Common.{◌+◌, ◌<◌, length, sym, subst, arith, ◌∙◌}
 use Rattle.s66_facts.proofs.NearEach.{IsTurned, turned-none, turned-more, turned-past, turned-all, before-at}
 use Rattle.s66_facts.proofs.pairs.turned_at.Goals.{then-has, else-has}
 use Rattle.s66_facts.proofs.pairs.turned_at.Goals as goal

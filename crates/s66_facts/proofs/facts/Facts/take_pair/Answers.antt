@@ -9,15 +9,15 @@ use Rattle.s66_facts.proofs.Settled.{heads-with_pair, tails-with_pair}
 use Rattle.s66_facts.proofs.PairTaken.{known-pair}
 use Rattle.s66_facts.proofs.facts.Facts.take_pair.Goals as goal
 
-pub heads_again-self-inside-requires-clause-settled : goal.heads_again-self-inside-requires-clause-settled
-heads_again-self-inside-requires-clause-settled c =
+pub heads_again-requires-clause-settled : goal.heads_again-requires-clause-settled
+heads_again-requires-clause-settled c =
     let g : Ground = c.self.inside.graph in
     let taken : is_pair_taken g.problem c.args.bound (known_of g) c.args.m c.args.n ≡ true = subst (λ (k : Ground). is_pair_taken k.problem c.args.bound (known_of k) c.args.m c.args.n ≡ true) (sym c.self.view_is) (sym c.is_forced.ensures ∙ c.if-not-is_forced.false) in
     let (differ, is_m, is_n, off, late) = pair-tests g.problem c.args.bound (known_of g) c.args.m c.args.n taken in
     heads-with_pair g c.add_pair.new.self c.count-count.ensures.ordered c.count-count-2.ensures.ordered c.add_pair.ensures.problem c.self.inside.heads c.same_before-same_before.result c.args.m c.args.n is_m is_n c.add_pair.ensures.known Origin refl c.self.invariant.0 c.same_before-same_before.ensures
 
-pub tails_again-self-inside-requires-clause-settled : goal.tails_again-self-inside-requires-clause-settled
-tails_again-self-inside-requires-clause-settled c =
+pub tails_again-requires-clause-settled : goal.tails_again-requires-clause-settled
+tails_again-requires-clause-settled c =
     let g : Ground = c.self.inside.graph in
     let taken : is_pair_taken g.problem c.args.bound (known_of g) c.args.m c.args.n ≡ true = subst (λ (k : Ground). is_pair_taken k.problem c.args.bound (known_of k) c.args.m c.args.n ≡ true) (sym c.self.view_is) (sym c.is_forced.ensures ∙ c.if-not-is_forced.false) in
     let (differ, is_m, is_n, off, late) = pair-tests g.problem c.args.bound (known_of g) c.args.m c.args.n taken in

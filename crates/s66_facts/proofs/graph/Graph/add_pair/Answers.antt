@@ -1,4 +1,4 @@
-use Rattle.std.proofs.Common.{ℕ, ◌-◌, ◌≡◌, List, true, false, length, get_or, sym, ap, subst, ◌∙◌}
+use Rattle.std.proofs.Common.{ℕ, ◌-◌, ◌≡◌, List, false, length, get_or, sym, ap, subst, ◌∙◌}
 use Rattle.s66_moments.specs.Facts.{IsNumber}
 use Rattle.s66_moments.specs.Networks.{with_pair}
 use Rattle.s66_facts.specs.declared.marks.Marks.{Marks}
