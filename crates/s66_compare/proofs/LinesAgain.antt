@@ -1,6 +1,6 @@
 -- What lines of a printed text add to its frame when it is read again: comments nothing, a copied line what it added, the instructions of a
 -- block the place of the block.
-use Rattle.std.proofs.Common.{◌≡◌, ◌≢◌, ◌≤◌, ◌+◌, ◌%◌, ◌==◌, ◌&&◌, ◌∙◌, ℕ, suc, Bool, true, false, if◌then◌else◌, Option, None, Some, List, [], ◌∷◌, ◌++◌, codes, decimal, length, refl, sym, ap, ap₂, subst, inl, inr, arith, append_assoc, eq-eqb}
+use Rattle.std.proofs.Common.{◌≡◌, ◌≢◌, ◌≤◌, ◌+◌, ◌%◌, ◌==◌, ◌&&◌, ◌∙◌, ℕ, suc, Bool, true, false, if◌then◌else◌, None, List, [], ◌∷◌, ◌++◌, codes, length, refl, sym, ap, ap₂, subst, inl, inr, arith, append_assoc, eq-eqb}
 use Rattle.std.proofs.lemmas.Bool.{and_parts, and_right, ne_eqb, or_right}
 use Rattle.s66_isa.specs.Lists.{Among, every}
 use Rattle.s66_isa.specs.Table.{instr_at}
@@ -14,19 +14,18 @@ use Rattle.s66_line.specs.InstructionText.{Spells}
 use Rattle.s66_line.specs.Operand.{is_filled}
 use Rattle.s66_line.specs.declared.class.Class.{Class}
 use Rattle.s66_line.specs.declared.class.Class.TheVariants.{Comment, Other, Refused, Pad, Instruction}
-use Rattle.s66_line.proofs.Wholes.{every-append, is_inside}
+use Rattle.s66_line.proofs.Wholes.{is_inside}
 use Rattle.s66_source.specs.LeftAlone.{Flagged, after_line, class_at, flagged_from, is_alone, is_refused}
-use Rattle.s66_source.specs.Printed.{Placed, block_text, bound_text, copied_line, instruction_line, instruction_lines, is_trailing, label_field, notes_text, report, splits_line, times_text}
-use Rattle.s66_source.specs.Roles.{is_comment_class, is_note_of}
+use Rattle.s66_source.specs.Printed.{Placed, block_text, instruction_line, instruction_lines, is_trailing, label_field, notes_text, report}
 use Rattle.s66_source.specs.Source.{Line, classes_from, label_after, label_at, operand_refusal, place_after, place_at, refusal, run_after, run_at}
 use Rattle.s66_source.specs.declared.standing.Standing.{Standing}
 use Rattle.s66_source.proofs.FlaggedLines.{continued-next}
 use Rattle.s66_source.proofs.ReadAgain.{none-refused, rest-taken}
 use Rattle.s66_source.proofs.ReadBack.{lines_of-line, trim-twice}
 use Rattle.s66_source.proofs.ReadBlock.{AreSound, IsSoundAt, quiet-instruction, sound-at}
-use Rattle.s66_source.proofs.ReadComments.{AreLinesOfSource, IsOfSource, comment-class, comment-line, inside-decimal, inside-times, note-comment, same-class, taken-class}
+use Rattle.s66_source.proofs.ReadComments.{AreLinesOfSource, ArePlainComments, Comments, comment-class, comments-append, comments-notes, comments-report, same-class, taken-class, with_newlines}
 use Rattle.s66_source.proofs.ReadLine.{IsLabel, every-trimmed, inside-line, read-line}
-use Rattle.s66_source.proofs.ReadStanding.{IsQuiet, after-body, alone-body, class_at-body, code-unflagged, comment-quiet, comment-stays, continues-body, continues-line, flagged-body, flagged_at, is_flagged, is_holding, not-alone, quiet-append, same-alone, taken}
+use Rattle.s66_source.proofs.ReadStanding.{IsQuiet, after-body, alone-body, class_at-body, code-unflagged, comment-quiet, comment-stays, continues-body, continues-line, flagged_at, is_flagged, is_holding, not-alone, quiet-append, same-alone}
 use Rattle.s66_source.proofs.ReaderBlocks.{next-index}
 use Rattle.s66_source.proofs.Standings.{code-line, code-stays}
 use Rattle.s66_compare.specs.Difference.{Shape}
@@ -169,39 +168,12 @@ skips-comment cut s line free unflagged inside comment = record {
       (subst (λ stands. Clean false (flagged_from cut stands (lines_of text)) → runs (reached false r.pads r.index r.label) (flagged_from cut stands (lines_of text)) ≡ x) (sym (comment-stays cut s line free unflagged comment)) (later false));
 }
 
-skips-times : (cut : Bool) (s : Standing) (n count source time : ℕ) (end : List ℕ) → is_holding cut s ≡ false → every is_inside end ≡ true → Skips cut s (times_text n count source time ++ (end ++ codes "\n"))
-skips-times cut s n count source time end free inside =
-    let times : List ℕ = times_text n count source time in
-    subst (Skips cut s) (append_assoc times end (codes "\n")) (skips-comment cut s (times ++ end) free (and_right cut false refl) (every-append is_inside times end (inside-times n count source time) inside) refl)
-
-skips-splits : (cut : Bool) (s : Standing) (splits : Option ℕ) → is_holding cut s ≡ false → Skips cut s (splits_line splits)
-skips-splits cut s None free = skips-nothing cut s
-skips-splits cut s (Some splits) free =
-    skips-comment cut s (codes "* SPLITS " ++ decimal splits) free (and_right cut false refl) (every-append is_inside (codes "* SPLITS ") (decimal splits) refl (inside-decimal splits)) refl
-
-skips-report : (cut : Bool) (s : Standing) (n count : ℕ) (p : Placed) → is_holding cut s ≡ false → Skips cut s (report n count p)
-skips-report cut s n count p free =
-    skips-append cut s (times_text n count p.source p.time ++ bound_text p) (splits_line p.splits)
-    (elim (p.bound == p.time) as (λ t. Skips cut s (times_text n count p.source p.time ++ (if t then codes " BEST\n" else (codes " AT LEAST " ++ decimal p.bound ++ codes "\n")))) [
-      | true ↦ skips-times cut s n count p.source p.time (codes " BEST") free refl
-      | false ↦ skips-times cut s n count p.source p.time (codes " AT LEAST " ++ decimal p.bound) free (every-append is_inside (codes " AT LEAST ") (decimal p.bound) refl (inside-decimal p.bound))
-    ])
-    (skips-splits cut s p.splits free)
-
-skips-note : (cut : Bool) (s : Standing) (l : Line) → is_holding cut s ≡ false → IsOfSource cut l → is_comment_class l.class ≡ true → Skips cut s (copied_line l)
-skips-note cut s l free is comment =
-    let parts = comment-line is.after (is_alone cut is.standing l.bytes is.continued) l.bytes (sym (ap is_comment_class is.class) ∙ comment) in
-    let unflagged = flagged-body cut l.bytes ∙ (taken cut is.standing l.bytes is.continued parts.0).unflagged in
-    skips-comment cut s (body l.bytes) free unflagged (every-trimmed is_inside is_return l.bytes is.inside) (ap is_comment (trim-twice is_return l.bytes) ∙ parts.1)
-
-skips-notes : (cut : Bool) (s : Standing) (block : Block) (lines : List Line) → is_holding cut s ≡ false → AreLinesOfSource cut lines → Skips cut s (notes_text block lines)
-skips-notes cut s block [] free h = skips-nothing cut s
-skips-notes cut s block (l ∷ lines) free h =
-    skips-append cut s (if is_note_of l block then copied_line l else []) (notes_text block lines) (by_note (is_note_of l block) refl) (skips-notes cut s block lines free h.1)
+skips-comments : (cut : Bool) (s : Standing) (bytes : List ℕ) → is_holding cut s ≡ false → Comments cut bytes → Skips cut s bytes
+skips-comments cut s bytes free comments = subst (Skips cut s) (sym comments.whole) (by_line comments.lines comments.are)
   where
-    by_note : (t : Bool) → is_note_of l block ≡ t → Skips cut s (if t then copied_line l else [])
-    by_note true stated = skips-note cut s l free h.0 (note-comment l block stated)
-    by_note false stated = skips-nothing cut s
+    by_line : (lines : List (List ℕ)) → ArePlainComments cut lines → Skips cut s (with_newlines lines)
+    by_line [] are = skips-nothing cut s
+    by_line (line ∷ lines) are = skips-append cut s (line ++ codes "\n") (with_newlines lines) (skips-comment cut s line free are.0.0 are.0.1 are.0.2) (by_line lines are.1)
 
 -- AN INSTRUCTION LINE
 
@@ -289,7 +261,7 @@ gives-block cut s all n block p r text x free quiet source is new sound numbers 
     head = report n (length block.entries) p ++ notes_text block all
 
     skipped : Skips cut s head
-    skipped = skips-append cut s (report n (length block.entries) p) (notes_text block all) (skips-report cut s n (length block.entries) p free) (skips-notes cut s block all free source)
+    skipped = skips-comments cut s head free (comments-append cut (report n (length block.entries) p) (notes_text block all) (comments-report cut n (length block.entries) p) (comments-notes cut block all source))
 
     by_order : (order : List ℕ) → ((k : ℕ) → Among k order → (1 ≤ k) × (k ≤ length block.entries)) → 1 ≤ length order → length order ≤ BLOCK_LIMIT →
         ((index : ℕ) (name : List ℕ) → index % BLOCK_LIMIT ≡ 0 → gives_at cut s (reached true [] (index + length order) name) text x) →

@@ -22,7 +22,7 @@ mod why_text;
 
 pub use documents::document_of;
 pub use laws::{
-    again_examples, checked_law, done_law, front_law, ordered_again_law, proved_law,
+    again_examples, answered_law, checked_law, done_law, front_law, ordered_again_law, proved_law,
     total_limit_law,
 };
 pub use limits::SOURCE_FRONT;

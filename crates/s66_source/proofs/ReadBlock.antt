@@ -23,7 +23,7 @@ use Rattle.s66_source.specs.LeftAlone.{is_alone, is_refused}
 use Rattle.s66_source.specs.declared.standing.Standing.{Standing}
 use Rattle.s66_source.proofs.Standings.{code-line, code-stays}
 use Rattle.s66_source.proofs.ReadStanding.{is_holding, not-alone, code-unflagged, continues-body, continues-line, IsQuiet}
-use Rattle.s66_source.proofs.ReadComments.{read_at, read-as, read-class, taken-class, Passes, passes-append, passes-report, AreLinesOfSource, passes-notes}
+use Rattle.s66_source.proofs.ReadComments.{read_at, read-as, read-class, taken-class, Passes, passes-comments, comments-append, comments-report, AreLinesOfSource, comments-notes}
 use Rattle.s66_source.proofs.ReaderBlocks.{labelled, length-push}
 use Rattle.s66_line.proofs.Wholes.{is_inside}
 
@@ -223,7 +223,7 @@ read-block cut stands all n block p t text again free quiet source is new sound 
     head = report n (length block.entries) p ++ notes_text block all
 
     passes : Passes cut stands head
-    passes = passes-append cut stands (report n (length block.entries) p) (notes_text block all) (passes-report cut stands n (length block.entries) p free) (passes-notes cut stands block all free source)
+    passes = passes-comments cut stands head free (comments-append cut (report n (length block.entries) p) (notes_text block all) (comments-report cut n (length block.entries) p) (comments-notes cut block all source))
 
     by_order : (order : List ℕ) → ((k : ℕ) → Among k order → (1 ≤ k) × (k ≤ length block.entries)) → 1 ≤ length order → length order ≤ BLOCK_LIMIT →
         read_at cut stands t (head ++ (instruction_lines block block.label order ++ text)) ≡ Ok again → Again cut stands block order t text again

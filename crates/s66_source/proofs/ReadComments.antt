@@ -1,8 +1,9 @@
 -- The lines of a printed text read one by one; the report of a block and its notes change nothing.
-use Rattle.std.proofs.Common.{◌≡◌, ◌+◌, ◌%◌, ◌/◌, ◌==◌, ◌&&◌, ℕ, zero, suc, Bool, true, false, if◌then◌else◌, true≢false, List, [], ◌∷◌, ◌++◌, Option, None, Some, is_some, codes, decimal, length, refl, sym, ap, ◌∙◌, subst, arith, nat_le, nat_lt, append_assoc}
+use Rattle.std.proofs.Common.{◌≡◌, ◌+◌, ◌%◌, ◌/◌, ◌==◌, ◌&&◌, ℕ, zero, suc, Bool, true, false, if◌then◌else◌, true≢false, List, [], ◌∷◌, ◌++◌, Option, None, Some, is_some, codes, decimal, length, refl, sym, ap, ap₂, ◌∙◌, subst, arith, nat_le, nat_lt, append_assoc}
 use Rattle.std.specs.Prelude.{Result, Ok, Err}
 use Rattle.std.specs.Fmt.{digits, digits_onto, digit_glyph}
 use Rattle.std.proofs.lemmas.Bool.{and_parts, and_right, ne_eqb}
+use Rattle.std.proofs.lemmas.List.{append-nil}
 use Rattle.s66_isa.specs.Lists.{every}
 use Rattle.s66_isa.specs.declared.instr.Instr.{Instr}
 use Rattle.s66_line.specs.Fields.{is_return, lines_of, body, upper, is_comment, continues, operation, operand, from_operation, label_bytes}
@@ -109,13 +110,13 @@ pub record Passes (cut : Bool) (s : Standing) (bytes : List ℕ) : Type 0 where
   pub quiet : continues bytes ≡ false
   pub passes : (t : SourceState) (text : List ℕ) (again : List Block) → IsQuiet cut text → read_at cut s t (bytes ++ text) ≡ Ok again → Passed cut s t text again
 
-pub passes-nothing : (cut : Bool) (s : Standing) → Passes cut s []
+passes-nothing : (cut : Bool) (s : Standing) → Passes cut s []
 passes-nothing cut s = record { quiet = refl; passes = λ t text again quiet h. record { count = t.count; after = t.after; read = h } }
 
 quiet-both : (first second : List ℕ) → continues first ≡ false → continues second ≡ false → continues (first ++ second) ≡ false
 quiet-both first second h k = quiet-append true first second h k
 
-pub passes-append : (cut : Bool) (s : Standing) (first second : List ℕ) → Passes cut s first → Passes cut s second → Passes cut s (first ++ second)
+passes-append : (cut : Bool) (s : Standing) (first second : List ℕ) → Passes cut s first → Passes cut s second → Passes cut s (first ++ second)
 passes-append cut s first second p q = record {
   quiet = quiet-both first second p.quiet q.quiet;
   passes = λ t text again quiet h.
@@ -130,7 +131,7 @@ comment-class after line comment = rw comment refl
 pub taken-class : (after alone : Bool) (line : List ℕ) (c : Class) → alone ≡ false → class_of after line ≡ c → class_at after (record { alone = alone; bytes = line }) ≡ c
 taken-class after alone line c none stated = ap (λ t. if t then Other else class_of after line) none ∙ stated
 
-pub passes-comment : (cut : Bool) (s : Standing) (line : List ℕ) → is_holding cut s ≡ false → is_flagged cut line ≡ false → every is_inside line ≡ true → is_comment (body line) ≡ true → Passes cut s (line ++ codes "\n")
+passes-comment : (cut : Bool) (s : Standing) (line : List ℕ) → is_holding cut s ≡ false → is_flagged cut line ≡ false → every is_inside line ≡ true → is_comment (body line) ≡ true → Passes cut s (line ++ codes "\n")
 passes-comment cut s line free unflagged inside comment = record {
   quiet = continues-line line [] ∙ sym (continues-body line) ∙ comment-quiet (body line) comment;
   passes = λ t text again quiet h.
@@ -139,7 +140,51 @@ passes-comment cut s line free unflagged inside comment = record {
       record { count = suc t.count; after = false; read = subst (λ stands. read_at cut stands (count_line false t) text ≡ Ok again) (comment-stays cut s line free unflagged comment) step };
 }
 
--- THE REPORT, whose lines are no switches and no directives
+-- COMMENTS that are no switches and no directives
+
+abbrev pub IsPlainComment : Bool → List ℕ → Type 0
+IsPlainComment cut line = (is_flagged cut line ≡ false) × (every is_inside line ≡ true) × (is_comment (body line) ≡ true)
+
+abbrev pub ArePlainComments : Bool → List (List ℕ) → Type 0
+ArePlainComments cut [] = Unit {0}
+ArePlainComments cut (line ∷ lines) = IsPlainComment cut line × ArePlainComments cut lines
+
+abbrev pub with_newlines : List (List ℕ) → List ℕ
+with_newlines [] = []
+with_newlines (line ∷ lines) = (line ++ codes "\n") ++ with_newlines lines
+
+-- a text of such lines alone
+pub record Comments (cut : Bool) (bytes : List ℕ) : Type 0 where
+  pub lines : List (List ℕ)
+  pub whole : bytes ≡ with_newlines lines
+  pub are : ArePlainComments cut lines
+
+comments-nothing : (cut : Bool) → Comments cut []
+comments-nothing cut = record { lines = []; whole = refl; are = tt }
+
+comments-line : (cut : Bool) (line : List ℕ) → IsPlainComment cut line → Comments cut (line ++ codes "\n")
+comments-line cut line is = record { lines = line ∷ []; whole = sym (append-nil (line ++ codes "\n")); are = (is, tt) }
+
+newlines-append : (first second : List (List ℕ)) → with_newlines first ++ with_newlines second ≡ with_newlines (first ++ second)
+newlines-append [] second = refl
+newlines-append (line ∷ first) second = append_assoc (line ++ codes "\n") (with_newlines first) (with_newlines second) ∙ ap (λ text. (line ++ codes "\n") ++ text) (newlines-append first second)
+
+are-append : (cut : Bool) (first second : List (List ℕ)) → ArePlainComments cut first → ArePlainComments cut second → ArePlainComments cut (first ++ second)
+are-append cut [] second h k = k
+are-append cut (line ∷ first) second h k = (h.0, are-append cut first second h.1 k)
+
+pub comments-append : (cut : Bool) (first second : List ℕ) → Comments cut first → Comments cut second → Comments cut (first ++ second)
+comments-append cut first second p q =
+    record { lines = p.lines ++ q.lines; whole = ap₂ (λ xs ys. xs ++ ys) p.whole q.whole ∙ newlines-append p.lines q.lines; are = are-append cut p.lines q.lines p.are q.are }
+
+pub passes-comments : (cut : Bool) (s : Standing) (bytes : List ℕ) → is_holding cut s ≡ false → Comments cut bytes → Passes cut s bytes
+passes-comments cut s bytes free comments = subst (Passes cut s) (sym comments.whole) (by_line comments.lines comments.are)
+  where
+    by_line : (lines : List (List ℕ)) → ArePlainComments cut lines → Passes cut s (with_newlines lines)
+    by_line [] are = passes-nothing cut s
+    by_line (line ∷ lines) are = passes-append cut s (line ++ codes "\n") (with_newlines lines) (passes-comment cut s line free are.0.0 are.0.1 are.0.2) (by_line lines are.1)
+
+-- THE REPORT
 
 inside-glyph : (d : ℕ) → is_inside (digit_glyph false d) ≡ true
 inside-glyph d = elim (nat_lt d 10) as (λ t. is_inside (if t then 48 + d else 87 + d) ≡ true)
@@ -170,26 +215,25 @@ inside-times n count source time =
     (inside-append (codes "* BLOCK ") (decimal n) refl (inside-decimal n)) refl) (inside-decimal count)) refl) (inside-decimal source)) refl) (inside-decimal time)
 
 -- the line of the times, up to this end
-pub passes-times : (cut : Bool) (s : Standing) (n count source time : ℕ) (end : List ℕ) → is_holding cut s ≡ false → every is_inside end ≡ true → Passes cut s (times_text n count source time ++ (end ++ codes "\n"))
-passes-times cut s n count source time end free inside =
+comments-times : (cut : Bool) (n count source time : ℕ) (end : List ℕ) → every is_inside end ≡ true → Comments cut (times_text n count source time ++ (end ++ codes "\n"))
+comments-times cut n count source time end inside =
     let times : List ℕ = times_text n count source time in
-    subst (Passes cut s) (append_assoc times end (codes "\n")) (passes-comment cut s (times ++ end) free (and_right cut false refl) (inside-append times end (inside-times n count source time) inside) refl)
+    subst (Comments cut) (append_assoc times end (codes "\n")) (comments-line cut (times ++ end) (and_right cut false refl, inside-append times end (inside-times n count source time) inside, refl))
 
-passes-splits : (cut : Bool) (s : Standing) (splits : Option ℕ) → is_holding cut s ≡ false → Passes cut s (splits_line splits)
-passes-splits cut s None free = passes-nothing cut s
-passes-splits cut s (Some splits) free =
-    passes-comment cut s (codes "* SPLITS " ++ decimal splits) free (and_right cut false refl) (inside-append (codes "* SPLITS ") (decimal splits) refl (inside-decimal splits)) refl
+comments-splits : (cut : Bool) (splits : Option ℕ) → Comments cut (splits_line splits)
+comments-splits cut None = comments-nothing cut
+comments-splits cut (Some splits) =
+    comments-line cut (codes "* SPLITS " ++ decimal splits) (and_right cut false refl, inside-append (codes "* SPLITS ") (decimal splits) refl (inside-decimal splits), refl)
 
-passes-first : (cut : Bool) (s : Standing) (n count : ℕ) (p : Placed) → is_holding cut s ≡ false → Passes cut s (times_text n count p.source p.time ++ bound_text p)
-passes-first cut s n count p free =
-    elim (p.bound == p.time) as (λ t. Passes cut s (times_text n count p.source p.time ++ (if t then codes " BEST\n" else (codes " AT LEAST " ++ decimal p.bound ++ codes "\n")))) [
-      | true ↦ passes-times cut s n count p.source p.time (codes " BEST") free refl
-      | false ↦ passes-times cut s n count p.source p.time (codes " AT LEAST " ++ decimal p.bound) free (inside-append (codes " AT LEAST ") (decimal p.bound) refl (inside-decimal p.bound))
+comments-first : (cut : Bool) (n count : ℕ) (p : Placed) → Comments cut (times_text n count p.source p.time ++ bound_text p)
+comments-first cut n count p =
+    elim (p.bound == p.time) as (λ t. Comments cut (times_text n count p.source p.time ++ (if t then codes " BEST\n" else (codes " AT LEAST " ++ decimal p.bound ++ codes "\n")))) [
+      | true ↦ comments-times cut n count p.source p.time (codes " BEST") refl
+      | false ↦ comments-times cut n count p.source p.time (codes " AT LEAST " ++ decimal p.bound) (inside-append (codes " AT LEAST ") (decimal p.bound) refl (inside-decimal p.bound))
     ]
 
-pub passes-report : (cut : Bool) (s : Standing) (n count : ℕ) (p : Placed) → is_holding cut s ≡ false → Passes cut s (report n count p)
-passes-report cut s n count p free =
-    passes-append cut s (times_text n count p.source p.time ++ bound_text p) (splits_line p.splits) (passes-first cut s n count p free) (passes-splits cut s p.splits free)
+pub comments-report : (cut : Bool) (n count : ℕ) (p : Placed) → Comments cut (report n count p)
+comments-report cut n count p = comments-append cut (times_text n count p.source p.time ++ bound_text p) (splits_line p.splits) (comments-first cut n count p) (comments-splits cut p.splits)
 
 -- NOTES
 
@@ -237,22 +281,22 @@ comment-line after alone line h =
     comment-parts alone (is_comment there) (continues there) after (by_operation (is_located there) words (upper (operand there)))
     (no-comment (is_pad words) (is_some (operation_of words)) (is_located there) (instr_of words (upper (operand there)))) h
 
-pub passes-line : (cut : Bool) (s : Standing) (l : Line) → is_holding cut s ≡ false → IsOfSource cut l → is_comment_class l.class ≡ true → Passes cut s (body l.bytes ++ codes "\n")
-passes-line cut s l free is comment =
+comments-note : (cut : Bool) (l : Line) → IsOfSource cut l → is_comment_class l.class ≡ true → Comments cut (body l.bytes ++ codes "\n")
+comments-note cut l is comment =
     let parts = comment-line is.after (is_alone cut is.standing l.bytes is.continued) l.bytes (sym (ap is_comment_class is.class) ∙ comment) in
     let unflagged = flagged-body cut l.bytes ∙ (taken cut is.standing l.bytes is.continued parts.0).unflagged in
-    passes-comment cut s (body l.bytes) free unflagged (every-trimmed is_inside is_return l.bytes is.inside) (ap is_comment (trim-twice is_return l.bytes) ∙ parts.1)
+    comments-line cut (body l.bytes) (unflagged, every-trimmed is_inside is_return l.bytes is.inside, ap is_comment (trim-twice is_return l.bytes) ∙ parts.1)
 
-pub note-comment : (l : Line) (block : Block) → is_note_of l block ≡ true → is_comment_class l.class ≡ true
+note-comment : (l : Line) (block : Block) → is_note_of l block ≡ true → is_comment_class l.class ≡ true
 note-comment l block h =
     (and_parts (is_comment_class l.class) (nat_lt (line_of block 1) l.number)
     (and_parts (is_comment_class l.class && nat_lt (line_of block 1) l.number) (nat_lt l.number (line_of block (length block.entries))) h).0).0
 
-pub passes-notes : (cut : Bool) (s : Standing) (block : Block) (lines : List Line) → is_holding cut s ≡ false → AreLinesOfSource cut lines → Passes cut s (notes_text block lines)
-passes-notes cut s block [] free h = passes-nothing cut s
-passes-notes cut s block (l ∷ lines) free h =
-    passes-append cut s (if is_note_of l block then copied_line l else []) (notes_text block lines) (by_note (is_note_of l block) refl) (passes-notes cut s block lines free h.1)
+pub comments-notes : (cut : Bool) (block : Block) (lines : List Line) → AreLinesOfSource cut lines → Comments cut (notes_text block lines)
+comments-notes cut block [] h = comments-nothing cut
+comments-notes cut block (l ∷ lines) h =
+    comments-append cut (if is_note_of l block then copied_line l else []) (notes_text block lines) (by_note (is_note_of l block) refl) (comments-notes cut block lines h.1)
   where
-    by_note : (t : Bool) → is_note_of l block ≡ t → Passes cut s (if t then copied_line l else [])
-    by_note true stated = passes-line cut s l free h.0 (note-comment l block stated)
-    by_note false stated = passes-nothing cut s
+    by_note : (t : Bool) → is_note_of l block ≡ t → Comments cut (if t then copied_line l else [])
+    by_note true stated = comments-note cut l h.0 (note-comment l block stated)
+    by_note false stated = comments-nothing cut
