@@ -62,19 +62,20 @@ abbrev pub splits_text : Option ℕ → List ℕ
 splits_text None = []
 splits_text (Some splits) = codes " SPLITS " ++ decimal splits
 
--- how many instructions the orders move, and those splits
-abbrev pub moved_text : (moved : ℕ) → Option ℕ → List ℕ
-moved_text moved splits = codes " MOVED " ++ decimal moved ++ splits_text splits
-
 -- how many words are taken as written and as ordered, if that is to be printed
 abbrev pub words_text : Bool → (source found : ℕ) → List ℕ
 words_text shown source found = if shown then (codes " WORDS " ++ decimal source ++ codes " FOUND " ++ decimal found) else []
 
+-- the end of a line: how many instructions the orders move, those splits and those words
+abbrev pub line_end : (words : Bool) (moved source found : ℕ) → Option ℕ → List ℕ
+line_end words moved source found splits =
+    codes " MOVED " ++ decimal moved ++ splits_text splits ++ words_text words source found ++ codes "\n"
+
 abbrev pub row_line : (words : Bool) → Row → List ℕ
 row_line words r =
     codes "BLOCK " ++ decimal r.number ++ codes " LINE " ++ decimal r.line ++ codes " COUNT " ++ decimal r.count ++ codes " SOURCE "
-    ++ decimal r.source ++ codes " TIME " ++ decimal r.time ++ bound_text r ++ moved_text r.moved r.splits
-    ++ words_text words r.source_words r.words ++ codes "\n"
+    ++ decimal r.source ++ codes " TIME " ++ decimal r.time ++ bound_text r
+    ++ line_end words r.moved r.source_words r.words r.splits
 
 abbrev pub row_lines : (words : Bool) → List Row → List ℕ
 row_lines words [] = []
@@ -84,10 +85,9 @@ row_lines words (r ∷ rows) = row_line words r ++ row_lines words rows
 abbrev pub total_times : (blocks source time : ℕ) → List ℕ
 total_times blocks source time = codes "TOTAL BLOCKS " ++ decimal blocks ++ codes " SOURCE " ++ decimal source ++ codes " TIME " ++ decimal time
 
--- and how many orders are best, how many instructions they move, and how many splits and words there are, if that is to be printed
-abbrev pub total_text : (blocks source time best moved : ℕ) → Option ℕ → (words : List ℕ) → List ℕ
-total_text blocks source time best moved splits words =
-    total_times blocks source time ++ codes " BEST " ++ decimal best ++ moved_text moved splits ++ words ++ codes "\n"
+-- and how many orders are best, and the end of the line
+abbrev pub total_text : (blocks source time best : ℕ) (ending : List ℕ) → List ℕ
+total_text blocks source time best ending = total_times blocks source time ++ codes " BEST " ++ decimal best ++ ending
 
 -- the splits of a row
 abbrev pub splits_in : Row → ℕ
@@ -97,14 +97,10 @@ splits_in r = unwrap_or r.splits 0
 abbrev pub all_splits : Bool → List Row → Option ℕ
 all_splits trace rows = if trace then Some (weigh splits_in rows) else None
 
--- the words of all rows
-abbrev pub all_words : (words : Bool) → List Row → List ℕ
-all_words words rows = words_text words (weigh (λ (r : Row). r.source_words) rows) (weigh (λ (r : Row). r.words) rows)
-
 abbrev pub total_line : (trace words : Bool) → List Row → List ℕ
 total_line trace words rows =
     total_text (length rows) (weigh (λ (r : Row). r.source) rows) (weigh (λ (r : Row). r.time) rows) (tally is_best rows)
-    (weigh (λ (r : Row). r.moved) rows) (all_splits trace rows) (all_words words rows)
+    (line_end words (weigh (λ (r : Row). r.moved) rows) (weigh (λ (r : Row). r.source_words) rows) (weigh (λ (r : Row). r.words) rows) (all_splits trace rows))
 
 -- the rows in their order, and their sums
 abbrev pub IsSumText : (trace words : Bool) (rows : List Row) (text : List ℕ) → Type 0

@@ -11,7 +11,7 @@ const WORD: u32 = 4;
 
 /// How many words an order of a block takes, from the block's first parcel on, with the NOs that fill up words.
 pub fn words_of(block: &Block, order: &[u8]) -> u32
-    requires numbers { (n : ℕ) → Among n order.now → (1 ≤ n) × (n ≤ length (instrs_of block.now)) }
+    requires numbers { (n : ℕ) → Among n order.now → (1 ≤ n) × (n ≤ length block.now.entries) }
     requires few { length order.now ≤ BLOCK_LIMIT }
     ensures { result ≡ words_of (instrs_of block.now) order.now }
 {

@@ -1,15 +1,20 @@
 use Rattle.std.proofs.Common.{◌≡◌, ◌≤◌, ◌∙◌, if◌then◌else◌, List, length, ap, ap₂, sym, subst}
 use Rattle.s66_line.specs.Block.{Block}
 use Rattle.s66_source.specs.declared.limits.TheConstants.{SOURCE_LINES_LIMIT}
-use Rattle.s66_source.specs.Printed.{ArePlaced}
+use Rattle.s66_source.specs.Printed.{ArePlaced, Placed}
 use Rattle.s66_outcome.specs.declared.outcome.Status.TheVariants.{Done, Bounded}
 use Rattle.s66_text.specs.declared.sum_rows.Row.{Row}
 use Rattle.s66_text.specs.PlacedAnswers.{AreAllPlaced, tell_best}
 use Rattle.s66_text.specs.Shown.{before, shown}
 use Rattle.s66_text.specs.SumRows.{AreNumbered}
 use Rattle.s66_text.specs.SumText.{IsSumText, rows_of}
-use Rattle.s66_text.proofs.SumRows.{few-rows, placed-each, rows-numbered, sum-output}
+use Rattle.s66_text.proofs.SumRows.{few-rows, length-placed, placed-each, rows-numbered, sum-output}
 use Rattle.s66_program.proofs.sum_text.sum_output.Goals as goal
+
+pub rows_of-requires-clause-found : goal.rows_of-requires-clause-found
+rows_of-requires-clause-found g c =
+    let placed = placed-each c.args.strategy c.args.profile.now c.args.fields.trace c.shown-blocks.result.now c.in_ok-found.found.items c.in_ok-found.ensures in
+    ap (λ (ps : List Placed). length ps) c.as_slice.ensures.value ∙ length-placed c.shown-blocks.result.now c.in_ok-found.found.items placed
 
 pub rows_of-requires-clause-placed : goal.rows_of-requires-clause-placed
 rows_of-requires-clause-placed g c =
