@@ -4,10 +4,10 @@
     tools/hostile.py PROGRAM
 
 Documents for `check`: each front of one, numbers of 10,000 digits, a million nodes and one more, a tree of the deepest block,
-names that point to each wrong place, 362,879 leaves that name one node, and as many fact lines as there may be. Sources: a gigabyte of newlines, of blanks without a newline,
-and of instructions, for each subcommand. What each has to answer stands beside it. None may take more than 10 seconds of
-processor time, a document of fact lines no more than 10 for each megabyte that it has, or more than 200 MB of address space, and a
-source of a gigabyte no more than 32 MB. The status is 1 if something is
+names that point to each wrong place, 362,879 leaves that name one node, and as many fact lines as there may be. Sources: a gigabyte
+of newlines, of blanks without a newline, and of instructions, for each subcommand. What each has to answer stands beside it. None
+may take more than 10 seconds of processor time, a document of fact lines no more than 30 for each megabyte that it has; or more than
+200 MB of address space, and a source of a gigabyte no more than 32 MB. The status is 1 if something is
 wrong.
 """
 import itertools
@@ -25,7 +25,7 @@ ALIKE = ("S66 CERTIFICATE 3\n" + PROFILE + "BLOCK 3\nI SB0 B1\nI SB0 B1\nI SB0 B
          "S 1 2 3\nS 2 3\nS 3\nT\nS 2\nT\nS 1 3\nD 1 2\nS 1\nT\nS 1 2\nD 1 3\nD 2 3\nEND\n")
 CHAIN = ("S66 CERTIFICATE 1\n" + PROFILE + "BLOCK 3\nI SA1 A1+B1\nI BX6 X1\nI BX7 X2\nTIME 12\nBOUND 12\nORDER 1 3 2\nC 1 2\nEND\n")
 SECONDS, MEGABYTES, FRONT_MEGABYTES = 10, 200, 32
-MOST_FACTS, MOST = 4096, 128
+MOST_FACTS, MOST, MEGABYTE_SECONDS = 4096, 128, 30
 GIGABYTE = 1 << 30
 # the second lines after a source that is refused, and after what is no certificate
 LISTED, LONG = b"s66 lint lists all such lines, --cut leaves them alone\n", b"a line has at most 200 bytes; s66 lint lists all that have more\n"
@@ -129,7 +129,7 @@ def many_leaves():
 
 
 def fact_lines():
-    """As many fact lines as there may be, of blocks of the greatest length: what they say is known already, or each makes paths longer."""
+    """As many fact lines as there may be, of blocks of the greatest length: they say nothing new, or each makes paths longer."""
     one_increment = PROFILE[:-2] + "1\n"
     slow = one_increment.replace("8 3 8 1", "8 100 8 1")
     chain, alone = ["BX1 X1"] * MOST, ["SB0 B1"] * MOST
@@ -214,7 +214,7 @@ def main(arguments):
     program, wrong, count, most = os.path.abspath(arguments[0]), 0, 0, (0, "")
     documents = itertools.chain(fronts(), long_numbers(), many_nodes(), deep_trees(), wrong_names(), many_leaves())
     checks = ((["check"], name, [text.encode()], answer, MEGABYTES, SECONDS) for name, text, answer in documents)
-    facts = ((["check"], name, [text.encode()], answer, MEGABYTES, SECONDS * len(text) / 1e6) for name, text, answer in fact_lines())
+    facts = ((["check"], name, [text.encode()], answer, MEGABYTES, MEGABYTE_SECONDS * len(text) / 1e6) for name, text, answer in fact_lines())
     sources = ((*source, SECONDS) for source in long_sources())
     for words, name, feed, answer, megabytes, limit in itertools.chain(checks, facts, sources):
         seen, seconds = run([program, *words], feed, megabytes)
