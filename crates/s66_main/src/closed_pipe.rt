@@ -4,6 +4,7 @@ use std::cell::Cell;
 use std::io::{self, ErrorKind, Write};
 
 /// A writer that notes whether its reader has closed the pipe.
+#[derive(Drop)]
 pub(crate) struct Watched<'a, W> {
     inner: W,
     is_closed: &'a Cell<bool>,
@@ -32,6 +33,7 @@ impl<W: Write> Write for Watched<'_, W> {
 }
 
 /// A writer that drops what it is given once the pipe is closed.
+#[derive(Drop)]
 pub(crate) struct Silenced<'a, W> {
     inner: W,
     is_closed: &'a Cell<bool>,
