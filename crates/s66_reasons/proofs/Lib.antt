@@ -1,4 +1,5 @@
 pub mod Claimed
+pub mod FactTexts
 pub mod Listed
 pub mod Rows
 pub mod Splits

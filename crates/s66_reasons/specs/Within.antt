@@ -22,7 +22,7 @@ is_split (AtSplit numbers) = true
 abbrev pub IsGranted : Document → Vertex Ending → Type 0
 IsGranted d (AtSplit numbers) = Unit {0}
 IsGranted d (AtTerminal (Bounding Whole)) = Unit {0}
-IsGranted d (AtTerminal (Bounding (Chain numbers))) = (length numbers ≤ BLOCK_LIMIT) × AreWithin (length (problem_of d).block) numbers
+IsGranted d (AtTerminal (Bounding (Chain numbers))) = (1 ≤ length numbers) × (length numbers ≤ BLOCK_LIMIT) × AreWithin (length (problem_of d).block) numbers
 IsGranted d (AtTerminal (Bounding (Load kind))) = Unit {0}
 IsGranted d (AtTerminal (Bounding Parcels)) = Unit {0}
 IsGranted d (AtTerminal (Dominated name)) = Unit {0}

@@ -1,8 +1,12 @@
 -- To be believed: words of which sentences are made, and rows.
-use Rattle.std.specs.Prelude.{ℕ, zero, suc, ◌-◌, ◌*◌, if◌then◌else◌, ◌==◌, List, [], ◌∷◌, ◌++◌, codes, decimal, flat_map, get_or, length, replicate}
+-- the examples open it, to compute numbers
+unfoldable pub use Rattle.std.specs.Fmt.{digits}
+use Rattle.std.specs.Prelude.{ℕ, zero, suc, ◌+◌, ◌-◌, ◌*◌, if◌then◌else◌, ◌==◌, List, [], ◌∷◌, ◌++◌, codes, decimal, flat_map, get_or, length, replicate}
 use Rattle.s66_isa.specs.declared.instr.Kind.{Kind}
 use Rattle.s66_isa.specs.declared.instr.Kind.TheVariants.{Boolean, Shift, Add, LongAdd, Multiply, Divide, Increment}
 use Rattle.s66_isa.specs.declared.reg.Reg.{Reg}
+use Rattle.s66_isa.specs.Lists.{greatest}
+use Rattle.s66_model.specs.Timing.{Problem, row_at}
 use Rattle.s66_why.specs.Why.{bank_name}
 use Rattle.s66_cert.specs.Document.{Document}
 
@@ -38,6 +42,10 @@ listed words (n ∷ ns) = words n ++ separator (length ns) ++ listed words ns
 -- so many, in the plural unless it is one
 abbrev pub counted : ℕ → List ℕ → List ℕ
 counted n word = decimal n ++ codes " " ++ word ++ (if n == 1 then [] else codes "s")
+
+-- for how long one of these needs its unit at most
+abbrev pub longest_use : Problem → List ℕ → ℕ
+longest_use b ns = greatest (λ n. (row_at b n).hold + 1) ns
 
 -- for how long each of so many needs it, by what all need and what one does at most
 abbrev pub each_words : (count total most : ℕ) → List ℕ

@@ -3,6 +3,7 @@
 #![tactic(auto)]
 
 mod chain;
+mod examples;
 mod facts;
 mod laws;
 mod parcels;
@@ -11,6 +12,7 @@ mod units;
 mod words;
 mod work;
 
+pub use examples::reasons_examples;
 pub use laws::reasons_law;
 pub use reasons::push_reasons;
 pub use work::Work;

@@ -9,6 +9,13 @@ use s66_isa::{Kind, Reg};
 use s66_why::bank_name;
 use std::alloc::AllocError;
 
+/// Words.
+pub(crate) fn push_words(out: &mut Vec<u8>, words: &[u8]) -> Result<(), AllocError>
+    ensures { OnOk result (out.new.items ≡ out.old.items ++ words.now) }
+{
+    out.extend_from_slice(words)
+}
+
 /// Words with a number between.
 pub(crate) fn push_between(
     out: &mut Vec<u8>,
@@ -55,6 +62,21 @@ pub(crate) fn push_instruction(
         None => Ok(()),
         Some(text) => out.extend_from_slice(text.bytes()),
     }
+}
+
+/// An instruction of a document, between words.
+pub(crate) fn push_around(
+    out: &mut Vec<u8>,
+    before: &[u8],
+    document: &Document,
+    n: u8,
+    after: &[u8],
+) -> Result<(), AllocError>
+    ensures { OnOk result (out.new.items ≡ out.old.items ++ (before.now ++ instruction (document_of document.now) n ++ after.now)) }
+{
+    out.extend_from_slice(before)?;
+    push_instruction(out, document, n)?;
+    out.extend_from_slice(after)
 }
 
 /// A register.
@@ -106,11 +128,7 @@ pub(crate) fn push_instructions(
 }
 
 /// So many, in the plural unless it is one.
-pub(crate) fn push_counted(
-    out: &mut Vec<u8>,
-    count: usize,
-    word: &[u8],
-) -> Result<(), AllocError>
+pub(crate) fn push_counted(out: &mut Vec<u8>, count: usize, word: &[u8]) -> Result<(), AllocError>
     ensures { OnOk result (out.new.items ≡ out.old.items ++ counted count word.now) }
 {
     push_field(out, b"", count)?;
