@@ -47,11 +47,6 @@ impl Kept {
             merit: child.merit,
         }
     }
-
-    /// Whether a child has the same numbers and is as promising.
-    fn is_like(&self, child: &Child) -> bool {
-        self.placed == child.placed && self.merit == child.merit
-    }
 }
 
 /// Adds the children of this prefix, one of these kept ones, whose floors are below the best.
@@ -132,10 +127,14 @@ fn ranked(alloc: Global, children: &[Child]) -> Result<Vec<Rank>, AllocError> {
     Ok(ranks)
 }
 
-/// Whether one of these is like a child.
+/// Whether one of these is like a child, which is no better than any of them; they are by merit, the best first.
 fn has_like(kept: &[Kept], child: &Child) -> bool {
-    for one in kept {
-        if one.is_like(child) {
+    for back in 0..kept.len() {
+        let one = &kept[kept.len() - 1 - back];
+        if one.merit != child.merit {
+            return false;
+        }
+        if one.placed == child.placed {
             return true;
         }
     }

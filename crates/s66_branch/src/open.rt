@@ -1,5 +1,6 @@
 //! The prefixes that are to be split.
 
+use crate::waits::word;
 use std::alloc::{AllocError, Global};
 use std::collections::BinaryHeap;
 
@@ -7,14 +8,14 @@ use std::collections::BinaryHeap;
 /// these the newest.
 #[derive(Clone, Copy, PartialEq, Eq, PartialOrd, Ord)]
 struct Turn {
-    /// The greatest number less the floor, in minor cycles.
-    earliness: u32,
+    /// The greatest word less the floor, in minor cycles.
+    earliness: u16,
     depth: u8,
     /// The index of the node.
     node: u32,
 }
 
-/// The open prefixes, by their turns.
+/// The open prefixes, by their turns, in eight bytes each.
 #[derive(Drop)]
 pub struct Open {
     turns: BinaryHeap<Turn>,
@@ -35,10 +36,10 @@ impl Open {
         }
     }
 
-    /// A prefix is open: one of so many numbers, with this floor.
+    /// A prefix is open: one of so many numbers, with this floor; one above the greatest word counts as that.
     pub fn push(&mut self, node: u32, depth: u8, floor: u32) -> Result<(), AllocError> {
         self.turns.push(Turn {
-            earliness: u32::MAX - floor,
+            earliness: u16::MAX - word(floor),
             depth,
             node,
         })?;
@@ -50,7 +51,7 @@ impl Open {
         let turn = self.turns.pop()?;
         Some(Next {
             node: turn.node,
-            floor: u32::MAX - turn.earliness,
+            floor: u32::from(u16::MAX - turn.earliness),
         })
     }
 }

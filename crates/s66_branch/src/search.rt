@@ -36,7 +36,8 @@ pub struct Branched {
     /// What each order takes at least, in minor cycles. If the search came to its end, this is the time below which it sought, or what
     /// the fastest order takes, if that is less.
     pub bound: u32,
-    /// The lines in preorder of a tree that shows this, if there is one; none if the search stopped at an order that is enough.
+    /// The lines in preorder of a tree that shows this, if there is one; none if the search stopped at an order that is enough, or if all
+    /// orders are known to take as much.
     pub tree: Option<Tree>,
 }
 
@@ -330,17 +331,22 @@ pub fn branch(
     };
     search.open_root()?;
     let bound = search.run()?;
-    let is_enough = search.has_enough();
+    let shows_more = limits.enough < bound && !search.has_enough();
     let Search {
         mut trail,
         known,
         mut loads,
         nodes,
+        open,
+        kept,
         splits,
         best,
         ..
     } = search;
-    if is_enough {
+    // a tree needs as much room as these
+    drop(open);
+    drop(kept);
+    if !shows_more {
         return Ok(Branched {
             best,
             splits,

@@ -2,6 +2,7 @@
 //! they are right is for a checker to say.
 #![tactic(auto)]
 
+mod instance;
 mod lines;
 mod look;
 mod orders;

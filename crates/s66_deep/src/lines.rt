@@ -1,17 +1,14 @@
 //! A good order and a bound by fact lines alone.
 
 ghost use Rattle.std.specs.Prelude.{◌≡◌, IfOk, IfSome};
-ghost use Rattle.s66_line.specs.Block.{instrs_of};
-ghost use Rattle.s66_model.specs.Timing.{Problem};
 ghost use Rattle.s66_deep.specs.Orders.{IsGood};
 
+use crate::instance::Instance;
 use crate::orders::faster;
 use s66_beam::beam_below;
 use s66_finder::Finder;
-use s66_isa::Profile;
-use s66_line::Block;
 use s66_time::Timed;
-use std::alloc::{AllocError, Global};
+use std::alloc::AllocError;
 
 /// How many beginnings of a length a beam keeps.
 pub(crate) const BEAM_WIDTH: usize = 64;
@@ -21,6 +18,12 @@ const WIDTHS: [usize; 3] = [2, 16, BEAM_WIDTH];
 
 /// The same of one that is tried where the others left something to be found.
 pub(crate) const WIDE_WIDTH: usize = 512;
+
+/// The same of one that is tried besides where what was found is far above what is shown of all orders.
+const WIDEST_WIDTH: usize = 2048;
+
+/// How many minor cycles are far. An order that takes one more than the bound is mostly a best one.
+const FAR: u32 = 2;
 
 /// How often a beam goes on by the lines for a better time.
 const BEAMS_LIMIT: u32 = 4;
@@ -52,29 +55,33 @@ pub(crate) struct Halved {
 
 /// An order that a beam of this width finds by fact lines for orders below a limit, if there is one.
 pub(crate) fn beam_by(
-    alloc: Global,
-    block: &Block,
-    profile: &Profile,
+    instance: &Instance<'_>,
     finder: &Finder,
     width: usize,
     limit: u32,
 ) -> Result<Option<Timed>, AllocError>
-    ensures { IfOk result (λ other. IfSome other (λ timed. timed.problem ≡ record { block = instrs_of block.now; profile = profile.now })) }
+    ensures { IfOk result (λ other. IfSome other (λ timed. timed.problem ≡ instance.now)) }
 {
-    beam_below(alloc, block, profile, &finder.tails(), width, limit)
+    let tails = finder.tails();
+    beam_below(
+        instance.alloc,
+        instance.block,
+        instance.profile,
+        &tails,
+        width,
+        limit,
+    )
 }
 
 /// The best order, or a better one that beams find by fact lines of all orders: first narrow ones, which find most of the best orders. They
 /// end when an order takes no more than the lines show of all.
 pub(crate) fn best_by_beams(
-    alloc: Global,
-    block: &Block,
-    profile: &Profile,
+    instance: &Instance<'_>,
     finder: &Finder,
     best: Timed,
 ) -> Result<Timed, AllocError>
-    requires { IsGood (record { block = instrs_of block.now; profile = profile.now }) best }
-    ensures { IfOk result (IsGood (record { block = instrs_of block.now; profile = profile.now })) }
+    requires { IsGood instance.now best }
+    ensures { IfOk result (IsGood instance.now) }
 {
     let (_, bound) = finder.root();
     let mut best = best;
@@ -82,7 +89,7 @@ pub(crate) fn best_by_beams(
         if best.total() <= bound {
             break;
         }
-        let other = beam_by(alloc, block, profile, finder, width, best.total())?;
+        let other = beam_by(instance, finder, width, best.total())?;
         best = faster(best, other);
     }
     Ok(best)
@@ -95,26 +102,36 @@ pub(crate) fn found_below(finder: &Finder, bound: u32) -> Result<Finder, AllocEr
     Ok(other)
 }
 
-/// The best order, and the fact lines for orders that take less. As long as a beam of this width finds one by such lines, the next ones
-/// are by its time.
-pub(crate) fn best_by_lines(
-    alloc: Global,
-    block: &Block,
-    profile: &Profile,
+/// The widths of the beams that are tried before orders are split, where the best order takes so much and all orders at least `bound`, both
+/// in minor cycles.
+pub(crate) fn wide_widths(time: u32, bound: u32) -> &'static [usize] {
+    if time.saturating_sub(bound) < FAR {
+        &[WIDE_WIDTH]
+    } else {
+        &[WIDE_WIDTH, WIDEST_WIDTH]
+    }
+}
+
+/// The same as what was found, or better: as long as a beam of this width finds an order by the lines, the next ones are by its time, and
+/// go on from those of a finder.
+fn by_beams_of(
+    instance: &Instance<'_>,
     finder: &Finder,
     width: usize,
-    best: Timed,
+    lined: Lined,
 ) -> Result<Lined, AllocError>
-    requires { IsGood (record { block = instrs_of block.now; profile = profile.now }) best }
-    ensures { IfOk result (λ lined. IsGood (record { block = instrs_of block.now; profile = profile.now }) lined.best) }
+    requires { IsGood instance.now lined.best }
+    ensures { IfOk result (λ next. IsGood instance.now next.best) }
 {
-    let mut best = best;
-    let mut below = found_below(finder, best.total())?;
+    let Lined {
+        mut best,
+        mut below,
+    } = lined;
     for _ in 0..BEAMS_LIMIT {
         if best.total() <= below.root().1 {
             break;
         }
-        let other = beam_by(alloc, block, profile, &below, width, best.total())?;
+        let other = beam_by(instance, &below, width, best.total())?;
         if other.is_none() {
             break;
         }
@@ -124,6 +141,24 @@ pub(crate) fn best_by_lines(
     Ok(Lined { best, below })
 }
 
+/// The best order, or a better one that beams of these widths find, one after the other, and the fact lines for orders that take less.
+pub(crate) fn best_by_lines(
+    instance: &Instance<'_>,
+    finder: &Finder,
+    widths: &[usize],
+    best: Timed,
+) -> Result<Lined, AllocError>
+    requires { IsGood instance.now best }
+    ensures { IfOk result (λ lined. IsGood instance.now lined.best) }
+{
+    let below = found_below(finder, best.total())?;
+    let mut lined = Lined { best, below };
+    for width in widths {
+        lined = by_beams_of(instance, finder, *width, lined)?;
+    }
+    Ok(lined)
+}
+
 /// The middle of a bound and what is above it, in minor cycles; the greater one of two.
 fn middle_of(bound: u32, above: u32) -> u32 {
     bound.saturating_add(above.saturating_sub(bound).saturating_add(1) / 2)
@@ -131,14 +166,9 @@ fn middle_of(bound: u32, above: u32) -> u32 {
 
 /// A bound that fact lines are found to show, and a good order: between the bound and the order's time, one of the two is brought nearer
 /// by halves. Lines for orders below the middle show it, or guide a beam to such an order, or else less is tried.
-pub(crate) fn halve(
-    alloc: Global,
-    block: &Block,
-    profile: &Profile,
-    lined: Lined,
-) -> Result<Halved, AllocError>
-    requires { IsGood (record { block = instrs_of block.now; profile = profile.now }) lined.best }
-    ensures { IfOk result (λ halved. IsGood (record { block = instrs_of block.now; profile = profile.now }) halved.best) }
+pub(crate) fn halve(instance: &Instance<'_>, lined: Lined) -> Result<Halved, AllocError>
+    requires { IsGood instance.now lined.best }
+    ensures { IfOk result (λ halved. IsGood instance.now halved.best) }
 {
     let Lined { mut best, below } = lined;
     let (_, reached) = below.root();
@@ -159,7 +189,7 @@ pub(crate) fn halve(
                 finder: next,
             };
         } else {
-            let other = beam_by(alloc, block, profile, &next, BEAM_WIDTH, middle)?;
+            let other = beam_by(instance, &next, BEAM_WIDTH, middle)?;
             best = faster(best, other);
             above = best.total().min(middle.saturating_sub(1));
         }

@@ -5,6 +5,7 @@ ghost use Rattle.s66_model.specs.Answer.{source_time};
 ghost use Rattle.s66_model.specs.Timing.{Problem};
 ghost use Rattle.s66_deep.specs.Orders.{IsGood, IsLooked};
 
+use crate::instance::Instance;
 use crate::lines::best_by_beams;
 use crate::orders::{faster, source_order};
 use crate::ranges::are_lines;
@@ -95,18 +96,23 @@ pub fn look_at(
     let best = faster(written, Some(first.duplicate()));
     let mut finder = Finder::new(alloc, instrs_of(block).as_slice(), profile)?;
     finder.find_loads()?;
-    let best = best_by_beams(alloc, block, profile, &finder, best)?;
+    let instance = Instance {
+        alloc,
+        block,
+        profile,
+    };
+    let best = best_by_beams(&instance, &finder, best)?;
     let Searched {
         best,
         shown,
         splits: made,
-    } = search(alloc, block, profile, &finder, best, most)?;
+    } = search(&instance, &finder, best, most)?;
     let Written {
         bound,
         lines,
         tree,
         splits,
-    } = shown.written(alloc, is_printed)?;
+    } = shown.written(alloc, &finder, is_printed)?;
     let looked = Looked {
         best,
         source,

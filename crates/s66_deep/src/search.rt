@@ -1,18 +1,17 @@
 //! What trees show beyond fact lines.
 
 ghost use Rattle.std.specs.Prelude.{◌≡◌, ◌≤◌, ◌+◌, ◌/◌, IfOk};
-ghost use Rattle.s66_line.specs.Block.{instrs_of};
-ghost use Rattle.s66_model.specs.Timing.{Problem};
 ghost use Rattle.s66_deep.specs.Orders.{IsGood};
 
+use crate::instance::Instance;
 use crate::lines::{
     BEAM_WIDTH, Bound, Halved, Lined, WIDE_WIDTH, beam_by, best_by_lines, found_below, halve,
+    wide_widths,
 };
 use crate::orders::faster;
 use s66_branch::{Branched, Limits, branch};
 use s66_cert::{Tree, TreeLine};
 use s66_finder::Finder;
-use s66_isa::Profile;
 use s66_line::Block;
 use s66_moments::FactLine;
 use s66_time::Timed;
@@ -48,7 +47,18 @@ pub(crate) struct Searched {
     pub(crate) splits: u32,
 }
 
-/// What a search of so many splits found: the best order, and what its tree shows, if it has one.
+/// For what orders are sought, and how long.
+#[derive(Clone, Copy)]
+struct Goal {
+    /// They take less than this, in minor cycles.
+    limit: u32,
+    /// One that takes no more than this is enough: a bound of all.
+    bound: u32,
+    /// The most splits.
+    splits: u32,
+}
+
+/// What a search of so many splits found: the best order, and what its tree shows, if that is more than was known.
 #[derive(Drop)]
 struct Tried {
     best: Timed,
@@ -80,6 +90,19 @@ fn by_leaf(alloc: Global, bound: Bound, is_printed: bool) -> Result<Written, All
     })
 }
 
+/// What a tree shows that is to be printed, or one leaf if it shows as much by fact lines that are found anew: what is found depends on
+/// what was found before.
+fn shortest(alloc: Global, finder: &Finder, written: Written) -> Result<Written, AllocError> {
+    let bound = Bound {
+        value: written.bound,
+        finder: found_below(finder, written.bound)?,
+    };
+    if bound.finder.root().1 < bound.value {
+        return Ok(written);
+    }
+    by_leaf(alloc, bound, true)
+}
+
 impl Shown {
     /// What all orders take at least, in minor cycles.
     fn bound(&self) -> u32 {
@@ -97,10 +120,16 @@ impl Shown {
         }
     }
 
-    /// As a certificate has it, which is printed or not. `Err` is out of memory.
-    pub(crate) fn written(self, alloc: Global, is_printed: bool) -> Result<Written, AllocError> {
+    /// As a certificate has it, which is printed or not; fact lines go on from those of a finder. `Err` is out of memory.
+    pub(crate) fn written(
+        self,
+        alloc: Global,
+        finder: &Finder,
+        is_printed: bool,
+    ) -> Result<Written, AllocError> {
         match self {
             Shown::ByLeaf(bound) => by_leaf(alloc, bound, is_printed),
+            Shown::ByTree(written) if is_printed => shortest(alloc, finder, written),
             Shown::ByTree(written) => Ok(written),
         }
     }
@@ -115,31 +144,34 @@ fn first_line(block: &Block, lines: &[FactLine]) -> u32 {
     }
 }
 
-/// A search for orders that take less than a limit, by fact lines of such orders, of at most so many splits. It stops at an order that
-/// takes no more than a bound of all.
+/// A search for orders of a goal, by fact lines of such orders.
 fn search_below(
-    alloc: Global,
-    block: &Block,
-    profile: &Profile,
+    instance: &Instance<'_>,
     below: Finder,
     best: Timed,
-    limit: u32,
-    bound: u32,
-    splits: u32,
+    goal: Goal,
 ) -> Result<Tried, AllocError>
-    requires { IsGood (record { block = instrs_of block.now; profile = profile.now }) best }
-    ensures best { IfOk result (λ tried. IsGood (record { block = instrs_of block.now; profile = profile.now }) tried.best) }
-    ensures splits { IfOk result (λ tried. tried.splits ≤ splits) }
+    requires { IsGood instance.now best }
+    ensures best { IfOk result (λ tried. IsGood instance.now tried.best) }
+    ensures splits { IfOk result (λ tried. tried.splits ≤ goal.splits) }
 {
     let limits = Limits {
-        below: limit,
-        enough: bound,
-        splits,
-        first_line: first_line(block, below.lines()),
+        below: goal.limit,
+        enough: goal.bound,
+        splits: goal.splits,
+        first_line: first_line(instance.block, below.lines()),
     };
     let copy = best.duplicate();
     let tails = below.tails();
-    let branched = branch(alloc, block, profile, below.facts(), &tails, copy, limits)?;
+    let branched = branch(
+        instance.alloc,
+        instance.block,
+        instance.profile,
+        below.facts(),
+        &tails,
+        copy,
+        limits,
+    )?;
     let Branched {
         best: other,
         splits,
@@ -165,21 +197,19 @@ fn search_below(
 /// An order that takes no more than a bound of all, or a tree that shows one minor cycle more: by the fact lines of orders that take no
 /// more, a beam, and a search of at most so many splits.
 fn try_above(
-    alloc: Global,
-    block: &Block,
-    profile: &Profile,
+    instance: &Instance<'_>,
     finder: &Finder,
     best: Timed,
     bound: u32,
     splits: u32,
 ) -> Result<Tried, AllocError>
-    requires { IsGood (record { block = instrs_of block.now; profile = profile.now }) best }
-    ensures best { IfOk result (λ tried. IsGood (record { block = instrs_of block.now; profile = profile.now }) tried.best) }
+    requires { IsGood instance.now best }
+    ensures best { IfOk result (λ tried. IsGood instance.now tried.best) }
     ensures splits { IfOk result (λ tried. tried.splits ≤ splits) }
 {
     let limit = bound.saturating_add(1);
     let below = found_below(finder, limit)?;
-    let other = beam_by(alloc, block, profile, &below, WIDE_WIDTH, limit)?;
+    let other = beam_by(instance, &below, WIDE_WIDTH, limit)?;
     let best = faster(best, other);
     if best.total() <= bound {
         return Ok(Tried {
@@ -188,21 +218,24 @@ fn try_above(
             shown: None,
         });
     }
-    search_below(alloc, block, profile, below, best, limit, bound, splits)
+    let goal = Goal {
+        limit,
+        bound,
+        splits,
+    };
+    search_below(instance, below, best, goal)
 }
 
 /// Raises what is shown of all orders, one minor cycle after the other, each by the fact lines of orders that take less than what is to
 /// be shown, until an order takes no more, or so many more splits are made.
 fn raise(
-    alloc: Global,
-    block: &Block,
-    profile: &Profile,
+    instance: &Instance<'_>,
     finder: &Finder,
     searched: Searched,
     most: u32,
 ) -> Result<Searched, AllocError>
-    requires { IsGood (record { block = instrs_of block.now; profile = profile.now }) searched.best }
-    ensures best { IfOk result (λ raised. IsGood (record { block = instrs_of block.now; profile = profile.now }) raised.best) }
+    requires { IsGood instance.now searched.best }
+    ensures best { IfOk result (λ raised. IsGood instance.now raised.best) }
     ensures splits { IfOk result (λ raised. raised.splits ≤ searched.splits + most) }
 {
     let Searched {
@@ -217,7 +250,7 @@ fn raise(
             break;
         }
         let left = most.saturating_sub(made);
-        let tried = try_above(alloc, block, profile, finder, best, bound, left)?;
+        let tried = try_above(instance, finder, best, bound, left)?;
         best = tried.best;
         made = made.saturating_add(tried.splits);
         shown = shown.or_more(tried.shown);
@@ -236,19 +269,17 @@ fn raise(
 /// The best order that is found, and what shows that none takes less, or how little less: fact lines and a leaf, or a tree of at most
 /// this many splits. At most half as many more are made to raise what is shown, after those for orders that take less than the best.
 pub(crate) fn search(
-    alloc: Global,
-    block: &Block,
-    profile: &Profile,
+    instance: &Instance<'_>,
     finder: &Finder,
     best: Timed,
     most: u32,
 ) -> Result<Searched, AllocError>
-    requires { IsGood (record { block = instrs_of block.now; profile = profile.now }) best }
-    ensures best { IfOk result (λ searched. IsGood (record { block = instrs_of block.now; profile = profile.now }) searched.best) }
+    requires { IsGood instance.now best }
+    ensures best { IfOk result (λ searched. IsGood instance.now searched.best) }
     ensures splits { IfOk result (λ searched. searched.splits ≤ most + most / 2) }
 {
-    let lined = best_by_lines(alloc, block, profile, finder, BEAM_WIDTH, best)?;
-    let Halved { best, below, bound } = halve(alloc, block, profile, lined)?;
+    let lined = best_by_lines(instance, finder, &[BEAM_WIDTH], best)?;
+    let Halved { best, below, bound } = halve(instance, lined)?;
     let shown = Shown::ByLeaf(bound);
     if best.total() <= shown.bound() {
         return Ok(Searched {
@@ -257,7 +288,8 @@ pub(crate) fn search(
             splits: 0,
         });
     }
-    let lined = best_by_lines(alloc, block, profile, &below, WIDE_WIDTH, best)?;
+    let widths = wide_widths(best.total(), shown.bound());
+    let lined = best_by_lines(instance, &below, widths, best)?;
     let Lined { best, below: lines } = lined;
     let time = best.total();
     if time <= shown.bound() {
@@ -267,20 +299,16 @@ pub(crate) fn search(
             splits: 0,
         });
     }
-    let tried = search_below(
-        alloc,
-        block,
-        profile,
-        lines,
-        best,
-        time,
-        shown.bound(),
-        most,
-    )?;
+    let goal = Goal {
+        limit: time,
+        bound: shown.bound(),
+        splits: most,
+    };
+    let tried = search_below(instance, lines, best, goal)?;
     let searched = Searched {
         best: tried.best,
         shown: shown.or_more(tried.shown),
         splits: tried.splits,
     };
-    raise(alloc, block, profile, &below, searched, most / 2)
+    raise(instance, &below, searched, most / 2)
 }

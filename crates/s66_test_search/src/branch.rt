@@ -102,7 +102,8 @@ fn shows_that_an_order_is_best(rt: HostRuntime) {
     }
 }
 
-/// Checks that a search which knows dependences alone, and may make one split less than it needs, doesn't show that its order is best.
+/// Checks that a search which knows dependences alone, and may make one split less than it needs, doesn't show that its order is best, and
+/// that it writes no tree if all orders are known to take as much as it shows.
 fn check_cut_off<R: AllocGlobal + Abort>(rt: &R, code: &str, block: &Block, best: u32) {
     let finder = found_at_first(rt, block);
     let whole = search(rt, block, &finder, u32::MAX, SPLITS);
@@ -113,6 +114,8 @@ fn check_cut_off<R: AllocGlobal + Abort>(rt: &R, code: &str, block: &Block, best
     assert!(rt; branched.splits == fewer, "{code}");
     assert!(rt; bound <= best && bound < branched.best.total(), "{code}");
     check_tree(rt, code, &finder, &branched);
+    let same = search_until(rt, block, &finder, u32::MAX, bound, fewer);
+    assert!(rt; same.bound == bound && same.tree.is_none(), "{code}");
 }
 
 #[test]

@@ -1,6 +1,5 @@
-use Rattle.s66_line.specs.Block.{instrs_of}
 use Rattle.s66_deep.specs.Orders.{IsGood}
 use Rattle.s66_deep.proofs.lines.best_by_beams.Given as goal
 
 abbrev pub invariant-loop-width : goal.invariant-loop-width
-invariant-loop-width l = IsGood (record { block = instrs_of l.fn.block; profile = l.fn.profile }) l.best
+invariant-loop-width l = IsGood l.fn.instance l.best

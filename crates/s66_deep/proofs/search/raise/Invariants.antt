@@ -1,11 +1,10 @@
 use Rattle.std.proofs.Common.{◌≤◌}
-use Rattle.s66_line.specs.Block.{instrs_of}
 use Rattle.s66_deep.specs.Orders.{IsGood}
 use Rattle.s66_deep.proofs.search.raise.Given as goal
 
 abbrev pub invariant-loop : goal.invariant-loop
 invariant-loop l =
     record {
-      best : IsGood (record { block = instrs_of l.fn.block; profile = l.fn.profile }) l.best;
+      best : IsGood l.fn.instance l.best;
       made : l.made ≤ l.most;
     }

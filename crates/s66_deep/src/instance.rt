@@ -1,0 +1,23 @@
+//! A block under a profile, whose orders are sought.
+
+use s66_isa::Profile;
+use s66_line::Block;
+use std::alloc::Global;
+use std::marker::Model;
+
+/// A block under a profile, whose orders are sought, and where memory comes from.
+#[derive(Drop)]
+pub(crate) struct Instance<'b> {
+    pub(crate) alloc: Global,
+    pub(crate) block: &'b Block<'b>,
+    pub(crate) profile: &'b Profile,
+}
+
+impl<'b> Model for Instance<'b> {
+    ghost use Rattle.s66_line.specs.Block.{instrs_of};
+    ghost use Rattle.s66_model.specs.Timing.{Problem};
+
+    ghost Value = { Problem };
+
+    ghost view = { λ i. record { block = instrs_of i.block.now; profile = i.profile.now } };
+}
