@@ -38,14 +38,14 @@ lines-yes d (at ∷ lines) line time bound =
     ((λ h. (let one = here.0 h in let two = later.0 one.1 in ((one.0, two.0), two.1, two.2))), λ h. here.1 (h.0.0, later.1 (h.0.1, h.1, h.2)))
 
 -- what is looked at, one after the other
-record IsGranted (d : Document) : Type 0 where
-  order : IsLegal (problem_of d).block d.numbers
-  total : total_of (problem_of d) d.numbers ≡ d.time
-  within : d.bound ≤ d.time
-  facts : are_taken (problem_of d) d.bound (known_first (problem_of d)) (facts_of d) ≡ true
-  lines : Pass d (tree_placed [] d.tree)
+pub record IsGranted (d : Document) : Type 0 where
+  pub order : IsLegal (problem_of d).block d.numbers
+  pub total : total_of (problem_of d) d.numbers ≡ d.time
+  pub within : d.bound ≤ d.time
+  pub facts : are_taken (problem_of d) d.bound (known_first (problem_of d)) (facts_of d) ≡ true
+  pub lines : Pass d (tree_placed [] d.tree)
 
-granted : (d : Document) (time bound : ℕ) → (verdict d ≡ Yes time bound) ↔ ((time ≡ d.time) × (bound ≡ d.bound) × IsGranted d)
+pub granted : (d : Document) (time bound : ℕ) → (verdict d ≡ Yes time bound) ↔ ((time ≡ d.time) × (bound ≡ d.bound) × IsGranted d)
 granted d time bound =
     let b : Problem = problem_of d in
     let tree : Verdict = lines_verdict d (tree_line_number d) (tree_placed [] d.tree) in

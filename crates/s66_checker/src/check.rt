@@ -18,7 +18,7 @@ use s66_isa::{BLOCK_LIMIT, Instr, PROFILE_LENGTH, Profile};
 use s66_replay::Prefix;
 
 /// A document's profile.
-fn profile_of(document: &Document) -> Profile
+pub fn profile_of(document: &Document) -> Profile
     ensures { result ≡ profile_of document.now.profile }
 {
     let Ok(numbers) = <&[u8; PROFILE_LENGTH]>::try_from(document.profile()) else {
@@ -31,7 +31,7 @@ fn profile_of(document: &Document) -> Profile
 }
 
 /// The instructions of a document's block.
-fn instructions_of(texts: &[InstructionText]) -> ArrayVec<Instr, BLOCK_LIMIT>
+pub fn instructions_of(texts: &[InstructionText]) -> ArrayVec<Instr, BLOCK_LIMIT>
     requires { length texts.now ≤ BLOCK_LIMIT }
     ensures { result.items ≡ map instr_in_text texts.now }
 {

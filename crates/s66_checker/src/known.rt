@@ -15,7 +15,7 @@ use s66_replay::{KeptPoint, Prefix};
 use std::marker::Model;
 
 /// The fact lines of a document; none in versions 1 to 3.
-pub(crate) fn fact_lines(document: &Document) -> &[FactLine]
+pub fn fact_lines(document: &Document) -> &[FactLine]
     ensures value { result.now ≡ facts_of (document_of document.now) }
     ensures few { length result.now ≤ FACT_LIMIT }
 {
@@ -26,7 +26,7 @@ pub(crate) fn fact_lines(document: &Document) -> &[FactLine]
 }
 
 /// Takes a fact line in if it is shown by what is known, and returns whether it is. If it isn't, nothing changes.
-fn take(facts: &mut Facts, bound: u32, line: &FactLine) -> bool
+pub fn take(facts: &mut Facts, bound: u32, line: &FactLine) -> bool
     requires room { length (known_in facts.old).loads < FACT_LIMIT }
     ensures value { result ≡ is_taken facts.old.problem bound (known_in facts.old) line.now }
     ensures problem { facts.new.problem ≡ facts.old.problem }

@@ -28,7 +28,7 @@ pub fn ready(prefix: &Prefix) -> Numbers
 }
 
 /// The parcels of all that remains.
-fn remaining_parcels(prefix: &Prefix) -> u32
+pub fn remaining_parcels(prefix: &Prefix) -> u32
     ensures value { result ≡ sum_remaining prefix.now.problem.block prefix.now.numbers (λ m. (row_at prefix.now.problem m).parcels) }
     ensures at_most { result ≤ 2 * BLOCK_LIMIT }
 {
@@ -76,7 +76,7 @@ pub fn parcels(prefix: &Prefix) -> u32
 }
 
 /// The work that remains for a kind of unit.
-fn remaining_work(prefix: &Prefix, kind: Kind) -> u32
+pub fn remaining_work(prefix: &Prefix, kind: Kind) -> u32
     ensures value { result ≡ sum_remaining prefix.now.problem.block prefix.now.numbers (λ m. work_of kind (row_at prefix.now.problem m)) }
     ensures at_most { result ≤ TOTAL_LIMIT }
 {

@@ -38,11 +38,15 @@ mod name;
 mod verdict;
 mod walk;
 
-pub use check::verify;
+pub use check::{instructions_of, profile_of, verify};
 pub use examples::{
     dominated_examples, dominating_examples, fact_examples, fact_leaf_examples, fault_examples,
     in_use_examples, leaf_examples, line_name_examples, load_leaf_examples, profile_examples,
     split_examples, verdict_examples,
 };
+pub use known::{fact_lines, take};
 pub use laws::{dominating_law, yes_law};
+pub use leaf::{load, remaining_parcels, remaining_work};
+pub use links::{link, own_parcels, tail, uses};
+pub use loaded::{amounts, use_time};
 pub use verdict::{Reason, Verdict};

@@ -58,7 +58,7 @@ fn is_written(writes: &[Write], register: Reg) -> bool
 }
 
 /// Whether the instruction reads or writes the register.
-fn uses(row: &Row, register: Reg) -> bool
+pub fn uses(row: &Row, register: Reg) -> bool
     ensures { result ≡ uses row.now register }
 {
     has_register(row.reads.as_slice(), register) || is_written(row.writes.as_slice(), register)

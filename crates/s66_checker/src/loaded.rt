@@ -37,7 +37,7 @@ fn amount(prefix: &Prefix, n: u8) -> u32
 }
 
 /// For how long all of these have theirs.
-fn amounts(prefix: &Prefix, numbers: &[u8]) -> u32
+pub fn amounts(prefix: &Prefix, numbers: &[u8]) -> u32
     requires few { length numbers.now ≤ BLOCK_LIMIT }
     requires remain { every (is_remaining prefix.now.problem.block prefix.now.numbers) numbers.now ≡ true }
     ensures value { result ≡ weigh (λ (u : Use). u.amount) (map (use_of prefix.now.problem) numbers.now) }
@@ -66,7 +66,7 @@ fn least_amount(prefix: &Prefix, numbers: &[u8]) -> u32
 
 /// For how long the units of a kind have work: if they share all that, rounded up, and since one of them has as many of the numbers as it
 /// has at least.
-fn use_time(prefix: &Prefix, kind: Kind, numbers: &[u8]) -> u32
+pub fn use_time(prefix: &Prefix, kind: Kind, numbers: &[u8]) -> u32
     requires some { 0 < length numbers.now }
     requires few { length numbers.now ≤ BLOCK_LIMIT }
     requires remain { every (is_remaining prefix.now.problem.block prefix.now.numbers) numbers.now ≡ true }
