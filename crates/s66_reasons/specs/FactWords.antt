@@ -1,0 +1,144 @@
+-- To be believed: fact lines in sentences, each number in them one that the line is checked by.
+use Rattle.std.specs.Prelude.{ℕ, ◌+◌, ◌-◌, ◌*◌, if◌then◌else◌, ◌==◌, List, [], ◌∷◌, ◌++◌, codes, decimal, get_or, length, map, Option, unwrap_or}
+use Rattle.s66_isa.specs.declared.instr.Kind.{Kind}
+use Rattle.s66_isa.specs.Lists.{weigh}
+use Rattle.s66_model.specs.Timing.{Problem, copies, row_at}
+use Rattle.s66_moments.specs.declared.moment.Stage.TheVariants.{Issue, Start, Done, Free}
+use Rattle.s66_moments.specs.declared.moment.Moment.{Moment}
+use Rattle.s66_moments.specs.declared.moment.Moment.TheVariants.{Origin, At, End}
+use Rattle.s66_moments.specs.declared.fact_line.FactLine.{FactLine}
+use Rattle.s66_moments.specs.declared.fact_line.FactLine.TheVariants as fact
+use Rattle.s66_moments.specs.FactLines.{Use, use_time}
+use Rattle.s66_moments.specs.Networks.{Network}
+use Rattle.s66_moments.specs.Known.{Known, arcs_of, is_late_by_parcels, kind_of_load, span, use_of, with_line}
+use Rattle.s66_cert.specs.Document.{Document}
+use Rattle.s66_checker.specs.Verdict.{problem_of}
+use Rattle.s66_reasons.specs.declared.work.Work.{Work}
+use Rattle.s66_reasons.specs.Words.{each_words, instruction, listed, longest_use, unit_name}
+
+-- WHERE A LOAD BEGINS AND ENDS
+
+abbrev pub from_words : Moment → List ℕ
+from_words Origin = codes "From the beginning"
+from_words (At n Issue) = codes "From where " ++ decimal n ++ codes " issues"
+from_words (At n Start) = codes "From where " ++ decimal n ++ codes " starts"
+from_words (At n (Done x)) = []
+from_words (At n Free) = []
+from_words End = []
+
+abbrev pub to_words : Moment → List ℕ
+to_words Origin = []
+to_words (At n Issue) = codes "where " ++ decimal n ++ codes " issues"
+to_words (At n Start) = codes "where " ++ decimal n ++ codes " starts"
+to_words (At n (Done x)) = []
+to_words (At n Free) = []
+to_words End = codes "the end"
+
+-- A LOAD: what these instructions need of the units of their kind
+
+abbrev pub work_of_load : Problem → List ℕ → Work
+work_of_load b ns =
+    record {
+      kind = kind_of_load b ns;
+      copies = copies b (kind_of_load b ns);
+      total = weigh (λ (u : Use). u.amount) (map (use_of b) ns);
+      most = longest_use b ns;
+      time = use_time b (kind_of_load b ns) (map (use_of b) ns);
+    }
+
+-- where it leads, and how long it is from where the last use begins
+abbrev pub left_to : Moment → (rest wait : ℕ) → List ℕ
+left_to to rest wait = to_words to ++ codes " it is " ++ decimal rest ++ codes " or more: " ++ decimal wait
+
+abbrev pub one_words : Work → Moment → (after wait : ℕ) → ℕ → List ℕ
+one_words w to after wait n = decimal n ++ codes " has its " ++ unit_name w.kind ++ codes " unit, and from there to " ++ left_to to (wait - after) wait
+
+abbrev pub which_words : Work → List ℕ → List ℕ
+which_words w ns = codes "one of " ++ listed decimal ns ++ codes " has its " ++ unit_name w.kind ++ codes " unit"
+
+abbrev pub units_words : (copies : ℕ) → List ℕ
+units_words copies = if copies == 1 then codes "it" else codes "the " ++ decimal copies
+
+abbrev pub side_by_side : (copies time : ℕ) → List ℕ
+side_by_side copies time = if copies == 1 then [] else codes " and " ++ decimal time ++ codes " side by side"
+
+abbrev pub in_all : Work → List ℕ
+in_all w = decimal w.total ++ codes " in all" ++ side_by_side w.copies w.time
+
+abbrev pub need_words : Work → (count : ℕ) → List ℕ
+need_words w count = codes "; these need " ++ units_words w.copies ++ codes " for " ++ each_words count w.total w.most ++ codes ", " ++ in_all w
+
+-- the last of them begins its use when all others are over
+abbrev pub begins : Work → (after : ℕ) → ℕ
+begins w after = after + w.time - w.most
+
+abbrev pub last_words : Moment → (begins wait : ℕ) → List ℕ
+last_words to begins wait =
+    codes "; so the last of them begins at " ++ decimal begins ++ codes " or later, and from there to " ++ left_to to (wait - begins) wait
+
+-- if their uses differ
+abbrev pub mixed_words : Moment → (wait : ℕ) → List ℕ
+mixed_words to wait = codes "; so with what is left after the last of them begins it is " ++ decimal wait ++ codes " or more to " ++ to_words to
+
+abbrev pub so_words : Work → Moment → (after wait count : ℕ) → List ℕ
+so_words w to after wait count = if w.total == count * w.most then last_words to (begins w after) wait else mixed_words to wait
+
+abbrev pub many_words : Work → Moment → (after wait : ℕ) → List ℕ → List ℕ
+many_words w to after wait ns = which_words w ns ++ need_words w (length ns) ++ so_words w to after wait (length ns)
+
+abbrev pub until_words : Work → Moment → (after wait : ℕ) → List ℕ → List ℕ
+until_words w to after wait ns = if length ns == 1 then one_words w to after wait (get_or ns 0 0) else many_words w to after wait ns
+
+abbrev pub load_sentence : Problem → (from to : Moment) → (after wait : ℕ) → List ℕ → List ℕ
+load_sentence b from to after wait ns =
+    from_words from ++ (codes " it is " ++ decimal after ++ codes " or more until ") ++ until_words (work_of_load b ns) to after wait ns
+
+-- A FORCED PAIR: why the second can't stand before the first
+
+-- at the soonest, by what is known
+abbrev pub soonest_known : Problem → Network → Moment → ℕ
+soonest_known b arcs e = unwrap_or (span b arcs Origin e) 0
+
+abbrev pub rest_words : (bound rest : ℕ) → List ℕ
+rest_words bound rest = codes ", and from there to the end it is " ++ decimal rest ++ codes " or more: " ++ decimal bound
+
+abbrev pub issues_words : (soonest n : ℕ) → List ℕ
+issues_words soonest n = decimal n ++ codes " issues at " ++ (decimal soonest ++ codes " or later; behind it ")
+
+abbrev pub could_words : (parcels m : ℕ) → List ℕ
+could_words parcels m = decimal m ++ codes " could issue " ++ (decimal parcels ++ codes " later")
+
+abbrev pub by_parcels : (bound soonest parcels m n : ℕ) → List ℕ
+by_parcels bound soonest parcels m n = issues_words soonest n ++ could_words parcels m ++ rest_words bound (bound - soonest - parcels)
+
+abbrev pub has_words : Kind → (soonest n : ℕ) → List ℕ
+has_words kind soonest n =
+    decimal n ++ codes " has the " ++ unit_name kind ++ (codes " unit until " ++ decimal soonest ++ codes " or later; behind it ")
+
+abbrev pub by_unit : Kind → (bound soonest m n : ℕ) → List ℕ
+by_unit kind bound soonest m n = has_words kind soonest n ++ (decimal m ++ codes " could issue then") ++ rest_words bound (bound - soonest)
+
+abbrev pub pair_words : Document → ℕ → ℕ → List ℕ
+pair_words d m n = instruction d m ++ (codes " stands before " ++ instruction d n ++ codes " in a faster order: ")
+
+-- why it would be too late
+abbrev pub late_words : Problem → (bound : ℕ) → Network → ℕ → ℕ → List ℕ
+late_words b bound arcs m n =
+    if is_late_by_parcels b arcs bound m n then by_parcels bound (soonest_known b arcs (At n Issue)) (row_at b n).parcels m n
+    else by_unit (row_at b n).kind bound (soonest_known b arcs (At n Free)) m n
+
+abbrev pub pair_sentence : Document → Network → ℕ → ℕ → List ℕ
+pair_sentence d arcs m n = pair_words d m n ++ late_words (problem_of d) d.bound arcs m n
+
+-- ALL FACT LINES, numbered, each by what is known before it
+
+abbrev pub fact_sentence : Document → Known → FactLine → List ℕ
+fact_sentence d known (fact.Pair m n) = pair_sentence d (arcs_of (problem_of d) known) m n
+fact_sentence d known (fact.Load line) = load_sentence (problem_of d) line.from line.to line.after line.wait line.numbers.items
+
+abbrev pub numbered_fact : Document → Known → ℕ → FactLine → List ℕ
+numbered_fact d known number line = codes "  " ++ decimal number ++ codes ". " ++ fact_sentence d known line ++ codes "\n"
+
+abbrev pub facts_from : Document → Known → ℕ → List FactLine → List ℕ
+facts_from d known number [] = []
+facts_from d known number (line ∷ lines) = numbered_fact d known number line ++ facts_from d (with_line known line) (number + 1) lines

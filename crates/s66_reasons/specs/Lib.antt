@@ -1,0 +1,5 @@
+pub mod Words
+pub mod FactWords
+pub mod Reasons
+pub mod Shown
+pub mod Within

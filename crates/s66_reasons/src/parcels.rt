@@ -1,0 +1,70 @@
+//! The rows of the parcels: whichever instruction issues last, it issues after the parcels of all others.
+
+ghost use Rattle.std.specs.Prelude.{◌≡◌, ◌≤◌, ◌*◌, ◌++◌, [], OnOk, length, map};
+ghost use Rattle.s66_isa.specs.declared.limits.TheConstants.{BLOCK_LIMIT};
+ghost use Rattle.s66_isa.specs.Table.{numbers};
+ghost use Rattle.s66_model.specs.Timing.{row_at};
+ghost use Rattle.s66_model.specs.LegalOrder.{sum_remaining};
+ghost use Rattle.s66_cert.specs.DocumentParts.{document_of};
+ghost use Rattle.s66_checker.specs.Verdict.{problem_of};
+ghost use Rattle.s66_reasons.specs.Words.{row_text, rows_text};
+ghost use Rattle.s66_reasons.specs.Reasons.{if_last_words, last_row};
+
+use crate::words::{push_around, push_between, push_number};
+use s66_cert::Document;
+use s66_checker::{own_parcels, remaining_parcels, tail};
+use s66_replay::Prefix;
+use std::alloc::AllocError;
+
+/// When the end is if n issues last, in this slot, and takes this time.
+fn push_if_last(
+    out: &mut Vec<u8>,
+    document: &Document,
+    n: u8,
+    slot: usize,
+    time: usize,
+) -> Result<(), AllocError>
+    ensures { OnOk result (out.new.items ≡ out.old.items ++ if_last_words (document_of document.now) n slot time) }
+{
+    push_around(out, b"if ", document, n, b"")?;
+    push_between(out, b" issues last: at ", slot, b" or later, and ")?;
+    push_between(out, b"", time, b" to the end")
+}
+
+/// The row of an instruction that may issue last, of a block of so many parcels.
+fn push_last(
+    out: &mut Vec<u8>,
+    document: &Document,
+    prefix: &Prefix,
+    parcels: u32,
+    n: u8,
+) -> Result<(), AllocError>
+    requires problem { prefix.now.problem ≡ problem_of (document_of document.now) }
+    requires parcels { (parcels ≡ sum_remaining prefix.now.problem.block [] (λ m. (row_at prefix.now.problem m).parcels)) × (parcels ≤ 2 * BLOCK_LIMIT) }
+    requires n { (1 ≤ n) × (n ≤ length prefix.now.problem.block) }
+    ensures { OnOk result (out.new.items ≡ out.old.items ++ row_text (last_row (document_of document.now) n)) }
+{
+    let row = prefix.row(n);
+    let slot = parcels.saturating_sub(own_parcels(row)) as usize;
+    let time = tail(row) as usize;
+    push_number(out, slot + time)?;
+    push_if_last(out, document, n, slot, time)?;
+    out.extend_from_slice(b"\n")
+}
+
+/// The rows of the parcels, one for each instruction.
+pub(crate) fn push_parcels(
+    out: &mut Vec<u8>,
+    document: &Document,
+    prefix: &Prefix,
+) -> Result<(), AllocError>
+    requires problem { prefix.now.problem ≡ problem_of (document_of document.now) }
+    requires start { prefix.now.numbers ≡ [] }
+    ensures { OnOk result (out.new.items ≡ out.old.items ++ rows_text (map (last_row (document_of document.now)) (numbers prefix.now.problem.block))) }
+{
+    let parcels = remaining_parcels(prefix);
+    for position in 0..prefix.count() {
+        push_last(out, document, prefix, parcels, position + 1)?;
+    }
+    Ok(())
+}
