@@ -1,0 +1,294 @@
+#!/usr/bin/env python3
+"""Reads what `check --text` says of certificates, and sums each sentence by the tables of tools/certificate.py.
+
+    tools/reasons.py PROGRAM [--count N] [--seed N]
+
+Certificates are those of examples/, with and without --deep, and of N random blocks, 100 unless given, under random profiles; of some of
+these others are made that have fact lines. Of each document with YES the first line must have the bound, and count splits and facts if
+the tree splits. Each row must have a number that follows from the row before it and from what its sentence names: the time of a result,
+a unit or a parcel, of instructions that the leaf names, with their texts. The last row has to reach the bound, or of parcels each. The
+last line must have the time. Each wrong thing is told, and the last line counts the documents. The status is 1 if something is wrong.
+"""
+import argparse
+import glob
+import io
+import os
+import re
+import sys
+
+from certificate import END, ORIGIN, Known, Load, Pair, Problem, Reader, meet_in_memory
+from compare_certificates import Maker, run
+
+ROOT = os.path.dirname(os.path.dirname(os.path.abspath(__file__)))
+NAMES = {"LONGADD": "Long Add"}
+NAMES.update((unit, unit.title()) for unit in "BOOLEAN SHIFT ADD MULTIPLY DIVIDE INCREMENT".split())
+VERDICT = re.compile(r"DOCUMENT \d+ (YES TIME (\d+) BOUND (\d+)|NO LINE \d+ REASON \d+)")
+
+
+class Wrong(Exception):
+    """A sentence that doesn't say what the document has."""
+
+
+def must(test, what):
+    if not test:
+        raise Wrong(what)
+
+
+def several(count, word):
+    return f"{count} {word}" + "s" * (count != 1)
+
+
+def read(pattern, text):
+    """The parts of a text that must have this pattern."""
+    found = re.fullmatch(pattern, text)
+    must(found, f"not read: {text}")
+    return found.groups()
+
+
+class Texts:
+    """A document, with the texts of its instructions, and what is said of it."""
+
+    def __init__(self, document, texts, lines):
+        self.document, self.texts, self.lines = document, texts, list(lines)
+        self.problem = Problem(document.profile, document.block)
+        self.known = Known(self.problem, document.bound)
+
+    def line(self):
+        must(self.lines, "a line is missing")
+        return self.lines.pop(0)
+
+    def row(self):
+        """The number and the sentence of the next row."""
+        number, sentence = read("( *[0-9]+)  (.*)", self.line())
+        must(len(number) == max(4, len(number.strip())), f"not right in four places: {number}")
+        return int(number), sentence
+
+    def number(self, text):
+        """The number of an instruction that is said with its text."""
+        n, words = read("([0-9]+) (.*)", text)
+        must(self.texts.get(int(n)) == words, f"another text: {text}")
+        return int(n)
+
+    def all(self):
+        self.said()
+        must(not self.lines, "lines too many")
+
+    def said(self):
+        """The first line, the rows and the last line."""
+        tree, document = next(iter(self.document.tree.values())), self.document
+        first, last = self.line(), self.lines.pop() if self.lines else ""
+        head = f"Every order takes {document.bound} or more"
+        if tree.kind == "S":
+            splits = sum(line.kind == "S" for line in document.tree.values())
+            facts = f" and {several(len(document.facts), 'fact')}" if document.facts else ""
+            must(first == f"{head}, by {several(splits, 'split')}{facts}.", f"not the head of a tree: {first}")
+        else:
+            must(first == head + ":", f"not the head of a leaf: {first}")
+            {"C": self.chain, "U": self.load, "P": self.parcels, "E": self.path, "L": self.left}[tree.kind](tree.names)
+        best = f"So the order of {document.time} is best."
+        must(last == (best if document.time == document.bound else f"The order found takes {document.time}."), f"last line: {last}")
+
+    def reaches(self, number):
+        must(number >= self.document.bound, f"{number} doesn't reach the bound")
+
+    def chain(self, numbers):
+        start = 0
+        for m, n in zip(numbers, numbers[1:]):
+            number, sentence = self.row()
+            must(number == start + self.wait(m, n, sentence) == start + self.problem.link(m, n), f"{number} isn't the sum: {sentence}")
+            start = number
+        number, sentence = self.row()
+        must(number == start + self.end(numbers[-1], sentence), f"{number} isn't the sum: {sentence}")
+        self.reaches(number)
+
+    def wait(self, m, n, sentence):
+        """For how long the second waits from the start of the first, as a sentence says."""
+        found = re.fullmatch("(.*) can reference memory, after (.*) has", sentence)
+        if found:
+            must((self.number(found[2]), self.number(found[1])) == (m, n), f"other instructions: {sentence}")
+            must(meet_in_memory(self.problem.block[m], self.problem.block[n]), f"no references: {sentence}")
+            return 1
+        x, first, second, use = read("([ABX][0-7]) of (.*) is there, which (.*?) (reads|writes again)", sentence)
+        must((self.number(first), self.number(second)) == (m, n), f"other instructions: {sentence}")
+        is_read = x in self.problem.block[n].reads
+        must(x in self.problem.latencies[m] and x in self.problem.touched[n] and is_read == (use == "reads"), f"not so: {sentence}")
+        return self.problem.latencies[m][x]
+
+    def end(self, n, sentence):
+        """For how long the last works, as a sentence says."""
+        x, last = read("(the unit|[ABX][0-7]) of (.*) is (?:free|there), and that is the end", sentence)
+        must(self.number(last) == n, f"another instruction: {sentence}")
+        return self.problem.holds[n] + 1 if x == "the unit" else self.problem.latencies[n].get(x, 0)
+
+    def listed(self, text):
+        """Instructions that are said one after the other."""
+        places = [found.start() for found in re.finditer(r"(?:(?<=^)|(?<=, )|(?<= and ))[0-9]+ [A-Z]{2}[0-7]", text)]
+        parts = [text[a:b] for a, b in zip(places, places[1:] + [None])]
+        ends = [", "] * (len(parts) - 2) + [" and "] * (len(parts) > 1)
+        must("".join(parts) == text and all(map(str.endswith, parts, ends)), f"not listed: {text}")
+        return [self.number(re.sub("(, | and )$", "", part)) for part in parts]
+
+    def uses(self, numbers, each, total):
+        """Whether a sentence says for how long these need their units."""
+        uses = [self.problem.holds[n] + 1 for n in numbers]
+        words = f"{uses[0]}" if len(uses) == 1 else f"{uses[0]} each" if len(set(uses)) == 1 else f"up to {max(uses)}"
+        must((each, int(total)) == (words, sum(uses)), f"for {each}: {total}")
+        return uses
+
+    def load(self, unit):
+        number, sentence = self.row()
+        copies, of_kind = self.problem.profile[unit], [n for n, own in self.problem.block.items() if own.unit == unit]
+        units = NAMES[unit] + " unit" + "s" * (copies > 1)
+        if not of_kind:
+            must((number, sentence) == (0, f"no instruction needs the {units}"), f"none needs it: {sentence}")
+            return
+        how = ", one after the other" if copies == 1 else f", shared by {copies}"
+        said, need, each, total = read(f"(.*) (needs?) the {units} for (.*): ([0-9]+){how}", sentence)
+        must(self.listed(said) == of_kind and (need == "needs") == (len(of_kind) == 1), f"other instructions: {sentence}")
+        must(number == -(-sum(self.uses(of_kind, each, total)) // copies), f"{number} isn't the sum: {sentence}")
+        self.reaches(number)
+
+    def parcels(self, _):
+        all_parcels = sum(own.parcels for own in self.problem.block.values())
+        for n, own in self.problem.block.items():
+            number, sentence = self.row()
+            said, issue, tail = read("if (.*) issues last: at ([0-9]+) or later, and ([0-9]+) to the end", sentence)
+            must(self.number(said) == n, f"another instruction: {sentence}")
+            must((int(issue), int(tail)) == (all_parcels - own.parcels, self.problem.tails[n]), f"not so: {sentence}")
+            must(number == int(issue) + int(tail), f"{number} isn't the sum: {sentence}")
+            self.reaches(number)
+
+    def moment(self, moment):
+        return "the end" if moment == END else f"where {moment[1]} {moment[0]}s"
+
+    def load_sentence(self, load, sentence):
+        """Whether a sentence says what a load line does, with the numbers that its check has."""
+        begin = "From the beginning" if load.begin == ORIGIN else f"From {self.moment(load.begin)}"
+        unit, numbers, to = self.problem.block[load.numbers[0]].unit, load.numbers, self.moment(load.end)
+        copies, uses = self.problem.profile[unit], [self.problem.holds[n] + 1 for n in numbers]
+        time, name = self.problem.use_time(unit, uses), NAMES[unit]
+        if len(numbers) == 1:
+            said = r"{} it is {} or more until {} has its {} unit, and from there to {} it is ([0-9]+) or more: {}"
+            [rest] = read(said.format(begin, load.after, numbers[0], name, to, load.wait), sentence)
+            must(int(rest) == max(0, load.wait - load.after), f"{rest} isn't the rest: {sentence}")
+            return
+        said = r"{} it is {} or more until one of ([0-9, and]+) has its {} unit; these need {} for (.*?), ([0-9]+) in all{}(; so .*)"
+        side = "" if copies == 1 else f" and {time} side by side"
+        pronoun = "it" if copies == 1 else f"the {copies}"
+        names, each, total, last = read(said.format(begin, load.after, name, pronoun, side), sentence)
+        must(re.split(", | and ", names) == list(map(str, numbers)), f"other instructions: {sentence}")
+        self.uses(numbers, each, total)
+        if len(set(uses)) > 1:
+            must(last == f"; so with what is left after the last of them begins it is {load.wait} or more to {to}", f"not so: {sentence}")
+            return
+        said = r"; so the last of them begins at ([0-9]+) or later, and from there to {} it is ([0-9]+) or more: {}"
+        begins, rest = map(int, read(said.format(to, load.wait), last))
+        must(begins == load.after + time - uses[0] and rest == max(0, load.wait - begins), f"not the sum: {sentence}")
+
+    def pair_sentence(self, pair, sentence):
+        """Whether a sentence says why the second of a pair can't stand before the first."""
+        bound, m, n = self.document.bound, *pair
+        heads, tail = self.known.paths_from(ORIGIN), self.known.paths_to(END)["issue", m]
+        first, second, why = read("(.*) stands before (.*) in a faster order: (.*)", sentence)
+        must((self.number(first), self.number(second)) == (m, n), f"other instructions: {sentence}")
+        end = ", and from there to the end it is ([0-9]+) or more: ([0-9]+)"
+        parcels = self.problem.block[n].parcels
+        if heads["issue", n] + parcels + tail >= bound:
+            begin = f"{n} issues at ([0-9]+) or later; behind it {m} could issue {parcels} later"
+            until = heads["issue", n] + parcels
+        else:
+            must(self.problem.is_only_unit(n, m), f"not the only unit: {sentence}")
+            begin = f"{n} has the {NAMES[self.problem.block[n].unit]} unit until ([0-9]+) or later; behind it {m} could issue then"
+            parcels, until = 0, heads["free", n]
+        head, rest, all = map(int, read(begin + end, why))
+        must((head + parcels, all, rest) == (until, bound, max(0, bound - until)), f"not the sum: {sentence}")
+        must(rest <= tail, f"the path to the end is shorter: {sentence}")
+
+    def facts(self):
+        """The fact lines, each by what is known before it."""
+        for number, fact in enumerate(self.document.facts, 1):
+            place, sentence = read("  ([0-9]+)[.] (.*)", self.line())
+            must(int(place) == number, f"not number {number}: {sentence}")
+            (self.pair_sentence if isinstance(fact, Pair) else self.load_sentence)(fact, sentence)
+            must(self.known.add_fact(fact), f"not right: {sentence}")
+
+    def path(self, numbers):
+        self.facts()
+        [n] = numbers
+        number, sentence = self.row()
+        must(number == 0 and self.number(read("(.*) can issue", sentence)[0]) == n, f"another instruction: {sentence}")
+        number, sentence = self.row()
+        must(sentence == "the end, by the longest path from there", f"not the end: {sentence}")
+        must(number == self.document.bound <= self.known.next_value((), n), f"{number} isn't shown")
+
+    def left(self, names):
+        self.facts()
+        after, *numbers = names
+        number, sentence = self.row()
+        load = Load(ORIGIN, END, after, self.document.bound, numbers)
+        self.load_sentence(load, sentence)
+        must(number == self.document.bound and self.known.is_left((), load), f"{number} isn't shown")
+
+
+def documents(text):
+    """The documents of a text, each with the texts of its instructions."""
+    reader, lines = Reader(io.BytesIO(text)), text.decode("latin-1").split("\n")
+    while reader.ahead:
+        begin = reader.count
+        document = reader.document()
+        texts = [line[2:] for line in lines[begin : reader.count] if line.startswith("I ")]
+        yield document, dict(enumerate(texts, 1))
+
+
+def said(output):
+    """The lines that are said of each document of an output, and whether its verdict is yes."""
+    parts = []
+    for line in output.decode("latin-1").splitlines():
+        if line.startswith("DOCUMENT "):
+            parts.append((bool(read(VERDICT, line)[1]), []))
+        else:
+            must(parts, f"before any verdict: {line}")
+            parts[-1][1].append(line)
+    return parts
+
+
+def texts(program, count, seed):
+    """Texts of documents by name."""
+    for path in sorted(glob.glob(os.path.join(ROOT, "examples/*.compass"))):
+        with open(path, "rb") as file:
+            source = file.read().decode("latin-1")
+        for words in [], ["--deep"]:
+            yield " ".join([os.path.basename(path), *words]), run([program, "prove", "--workers", "1", *words], source).stdout
+    maker = Maker(program, seed)
+    for number in range(count):
+        lines, (_, profile) = maker.document((0, 3, 50))
+        yield f"random {number}", "\n".join(lines + [""]).encode()
+        yield f"random {number} with facts", "\n".join(maker.with_facts(lines, profile) + [""]).encode()
+
+
+def main():
+    parser = argparse.ArgumentParser(description=__doc__.split("\n")[0])
+    parser.add_argument("program")
+    parser.add_argument("--count", type=int, default=100)
+    parser.add_argument("--seed", type=int, default=6600)
+    asked, passed, failed, kinds = parser.parse_args(), 0, 0, {}
+    for name, text in texts(asked.program, asked.count, asked.seed):
+        output = run([asked.program, "check", "--text"], text.decode("latin-1")).stdout
+        for (document, of_block), (yes, lines) in zip(documents(text), said(output), strict=True):
+            try:
+                must(yes or not lines, "said without a yes")
+                if yes:
+                    Texts(document, of_block, lines).all()
+                passed += 1
+                kind = next(iter(document.tree.values())).kind if yes else "NO"
+                kinds[kind] = kinds.get(kind, 0) + 1
+            except Wrong as wrong:
+                failed += 1
+                print(f"{name}: {wrong}")
+    print(", ".join(f"{count} {kind}" for kind, count in sorted(kinds.items())))
+    print(f"{passed} passed, {failed} failed")
+    return 1 if failed else 0
+
+
+if __name__ == "__main__":
+    sys.exit(main())
