@@ -1,5 +1,7 @@
 //! Why no order is faster, in sentences, by a certificate alone: what its leaf is checked by, number by number, or how many splits and
 //! facts it has.
+//!
+//! Nothing here bounds an order: numbers come from the document, and from what the checker computes of it (`s66_checker`, `s66_facts`).
 #![tactic(auto)]
 
 mod chain;

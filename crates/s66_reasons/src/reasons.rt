@@ -263,10 +263,11 @@ fn push_last_line(out: &mut Vec<u8>, time: u32, bound: u32) -> Result<(), AllocE
 /// is yes, with this time and this bound. `Err` is out of memory.
 ///
 /// A tree of one leaf is said in rows. Each has a minor cycle of 100 ns, right in four places, and what can't be sooner in any order; the
-/// last one reaches the bound, or in the case of parcels each. A tree that splits is counted. The last line says whether the order that
-/// the document has is best.
+/// last one reaches the bound, or in the case of parcels each. A leaf by facts comes after the fact lines. A tree that splits is counted.
+/// The last line says whether the order that the document has is best.
 ///
-/// It takes some looks at each line of the tree, and a chain the time of its links. Nothing is allocated but room in `out`.
+/// It takes some looks at each line of the tree or at each instruction; fact lines are taken in again, in the time that a verdict takes for
+/// them. Nothing is allocated but room in `out`.
 pub fn push_reasons(
     out: &mut Vec<u8>,
     document: &Document,
