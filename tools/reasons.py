@@ -16,13 +16,20 @@ import os
 import re
 import sys
 
+<<<<<<< HEAD
 from certificate import Known, Load, Pair, Problem, Reader, meet_in_memory, ORIGIN, END, FROM, TO
+=======
+from certificate import END, ORIGIN, Known, Load, Pair, Problem, Reader, meet_in_memory
+>>>>>>> 496f9dcbe4ad24f361721b215bef3a485326a5d0
 from compare_certificates import Maker, run
 
 ROOT = os.path.dirname(os.path.dirname(os.path.abspath(__file__)))
 NAMES = {"LONGADD": "Long Add"}
 NAMES.update((unit, unit.title()) for unit in "BOOLEAN SHIFT ADD MULTIPLY DIVIDE INCREMENT".split())
+<<<<<<< HEAD
 KINDS = {name: unit for unit, name in NAMES.items()}
+=======
+>>>>>>> 496f9dcbe4ad24f361721b215bef3a485326a5d0
 VERDICT = re.compile(r"DOCUMENT \d+ (YES TIME (\d+) BOUND (\d+)|NO LINE \d+ REASON \d+)")
 
 
@@ -71,10 +78,18 @@ class Texts:
         return int(n)
 
     def all(self):
+<<<<<<< HEAD
         must(self.line_of_bound(), "no bound")
         must(not self.lines, "lines too many")
 
     def line_of_bound(self):
+=======
+        self.said()
+        must(not self.lines, "lines too many")
+
+    def said(self):
+        """The first line, the rows and the last line."""
+>>>>>>> 496f9dcbe4ad24f361721b215bef3a485326a5d0
         tree, document = next(iter(self.document.tree.values())), self.document
         first, last = self.line(), self.lines.pop() if self.lines else ""
         head = f"Every order takes {document.bound} or more"
@@ -87,7 +102,10 @@ class Texts:
             {"C": self.chain, "U": self.load, "P": self.parcels, "E": self.path, "L": self.left}[tree.kind](tree.names)
         best = f"So the order of {document.time} is best."
         must(last == (best if document.time == document.bound else f"The order found takes {document.time}."), f"last line: {last}")
+<<<<<<< HEAD
         return True
+=======
+>>>>>>> 496f9dcbe4ad24f361721b215bef3a485326a5d0
 
     def reaches(self, number):
         must(number >= self.document.bound, f"{number} doesn't reach the bound")
@@ -125,7 +143,12 @@ class Texts:
         """Instructions that are said one after the other."""
         places = [found.start() for found in re.finditer(r"(?:(?<=^)|(?<=, )|(?<= and ))[0-9]+ [A-Z]{2}[0-7]", text)]
         parts = [text[a:b] for a, b in zip(places, places[1:] + [None])]
+<<<<<<< HEAD
         must(", ".join(parts[:0]) == "" and all(part.endswith(", ") for part in parts[:-2]), f"not listed: {text}")
+=======
+        ends = [", "] * (len(parts) - 2) + [" and "] * (len(parts) > 1)
+        must("".join(parts) == text and all(map(str.endswith, parts, ends)), f"not listed: {text}")
+>>>>>>> 496f9dcbe4ad24f361721b215bef3a485326a5d0
         return [self.number(re.sub("(, | and )$", "", part)) for part in parts]
 
     def uses(self, numbers, each, total):
@@ -158,6 +181,80 @@ class Texts:
             must(number == int(issue) + int(tail), f"{number} isn't the sum: {sentence}")
             self.reaches(number)
 
+<<<<<<< HEAD
+=======
+    def moment(self, moment):
+        return "the end" if moment == END else f"where {moment[1]} {moment[0]}s"
+
+    def load_sentence(self, load, sentence):
+        """Whether a sentence says what a load line does, with the numbers that its check has."""
+        begin = "From the beginning" if load.begin == ORIGIN else f"From {self.moment(load.begin)}"
+        unit, numbers, to = self.problem.block[load.numbers[0]].unit, load.numbers, self.moment(load.end)
+        copies, uses = self.problem.profile[unit], [self.problem.holds[n] + 1 for n in numbers]
+        time, name = self.problem.use_time(unit, uses), NAMES[unit]
+        if len(numbers) == 1:
+            said = r"{} it is {} or more until {} has its {} unit, and from there to {} it is ([0-9]+) or more: {}"
+            [rest] = read(said.format(begin, load.after, numbers[0], name, to, load.wait), sentence)
+            must(int(rest) == max(0, load.wait - load.after), f"{rest} isn't the rest: {sentence}")
+            return
+        said = r"{} it is {} or more until one of ([0-9, and]+) has its {} unit; these need {} for (.*?), ([0-9]+) in all{}(; so .*)"
+        side = "" if copies == 1 else f" and {time} side by side"
+        pronoun = "it" if copies == 1 else f"the {copies}"
+        names, each, total, last = read(said.format(begin, load.after, name, pronoun, side), sentence)
+        must(re.split(", | and ", names) == list(map(str, numbers)), f"other instructions: {sentence}")
+        self.uses(numbers, each, total)
+        if len(set(uses)) > 1:
+            must(last == f"; so with what is left after the last of them begins it is {load.wait} or more to {to}", f"not so: {sentence}")
+            return
+        said = r"; so the last of them begins at ([0-9]+) or later, and from there to {} it is ([0-9]+) or more: {}"
+        begins, rest = map(int, read(said.format(to, load.wait), last))
+        must(begins == load.after + time - uses[0] and rest == max(0, load.wait - begins), f"not the sum: {sentence}")
+
+    def pair_sentence(self, pair, sentence):
+        """Whether a sentence says why the second of a pair can't stand before the first."""
+        bound, m, n = self.document.bound, *pair
+        heads, tail = self.known.paths_from(ORIGIN), self.known.paths_to(END)["issue", m]
+        first, second, why = read("(.*) stands before (.*) in a faster order: (.*)", sentence)
+        must((self.number(first), self.number(second)) == (m, n), f"other instructions: {sentence}")
+        end = ", and from there to the end it is ([0-9]+) or more: ([0-9]+)"
+        parcels = self.problem.block[n].parcels
+        if heads["issue", n] + parcels + tail >= bound:
+            begin = f"{n} issues at ([0-9]+) or later; behind it {m} could issue {parcels} later"
+            until = heads["issue", n] + parcels
+        else:
+            must(self.problem.is_only_unit(n, m), f"not the only unit: {sentence}")
+            begin = f"{n} has the {NAMES[self.problem.block[n].unit]} unit until ([0-9]+) or later; behind it {m} could issue then"
+            parcels, until = 0, heads["free", n]
+        head, rest, all = map(int, read(begin + end, why))
+        must((head + parcels, all, rest) == (until, bound, max(0, bound - until)), f"not the sum: {sentence}")
+        must(rest <= tail, f"the path to the end is shorter: {sentence}")
+
+    def facts(self):
+        """The fact lines, each by what is known before it."""
+        for number, fact in enumerate(self.document.facts, 1):
+            place, sentence = read("  ([0-9]+)[.] (.*)", self.line())
+            must(int(place) == number, f"not number {number}: {sentence}")
+            (self.pair_sentence if isinstance(fact, Pair) else self.load_sentence)(fact, sentence)
+            must(self.known.add_fact(fact), f"not right: {sentence}")
+
+    def path(self, numbers):
+        self.facts()
+        [n] = numbers
+        number, sentence = self.row()
+        must(number == 0 and self.number(read("(.*) can issue", sentence)[0]) == n, f"another instruction: {sentence}")
+        number, sentence = self.row()
+        must(sentence == "the end, by the longest path from there", f"not the end: {sentence}")
+        must(number == self.document.bound <= self.known.next_value((), n), f"{number} isn't shown")
+
+    def left(self, names):
+        self.facts()
+        after, *numbers = names
+        number, sentence = self.row()
+        load = Load(ORIGIN, END, after, self.document.bound, numbers)
+        self.load_sentence(load, sentence)
+        must(number == self.document.bound and self.known.is_left((), load), f"{number} isn't shown")
+
+>>>>>>> 496f9dcbe4ad24f361721b215bef3a485326a5d0
 
 def documents(text):
     """The documents of a text, each with the texts of its instructions."""

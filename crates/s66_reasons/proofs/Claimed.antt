@@ -1,5 +1,9 @@
 -- What is known of a document whose verdict is yes, and whose tree is one leaf.
+<<<<<<< HEAD
 use Rattle.std.proofs.Common.{ℕ, suc, zero, ◌≡◌, ◌≤◌, ◌<◌, ◌&&◌, ◌∙◌, Bool, true, false, true≢false, cond, List, [], ◌∷◌, Option, None, Some, inl, inr, length, map, get_or, subst, sym, arith}
+=======
+use Rattle.std.proofs.Common.{ℕ, suc, zero, ◌≡◌, ◌≤◌, ◌<◌, ◌&&◌, ◌∙◌, Bool, true, false, true≢false, cond, not, List, [], ◌∷◌, Option, None, Some, inl, inr, length, map, get_or, subst, sym, arith}
+>>>>>>> 496f9dcbe4ad24f361721b215bef3a485326a5d0
 use Rattle.std.specs.Prelude.{nat_lt}
 use Rattle.std.proofs.lemmas.Bool.{and_parts, cases_Bool, ltb-true, not-false}
 use Rattle.std.proofs.lemmas.List.{length-map}
@@ -98,7 +102,11 @@ granted-first d time bound (AtSplit numbers) is holds first = tt
 granted-first d time bound (AtTerminal (Bounding Whole)) is holds first = tt
 granted-first d time bound (AtTerminal (Bounding (Chain numbers))) is holds first =
     let fits : TreeFits BLOCK_LIMIT (Alone (Bounding (Chain numbers))) = subst (TreeFits BLOCK_LIMIT) (alone d.tree (Bounding (Chain numbers)) first) is.tree in
+<<<<<<< HEAD
     (fits.1.0, chain-within (problem_of d) numbers (claimed-leaf BLOCK_LIMIT d time bound (Chain numbers) is holds first).0.1)
+=======
+    (fits.0, fits.1, chain-within (problem_of d) numbers (claimed-leaf BLOCK_LIMIT d time bound (Chain numbers) is holds first).0.1)
+>>>>>>> 496f9dcbe4ad24f361721b215bef3a485326a5d0
 granted-first d time bound (AtTerminal (Bounding (Load kind))) is holds first = tt
 granted-first d time bound (AtTerminal (Bounding Parcels)) is holds first = tt
 granted-first d time bound (AtTerminal (Dominated name)) is holds first = tt
@@ -109,4 +117,8 @@ granted-first d time bound (AtTerminal (AtLine line)) is holds first = tt
 granted-first d time bound (AtTerminal (LoadFrom after ns)) is holds first =
     let both = passes d time bound (LoadFrom after ns) holds first in
     let parts = granted-left d after ns both.1 in
+<<<<<<< HEAD
     (both.0, parts.0, omega (arith, parts.1.0, is.block.1.0, length-map d.block instr_in_text), parts.1.1)
+=======
+    (both.0, parts.0, omega (arith, parts.1, is.block.1, length-map d.block instr_in_text), parts.2)
+>>>>>>> 496f9dcbe4ad24f361721b215bef3a485326a5d0

@@ -1,7 +1,13 @@
 -- To be believed: fact lines in sentences, each number in them one that the line is checked by.
+<<<<<<< HEAD
 use Rattle.std.specs.Prelude.{ℕ, suc, ◌+◌, ◌-◌, ◌*◌, if◌then◌else◌, ◌==◌, List, [], ◌∷◌, ◌++◌, codes, decimal, get_or, length, map, Option, unwrap_or}
 use Rattle.s66_isa.specs.declared.instr.Kind.{Kind}
 use Rattle.s66_isa.specs.Lists.{greatest, weigh}
+=======
+use Rattle.std.specs.Prelude.{ℕ, ◌+◌, ◌-◌, ◌*◌, if◌then◌else◌, ◌==◌, List, [], ◌∷◌, ◌++◌, codes, decimal, get_or, length, map, Option, unwrap_or}
+use Rattle.s66_isa.specs.declared.instr.Kind.{Kind}
+use Rattle.s66_isa.specs.Lists.{weigh}
+>>>>>>> 496f9dcbe4ad24f361721b215bef3a485326a5d0
 use Rattle.s66_model.specs.Timing.{Problem, copies, row_at}
 use Rattle.s66_moments.specs.declared.moment.Stage.TheVariants.{Issue, Start, Done, Free}
 use Rattle.s66_moments.specs.declared.moment.Moment.{Moment}
@@ -14,7 +20,11 @@ use Rattle.s66_moments.specs.Known.{Known, arcs_of, is_late_by_parcels, kind_of_
 use Rattle.s66_cert.specs.Document.{Document}
 use Rattle.s66_checker.specs.Verdict.{problem_of}
 use Rattle.s66_reasons.specs.declared.work.Work.{Work}
+<<<<<<< HEAD
 use Rattle.s66_reasons.specs.Words.{each_words, instruction, listed, unit_name}
+=======
+use Rattle.s66_reasons.specs.Words.{each_words, instruction, listed, longest_use, unit_name}
+>>>>>>> 496f9dcbe4ad24f361721b215bef3a485326a5d0
 
 -- WHERE A LOAD BEGINS AND ENDS
 
@@ -42,6 +52,7 @@ work_of_load b ns =
       kind = kind_of_load b ns;
       copies = copies b (kind_of_load b ns);
       total = weigh (λ (u : Use). u.amount) (map (use_of b) ns);
+<<<<<<< HEAD
       most = greatest (λ n. (row_at b n).hold + 1) ns;
       time = use_time b (kind_of_load b ns) (map (use_of b) ns);
     }
@@ -63,11 +74,47 @@ abbrev pub last_words : Work → Moment → (after wait : ℕ) → List ℕ
 last_words w to after wait =
     codes "; so the last of them begins at " ++ decimal (after + w.time - w.most) ++ codes " or later, and from there to " ++ to_words to
     ++ codes " it is " ++ decimal (wait - (after + w.time - w.most)) ++ codes " or more: " ++ decimal wait
+=======
+      most = longest_use b ns;
+      time = use_time b (kind_of_load b ns) (map (use_of b) ns);
+    }
+
+-- where it leads, and how long it is from where the last use begins
+abbrev pub left_to : Moment → (rest wait : ℕ) → List ℕ
+left_to to rest wait = to_words to ++ codes " it is " ++ decimal rest ++ codes " or more: " ++ decimal wait
+
+abbrev pub one_words : Work → Moment → (after wait : ℕ) → ℕ → List ℕ
+one_words w to after wait n = decimal n ++ codes " has its " ++ unit_name w.kind ++ codes " unit, and from there to " ++ left_to to (wait - after) wait
+
+abbrev pub which_words : Work → List ℕ → List ℕ
+which_words w ns = codes "one of " ++ listed decimal ns ++ codes " has its " ++ unit_name w.kind ++ codes " unit"
+
+abbrev pub units_words : (copies : ℕ) → List ℕ
+units_words copies = if copies == 1 then codes "it" else codes "the " ++ decimal copies
+
+abbrev pub side_by_side : (copies time : ℕ) → List ℕ
+side_by_side copies time = if copies == 1 then [] else codes " and " ++ decimal time ++ codes " side by side"
+
+abbrev pub in_all : Work → List ℕ
+in_all w = decimal w.total ++ codes " in all" ++ side_by_side w.copies w.time
+
+abbrev pub need_words : Work → (count : ℕ) → List ℕ
+need_words w count = codes "; these need " ++ units_words w.copies ++ codes " for " ++ each_words count w.total w.most ++ codes ", " ++ in_all w
+
+-- the last of them begins its use when all others are over
+abbrev pub begins : Work → (after : ℕ) → ℕ
+begins w after = after + w.time - w.most
+
+abbrev pub last_words : Moment → (begins wait : ℕ) → List ℕ
+last_words to begins wait =
+    codes "; so the last of them begins at " ++ decimal begins ++ codes " or later, and from there to " ++ left_to to (wait - begins) wait
+>>>>>>> 496f9dcbe4ad24f361721b215bef3a485326a5d0
 
 -- if their uses differ
 abbrev pub mixed_words : Moment → (wait : ℕ) → List ℕ
 mixed_words to wait = codes "; so with what is left after the last of them begins it is " ++ decimal wait ++ codes " or more to " ++ to_words to
 
+<<<<<<< HEAD
 abbrev pub need_words : Work → List ℕ → List ℕ
 need_words w ns =
     codes "one of " ++ listed decimal ns ++ codes " has its " ++ unit_name w.kind ++ codes " unit; these need " ++ unit_pronoun w.copies
@@ -81,6 +128,20 @@ abbrev pub load_sentence : Problem → (from to : Moment) → (after wait : ℕ)
 load_sentence b from to after wait ns =
     from_words from ++ codes " it is " ++ decimal after ++ codes " or more until "
     ++ (if length ns == 1 then one_words (work_of_load b ns) to after wait (get_or ns 0 0) else many_words (work_of_load b ns) to after wait ns)
+=======
+abbrev pub so_words : Work → Moment → (after wait count : ℕ) → List ℕ
+so_words w to after wait count = if w.total == count * w.most then last_words to (begins w after) wait else mixed_words to wait
+
+abbrev pub many_words : Work → Moment → (after wait : ℕ) → List ℕ → List ℕ
+many_words w to after wait ns = which_words w ns ++ need_words w (length ns) ++ so_words w to after wait (length ns)
+
+abbrev pub until_words : Work → Moment → (after wait : ℕ) → List ℕ → List ℕ
+until_words w to after wait ns = if length ns == 1 then one_words w to after wait (get_or ns 0 0) else many_words w to after wait ns
+
+abbrev pub load_sentence : Problem → (from to : Moment) → (after wait : ℕ) → List ℕ → List ℕ
+load_sentence b from to after wait ns =
+    from_words from ++ (codes " it is " ++ decimal after ++ codes " or more until ") ++ until_words (work_of_load b ns) to after wait ns
+>>>>>>> 496f9dcbe4ad24f361721b215bef3a485326a5d0
 
 -- A FORCED PAIR: why the second can't stand before the first
 
@@ -91,6 +152,7 @@ soonest_known b arcs e = unwrap_or (span b arcs Origin e) 0
 abbrev pub rest_words : (bound rest : ℕ) → List ℕ
 rest_words bound rest = codes ", and from there to the end it is " ++ decimal rest ++ codes " or more: " ++ decimal bound
 
+<<<<<<< HEAD
 abbrev pub by_parcels : (bound soonest parcels m n : ℕ) → List ℕ
 by_parcels bound soonest parcels m n =
     decimal n ++ codes " issues at " ++ decimal soonest ++ codes " or later; behind it " ++ decimal m ++ codes " could issue " ++ decimal parcels
@@ -107,6 +169,35 @@ pair_sentence d arcs m n =
     ++ (if is_late_by_parcels (problem_of d) arcs d.bound m n
         then by_parcels d.bound (soonest_known (problem_of d) arcs (At n Issue)) (row_at (problem_of d) n).parcels m n
         else by_unit (row_at (problem_of d) n).kind d.bound (soonest_known (problem_of d) arcs (At n Free)) m n)
+=======
+abbrev pub issues_words : (soonest n : ℕ) → List ℕ
+issues_words soonest n = decimal n ++ codes " issues at " ++ (decimal soonest ++ codes " or later; behind it ")
+
+abbrev pub could_words : (parcels m : ℕ) → List ℕ
+could_words parcels m = decimal m ++ codes " could issue " ++ (decimal parcels ++ codes " later")
+
+abbrev pub by_parcels : (bound soonest parcels m n : ℕ) → List ℕ
+by_parcels bound soonest parcels m n = issues_words soonest n ++ could_words parcels m ++ rest_words bound (bound - soonest - parcels)
+
+abbrev pub has_words : Kind → (soonest n : ℕ) → List ℕ
+has_words kind soonest n =
+    decimal n ++ codes " has the " ++ unit_name kind ++ (codes " unit until " ++ decimal soonest ++ codes " or later; behind it ")
+
+abbrev pub by_unit : Kind → (bound soonest m n : ℕ) → List ℕ
+by_unit kind bound soonest m n = has_words kind soonest n ++ (decimal m ++ codes " could issue then") ++ rest_words bound (bound - soonest)
+
+abbrev pub pair_words : Document → ℕ → ℕ → List ℕ
+pair_words d m n = instruction d m ++ (codes " stands before " ++ instruction d n ++ codes " in a faster order: ")
+
+-- why it would be too late
+abbrev pub late_words : Problem → (bound : ℕ) → Network → ℕ → ℕ → List ℕ
+late_words b bound arcs m n =
+    if is_late_by_parcels b arcs bound m n then by_parcels bound (soonest_known b arcs (At n Issue)) (row_at b n).parcels m n
+    else by_unit (row_at b n).kind bound (soonest_known b arcs (At n Free)) m n
+
+abbrev pub pair_sentence : Document → Network → ℕ → ℕ → List ℕ
+pair_sentence d arcs m n = pair_words d m n ++ late_words (problem_of d) d.bound arcs m n
+>>>>>>> 496f9dcbe4ad24f361721b215bef3a485326a5d0
 
 -- ALL FACT LINES, numbered, each by what is known before it
 
@@ -114,7 +205,16 @@ abbrev pub fact_sentence : Document → Known → FactLine → List ℕ
 fact_sentence d known (fact.Pair m n) = pair_sentence d (arcs_of (problem_of d) known) m n
 fact_sentence d known (fact.Load line) = load_sentence (problem_of d) line.from line.to line.after line.wait line.numbers.items
 
+<<<<<<< HEAD
 abbrev pub facts_from : Document → Known → ℕ → List FactLine → List ℕ
 facts_from d known number [] = []
 facts_from d known number (line ∷ lines) =
     codes "  " ++ decimal number ++ codes ". " ++ fact_sentence d known line ++ codes "\n" ++ facts_from d (with_line known line) (suc number) lines
+=======
+abbrev pub numbered_fact : Document → Known → ℕ → FactLine → List ℕ
+numbered_fact d known number line = codes "  " ++ decimal number ++ codes ". " ++ fact_sentence d known line ++ codes "\n"
+
+abbrev pub facts_from : Document → Known → ℕ → List FactLine → List ℕ
+facts_from d known number [] = []
+facts_from d known number (line ∷ lines) = numbered_fact d known number line ++ facts_from d (with_line known line) (number + 1) lines
+>>>>>>> 496f9dcbe4ad24f361721b215bef3a485326a5d0

@@ -22,7 +22,11 @@ is_split (AtSplit numbers) = true
 abbrev pub IsGranted : Document → Vertex Ending → Type 0
 IsGranted d (AtSplit numbers) = Unit {0}
 IsGranted d (AtTerminal (Bounding Whole)) = Unit {0}
+<<<<<<< HEAD
 IsGranted d (AtTerminal (Bounding (Chain numbers))) = (length numbers ≤ BLOCK_LIMIT) × AreWithin (length (problem_of d).block) numbers
+=======
+IsGranted d (AtTerminal (Bounding (Chain numbers))) = (1 ≤ length numbers) × (length numbers ≤ BLOCK_LIMIT) × AreWithin (length (problem_of d).block) numbers
+>>>>>>> 496f9dcbe4ad24f361721b215bef3a485326a5d0
 IsGranted d (AtTerminal (Bounding (Load kind))) = Unit {0}
 IsGranted d (AtTerminal (Bounding Parcels)) = Unit {0}
 IsGranted d (AtTerminal (Dominated name)) = Unit {0}

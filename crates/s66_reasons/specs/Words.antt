@@ -1,8 +1,19 @@
 -- To be believed: words of which sentences are made, and rows.
+<<<<<<< HEAD
 use Rattle.std.specs.Prelude.{ℕ, zero, suc, ◌-◌, ◌*◌, if◌then◌else◌, ◌==◌, List, [], ◌∷◌, ◌++◌, codes, decimal, flat_map, get_or, length, replicate}
 use Rattle.s66_isa.specs.declared.instr.Kind.{Kind}
 use Rattle.s66_isa.specs.declared.instr.Kind.TheVariants.{Boolean, Shift, Add, LongAdd, Multiply, Divide, Increment}
 use Rattle.s66_isa.specs.declared.reg.Reg.{Reg}
+=======
+-- the examples open it, to compute numbers
+unfoldable pub use Rattle.std.specs.Fmt.{digits}
+use Rattle.std.specs.Prelude.{ℕ, zero, suc, ◌+◌, ◌-◌, ◌*◌, if◌then◌else◌, ◌==◌, List, [], ◌∷◌, ◌++◌, codes, decimal, flat_map, get_or, length, replicate}
+use Rattle.s66_isa.specs.declared.instr.Kind.{Kind}
+use Rattle.s66_isa.specs.declared.instr.Kind.TheVariants.{Boolean, Shift, Add, LongAdd, Multiply, Divide, Increment}
+use Rattle.s66_isa.specs.declared.reg.Reg.{Reg}
+use Rattle.s66_isa.specs.Lists.{greatest}
+use Rattle.s66_model.specs.Timing.{Problem, row_at}
+>>>>>>> 496f9dcbe4ad24f361721b215bef3a485326a5d0
 use Rattle.s66_why.specs.Why.{bank_name}
 use Rattle.s66_cert.specs.Document.{Document}
 
@@ -39,6 +50,13 @@ listed words (n ∷ ns) = words n ++ separator (length ns) ++ listed words ns
 abbrev pub counted : ℕ → List ℕ → List ℕ
 counted n word = decimal n ++ codes " " ++ word ++ (if n == 1 then [] else codes "s")
 
+<<<<<<< HEAD
+=======
+-- for how long one of these needs its unit at most
+abbrev pub longest_use : Problem → List ℕ → ℕ
+longest_use b ns = greatest (λ n. (row_at b n).hold + 1) ns
+
+>>>>>>> 496f9dcbe4ad24f361721b215bef3a485326a5d0
 -- for how long each of so many needs it, by what all need and what one does at most
 abbrev pub each_words : (count total most : ℕ) → List ℕ
 each_words count total most =

@@ -6,11 +6,19 @@ ghost use Rattle.s66_model.specs.Timing.{row_at};
 ghost use Rattle.s66_model.specs.Leaves.{link};
 ghost use Rattle.s66_cert.specs.DocumentParts.{document_of};
 ghost use Rattle.s66_checker.specs.Verdict.{problem_of};
+<<<<<<< HEAD
 ghost use Rattle.s66_reasons.specs.Reasons.{awaited, chain_rows, end_row, end_words, last_result, lasting, link_row, link_words};
 ghost use Rattle.s66_reasons.specs.Words.{row_text, rows_text};
 ghost use Rattle.s66_reasons.specs.Within.{AreWithin};
 
 use crate::words::{push_instruction, push_number, push_register};
+=======
+ghost use Rattle.s66_reasons.specs.Reasons.{awaited, chain_rows, end_row, end_words, last_result, lasting, link_row, link_words, walk_rows};
+ghost use Rattle.s66_reasons.specs.Words.{row_text, rows_text};
+ghost use Rattle.s66_reasons.specs.Within.{AreWithin};
+
+use crate::words::{push_around, push_instruction, push_number, push_register};
+>>>>>>> 496f9dcbe4ad24f361721b215bef3a485326a5d0
 use s66_cert::Document;
 use s66_checker::{link, tail, uses};
 use s66_isa::{Reg, Row, Write, has_register};
@@ -88,6 +96,7 @@ fn push_link_words(
     }
 }
 
+<<<<<<< HEAD
 /// The unit of n is free at last.
 fn push_unit_end(out: &mut Vec<u8>, document: &Document, n: u8) -> Result<(), AllocError>
     ensures { OnOk result (out.new.items ≡ out.old.items ++ end_words (document_of document.now) n None) }
@@ -97,6 +106,8 @@ fn push_unit_end(out: &mut Vec<u8>, document: &Document, n: u8) -> Result<(), Al
     out.extend_from_slice(b" is free, and that is the end")
 }
 
+=======
+>>>>>>> 496f9dcbe4ad24f361721b215bef3a485326a5d0
 /// A result of n is there at last.
 fn push_result_end(
     out: &mut Vec<u8>,
@@ -122,7 +133,14 @@ fn push_end_words(
     ensures { OnOk result (out.new.items ≡ out.old.items ++ end_words (document_of document.now) n last) }
 {
     match last {
+<<<<<<< HEAD
         None => push_unit_end(out, document, n),
+=======
+        None => {
+            let after = b" is free, and that is the end";
+            push_around(out, b"the unit of ", document, n, after)
+        }
+>>>>>>> 496f9dcbe4ad24f361721b215bef3a485326a5d0
         Some(which) => push_result_end(out, document, n, which),
     }
 }
@@ -170,6 +188,43 @@ fn push_end(
     out.extend_from_slice(b"\n")
 }
 
+<<<<<<< HEAD
+=======
+/// How long n waits from the start of m.
+fn wait_between(prefix: &Prefix, m: u8, n: u8) -> u32
+    requires m { (1 ≤ m) × (m ≤ length prefix.now.problem.block) }
+    requires n { (1 ≤ n) × (n ≤ length prefix.now.problem.block) }
+    ensures { result ≡ link (row_at prefix.now.problem m) (row_at prefix.now.problem n) }
+{
+    link(prefix.row(m), prefix.row(n))
+}
+
+/// The rows of a chain of these numbers after the first.
+fn push_walk(
+    out: &mut Vec<u8>,
+    document: &Document,
+    prefix: &Prefix,
+    first: u8,
+    later: &[u8],
+) -> Result<(), AllocError>
+    requires problem { prefix.now.problem ≡ problem_of (document_of document.now) }
+    requires few { length later.now ≤ BLOCK_LIMIT }
+    requires first { (1 ≤ first) × (first ≤ length prefix.now.problem.block) }
+    requires within { AreWithin (length prefix.now.problem.block) later.now }
+    ensures { OnOk result (out.new.items ≡ out.old.items ++ rows_text (walk_rows (document_of document.now) 0 first later.now)) }
+{
+    let mut last = first;
+    let mut start = 0;
+    for n in later {
+        let wait = wait_between(prefix, last, *n);
+        push_link(out, document, prefix, start, wait, last, *n)?;
+        start += wait as usize;
+        last = *n;
+    }
+    push_end(out, document, prefix, start, last)
+}
+
+>>>>>>> 496f9dcbe4ad24f361721b215bef3a485326a5d0
 /// The rows of a chain of these numbers.
 pub(crate) fn push_chain(
     out: &mut Vec<u8>,
@@ -178,10 +233,15 @@ pub(crate) fn push_chain(
     numbers: &[u8],
 ) -> Result<(), AllocError>
     requires problem { prefix.now.problem ≡ problem_of (document_of document.now) }
+<<<<<<< HEAD
+=======
+    requires some { 1 ≤ length numbers.now }
+>>>>>>> 496f9dcbe4ad24f361721b215bef3a485326a5d0
     requires few { length numbers.now ≤ BLOCK_LIMIT }
     requires within { AreWithin (length prefix.now.problem.block) numbers.now }
     ensures { OnOk result (out.new.items ≡ out.old.items ++ rows_text (chain_rows (document_of document.now) numbers.now)) }
 {
+<<<<<<< HEAD
     let Some((first, later)) = numbers.split_first() else {
         return Ok(());
     };
@@ -194,4 +254,7 @@ pub(crate) fn push_chain(
         last = *n;
     }
     push_end(out, document, prefix, start, last)
+=======
+    push_walk(out, document, prefix, numbers[0], &numbers[1..])
+>>>>>>> 496f9dcbe4ad24f361721b215bef3a485326a5d0
 }

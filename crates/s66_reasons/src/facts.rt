@@ -1,5 +1,6 @@
 //! Fact lines in sentences, each by what is known before it.
 
+<<<<<<< HEAD
 ghost use Rattle.std.specs.Prelude.{◌≡◌, ◌≤◌, ◌<◌, ◌++◌, [], true, OnOk, Some, decimal, length};
 ghost use Rattle.s66_isa.specs.declared.limits.TheConstants.{BLOCK_LIMIT};
 ghost use Rattle.s66_isa.specs.Lists.{every};
@@ -7,21 +8,44 @@ ghost use Rattle.s66_model.specs.LegalOrder.{is_remaining};
 ghost use Rattle.s66_moments.specs.Facts.{IsNumber};
 ghost use Rattle.s66_moments.specs.Known.{arcs_of, is_taken, known_first, plus, reaches};
 ghost use Rattle.s66_facts.specs.Ground.{known_of as known_in};
+=======
+ghost use Rattle.std.specs.Prelude.{◌≡◌, ◌≤◌, ◌<◌, ◌+◌, ◌++◌, [], true, OnOk, Some, decimal, length};
+ghost use Rattle.s66_isa.specs.declared.limits.TheConstants.{BLOCK_LIMIT};
+ghost use Rattle.s66_isa.specs.Lists.{every};
+ghost use Rattle.s66_model.specs.Timing.{row_at};
+ghost use Rattle.s66_model.specs.LegalOrder.{is_remaining};
+ghost use Rattle.s66_moments.specs.declared.fact_line.FactLine.TheVariants.{Load};
+ghost use Rattle.s66_moments.specs.Facts.{IsNumber};
+ghost use Rattle.s66_moments.specs.Known.{arcs_of, is_taken, known_first, plus, reaches, with_line};
+ghost use Rattle.s66_facts.specs.Ground.{known_of as known_in};
+ghost use Rattle.s66_cert.specs.declared.limits.TheConstants.{FACT_LIMIT};
+>>>>>>> 496f9dcbe4ad24f361721b215bef3a485326a5d0
 ghost use Rattle.s66_cert.specs.DocumentParts.{document_of};
 ghost use Rattle.s66_checker.specs.KeptKnown.{AreTaken};
 ghost use Rattle.s66_checker.specs.Verdict.{facts_of, problem_of};
 ghost use Rattle.s66_reasons.specs.Words.{listed};
+<<<<<<< HEAD
 ghost use Rattle.s66_reasons.specs.FactWords.{by_parcels, by_unit, fact_sentence, facts_from, from_words, last_words, load_sentence, many_words, mixed_words, need_words, one_words, pair_sentence, rest_words, share_words, to_words, unit_pronoun};
 
 use crate::units::push_each;
 use crate::words::{push_between, push_instruction, separator, unit_name};
+=======
+ghost use Rattle.s66_reasons.specs.FactWords.{begins, by_parcels, by_unit, could_words, fact_sentence, facts_from, from_words, has_words, in_all, issues_words, last_words, late_words, left_to, load_sentence, many_words, mixed_words, need_words, numbered_fact, one_words, pair_sentence, pair_words, rest_words, side_by_side, so_words, to_words, units_words, until_words, which_words};
+
+use crate::units::{kind_of, push_each};
+use crate::words::{push_around, push_between, push_instruction, separator, unit_name};
+>>>>>>> 496f9dcbe4ad24f361721b215bef3a485326a5d0
 use crate::work::Work;
 use s66_cert::Document;
 use s66_checker::{fact_lines, take};
 use s66_device::push_field;
 use s66_facts::Facts;
 use s66_isa::Kind;
+<<<<<<< HEAD
 use s66_moments::{FactLine, Moment, Stage};
+=======
+use s66_moments::{FactLine, LoadLine, Moment, Stage};
+>>>>>>> 496f9dcbe4ad24f361721b215bef3a485326a5d0
 use s66_replay::Prefix;
 use std::alloc::AllocError;
 
@@ -49,7 +73,20 @@ fn push_to(out: &mut Vec<u8>, moment: &Moment) -> Result<(), AllocError>
     }
 }
 
+<<<<<<< HEAD
 /// Where the load of one instruction ends.
+=======
+/// How long it is from where the last use begins to where a load ends, which so comes so long after.
+fn push_left_to(out: &mut Vec<u8>, to: &Moment, rest: usize, wait: u32) -> Result<(), AllocError>
+    ensures { OnOk result (out.new.items ≡ out.old.items ++ left_to to.now rest wait) }
+{
+    push_to(out, to)?;
+    push_field(out, b" it is ", rest)?;
+    push_field(out, b" or more: ", wait as usize)
+}
+
+/// A load of one instruction.
+>>>>>>> 496f9dcbe4ad24f361721b215bef3a485326a5d0
 fn push_one(
     out: &mut Vec<u8>,
     work: &Work,
@@ -60,6 +97,7 @@ fn push_one(
 ) -> Result<(), AllocError>
     ensures { OnOk result (out.new.items ≡ out.old.items ++ one_words work.now to.now after wait n) }
 {
+<<<<<<< HEAD
     push_field(out, b"", n as usize)?;
     out.extend_from_slice(b" has its ")?;
     out.extend_from_slice(unit_name(work.kind))?;
@@ -72,6 +110,17 @@ fn push_one(
 /// How many units instructions share, in a word or two.
 fn push_pronoun(out: &mut Vec<u8>, copies: u32) -> Result<(), AllocError>
     ensures { OnOk result (out.new.items ≡ out.old.items ++ unit_pronoun copies) }
+=======
+    push_between(out, b"", n as usize, b" has its ")?;
+    out.extend_from_slice(unit_name(work.kind))?;
+    out.extend_from_slice(b" unit, and from there to ")?;
+    push_left_to(out, to, wait.saturating_sub(after) as usize, wait)
+}
+
+/// Which units instructions share.
+fn push_units(out: &mut Vec<u8>, copies: u32) -> Result<(), AllocError>
+    ensures { OnOk result (out.new.items ≡ out.old.items ++ units_words copies) }
+>>>>>>> 496f9dcbe4ad24f361721b215bef3a485326a5d0
 {
     if copies == 1 {
         out.extend_from_slice(b"it")
@@ -80,6 +129,7 @@ fn push_pronoun(out: &mut Vec<u8>, copies: u32) -> Result<(), AllocError>
     }
 }
 
+<<<<<<< HEAD
 /// What all need, and for how long the units work on it.
 fn push_share(out: &mut Vec<u8>, work: &Work) -> Result<(), AllocError>
     ensures { OnOk result (out.new.items ≡ out.old.items ++ share_words work.now) }
@@ -107,6 +157,41 @@ fn push_last(
     push_to(out, to)?;
     push_field(out, b" it is ", (wait as usize).saturating_sub(begins))?;
     push_field(out, b" or more: ", wait as usize)
+=======
+/// For how long the units work, if there are several.
+fn push_side_by_side(out: &mut Vec<u8>, copies: u32, time: u32) -> Result<(), AllocError>
+    ensures { OnOk result (out.new.items ≡ out.old.items ++ side_by_side copies time) }
+{
+    if copies == 1 {
+        Ok(())
+    } else {
+        push_between(out, b" and ", time as usize, b" side by side")
+    }
+}
+
+/// What all need, and for how long the units work on it.
+fn push_in_all(out: &mut Vec<u8>, work: &Work) -> Result<(), AllocError>
+    ensures { OnOk result (out.new.items ≡ out.old.items ++ in_all work.now) }
+{
+    push_between(out, b"", work.total as usize, b" in all")?;
+    push_side_by_side(out, work.copies, work.time)
+}
+
+/// When the last of some instructions begins its use, if units begin to work at `after`.
+fn begins(work: &Work, after: u32) -> usize
+    ensures { result ≡ begins work.now after }
+{
+    (after as usize + work.time as usize).saturating_sub(work.most as usize)
+}
+
+/// What is left after the last of some instructions that need a unit for as long.
+fn push_last(out: &mut Vec<u8>, to: &Moment, begins: usize, wait: u32) -> Result<(), AllocError>
+    ensures { OnOk result (out.new.items ≡ out.old.items ++ last_words to.now begins wait) }
+{
+    let start = b"; so the last of them begins at ";
+    push_between(out, start, begins, b" or later, and from there to ")?;
+    push_left_to(out, to, (wait as usize).saturating_sub(begins), wait)
+>>>>>>> 496f9dcbe4ad24f361721b215bef3a485326a5d0
 }
 
 /// The same, if they need it for different times.
@@ -119,6 +204,28 @@ fn push_mixed(out: &mut Vec<u8>, to: &Moment, wait: u32) -> Result<(), AllocErro
     push_to(out, to)
 }
 
+<<<<<<< HEAD
+=======
+/// What follows of what so many instructions need.
+fn push_so(
+    out: &mut Vec<u8>,
+    work: &Work,
+    to: &Moment,
+    after: u32,
+    wait: u32,
+    count: usize,
+) -> Result<(), AllocError>
+    requires { count ≤ BLOCK_LIMIT }
+    ensures { OnOk result (out.new.items ≡ out.old.items ++ so_words work.now to.now after wait count) }
+{
+    if work.total as usize == count * work.most as usize {
+        push_last(out, to, begins(work, after), wait)
+    } else {
+        push_mixed(out, to, wait)
+    }
+}
+
+>>>>>>> 496f9dcbe4ad24f361721b215bef3a485326a5d0
 /// Numbers, one after the other.
 fn push_numbers(out: &mut Vec<u8>, numbers: &[u8]) -> Result<(), AllocError>
     ensures { OnOk result (out.new.items ≡ out.old.items ++ listed decimal numbers.now) }
@@ -130,15 +237,22 @@ fn push_numbers(out: &mut Vec<u8>, numbers: &[u8]) -> Result<(), AllocError>
     Ok(())
 }
 
+<<<<<<< HEAD
 /// Which instructions a load has, and what they need.
 fn push_need(out: &mut Vec<u8>, work: &Work, numbers: &[u8]) -> Result<(), AllocError>
     requires { length numbers.now ≤ BLOCK_LIMIT }
     ensures { OnOk result (out.new.items ≡ out.old.items ++ need_words work.now numbers.now) }
+=======
+/// Which instructions a load has.
+fn push_which(out: &mut Vec<u8>, work: &Work, numbers: &[u8]) -> Result<(), AllocError>
+    ensures { OnOk result (out.new.items ≡ out.old.items ++ which_words work.now numbers.now) }
+>>>>>>> 496f9dcbe4ad24f361721b215bef3a485326a5d0
 {
     out.extend_from_slice(b"one of ")?;
     push_numbers(out, numbers)?;
     out.extend_from_slice(b" has its ")?;
     out.extend_from_slice(unit_name(work.kind))?;
+<<<<<<< HEAD
     out.extend_from_slice(b" unit; these need ")?;
     push_pronoun(out, work.copies)?;
     out.extend_from_slice(b" for ")?;
@@ -148,6 +262,25 @@ fn push_need(out: &mut Vec<u8>, work: &Work, numbers: &[u8]) -> Result<(), Alloc
 }
 
 /// Where the load of several instructions ends.
+=======
+    out.extend_from_slice(b" unit")
+}
+
+/// What so many need.
+fn push_need(out: &mut Vec<u8>, work: &Work, count: usize) -> Result<(), AllocError>
+    requires { count ≤ BLOCK_LIMIT }
+    ensures { OnOk result (out.new.items ≡ out.old.items ++ need_words work.now count) }
+{
+    out.extend_from_slice(b"; these need ")?;
+    push_units(out, work.copies)?;
+    out.extend_from_slice(b" for ")?;
+    push_each(out, count, work.total, work.most)?;
+    out.extend_from_slice(b", ")?;
+    push_in_all(out, work)
+}
+
+/// A load of several instructions.
+>>>>>>> 496f9dcbe4ad24f361721b215bef3a485326a5d0
 fn push_many(
     out: &mut Vec<u8>,
     work: &Work,
@@ -159,11 +292,35 @@ fn push_many(
     requires { length numbers.now ≤ BLOCK_LIMIT }
     ensures { OnOk result (out.new.items ≡ out.old.items ++ many_words work.now to.now after wait numbers.now) }
 {
+<<<<<<< HEAD
     push_need(out, work, numbers)?;
     if work.total as usize == numbers.len() * work.most as usize {
         push_last(out, work, to, after, wait)
     } else {
         push_mixed(out, to, wait)
+=======
+    push_which(out, work, numbers)?;
+    push_need(out, work, numbers.len())?;
+    push_so(out, work, to, after, wait, numbers.len())
+}
+
+/// A load up to where its first use begins, and from there on.
+fn push_until(
+    out: &mut Vec<u8>,
+    work: &Work,
+    to: &Moment,
+    after: u32,
+    wait: u32,
+    numbers: &[u8],
+) -> Result<(), AllocError>
+    requires { length numbers.now ≤ BLOCK_LIMIT }
+    ensures { OnOk result (out.new.items ≡ out.old.items ++ until_words work.now to.now after wait numbers.now) }
+{
+    if numbers.len() == 1 {
+        push_one(out, work, to, after, wait, numbers[0])
+    } else {
+        push_many(out, work, to, after, wait, numbers)
+>>>>>>> 496f9dcbe4ad24f361721b215bef3a485326a5d0
     }
 }
 
@@ -185,6 +342,7 @@ pub(crate) fn push_load_sentence(
 {
     let work = Work::of(prefix, numbers);
     push_from(out, from)?;
+<<<<<<< HEAD
     push_field(out, b" it is ", after as usize)?;
     out.extend_from_slice(b" or more until ")?;
     if numbers.len() == 1 {
@@ -192,6 +350,10 @@ pub(crate) fn push_load_sentence(
     } else {
         push_many(out, &work, to, after, wait, numbers)
     }
+=======
+    push_between(out, b" it is ", after as usize, b" or more until ")?;
+    push_until(out, &work, to, after, wait, numbers)
+>>>>>>> 496f9dcbe4ad24f361721b215bef3a485326a5d0
 }
 
 /// What is left to the end, so that the bound is reached.
@@ -202,6 +364,39 @@ fn push_rest(out: &mut Vec<u8>, bound: u32, rest: u64) -> Result<(), AllocError>
     push_field(out, b" or more: ", bound as usize)
 }
 
+<<<<<<< HEAD
+=======
+/// When n issues at the soonest.
+fn push_issues(out: &mut Vec<u8>, soonest: u64, n: u8) -> Result<(), AllocError>
+    ensures { OnOk result (out.new.items ≡ out.old.items ++ issues_words soonest n) }
+{
+    push_between(out, b"", n as usize, b" issues at ")?;
+    push_between(out, b"", soonest as usize, b" or later; behind it ")
+}
+
+/// When m could issue after it.
+fn push_could(out: &mut Vec<u8>, parcels: u32, m: u8) -> Result<(), AllocError>
+    ensures { OnOk result (out.new.items ≡ out.old.items ++ could_words parcels m) }
+{
+    push_between(out, b"", m as usize, b" could issue ")?;
+    push_between(out, b"", parcels as usize, b" later")
+}
+
+/// Until when n has the only unit of a kind at the soonest.
+fn push_has(out: &mut Vec<u8>, kind: Kind, soonest: u64, n: u8) -> Result<(), AllocError>
+    ensures { OnOk result (out.new.items ≡ out.old.items ++ has_words kind soonest n) }
+{
+    push_between(out, b"", n as usize, b" has the ")?;
+    out.extend_from_slice(unit_name(kind))?;
+    push_between(
+        out,
+        b" unit until ",
+        soonest as usize,
+        b" or later; behind it ",
+    )
+}
+
+>>>>>>> 496f9dcbe4ad24f361721b215bef3a485326a5d0
 /// Why m can't stand behind n, by the parcels of n, which issues at `soonest` at the soonest.
 fn push_by_parcels(
     out: &mut Vec<u8>,
@@ -213,12 +408,20 @@ fn push_by_parcels(
 ) -> Result<(), AllocError>
     ensures { OnOk result (out.new.items ≡ out.old.items ++ by_parcels bound soonest parcels m n) }
 {
+<<<<<<< HEAD
     push_field(out, b"", n as usize)?;
     push_field(out, b" issues at ", soonest as usize)?;
     push_field(out, b" or later; behind it ", m as usize)?;
     push_field(out, b" could issue ", parcels as usize)?;
     out.extend_from_slice(b" later")?;
     let rest = (bound as u64).saturating_sub(soonest).saturating_sub(parcels as u64);
+=======
+    push_issues(out, soonest, n)?;
+    push_could(out, parcels, m)?;
+    let rest = (bound as u64)
+        .saturating_sub(soonest)
+        .saturating_sub(parcels as u64);
+>>>>>>> 496f9dcbe4ad24f361721b215bef3a485326a5d0
     push_rest(out, bound, rest)
 }
 
@@ -233,6 +436,7 @@ fn push_by_unit(
 ) -> Result<(), AllocError>
     ensures { OnOk result (out.new.items ≡ out.old.items ++ by_unit kind bound soonest m n) }
 {
+<<<<<<< HEAD
     push_field(out, b"", n as usize)?;
     out.extend_from_slice(b" has the ")?;
     out.extend_from_slice(unit_name(kind))?;
@@ -242,19 +446,82 @@ fn push_by_unit(
     push_rest(out, bound, (bound as u64).saturating_sub(soonest))
 }
 
+=======
+    push_has(out, kind, soonest, n)?;
+    push_between(out, b"", m as usize, b" could issue then")?;
+    push_rest(out, bound, (bound as u64).saturating_sub(soonest))
+}
+
+/// How many parcels an instruction has.
+fn parcels_of(prefix: &Prefix, n: u8) -> u32
+    requires { (1 ≤ n) × (n ≤ length prefix.now.problem.block) }
+    ensures { result ≡ (row_at prefix.now.problem n).parcels }
+{
+    prefix.row(n).parcels
+}
+
+>>>>>>> 496f9dcbe4ad24f361721b215bef3a485326a5d0
 /// Whether a path through parcels reaches the bound.
 fn is_late_by_parcels(bound: u32, head: Option<u64>, parcels: u32, tail: Option<u64>) -> bool
     ensures { result ≡ reaches bound (plus (plus head (Some parcels)) tail) }
 {
     match (head, tail) {
         (Some(head), Some(tail)) => {
+<<<<<<< HEAD
             (bound as u64).saturating_sub(head).saturating_sub(parcels as u64) <= tail
+=======
+            (bound as u64)
+                .saturating_sub(head)
+                .saturating_sub(parcels as u64)
+                <= tail
+>>>>>>> 496f9dcbe4ad24f361721b215bef3a485326a5d0
         }
         _ => false,
     }
 }
 
+<<<<<<< HEAD
 /// Why m stands before n, which would make it too late if it stood before m.
+=======
+/// That m stands before n.
+fn push_pair_words(out: &mut Vec<u8>, document: &Document, m: u8, n: u8) -> Result<(), AllocError>
+    ensures { OnOk result (out.new.items ≡ out.old.items ++ pair_words (document_of document.now) m n) }
+{
+    push_instruction(out, document, m)?;
+    push_around(
+        out,
+        b" stands before ",
+        document,
+        n,
+        b" in a faster order: ",
+    )
+}
+
+/// Why m would be too late for the bound behind n.
+fn push_late(
+    out: &mut Vec<u8>,
+    bound: u32,
+    prefix: &Prefix,
+    facts: &Facts,
+    m: u8,
+    n: u8,
+) -> Result<(), AllocError>
+    requires same { prefix.now.problem ≡ facts.now.problem }
+    requires m { IsNumber facts.now.problem m }
+    requires n { IsNumber facts.now.problem n }
+    ensures { OnOk result (out.new.items ≡ out.old.items ++ late_words facts.now.problem bound (arcs_of facts.now.problem (known_in facts.now)) m n) }
+{
+    let head = facts.head(n);
+    let parcels = parcels_of(prefix, n);
+    if is_late_by_parcels(bound, head.issue, parcels, facts.tail(m).issue) {
+        push_by_parcels(out, bound, head.issue.unwrap_or(0), parcels, m, n)
+    } else {
+        push_by_unit(out, kind_of(prefix, n), bound, head.free.unwrap_or(0), m, n)
+    }
+}
+
+/// Why m stands before n, by what is known.
+>>>>>>> 496f9dcbe4ad24f361721b215bef3a485326a5d0
 fn push_pair(
     out: &mut Vec<u8>,
     document: &Document,
@@ -263,6 +530,7 @@ fn push_pair(
     m: u8,
     n: u8,
 ) -> Result<(), AllocError>
+<<<<<<< HEAD
     requires problem { facts.now.problem ≡ problem_of (document_of document.now) }
     requires same { prefix.now.problem ≡ problem_of (document_of document.now) }
     requires m { IsNumber facts.now.problem m }
@@ -284,6 +552,38 @@ fn push_pair(
 }
 
 /// A fact line, by what is known before it.
+=======
+    requires same { prefix.now.problem ≡ facts.now.problem }
+    requires problem { facts.now.problem ≡ problem_of (document_of document.now) }
+    requires m { IsNumber facts.now.problem m }
+    requires n { IsNumber facts.now.problem n }
+    ensures { OnOk result (out.new.items ≡ out.old.items ++ pair_sentence (document_of document.now) (arcs_of (problem_of (document_of document.now)) (known_in facts.now)) m n) }
+{
+    push_pair_words(out, document, m, n)?;
+    push_late(out, document.bound(), prefix, facts, m, n)
+}
+
+/// A load line that is right.
+fn push_load_fact(
+    out: &mut Vec<u8>,
+    prefix: &Prefix,
+    facts: &Facts,
+    bound: u32,
+    load: &LoadLine,
+) -> Result<(), AllocError>
+    requires same { prefix.now.problem ≡ facts.now.problem }
+    requires start { prefix.now.numbers ≡ [] }
+    requires taken { is_taken facts.now.problem bound (known_in facts.now) (Load load.now) ≡ true }
+    ensures { OnOk result (out.new.items ≡ out.old.items ++ load_sentence prefix.now.problem load.now.from load.now.to load.now.after load.now.wait load.now.numbers.items) }
+{
+    let numbers = load.numbers.as_slice();
+    push_load_sentence(
+        out, prefix, &load.from, &load.to, load.after, load.wait, numbers,
+    )
+}
+
+/// A fact line that is right by what is known before it.
+>>>>>>> 496f9dcbe4ad24f361721b215bef3a485326a5d0
 fn push_fact(
     out: &mut Vec<u8>,
     document: &Document,
@@ -291,12 +591,18 @@ fn push_fact(
     facts: &Facts,
     line: &FactLine,
 ) -> Result<(), AllocError>
+<<<<<<< HEAD
     requires start { prefix.now ≡ record { problem = problem_of (document_of document.now); numbers = [] } }
+=======
+    requires same { prefix.now.problem ≡ facts.now.problem }
+    requires start { prefix.now.numbers ≡ [] }
+>>>>>>> 496f9dcbe4ad24f361721b215bef3a485326a5d0
     requires problem { facts.now.problem ≡ problem_of (document_of document.now) }
     requires taken { is_taken facts.now.problem (document_of document.now).bound (known_in facts.now) line.now ≡ true }
     ensures { OnOk result (out.new.items ≡ out.old.items ++ fact_sentence (document_of document.now) (known_in facts.now) line.now) }
 {
     match line {
+<<<<<<< HEAD
         FactLine::Pair(first, second) => {
             push_pair(out, document, prefix, facts, *first, *second)
         }
@@ -312,6 +618,44 @@ fn push_fact(
     }
 }
 
+=======
+        FactLine::Pair(first, second) => push_pair(out, document, prefix, facts, *first, *second),
+        FactLine::Load(load) => push_load_fact(out, prefix, facts, document.bound(), load),
+    }
+}
+
+/// The same, with a number.
+fn push_numbered(
+    out: &mut Vec<u8>,
+    document: &Document,
+    prefix: &Prefix,
+    facts: &Facts,
+    number: usize,
+    line: &FactLine,
+) -> Result<(), AllocError>
+    requires same { prefix.now.problem ≡ facts.now.problem }
+    requires start { prefix.now.numbers ≡ [] }
+    requires problem { facts.now.problem ≡ problem_of (document_of document.now) }
+    requires taken { is_taken facts.now.problem (document_of document.now).bound (known_in facts.now) line.now ≡ true }
+    ensures { OnOk result (out.new.items ≡ out.old.items ++ numbered_fact (document_of document.now) (known_in facts.now) number line.now) }
+{
+    push_between(out, b"  ", number, b". ")?;
+    push_fact(out, document, prefix, facts, line)?;
+    out.extend_from_slice(b"\n")
+}
+
+/// Takes in a fact line that is right.
+fn take_right(facts: &mut Facts, bound: u32, line: &FactLine)
+    requires room { length (known_in facts.old).loads < FACT_LIMIT }
+    requires right { is_taken facts.old.problem bound (known_in facts.old) line.now ≡ true }
+    ensures problem { facts.new.problem ≡ facts.old.problem }
+    ensures known { known_in facts.new ≡ with_line (known_in facts.old) line.now }
+    ensures one_more { length (known_in facts.new).loads ≤ length (known_in facts.old).loads + 1 }
+{
+    take(facts, bound, line);
+}
+
+>>>>>>> 496f9dcbe4ad24f361721b215bef3a485326a5d0
 /// All fact lines of a document, numbered.
 pub(crate) fn push_facts(
     out: &mut Vec<u8>,
@@ -319,12 +663,18 @@ pub(crate) fn push_facts(
     prefix: &Prefix,
     mut facts: Facts,
 ) -> Result<(), AllocError>
+<<<<<<< HEAD
     requires start { prefix.now ≡ record { problem = problem_of (document_of document.now); numbers = [] } }
+=======
+    requires same { prefix.now.problem ≡ problem_of (document_of document.now) }
+    requires start { prefix.now.numbers ≡ [] }
+>>>>>>> 496f9dcbe4ad24f361721b215bef3a485326a5d0
     requires problem { facts.problem ≡ problem_of (document_of document.now) }
     requires known { known_in facts ≡ known_first (problem_of (document_of document.now)) }
     requires taken { AreTaken (document_of document.now) }
     ensures { OnOk result (out.new.items ≡ out.old.items ++ facts_from (document_of document.now) (known_first (problem_of (document_of document.now))) 1 (facts_of (document_of document.now))) }
 {
+<<<<<<< HEAD
     let lines = fact_lines(document);
     for place in 0..lines.len() {
         push_field(out, b"  ", place + 1)?;
@@ -332,6 +682,15 @@ pub(crate) fn push_facts(
         push_fact(out, document, prefix, &facts, &lines[place])?;
         out.extend_from_slice(b"\n")?;
         take(&mut facts, document.bound(), &lines[place]);
+=======
+    let bound = document.bound();
+    let mut number = 0;
+    let lines = fact_lines(document);
+    for line in lines {
+        number += 1;
+        push_numbered(out, document, prefix, &facts, number, line)?;
+        take_right(&mut facts, bound, line);
+>>>>>>> 496f9dcbe4ad24f361721b215bef3a485326a5d0
     }
     Ok(())
 }

@@ -7,6 +7,7 @@ ghost use Rattle.s66_model.specs.Timing.{row_at};
 ghost use Rattle.s66_model.specs.LegalOrder.{sum_remaining};
 ghost use Rattle.s66_cert.specs.DocumentParts.{document_of};
 ghost use Rattle.s66_checker.specs.Verdict.{problem_of};
+<<<<<<< HEAD
 ghost use Rattle.s66_reasons.specs.Reasons.{last_row};
 ghost use Rattle.s66_reasons.specs.Words.{row_text, rows_text};
 
@@ -17,6 +18,32 @@ use s66_device::push_field;
 use s66_replay::Prefix;
 use std::alloc::AllocError;
 
+=======
+ghost use Rattle.s66_reasons.specs.Words.{row_text, rows_text};
+ghost use Rattle.s66_reasons.specs.Reasons.{if_last_words, last_row};
+
+use crate::words::{push_around, push_between, push_number};
+use s66_cert::Document;
+use s66_checker::{own_parcels, remaining_parcels, tail};
+use s66_replay::Prefix;
+use std::alloc::AllocError;
+
+/// When the end is if n issues last, in this slot, and takes this time.
+fn push_if_last(
+    out: &mut Vec<u8>,
+    document: &Document,
+    n: u8,
+    slot: usize,
+    time: usize,
+) -> Result<(), AllocError>
+    ensures { OnOk result (out.new.items ≡ out.old.items ++ if_last_words (document_of document.now) n slot time) }
+{
+    push_around(out, b"if ", document, n, b"")?;
+    push_between(out, b" issues last: at ", slot, b" or later, and ")?;
+    push_between(out, b"", time, b" to the end")
+}
+
+>>>>>>> 496f9dcbe4ad24f361721b215bef3a485326a5d0
 /// The row of an instruction that may issue last, of a block of so many parcels.
 fn push_last(
     out: &mut Vec<u8>,
@@ -25,8 +52,13 @@ fn push_last(
     parcels: u32,
     n: u8,
 ) -> Result<(), AllocError>
+<<<<<<< HEAD
     requires start { prefix.now ≡ record { problem = problem_of (document_of document.now); numbers = [] } }
     requires parcels { (parcels ≡ sum_remaining prefix.now.problem.block prefix.now.numbers (λ m. (row_at prefix.now.problem m).parcels)) × (parcels ≤ 2 * BLOCK_LIMIT) }
+=======
+    requires problem { prefix.now.problem ≡ problem_of (document_of document.now) }
+    requires parcels { (parcels ≡ sum_remaining prefix.now.problem.block [] (λ m. (row_at prefix.now.problem m).parcels)) × (parcels ≤ 2 * BLOCK_LIMIT) }
+>>>>>>> 496f9dcbe4ad24f361721b215bef3a485326a5d0
     requires n { (1 ≤ n) × (n ≤ length prefix.now.problem.block) }
     ensures { OnOk result (out.new.items ≡ out.old.items ++ row_text (last_row (document_of document.now) n)) }
 {
@@ -34,11 +66,16 @@ fn push_last(
     let slot = parcels.saturating_sub(own_parcels(row)) as usize;
     let time = tail(row) as usize;
     push_number(out, slot + time)?;
+<<<<<<< HEAD
     out.extend_from_slice(b"if ")?;
     push_instruction(out, document, n)?;
     push_field(out, b" issues last: at ", slot)?;
     push_field(out, b" or later, and ", time)?;
     out.extend_from_slice(b" to the end\n")
+=======
+    push_if_last(out, document, n, slot, time)?;
+    out.extend_from_slice(b"\n")
+>>>>>>> 496f9dcbe4ad24f361721b215bef3a485326a5d0
 }
 
 /// The rows of the parcels, one for each instruction.
@@ -47,7 +84,12 @@ pub(crate) fn push_parcels(
     document: &Document,
     prefix: &Prefix,
 ) -> Result<(), AllocError>
+<<<<<<< HEAD
     requires { prefix.now ≡ record { problem = problem_of (document_of document.now); numbers = [] } }
+=======
+    requires problem { prefix.now.problem ≡ problem_of (document_of document.now) }
+    requires start { prefix.now.numbers ≡ [] }
+>>>>>>> 496f9dcbe4ad24f361721b215bef3a485326a5d0
     ensures { OnOk result (out.new.items ≡ out.old.items ++ rows_text (map (last_row (document_of document.now)) (numbers prefix.now.problem.block))) }
 {
     let parcels = remaining_parcels(prefix);

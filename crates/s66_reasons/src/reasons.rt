@@ -2,7 +2,11 @@ ghost use Rattle.std.specs.Prelude.{◌≡◌, ◌≤◌, ◌<◌, ◌++◌, [],
 ghost use Rattle.s66_isa.specs.declared.limits.TheConstants.{BLOCK_LIMIT};
 ghost use Rattle.s66_isa.specs.Lists.{every, tally};
 ghost use Rattle.s66_model.specs.LegalOrder.{is_remaining};
+<<<<<<< HEAD
 ghost use Rattle.s66_model.specs.Tree.{splits};
+=======
+ghost use Rattle.s66_model.specs.Tree.{AtTerminal, splits};
+>>>>>>> 496f9dcbe4ad24f361721b215bef3a485326a5d0
 ghost use Rattle.s66_model.specs.DominatedLeaves.{Next, LoadFrom};
 ghost use Rattle.s66_tree.specs.Lines.{vertex_of};
 ghost use Rattle.s66_moments.specs.Known.{known_first};
@@ -12,14 +16,23 @@ ghost use Rattle.s66_cert.specs.DocumentParts.{document_of};
 ghost use Rattle.s66_checker.specs.declared.verdict.Verdict.TheVariants.{Yes};
 ghost use Rattle.s66_checker.specs.KeptKnown.{AreTaken};
 ghost use Rattle.s66_checker.specs.Verdict.{problem_of, verdict};
+<<<<<<< HEAD
 ghost use Rattle.s66_reasons.specs.Reasons.{and_facts, body, counts_text, last_line, leaf_text, opening, reasons_text};
+=======
+ghost use Rattle.s66_reasons.specs.Reasons.{and_facts, body, colon, counts_text, issue_row, last_line, left_row, opening, path_row, reasons_text, said_at, top};
+ghost use Rattle.s66_reasons.specs.Words.{row_text};
+>>>>>>> 496f9dcbe4ad24f361721b215bef3a485326a5d0
 ghost use Rattle.s66_reasons.specs.Within.{IsGranted, is_split};
 
 use crate::chain::push_chain;
 use crate::facts::{push_facts, push_load_sentence};
 use crate::parcels::push_parcels;
 use crate::units::push_load;
+<<<<<<< HEAD
 use crate::words::{push_between, push_counted, push_instruction, push_number};
+=======
+use crate::words::{push_around, push_between, push_counted, push_number, push_words};
+>>>>>>> 496f9dcbe4ad24f361721b215bef3a485326a5d0
 use s66_cert::{Document, TreeLine, TreeLines};
 use s66_checker::{fact_lines, instructions_of, profile_of};
 use s66_device::push_field;
@@ -79,6 +92,27 @@ fn push_counts(out: &mut Vec<u8>, document: &Document) -> Result<(), AllocError>
     out.extend_from_slice(b".\n")
 }
 
+<<<<<<< HEAD
+=======
+/// The row of where a path begins.
+fn push_issue_row(out: &mut Vec<u8>, document: &Document, n: u8) -> Result<(), AllocError>
+    ensures { OnOk result (out.new.items ≡ out.old.items ++ row_text (issue_row (document_of document.now) n)) }
+{
+    push_number(out, 0)?;
+    push_around(out, b"", document, n, b" can issue")?;
+    out.extend_from_slice(b"\n")
+}
+
+/// Of where it leads.
+fn push_path_row(out: &mut Vec<u8>, bound: u32) -> Result<(), AllocError>
+    ensures { OnOk result (out.new.items ≡ out.old.items ++ row_text (path_row bound)) }
+{
+    push_number(out, bound as usize)?;
+    push_words(out, b"the end, by the longest path from there")?;
+    out.extend_from_slice(b"\n")
+}
+
+>>>>>>> 496f9dcbe4ad24f361721b215bef3a485326a5d0
 /// The fact lines, and the longest path from an instruction to the end by them.
 fn push_path(
     out: &mut Vec<u8>,
@@ -87,6 +121,7 @@ fn push_path(
     facts: Facts,
     n: u8,
 ) -> Result<(), AllocError>
+<<<<<<< HEAD
     requires start { prefix.now ≡ record { problem = problem_of (document_of document.now); numbers = [] } }
     requires problem { facts.problem ≡ problem_of (document_of document.now) }
     requires known { known_in facts ≡ known_first (problem_of (document_of document.now)) }
@@ -99,6 +134,47 @@ fn push_path(
     out.extend_from_slice(b" can issue\n")?;
     push_number(out, document.bound() as usize)?;
     out.extend_from_slice(b"the end, by the longest path from there\n")
+=======
+    requires same { prefix.now.problem ≡ problem_of (document_of document.now) }
+    requires start { prefix.now.numbers ≡ [] }
+    requires problem { facts.problem ≡ problem_of (document_of document.now) }
+    requires known { known_in facts ≡ known_first (problem_of (document_of document.now)) }
+    requires taken { AreTaken (document_of document.now) }
+    ensures { OnOk result (out.new.items ≡ out.old.items ++ said_at (document_of document.now) (AtTerminal (Next n))) }
+{
+    push_facts(out, document, prefix, facts)?;
+    push_issue_row(out, document, n)?;
+    push_path_row(out, document.bound())
+}
+
+/// The row of what units do for some instructions.
+fn push_left_row(
+    out: &mut Vec<u8>,
+    document: &Document,
+    prefix: &Prefix,
+    after: u32,
+    numbers: &[u8],
+) -> Result<(), AllocError>
+    requires same { prefix.now.problem ≡ problem_of (document_of document.now) }
+    requires start { prefix.now.numbers ≡ [] }
+    requires some { 0 < length numbers.now }
+    requires few { length numbers.now ≤ BLOCK_LIMIT }
+    requires remain { every (is_remaining prefix.now.problem.block []) numbers.now ≡ true }
+    ensures { OnOk result (out.new.items ≡ out.old.items ++ row_text (left_row (document_of document.now) after numbers.now)) }
+{
+    let bound = document.bound();
+    push_number(out, bound as usize)?;
+    push_load_sentence(
+        out,
+        prefix,
+        &Moment::Origin,
+        &Moment::End,
+        after,
+        bound,
+        numbers,
+    )?;
+    out.extend_from_slice(b"\n")
+>>>>>>> 496f9dcbe4ad24f361721b215bef3a485326a5d0
 }
 
 /// The fact lines, and what units do for some instructions.
@@ -110,12 +186,18 @@ fn push_left(
     after: u32,
     numbers: &[u8],
 ) -> Result<(), AllocError>
+<<<<<<< HEAD
     requires start { prefix.now ≡ record { problem = problem_of (document_of document.now); numbers = [] } }
+=======
+    requires same { prefix.now.problem ≡ problem_of (document_of document.now) }
+    requires start { prefix.now.numbers ≡ [] }
+>>>>>>> 496f9dcbe4ad24f361721b215bef3a485326a5d0
     requires problem { facts.problem ≡ problem_of (document_of document.now) }
     requires known { known_in facts ≡ known_first (problem_of (document_of document.now)) }
     requires taken { AreTaken (document_of document.now) }
     requires some { 0 < length numbers.now }
     requires few { length numbers.now ≤ BLOCK_LIMIT }
+<<<<<<< HEAD
     requires remain { every (is_remaining (problem_of (document_of document.now)).block []) numbers.now ≡ true }
     ensures { OnOk result (out.new.items ≡ out.old.items ++ leaf_text (document_of document.now) (LoadFrom after numbers.now)) }
 {
@@ -124,6 +206,62 @@ fn push_left(
     push_number(out, bound as usize)?;
     push_load_sentence(out, prefix, &Moment::Origin, &Moment::End, after, bound, numbers)?;
     out.extend_from_slice(b"\n")
+=======
+    requires remain { every (is_remaining prefix.now.problem.block []) numbers.now ≡ true }
+    ensures { OnOk result (out.new.items ≡ out.old.items ++ said_at (document_of document.now) (AtTerminal (LoadFrom after numbers.now))) }
+{
+    push_facts(out, document, prefix, facts)?;
+    push_left_row(out, document, prefix, after, numbers)
+}
+
+/// What is said of a tree after its bound, by its first line.
+fn push_said(
+    out: &mut Vec<u8>,
+    document: &Document,
+    block: &[Instr],
+    profile: &Profile,
+    line: TreeLine<'_>,
+) -> Result<(), AllocError>
+    requires block { record { block = block.now; profile = profile.now } ≡ problem_of (document_of document.now) }
+    requires some { 1 ≤ length block.now }
+    requires few { length block.now ≤ BLOCK_LIMIT }
+    requires granted { IsGranted (document_of document.now) (vertex_of line) }
+    ensures { OnOk result (out.new.items ≡ out.old.items ++ said_at (document_of document.now) (vertex_of line.entry)) }
+{
+    let prefix = Prefix::new(block, profile);
+    match line {
+        TreeLine::Split(_) => push_counts(out, document),
+        TreeLine::Chain(numbers) => push_chain(out, document, &prefix, numbers),
+        TreeLine::Load(kind) => push_load(out, document, &prefix, kind),
+        TreeLine::Parcels => push_parcels(out, document, &prefix),
+        TreeLine::Next(n) => push_path(out, document, &prefix, Facts::new(block, profile), n),
+        TreeLine::LoadFrom(after, numbers) => {
+            let facts = Facts::new(block, profile);
+            push_left(out, document, &prefix, facts, after, numbers)
+        }
+        TreeLine::Whole | TreeLine::Dominated(_) | TreeLine::Turned(..) | TreeLine::AtLine(_) => {
+            Ok(())
+        }
+    }
+}
+
+/// A colon, and the end of the line, if rows follow the bound.
+fn colon(line: &TreeLine<'_>) -> &'static [u8]
+    ensures { result.now ≡ colon (vertex_of line.now) }
+{
+    match line {
+        TreeLine::Split(_) => b"",
+        TreeLine::Whole
+        | TreeLine::Chain(_)
+        | TreeLine::Load(_)
+        | TreeLine::Parcels
+        | TreeLine::Dominated(_)
+        | TreeLine::Next(_)
+        | TreeLine::Turned(..)
+        | TreeLine::AtLine(_)
+        | TreeLine::LoadFrom(..) => b":\n",
+    }
+>>>>>>> 496f9dcbe4ad24f361721b215bef3a485326a5d0
 }
 
 /// What is said of a tree whose first line is this.
@@ -141,6 +279,7 @@ fn push_body(
     ensures { OnOk result (out.new.items ≡ out.old.items ++ body (document_of document.now) (vertex_of line.entry)) }
 {
     push_opening(out, document)?;
+<<<<<<< HEAD
     if let TreeLine::Split(_) = line {
         return push_counts(out, document);
     }
@@ -161,6 +300,20 @@ fn push_body(
         | TreeLine::Turned(..)
         | TreeLine::AtLine(_) => Ok(()),
     }
+=======
+    out.extend_from_slice(colon(&line))?;
+    push_said(out, document, block, profile, line)
+}
+
+/// The first line of a document's tree.
+fn first_line(document: &Document) -> TreeLine<'_>
+    ensures { top (document_of document.now).tree ≡ vertex_of result }
+{
+    let Some(first) = document.tree().next() else {
+        unreachable!()
+    };
+    first
+>>>>>>> 496f9dcbe4ad24f361721b215bef3a485326a5d0
 }
 
 /// Whether an order of this time is best.
@@ -178,10 +331,18 @@ fn push_last_line(out: &mut Vec<u8>, time: u32, bound: u32) -> Result<(), AllocE
 /// is yes, with this time and this bound. `Err` is out of memory.
 ///
 /// A tree of one leaf is said in rows. Each has a minor cycle of 100 ns, right in four places, and what can't be sooner in any order; the
+<<<<<<< HEAD
 /// last one reaches the bound, or in the case of parcels each. A tree that splits is counted. The last line says whether the order that
 /// the document has is best.
 ///
 /// It takes some looks at each line of the tree, and a chain the time of its links. Nothing is allocated but room in `out`.
+=======
+/// last one reaches the bound, or in the case of parcels each. A leaf by facts comes after the fact lines. A tree that splits is counted.
+/// The last line says whether the order that the document has is best.
+///
+/// It takes some looks at each line of the tree or at each instruction; fact lines are taken in again, in the time that a verdict takes for
+/// them. Nothing is allocated but room in `out`.
+>>>>>>> 496f9dcbe4ad24f361721b215bef3a485326a5d0
 pub fn push_reasons(
     out: &mut Vec<u8>,
     document: &Document,
@@ -193,9 +354,19 @@ pub fn push_reasons(
 {
     let block = instructions_of(document.block());
     let profile = profile_of(document);
+<<<<<<< HEAD
     let Some(first) = document.tree().next() else {
         unreachable!()
     };
     push_body(out, document, block.as_slice(), &profile, first)?;
+=======
+    push_body(
+        out,
+        document,
+        block.as_slice(),
+        &profile,
+        first_line(document),
+    )?;
+>>>>>>> 496f9dcbe4ad24f361721b215bef3a485326a5d0
     push_last_line(out, time, bound)
 }

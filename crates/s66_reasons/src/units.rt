@@ -1,5 +1,6 @@
 //! The row of a kind of unit: which instructions need it, and for how long.
 
+<<<<<<< HEAD
 ghost use Rattle.std.specs.Prelude.{◌≡◌, ◌≤◌, ◌+◌, ◌++◌, [], OnOk, length};
 ghost use Rattle.std.specs.List.{filter};
 ghost use Rattle.s66_isa.specs.declared.limits.TheConstants.{BLOCK_LIMIT};
@@ -10,6 +11,15 @@ ghost use Rattle.s66_cert.specs.DocumentParts.{document_of};
 ghost use Rattle.s66_checker.specs.Verdict.{problem_of};
 ghost use Rattle.s66_reasons.specs.Reasons.{how_long_words, load_row, load_words, no_need_words, sharing_words, unit_words, who_needs_words};
 ghost use Rattle.s66_reasons.specs.Words.{each_words, row_text};
+=======
+ghost use Rattle.std.specs.Prelude.{◌≡◌, ◌≤◌, ◌++◌, [], OnOk, length};
+ghost use Rattle.s66_isa.specs.declared.limits.TheConstants.{BLOCK_LIMIT};
+ghost use Rattle.s66_model.specs.Timing.{row_at};
+ghost use Rattle.s66_cert.specs.DocumentParts.{document_of};
+ghost use Rattle.s66_checker.specs.Verdict.{problem_of};
+ghost use Rattle.s66_reasons.specs.Reasons.{how_long_words, load_row, load_words, no_need_words, numbers_of, sharing_words, unit_words, who_needs_words};
+ghost use Rattle.s66_reasons.specs.Words.{each_words, longest_use, row_text};
+>>>>>>> 496f9dcbe4ad24f361721b215bef3a485326a5d0
 ghost use Rattle.s66_reasons.specs.Within.{AreWithin};
 
 use crate::words::{push_between, push_instructions, push_number, unit_name};
@@ -21,14 +31,32 @@ use s66_isa::{BLOCK_LIMIT, Kind, is_same_kind};
 use s66_replay::Prefix;
 use std::alloc::AllocError;
 
+<<<<<<< HEAD
 /// The numbers whose instructions need this kind, rising.
 fn numbers_of(prefix: &Prefix, kind: Kind) -> ArrayVec<u8, BLOCK_LIMIT>
     ensures value { result.items ≡ filter (λ n. same_kind (row_at prefix.now.problem n).kind kind) (numbers prefix.now.problem.block) }
+=======
+/// The kind of unit that an instruction needs.
+pub(crate) fn kind_of(prefix: &Prefix, n: u8) -> Kind
+    requires { (1 ≤ n) × (n ≤ length prefix.now.problem.block) }
+    ensures { result ≡ (row_at prefix.now.problem n).kind }
+{
+    prefix.row(n).kind
+}
+
+/// The numbers whose instructions need this kind, rising.
+fn numbers_of(prefix: &Prefix, kind: Kind) -> ArrayVec<u8, BLOCK_LIMIT>
+    ensures value { result.items ≡ numbers_of prefix.now.problem kind }
+>>>>>>> 496f9dcbe4ad24f361721b215bef3a485326a5d0
     ensures within { AreWithin (length prefix.now.problem.block) result.items }
 {
     let mut numbers = ArrayVec::new();
     for position in 0..prefix.count() {
+<<<<<<< HEAD
         if is_same_kind(prefix.row(position + 1).kind, kind) {
+=======
+        if is_same_kind(kind_of(prefix, position + 1), kind) {
+>>>>>>> 496f9dcbe4ad24f361721b215bef3a485326a5d0
             numbers.push(position + 1);
         }
     }
@@ -38,7 +66,11 @@ fn numbers_of(prefix: &Prefix, kind: Kind) -> ArrayVec<u8, BLOCK_LIMIT>
 /// For how long one of these needs its unit at most.
 pub(crate) fn longest_use(prefix: &Prefix, numbers: &[u8]) -> u32
     requires { AreWithin (length prefix.now.problem.block) numbers.now }
+<<<<<<< HEAD
     ensures { result ≡ greatest (λ n. (row_at prefix.now.problem n).hold + 1) numbers.now }
+=======
+    ensures { result ≡ longest_use prefix.now.problem numbers.now }
+>>>>>>> 496f9dcbe4ad24f361721b215bef3a485326a5d0
 {
     let mut most = 0u32;
     for n in numbers {
@@ -48,7 +80,16 @@ pub(crate) fn longest_use(prefix: &Prefix, numbers: &[u8]) -> u32
 }
 
 /// For how long each of so many needs its unit.
+<<<<<<< HEAD
 pub(crate) fn push_each(out: &mut Vec<u8>, count: usize, total: u32, most: u32) -> Result<(), AllocError>
+=======
+pub(crate) fn push_each(
+    out: &mut Vec<u8>,
+    count: usize,
+    total: u32,
+    most: u32,
+) -> Result<(), AllocError>
+>>>>>>> 496f9dcbe4ad24f361721b215bef3a485326a5d0
     requires { count ≤ BLOCK_LIMIT }
     ensures { OnOk result (out.new.items ≡ out.old.items ++ each_words count total most) }
 {
@@ -101,7 +142,15 @@ fn push_who_needs(
     ensures { OnOk result (out.new.items ≡ out.old.items ++ who_needs_words (document_of document.now) kind copies numbers.now) }
 {
     push_instructions(out, document, numbers)?;
+<<<<<<< HEAD
     let need: &[u8] = if numbers.len() == 1 { b" needs the " } else { b" need the " };
+=======
+    let need: &[u8] = if numbers.len() == 1 {
+        b" needs the "
+    } else {
+        b" need the "
+    };
+>>>>>>> 496f9dcbe4ad24f361721b215bef3a485326a5d0
     out.extend_from_slice(need)?;
     push_unit(out, kind, copies)
 }
@@ -123,10 +172,31 @@ fn push_how_long(
     push_sharing(out, copies)
 }
 
+<<<<<<< HEAD
+=======
+/// Which instructions need the units of a kind, and for how long.
+fn push_needs(
+    out: &mut Vec<u8>,
+    document: &Document,
+    kind: Kind,
+    copies: u32,
+    total: u32,
+    most: u32,
+    numbers: &[u8],
+) -> Result<(), AllocError>
+    requires { length numbers.now ≤ BLOCK_LIMIT }
+    ensures { OnOk result (out.new.items ≡ out.old.items ++ (who_needs_words (document_of document.now) kind copies numbers.now ++ how_long_words copies total (length numbers.now) most)) }
+{
+    push_who_needs(out, document, kind, copies, numbers)?;
+    push_how_long(out, copies, total, numbers.len(), most)
+}
+
+>>>>>>> 496f9dcbe4ad24f361721b215bef3a485326a5d0
 /// What these instructions, which are all of a kind, need of its units.
 fn push_load_words(
     out: &mut Vec<u8>,
     document: &Document,
+<<<<<<< HEAD
     prefix: &Prefix,
     kind: Kind,
     total: u32,
@@ -143,6 +213,44 @@ fn push_load_words(
     }
     push_who_needs(out, document, kind, copies, numbers)?;
     push_how_long(out, copies, total, numbers.len(), longest_use(prefix, numbers))
+=======
+    kind: Kind,
+    copies: u32,
+    total: u32,
+    most: u32,
+    numbers: &[u8],
+) -> Result<(), AllocError>
+    requires { length numbers.now ≤ BLOCK_LIMIT }
+    ensures { OnOk result (out.new.items ≡ out.old.items ++ load_words (document_of document.now) kind copies total most numbers.now) }
+{
+    if numbers.is_empty() {
+        return push_no_need(out, kind, copies);
+    }
+    push_needs(out, document, kind, copies, total, most, numbers)
+}
+
+/// The row of the load of a kind of unit, which these instructions need.
+fn push_load_row(
+    out: &mut Vec<u8>,
+    document: &Document,
+    prefix: &Prefix,
+    kind: Kind,
+    numbers: &[u8],
+) -> Result<(), AllocError>
+    requires problem { prefix.now.problem ≡ problem_of (document_of document.now) }
+    requires start { prefix.now.numbers ≡ [] }
+    requires few { length numbers.now ≤ BLOCK_LIMIT }
+    requires within { AreWithin (length prefix.now.problem.block) numbers.now }
+    requires numbers { numbers.now ≡ numbers_of prefix.now.problem kind }
+    ensures { OnOk result (out.new.items ≡ out.old.items ++ row_text (load_row (document_of document.now) kind)) }
+{
+    let copies = prefix.copies(kind);
+    let total = remaining_work(prefix, kind);
+    let most = longest_use(prefix, numbers);
+    push_number(out, load(prefix, kind) as usize)?;
+    push_load_words(out, document, kind, copies, total, most, numbers)?;
+    out.extend_from_slice(b"\n")
+>>>>>>> 496f9dcbe4ad24f361721b215bef3a485326a5d0
 }
 
 /// The row of the load of a kind of unit.
@@ -152,6 +260,7 @@ pub(crate) fn push_load(
     prefix: &Prefix,
     kind: Kind,
 ) -> Result<(), AllocError>
+<<<<<<< HEAD
     requires { prefix.now ≡ record { problem = problem_of (document_of document.now); numbers = [] } }
     ensures { OnOk result (out.new.items ≡ out.old.items ++ row_text (load_row (document_of document.now) kind)) }
 {
@@ -159,4 +268,12 @@ pub(crate) fn push_load(
     let total = remaining_work(prefix, kind);
     push_load_words(out, document, prefix, kind, total, numbers_of(prefix, kind).as_slice())?;
     out.extend_from_slice(b"\n")
+=======
+    requires problem { prefix.now.problem ≡ problem_of (document_of document.now) }
+    requires start { prefix.now.numbers ≡ [] }
+    ensures { OnOk result (out.new.items ≡ out.old.items ++ row_text (load_row (document_of document.now) kind)) }
+{
+    let numbers = numbers_of(prefix, kind);
+    push_load_row(out, document, prefix, kind, numbers.as_slice())
+>>>>>>> 496f9dcbe4ad24f361721b215bef3a485326a5d0
 }

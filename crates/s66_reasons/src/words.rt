@@ -9,6 +9,16 @@ use s66_isa::{Kind, Reg};
 use s66_why::bank_name;
 use std::alloc::AllocError;
 
+<<<<<<< HEAD
+=======
+/// Words.
+pub(crate) fn push_words(out: &mut Vec<u8>, words: &[u8]) -> Result<(), AllocError>
+    ensures { OnOk result (out.new.items ≡ out.old.items ++ words.now) }
+{
+    out.extend_from_slice(words)
+}
+
+>>>>>>> 496f9dcbe4ad24f361721b215bef3a485326a5d0
 /// Words with a number between.
 pub(crate) fn push_between(
     out: &mut Vec<u8>,
@@ -57,6 +67,24 @@ pub(crate) fn push_instruction(
     }
 }
 
+<<<<<<< HEAD
+=======
+/// An instruction of a document, between words.
+pub(crate) fn push_around(
+    out: &mut Vec<u8>,
+    before: &[u8],
+    document: &Document,
+    n: u8,
+    after: &[u8],
+) -> Result<(), AllocError>
+    ensures { OnOk result (out.new.items ≡ out.old.items ++ (before.now ++ instruction (document_of document.now) n ++ after.now)) }
+{
+    out.extend_from_slice(before)?;
+    push_instruction(out, document, n)?;
+    out.extend_from_slice(after)
+}
+
+>>>>>>> 496f9dcbe4ad24f361721b215bef3a485326a5d0
 /// A register.
 pub(crate) fn push_register(out: &mut Vec<u8>, which: Reg) -> Result<(), AllocError>
     ensures { OnOk result (out.new.items ≡ out.old.items ++ register which) }
@@ -106,11 +134,15 @@ pub(crate) fn push_instructions(
 }
 
 /// So many, in the plural unless it is one.
+<<<<<<< HEAD
 pub(crate) fn push_counted(
     out: &mut Vec<u8>,
     count: usize,
     word: &[u8],
 ) -> Result<(), AllocError>
+=======
+pub(crate) fn push_counted(out: &mut Vec<u8>, count: usize, word: &[u8]) -> Result<(), AllocError>
+>>>>>>> 496f9dcbe4ad24f361721b215bef3a485326a5d0
     ensures { OnOk result (out.new.items ≡ out.old.items ++ counted count word.now) }
 {
     push_field(out, b"", count)?;

@@ -7,6 +7,7 @@ use Rattle.s66_reasons.specs.FactWords.{facts_from}
 use Rattle.s66_reasons.proofs.facts.push_facts.Given as goal
 
 -- what is said of the lines that are left, and that these are taken too
+<<<<<<< HEAD
 abbrev pub invariant-loop-place : goal.invariant-loop-place
 invariant-loop-place l = record {
   text : l.out.items ++ facts_from (document_of l.document) (known_in l.facts) (l.place + 1) (drop l.place l.lines)
@@ -14,4 +15,14 @@ invariant-loop-place l = record {
   problem : l.facts.problem ≡ problem_of (document_of l.document);
   room : length (known_in l.facts).loads ≤ l.place;
   taken : are_taken (problem_of (document_of l.document)) (document_of l.document).bound (known_in l.facts) (drop l.place l.lines) ≡ true;
+=======
+abbrev pub invariant-loop-line : goal.invariant-loop-line
+invariant-loop-line l = record {
+  text : l.out.items ++ facts_from (document_of l.document) (known_in l.facts) (l.number + 1) (drop l.line-index l.lines)
+      ≡ l.fn.out.items ++ facts_from (document_of l.document) (known_first (problem_of (document_of l.document))) 1 (facts_of (document_of l.document));
+  number : l.number ≡ l.line-index;
+  problem : l.facts.problem ≡ problem_of (document_of l.document);
+  room : length (known_in l.facts).loads ≤ l.line-index;
+  taken : are_taken (problem_of (document_of l.document)) l.bound (known_in l.facts) (drop l.line-index l.lines) ≡ true;
+>>>>>>> 496f9dcbe4ad24f361721b215bef3a485326a5d0
 }

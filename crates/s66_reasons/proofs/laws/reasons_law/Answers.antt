@@ -23,8 +23,13 @@ returns-clause-bounding c = λ limit d time bound leaf is holds first.
     let ends : end_by (Bounding leaf) (leaf_rows d (Bounding leaf)) ≡ value b [] leaf = rows-end d leaf (omega (arith, is.block.0, length-map d.block instr_in_text)) may in (
       omega (arith, ends, reaches),
       λ order legal.
+<<<<<<< HEAD
         let (begins, completes) = legal-parts b.block [] order legal in
         omega (arith, ends, leaf-sound b [] order leaf begins completes may),
+=======
+          let (begins, completes) = legal-parts b.block [] order legal in
+          omega (arith, ends, leaf-sound b [] order leaf begins completes may),
+>>>>>>> 496f9dcbe4ad24f361721b215bef3a485326a5d0
     )
 
 -- the last row has the bound itself

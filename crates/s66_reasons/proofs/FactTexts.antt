@@ -1,0 +1,80 @@
+-- What is said of fact lines, one after the other, and what is granted of those that are taken.
+use Rattle.std.proofs.Common.{ℕ, ◌+◌, ◌≡◌, ◌<◌, ◌&&◌, ◌∙◌, Bool, true, false, cond, List, [], ◌∷◌, ◌++◌, Option, Some, ap, append_assoc, sym, refl, drop, get_or, map, length}
+use Rattle.std.specs.Prelude.{unwrap_or}
+use Rattle.std.proofs.lemmas.Bool.{and_parts, cond-true, cond-false}
+use Rattle.s66_isa.specs.declared.instr.Kind.{Kind}
+use Rattle.s66_isa.specs.Lists.{every}
+use Rattle.s66_isa.specs.Table.{same_kind}
+use Rattle.s66_model.specs.Timing.{Problem, row_at}
+use Rattle.s66_model.specs.LegalOrder.{is_remaining}
+use Rattle.s66_moments.specs.declared.moment.Stage.TheVariants.{Issue, Free}
+use Rattle.s66_moments.specs.declared.moment.Moment.TheVariants.{Origin, At, End}
+use Rattle.s66_moments.specs.declared.fact_line.FactLine.{FactLine}
+use Rattle.s66_moments.specs.declared.fact_line.LoadLine.{LoadLine}
+use Rattle.s66_moments.specs.FactLines.{use_time}
+use Rattle.s66_moments.specs.Networks.{Network}
+use Rattle.s66_moments.specs.Known.{Known, arcs_of, are_taken, are_used, is_late_by_parcels, is_load_taken, is_number, is_taken, is_used, kind_of_load, plus, reaches, span, use_of, with_line}
+use Rattle.s66_cert.specs.Document.{Document}
+use Rattle.s66_cert.proofs.Printed.{drop-here}
+use Rattle.s66_reasons.specs.FactWords.{by_parcels, by_unit, facts_from, late_words, numbered_fact, soonest_known}
+
+pub facts-more : (d : Document) (known after : Known) (number : ℕ) (line : FactLine) (more all : List FactLine) (old new : List ℕ) → all ≡ line ∷ more →
+    after ≡ with_line known line → new ≡ old ++ numbered_fact d known number line →
+    new ++ facts_from d after (number + 1) more ≡ old ++ facts_from d known number all
+facts-more d known after number line more all old new is then pushed =
+    let one = numbered_fact d known number line in
+    let rest = facts_from d (with_line known line) (number + 1) more in
+    ap (λ (k : Known). new ++ facts_from d k (number + 1) more) then
+    ∙ ap (λ xs. xs ++ rest) pushed ∙ append_assoc old one rest
+    ∙ ap (λ (ls : List FactLine). old ++ facts_from d known number ls) (sym is)
+
+-- the next of lines that are taken is, and so are those after it
+pub next-taken : (b : Problem) (bound : ℕ) (known : Known) (lines : List FactLine) (i : ℕ) (line : FactLine) → i < length lines → line ≡ get_or lines i line →
+    are_taken b bound known (drop i lines) ≡ true →
+    (is_taken b bound known line ≡ true) × (are_taken b bound (with_line known line) (drop (i + 1) lines) ≡ true)
+next-taken b bound known lines i line within is taken =
+    and_parts (is_taken b bound known line) (are_taken b bound (with_line known line) (drop (i + 1) lines))
+    (sym (ap (are_taken b bound known) (drop-here lines i line within is)) ∙ taken)
+
+-- the instructions of a load are those of the block
+used-remain : (b : Problem) (arcs : Network) (line : LoadLine) (kind : Kind) (time : ℕ) (ns : List ℕ) → every (is_used b arcs line kind time) ns ≡ true → every (is_remaining b.block []) ns ≡ true
+used-remain b arcs line kind time [] used = refl
+used-remain b arcs line kind time (n ∷ ns) used =
+    let parts = and_parts (is_used b arcs line kind time n) (every (is_used b arcs line kind time) ns) used in
+    let (within, from) = and_parts (is_number b n && same_kind (row_at b n).kind kind) _ parts.0 in
+    let (number, alike) = and_parts (is_number b n) (same_kind (row_at b n).kind kind) within in
+    rw (number, used-remain b arcs line kind time ns parts.1) refl
+
+pub taken-remain : (b : Problem) (known : Known) (line : LoadLine) → is_load_taken b known line ≡ true → every (is_remaining b.block []) line.numbers.items ≡ true
+taken-remain b known line taken =
+    let ns = line.numbers.items in
+    let kind = kind_of_load b ns in
+    let (front, used) = and_parts _ (are_used b (arcs_of b known) line kind) taken in
+    used-remain b (arcs_of b known) line kind (use_time b kind (map (use_of b) ns)) ns used
+
+-- why a pair is forced
+late-test : (b : Problem) (bound : ℕ) (arcs : Network) (m n parcels : ℕ) (head tail : Option ℕ) (test : Bool) → head ≡ span b arcs Origin (At n Issue) →
+    tail ≡ span b arcs (At m Issue) End → parcels ≡ (row_at b n).parcels → test ≡ reaches bound (plus (plus head (Some parcels)) tail) →
+    test ≡ is_late_by_parcels b arcs bound m n
+late-test b bound arcs m n parcels head tail test heads tails sizes is =
+    is ∙ ap (λ (o : Option ℕ). reaches bound (plus (plus o (Some parcels)) tail)) heads
+    ∙ ap (λ (o : Option ℕ). reaches bound (plus (plus (span b arcs Origin (At n Issue)) (Some parcels)) o)) tails
+    ∙ ap (λ k. reaches bound (plus (plus (span b arcs Origin (At n Issue)) (Some k)) (span b arcs (At m Issue) End))) sizes
+
+pub late-by_parcels : (b : Problem) (bound : ℕ) (arcs : Network) (m n parcels soonest : ℕ) (head tail : Option ℕ) (test : Bool) → head ≡ span b arcs Origin (At n Issue) →
+    tail ≡ span b arcs (At m Issue) End → parcels ≡ (row_at b n).parcels → test ≡ reaches bound (plus (plus head (Some parcels)) tail) → test ≡ true →
+    soonest ≡ unwrap_or head 0 → by_parcels bound soonest parcels m n ≡ late_words b bound arcs m n
+late-by_parcels b bound arcs m n parcels soonest head tail test heads tails sizes is so soonest_is =
+    let late = sym (late-test b bound arcs m n parcels head tail test heads tails sizes is) ∙ so in
+    ap (λ k. by_parcels bound k parcels m n) (soonest_is ∙ ap (λ (o : Option ℕ). unwrap_or o 0) heads)
+    ∙ ap (λ k. by_parcels bound (soonest_known b arcs (At n Issue)) k m n) sizes
+    ∙ sym (cond-true {A = List ℕ} (is_late_by_parcels b arcs bound m n) (by_parcels bound (soonest_known b arcs (At n Issue)) (row_at b n).parcels m n) (by_unit (row_at b n).kind bound (soonest_known b arcs (At n Free)) m n) late)
+
+pub late-by_unit : (b : Problem) (bound : ℕ) (arcs : Network) (m n parcels soonest : ℕ) (kind : Kind) (head free tail : Option ℕ) (test : Bool) → head ≡ span b arcs Origin (At n Issue) →
+    tail ≡ span b arcs (At m Issue) End → parcels ≡ (row_at b n).parcels → test ≡ reaches bound (plus (plus head (Some parcels)) tail) → test ≡ false →
+    free ≡ span b arcs Origin (At n Free) → kind ≡ (row_at b n).kind → soonest ≡ unwrap_or free 0 → by_unit kind bound soonest m n ≡ late_words b bound arcs m n
+late-by_unit b bound arcs m n parcels soonest kind head free tail test heads tails sizes is not frees kinds soonest_is =
+    let late = sym (late-test b bound arcs m n parcels head tail test heads tails sizes is) ∙ not in
+    ap (λ k. by_unit kind bound k m n) (soonest_is ∙ ap (λ (o : Option ℕ). unwrap_or o 0) frees)
+    ∙ ap (λ (k : Kind). by_unit k bound (soonest_known b arcs (At n Free)) m n) kinds
+    ∙ sym (cond-false {A = List ℕ} (is_late_by_parcels b arcs bound m n) (by_parcels bound (soonest_known b arcs (At n Issue)) (row_at b n).parcels m n) (by_unit (row_at b n).kind bound (soonest_known b arcs (At n Free)) m n) late)

@@ -1,0 +1,20 @@
+use Rattle.std.proofs.Common.{ℕ, ◌≡◌, ◌++◌, ◌∙◌, List, ap, append_assoc, sym}
+use Rattle.std.proofs.lemmas.List.{append-nil}
+use Rattle.std.proofs.lemmas.Result.{IfOk-equal}
+use Rattle.s66_cert.specs.DocumentParts.{document_of}
+use Rattle.s66_reasons.specs.Words.{row_text}
+use Rattle.s66_reasons.specs.Reasons.{facts_text, issue_row, path_row}
+use Rattle.s66_reasons.proofs.reasons.push_path.Goals as goal
+
+pub returns : goal.returns
+returns c =
+    let d = document_of c.args.document.now in
+    let out = c.args.out.now.items in
+    let facts : List ℕ = facts_text d in
+    let first : List ℕ = row_text (issue_row d c.args.n) in
+    let last : List ℕ = row_text (path_row d.bound) in
+    IfOk-equal c.push_path_row.result _ _ _ c.push_path_row.ensures
+    (ap (λ k. c.push_issue_row.new.out.items ++ row_text (path_row k)) c.bound.ensures
+    ∙ ap (λ xs. xs ++ last) (c.in_ok-push_issue_row.ensures ∙ ap (λ xs. xs ++ first) c.in_ok-push_facts.ensures ∙ append_assoc out facts first)
+    ∙ append_assoc out (facts ++ first) last
+    ∙ ap (λ xs. out ++ xs) (append_assoc facts first last ∙ ap (λ xs. facts ++ (first ++ xs)) (sym (append-nil last))))

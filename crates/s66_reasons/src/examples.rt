@@ -1,0 +1,37 @@
+//! Worked examples: what is said of small documents. Each clause is a text, and the function does nothing.
+
+ghost use Rattle.std.specs.Prelude.{[], ◌∷◌, ◌≡◌, ◌++◌, codes};
+ghost use Rattle.s66_isa.specs.declared.instr.Kind.TheVariants.{Multiply};
+ghost use Rattle.s66_model.specs.Leaves.{Load};
+ghost use Rattle.s66_model.specs.Tree.{Alone};
+ghost use Rattle.s66_model.specs.DominatedLeaves.{Bounding};
+ghost use Rattle.s66_cert.specs.Examples.{one_load, three_multiplies};
+ghost use Rattle.s66_checker.specs.Examples.{before_their_writers, multiplies_at_once};
+ghost use Rattle.s66_reasons.specs.Reasons.{reasons_text};
+
+/// Leaves of each kind that may close a tree, and a tree that splits.
+#[tactic(auto, unfolding(s66_isa::specs::Table::row, s66_isa::specs::Profiles::profile_of, crate::specs::Words::digits))]
+pub fn reasons_examples()
+    ensures chain { reasons_text one_load ≡
+        codes "Every order takes 12 or more:\n" ++
+        codes "   8  X1 of 1 SA1 A1+B1 is there, which 2 BX6 X1 reads\n" ++
+        codes "  12  the unit of 2 BX6 X1 is free, and that is the end\n" ++
+        codes "So the order of 12 is best.\n" }
+    ensures load { reasons_text (record three_multiplies { bound = 17; tree = Alone (Bounding (Load Multiply)) }) ≡
+        codes "Every order takes 17 or more:\n" ++
+        codes "  17  1 FX1 X2*X3, 2 FX4 X5*X6 and 3 FX0 X7*X7 need the Multiply units for 11 each: 33, shared by 2\n" ++
+        codes "The order found takes 22.\n" }
+    ensures parcels { reasons_text (multiplies_at_once 13) ≡
+        codes "Every order takes 13 or more:\n" ++
+        codes "  13  if 1 FX1 X2*X3 issues last: at 2 or later, and 11 to the end\n" ++
+        codes "  13  if 2 FX4 X5*X6 issues last: at 2 or later, and 11 to the end\n" ++
+        codes "  13  if 3 FX0 X7*X7 issues last: at 2 or later, and 11 to the end\n" ++
+        codes "So the order of 13 is best.\n" }
+    ensures left { reasons_text before_their_writers ≡
+        codes "Every order takes 16 or more:\n" ++
+        codes "  16  From the beginning it is 0 or more until one of 1 and 2 has its Boolean unit; these need it for 4 each, 8 in all; so the last of them begins at 4 or later, and from there to the end it is 12 or more: 16\n" ++
+        codes "So the order of 16 is best.\n" }
+    ensures splits { reasons_text three_multiplies ≡
+        codes "Every order takes 22 or more, by 10 splits.\n" ++
+        codes "So the order of 22 is best.\n" }
+{}
