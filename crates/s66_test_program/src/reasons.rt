@@ -21,6 +21,26 @@ const REASONS: &[(&str, &str)] = &[
         LINES_NAMED,
         "DOCUMENT 1 YES TIME 8 BOUND 7\nEvery order takes 7 or more, by 4 splits.\nThe order found takes 8.\n",
     ),
+    (
+        "S66 CERTIFICATE 1\nPROFILE 3 3 4 4 3 10 29 8 3 8 1 1 1 1 2 1 2\nBLOCK 3\nI FX1 X2*X3\nI FX4 X5*X6\nI FX0 X7*X7\nTIME 22\nBOUND 17\nORDER 1 2 3\nU MULTIPLY\nEND\n",
+        "DOCUMENT 1 YES TIME 22 BOUND 17\nEvery order takes 17 or more:\n  17  1 FX1 X2*X3, 2 FX4 X5*X6 and 3 FX0 X7*X7 need the Multiply units for 11 each: 33, shared by 2\nThe order found takes 22.\n",
+    ),
+    (
+        "S66 CERTIFICATE 1\nPROFILE 3 3 4 4 3 10 29 8 3 8 1 1 1 1 2 1 2\nBLOCK 3\nI FX1 X2*X3\nI FX4 X5*X6\nI FX0 X7*X7\nTIME 22\nBOUND 0\nORDER 1 2 3\nU DIVIDE\nEND\n",
+        "DOCUMENT 1 YES TIME 22 BOUND 0\nEvery order takes 0 or more:\n   0  no instruction needs the Divide unit\nThe order found takes 22.\n",
+    ),
+    (
+        "S66 CERTIFICATE 1\nPROFILE 3 3 4 4 3 10 29 8 3 8 1 1 1 1 3 1 2\nBLOCK 3\nI FX1 X2*X3\nI FX4 X5*X6\nI FX0 X7*X7\nTIME 13\nBOUND 13\nORDER 1 2 3\nP\nEND\n",
+        "DOCUMENT 1 YES TIME 13 BOUND 13\nEvery order takes 13 or more:\n  13  if 1 FX1 X2*X3 issues last: at 2 or later, and 11 to the end\n  13  if 2 FX4 X5*X6 issues last: at 2 or later, and 11 to the end\n  13  if 3 FX0 X7*X7 issues last: at 2 or later, and 11 to the end\nSo the order of 13 is best.\n",
+    ),
+    (
+        "S66 CERTIFICATE 4\nPROFILE 3 3 4 4 3 10 29 8 3 8 1 1 1 1 2 1 2\nBLOCK 4\nI BX1 X2*X3\nI BX4 X1*X1\nI BX5 X1*X1\nI FX6 X4+X5\nTIME 16\nBOUND 16\nORDER 1 2 3 4\nA I1 END 4 16 2 3\nE 1\nEND\n",
+        "DOCUMENT 1 YES TIME 16 BOUND 16\nEvery order takes 16 or more:\n  1. From where 1 issues it is 4 or more until one of 2 and 3 has its Boolean unit; these need it for 4 each, 8 in all; so the last of them begins at 8 or later, and from there to the end it is 8 or more: 16\n   0  1 BX1 X2*X3 can issue\n  16  the end, by the longest path from there\nSo the order of 16 is best.\n",
+    ),
+    (
+        "S66 CERTIFICATE 4\nPROFILE 3 3 4 4 3 10 29 8 3 8 1 1 1 1 2 1 2\nBLOCK 4\nI BX1 X2\nI BX3 X4\nI FX2 X5*X6\nI FX4 X5*X6\nTIME 16\nBOUND 16\nORDER 1 3 2 4\nL 0 1 2\nEND\n",
+        "DOCUMENT 1 YES TIME 16 BOUND 16\nEvery order takes 16 or more:\n  16  From the beginning it is 0 or more until one of 1 and 2 has its Boolean unit; these need it for 4 each, 8 in all; so the last of them begins at 4 or later, and from there to the end it is 12 or more: 16\nSo the order of 16 is best.\n",
+    ),
 ];
 
 /// What it says of one load's document whose bound is above its time, and of the right one after it.
