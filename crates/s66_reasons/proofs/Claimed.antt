@@ -1,5 +1,5 @@
 -- What is known of a document whose verdict is yes, and whose tree is one leaf.
-use Rattle.std.proofs.Common.{ℕ, suc, zero, ◌≡◌, ◌≤◌, ◌<◌, ◌&&◌, ◌∙◌, Bool, true, false, true≢false, cond, not, List, [], ◌∷◌, Option, None, Some, inl, inr, length, map, get_or, subst, sym, arith}
+use Rattle.std.proofs.Common.{ℕ, suc, zero, ◌≡◌, ◌≤◌, ◌<◌, ◌&&◌, ◌∙◌, Bool, true, true≢false, cond, not, List, [], ◌∷◌, Option, None, Some, inl, inr, length, map, subst, sym, arith}
 use Rattle.std.specs.Prelude.{nat_lt}
 use Rattle.std.proofs.lemmas.Bool.{and_parts, cases_Bool, ltb-true, not-false}
 use Rattle.std.proofs.lemmas.List.{length-map}
@@ -22,7 +22,7 @@ use Rattle.s66_checker.specs.declared.verdict.Reason.{Reason as FaultOf}
 use Rattle.s66_checker.specs.declared.verdict.Reason.TheVariants as fault
 use Rattle.s66_checker.specs.Verdict.{is_complete, known_of, line_fault, problem_of, verdict}
 use Rattle.s66_checker.specs.KeptKnown.{AreTaken}
-use Rattle.s66_checker.specs.TrueClaims.{IsShown, IsTrueClaim}
+use Rattle.s66_checker.specs.TrueClaims.{IsShown}
 use Rattle.s66_checker.proofs.Faultless.{passed}
 use Rattle.s66_checker.proofs.GrantedClaims.{granted, verdict-claims}
 use Rattle.s66_checker.proofs.LoadsLeft.{gone, rising-few}

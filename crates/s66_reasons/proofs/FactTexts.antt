@@ -1,5 +1,5 @@
 -- What is said of fact lines, one after the other, and what is granted of those that are taken.
-use Rattle.std.proofs.Common.{ℕ, ◌+◌, ◌≡◌, ◌<◌, ◌&&◌, ◌∙◌, Bool, true, false, cond, List, [], ◌∷◌, ◌++◌, Option, Some, ap, append_assoc, sym, refl, drop, get_or, map, length}
+use Rattle.std.proofs.Common.{ℕ, ◌+◌, ◌≡◌, ◌<◌, ◌&&◌, ◌∙◌, Bool, true, false, List, [], ◌∷◌, ◌++◌, Option, Some, ap, append_assoc, sym, refl, drop, get_or, map, length}
 use Rattle.std.specs.Prelude.{unwrap_or}
 use Rattle.std.proofs.lemmas.Bool.{and_parts, cond-true, cond-false}
 use Rattle.s66_isa.specs.declared.instr.Kind.{Kind}

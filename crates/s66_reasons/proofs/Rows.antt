@@ -3,9 +3,8 @@ use Rattle.std.proofs.Common.{ℕ, ◌≡◌, ◌≤◌, ◌∙◌, ◌+◌, Lis
 use Rattle.s66_isa.specs.declared.reg.Reg.{Reg}
 use Rattle.s66_isa.specs.Lists.{greatest, least}
 use Rattle.s66_isa.specs.Table.{Row, Write, numbers}
-use Rattle.s66_model.specs.Timing.{Point, row_at, done_of}
-use Rattle.s66_model.specs.LegalOrder.{remaining}
-use Rattle.s66_model.specs.Leaves.{Leaf, Whole, Chain, Load, Parcels, MayStand, head, if_last, link, tail, value, walk}
+use Rattle.s66_model.specs.Timing.{row_at}
+use Rattle.s66_model.specs.Leaves.{Leaf, Whole, Chain, Load, Parcels, MayStand, head, if_last, link, value, walk}
 use Rattle.s66_model.specs.DominatedLeaves.{Bounding}
 use Rattle.s66_model.proofs.Remaining.{all-remain}
 use Rattle.s66_cert.specs.Document.{Document}

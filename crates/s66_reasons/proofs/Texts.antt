@@ -1,5 +1,5 @@
 -- Rows that are appended piece by piece.
-use Rattle.std.proofs.Common.{ℕ, suc, ◌+◌, ◌-◌, ◌≡◌, ◌<◌, ◌∙◌, List, [], ◌∷◌, ◌++◌, codes, drop, get_or, length, map, ap, append_assoc, sym, arith}
+use Rattle.std.proofs.Common.{ℕ, suc, ◌+◌, ◌-◌, ◌≡◌, ◌<◌, ◌∙◌, List, ◌∷◌, ◌++◌, codes, drop, get_or, length, map, ap, append_assoc, sym, arith}
 use Rattle.std.specs.Prelude.{Result, IfOk}
 use Rattle.std.proofs.lemmas.List.{at_drop_more}
 use Rattle.std.proofs.lemmas.Result.{IfOk-equal}

@@ -1,4 +1,4 @@
-use Rattle.std.proofs.Common.{ℕ, ◌≡◌, ◌+◌, ◌∙◌, true, List, ap, sym, drop, arith, subst}
+use Rattle.std.proofs.Common.{◌≡◌, ◌+◌, ◌∙◌, true, List, ap, sym, drop, arith, subst}
 use Rattle.s66_model.specs.Timing.{Problem}
 use Rattle.s66_moments.specs.declared.fact_line.FactLine.{FactLine}
 use Rattle.s66_moments.specs.Known.{Known, are_taken, is_taken}

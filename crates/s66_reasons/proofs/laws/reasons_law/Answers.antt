@@ -1,7 +1,6 @@
-use Rattle.std.proofs.Common.{ℕ, ◌≡◌, ◌≤◌, [], length, map, sym, subst, arith}
+use Rattle.std.proofs.Common.{ℕ, ◌≡◌, [], arith}
 use Rattle.s66_line.specs.InstructionText.{instr_in_text}
 use Rattle.std.proofs.lemmas.List.{length-map}
-use Rattle.s66_model.specs.Timing.{total_of}
 use Rattle.s66_model.specs.Leaves.{value}
 use Rattle.s66_model.specs.DominatedLeaves.{Bounding}
 use Rattle.s66_model.proofs.Remaining.{legal-parts}
