@@ -83,7 +83,7 @@ pub(crate) const ROWS: &[Row] = &[
         &["s66", "check", "--profile", "{}"],
         THREE_UNITS,
         2,
-        "error: unexpected argument '--profile' found\n\nUsage: s66 check < CERTIFICATES\n\nFor more information, try '--help'.\n",
+        "error: unexpected argument '--profile' found\n\nUsage: s66 check [OPTIONS] < CERTIFICATES\n\nFor more information, try '--help'.\n",
     ),
 ];
 
