@@ -201,23 +201,23 @@ def ran(words, text):
         _, _, used = os.wait4(child.pid, 0)
         child.returncode = 0
         out.seek(0)
-        return out.read().decode(), used.ru_utime + used.ru_stime, used.ru_maxrss / 1024
+        return out.read().decode(), used.ru_utime + used.ru_stime
 
 
 def measured(program, nodes, block):
-    """For each mode the time, the bound, the splits, the seconds and the megabytes."""
+    """For each mode the time, the bound, the splits and the seconds."""
     group, name, text, profile = block
     found = {}
     for mode, options in MODES.items():
         words = [program, "order", "--trace", "--workers", "1", "--nodes", str(nodes)] + options + profile
-        told, seconds, megabytes = ran(words, text)
+        told, seconds = ran(words, text)
         total, bound, splits = HEAD.search(told).groups()
-        found[mode] = (int(total), int(bound or total), int(splits), seconds, megabytes)
+        found[mode] = (int(total), int(bound or total), int(splits), seconds)
     return group, name, found
 
 
 def tell(group, rows):
-    """A line for each mode: blocks, proved best, times above the best known, bounds below it in 100, splits, seconds, the most megabytes."""
+    """A line for each mode: proved best, times above the best known, bounds below it in 100, splits, seconds."""
     best = [min(found[mode][0] for mode in MODES) for found in rows]
     for mode in MODES:
         kept = [found[mode] for found in rows]
@@ -226,8 +226,7 @@ def tell(group, rows):
         below = 100 * (1 - sum(bound for _, bound, *_ in kept) / sum(best))
         splits = sum(one[2] for one in kept)
         seconds = sum(one[3] for one in kept)
-        peak = max(one[4] for one in kept)
-        print("%-16s %-16s %3d of %3d  +%-4d -%5.2f %%  %9d splits  %7.2f s  %4.0f MB" % (group, mode, decided, len(kept), above, below, splits, seconds, peak))
+        print("%-16s %-16s %3d of %3d  +%-4d -%5.2f %%  %9d splits  %7.2f s" % (group, mode, decided, len(kept), above, below, splits, seconds))
 
 
 def main():

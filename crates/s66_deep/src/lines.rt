@@ -19,11 +19,8 @@ const WIDTHS: [usize; 3] = [2, 16, BEAM_WIDTH];
 /// The same of one that is tried where the others left something to be found.
 pub(crate) const WIDE_WIDTH: usize = 512;
 
-/// The same of one that is tried besides where what was found is far above what is shown of all orders.
-const WIDEST_WIDTH: usize = 2048;
-
-/// How many minor cycles are far. An order that takes one more than the bound is mostly a best one.
-const FAR: u32 = 2;
+/// The same of one that is tried where some splits ended no search either.
+pub(crate) const WIDEST_WIDTH: usize = 2048;
 
 /// How often a beam goes on by the lines for a better time.
 const BEAMS_LIMIT: u32 = 4;
@@ -102,31 +99,19 @@ pub(crate) fn found_below(finder: &Finder, bound: u32) -> Result<Finder, AllocEr
     Ok(other)
 }
 
-/// The widths of the beams that are tried before orders are split, where the best order takes so much and all orders at least `bound`, both
-/// in minor cycles.
-pub(crate) fn wide_widths(time: u32, bound: u32) -> &'static [usize] {
-    if time.saturating_sub(bound) < FAR {
-        &[WIDE_WIDTH]
-    } else {
-        &[WIDE_WIDTH, WIDEST_WIDTH]
-    }
-}
-
-/// The same as what was found, or better: as long as a beam of this width finds an order by the lines, the next ones are by its time, and
-/// go on from those of a finder.
-fn by_beams_of(
+/// The best order, and the fact lines for orders that take less. As long as a beam of this width finds one by such lines, the next ones
+/// are by its time.
+pub(crate) fn best_by_lines(
     instance: &Instance<'_>,
     finder: &Finder,
     width: usize,
-    lined: Lined,
+    best: Timed,
 ) -> Result<Lined, AllocError>
-    requires { IsGood instance.now lined.best }
-    ensures { IfOk result (λ next. IsGood instance.now next.best) }
+    requires { IsGood instance.now best }
+    ensures { IfOk result (λ lined. IsGood instance.now lined.best) }
 {
-    let Lined {
-        mut best,
-        mut below,
-    } = lined;
+    let mut best = best;
+    let mut below = found_below(finder, best.total())?;
     for _ in 0..BEAMS_LIMIT {
         if best.total() <= below.root().1 {
             break;
@@ -139,24 +124,6 @@ fn by_beams_of(
         below = found_below(finder, best.total())?;
     }
     Ok(Lined { best, below })
-}
-
-/// The best order, or a better one that beams of these widths find, one after the other, and the fact lines for orders that take less.
-pub(crate) fn best_by_lines(
-    instance: &Instance<'_>,
-    finder: &Finder,
-    widths: &[usize],
-    best: Timed,
-) -> Result<Lined, AllocError>
-    requires { IsGood instance.now best }
-    ensures { IfOk result (λ lined. IsGood instance.now lined.best) }
-{
-    let below = found_below(finder, best.total())?;
-    let mut lined = Lined { best, below };
-    for width in widths {
-        lined = by_beams_of(instance, finder, *width, lined)?;
-    }
-    Ok(lined)
 }
 
 /// The middle of a bound and what is above it, in minor cycles; the greater one of two.

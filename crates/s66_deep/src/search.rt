@@ -5,8 +5,8 @@ ghost use Rattle.s66_deep.specs.Orders.{IsGood};
 
 use crate::instance::Instance;
 use crate::lines::{
-    BEAM_WIDTH, Bound, Halved, Lined, WIDE_WIDTH, beam_by, best_by_lines, found_below, halve,
-    wide_widths,
+    BEAM_WIDTH, Bound, Halved, Lined, WIDE_WIDTH, WIDEST_WIDTH, beam_by, best_by_lines,
+    found_below, halve,
 };
 use crate::orders::faster;
 use s66_branch::{Branched, Limits, branch};
@@ -19,6 +19,9 @@ use std::alloc::{AllocError, Global};
 
 /// By how many minor cycles a bound is raised at most.
 const RAISES_LIMIT: u32 = 128;
+
+/// What part of its splits a search makes before the widest beam is tried, which takes longer than most searches.
+const FIRST_SHARE: u32 = 16;
 
 /// The lines of a document before its fact lines, but for those of its instructions.
 const HEAD_LINES: u32 = 6;
@@ -266,6 +269,49 @@ fn raise(
     })
 }
 
+/// Goes on from what was found, unless no order takes less, by the fact lines of orders that take less: beams of this width, and a search
+/// of at most so many more splits.
+fn go_on(
+    instance: &Instance<'_>,
+    finder: &Finder,
+    searched: Searched,
+    width: usize,
+    most: u32,
+) -> Result<Searched, AllocError>
+    requires { IsGood instance.now searched.best }
+    ensures best { IfOk result (λ next. IsGood instance.now next.best) }
+    ensures splits { IfOk result (λ next. next.splits ≤ searched.splits + most) }
+{
+    let bound = searched.shown.bound();
+    if searched.best.total() <= bound {
+        return Ok(searched);
+    }
+    let Searched {
+        best,
+        shown,
+        splits,
+    } = searched;
+    let Lined { best, below } = best_by_lines(instance, finder, width, best)?;
+    if best.total() <= bound {
+        return Ok(Searched {
+            best,
+            shown,
+            splits,
+        });
+    }
+    let goal = Goal {
+        limit: best.total(),
+        bound,
+        splits: most,
+    };
+    let tried = search_below(instance, below, best, goal)?;
+    Ok(Searched {
+        best: tried.best,
+        shown: shown.or_more(tried.shown),
+        splits: splits.saturating_add(tried.splits),
+    })
+}
+
 /// The best order that is found, and what shows that none takes less, or how little less: fact lines and a leaf, or a tree of at most
 /// this many splits. At most half as many more are made to raise what is shown, after those for orders that take less than the best.
 pub(crate) fn search(
@@ -278,37 +324,15 @@ pub(crate) fn search(
     ensures best { IfOk result (λ searched. IsGood instance.now searched.best) }
     ensures splits { IfOk result (λ searched. searched.splits ≤ most + most / 2) }
 {
-    let lined = best_by_lines(instance, finder, &[BEAM_WIDTH], best)?;
+    let lined = best_by_lines(instance, finder, BEAM_WIDTH, best)?;
     let Halved { best, below, bound } = halve(instance, lined)?;
-    let shown = Shown::ByLeaf(bound);
-    if best.total() <= shown.bound() {
-        return Ok(Searched {
-            best,
-            shown,
-            splits: 0,
-        });
-    }
-    let widths = wide_widths(best.total(), shown.bound());
-    let lined = best_by_lines(instance, &below, widths, best)?;
-    let Lined { best, below: lines } = lined;
-    let time = best.total();
-    if time <= shown.bound() {
-        return Ok(Searched {
-            best,
-            shown,
-            splits: 0,
-        });
-    }
-    let goal = Goal {
-        limit: time,
-        bound: shown.bound(),
-        splits: most,
-    };
-    let tried = search_below(instance, lines, best, goal)?;
     let searched = Searched {
-        best: tried.best,
-        shown: shown.or_more(tried.shown),
-        splits: tried.splits,
+        best,
+        shown: Shown::ByLeaf(bound),
+        splits: 0,
     };
-    raise(instance, &below, searched, most / 2)
+    let first = go_on(instance, &below, searched, WIDE_WIDTH, most / FIRST_SHARE)?;
+    let left = most.saturating_sub(first.splits);
+    let second = go_on(instance, &below, first, WIDEST_WIDTH, left)?;
+    raise(instance, &below, second, most / 2)
 }

@@ -1,5 +1,5 @@
 use Rattle.s66_deep.specs.Orders.{IsGood}
 use Rattle.s66_deep.proofs.lines.best_by_lines.Given as goal
 
-abbrev pub invariant-loop-width : goal.invariant-loop-width
-invariant-loop-width l = IsGood l.fn.instance l.lined.best
+abbrev pub invariant-loop : goal.invariant-loop
+invariant-loop l = IsGood l.fn.instance l.best

@@ -1,5 +1,0 @@
-use Rattle.s66_deep.specs.Orders.{IsGood}
-use Rattle.s66_deep.proofs.lines.by_beams_of.Given as goal
-
-abbrev pub invariant-loop : goal.invariant-loop
-invariant-loop l = IsGood l.fn.instance l.best
