@@ -89,6 +89,7 @@ pub fn summed<R: AllocGlobal + Threads + Wait + Sync>(rt: &R) -> Result<Answered
             deep: false,
         },
         trace: false,
+        words: false,
         block: None,
         profile: None,
     };
