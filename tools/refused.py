@@ -57,7 +57,8 @@ def searches():
     for words in (["order", "--trace", "--workers", "2"], ["order", "--workers", "4"], ["sum", "--workers", "16"]):
         yield [*words, "--nodes", "2100"], SEVEN, {7}
     # whole blocks by the workers
-    for words in (["order", "--trace"], ["sum", "--trace"], ["prove"], ["page"], ["why", "--order"], ["json", "--order"]):
+    for words in (["order", "--trace"], ["order", "--keep", "--columns"], ["sum", "--trace", "--words"], ["prove"], ["page"],
+                  ["why", "--order"], ["json", "--order"]):
         yield [*words, "--deep", "--workers", "2"], SOURCE, {0}
     # blocks of which a search without facts leaves something to be found
     for words in (["order", "--trace"], ["prove"]):
@@ -72,12 +73,13 @@ def rows():
     yield ["time", "more"], "", {2}
     yield ["order", "--workers", "17"], "", {2}
     yield ["order", "--dominate", "--dominate-tree"], "", {2}
-    for words in (["time"], ["time", "--trace"], ["deps"], ["chart"], ["why"], ["json"]):
+    for words in (["time"], ["time", "--trace"], ["deps"], ["chart"], ["why"], ["why", "--text"], ["json"]):
         yield words, SOURCE, {0}
         yield words, REFUSED_SOURCE, {3}
     yield ["time", "--profile", '{"load":2,"units_multiply":3}'], SOURCE, {0}
     yield ["time", "--profile", '{"load":0}'], SOURCE, {3}
     yield ["lint"], SOURCE, {0}
+    yield ["lint", "--cut"], SOURCE, {0}
     yield ["compare"], SOURCE + "*S66 NEW\n" + SOURCE, {0}
     yield ["compare"], SOURCE + "*S66 NEW\n" + REFUSED_SOURCE, {3}
     yield ["lint"], REFUSED_SOURCE, {5}
@@ -199,7 +201,8 @@ def table_of(program, tools, runner):
     """The rows of the program, and those of TOOLS, which lists its calls when none is named."""
     yield from (([program, *words], given.encode(), statuses) for words, given, statuses in rows())
     documents = list(documents_of(program))
-    yield from (([program, "check"], text.encode(), {0}) for text in documents)
+    for words in (["check"], ["check", "--text"]):
+        yield from (([program, *words], text.encode(), {0}) for text in documents)
     yield [program, "check"], documents[0].replace("BOUND", "BOUND ").encode(), {3}
     for name in runner.run([tools, "call"], b"")[0][1].decode().split() if tools else ():
         yield [tools, "call", name], b"", {0}
