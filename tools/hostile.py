@@ -6,7 +6,7 @@
 Documents for `check`: each front of one, numbers of 10,000 digits, a million nodes and one more, a tree of the deepest block,
 names that point to each wrong place, 362,879 leaves that name one node, and as many fact lines as there may be. Sources: a gigabyte
 of newlines, of blanks without a newline, and of instructions, for each subcommand. What each has to answer stands beside it. None
-may take more than 10 seconds of processor time, a document of fact lines no more than 15 for each megabyte that it has; or more than
+may take more than 10 seconds of processor time, a document of fact lines no more than 30 for each megabyte that it has; or more than
 200 MB of address space, and a source of a gigabyte no more than 32 MB. The status is 1 if something is
 wrong.
 """
@@ -25,7 +25,7 @@ ALIKE = ("S66 CERTIFICATE 3\n" + PROFILE + "BLOCK 3\nI SB0 B1\nI SB0 B1\nI SB0 B
          "S 1 2 3\nS 2 3\nS 3\nT\nS 2\nT\nS 1 3\nD 1 2\nS 1\nT\nS 1 2\nD 1 3\nD 2 3\nEND\n")
 CHAIN = ("S66 CERTIFICATE 1\n" + PROFILE + "BLOCK 3\nI SA1 A1+B1\nI BX6 X1\nI BX7 X2\nTIME 12\nBOUND 12\nORDER 1 3 2\nC 1 2\nEND\n")
 SECONDS, MEGABYTES, FRONT_MEGABYTES = 10, 200, 32
-MOST_FACTS, MOST, MEGABYTE_SECONDS = 4096, 128, 15
+MOST_FACTS, MOST, MEGABYTE_SECONDS = 4096, 128, 30
 GIGABYTE = 1 << 30
 # the second lines after a source that is refused, and after what is no certificate
 LISTED, LONG = b"s66 lint lists all such lines, --cut leaves them alone\n", b"a line has at most 200 bytes; s66 lint lists all that have more\n"
