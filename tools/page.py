@@ -37,8 +37,8 @@ HIGHEST = 12_000  # the most lines of dots of a picture
 WAIT = re.compile(r" *(\d+) (FIRST|SECOND|THIRD) (\d+) TO (\d+) (REGISTER (\w\d)|UNIT (\w+)|MEMORY) BY (\d+)")
 TRACE = re.compile(r"I (\d+) PARCEL \d+ ISSUE (\d+) START (\d+) DONE (\d+) FREE (\d+)")
 INSTRUCTION = re.compile(rb"(?![*])\S*[ +-] *((?:[A-Z]X[0-7]|S[AB][0-7])\b.*)")
-SUM = re.compile(r"BLOCK (\d+) LINE (\d+) COUNT (\d+) SOURCE (\d+) TIME (\d+) (BEST|AT LEAST \d+)")
-TOTAL = re.compile(r"TOTAL BLOCKS \d+ SOURCE (\d+) TIME (\d+) (BEST \d+)")
+SUM = re.compile(r"BLOCK (\d+) LINE (\d+) COUNT (\d+) SOURCE (\d+) TIME (\d+) (BEST|AT LEAST \d+) MOVED \d+")
+TOTAL = re.compile(r"TOTAL BLOCKS \d+ SOURCE (\d+) TIME (\d+) (BEST \d+) MOVED \d+")
 
 HOSTILE = {
     "script": b"  SA1 A1+B1  <script>document.title='no'</script>\n  BX6 X1  <img src=x onerror=alert(1)>\n",
