@@ -1,7 +1,9 @@
 use crate::commands::check_output;
 use crate::running::run;
-use s66_model::{Options, Rule};
-use s66_program::{Command, Status, Strategy, command_of};
+use s66_program::{Command, Status, command_of};
+use std::process::Abort;
+
+mod searches;
 
 /// Words, and the status: 0 of help, 2 of words that are no command.
 const NO_COMMANDS: &[(&[&str], u8)] = &[
@@ -104,7 +106,7 @@ const NO_COMMANDS: &[(&[&str], u8)] = &[
     (&["s66", "json", "--help"], 0),
 ];
 
-/// Words, and the command that they give.
+/// Words, and the command without a search that they give.
 const COMMANDS: &[(&[&str], Command)] = &[
     (
         &["s66", "time"],
@@ -201,31 +203,6 @@ const COMMANDS: &[(&[&str], Command)] = &[
         },
     ),
     (
-        &[
-            "s66",
-            "why",
-            "--nodes",
-            "9",
-            "--order",
-            "--block=2",
-            "--dominate",
-        ],
-        Command::Why {
-            cut: false,
-            order: Some(Strategy {
-                search: Options {
-                    workers: 4,
-                    nodes: 9,
-                    rule: Rule::WrittenEarlier,
-                },
-                deep: false,
-            }),
-            text: false,
-            block: Some(2),
-            profile: None,
-        },
-    ),
-    (
         &["s66", "why", "--nodes", "9"],
         Command::Why {
             cut: false,
@@ -242,200 +219,6 @@ const COMMANDS: &[(&[&str], Command)] = &[
             order: None,
             block: None,
             profile: Some("{}"),
-        },
-    ),
-    (
-        &["s66", "json", "--order", "--deep", "--block=2"],
-        Command::Json {
-            cut: false,
-            order: Some(Strategy {
-                search: Options {
-                    workers: 4,
-                    nodes: 100_000,
-                    rule: Rule::ClampedStanding,
-                },
-                deep: true,
-            }),
-            block: Some(2),
-            profile: None,
-        },
-    ),
-    (
-        &["s66", "page", "--block", "3"],
-        Command::Page {
-            cut: false,
-            strategy: Strategy {
-                search: Options {
-                    workers: 4,
-                    nodes: 100_000,
-                    rule: Rule::NoneNamed,
-                },
-                deep: false,
-            },
-            block: Some(3),
-            profile: None,
-        },
-    ),
-    (
-        &["s66", "page", "--cut", "--nodes=7", "--dominate-tree"],
-        Command::Page {
-            cut: true,
-            strategy: Strategy {
-                search: Options {
-                    workers: 4,
-                    nodes: 7,
-                    rule: Rule::ClampedStanding,
-                },
-                deep: false,
-            },
-            block: None,
-            profile: None,
-        },
-    ),
-    (
-        &["s66", "sum", "--deep", "--nodes", "9"],
-        Command::Sum {
-            cut: false,
-            strategy: Strategy {
-                search: Options {
-                    workers: 4,
-                    nodes: 9,
-                    rule: Rule::ClampedStanding,
-                },
-                deep: true,
-            },
-            trace: false,
-            words: false,
-            block: None,
-            profile: None,
-        },
-    ),
-    (
-        &["s66", "order", "--trace", "--cut"],
-        Command::Order {
-            cut: true,
-            strategy: Strategy {
-                search: Options {
-                    workers: 4,
-                    nodes: 100_000,
-                    rule: Rule::NoneNamed,
-                },
-                deep: false,
-            },
-            trace: true,
-            keep: false,
-            columns: false,
-            quiet: false,
-            block: None,
-            profile: None,
-        },
-    ),
-    (
-        &["s66", "prove", "--cut", "--profile=--cut"],
-        Command::Prove {
-            cut: true,
-            strategy: Strategy {
-                search: Options {
-                    workers: 4,
-                    nodes: 100_000,
-                    rule: Rule::NoneNamed,
-                },
-                deep: false,
-            },
-            block: None,
-            profile: Some("--cut"),
-        },
-    ),
-    (
-        &["s66", "sum", "--cut", "--workers=2"],
-        Command::Sum {
-            cut: true,
-            strategy: Strategy {
-                search: Options {
-                    workers: 2,
-                    nodes: 100_000,
-                    rule: Rule::NoneNamed,
-                },
-                deep: false,
-            },
-            trace: false,
-            words: false,
-            block: None,
-            profile: None,
-        },
-    ),
-    (
-        &["s66", "prove", "--block", "20000"],
-        Command::Prove {
-            cut: false,
-            strategy: Strategy {
-                search: Options {
-                    workers: 4,
-                    nodes: 100_000,
-                    rule: Rule::NoneNamed,
-                },
-                deep: false,
-            },
-            block: Some(20_000),
-            profile: None,
-        },
-    ),
-    (
-        &["s66", "sum", "--block=3", "--deep"],
-        Command::Sum {
-            cut: false,
-            strategy: Strategy {
-                search: Options {
-                    workers: 4,
-                    nodes: 100_000,
-                    rule: Rule::ClampedStanding,
-                },
-                deep: true,
-            },
-            trace: false,
-            words: false,
-            block: Some(3),
-            profile: None,
-        },
-    ),
-    (
-        &["s66", "order", "--keep", "--block", "2"],
-        Command::Order {
-            cut: false,
-            strategy: Strategy {
-                search: Options {
-                    workers: 4,
-                    nodes: 100_000,
-                    rule: Rule::NoneNamed,
-                },
-                deep: false,
-            },
-            trace: false,
-            keep: true,
-            columns: false,
-            quiet: false,
-            block: Some(2),
-            profile: None,
-        },
-    ),
-    (
-        &["s66", "order", "--quiet"],
-        Command::Order {
-            cut: false,
-            strategy: Strategy {
-                search: Options {
-                    workers: 4,
-                    nodes: 100_000,
-                    rule: Rule::NoneNamed,
-                },
-                deep: false,
-            },
-            trace: false,
-            keep: false,
-            columns: false,
-            quiet: true,
-            block: None,
-            profile: None,
         },
     ),
     (&["s66", "lint"], Command::Lint { cut: false }),
@@ -472,248 +255,6 @@ const COMMANDS: &[(&[&str], Command)] = &[
             profile: Some(""),
         },
     ),
-    (
-        &["s66", "prove", "--profile", "no profile", "--nodes", "7"],
-        Command::Prove {
-            cut: false,
-            strategy: Strategy {
-                search: Options {
-                    workers: 4,
-                    nodes: 7,
-                    rule: Rule::NoneNamed,
-                },
-                deep: false,
-            },
-            block: None,
-            profile: Some("no profile"),
-        },
-    ),
-    (
-        &["s66", "sum", "--workers", "16", "--profile", "{}"],
-        Command::Sum {
-            cut: false,
-            strategy: Strategy {
-                search: Options {
-                    workers: 16,
-                    nodes: 100_000,
-                    rule: Rule::NoneNamed,
-                },
-                deep: false,
-            },
-            trace: false,
-            words: false,
-            block: None,
-            profile: Some("{}"),
-        },
-    ),
-    (
-        &["s66", "sum", "--dominate-tree", "--trace", "--nodes=0"],
-        Command::Sum {
-            cut: false,
-            strategy: Strategy {
-                search: Options {
-                    workers: 4,
-                    nodes: 0,
-                    rule: Rule::ClampedStanding,
-                },
-                deep: false,
-            },
-            trace: true,
-            words: false,
-            block: None,
-            profile: None,
-        },
-    ),
-    (
-        &["s66", "sum", "--dominate"],
-        Command::Sum {
-            cut: false,
-            strategy: Strategy {
-                search: Options {
-                    workers: 4,
-                    nodes: 100_000,
-                    rule: Rule::WrittenEarlier,
-                },
-                deep: false,
-            },
-            trace: false,
-            words: false,
-            block: None,
-            profile: None,
-        },
-    ),
-    (
-        &["s66", "order", "--trace", "--profile=--trace"],
-        Command::Order {
-            cut: false,
-            strategy: Strategy {
-                search: Options {
-                    workers: 4,
-                    nodes: 100_000,
-                    rule: Rule::NoneNamed,
-                },
-                deep: false,
-            },
-            trace: true,
-            keep: false,
-            columns: false,
-            quiet: false,
-            block: None,
-            profile: Some("--trace"),
-        },
-    ),
-    (
-        &["s66", "order"],
-        Command::Order {
-            cut: false,
-            strategy: Strategy {
-                search: Options {
-                    workers: 4,
-                    nodes: 100_000,
-                    rule: Rule::NoneNamed,
-                },
-                deep: false,
-            },
-            trace: false,
-            keep: false,
-            columns: false,
-            quiet: false,
-            block: None,
-            profile: None,
-        },
-    ),
-    (
-        &["s66", "order", "--trace"],
-        Command::Order {
-            cut: false,
-            strategy: Strategy {
-                search: Options {
-                    workers: 4,
-                    nodes: 100_000,
-                    rule: Rule::NoneNamed,
-                },
-                deep: false,
-            },
-            trace: true,
-            keep: false,
-            columns: false,
-            quiet: false,
-            block: None,
-            profile: None,
-        },
-    ),
-    (
-        &["s66", "order", "--workers", "1", "--nodes", "0"],
-        Command::Order {
-            cut: false,
-            strategy: Strategy {
-                search: Options {
-                    workers: 1,
-                    nodes: 0,
-                    rule: Rule::NoneNamed,
-                },
-                deep: false,
-            },
-            trace: false,
-            keep: false,
-            columns: false,
-            quiet: false,
-            block: None,
-            profile: None,
-        },
-    ),
-    (
-        &["s66", "order", "--nodes=1000000", "--workers=16", "--trace"],
-        Command::Order {
-            cut: false,
-            strategy: Strategy {
-                search: Options {
-                    workers: 16,
-                    nodes: 1_000_000,
-                    rule: Rule::NoneNamed,
-                },
-                deep: false,
-            },
-            trace: true,
-            keep: false,
-            columns: false,
-            quiet: false,
-            block: None,
-            profile: None,
-        },
-    ),
-    (
-        &["s66", "order", "--dominate"],
-        Command::Order {
-            cut: false,
-            strategy: Strategy {
-                search: Options {
-                    workers: 4,
-                    nodes: 100_000,
-                    rule: Rule::WrittenEarlier,
-                },
-                deep: false,
-            },
-            trace: false,
-            keep: false,
-            columns: false,
-            quiet: false,
-            block: None,
-            profile: None,
-        },
-    ),
-    (
-        &["s66", "order", "--trace", "--dominate-tree", "--nodes", "8"],
-        Command::Order {
-            cut: false,
-            strategy: Strategy {
-                search: Options {
-                    workers: 4,
-                    nodes: 8,
-                    rule: Rule::ClampedStanding,
-                },
-                deep: false,
-            },
-            trace: true,
-            keep: false,
-            columns: false,
-            quiet: false,
-            block: None,
-            profile: None,
-        },
-    ),
-    (
-        &["s66", "prove", "--dominate", "--profile=--dominate-tree"],
-        Command::Prove {
-            cut: false,
-            strategy: Strategy {
-                search: Options {
-                    workers: 4,
-                    nodes: 100_000,
-                    rule: Rule::WrittenEarlier,
-                },
-                deep: false,
-            },
-            block: None,
-            profile: Some("--dominate-tree"),
-        },
-    ),
-    (
-        &["s66", "prove", "--dominate-tree"],
-        Command::Prove {
-            cut: false,
-            strategy: Strategy {
-                search: Options {
-                    workers: 4,
-                    nodes: 100_000,
-                    rule: Rule::ClampedStanding,
-                },
-                deep: false,
-            },
-            block: None,
-            profile: None,
-        },
-    ),
     (&["s66", "check"], Command::Check { text: false }),
     (&["s66", "check", "--text"], Command::Check { text: true }),
     (
@@ -723,44 +264,6 @@ const COMMANDS: &[(&[&str], Command)] = &[
             order: None,
             text: true,
             block: Some(2),
-            profile: None,
-        },
-    ),
-    (
-        &["s66", "order", "--columns", "--keep"],
-        Command::Order {
-            cut: false,
-            strategy: Strategy {
-                search: Options {
-                    workers: 4,
-                    nodes: 100_000,
-                    rule: Rule::NoneNamed,
-                },
-                deep: false,
-            },
-            trace: false,
-            keep: true,
-            columns: true,
-            quiet: false,
-            block: None,
-            profile: None,
-        },
-    ),
-    (
-        &["s66", "sum", "--words", "--deep"],
-        Command::Sum {
-            cut: false,
-            strategy: Strategy {
-                search: Options {
-                    workers: 4,
-                    nodes: 100_000,
-                    rule: Rule::ClampedStanding,
-                },
-                deep: true,
-            },
-            trace: false,
-            words: true,
-            block: None,
             profile: None,
         },
     ),
@@ -776,12 +279,17 @@ fn runs_no_commands(rt: HostRuntime) {
     }
 }
 
-#[test]
-fn reads_words(rt: HostRuntime) {
-    for &(words, command) in COMMANDS {
+fn check_commands<R: AllocGlobal + Abort>(rt: &R, table: &[(&[&str], Command)]) {
+    for &(words, command) in table {
         let read = command_of(rt.alloc(), words);
         assert!(rt; matches!(read, Ok(read) if read == command), "{words:?}");
     }
+}
+
+#[test]
+fn reads_words(rt: HostRuntime) {
+    check_commands(&rt, COMMANDS);
+    check_commands(&rt, searches::COMMANDS);
 }
 
 #[test]
