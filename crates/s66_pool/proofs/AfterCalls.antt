@@ -23,7 +23,7 @@ use Rattle.s66_ledger.specs.declared.reply.GraftError.TheVariants as refused
 use Rattle.s66_ledger.specs.declared.reply.BackError.{BackError}
 use Rattle.s66_ledger.specs.declared.reply.BackError.TheVariants as kept
 use Rattle.s66_ledger.proofs.Taken.{same-splits}
-use Rattle.s66_lock.specs.SeatViews.{View, MayBecome, renewed, idle, holding, first_book}
+use Rattle.s66_share.specs.SeatViews.{View, MayBecome, renewed, idle, holding, first_book}
 use Rattle.s66_pool.specs.Hubs.{SeatOf, HasGrafted, HasBeenRefused, HasOffered, IsKnown}
 use Rattle.s66_pool.proofs.SeatEvents.{renewed-agrees, same-follows, same-book, event-follows, quiet-book, stated-book, lower-stated, answer-stated, gave-book, gave-opened}
 

@@ -5,9 +5,9 @@ use Rattle.std.proofs.lemmas.List.Elements.{All-nil, All-cons, All-head, All-tai
 use Rattle.s66_isa.specs.Lists.{weigh, some_of}
 use Rattle.s66_model.specs.Accounts.{Summary, SeatRecord, Agrees}
 use Rattle.s66_pool.specs.Hubs.{SeatOf, HaveSeats}
-use Rattle.s66_lock.specs.SeatViews.{books_of}
-use Rattle.s66_lock.specs.LockTokens.{HaveEvery}
-use Rattle.s66_lock.proofs.Sums.{splits-of-all}
+use Rattle.s66_share.specs.SeatViews.{books_of}
+use Rattle.s66_share.specs.LockTokens.{HaveEvery}
+use Rattle.s66_share.proofs.Sums.{splits-of-all}
 
 abbrev pub books_in : List SeatOf → List SeatRecord
 books_in seats = map (λ s. s.book) seats

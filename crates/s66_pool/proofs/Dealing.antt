@@ -6,7 +6,7 @@ use Rattle.s66_isa.specs.Lists.{rising}
 use Rattle.s66_model.specs.Accounts.{Summary, SeatRecord, opened}
 use Rattle.s66_model.proofs.AccountLaws.{accounts-count}
 use Rattle.s66_ledger.specs.Ledgers.{LedgerOf, events_of, account_summary}
-use Rattle.s66_lock.specs.SeatViews.{rest_of, first_book}
+use Rattle.s66_share.specs.SeatViews.{rest_of, first_book}
 use Rattle.s66_pool.specs.Hubs.{SeatOf}
 
 -- an account for each worker

@@ -6,7 +6,7 @@ use Rattle.std.proofs.lemmas.List.Elements.{All-cons, All-head, All-tail, All-ni
 use mathlib.Core.Logic.{dite}
 use native.Mathlib.Decide.{ℕ_discrete}
 use Rattle.atomic_table.specs.Seated.{TableId}
-use Rattle.s66_steal.specs.Lanes.{LaneId, LaneOf}
+use Rattle.s66_share.specs.Lanes.{LaneId, LaneOf}
 use Rattle.s66_pool.specs.Hubs.{SeatOf}
 use Rattle.s66_pool.specs.Victims.{VictimOf}
 use Rattle.s66_pool.specs.declared.member.Local.{Local}

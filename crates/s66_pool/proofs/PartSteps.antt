@@ -12,7 +12,7 @@ use Rattle.atomic_table.specs.Table.{State, Me, keeps, takes, gives, Allows, Ent
 use Rattle.atomic_table.proofs.Lists.{set_here, set_else, exchanged}
 use Rattle.s66_node.specs.MarkTables.{MarkTable}
 use Rattle.s66_pool.specs.Parts.{ArePartsOf}
-use Rattle.s66_lock.proofs.Seats.{each-set, each-snoc, each-one}
+use Rattle.s66_share.proofs.Seats.{each-set, each-snoc, each-one}
 
 abbrev S : Type 0
 S = State MarkTable MarkTable

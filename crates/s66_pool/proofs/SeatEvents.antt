@@ -7,7 +7,7 @@ use Rattle.s66_model.specs.Accounts.{Summary, SeatRecord, Agrees, summary_of, op
 use Rattle.s66_model.proofs.AccountLaws.{agrees-own, agrees-other, accounts-count}
 use Rattle.s66_model.proofs.LedgerRuns.{step-falls}
 use Rattle.s66_ledger.specs.Ledgers.{LedgerOf, IsEvent, events_of, account_summary}
-use Rattle.s66_lock.specs.SeatViews.{View, MayBecome, renewed, idle, holding, first_book, found_at}
+use Rattle.s66_share.specs.SeatViews.{View, MayBecome, renewed, idle, holding, first_book, found_at}
 
 -- in either case
 pub settled : {T E F : Type 0} (r : Result T E) (P : T → Type 0) (Q : E → Type 0) → ((x : T) → P x → F) → ((e : E) → Q e → F) → IfOk r P → IfErr r Q → F

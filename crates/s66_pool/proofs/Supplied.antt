@@ -11,7 +11,7 @@ use Rattle.s66_ledger.specs.Ledgers.{LedgerOf, IsEvent, account_summary}
 use Rattle.s66_ledger.specs.Grafts.{IsGraftAt}
 use Rattle.s66_pool.specs.declared.supply.Supply.{Supply}
 use Rattle.s66_pool.specs.Supplies.{AreEvents, after_events, grants, claims, last_claim, supplied}
-use Rattle.s66_lock.specs.SeatViews.{MayBecome, renewed}
+use Rattle.s66_share.specs.SeatViews.{MayBecome, renewed}
 use Rattle.s66_pool.specs.Hubs.{SeatOf, HasSupply, HasGrafted, HasGraftedAndSupply}
 use Rattle.s66_pool.proofs.SeatEvents.{event-follows, event-agrees, follows-itself, follows-on, renewed-is, renewed-agrees}
 use Rattle.s66_pool.proofs.AfterCalls.{Keeps, grafted}

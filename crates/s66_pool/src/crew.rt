@@ -1,6 +1,6 @@
 ghost use Rattle.std.specs.Prelude.{◌≡◌, ◌<◌, ◌≤◌, ℕ, [], IfOk, IfErr, All, length, slice_index_or, vec_capacity, vec_len};
 ghost use Rattle.s66_line.specs.Block.{instrs_of};
-ghost use Rattle.s66_steal.specs.Lanes.{LaneId};
+ghost use Rattle.s66_share.specs.Lanes.{LaneId};
 ghost use Rattle.s66_pool.specs.Workers.{AreSameSeats, VictimsMatchLanes, IsSameMember, IsSameSeat, lanes_of, locals_of, seats_of, victims_of};
 
 use crate::gate::Gate;
@@ -13,9 +13,9 @@ use crate::victim::Victim;
 use crate::worker::{Site, work_at};
 use s66_isa::Profile;
 use s66_line::Block;
-use s66_lock::Hint;
 use s66_model::{Options, Rule, WORKERS_LIMIT};
 use s66_node::Marks;
+use s66_share::Hint;
 use std::alloc::AllocError;
 use std::sync::Wait;
 use std::sync::atomic::AtomicUsize;

@@ -1,7 +1,7 @@
 use crate::opening::{have_seats, splits_of_workers};
 use crate::seat::Seat;
 use s66_ledger::Ledger;
-use s66_lock::Lock;
+use s66_share::Lock;
 use std::alloc::{AllocError, Global};
 use std::boxed::Box;
 use std::marker::Model;

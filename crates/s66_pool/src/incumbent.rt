@@ -1,7 +1,7 @@
 ghost use Rattle.std.specs.Prelude.{◌≡◌, ◌≤◌, min};
 
-use s66_lock::{Hint, HintSeat};
 use s66_node::Least;
+use s66_share::{Hint, HintSeat};
 
 /// The best time as a worker knows it: a hint, and the worker's seat there.
 #[derive(Drop)]

@@ -26,7 +26,7 @@ pub use gate::{Free, Gate};
 pub use hub::{Hub, SeatsMissing};
 pub use limits::{CLAIMS_LIMIT, FIRST_SPLITS};
 pub use lone::LoneSearch;
-pub use s66_lock::{Hint, HintSeat};
+pub use s66_share::{Hint, HintSeat};
 pub use search::{run, run_from};
 pub use seat::Seat;
 pub use supply::{Needs, Supply};

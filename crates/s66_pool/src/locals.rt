@@ -1,15 +1,14 @@
 //! What workers need beside their seats, made before they start.
 
 ghost use Rattle.std.specs.Prelude.{◌≡◌, ◌≤◌, ◌<◌, All, IfOk, [], length, slice_index_or};
-ghost use Rattle.s66_steal.specs.Lanes.{LaneId, LaneOf};
+ghost use Rattle.s66_share.specs.Lanes.{LaneId, LaneOf};
 ghost use Rattle.s66_pool.specs.Workers.{AllMatchLanes, VictimsMatchLanes, ids_of};
 
 use crate::incumbent::Incumbent;
 use crate::member::Local;
 use crate::victim::Victim;
-use s66_lock::{Hint, HintSeat};
 use s66_model::WORKERS_LIMIT;
-use s66_steal::{CAPACITY_LIMIT, Lane, Thief, lane};
+use s66_share::{CAPACITY_LIMIT, Hint, HintSeat, Lane, Thief, lane};
 use std::alloc::{AllocError, Global};
 
 /// A lane for each worker, and what the others steal with from each.

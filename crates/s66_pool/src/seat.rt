@@ -1,5 +1,5 @@
 use s66_ledger::Ledger;
-use s66_lock::Token;
+use s66_share::Token;
 use std::boxed::Box;
 use std::marker::Model;
 
@@ -16,7 +16,7 @@ pub struct Seat<'a> {
 impl<'a> Model for Seat<'a> {
     ghost use Rattle.std.specs.Prelude.{◌≡◌};
     ghost use Rattle.s66_pool.specs.Hubs.{SeatOf};
-    ghost use Rattle.s66_lock.specs.LockTokens.{book, IsResting};
+    ghost use Rattle.s66_share.specs.LockTokens.{book, IsResting};
 
     ghost Value = { SeatOf };
 
@@ -27,8 +27,8 @@ impl<'a> Model for Seat<'a> {
 
 impl<'a> Seat<'a> {
     ghost use Rattle.std.specs.Prelude.{◌≡◌, [], ◌∷◌};
-    ghost use Rattle.s66_lock.specs.SeatViews.{idle};
-    ghost use Rattle.s66_lock.specs.LockTokens.{book, IsResting};
+    ghost use Rattle.s66_share.specs.SeatViews.{idle};
+    ghost use Rattle.s66_share.specs.LockTokens.{book, IsResting};
 
     pub(crate) fn new(number: u8, splits: u32, token: Token<Box<Ledger<'a>>>) -> Seat<'a>
         requires resting { IsResting token }

@@ -1,5 +1,5 @@
 use s66_model::Ticket;
-use s66_steal::{Lane, Pass, Thief};
+use s66_share::{Lane, Pass, Thief};
 use std::marker::Model;
 
 /// Another worker's lane, from which a worker may steal.

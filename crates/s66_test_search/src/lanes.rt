@@ -5,7 +5,7 @@ use crate::ledger::{claim_node, new_ledger, split_root};
 use crate::reading::{block_of, source_of};
 use s66_ledger::Ledger;
 use s66_line::Block;
-use s66_steal::{Lane, PASS_LIMIT, Pass, Thief, lane};
+use s66_share::{Lane, PASS_LIMIT, Pass, Thief, lane};
 use std::process::Abort;
 
 /// The root's children, each of which is put once.

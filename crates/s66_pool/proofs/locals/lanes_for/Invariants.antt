@@ -1,5 +1,5 @@
 use Rattle.std.proofs.Common.{◌≡◌, [], All, vec_len, vec_capacity}
-use Rattle.s66_steal.specs.Lanes.{LaneOf}
+use Rattle.s66_share.specs.Lanes.{LaneOf}
 use Rattle.s66_pool.specs.Workers.{ids_of}
 use Rattle.s66_pool.proofs.locals.lanes_for.Given as goal
 

@@ -1,5 +1,5 @@
 use Rattle.std.proofs.Common.{◌≡◌, ◌≤◌, ◌<◌, ℕ, [], length, slice_index_or, vec_len, vec_capacity}
-use Rattle.s66_steal.specs.Lanes.{LaneOf}
+use Rattle.s66_share.specs.Lanes.{LaneOf}
 use Rattle.s66_pool.specs.Workers.{AllMatchLanes, ids_of}
 use Rattle.s66_pool.proofs.locals.victims_for.Given as goal
 

@@ -4,7 +4,7 @@ use Rattle.s66_model.specs.Ledger.{Claim, Claimed}
 use Rattle.s66_model.specs.Accounts.{SeatRecord, after_event}
 use Rattle.s66_ledger.specs.ClaimedNodes.{claimed_node}
 use Rattle.s66_ledger.specs.Ledgers.{account_summary}
-use Rattle.s66_lock.specs.LockTokens.{book}
+use Rattle.s66_share.specs.LockTokens.{book}
 use Rattle.s66_pool.specs.Hubs.{SeatOf}
 use Rattle.s66_pool.proofs.SeatEvents.{number_within, follows-at, gave-book}
 use Rattle.s66_pool.proofs.AfterCalls.{seat-keeps, seat-same, same-call, quiet-call, plain-call}

@@ -5,9 +5,9 @@ use Rattle.s66_model.specs.Accounts.{SeatRecord, Agrees}
 use Rattle.s66_model.proofs.AccountLaws.{accounts-count}
 use Rattle.s66_ledger.specs.Ledgers.{LedgerOf, events_of, account_summary}
 use Rattle.s66_pool.specs.Hubs.{SeatOf, HaveSeats}
-use Rattle.s66_lock.specs.SeatViews.{books_of}
-use Rattle.s66_lock.specs.LockTokens.{HaveEvery}
-use Rattle.s66_lock.proofs.Dealt.{idles}
+use Rattle.s66_share.specs.SeatViews.{books_of}
+use Rattle.s66_share.specs.LockTokens.{HaveEvery}
+use Rattle.s66_share.proofs.Dealt.{idles}
 use Rattle.s66_pool.proofs.Collecting.{books_in, collects, none-left, have-every, seats-agree, seats-splits}
 use Rattle.s66_pool.proofs.hub.Hub.close.Goals as goal
 

@@ -1,6 +1,0 @@
-pub mod Books
-pub mod Dealt
-pub mod Seats
-pub mod Sums
-pub mod Turns
-pub mod HintSteps

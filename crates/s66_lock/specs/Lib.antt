@@ -1,4 +1,0 @@
-pub mod SeatViews
-pub mod Locked
-pub mod LockTokens
-pub mod Hints

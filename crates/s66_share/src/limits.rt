@@ -1,0 +1,8 @@
+/// How often a worker checks whether the lock is free before it lets other threads run. Most turns at the lock are over in less.
+pub const SPINS: u32 = 100;
+
+/// The greatest capacity with which a lane is made.
+pub const CAPACITY_LIMIT: usize = 64;
+
+/// The most passes of a lane.
+pub const PASS_LIMIT: usize = 15;

@@ -1,5 +1,0 @@
-use Rattle.s66_steal.proofs.Moves.{takes}
-use Rattle.s66_steal.proofs.owner.Lane.take.Goals as goal
-
-pub pop_as-requires-clause-fifo : goal.pop_as-requires-clause-fifo
-pop_as-requires-clause-fifo c = λ _. takes _ _ c.self.invariant.1

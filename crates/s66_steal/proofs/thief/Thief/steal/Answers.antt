@@ -1,6 +1,0 @@
-use Rattle.std.proofs.Common.{arith}
-use Rattle.s66_steal.proofs.Moves.{takes}
-use Rattle.s66_steal.proofs.thief.Thief.steal.Goals as goal
-
-pub steal_as-requires-clause-takes : goal.steal_as-requires-clause-takes
-steal_as-requires-clause-takes c = takes _ _ (let one = c.pass.invariant.2 in omega arith)
