@@ -1,2 +1,4 @@
+pub mod Each
+pub mod Begins
 pub mod FittingLines
 pub mod WholeTrees

@@ -2,13 +2,24 @@
 //! they are right is for a checker to say.
 #![tactic(auto)]
 
+mod beam;
+mod best_first;
+mod facts;
+mod floors;
 mod instance;
+mod limits;
 mod lines;
 mod look;
 mod orders;
 mod ranges;
 mod search;
 mod trees;
+mod walk;
 
+pub use beam::beam_below;
+pub use best_first::{Branched, Limits, branch};
+pub use facts::Finder;
+pub use floors::{Left, PathBounds, Tails};
 pub use look::{Look, Looked, look_at};
 pub use orders::faster;
+pub use walk::Prefix;

@@ -3,10 +3,10 @@
 ghost use Rattle.std.specs.Prelude.{◌≡◌, IfOk, IfSome};
 ghost use Rattle.s66_deep.specs.Orders.{IsGood};
 
+use crate::beam::beam_below;
+use crate::facts::Finder;
 use crate::instance::Instance;
 use crate::orders::faster;
-use s66_beam::beam_below;
-use s66_finder::Finder;
 use s66_time::Timed;
 use std::alloc::AllocError;
 

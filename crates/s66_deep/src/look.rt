@@ -5,6 +5,7 @@ ghost use Rattle.s66_model.specs.Answer.{source_time};
 ghost use Rattle.s66_model.specs.Timing.{Problem};
 ghost use Rattle.s66_deep.specs.Orders.{IsGood, IsLooked};
 
+use crate::facts::Finder;
 use crate::instance::Instance;
 use crate::lines::best_by_beams;
 use crate::orders::{faster, source_order};
@@ -13,7 +14,6 @@ use crate::search::{Searched, Written, search};
 use crate::trees::splits_of;
 use arrayvec::ArrayVec;
 use s66_cert::{FACT_LIMIT, Tree};
-use s66_finder::Finder;
 use s66_isa::{BLOCK_LIMIT, Instr, Profile};
 use s66_line::Block;
 use s66_moments::FactLine;

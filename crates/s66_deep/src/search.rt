@@ -3,15 +3,15 @@
 ghost use Rattle.std.specs.Prelude.{◌≡◌, ◌≤◌, ◌+◌, ◌/◌, IfOk};
 ghost use Rattle.s66_deep.specs.Orders.{IsGood};
 
+use crate::best_first::{Branched, Limits, branch};
+use crate::facts::Finder;
 use crate::instance::Instance;
 use crate::lines::{
     BEAM_WIDTH, Bound, Halved, Lined, WIDE_WIDTH, WIDEST_WIDTH, beam_by, best_by_lines,
     found_below, halve,
 };
 use crate::orders::faster;
-use s66_branch::{Branched, Limits, branch};
 use s66_cert::{Tree, TreeLine};
-use s66_finder::Finder;
 use s66_line::Block;
 use s66_moments::FactLine;
 use s66_time::Timed;

@@ -1,7 +1,7 @@
 use crate::blocks::{BEST_TIMES, SIXTEEN};
 use crate::finder::found_by_loads;
 use crate::reading::{block_of, source_of};
-use s66_beam::beam_below;
+use s66_deep::beam_below;
 use s66_isa::Profile;
 use s66_line::Block;
 use std::process::Abort;

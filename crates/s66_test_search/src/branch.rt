@@ -2,10 +2,9 @@ use crate::blocks::{BEST_TIMES, MULTIPLIES, THREE_BOOLEANS, TWO_BOOLEANS, as_wri
 use crate::finder::{found_at_first, found_below};
 use crate::reading::{block_of, source_of};
 use crate::text::{Claimed, NONE, tree_text, verdict_on};
-use s66_branch::{Branched, Limits, branch};
 use s66_cert::Tree;
 use s66_checker::Verdict;
-use s66_finder::Finder;
+use s66_deep::{Branched, Finder, Limits, branch};
 use s66_isa::Profile;
 use s66_line::Block;
 use std::process::Abort;

@@ -2,7 +2,7 @@ use crate::blocks::{SIXTEEN, TWENTY, TWENTY_FOUR, TWO_BOOLEANS, TWO_SUMS, as_wri
 use crate::reading::{block_of, source_of};
 use crate::text::{Claimed, NONE, verdict_on};
 use s66_checker::{Reason, Verdict};
-use s66_finder::Finder;
+use s66_deep::Finder;
 use s66_isa::Profile;
 use s66_line::Block;
 use s66_moments::FactLine;

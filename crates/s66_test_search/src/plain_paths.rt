@@ -1,13 +1,13 @@
 //! The plain form of greatest paths: what follows the stages of each instruction by the arcs of dependent pairs, and a look at each
 //! number that remains. All times are in minor cycles.
 
+use s66_deep::Tails;
 use s66_dep::depends;
 use s66_isa::{
     BLOCK_LIMIT, Profile, Reg, Row, Write, has_register, is_memory_conflict, is_same_kind,
     is_same_register,
 };
 use s66_line::Block;
-use s66_paths::Tails;
 use s66_time::Clock;
 
 /// What follows the result in a register, 0 if there is none.

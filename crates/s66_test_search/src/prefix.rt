@@ -1,10 +1,9 @@
 use crate::blocks::{TWO_BOOLEANS, TWO_SUMS};
 use crate::finder::{found_at_first, found_by_loads};
 use crate::reading::{block_of, source_of};
+use s66_deep::{Prefix, Tails};
 use s66_isa::{BLOCK_LIMIT, Profile};
 use s66_line::Block;
-use s66_paths::Tails;
-use s66_prefix::Prefix;
 use s66_tree::TreeLine;
 use std::process::Abort;
 

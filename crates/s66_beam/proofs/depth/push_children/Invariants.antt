@@ -1,6 +1,0 @@
-use Rattle.std.proofs.Common.{length}
-use Rattle.s66_dep.specs.Members.{numbers_in}
-use Rattle.s66_beam.proofs.depth.push_children.Given as goal
-
-abbrev pub decreases-loop-number : goal.decreases-loop-number
-decreases-loop-number l = length (numbers_in l.rest)

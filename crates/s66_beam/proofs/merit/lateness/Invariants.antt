@@ -1,6 +1,0 @@
-use Rattle.std.proofs.Common.{length}
-use Rattle.s66_isa.specs.Registers.{registers_in}
-use Rattle.s66_beam.proofs.merit.lateness.Given as goal
-
-abbrev pub decreases-loop-register : goal.decreases-loop-register
-decreases-loop-register l = length (registers_in l.late)

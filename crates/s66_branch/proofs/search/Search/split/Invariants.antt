@@ -1,5 +1,0 @@
-use Rattle.s66_branch.specs.Branching.{Looks}
-use Rattle.s66_branch.proofs.search.Search.split.Given as goal
-
-abbrev pub invariant-loop-n : goal.invariant-loop-n
-invariant-loop-n l = Looks l.fn.self l.self

@@ -1,0 +1,5 @@
+use Rattle.s66_deep.specs.Branching.{Looks}
+use Rattle.s66_deep.proofs.best_first.search.Search.split.Given as goal
+
+abbrev pub invariant-loop-n : goal.invariant-loop-n
+invariant-loop-n l = Looks l.fn.self l.self

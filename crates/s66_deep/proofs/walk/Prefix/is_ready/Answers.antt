@@ -1,0 +1,40 @@
+use Rattle.std.proofs.Common.{ℕ, ◌≡◌, ◌≤◌, ◌-◌, ◌↔◌, Bool, true, false, IsTrue, List, [], length, get_or, sym, ap, subst, arith, ◌∙◌}
+use Rattle.std.proofs.lemmas.List.{length-map}
+use Rattle.std.specs.Cmp.{both_ways}
+use Rattle.s66_isa.specs.Lists.{has, every}
+use Rattle.s66_isa.specs.Table.{numbers}
+use Rattle.s66_isa.proofs.Lists.{every-each, each-every, has-among, among-has}
+use Rattle.s66_line.specs.Block.{instrs_of}
+use Rattle.s66_model.specs.Dependence.{needs, all_needs}
+use Rattle.s66_model.specs.LegalOrder.{is_ready}
+use Rattle.s66_model.proofs.Beginnings.{length-rising}
+use Rattle.s66_dep.specs.Members.{numbers_in}
+use Rattle.s66_dep.proofs.Readiness.{is_free, is_free-ready, is_ready-same}
+use Rattle.s66_deep.specs.Prefixes.{Begun}
+use Rattle.s66_deep.proofs.walk.Prefix.is_ready.Goals as goal
+
+unplaced-free : (all : List (List ℕ)) (placed : List ℕ) (n : ℕ) (met : Bool) → has n placed ≡ false → (IsTrue met ↔ ((m : ℕ) → has m (get_or all (n - 1) []) ≡ true → has m placed ≡ true)) → is_free all placed n ≡ met
+unplaced-free all placed n met new tells =
+    let needed = get_or all (n - 1) [] in
+    rw new (both_ways (every (λ m. has m placed) needed) met
+    (λ each. tells.1 (λ m is. every-each (λ m. has m placed) m needed each (has-among m needed is)))
+    (λ is. each-every (λ m. has m placed) needed (λ m among. tells.0 is m (among-has m needed among))))
+
+pub needs-requires : goal.needs-requires
+needs-requires c =
+    let block = instrs_of c.self.inside.clock.block in
+    (omega (arith, c.if-n-eq0.false), omega (arith, c.if-count-n.false, c.count.ensures.value, ap (λ block. length (instrs_of block)) c.block.ensures, ap (λ (x : Begun). length x.problem.block) c.self.view_is, ap (λ (ns : List (List ℕ)). length ns) (c.dependences.ensures ∙ c.self.invariant.needs), length-map (numbers block) (needs block), length-rising (length block) 1))
+
+pub returns-clause-value : goal.returns-clause-value
+returns-clause-value c =
+    let block = instrs_of c.self.inside.clock.block in
+    let placed = numbers_in c.pushed-pushed.result in
+    let n : ℕ = c.args.n in
+    let low : 1 ≤ n = omega (arith, c.if-n-eq0.false) in
+    let high : n ≤ length block = omega (arith, c.if-count-n.false, c.count.ensures.value, ap (λ block. length (instrs_of block)) c.block.ensures, ap (λ (x : Begun). length x.problem.block) c.self.view_is) in
+    let needed = c.needs.ensures ∙ ap (λ (ns : List (List ℕ)). get_or ns (n - 1) []) (c.dependences.ensures ∙ c.self.invariant.needs) in
+    sym (unplaced-free (all_needs block) placed n c.is_within.result (sym c.has.ensures ∙ c.if-has.false)
+    (subst (λ ns. IsTrue c.is_within.result ↔ ((m : ℕ) → has m ns ≡ true → has m placed ≡ true)) needed c.is_within.ensures))
+    ∙ (is_free-ready block placed n low high
+    ∙ (is_ready-same block placed c.self.inside.clock.numbers n c.pushed-pushed.ensures.value
+    ∙ ap (λ (x : Begun). is_ready x.problem.block x.numbers n) c.self.view_is))

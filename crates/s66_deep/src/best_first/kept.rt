@@ -1,0 +1,228 @@
+//! The prefixes that may dominate others, to be found by the sets of their numbers.
+
+ghost use Rattle.std.specs.Prelude.{◌≤◌, length};
+ghost use Rattle.s66_deep.specs.declared.best_first.kept.TheConstants.{KEPT_LIMIT};
+
+use crate::best_first::allowed::Allowed;
+use crate::best_first::nodes::Nodes;
+use crate::best_first::remaining::Remaining;
+use crate::best_first::waits::Waits;
+use s66_dep::Set;
+use s66_isa::{KINDS, Profile};
+use s66_time::{Clock, Mark, dominates_clamped};
+use std::alloc::{AllocError, Global};
+
+/// In place of a place: there is none.
+const NONE: u32 = u32::MAX;
+
+/// How many lists there are at first.
+const FIRST_LISTS: usize = 64;
+
+/// At how many prefixes of a list one look goes.
+const LOOK_LIMIT: usize = 64;
+
+/// The most prefixes that are kept.
+const KEPT_LIMIT: usize = 262_144;
+
+/// What is compared of two prefixes before their words.
+#[derive(Clone, Copy)]
+pub struct Key {
+    /// The set of its numbers.
+    pub pushed: Set,
+    /// The index of its node.
+    pub node: u32,
+    /// The next slot, in minor cycles.
+    pub slot: u32,
+    /// The place in its word of the next parcel.
+    pub place: u8,
+    /// When all units are free and all results done, in minor cycles.
+    pub total: u32,
+}
+
+/// A prefix that is kept: its key, and the place of the next one in its list.
+#[derive(Clone, Copy)]
+struct Entry {
+    key: Key,
+    next: u32,
+}
+
+/// A prefix as it is looked for.
+#[derive(Clone, Copy)]
+pub struct Sought {
+    pub key: Key,
+    /// What each completion of it takes at least, in minor cycles.
+    pub floor: u32,
+    pub waits: Waits,
+}
+
+/// Prefixes, each in the list of the hash of its set, some 170 bytes each, and some 380 more with its mark. At most 262,144 are kept.
+///
+/// Nothing is promised of what is in which list: who looks for a set compares it with that of each entry.
+#[derive(Drop)]
+pub struct Kept {
+    entries: Vec<Entry>,
+    waits: Vec<Waits>,
+    /// Whether a kind has more than two units, of which the words don't tell all: then marks are kept too.
+    has_marks: bool,
+    marks: Vec<Mark>,
+    /// The place of the first entry of each list.
+    firsts: Vec<u32>,
+}
+
+/// The list of a set, of so many.
+fn list_of(pushed: &Set, lists: usize) -> usize {
+    // the high bits of a hash differ most
+    ((pushed.hash() >> 32).wrapping_mul(lists as u64) >> 32) as usize
+}
+
+/// Puts the entry of a place first in its list.
+fn put(entry: &mut Entry, firsts: &mut [u32], place: u32) {
+    let list = list_of(&entry.key.pushed, firsts.len());
+    if list < firsts.len() {
+        entry.next = firsts[list];
+        firsts[list] = place;
+    }
+}
+
+/// Puts each entry into its list; all lists are empty before.
+fn put_all(entries: &mut [Entry], firsts: &mut [u32])
+    requires { length entries.old ≤ KEPT_LIMIT }
+{
+    for place in 0..entries.len() {
+        put(&mut entries[place], firsts, place as u32);
+    }
+}
+
+/// Whether a kind has more than two units.
+fn has_many_units(profile: &Profile) -> bool {
+    for kind in KINDS {
+        if profile.copies(kind) > 2 {
+            return true;
+        }
+    }
+    false
+}
+
+impl Key {
+    /// Whether this prefix may dominate another one, by all but the words. A total up to the other's floor makes no difference, since no
+    /// completion of the other takes less.
+    fn may_dominate(&self, other: &Sought) -> bool {
+        self.pushed == other.key.pushed
+            && self.node != other.key.node
+            && self.slot <= other.key.slot
+            && self.place == other.key.place
+            && self.total <= other.key.total.max(other.floor)
+    }
+}
+
+impl Kept {
+    ghost use Rattle.std.specs.Prelude.{◌≤◌, length};
+    ghost use Rattle.s66_deep.specs.declared.best_first.kept.TheConstants.{KEPT_LIMIT};
+
+    /// No prefix under a profile.
+    pub fn new(alloc: Global, profile: &Profile) -> Kept {
+        Kept {
+            entries: Vec::new(alloc),
+            waits: Vec::new(alloc),
+            has_marks: has_many_units(profile),
+            marks: Vec::new(alloc),
+            firsts: Vec::new(alloc),
+        }
+    }
+
+    /// The place of the first entry in the list of a set.
+    fn first(&self, pushed: &Set) -> u32 {
+        let list = list_of(pushed, self.firsts.len());
+        if list < self.firsts.len() {
+            self.firsts[list]
+        } else {
+            NONE
+        }
+    }
+
+    /// Whether the words of the prefix at a place are allowed.
+    fn are_allowed(
+        &self,
+        place: usize,
+        allowed: &mut Allowed,
+        remaining: &Remaining<'_, '_>,
+    ) -> bool {
+        match self.waits.get(place) {
+            Some(waits) => allowed.allow(remaining, waits),
+            None => false,
+        }
+    }
+
+    /// Whether the prefix at a place has a mark that dominates that of a clock.
+    fn is_marked_ahead(&self, place: usize, clock: &Clock<'_>) -> bool {
+        match self.marks.get(place) {
+            Some(mark) => dominates_clamped(mark, &clock.mark()),
+            None => false,
+        }
+    }
+
+    /// The node of another prefix with the same numbers that dominates this one and is dominated by none, if one of the first 64 of its
+    /// list does.
+    pub fn find(
+        &self,
+        nodes: &Nodes,
+        remaining: &Remaining<'_, '_>,
+        sought: &Sought,
+    ) -> Option<u32> {
+        let mut allowed = Allowed::of(&sought.waits, remaining.clock);
+        let mut place = self.first(&sought.key.pushed);
+        for _ in 0..LOOK_LIMIT {
+            let index = place as usize;
+            if index >= self.entries.len() {
+                return None;
+            }
+            let entry = &self.entries[index];
+            if entry.key.may_dominate(sought)
+                && !nodes.is_dominated(entry.key.node)
+                && (self.are_allowed(index, &mut allowed, remaining)
+                    || self.is_marked_ahead(index, remaining.clock))
+            {
+                return Some(entry.key.node);
+            }
+            place = entry.next;
+        }
+        None
+    }
+
+    /// Makes twice as many lists.
+    fn double_lists(&mut self) -> Result<(), AllocError>
+        requires { length self.old.entries.items ≤ KEPT_LIMIT }
+    {
+        let lists = self.firsts.len().saturating_mul(2).max(FIRST_LISTS);
+        self.firsts.clear();
+        self.firsts.resize(lists, NONE)?;
+        put_all(self.entries.as_mut_slice(), self.firsts.as_mut_slice());
+        Ok(())
+    }
+
+    /// Keeps a prefix, which has this clock, if there is room.
+    ///
+    /// # Errors
+    ///
+    /// `AllocError` if memory runs out.
+    pub fn keep(&mut self, one: &Sought, clock: &Clock<'_>) -> Result<(), AllocError> {
+        let place = self.entries.len();
+        if place >= KEPT_LIMIT {
+            return Ok(());
+        }
+        if place >= self.firsts.len() {
+            self.double_lists()?;
+        }
+        let mut entry = Entry {
+            key: one.key,
+            next: NONE,
+        };
+        put(&mut entry, self.firsts.as_mut_slice(), place as u32);
+        self.entries.push(entry)?;
+        self.waits.push(one.waits)?;
+        if self.has_marks {
+            self.marks.push(clock.mark())?;
+        }
+        Ok(())
+    }
+}

@@ -1,0 +1,18 @@
+//! Best-first branch and bound: a search of all legal orders of a block that goes on with the most promising prefix first, and
+//! writes why no order takes less than the fastest one that it met.
+
+mod allowed;
+mod begun;
+mod kept;
+mod known;
+mod loads;
+mod lookers;
+mod nodes;
+mod open;
+mod remaining;
+mod search;
+mod trail;
+mod waits;
+mod writer;
+
+pub use search::{Branched, Limits, branch};

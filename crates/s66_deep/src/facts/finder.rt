@@ -1,0 +1,401 @@
+//! Finds fact lines of a block.
+
+ghost use Rattle.std.specs.Prelude.{◌≤◌, length};
+ghost use Rattle.s66_isa.specs.declared.limits.TheConstants.{BLOCK_LIMIT};
+
+use crate::facts::ground::Ground;
+use crate::facts::known::Known;
+use crate::facts::lines::{copies_of, copy_of_line};
+use crate::facts::load::{Best, Load};
+use crate::facts::needed::needed_of;
+use crate::facts::network::Network;
+use crate::facts::pairs::Forced;
+use crate::facts::sketch::Sketch;
+use crate::facts::spans::{FROM_ORIGIN, Spans, TO_END, at_issue};
+use crate::facts::taken::{Taken, word};
+use crate::facts::ways::Ways;
+use crate::floors::Tails;
+use crate::limits::{PASSES_LIMIT, ROUNDS_LIMIT, WAIT_LIMIT};
+use s66_dep::Set;
+use s66_facts::{Facts, Times};
+use s66_isa::{BLOCK_LIMIT, Instr, KINDS, Kind, Profile};
+use s66_moments::{FactLine, LoadLine, Moment, Stage};
+use std::alloc::{AllocError, Global};
+use std::boxed::Box;
+
+/// What is found of a block's legal orders. What takes room lies on the heap: searches hold several finders at a time, and a thread's
+/// stack may be small.
+#[derive(Drop)]
+pub struct Finder {
+    alloc: Global,
+    ground: Box<Ground>,
+    taken: Box<Taken>,
+    lines: Vec<FactLine>,
+    ways: Ways,
+}
+
+/// Where a load line leads from; 0 is the origin.
+fn front(n: u8) -> Moment {
+    match n {
+        0 => Moment::Origin,
+        _ => Moment::At(n, Stage::Issue),
+    }
+}
+
+/// Where it leads to; 0 is the end.
+fn back(n: u8) -> Moment {
+    match n {
+        0 => Moment::End,
+        _ => Moment::At(n, Stage::Issue),
+    }
+}
+
+/// The place that a load line leads from; that of 0 is the origin.
+fn front_place(n: u8) -> usize {
+    match n {
+        0 => FROM_ORIGIN,
+        _ => at_issue(n),
+    }
+}
+
+/// The place that it leads to; that of 0 is the end.
+fn back_place(n: u8) -> usize {
+    match n {
+        0 => TO_END,
+        _ => at_issue(n),
+    }
+}
+
+/// What follows the stages of an instruction.
+fn tails_of(times: &Times) -> Tails {
+    Tails {
+        issue: word(times.issue),
+        start: word(times.start),
+        first: word(times.first),
+        second: word(times.second),
+        free: word(times.free),
+    }
+}
+
+/// A load line as it was found, and the numbers of a kind from which its own are.
+#[derive(Clone, Copy)]
+struct Found {
+    best: Best,
+    kind: Kind,
+    numbers: Set,
+}
+
+/// The load of some numbers of a kind between the places of two numbers.
+fn load_of<'a>(
+    ground: &'a Ground,
+    spans: &'a Spans,
+    from: u8,
+    to: u8,
+    kind: Kind,
+    numbers: Set,
+) -> Load<'a> {
+    Load {
+        rows: ground.rows(),
+        spans,
+        from: front_place(from),
+        to: back_place(to),
+        numbers,
+        copies: ground.copies(kind),
+    }
+}
+
+impl Finder {
+    /// Knows only what follows by dependence. `Err` is out of memory.
+    pub fn new(alloc: Global, block: &[Instr], profile: &Profile) -> Result<Finder, AllocError>
+        requires { length block.now ≤ BLOCK_LIMIT }
+    {
+        Finder::of_ground(alloc, Box::new(alloc, Ground::of(block, profile))?)
+    }
+
+    /// The same, of a block whose needs are these.
+    fn of_ground(alloc: Global, ground: Box<Ground>) -> Result<Finder, AllocError> {
+        Ok(Finder {
+            alloc,
+            taken: Box::new(alloc, Taken::new(&ground))?,
+            ground,
+            lines: Vec::new(alloc),
+            ways: Ways::new(alloc),
+        })
+    }
+
+    /// Takes load lines, which hold for all orders, until no path grows or `ROUNDS_LIMIT` rounds are over. `Err` is out of memory.
+    pub fn find_loads(&mut self) -> Result<(), AllocError> {
+        for _round in 0..ROUNDS_LIMIT {
+            if !self.take_loads(false)? {
+                return Ok(());
+            }
+        }
+        Ok(())
+    }
+
+    /// Takes pairs that are forced in all orders that take less than the bound, and load lines, until no path grows, or one takes the
+    /// bound, or `ROUNDS_LIMIT` rounds are over. `Err` is out of memory.
+    pub fn find_below(&mut self, bound: u32) -> Result<(), AllocError> {
+        for _round in 0..ROUNDS_LIMIT {
+            if self.take_pairs(bound)? || !self.take_loads(true)? {
+                return Ok(());
+            }
+        }
+        Ok(())
+    }
+
+    /// The number whose issue is followed by the longest path to the end, and how long that is: all orders take so long at least, if they
+    /// take less than the bounds for which lines were taken.
+    pub fn root(&self) -> (u8, u32) {
+        self.taken.root()
+    }
+
+    /// What follows the stages of each number; that of n is at n - 1.
+    pub fn tails(&self) -> [Tails; BLOCK_LIMIT] {
+        let times = self.taken.facts().tails();
+        let mut tails = [Tails::default(); BLOCK_LIMIT];
+        for position in 0..BLOCK_LIMIT {
+            tails[position] = tails_of(&times[position]);
+        }
+        tails
+    }
+
+    /// What is known.
+    pub fn facts(&self) -> &Facts {
+        self.taken.facts()
+    }
+
+    /// The lines that were taken, in their order.
+    pub fn lines(&self) -> &[FactLine] {
+        self.lines.as_slice()
+    }
+
+    /// The same.
+    pub fn into_lines(self) -> Vec<FactLine> {
+        self.lines
+    }
+
+    /// The same finder. `Err` is out of memory.
+    pub fn duplicate(&self) -> Result<Finder, AllocError> {
+        Ok(Finder {
+            alloc: self.alloc,
+            ground: Box::new(self.alloc, self.ground.duplicate())?,
+            taken: Box::new(self.alloc, self.taken.duplicate())?,
+            lines: copies_of(self.alloc, self.lines.as_slice())?,
+            ways: Ways::new(self.alloc),
+        })
+    }
+
+    /// The same with some of its lines, in their order, after which a path from an issue to the end still takes the bound, if one does:
+    /// as few as are found. Its lines are to hold for the bound.
+    ///
+    /// Which these are is found out by a sketch of what is known, into which some `TAKES_LIMIT` lines are taken at most. `Err` is out of
+    /// memory.
+    pub fn needed(&self, bound: u32) -> Result<Finder, AllocError> {
+        if self.root().1 < bound {
+            return self.duplicate();
+        }
+        let lines = self.lines.as_slice();
+        let known = Known::of(Taken::new(&self.ground).facts());
+        let first = Sketch::of(self.alloc, &self.ground, known)?;
+        let places = needed_of(self.alloc, first, lines, bound)?;
+        let mut other = self.without_lines()?;
+        for place in places.as_slice() {
+            if let Some(line) = lines.get(*place) {
+                other.take(bound, copy_of_line(line))?;
+            }
+        }
+        if other.root().1 < bound {
+            return self.duplicate();
+        }
+        Ok(other)
+    }
+
+    /// A finder of the block that knows only what follows by dependence. `Err` is out of memory.
+    fn without_lines(&self) -> Result<Finder, AllocError> {
+        Finder::of_ground(self.alloc, Box::new(self.alloc, self.ground.duplicate())?)
+    }
+
+    /// The arcs by what is known.
+    fn network(&self, known: &Known) -> Result<Network, AllocError> {
+        Network::of(self.alloc, &self.ground, known, self.lines.as_slice())
+    }
+
+    /// Takes pairs until there are no more, or a path takes the bound; whether one does.
+    fn take_pairs(&mut self, bound: u32) -> Result<bool, AllocError> {
+        for _pass in 0..PASSES_LIMIT {
+            if self.root().1 >= bound {
+                return Ok(true);
+            }
+            let known = Known::of(self.taken.facts());
+            let network = self.network(&known)?;
+            let forced = Forced::of(&self.ground, &known, &network, bound);
+            if !self.take_forced(&known, &forced, bound)? {
+                return Ok(false);
+            }
+        }
+        Ok(false)
+    }
+
+    /// Takes forced pairs; whether there are some. With one of a ring some path takes the bound.
+    fn take_forced(
+        &mut self,
+        known: &Known,
+        forced: &Forced,
+        bound: u32,
+    ) -> Result<bool, AllocError> {
+        if let Some((m, n)) = forced.ring() {
+            return self.take(bound, FactLine::Pair(m, n));
+        }
+        let mut is_more = false;
+        for m in known.order() {
+            if self.take_after(forced.right_after(known, *m), bound, *m)? {
+                is_more = true;
+            }
+        }
+        Ok(is_more)
+    }
+
+    /// Takes a line if it is right; whether it is.
+    fn take(&mut self, bound: u32, line: FactLine) -> Result<bool, AllocError> {
+        let is_taken = self.taken.take(bound, &line);
+        if is_taken {
+            self.lines.push(line)?;
+        }
+        Ok(is_taken)
+    }
+
+    /// Takes the pairs of m and of these numbers; whether some are taken.
+    fn take_after(&mut self, numbers: Set, bound: u32, m: u8) -> Result<bool, AllocError> {
+        let mut is_more = false;
+        for n in numbers.numbers().as_slice() {
+            if !self.taken.is_before(m, *n) && self.take(bound, FactLine::Pair(m, *n))? {
+                is_more = true;
+            }
+        }
+        Ok(is_more)
+    }
+
+    /// Takes load lines from all places, the last ones first, so that what stands between two is known; whether some are taken.
+    fn take_loads(&mut self, has_origin: bool) -> Result<bool, AllocError> {
+        let known = Known::of(self.taken.facts());
+        let network = self.network(&known)?;
+        let mut spans = Spans::of(self.alloc, &network, self.taken.facts().count())?;
+        let mut is_more = false;
+        let order = known.order();
+        for back in 0..order.len() {
+            if self.take_from(&known, &mut spans, order[order.len() - 1 - back])? {
+                is_more = true;
+            }
+        }
+        if has_origin && self.take_from(&known, &mut spans, 0)? {
+            is_more = true;
+        }
+        Ok(is_more)
+    }
+
+    /// Takes load lines from a number, or from the origin, if it is 0; whether some are taken.
+    fn take_from(
+        &mut self,
+        known: &Known,
+        spans: &mut Spans,
+        from: u8,
+    ) -> Result<bool, AllocError> {
+        let mut is_more = false;
+        for to in known.order() {
+            if (from == 0 || known.after(from).has(*to))
+                && self.take_between(known, spans, from, *to)?
+            {
+                is_more = true;
+            }
+        }
+        if from != 0 && self.take_between(known, spans, from, 0)? {
+            is_more = true;
+        }
+        Ok(is_more)
+    }
+
+    /// What says most between two places, if with it a path from the origin or to the end grows.
+    fn best_between(
+        &mut self,
+        known: &Known,
+        spans: &Spans,
+        from: u8,
+        to: u8,
+    ) -> Result<Option<Found>, AllocError> {
+        let between = known.between(from, to);
+        let mut wait = wait_known(spans, from, to);
+        let mut found = None;
+        for kind in KINDS {
+            let numbers = between.both(&self.ground.users(kind));
+            if let Some(best) = self.best_of(spans, from, to, kind, numbers, wait)? {
+                wait = u32::try_from(best.wait).unwrap_or(u32::MAX);
+                found = Some(Found {
+                    best,
+                    kind,
+                    numbers,
+                });
+            }
+        }
+        Ok(found)
+    }
+
+    /// What says most by instructions of a kind.
+    fn best_of(
+        &mut self,
+        spans: &Spans,
+        from: u8,
+        to: u8,
+        kind: Kind,
+        numbers: Set,
+        wait: u32,
+    ) -> Result<Option<Best>, AllocError> {
+        if numbers.count() <= self.ground.copies(kind) {
+            return Ok(None);
+        }
+        let load = load_of(&self.ground, spans, from, to, kind, numbers);
+        self.ways.best(&load, wait)
+    }
+
+    /// Takes the load line that says most between two places, if one is worth it; whether one is taken.
+    fn take_between(
+        &mut self,
+        known: &Known,
+        spans: &mut Spans,
+        from: u8,
+        to: u8,
+    ) -> Result<bool, AllocError> {
+        let Some(found) = self.best_between(known, spans, from, to)? else {
+            return Ok(false);
+        };
+        let wait = u32::try_from(found.best.wait).unwrap_or(u32::MAX);
+        if wait > WAIT_LIMIT {
+            return Ok(false);
+        }
+        let load = load_of(&self.ground, spans, from, to, found.kind, found.numbers);
+        let line = LoadLine {
+            from: front(from),
+            to: back(to),
+            after: found.best.after,
+            wait,
+            numbers: load.users(&found.best),
+        };
+        // a load line holds for each bound
+        let is_taken = self.take(0, FactLine::Load(line))?;
+        if is_taken {
+            spans.add(front_place(from), wait, back_place(to));
+        }
+        Ok(is_taken)
+    }
+}
+
+/// How long a wait between two places may be with which neither a path from the origin grows nor one to the end.
+fn wait_known(spans: &Spans, from: u8, to: u8) -> u32 {
+    let (front, back) = (front_place(from), back_place(to));
+    let between = spans.between(front, back).unwrap_or(0);
+    let tail = spans.between(front, TO_END).unwrap_or(0);
+    let by_tail = tail.saturating_sub(spans.between(back, TO_END).unwrap_or(0));
+    let head = spans.between(FROM_ORIGIN, back).unwrap_or(0);
+    let by_head = head.saturating_sub(spans.between(FROM_ORIGIN, front).unwrap_or(0));
+    between.max(by_tail.min(by_head))
+}

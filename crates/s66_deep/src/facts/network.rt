@@ -1,0 +1,321 @@
+//! The arcs between the moments of a block, without those that a longer path covers.
+
+use crate::facts::ground::Ground;
+use crate::facts::known::Known;
+use crate::facts::nodes::{
+    END, NODE_COUNT, ORIGIN, Times, first, free, issue, raise, second, start, time_at,
+};
+use s66_dep::Set;
+use s66_isa::{Memory, Reg, Row, has_register, is_same_register};
+use s66_moments::{FactLine, KnownArc, Moment, Stage};
+use std::alloc::{AllocError, Global};
+
+/// How much later one node comes at least than another, in minor cycles.
+#[derive(Clone, Copy)]
+struct Arc {
+    from: usize,
+    wait: u32,
+    to: usize,
+}
+
+/// The arcs of a block by what is known: all that lead to a node stand before all that lead from there.
+#[derive(Drop)]
+pub struct Network {
+    arcs: Vec<Arc>,
+}
+
+/// The longest paths from the origin to each node, and from each to the end, in minor cycles.
+#[derive(Clone, Copy)]
+pub struct Paths {
+    pub heads: Times,
+    pub tails: Times,
+}
+
+/// Whether an instruction writes a register.
+fn writes(row: &Row, register: Reg) -> bool {
+    for write in row.writes.as_slice() {
+        if is_same_register(write.reg, register) {
+            return true;
+        }
+    }
+    false
+}
+
+/// The last number before n that writes a register, in the block's own order; 0 if none does.
+fn last_writer(ground: &Ground, n: u8, register: Reg) -> u8 {
+    for back in 1..n {
+        if let Some(row) = ground.row(n - back)
+            && writes(row, register)
+        {
+            return n - back;
+        }
+    }
+    0
+}
+
+/// The node of a number's result in a register, which it writes.
+fn done(row: &Row, n: u8, register: Reg) -> usize {
+    match row.writes.as_slice() {
+        [one, ..] => {
+            if is_same_register(one.reg, register) {
+                first(n)
+            } else {
+                second(n)
+            }
+        }
+        [] => first(n),
+    }
+}
+
+/// The node of a moment of which a load line may speak.
+pub fn node_of(moment: &Moment) -> usize {
+    match moment {
+        Moment::Origin => ORIGIN,
+        Moment::At(n, Stage::Issue) => issue(*n),
+        Moment::At(n, Stage::Start) => start(*n),
+        Moment::At(n, Stage::Done(_) | Stage::Free) => free(*n),
+        Moment::End => END,
+    }
+}
+
+/// Whether a load line leads to an issue of n, or from n to the end.
+fn belongs_to(from: &Moment, to: &Moment, n: u8) -> bool {
+    match (from, to) {
+        (_, Moment::At(m, _)) => *m == n,
+        (Moment::At(m, _), Moment::End) => *m == n,
+        _ => false,
+    }
+}
+
+impl Network {
+    /// Of a block by what is known of it, with the arcs of the load lines among these. `Err` is out of memory.
+    pub fn of(
+        alloc: Global,
+        ground: &Ground,
+        known: &Known,
+        lines: &[FactLine],
+    ) -> Result<Network, AllocError> {
+        let mut network = Network {
+            arcs: Vec::new(alloc),
+        };
+        for n in known.order() {
+            network.add_issue(ground, known, lines, *n)?;
+            network.add_start(ground, *n)?;
+            network.add_results(ground, *n)?;
+        }
+        Ok(network)
+    }
+
+    fn add(&mut self, from: usize, wait: u32, to: usize) -> Result<(), AllocError> {
+        self.arcs.push(Arc { from, wait, to })?;
+        Ok(())
+    }
+
+    /// To the issue of n, and by load lines to the end.
+    fn add_issue(
+        &mut self,
+        ground: &Ground,
+        known: &Known,
+        lines: &[FactLine],
+        n: u8,
+    ) -> Result<(), AllocError> {
+        let Some(row) = ground.row(n) else {
+            return Ok(());
+        };
+        self.add(ORIGIN, 0, issue(n))?;
+        self.add_parcels(ground, known, n)?;
+        if ground.copies(row.kind) == 1 {
+            self.add_unit(known, ground.users(row.kind).both(&known.before(n)), n)?;
+        }
+        for write in row.writes.as_slice() {
+            self.add_writer(ground, n, write.reg, issue(n))?;
+        }
+        self.add_loads(lines, n)
+    }
+
+    /// To the issue of n from those of the numbers right before it.
+    fn add_parcels(&mut self, ground: &Ground, known: &Known, n: u8) -> Result<(), AllocError> {
+        for m in known.before(n).numbers().as_slice() {
+            if known.after(*m).both(&known.before(n)).count() == 0
+                && let Some(row) = ground.row(*m)
+            {
+                self.add(issue(*m), row.parcels, issue(n))?;
+            }
+        }
+        Ok(())
+    }
+
+    /// To the issue of n from the free of the only unit of its kind, by those of these numbers that are right before it.
+    fn add_unit(&mut self, known: &Known, users: Set, n: u8) -> Result<(), AllocError> {
+        for m in users.numbers().as_slice() {
+            if known.after(*m).both(&users).count() == 0 {
+                self.add(free(*m), 0, issue(n))?;
+            }
+        }
+        Ok(())
+    }
+
+    /// To a node of n from the last result in a register before it.
+    fn add_writer(
+        &mut self,
+        ground: &Ground,
+        n: u8,
+        register: Reg,
+        to: usize,
+    ) -> Result<(), AllocError> {
+        let writer = last_writer(ground, n, register);
+        match ground.row(writer) {
+            None => Ok(()),
+            Some(row) => self.add(done(row, writer, register), 0, to),
+        }
+    }
+
+    /// By load lines.
+    fn add_loads(&mut self, lines: &[FactLine], n: u8) -> Result<(), AllocError> {
+        for line in lines {
+            if let FactLine::Load(load) = line
+                && belongs_to(&load.from, &load.to, n)
+            {
+                self.add(node_of(&load.from), load.wait, node_of(&load.to))?;
+            }
+        }
+        Ok(())
+    }
+
+    /// To the start of n.
+    fn add_start(&mut self, ground: &Ground, n: u8) -> Result<(), AllocError> {
+        let Some(row) = ground.row(n) else {
+            return Ok(());
+        };
+        self.add(issue(n), 0, start(n))?;
+        for register in row.reads.as_slice() {
+            self.add_writer(ground, n, *register, start(n))?;
+        }
+        match row.memory {
+            Memory::None => Ok(()),
+            Memory::Load => self.add_memory(ground, n, false),
+            Memory::Store => self.add_memory(ground, n, true),
+        }
+    }
+
+    /// To the start of n from the last store before it, and from the loads since then if it is a store.
+    fn add_memory(&mut self, ground: &Ground, n: u8, is_store: bool) -> Result<(), AllocError> {
+        for back in 1..n {
+            let memory = match ground.row(n - back) {
+                None => Memory::None,
+                Some(row) => row.memory,
+            };
+            match memory {
+                Memory::Store => return self.add(start(n - back), 1, start(n)),
+                Memory::Load if is_store => self.add(start(n - back), 1, start(n))?,
+                _ => {}
+            }
+        }
+        Ok(())
+    }
+
+    /// To the results of n and to the free of its unit, and from there to the end.
+    fn add_results(&mut self, ground: &Ground, n: u8) -> Result<(), AllocError> {
+        let Some(row) = ground.row(n) else {
+            return Ok(());
+        };
+        self.add(start(n), row.hold.saturating_add(1), free(n))?;
+        for write in row.writes.as_slice() {
+            let to = done(row, n, write.reg);
+            self.add(start(n), write.latency, to)?;
+            self.add_readers(ground, n, write.reg, to)?;
+            if write.held {
+                self.add(to, 1, free(n))?;
+            }
+            self.add(to, 0, END)?;
+        }
+        self.add(free(n), 0, END)
+    }
+
+    /// To a result of n from the starts of those that read its register, since the one that wrote it.
+    fn add_readers(
+        &mut self,
+        ground: &Ground,
+        n: u8,
+        register: Reg,
+        to: usize,
+    ) -> Result<(), AllocError> {
+        for back in 1..n {
+            if let Some(row) = ground.row(n - back) {
+                if has_register(row.reads.as_slice(), register) {
+                    self.add(start(n - back), 1, to)?;
+                }
+                if writes(row, register) {
+                    return Ok(());
+                }
+            }
+        }
+        Ok(())
+    }
+
+    /// How many arcs stand before those that lead from a node.
+    fn count_before(&self, node: usize) -> usize {
+        for place in 0..self.arcs.len() {
+            if self.arcs[place].from == node {
+                return place;
+            }
+        }
+        self.arcs.len()
+    }
+
+    /// Adds the arc of a load after all that lead to its node and before all that lead from there. `Err` is out of memory.
+    pub fn insert(&mut self, load: &KnownArc) -> Result<(), AllocError> {
+        let to = node_of(&load.to);
+        let place = self.count_before(to).min(self.arcs.len());
+        self.arcs.insert(
+            place,
+            Arc {
+                from: node_of(&load.from),
+                wait: load.wait,
+                to,
+            },
+        )?;
+        Ok(())
+    }
+
+    /// The same. `Err` is out of memory.
+    pub fn duplicate(&self, alloc: Global) -> Result<Network, AllocError> {
+        let mut arcs = Vec::new(alloc);
+        arcs.extend_from_slice(self.arcs.as_slice())?;
+        Ok(Network { arcs })
+    }
+
+    /// The longest paths from the origin and to the end.
+    pub fn paths(&self) -> Paths {
+        Paths {
+            heads: self.heads(ORIGIN),
+            tails: self.tails(END),
+        }
+    }
+
+    /// The longest paths from a node.
+    pub fn heads(&self, from: usize) -> Times {
+        let mut times = [None; NODE_COUNT];
+        raise(&mut times, from, 0);
+        for arc in self.arcs.as_slice() {
+            if let Some(time) = time_at(&times, arc.from) {
+                raise(&mut times, arc.to, time.saturating_add(arc.wait));
+            }
+        }
+        times
+    }
+
+    /// The longest paths to a node.
+    pub fn tails(&self, to: usize) -> Times {
+        let mut times = [None; NODE_COUNT];
+        raise(&mut times, to, 0);
+        let arcs = self.arcs.as_slice();
+        for back in 0..arcs.len() {
+            let arc = arcs[arcs.len() - 1 - back];
+            if let Some(time) = time_at(&times, arc.to) {
+                raise(&mut times, arc.from, time.saturating_add(arc.wait));
+            }
+        }
+        times
+    }
+}

@@ -1,0 +1,119 @@
+//! Which pairs are forced in all orders that take less than a bound.
+
+use crate::facts::ground::Ground;
+use crate::facts::known::{Known, set_of, turned};
+use crate::facts::network::{Network, Paths};
+use crate::facts::nodes::{free, issue, time_at};
+use s66_dep::Set;
+use s66_isa::{BLOCK_LIMIT, is_same_kind};
+
+/// The numbers that have to stand after each, and before each; what is of n is at n - 1.
+#[derive(Drop)]
+pub struct Forced {
+    after: [Set; BLOCK_LIMIT],
+    before: [Set; BLOCK_LIMIT],
+}
+
+/// What pairs are forced by.
+#[derive(Drop)]
+struct Looks<'a> {
+    ground: &'a Ground,
+    known: &'a Known,
+    paths: Paths,
+    bound: u32,
+}
+
+/// Whether two paths, one after the other, take so long at least.
+fn reaches(bound: u32, head: Option<u32>, wait: u32, tail: Option<u32>) -> bool {
+    match (head, tail) {
+        (Some(head), Some(tail)) => bound <= head.saturating_add(wait).saturating_add(tail),
+        _ => false,
+    }
+}
+
+/// Whether m would come too late for a bound if n stood before it: by parcels, or by the only unit of their kind.
+pub fn is_late(ground: &Ground, paths: &Paths, bound: u32, m: u8, n: u8) -> bool {
+    let (Some(row), Some(other)) = (ground.row(n), ground.row(m)) else {
+        return false;
+    };
+    let tail = time_at(&paths.tails, issue(m));
+    let is_shared = is_same_kind(row.kind, other.kind) && ground.copies(row.kind) == 1;
+    let by_parcels = reaches(bound, time_at(&paths.heads, issue(n)), row.parcels, tail);
+    by_parcels || is_shared && reaches(bound, time_at(&paths.heads, free(n)), 0, tail)
+}
+
+impl<'a> Looks<'a> {
+    /// Whether m would come too late if n stood before it.
+    fn is_late(&self, m: u8, n: u8) -> bool {
+        is_late(self.ground, &self.paths, self.bound, m, n)
+    }
+
+    /// The numbers that stand after m, or have to.
+    fn after(&self, m: u8) -> Set {
+        let known = self.known;
+        let mut those = known.after(m);
+        let mut open = known.all().without(&those).without(&known.before(m));
+        while let Some(n) = open.pop_first() {
+            if n != m && self.is_late(m, n) {
+                those = those.with(n);
+            }
+        }
+        those
+    }
+
+    /// The same of each number.
+    fn after_each(&self) -> [Set; BLOCK_LIMIT] {
+        let mut after = [Set::empty(); BLOCK_LIMIT];
+        let mut rest = self.known.all();
+        while let Some(m) = rest.pop_first() {
+            after[m as usize - 1] = self.after(m);
+        }
+        after
+    }
+}
+
+impl Forced {
+    /// By what is known, for a bound.
+    pub fn of(ground: &Ground, known: &Known, network: &Network, bound: u32) -> Forced {
+        let looks = Looks {
+            ground,
+            known,
+            paths: network.paths(),
+            bound,
+        };
+        let after = looks.after_each();
+        Forced {
+            after,
+            before: turned(&after),
+        }
+    }
+
+    /// Two numbers of which each has to stand before the other, if there are such.
+    pub fn ring(&self) -> Option<(u8, u8)> {
+        for position in 0..BLOCK_LIMIT {
+            let mut both = self.after[position].both(&self.before[position]);
+            if let Some(n) = both.pop_first() {
+                return Some(((position + 1) as u8, n));
+            }
+        }
+        None
+    }
+
+    /// The numbers that have to stand after m, which isn't known.
+    pub fn after(&self, known: &Known, m: u8) -> Set {
+        set_of(&self.after, m).without(&known.after(m))
+    }
+
+    /// Those of them that don't follow from what others have to.
+    pub fn right_after(&self, known: &Known, m: u8) -> Set {
+        let mut those = Set::empty();
+        let all = set_of(&self.after, m);
+        let mut new = self.after(known, m);
+        while let Some(n) = new.pop_first() {
+            if all.both(&set_of(&self.before, n)).count() == 0 {
+                those = those.with(n);
+            }
+        }
+        those
+    }
+}

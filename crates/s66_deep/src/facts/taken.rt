@@ -1,0 +1,92 @@
+//! What is known of a block, and how many lines it took.
+
+ghost use Rattle.std.specs.Prelude.{◌≤◌, ◌<◌, ◌+◌, IsTrue, not, length};
+ghost use Rattle.s66_facts.specs.declared.limits.TheConstants.{FACT_LIMIT};
+ghost use Rattle.s66_facts.specs.Ground.{known_of};
+
+use crate::facts::ground::Ground;
+use s66_facts::{FACT_LIMIT, Facts};
+use s66_isa::BLOCK_LIMIT;
+use s66_moments::FactLine;
+
+/// What is known, and how many lines were taken, of which some are load lines.
+#[derive(Drop)]
+pub struct Taken {
+    facts: Facts,
+    lines: usize,
+    ghost room: { length (known_of facts).loads ≤ lines },
+}
+
+/// How long a path is, at most 2^32 - 1; 0 if there is none.
+pub fn word(time: Option<u64>) -> u32 {
+    match time {
+        None => 0,
+        Some(time) => time.min(u32::MAX as u64) as u32,
+    }
+}
+
+/// Takes a line in if it is right, and returns whether it is.
+fn take(facts: &mut Facts, bound: u32, line: &FactLine) -> bool
+    requires room { length (known_of facts.old).loads < FACT_LIMIT }
+    ensures one_more { length (known_of facts.new).loads ≤ length (known_of facts.old).loads + 1 }
+    ensures same { IsTrue (not result) → length (known_of facts.new).loads ≤ length (known_of facts.old).loads }
+{
+    match line {
+        FactLine::Pair(m, n) => facts.take_pair(bound, *m, *n),
+        FactLine::Load(load) => facts.take_load(load),
+    }
+}
+
+impl Taken {
+    /// Of a block by dependence alone.
+    pub fn new(ground: &Ground) -> Taken {
+        Taken {
+            facts: Facts::new(ground.block(), ground.profile()),
+            lines: 0,
+        }
+    }
+
+    /// What is known.
+    pub fn facts(&self) -> &Facts {
+        &self.facts
+    }
+
+    /// The number whose issue is followed by the longest path to the end, and how long that is; 0 and 0 if there is no path.
+    pub fn root(&self) -> (u8, u32) {
+        let tails = self.facts.tails();
+        let mut longest = (0, 0);
+        for position in 0..BLOCK_LIMIT {
+            let time = word(tails[position].issue);
+            if time > longest.1 {
+                longest = ((position + 1) as u8, time);
+            }
+        }
+        longest
+    }
+
+    /// Whether the block has both numbers, and m is known to stand before n.
+    pub fn is_before(&self, m: u8, n: u8) -> bool {
+        let count = self.facts.count();
+        1 <= m && m <= count && 1 <= n && n <= count && self.facts.is_before(m, n)
+    }
+
+    /// Takes a line in if it is right and there is room for it, and returns whether it did.
+    pub fn take(&mut self, bound: u32, line: &FactLine) -> bool {
+        if self.lines >= FACT_LIMIT {
+            return false;
+        }
+        let is_taken = take(&mut self.facts, bound, line);
+        if is_taken {
+            self.lines += 1;
+        }
+        is_taken
+    }
+
+    /// The same.
+    pub fn duplicate(&self) -> Taken {
+        Taken {
+            facts: self.facts.duplicate(),
+            lines: self.lines,
+        }
+    }
+}

@@ -1,0 +1,152 @@
+ghost use Rattle.std.specs.Prelude.{ℕ, ◌≤◌, length};
+ghost use Rattle.s66_isa.specs.declared.limits.TheConstants.{BLOCK_LIMIT};
+ghost use Rattle.s66_dep.specs.Ranks.{AreUpTo, IsRanking, AreAtMost};
+ghost use Rattle.s66_deep.specs.declared.limits.TheConstants.{TAIL_LIMIT};
+ghost use Rattle.s66_deep.specs.FollowingWords.{AreSmall, AreSmallWords, HasSmallWords, HasRanks};
+
+use crate::floors::class::{Class, Role, is_in};
+use crate::floors::tails::{Part, Tails};
+use s66_dep::{Ranking, Set};
+use s66_isa::{BLOCK_LIMIT, KIND_COUNT, KINDS, REGISTER_COUNT, Reg, Row};
+
+/// What the greatest paths of a block look up. Words are in minor cycles; that of n is at place n - 1.
+#[derive(Drop)]
+pub struct PathTables {
+    /// All numbers of the block.
+    pub all: Set,
+    /// What follows the stages of each number.
+    pub tails: [Tails; BLOCK_LIMIT],
+    /// What follows the first result of each.
+    pub first: [u32; BLOCK_LIMIT],
+    /// What follows the second.
+    pub second: [u32; BLOCK_LIMIT],
+    /// The numbers by what follows the issue.
+    pub by_issue: Ranking,
+    /// The numbers by what follows the start.
+    pub by_start: Ranking,
+    /// The ranks by issue of the numbers of two parcels.
+    pub long: Set,
+    /// The ranks by issue of those that take a unit of each kind, by its number.
+    pub takers: [Set; KIND_COUNT],
+    /// The ranks by issue of those that write each register, by its index.
+    pub writers: [Set; REGISTER_COUNT],
+    /// The ranks by start of those that read each register.
+    pub readers: [Set; REGISTER_COUNT],
+    /// The ranks by start of the loads.
+    pub loads: Set,
+    /// The ranks by start of the stores.
+    pub stores: Set,
+    /// The numbers whose first result is in each register.
+    pub firsts: [Set; REGISTER_COUNT],
+    /// The numbers whose second result is in each register.
+    pub seconds: [Set; REGISTER_COUNT],
+}
+
+impl PathTables {
+    /// Of the rows of a block, and what follows.
+    pub fn of(rows: &[Row], tails: &[Tails; BLOCK_LIMIT]) -> PathTables
+        requires few { length rows.now ≤ BLOCK_LIMIT }
+        requires small { AreSmall tails.now }
+        ensures words { HasSmallWords result }
+        ensures ranks { HasRanks (length rows.now) result }
+    {
+        let by_issue = ranking_by(tails, Part::Issue, rows.len());
+        let by_start = ranking_by(tails, Part::Start, rows.len());
+        PathTables {
+            all: Set::up_to(rows.len()),
+            tails: *tails,
+            first: column(tails, Part::First),
+            second: column(tails, Part::Second),
+            long: class_ranks(rows, &by_issue, &Class::Long),
+            takers: takers_of(rows, &by_issue),
+            writers: user_ranks(rows, &by_issue, Role::Writes),
+            readers: user_ranks(rows, &by_start, Role::Reads),
+            loads: class_ranks(rows, &by_start, &Class::Loads),
+            stores: class_ranks(rows, &by_start, &Class::Stores),
+            firsts: users_of(rows, Role::WritesFirst),
+            seconds: users_of(rows, Role::WritesSecond),
+            by_issue,
+            by_start,
+        }
+    }
+}
+
+/// What follows a part of each number.
+fn column(tails: &[Tails; BLOCK_LIMIT], part: Part) -> [u32; BLOCK_LIMIT]
+    requires { AreSmall tails.now }
+    ensures { AreSmallWords result }
+{
+    let mut words = [0; BLOCK_LIMIT];
+    for place in 0..BLOCK_LIMIT {
+        words[place] = tails[place].after(part);
+    }
+    words
+}
+
+/// The numbers up to a count by what follows a part of them.
+fn ranking_by(tails: &[Tails; BLOCK_LIMIT], part: Part, count: usize) -> Ranking
+    requires few { count ≤ BLOCK_LIMIT }
+    requires small { AreSmall tails.now }
+    ensures ranking { (word : ℕ → ℕ) × IsRanking word count result }
+    ensures at_most { AreAtMost TAIL_LIMIT result }
+{
+    Ranking::of(&column(tails, part), count)
+}
+
+/// The numbers of a class.
+fn those_of(rows: &[Row], class: &Class) -> Set
+    requires { length rows.now ≤ BLOCK_LIMIT }
+    ensures { AreUpTo (length rows.now) result }
+{
+    let mut those = Set::empty();
+    for place in 0..rows.len() {
+        if is_in(&rows[place], class) {
+            those = those.with((place + 1) as u8);
+        }
+    }
+    those
+}
+
+/// The numbers that have a role with each register, by its index.
+fn users_of(rows: &[Row], role: Role) -> [Set; REGISTER_COUNT]
+    requires { length rows.now ≤ BLOCK_LIMIT }
+{
+    let mut users = [Set::empty(); REGISTER_COUNT];
+    for index in 0..REGISTER_COUNT {
+        users[index] = those_of(rows, &Class::Uses(role, Reg::of_index(index as u8)));
+    }
+    users
+}
+
+/// The ranks of the numbers of a class.
+fn class_ranks(rows: &[Row], ranking: &Ranking, class: &Class) -> Set
+    requires few { length rows.now ≤ BLOCK_LIMIT }
+    requires ranking { (word : ℕ → ℕ) × IsRanking word (length rows.now) ranking.now }
+{
+    ranking.ranks(&those_of(rows, class))
+}
+
+/// The ranks of those that have a role with each register, by its index.
+fn user_ranks(rows: &[Row], ranking: &Ranking, role: Role) -> [Set; REGISTER_COUNT]
+    requires few { length rows.now ≤ BLOCK_LIMIT }
+    requires ranking { (word : ℕ → ℕ) × IsRanking word (length rows.now) ranking.now }
+{
+    let mut ranks = [Set::empty(); REGISTER_COUNT];
+    for index in 0..REGISTER_COUNT {
+        let class = Class::Uses(role, Reg::of_index(index as u8));
+        ranks[index] = class_ranks(rows, ranking, &class);
+    }
+    ranks
+}
+
+/// The ranks of those that take a unit of each kind, by its number.
+fn takers_of(rows: &[Row], ranking: &Ranking) -> [Set; KIND_COUNT]
+    requires few { length rows.now ≤ BLOCK_LIMIT }
+    requires ranking { (word : ℕ → ℕ) × IsRanking word (length rows.now) ranking.now }
+{
+    let mut ranks = [Set::empty(); KIND_COUNT];
+    for index in 0..KIND_COUNT {
+        ranks[index] = class_ranks(rows, ranking, &Class::Takes(KINDS[index]));
+    }
+    ranks
+}

@@ -1,6 +1,0 @@
-use Rattle.std.proofs.Common.{length}
-use Rattle.s66_dep.specs.Ranks.{AreUpTo}
-use Rattle.s66_paths.proofs.tables.those_of.Given as goal
-
-abbrev pub invariant-loop-place : goal.invariant-loop-place
-invariant-loop-place l = AreUpTo (length l.rows) l.those

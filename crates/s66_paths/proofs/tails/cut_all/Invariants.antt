@@ -1,5 +1,0 @@
-use Rattle.s66_paths.specs.FollowingWords.{AreSmall}
-use Rattle.s66_paths.proofs.tails.cut_all.Given as goal
-
-abbrev pub invariant-loop-place : goal.invariant-loop-place
-invariant-loop-place l = AreSmall l.those

@@ -1,9 +1,0 @@
-use Rattle.std.proofs.Common.{◌≤◌, length}
-use Rattle.s66_isa.specs.Registers.{registers_in}
-use Rattle.s66_paths.proofs.values.with_readers.Given as goal
-
-abbrev pub decreases-loop-register : goal.decreases-loop-register
-decreases-loop-register l = length (registers_in l.late)
-
-abbrev pub invariant-loop-register : goal.invariant-loop-register
-invariant-loop-register l = l.fn.most ≤ l.most

@@ -1,6 +1,0 @@
-use Rattle.std.proofs.Common.{◌≤◌}
-use Rattle.s66_time.specs.declared.limits.TheConstants.{TOTAL_LIMIT}
-use Rattle.s66_paths.proofs.words.last_read.Given as goal
-
-abbrev pub invariant-loop-register : goal.invariant-loop-register
-invariant-loop-register l = l.last ≤ TOTAL_LIMIT
