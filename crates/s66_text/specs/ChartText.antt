@@ -1,8 +1,8 @@
 -- To be believed: what `chart` writes of a block: a line, and the chart of the block as it was written, with `--text` also its texts and a ruler.
 use Rattle.std.specs.Prelude.{ℕ, Bool, if◌then◌else◌, List, ◌++◌, codes, decimal}
 use Rattle.s66_isa.specs.declared.profile.Profile.{Profile}
-use Rattle.s66_chart.specs.Chart.{chart_text}
-use Rattle.s66_chart.specs.TextChart.{text_chart}
+use Rattle.s66_why.specs.Chart.{chart_text}
+use Rattle.s66_why.specs.TextChart.{text_chart}
 use Rattle.s66_line.specs.Block.{instrs_of, Block}
 use Rattle.s66_time.specs.TimedOrder.{TimedOrder}
 use Rattle.s66_text.specs.AsWritten.{as_written, total_time}

@@ -1,13 +1,13 @@
 ghost use Rattle.std.specs.Prelude.{◌≡◌, ◌++◌, OnOk};
-ghost use Rattle.s66_chart.specs.Chart.{chart_text};
+ghost use Rattle.s66_why.specs.Chart.{chart_text};
 ghost use Rattle.s66_text.specs.ChartText.{chart_lines, timed_line};
 
 use crate::fields::push_block_head;
-use s66_chart::{chart, push_text_chart};
 use s66_dep::Order;
 use s66_device::{OverWrite, push_field};
 use s66_line::Block;
 use s66_time::{Timed, Timer};
+use s66_why::{chart, push_text_chart};
 use std::alloc::{AllocError, Global};
 use std::mem;
 

@@ -1,5 +1,6 @@
 pub mod Alike
 pub mod AmongParts
+pub mod Appended
 pub mod Earlier
 pub mod Forbidden
 pub mod Found
@@ -7,4 +8,6 @@ pub mod Last
 pub mod Lines
 pub mod Numbers
 pub mod Paths
+pub mod Runs
 pub mod Writes
+pub mod WrittenRows

@@ -1,7 +1,10 @@
+pub mod Chart
 pub mod Examples
 pub mod Forbids
 pub mod KeptPoints
 pub mod Numbers
 pub mod Paths
+pub mod Runs
 pub mod Sums
+pub mod TextChart
 pub mod Why

@@ -8,7 +8,7 @@ use Rattle.s66_isa.specs.declared.reg.Bank.TheVariants.{A, B, X}
 use Rattle.s66_line.specs.Block.{Block, text_of}
 use Rattle.s66_model.specs.Timing.{Point, done_at, end_of, points_of, readers_wait, total}
 use Rattle.s66_time.specs.TimedOrder.{TimedOrder}
-use Rattle.s66_chart.specs.TextChart.{in_places, text_width}
+use Rattle.s66_why.specs.TextChart.{in_places, text_width}
 use Rattle.s66_why.specs.declared.cause.Cause.{Cause}
 use Rattle.s66_why.specs.declared.cause.Cause.TheVariants.{Writes, Takes, References, Reads, Ends}
 use Rattle.s66_why.specs.declared.cause.Holder.{Holder}

@@ -1,12 +1,57 @@
-//! Worked examples: what the definition writes of small orders under the standard profile. Each clause is a text, and the functions
-//! do nothing.
+//! Worked examples: what the definitions draw and write of small orders under the standard profile. Each clause is a chart or a text,
+//! and the functions do nothing.
 
 ghost use Rattle.std.specs.Prelude.{ℕ, List, [], ◌∷◌, ◌≡◌, ◌++◌, false, true, codes};
 ghost use Rattle.s66_isa.specs.Table.{instr};
-ghost use Rattle.s66_model.specs.Examples.{standard_problem, first_order, one_load, latest_writer, loads_then_store, two_readers, held_load, packing_gap, three_multiplies};
+ghost use Rattle.s66_model.specs.Examples.{standard_problem, first_order, one_load, latest_writer, loads_then_store, third_order, two_readers, held_load, packing_gap, three_multiplies};
 ghost use Rattle.s66_line.specs.Block.{Block as BlockOf};
-ghost use Rattle.s66_why.specs.Examples.{one_load_lines};
+ghost use Rattle.s66_why.specs.Chart.{chart_text};
+ghost use Rattle.s66_why.specs.Examples.{one_load_lines, packing_gap_lines};
+ghost use Rattle.s66_why.specs.TextChart.{text_chart};
 ghost use Rattle.s66_why.specs.Why.{why_text};
+
+/// Each block in the order in which it is written: an instruction that waits for a load; a `NO`, also after an instruction of two
+/// parcels; a result that waits for readers and holds its unit; a loaded one that waits and holds no unit; and an instruction
+/// that writes only B0.
+#[tactic(auto, unfolding(s66_isa::specs::Table::row, s66_model::specs::Timing::issue_of, s66_model::specs::Timing::start_of, s66_model::specs::Timing::point, crate::specs::Chart::digits))]
+pub fn chart_examples()
+    ensures one_load { chart_text (record { problem = standard_problem one_load; numbers = 1 ∷ 2 ∷ 3 ∷ [] }) ≡
+        codes "  1 I=======........\n" ++
+        codes "  2 .IWWWWWW===.....\n" ++
+        codes "  3 ............I==.\n" }
+    ensures packing_gap { chart_text (record { problem = standard_problem packing_gap; numbers = 1 ∷ 2 ∷ 3 ∷ 4 ∷ [] }) ≡
+        codes "  1 I==.........\n" ++
+        codes "  2 .I==........\n" ++
+        codes "  3 ..I==.......\n" ++
+        codes " NO ...I........\n" ++
+        codes "  4 ....I=======\n" }
+    ensures gap_after_two_parcels { chart_text (record { problem = standard_problem (instr 0o10 7 2 0 ∷ instr 0o50 1 1 0 ∷ instr 0o50 2 2 0 ∷ []); numbers = 1 ∷ 2 ∷ 3 ∷ [] }) ≡
+        codes "  1 I==.........\n" ++
+        codes "  2 .I=======...\n" ++
+        codes " NO ...I........\n" ++
+        codes "  3 ....I=======\n" }
+    ensures third_order { chart_text (record { problem = standard_problem third_order; numbers = 1 ∷ 2 ∷ 3 ∷ [] }) ≡
+        codes "  1 I============================....\n" ++
+        codes "  2 .IWWWWWWWWWWWWWWWWWWWWWWWWWWW===.\n" ++
+        codes "  3 ..I==HHHHHHHHHHHHHHHHHHHHHHHHH...\n" }
+    ensures held_load { chart_text (record { problem = standard_problem held_load; numbers = 1 ∷ 2 ∷ 3 ∷ [] }) ≡
+        codes "  1 I============================....\n" ++
+        codes "  2 .IWWWWWWWWWWWWWWWWWWWWWWWWWWW===.\n" ++
+        codes "  3 ..I=======HHHHHHHHHHHHHHHHHHHH...\n" }
+    ensures only_b0 { chart_text (record { problem = standard_problem (instr 0o61 0 0 0 ∷ []); numbers = 1 ∷ [] }) ≡ codes "  1 I==.\n" }
+{}
+
+/// A block of five parcels with its texts: in upper case and without the remark, as wide as the widest; and a ruler to its end.
+#[tactic(auto, unfolding(s66_isa::specs::Table::row, s66_model::specs::Timing::issue_of, s66_model::specs::Timing::start_of, s66_model::specs::Timing::point, crate::specs::Chart::digits))]
+pub fn text_chart_example()
+    ensures { text_chart packing_gap_lines (record { problem = standard_problem packing_gap; numbers = 1 ∷ 2 ∷ 3 ∷ 4 ∷ [] }) ≡
+        codes "               0         10\n" ++
+        codes "BX7 X2       1 I==.........\n" ++
+        codes "LX3 1        2 .I==........\n" ++
+        codes "IX4 X5+X6    3 ..I==.......\n" ++
+        codes "            NO ...I........\n" ++
+        codes "SA1 A1+100   4 ....I=======\n" }
+{}
 
 /// Each cause: a unit, a result that is written or read, memory, and a reader of a register, also of one that is loaded; an order
 /// that isn't the source's; a `NO` alone, which is no line; and an instruction that writes only B0.

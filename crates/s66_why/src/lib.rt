@@ -1,25 +1,34 @@
-//! Why instructions of a timed order wait, what each waits for, and which waits its time comes from.
+//! Timed orders as pictures, and why their instructions wait: what each waits for, and which waits the time of its order comes from.
 #![tactic(auto)]
 
+mod activity;
 mod cause;
 mod examples;
 mod holders;
 mod laws;
 mod lost;
 mod path;
+mod picture;
 mod placed;
 mod points;
+mod row;
 mod stretch;
 mod text;
+mod text_chart;
 mod waits;
 
 pub use cause::{Cause, Holder};
-pub use examples::{cause_examples, equal_cause_examples, path_example, text_example};
+pub use examples::{
+    cause_examples, chart_examples, equal_cause_examples, path_example, text_chart_example,
+    text_example,
+};
 pub use laws::{cause_law, path_law};
 pub use lost::Lost;
 pub use path::{Step, path_of, steps_of};
+pub use picture::chart;
 pub use placed::{PlacedInstr, ResultAt};
 pub use points::points_of;
 pub use stretch::{Conflict, Stretch};
 pub use text::{bank_name, conflict_name, push_in_three, push_why};
+pub use text_chart::{push_blanks, push_in_places, push_text_chart, text_width};
 pub use waits::waits_of;

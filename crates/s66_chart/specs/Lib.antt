@@ -1,4 +1,0 @@
-pub mod Chart
-pub mod Runs
-pub mod TextChart
-pub mod Examples

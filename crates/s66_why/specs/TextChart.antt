@@ -1,0 +1,43 @@
+-- To be believed: a chart with the text of each instruction before its row, and a ruler above the rows.
+use Rattle.std.specs.Prelude.{ℕ, ◌+◌, ◌-◌, ◌*◌, ◌/◌, if◌then◌else◌, List, [], ◌++◌, codes, decimal, flat_map, length, replicate}
+use Rattle.std.specs.List.{range_with_len}
+use Rattle.s66_isa.specs.Lists.{greatest}
+use Rattle.s66_isa.specs.Table.{numbers}
+use Rattle.s66_line.specs.Block.{Block, instrs_of, text_of}
+use Rattle.s66_time.specs.TimedOrder.{TimedOrder, point_at}
+use Rattle.s66_why.specs.declared.row.TheConstants.{NAME_ROOM}
+use Rattle.s66_why.specs.Chart.{cycles_of, filler_row, has_filler, instruction_row}
+
+-- TEXTS
+
+-- how many places the texts of a block need
+abbrev pub text_width : Block → ℕ
+text_width block = greatest (λ n. length (text_of block n)) (numbers (instrs_of block))
+
+-- a text on the left of this many places, and a blank
+abbrev pub in_places : ℕ → List ℕ → List ℕ
+in_places width text = text ++ replicate (width - length text) 32 ++ codes " "
+
+-- THE RULER
+
+-- a number on the left of ten places
+abbrev pub in_ten : ℕ → List ℕ
+in_ten n = decimal n ++ replicate (10 - length (decimal n)) 32
+
+-- after a text, a blank, a number and a blank, above every tenth minor cycle its number, from 0, up to the end
+abbrev pub ruler : (width cycles : ℕ) → List ℕ
+ruler width cycles =
+    replicate (width + 1 + NAME_ROOM + 1) 32 ++ flat_map (λ ten. in_ten (10 * ten)) (range_with_len 0 (cycles / 10)) ++ decimal (10 * (cycles / 10)) ++ codes "\n"
+
+-- THE ROWS
+
+abbrev pub text_row : Block → TimedOrder → ℕ → List ℕ
+text_row block t position = in_places (text_width block) (text_of block (point_at t position).number) ++ instruction_row t position
+
+-- a NO has no text
+abbrev pub blank_row : Block → TimedOrder → ℕ → List ℕ
+blank_row block t position = if has_filler t position then in_places (text_width block) [] ++ filler_row t position else []
+
+abbrev pub text_chart : Block → TimedOrder → List ℕ
+text_chart block t =
+    ruler (text_width block) (cycles_of t) ++ flat_map (λ position. text_row block t position ++ blank_row block t position) (range_with_len 0 (length t.numbers))
