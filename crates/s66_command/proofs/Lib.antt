@@ -4,3 +4,4 @@ pub mod Flags
 pub mod Named
 pub mod OptionRanges
 pub mod Refused
+pub mod EmptyHints

@@ -1,16 +1,24 @@
-//! The command line: what the words that the program is called with ask for.
+//! The command line: what the words that the program is called with ask for, and the timing profile that they give as a JSON text.
 #![tactic(auto)]
 
 mod app;
 mod command;
+mod examples;
 mod help;
+mod hint;
 mod limits;
 mod options;
+mod profile;
+mod profile_error;
 mod strategy;
 mod usage;
 
 pub use app::VERSION;
 pub use command::Command;
+pub use examples::{hint_examples, profile_examples, refusal_examples};
+pub use hint::profile_hint;
 pub use limits::{BLOCK_NUMBER_LIMIT, NODES_DEFAULT, WORKERS_DEFAULT};
+pub use profile::read_profile;
+pub use profile_error::ProfileError;
 pub use strategy::Strategy;
 pub use usage::{Usage, command_of};

@@ -5,7 +5,7 @@ use Rattle.s66_source.specs.declared.error.SourceError.{SourceError}
 use Rattle.s66_source.specs.declared.error.SourceError.TheVariants.{BadOperand, LineTooLong, TooLarge, OutOfMemory}
 use Rattle.s66_outcome.specs.declared.outcome.Fault.{Fault}
 use Rattle.s66_outcome.specs.declared.outcome.Fault.TheVariants.{Source, NewSource, NoNewSource, Document, Profile}
-use Rattle.s66_profile.specs.Hint.{hint_in_text}
+use Rattle.s66_command.specs.ProfileHint.{hint_in_text}
 
 -- of a source, with its newline
 abbrev pub source_way_out : SourceError → List ℕ

@@ -6,8 +6,8 @@ use Rattle.s66_source.specs.declared.error.SourceError.{SourceError}
 use Rattle.s66_source.specs.declared.error.SourceError.TheVariants.{BadOperand, LineTooLong, OutOfMemory, TooLarge}
 use Rattle.s66_source.specs.Refusals.{refusal_line}
 use Rattle.s66_cert.specs.Refusals.{document_refusal_line}
-use Rattle.s66_profile.specs.declared.error.ProfileError.{ProfileError}
-use Rattle.s66_profile.specs.declared.error.ProfileError.TheVariants as profile
+use Rattle.s66_command.specs.declared.profile_error.ProfileError.{ProfileError}
+use Rattle.s66_command.specs.declared.profile_error.ProfileError.TheVariants as profile
 use Rattle.s66_outcome.specs.declared.outcome.Fault.{Fault}
 use Rattle.s66_outcome.specs.declared.outcome.Fault.TheVariants.{Source, NewSource, NoNewSource, Document, Profile, Memory, Read, Write}
 use Rattle.s66_outcome.specs.declared.outcome.Status.{Status}

@@ -7,7 +7,7 @@ use arrayvec::ArrayString;
 use itoa::Buffer;
 use s66_cert::CertError;
 use s66_device::{FAULT_ROOM, short_text};
-use s66_profile::ProfileError;
+use s66_command::ProfileError;
 use s66_source::SourceError;
 use std::alloc::{AllocError, AllocFailed};
 use std::{error, fmt};

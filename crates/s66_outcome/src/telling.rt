@@ -1,5 +1,5 @@
 ghost use Rattle.std.specs.Prelude.{◌≡◌, ◌-◌, ◌^◌, ◌<◌, ◌++◌, Err, IfOk, codes, option_map, string_bytes};
-ghost use Rattle.s66_profile.specs.Hint.{hint_in_text};
+ghost use Rattle.s66_command.specs.ProfileHint.{hint_in_text};
 ghost use Rattle.s66_outcome.specs.Outcome.{status_code};
 ghost use Rattle.std.specs.IoError.{error_kind};
 ghost use Rattle.s66_outcome.specs.Device.{Tells};
@@ -11,7 +11,7 @@ use crate::outcome::Fault;
 use crate::remark::Ended;
 use s66_command::Usage;
 use s66_device::{Sink, write_all};
-use s66_profile::profile_hint;
+use s66_command::profile_hint;
 use std::alloc::{AllocError, Global};
 use std::io;
 

@@ -9,7 +9,7 @@ use s66_command::Command;
 use s66_device::{Feed, Sink, write_all};
 use s66_isa::Profile;
 use s66_outcome::{Ended, Fault, Observer, Silent, Status, read_all};
-use s66_profile::read_profile;
+use s66_command::read_profile;
 use std::alloc::Global;
 use std::sync::Wait;
 use std::thread::Threads;

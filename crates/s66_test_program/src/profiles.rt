@@ -1,6 +1,6 @@
 //! That a text is read if memory is left, and said why it gives no profile, which no clause says.
 
-use s66_profile::{ProfileError, profile_hint, read_profile};
+use s66_command::{ProfileError, profile_hint, read_profile};
 use std::process::Abort;
 
 /// Each key, with a number that no other has, in an order that isn't that of a profile's numbers.

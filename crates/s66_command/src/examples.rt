@@ -2,9 +2,9 @@
 //! text, and the functions do nothing.
 
 ghost use Rattle.std.specs.Prelude.{[], ◌∷◌, ◌≡◌, ◌++◌, Some, None, codes};
-ghost use Rattle.s66_profile.specs.Examples.{standard_but};
-ghost use Rattle.s66_profile.specs.Hint.{hint_in_text};
-ghost use Rattle.s66_profile.specs.ProfileText.{profile_numbers_in_text};
+ghost use Rattle.s66_command.specs.ProfileExamples.{standard_but};
+ghost use Rattle.s66_command.specs.ProfileHint.{hint_in_text};
+ghost use Rattle.s66_command.specs.ProfileText.{profile_numbers_in_text};
 
 /// Texts that give a profile.
 #[tactic(auto, unfolding(serde_json::proofs::OnLiterals::serde_json_on_literals))]

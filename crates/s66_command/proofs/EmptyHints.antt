@@ -6,8 +6,8 @@ use Rattle.serde_json.specs.Find.{as_object}
 use Rattle.serde_json.specs.Read.{read}
 use Rattle.s66_isa.specs.Profiles.{profile_of}
 use Rattle.s66_isa.specs.Table.{entries, standard}
-use Rattle.s66_profile.specs.Hint.{hint_in_members}
-use Rattle.s66_profile.specs.ProfileText.{profile_number, place_of, with_members, profile_numbers, profile_in_text}
+use Rattle.s66_command.specs.ProfileHint.{hint_in_members}
+use Rattle.s66_command.specs.ProfileText.{profile_number, place_of, with_members, profile_numbers, profile_in_text}
 
 -- one member, at what its key and its value give
 step : (place number : Option ℕ) (a b : ℕ) (cs ds rest : List ℕ) (more : ℕ → ℕ → Option (List ℕ)) → ((at n : ℕ) → (rest ≡ []) ↔ IsSome (more at n))

@@ -2,11 +2,11 @@ ghost use Rattle.std.specs.Prelude.{◌≡◌, ◌<◌, ◌≤◌, IfOk, IfSome,
 ghost use Rattle.serde_json.specs.View.{view};
 ghost use Rattle.s66_isa.specs.Profiles.{profile_of};
 ghost use Rattle.s66_isa.specs.Table.{entries};
-ghost use Rattle.s66_profile.specs.Gives.{Gives};
-ghost use Rattle.s66_profile.specs.ProfileText.{profile_number, profile_numbers, profile_numbers_in_text, place_of, profile_in_text};
-ghost use Rattle.s66_profile.specs.declared.error.ProfileError.TheVariants.{OutOfMemory};
+ghost use Rattle.s66_command.specs.ProfileGiven.{Gives};
+ghost use Rattle.s66_command.specs.ProfileText.{profile_number, profile_numbers, profile_numbers_in_text, place_of, profile_in_text};
+ghost use Rattle.s66_command.specs.declared.profile_error.ProfileError.TheVariants.{OutOfMemory};
 
-use crate::error::ProfileError;
+use crate::profile_error::ProfileError;
 use s66_isa::{PROFILE_LENGTH, PROFILE_LIMIT, Profile};
 use serde_json::Value;
 use std::alloc::Global;

@@ -1,7 +1,7 @@
 use Rattle.std.proofs.Common.{◌≡◌}
 use Rattle.serde_json.specs.View.{members_view}
-use Rattle.s66_profile.specs.Hint.{hint_in_members}
-use Rattle.s66_profile.proofs.hint.hint_in.Given as goal
+use Rattle.s66_command.specs.ProfileHint.{hint_in_members}
+use Rattle.s66_command.proofs.hint.hint_in.Given as goal
 
 -- nothing is wrong with the members so far
 abbrev pub invariant-loop-name : goal.invariant-loop-name

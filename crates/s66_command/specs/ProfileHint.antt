@@ -4,7 +4,7 @@ use Rattle.serde_json.specs.Data.{Members, no_members, member, string}
 use Rattle.serde_json.specs.Find.{as_object}
 use Rattle.serde_json.specs.Read.{read}
 use Rattle.serde_json.specs.Written.{compact_text}
-use Rattle.s66_profile.specs.ProfileText.{profile_number, place_of}
+use Rattle.s66_command.specs.ProfileText.{profile_number, place_of}
 
 -- a key as JSON writes it, in quotes and escaped
 abbrev pub shown : List ℕ → List ℕ

@@ -1,8 +1,8 @@
 -- To be believed: what a reader of profiles gives.
 use Rattle.std.specs.Prelude.{◌≡◌, Option, Some, None, Result, Ok, Err}
 use Rattle.s66_isa.specs.declared.profile.Profile.{Profile}
-use Rattle.s66_profile.specs.declared.error.ProfileError.{ProfileError}
-use Rattle.s66_profile.specs.declared.error.ProfileError.TheVariants.{BadProfile, OutOfMemory}
+use Rattle.s66_command.specs.declared.profile_error.ProfileError.{ProfileError}
+use Rattle.s66_command.specs.declared.profile_error.ProfileError.TheVariants.{BadProfile, OutOfMemory}
 
 -- what came out is the profile that the text gives, and `BadProfile` says that it gives none; out of memory may come in place of
 -- either

@@ -1,6 +1,6 @@
 ghost use Rattle.std.specs.Prelude.{◌≡◌};
 ghost use Rattle.serde_json.specs.Errors.{IsMemory};
-ghost use Rattle.s66_profile.specs.declared.error.ProfileError.TheVariants.{BadProfile, OutOfMemory};
+ghost use Rattle.s66_command.specs.declared.profile_error.ProfileError.TheVariants.{BadProfile, OutOfMemory};
 
 use std::{error, fmt};
 
@@ -28,7 +28,7 @@ impl From<serde_json::Error> for ProfileError {
 
 impl ProfileError {
     ghost use Rattle.std.specs.Prelude.{◌≡◌};
-    ghost use Rattle.s66_profile.specs.Refusals.{profile_refusal_line};
+    ghost use Rattle.s66_command.specs.ProfileRefusals.{profile_refusal_line};
 
     /// The line that reports it, without a newline.
     pub fn line(&self) -> &'static str
@@ -43,7 +43,7 @@ impl ProfileError {
 
 impl fmt::Display for ProfileError {
     ghost use Rattle.std.specs.Prelude.{Some};
-    ghost use Rattle.s66_profile.specs.Refusals.{profile_refusal_line};
+    ghost use Rattle.s66_command.specs.ProfileRefusals.{profile_refusal_line};
 
     ghost output = { λ e. Some (profile_refusal_line e) };
 

@@ -1,5 +1,0 @@
-pub mod ProfileText
-pub mod Gives
-pub mod Refusals
-pub mod Hint
-pub mod Examples
