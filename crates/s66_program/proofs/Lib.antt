@@ -1,10 +1,14 @@
 pub mod Asked
 pub mod ByFacts
+pub mod Calls
 pub mod FactDocuments
 pub mod Fronts
 pub mod KeptInput
 pub mod KeptParts
 pub mod OrderCompared
+pub mod Places
+pub mod ReadInput
 pub mod RefusedInput
 pub mod SearchAnswers
+pub mod Told
 pub mod TwoSources

@@ -6,8 +6,8 @@ use Rattle.s66_isa.specs.Lists.{Among, every}
 use Rattle.s66_isa.specs.declared.profile.Profile.{Profile}
 use Rattle.s66_line.specs.Block.{Block, Entry, instrs_of}
 use Rattle.s66_command.specs.declared.strategy.Strategy.{Strategy}
-use Rattle.s66_outcome.specs.declared.outcome.Status.{Status}
-use Rattle.s66_outcome.specs.declared.outcome.Status.TheVariants.{Done, Denied}
+use Rattle.s66_text.specs.declared.outcome.Status.{Status}
+use Rattle.s66_text.specs.declared.outcome.Status.TheVariants.{Done, Denied}
 use Rattle.s66_program.specs.Output.{IsCompareOutput}
 use Rattle.s66_source.specs.Frame.{frame_of}
 use Rattle.s66_source.specs.Halves.{Halves, halves_of}

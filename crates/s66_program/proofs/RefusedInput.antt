@@ -5,11 +5,11 @@ use Rattle.std.specs.Result.{IsErr, IsErrAnd}
 use Rattle.s66_isa.specs.declared.profile.Profile.{Profile}
 use Rattle.s66_device.specs.Devices.{IsUntouched, Reader, Writer}
 use Rattle.s66_command.specs.declared.command.Command.{Command}
-use Rattle.s66_outcome.specs.declared.outcome.Fault.{Fault}
-use Rattle.s66_outcome.specs.declared.outcome.Fault.TheVariants as fault
-use Rattle.s66_outcome.specs.declared.remark.Ended.{Ended}
-use Rattle.s66_outcome.specs.declared.limits.TheConstants.{FEED_CALLS}
-use Rattle.s66_outcome.specs.Device.{ReadsAll, ReadsSome}
+use Rattle.s66_program.specs.declared.fault.Fault.{Fault}
+use Rattle.s66_program.specs.declared.fault.Fault.TheVariants as fault
+use Rattle.s66_program.specs.declared.remark.Ended.{Ended}
+use Rattle.s66_program.specs.declared.limits.TheConstants.{FEED_CALLS}
+use Rattle.s66_program.specs.Device.{ReadsAll, ReadsSome}
 use Rattle.s66_program.specs.Run.{IsOutcomeUnder, IsRefusal}
 
 keeps : (bytes : Option (List ℕ)) → Keeps bytes bytes

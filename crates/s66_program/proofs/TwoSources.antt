@@ -10,9 +10,9 @@ use Rattle.s66_source.specs.declared.error.SourceError.{SourceError}
 use Rattle.s66_source.specs.declared.error.SourceError.TheVariants.{BadOperand, LineTooLong, OutOfMemory, TooLarge}
 use Rattle.s66_command.specs.declared.command.Command.{Command}
 use Rattle.s66_command.specs.declared.command.Command.TheVariants.{Compare}
-use Rattle.s66_outcome.specs.Outcome.{new_source_fault, source_fault}
-use Rattle.s66_outcome.specs.declared.outcome.Fault.{Fault}
-use Rattle.s66_outcome.specs.declared.outcome.Fault.TheVariants as fault
+use Rattle.s66_program.specs.Fault.{new_source_fault, source_fault}
+use Rattle.s66_program.specs.declared.fault.Fault.{Fault}
+use Rattle.s66_program.specs.declared.fault.Fault.TheVariants as fault
 use Rattle.s66_program.specs.Comparing.{IsCompareRefusal, IsNewRefusal}
 use Rattle.s66_program.specs.Output.{reads_source, source_in}
 use Rattle.s66_program.specs.Run.{IsRefusal}

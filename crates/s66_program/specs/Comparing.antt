@@ -4,8 +4,8 @@ use Rattle.s66_source.specs.Halves.{Halves, halves_of}
 use Rattle.s66_source.specs.LeftAlone.{Reading}
 use Rattle.s66_source.specs.Source.{source_of}
 use Rattle.s66_source.specs.declared.error.SourceError.TheVariants.{OutOfMemory}
-use Rattle.s66_outcome.specs.declared.outcome.Fault.{Fault}
-use Rattle.s66_outcome.specs.declared.outcome.Fault.TheVariants as fault
+use Rattle.s66_program.specs.declared.fault.Fault.{Fault}
+use Rattle.s66_program.specs.declared.fault.Fault.TheVariants as fault
 
 -- the new source
 abbrev pub IsNewRefusal : Reading → Fault → Type 0

@@ -1,8 +1,15 @@
+pub mod Turns
+pub mod Fault
+pub mod Device
+pub mod KeptInput
+pub mod ReadFaults
+pub mod Hints
 pub mod Stored
 pub mod Kept
 pub mod Output
 pub mod Remarks
 pub mod Run
+pub mod Ends
 pub mod Program
 pub mod Examples
 pub mod Comparing

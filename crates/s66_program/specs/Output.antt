@@ -15,8 +15,8 @@ use Rattle.s66_command.specs.ProfileText.{profile_in_text}
 use Rattle.s66_command.specs.declared.command.Command.{Command}
 use Rattle.s66_command.specs.declared.command.Command.TheVariants.{Time, Deps, Chart, Why, Page, Json, Order, Prove, Check, Lint, Sum, Compare}
 use Rattle.s66_command.specs.Profile.{profile_text}
-use Rattle.s66_outcome.specs.declared.outcome.Status.{Status}
-use Rattle.s66_outcome.specs.declared.outcome.Status.TheVariants.{Done, Denied}
+use Rattle.s66_text.specs.declared.outcome.Status.{Status}
+use Rattle.s66_text.specs.declared.outcome.Status.TheVariants.{Done, Denied}
 use Rattle.s66_text.specs.declared.listing.Listing.TheVariants as listing
 use Rattle.s66_text.specs.Listing.{IsListing}
 use Rattle.s66_text.specs.JsonText.{IsJsonOutput}

@@ -2,11 +2,11 @@
 use Rattle.std.specs.Prelude.{◌≡◌, ◌⊎◌, ℕ, List, Result}
 use Rattle.s66_device.specs.Devices.{Reader, Writer}
 use Rattle.s66_command.specs.declared.command.Command.{Command}
-use Rattle.s66_outcome.specs.declared.outcome.Fault.{Fault}
-use Rattle.s66_outcome.specs.declared.remark.Ended.{Ended}
+use Rattle.s66_program.specs.declared.fault.Fault.{Fault}
+use Rattle.s66_program.specs.declared.remark.Ended.{Ended}
 use Rattle.s66_command.specs.declared.usage.Usage.{Usage}
 use Rattle.s66_command.specs.Profile.{profile_text}
-use Rattle.s66_outcome.specs.Ends.{EndsBy, ShowsUsage}
+use Rattle.s66_program.specs.Ends.{EndsBy, ShowsUsage}
 use Rattle.s66_program.specs.Run.{IsOutcome}
 use Rattle.s66_command.specs.Usage.{Asks, Refuses, Text}
 

@@ -1,6 +1,7 @@
--- To be believed: what is told of a source after a success.
-use Rattle.std.specs.Prelude.{ℕ, ◌≡◌, ◌&&◌, Bool, true, false, List, [], Result, Ok}
+-- To be believed: what is told of a source after a success, and what standard error gets of that.
+use Rattle.std.specs.Prelude.{ℕ, ◌≡◌, ◌==◌, ◌&&◌, Bool, true, false, if◌then◌else◌, List, [], ◌∷◌, ◌++◌, Result, Ok, codes, decimal}
 use Rattle.std.specs.Option.{is_some}
+use Rattle.s66_device.specs.Devices.{IsUntouched, Writer}
 use Rattle.s66_line.specs.Block.{Block}
 use Rattle.s66_source.specs.declared.error.SourceError.{SourceError}
 use Rattle.s66_source.specs.LeftAlone.{Reading}
@@ -8,8 +9,39 @@ use Rattle.s66_source.specs.Source.{source_of}
 use Rattle.s66_lint.specs.Listing.{AreCounted}
 use Rattle.s66_command.specs.declared.command.Command.{Command}
 use Rattle.s66_command.specs.declared.command.Command.TheVariants.{Why, Page, Json, Order, Prove, Sum}
-use Rattle.s66_outcome.specs.declared.remark.Remark.{Remark}
+use Rattle.s66_program.specs.declared.remark.Remark.{Remark}
+use Rattle.s66_program.specs.Device.{Tells}
 use Rattle.s66_program.specs.Output.{is_cut, reads_source, source_in}
+
+-- WHAT STANDARD ERROR GETS
+
+-- how `lint` is called that lists what is counted
+abbrev pub lint_words : (cut : Bool) → List ℕ
+lint_words false = codes "s66 lint"
+lint_words true = codes "s66 lint --cut"
+
+abbrev pub lines_word : ℕ → List ℕ
+lines_word count = if count == 1 then codes " line" else codes " lines"
+
+-- how many lines it lists; nothing if there is none
+abbrev pub listed_line : (cut : Bool) (count : ℕ) → List ℕ
+listed_line cut count =
+    if count == 0 then [] else (lint_words cut ++ codes " lists " ++ decimal count ++ lines_word count ++ codes " that order may harm\n")
+
+-- that a source has no block
+abbrev pub block_line : (has_no_block : Bool) → List ℕ
+block_line false = []
+block_line true = codes "no block: an instruction's operation begins in column 3 or later\n"
+
+abbrev pub remark_text : Remark → List ℕ
+remark_text r = block_line r.has_no_block ++ listed_line r.cut r.listed
+
+-- a text was printed; without one the writer isn't called
+abbrev pub IsTold : List ℕ → Writer → Writer → Type 0
+IsTold [] old new = IsUntouched old new
+IsTold (b ∷ text) old new = Tells old new (b ∷ text)
+
+-- WHAT IS TOLD
 
 -- it prints orders that were looked for, or their times: what `lint` lists may be harmed by them
 abbrev pub prints_orders : Command → Bool

@@ -8,11 +8,11 @@ ghost use Rattle.s66_program.specs.Output.{IsSearchWithin};
 ghost use Rattle.s66_program.specs.Stored.{IsFor};
 
 use crate::answers::{Found, answer_alone, answer_to};
+use crate::turns::{Task, make_each};
 use s66_command::Strategy;
 use s66_isa::Profile;
 use s66_line::Block;
-use s66_outcome::Observer;
-use s66_turns::{Task, make_each};
+use s66_text::Observer;
 use std::alloc::{AllocError, Global};
 use std::sync::Wait;
 use std::thread::Threads;

@@ -4,6 +4,9 @@
 mod answers;
 mod compare_text;
 mod documents;
+mod examples;
+mod fault;
+mod hint;
 mod json_text;
 mod kept;
 mod kept_text;
@@ -14,24 +17,33 @@ mod order_text;
 mod output;
 mod page_text;
 mod program;
+mod progress;
 mod prove_text;
+mod reading;
 mod remark;
 mod run;
+mod share;
 mod sum_text;
+mod telling;
+mod turns;
 mod why_text;
 
 pub use documents::document_of;
+pub use examples::remark_examples;
+pub use fault::Fault;
 pub use laws::{
     again_examples, answered_law, checked_law, done_law, front_law, ordered_again_law, proved_law,
     total_limit_law,
 };
-pub use limits::SOURCE_FRONT;
+pub use limits::{FEED_CALLS, FEED_ROOM, SOURCE_FRONT};
 pub use order_laws::{compared_law, reported_law};
 pub use program::run_program;
+pub use progress::Progress;
+pub use remark::{Ended, Remark};
 pub use run::{run_command, run_observed};
 pub use s66_command::{
     Command, NODES_DEFAULT, Strategy, Usage, VERSION, WORKERS_DEFAULT, command_of,
 };
-pub use s66_outcome::{
-    Ended, FEED_CALLS, FEED_ROOM, Fault, Observer, Progress, Remark, Silent, Status, refuse_words,
-};
+pub use s66_text::{Observer, Silent, Status};
+pub use telling::refuse_words;
+pub use turns::{Task, make_each};

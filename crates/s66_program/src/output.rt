@@ -4,6 +4,7 @@ ghost use Rattle.s66_program.specs.Remarks.{IsRemark};
 ghost use Rattle.s66_program.specs.Run.{IsRefusal};
 
 use crate::compare_text::compare_output;
+use crate::fault::Fault;
 use crate::json_text::json_output;
 use crate::kept_text::{Style, ordered_output};
 use crate::page_text::page_output;
@@ -13,9 +14,8 @@ use crate::sum_text::{Fields, sum_output};
 use crate::why_text::why_output;
 use s66_command::{Command, Strategy};
 use s66_isa::Profile;
-use s66_outcome::{Fault, Observer, Output};
 use s66_source::{Columns, Source, read_source_with};
-use s66_text::{Listing, check_output, lint_output, listing_output};
+use s66_text::{Listing, Observer, Output, check_output, lint_output, listing_output};
 use std::alloc::AllocError;
 use std::sync::Wait;
 use std::thread::Threads;

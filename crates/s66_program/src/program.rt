@@ -2,9 +2,10 @@ ghost use Rattle.std.specs.Prelude.{◌-◌, ◌^◌, ◌<◌, map};
 ghost use Rattle.s66_program.specs.Program.{IsRun};
 
 use crate::run::run_observed;
+use crate::telling::{show_usage, tell_end, tell_failure};
 use s66_command::command_of;
 use s66_device::{Feed, Sink};
-use s66_outcome::{Observer, show_usage, tell_end, tell_failure};
+use s66_text::Observer;
 use std::convert::AsStr;
 use std::sync::Wait;
 use std::thread::Threads;

@@ -3,13 +3,16 @@ ghost use Rattle.s66_program.specs.Output.{IsUnder, IsWithinLimits, reads_source
 ghost use Rattle.s66_program.specs.declared.limits.TheConstants.{SOURCE_FRONT};
 ghost use Rattle.s66_program.specs.Run.{IsOutcome, IsOutcomeUnder, IsOutcomeUntold, IsProfileFault};
 
+use crate::fault::Fault;
 use crate::limits::SOURCE_FRONT;
 use crate::output::output_for;
+use crate::reading::read_all;
+use crate::remark::Ended;
 use s66_command::Command;
 use s66_device::{Feed, Sink, write_all};
 use s66_isa::Profile;
-use s66_outcome::{Ended, Fault, Observer, Silent, Status, read_all};
 use s66_command::read_profile;
+use s66_text::{Observer, Silent, Status};
 use std::alloc::Global;
 use std::sync::Wait;
 use std::thread::Threads;

@@ -1,8 +1,7 @@
 ghost use Rattle.std.specs.Prelude.{◌≡◌, ◌*◌, ◌<◌};
 
 use crate::running::run;
-use s66_program::Silent;
-use s66_turns::{Task, make_each};
+use s66_program::{Silent, Task, make_each};
 use std::alloc::AllocError;
 use std::process::Abort;
 use std::sync::Wait;

@@ -11,8 +11,8 @@ use Rattle.s66_cert.specs.Document.{AreDocumentsWithin, IsText}
 use Rattle.s66_cert.proofs.OneReading.{one-list}
 use Rattle.s66_checker.specs.Verdict.{verdict}
 use Rattle.s66_text.specs.Answers.{Answer, AreAnswers}
-use Rattle.s66_outcome.specs.declared.outcome.Status.{Status}
-use Rattle.s66_outcome.specs.declared.outcome.Status.TheVariants.{Done, Denied}
+use Rattle.s66_text.specs.declared.outcome.Status.{Status}
+use Rattle.s66_text.specs.declared.outcome.Status.TheVariants.{Done, Denied}
 use Rattle.s66_text.specs.CheckText.{IsCheckOutput, is_yes, verdict_line, verdict_lines, verdicts_status}
 use Rattle.s66_text.specs.CheckedAnswers.{AreYesLines, yes_lines}
 use Rattle.s66_text.specs.ProvedAnswers.{IsSpelledBlock}

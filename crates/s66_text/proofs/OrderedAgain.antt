@@ -12,7 +12,7 @@ use Rattle.s66_command.specs.declared.strategy.Strategy.{Strategy}
 use Rattle.s66_model.specs.Answer.{source_time}
 use Rattle.s66_model.proofs.WrittenOrders.{written-order}
 use Rattle.s66_text.specs.Answers.{Answer, AreAnswers, IsAnswer, problem_of}
-use Rattle.s66_outcome.specs.declared.outcome.Status.{Status}
+use Rattle.s66_text.specs.declared.outcome.Status.{Status}
 use Rattle.s66_text.specs.OrderText.{IsOrderOutput, all_placed}
 use Rattle.s66_text.specs.OrderedAgain.{TakePrintedTimes, written_time}
 use Rattle.s66_text.proofs.Answered.{answer-legal, answer-time}

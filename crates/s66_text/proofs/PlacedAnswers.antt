@@ -13,8 +13,8 @@ use Rattle.s66_command.specs.declared.strategy.Strategy.{Strategy}
 use Rattle.s66_model.specs.LegalOrder.{GoesOn, IsLegal}
 use Rattle.s66_model.proofs.LegalOrders.{legal-order, ready-parts}
 use Rattle.s66_text.specs.Answers.{Answer, AreAnswers}
-use Rattle.s66_outcome.specs.declared.outcome.Status.{Status}
-use Rattle.s66_outcome.specs.declared.outcome.Status.TheVariants.{Done, Bounded}
+use Rattle.s66_text.specs.declared.outcome.Status.{Status}
+use Rattle.s66_text.specs.declared.outcome.Status.TheVariants.{Done, Bounded}
 use Rattle.s66_text.specs.OrderText.{IsOrderOutput, all_best, all_placed}
 use Rattle.s66_text.proofs.Answered.{answer-legal}
 use Rattle.s66_text.specs.PlacedAnswers.{AreAllPlaced, IsPlacedAnswer, tell_best}

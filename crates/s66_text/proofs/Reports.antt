@@ -15,7 +15,7 @@ use Rattle.s66_cert.specs.Lines.{is_digit, value_after}
 use Rattle.s66_cert.specs.declared.limits.TheConstants.{SPLIT_LIMIT}
 use Rattle.s66_cert.proofs.NumberTexts.{decimal-clear, decimal-digits, decimal-value, is_other}
 use Rattle.s66_command.specs.declared.strategy.Strategy.{Strategy}
-use Rattle.s66_outcome.specs.declared.outcome.Status.{Status}
+use Rattle.s66_text.specs.declared.outcome.Status.{Status}
 use Rattle.s66_source.specs.LeftAlone.{Reading}
 use Rattle.s66_source.specs.Merged.{block_texts}
 use Rattle.s66_source.specs.Printed.{Placed, block_text, bound_text, instruction_lines, notes_text, splits_line, times_text}

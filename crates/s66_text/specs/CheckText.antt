@@ -9,8 +9,8 @@ use Rattle.s66_checker.specs.declared.verdict.Verdict.TheVariants.{Yes, No}
 use Rattle.s66_checker.specs.Reasons.{number_of}
 use Rattle.s66_checker.specs.Verdict.{verdict}
 use Rattle.s66_reasons.specs.Reasons.{reasons_text}
-use Rattle.s66_outcome.specs.declared.outcome.Status.{Status}
-use Rattle.s66_outcome.specs.declared.outcome.Status.TheVariants.{Done, Denied}
+use Rattle.s66_text.specs.declared.outcome.Status.{Status}
+use Rattle.s66_text.specs.declared.outcome.Status.TheVariants.{Done, Denied}
 
 -- the line of the n-th document, from 1
 abbrev pub verdict_line : ℕ → Verdict → List ℕ

@@ -8,7 +8,7 @@ use Rattle.s66_source.specs.Source.{source_of}
 use Rattle.s66_command.specs.declared.strategy.Strategy.{Strategy}
 use Rattle.s66_json.specs.Json.{found_data, json_line}
 use Rattle.s66_text.specs.Answers.{Answer, AreAnswers, problem_of}
-use Rattle.s66_outcome.specs.declared.outcome.Status.{Status}
+use Rattle.s66_text.specs.declared.outcome.Status.{Status}
 use Rattle.s66_text.specs.AsWritten.{as_written}
 use Rattle.s66_text.specs.OrderText.{status_of}
 use Rattle.s66_text.specs.Shown.{before, shown}

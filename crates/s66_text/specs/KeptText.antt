@@ -12,7 +12,7 @@ use Rattle.s66_command.specs.declared.strategy.Strategy.{Strategy}
 use Rattle.s66_text.specs.Answers.{Answer, AreAnswers}
 use Rattle.s66_text.specs.OrderText.{IsOrderOutput, placed_by, status_of}
 use Rattle.s66_text.specs.Shown.{before, shown}
-use Rattle.s66_outcome.specs.declared.outcome.Status.{Status}
+use Rattle.s66_text.specs.declared.outcome.Status.{Status}
 
 -- the numbers are those from n on, one after the other
 abbrev pub rise_from : ℕ → List ℕ → Bool

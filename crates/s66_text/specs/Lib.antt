@@ -1,3 +1,4 @@
+pub mod StatusCode
 pub mod AsWritten
 pub mod Shown
 pub mod BlockHead

@@ -3,8 +3,8 @@ use Rattle.std.specs.Prelude.{ℕ, ◌≡◌, Bool, true, false, List, [], ◌�
 use Rattle.s66_lint.specs.Listing.{IsFindings}
 use Rattle.s66_source.specs.LeftAlone.{Reading}
 use Rattle.s66_source.specs.Source.{source_of}
-use Rattle.s66_outcome.specs.declared.outcome.Status.{Status}
-use Rattle.s66_outcome.specs.declared.outcome.Status.TheVariants.{Done, Denied, Listed}
+use Rattle.s66_text.specs.declared.outcome.Status.{Status}
+use Rattle.s66_text.specs.declared.outcome.Status.TheVariants.{Done, Denied, Listed}
 
 -- denied if some line is refused, done if nothing is stated
 abbrev pub lint_status : (refused : Bool) (text : List ℕ) → Status

@@ -9,8 +9,8 @@ use Rattle.s66_source.specs.Source.{source_of}
 use Rattle.s66_model.specs.Answer.{source_time}
 use Rattle.s66_command.specs.declared.strategy.Strategy.{Strategy}
 use Rattle.s66_text.specs.Answers.{Answer, AreAnswers, problem_of}
-use Rattle.s66_outcome.specs.declared.outcome.Status.{Status}
-use Rattle.s66_outcome.specs.declared.outcome.Status.TheVariants.{Done, Bounded}
+use Rattle.s66_text.specs.declared.outcome.Status.{Status}
+use Rattle.s66_text.specs.declared.outcome.Status.TheVariants.{Done, Bounded}
 
 -- ANSWERS
 

@@ -8,7 +8,7 @@ use Rattle.s66_command.specs.declared.strategy.Strategy.{Strategy}
 use Rattle.s66_page.specs.Found.{Found}
 use Rattle.s66_page.specs.Page.{page_text}
 use Rattle.s66_text.specs.Answers.{Answer, AreAnswers}
-use Rattle.s66_outcome.specs.declared.outcome.Status.{Status}
+use Rattle.s66_text.specs.declared.outcome.Status.{Status}
 use Rattle.s66_text.specs.OrderText.{status_of}
 use Rattle.s66_text.specs.Shown.{before, shown}
 

@@ -7,7 +7,7 @@ use Rattle.s66_source.specs.Source.{source_of}
 use Rattle.s66_model.specs.declared.rule.Rule.{Rule}
 use Rattle.s66_cert.specs.Document.{Document, documents_text}
 use Rattle.s66_command.specs.declared.strategy.Strategy.{Strategy}
-use Rattle.s66_outcome.specs.declared.outcome.Status.{Status}
+use Rattle.s66_text.specs.declared.outcome.Status.{Status}
 use Rattle.s66_text.specs.Answers.{Answer, AreAnswers, document_under}
 use Rattle.s66_text.specs.OrderText.{status_of}
 use Rattle.s66_text.specs.Shown.{shown}

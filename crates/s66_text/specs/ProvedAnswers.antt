@@ -8,7 +8,7 @@ use Rattle.s66_line.specs.InstructionText.{IsTextOf}
 use Rattle.s66_command.specs.declared.strategy.Strategy.{Strategy}
 use Rattle.s66_cert.specs.Document.{document_text, documents_text}
 use Rattle.s66_text.specs.Answers.{Answer, AreAnswers, IsAnswer, document_under}
-use Rattle.s66_outcome.specs.declared.outcome.Status.{Status}
+use Rattle.s66_text.specs.declared.outcome.Status.{Status}
 use Rattle.s66_text.specs.OrderText.{status_of}
 use Rattle.s66_text.specs.ProveText.{all_documents}
 

@@ -15,7 +15,7 @@ use Rattle.s66_text.specs.Moved.{moved}
 use Rattle.s66_text.specs.Words.{words_of}
 use Rattle.s66_text.specs.OrderText.{all_placed, status_of}
 use Rattle.s66_text.specs.Shown.{before, shown}
-use Rattle.s66_outcome.specs.declared.outcome.Status.{Status}
+use Rattle.s66_text.specs.declared.outcome.Status.{Status}
 use Rattle.s66_text.specs.declared.sum_rows.Row.{Row}
 
 -- ROWS

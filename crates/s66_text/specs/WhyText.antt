@@ -8,7 +8,7 @@ use Rattle.s66_command.specs.declared.strategy.Strategy.{Strategy}
 use Rattle.s66_time.specs.TimedOrder.{TimedOrder}
 use Rattle.s66_why.specs.Why.{why_text}
 use Rattle.s66_text.specs.Answers.{Answer, AreAnswers, problem_of}
-use Rattle.s66_outcome.specs.declared.outcome.Status.{Status}
+use Rattle.s66_text.specs.declared.outcome.Status.{Status}
 use Rattle.s66_text.specs.AsWritten.{as_written}
 use Rattle.s66_text.specs.ChartText.{timed_line}
 use Rattle.s66_text.specs.OrderText.{status_of}

@@ -4,10 +4,11 @@ ghost use Rattle.s66_cert.specs.Reads.{RefusesText};
 ghost use Rattle.s66_text.specs.CheckText.{IsCheckOutput, is_yes, reasons_by, verdict_line, verdict_lines, verdict_text, verdicts_status};
 ghost use Rattle.s66_checker.specs.Verdict.{verdict as verdict_of};
 
+use crate::observer::Observer;
+use crate::outcome::{Output, Status};
 use s66_cert::{CertError, Document, read};
 use s66_checker::{Verdict, verify};
 use s66_device::push_field;
-use s66_outcome::{Observer, Output, Status};
 use s66_reasons::push_reasons;
 use std::alloc::{AllocError, Global};
 

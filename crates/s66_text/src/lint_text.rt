@@ -2,8 +2,8 @@ ghost use Rattle.std.specs.Prelude.{◌≡◌, IfOk, is_err};
 ghost use Rattle.s66_source.specs.Source.{source_of};
 ghost use Rattle.s66_text.specs.LintText.{IsLintOutput, lint_status};
 
+use crate::outcome::{Output, Status};
 use s66_lint::findings_in;
-use s66_outcome::{Output, Status};
 use s66_source::{SourceError, read_source_with};
 use std::alloc::{AllocError, Global};
 

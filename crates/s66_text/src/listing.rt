@@ -1,16 +1,16 @@
 ghost use Rattle.std.specs.Prelude.{◌≡◌, ◌<◌, ◌^◌, ◌++◌, OnOk, IfOk};
-ghost use Rattle.s66_outcome.specs.declared.outcome.Status.TheVariants.{Done};
+ghost use Rattle.s66_text.specs.declared.outcome.Status.TheVariants.{Done};
 ghost use Rattle.s66_text.specs.Listing.{IsListing, block_lines, lines_of_blocks};
 
 use crate::chart_text::push_chart_lines;
 use crate::deps_text::push_deps_lines;
 use crate::json_text::push_json_line;
+use crate::outcome::{Output, Status};
 use crate::selection::{blocks_before, shown};
 use crate::time_text::push_time_lines;
 use crate::why_text::push_why_lines;
 use s66_isa::Profile;
 use s66_line::Block;
-use s66_outcome::{Output, Status};
 use s66_source::Source;
 use s66_time::Timer;
 use std::alloc::{AllocError, Global};

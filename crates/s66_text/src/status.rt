@@ -1,8 +1,8 @@
 ghost use Rattle.std.specs.Prelude.{◌≡◌, if◌then◌else◌};
-ghost use Rattle.s66_outcome.specs.declared.outcome.Status.TheVariants.{Done, Bounded};
+ghost use Rattle.s66_text.specs.declared.outcome.Status.TheVariants.{Done, Bounded};
 ghost use Rattle.s66_text.specs.PlacedAnswers.{tell_best};
 
-use s66_outcome::Status;
+use crate::outcome::Status;
 use s66_source::Placed;
 
 /// Done if all orders are best.

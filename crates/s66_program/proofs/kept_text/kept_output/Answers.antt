@@ -1,7 +1,7 @@
 use Rattle.std.proofs.Common.{◌∙◌, ap, drop, if◌then◌else◌, refl, subst, sym}
 use Rattle.s66_source.specs.Keeping.{AreGiven, printed_keeping}
 use Rattle.s66_source.specs.Source.{blocks_of, classed_lines}
-use Rattle.s66_outcome.specs.declared.outcome.Status.TheVariants.{Done, Bounded}
+use Rattle.s66_text.specs.declared.outcome.Status.TheVariants.{Done, Bounded}
 use Rattle.s66_text.specs.KeptText.{all_given}
 use Rattle.s66_text.specs.Shown.{before, shown}
 use Rattle.s66_text.proofs.KeptAnswers.{given-within}

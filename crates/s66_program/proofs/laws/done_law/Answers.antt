@@ -9,7 +9,7 @@ use Rattle.s66_checker.specs.declared.verdict.Verdict.TheVariants.{Yes, No}
 use Rattle.s66_checker.specs.TrueClaims.{IsTrueClaim}
 use Rattle.s66_checker.specs.Verdict.{verdict}
 use Rattle.s66_checker.proofs.GrantedClaims.{verdict-claims, claim-bound}
-use Rattle.s66_outcome.specs.declared.outcome.Status.TheVariants.{Done, Denied}
+use Rattle.s66_text.specs.declared.outcome.Status.TheVariants.{Done, Denied}
 use Rattle.s66_text.specs.CheckText.{is_yes}
 use Rattle.s66_program.proofs.laws.done_law.Goals as goal
 

@@ -1,7 +1,7 @@
 use Rattle.std.proofs.Common.{◌≡◌, ◌∙◌, if◌then◌else◌, ap, sym, subst}
 use Rattle.s66_source.specs.Printed.{ArePlaced, printed}
 use Rattle.s66_source.specs.Source.{blocks_of, classed_lines}
-use Rattle.s66_outcome.specs.declared.outcome.Status.TheVariants.{Done, Bounded}
+use Rattle.s66_text.specs.declared.outcome.Status.TheVariants.{Done, Bounded}
 use Rattle.s66_text.specs.PlacedAnswers.{tell_best}
 use Rattle.s66_text.proofs.PlacedAnswers.{order-output, placed-within}
 use Rattle.s66_program.proofs.order_text.order_output.Goals as goal

@@ -1,6 +1,6 @@
 use Rattle.std.proofs.Common.{◌≡◌, ◌∙◌, Bool, IfOk, ap, subst, sym}
 use Rattle.s66_command.specs.declared.command.Command.{Command}
-use Rattle.s66_outcome.specs.declared.outcome.Output.{Output}
+use Rattle.s66_text.specs.declared.outcome.Output.{Output}
 use Rattle.s66_source.specs.LeftAlone.{Reading}
 use Rattle.s66_text.specs.PageText.{IsPageOutput}
 use Rattle.s66_text.specs.SumText.{IsSumOutput}

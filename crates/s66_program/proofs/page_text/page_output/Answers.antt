@@ -1,6 +1,6 @@
 use Rattle.std.proofs.Common.{ℕ, List, [], ◌∷◌, Option, None, Some, ◌≡◌, ◌≤◌, ◌<◌, ◌^◌, ◌-◌, ◌++◌, ◌∙◌, ap, ap₂, arith, drop, if◌then◌else◌, length, refl, subst, sym, take}
 use Rattle.s66_line.specs.Block.{Block}
-use Rattle.s66_outcome.specs.declared.outcome.Status.TheVariants.{Done, Bounded}
+use Rattle.s66_text.specs.declared.outcome.Status.TheVariants.{Done, Bounded}
 use Rattle.s66_page.specs.Found.{AreOf}
 use Rattle.s66_page.specs.Page.{page_text}
 use Rattle.s66_text.specs.Answers.{Answer, AreAnswers}

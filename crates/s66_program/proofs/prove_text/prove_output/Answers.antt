@@ -1,5 +1,5 @@
 use Rattle.std.proofs.Common.{◌∙◌, ap, if◌then◌else◌, refl, subst}
-use Rattle.s66_outcome.specs.declared.outcome.Status.TheVariants.{Done, Bounded}
+use Rattle.s66_text.specs.declared.outcome.Status.TheVariants.{Done, Bounded}
 use Rattle.s66_text.specs.Shown.{shown}
 use Rattle.s66_text.proofs.InTurn.{documents}
 use Rattle.s66_program.specs.Kept.{AreKept, document_part}

@@ -2,7 +2,7 @@ use Rattle.std.proofs.Common.{◌≡◌, ◌≤◌, ◌∙◌, if◌then◌else�
 use Rattle.s66_line.specs.Block.{Block}
 use Rattle.s66_source.specs.declared.limits.TheConstants.{SOURCE_LINES_LIMIT}
 use Rattle.s66_source.specs.Printed.{ArePlaced, Placed}
-use Rattle.s66_outcome.specs.declared.outcome.Status.TheVariants.{Done, Bounded}
+use Rattle.s66_text.specs.declared.outcome.Status.TheVariants.{Done, Bounded}
 use Rattle.s66_text.specs.declared.sum_rows.Row.{Row}
 use Rattle.s66_text.specs.PlacedAnswers.{AreAllPlaced, tell_best}
 use Rattle.s66_text.specs.Shown.{before, shown}

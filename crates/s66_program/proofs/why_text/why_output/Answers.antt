@@ -1,6 +1,6 @@
 use Rattle.std.proofs.Common.{List, ◌≡◌, ◌∙◌, ap, if◌then◌else◌, refl, subst}
 use Rattle.s66_line.specs.Block.{Block}
-use Rattle.s66_outcome.specs.declared.outcome.Status.TheVariants.{Done, Bounded}
+use Rattle.s66_text.specs.declared.outcome.Status.TheVariants.{Done, Bounded}
 use Rattle.s66_text.specs.Answers.{Answer, AreAnswers}
 use Rattle.s66_text.specs.OrderText.{status_of}
 use Rattle.s66_text.specs.Shown.{shown}
