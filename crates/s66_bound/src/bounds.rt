@@ -1,5 +1,5 @@
 use crate::entry::{Entry, entries_of};
-use crate::floors::{floor_of, floor_of_value};
+use crate::floors::floor_of_value;
 use crate::leaf::{ChainLeaf, Leaf};
 use crate::printed::chain_numbers;
 use crate::tables::Tables;
@@ -85,16 +85,6 @@ impl<'a> Bounds<'a> {
         self.tables.by_tail.ranks(&self.tables.all)
     }
 
-    /// The greatest value of a chain, in minor cycles.
-    pub fn chain_value(&self, clock: &Clock<'_>) -> u32
-        requires same { self.now ≡ problem_of clock.now }
-        requires some { length clock.now.numbers < length self.now.block }
-        ensures value { result ≡ chain self.now clock.now.numbers }
-        ensures bound { (rest : List ℕ) → IsLegal self.now.block (clock.now.numbers ++ rest) → result ≤ total_of self.now (clock.now.numbers ++ rest) }
-    {
-        chain_of(&self.tables, clock, &remaining_numbers(&self.tables, clock))
-    }
-
     /// The load of a kind of unit, in minor cycles: what remains for its copies and what they still work on, after the next slot.
     pub fn load(&self, clock: &Clock<'_>, kind: Kind) -> u32
         requires same { self.now ≡ problem_of clock.now }
@@ -114,7 +104,7 @@ impl<'a> Bounds<'a> {
         parcels_of(&self.tables, clock, &remaining_numbers(&self.tables, clock))
     }
 
-    /// The greatest of all these bounds, in minor cycles; the total if nothing remains.
+    /// The greatest of the chain, the loads and the parcels, in minor cycles; the total if nothing remains.
     pub fn floor_value(&self, clock: &Clock<'_>) -> u32
         requires same { self.now ≡ problem_of clock.now }
         ensures value { result ≡ floor_value self.now clock.now.numbers }
@@ -157,23 +147,8 @@ impl<'a> Bounds<'a> {
         }
     }
 
-    /// The greatest of all bounds, of equal ones the first; the total if nothing remains.
-    pub fn floor(&self, clock: &Clock<'_>) -> Leaf
-        requires same { self.now ≡ problem_of clock.now }
-        ensures leaf { leaf_of result ≡ floor self.now clock.now.numbers }
-        ensures value { value_of result ≡ floor_value self.now clock.now.numbers }
-        ensures bound { (rest : List ℕ) → IsLegal self.now.block (clock.now.numbers ++ rest) → value_of result ≤ total_of self.now (clock.now.numbers ++ rest) }
-    {
-        let rest = remaining_numbers(&self.tables, clock);
-        if rest.count() == 0 {
-            return Leaf::Whole {
-                value: clock.total(),
-            };
-        }
-        floor_of(self.entries.as_slice(), &self.tables, clock, &rest)
-    }
-
-    /// The floor whose value this is, in less time than `floor`: a bound is worked out only if no earlier one has the value.
+    /// The floor, whose value this is: the first of the greatest bounds, or the total if nothing remains. A bound is worked out only
+    /// if no earlier one has the value.
     pub fn floor_of_value(&self, clock: &Clock<'_>, value: u32) -> Leaf
         requires same { self.now ≡ problem_of clock.now }
         requires value { value ≡ floor_value self.now clock.now.numbers }

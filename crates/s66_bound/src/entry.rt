@@ -1,8 +1,7 @@
-ghost use Rattle.std.specs.Prelude.{ℕ, ◌≡◌, ◌≤◌, if◌then◌else◌};
+ghost use Rattle.std.specs.Prelude.{◌≡◌, if◌then◌else◌};
 ghost use Rattle.s66_isa.specs.Lists.{greatest};
 ghost use Rattle.s66_isa.specs.Table.{Row, Write as WriteOf, Reg as RegOf, row, has_reg};
 ghost use Rattle.s66_isa.specs.Registers.{registers_in};
-ghost use Rattle.s66_line.specs.Block.{instrs_of};
 ghost use Rattle.s66_model.specs.Leaves.{uses, link, tail};
 ghost use Rattle.s66_bound.specs.InstructionCosts.{IsCostOf, AreCosts};
 ghost use Rattle.s66_bound.specs.TableWords.{timed_by};

@@ -8,12 +8,12 @@ pub enum Leaf {
     Whole {
         value: u32,
     },
-    /// Instructions that wait for one another, by rising number.
+    /// Instructions that wait for one another, by rising number: the critical path of what remains.
     Chain {
         numbers: ArrayVec<u8, BLOCK_LIMIT>,
         value: u32,
     },
-    /// The work that remains for a kind of unit.
+    /// The work that remains for a kind of unit: a resource bound.
     Load {
         kind: Kind,
         value: u32,

@@ -47,5 +47,7 @@ pub fn floor(clock: &Clock<'_>) -> Leaf
     ensures value { value_of result ≡ floor_value (problem_of clock.now) clock.now.numbers }
     ensures bound { (rest : List ℕ) → IsLegal (instrs_of clock.now.block) (clock.now.numbers ++ rest) → value_of result ≤ total_of (problem_of clock.now) (clock.now.numbers ++ rest) }
 {
-    Bounds::of(clock.block(), clock.profile()).floor(clock)
+    let bounds = Bounds::of(clock.block(), clock.profile());
+    let value = bounds.floor_value(clock);
+    bounds.floor_of_value(clock, value)
 }

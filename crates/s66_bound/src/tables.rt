@@ -1,4 +1,4 @@
-ghost use Rattle.std.specs.Prelude.{ℕ, ◌≡◌, ◌+◌, ◌≤◌, ◌<◌, ◌==◌, true, length};
+ghost use Rattle.std.specs.Prelude.{◌≡◌, ◌+◌, ◌≤◌, ◌<◌, ◌==◌, true, length};
 ghost use Rattle.s66_isa.specs.declared.reg.TheConstants.{REGISTER_COUNT};
 ghost use Rattle.s66_isa.specs.Lists.{some_of};
 ghost use Rattle.s66_isa.specs.Registers.{index_of};

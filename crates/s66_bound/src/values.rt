@@ -1,10 +1,10 @@
 //! The values of the bounds, by the tables of the clock's block. All are in minor cycles.
 
-ghost use Rattle.std.specs.Prelude.{ℕ, ◌≡◌, ◌+◌, ◌-◌, ◌<◌, ◌≤◌, ◌^◌, Bool, true, [], IfSome, IfNone, length, max, get_or};
+ghost use Rattle.std.specs.Prelude.{◌≡◌, ◌+◌, ◌-◌, ◌<◌, ◌≤◌, ◌^◌, Bool, true, length, max, get_or};
 ghost use Rattle.s66_isa.specs.Lists.{greatest, least};
 ghost use Rattle.s66_isa.specs.Table.{all_kinds, copies_of};
 ghost use Rattle.s66_line.specs.Block.{instrs_of};
-ghost use Rattle.s66_model.specs.Timing.{Problem, row_at};
+ghost use Rattle.s66_model.specs.Timing.{row_at};
 ghost use Rattle.s66_model.specs.LegalOrder.{IsBeginning, sum_remaining};
 ghost use Rattle.s66_model.specs.Leaves.{work_of, over, chain, load, parcels, floor_value};
 ghost use Rattle.s66_model.specs.Tails.{tail_remaining, chain_by};

@@ -6,7 +6,6 @@ pub mod Nodes
 pub mod NamedSplits
 pub mod Pieces
 pub mod Pushing
-pub mod Firsts
 pub mod Frontiers
 pub mod Schedules
 pub mod Standing

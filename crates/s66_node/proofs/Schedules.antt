@@ -1,6 +1,7 @@
--- A schedule goes on with what comes first until it is a whole order, and each push gives an issue.
-use Rattle.std.proofs.Common.{ℕ, ◌+◌, ◌-◌, ◌<◌, ◌≡◌, true, List, [], ◌∷◌, ◌++◌, length, refl, sym, ap, subst, arith, length-append, append-nil, append_assoc, inl, inr, ◌∙◌}
+-- A schedule goes on with numbers that are ready until it is a whole order, and each push gives an issue.
+use Rattle.std.proofs.Common.{ℕ, ◌+◌, ◌-◌, ◌<◌, ◌≤◌, ◌≡◌, true, List, [], ◌∷◌, ◌++◌, length, take, refl, sym, ap, subst, arith, length-append, inl, inr, ◌∙◌}
 use Rattle.std.proofs.lemmas.Bool.{cases_eq}
+use Rattle.std.proofs.lemmas.List.{take-append-le}
 use Rattle.s66_isa.specs.declared.instr.Instr.{Instr}
 use Rattle.s66_isa.specs.Lists.{Among}
 use Rattle.s66_isa.specs.Table.{Row}
@@ -8,11 +9,9 @@ use Rattle.s66_model.specs.Timing.{Problem, row_at, point_of, points_of, next}
 use Rattle.s66_model.specs.LegalOrder.{is_ready, ready, GoesOn, IsBeginning, IsComplete, IsIncomplete}
 use Rattle.s66_model.proofs.Beginnings.{beginning-front}
 use Rattle.s66_model.proofs.PointTimes.{points_after-append, point_of-row}
-use Rattle.s66_model.proofs.Remaining.{among-ready, legal-parts, rest-first, step-begins}
+use Rattle.s66_model.proofs.Remaining.{among-ready, ready-among, legal-parts, rest-first, step-begins}
 use Rattle.s66_dep.proofs.LongestBeginning.{beginning-few}
 use Rattle.s66_node.specs.Walked.{Walked}
-use Rattle.s66_node.specs.declared.schedule.Priority.{Priority}
-use Rattle.s66_node.specs.Schedules.{IsFirst, GoesOnByFirst, IsListScheduled}
 
 -- the next slot after a push is its issue and its parcels
 pub next-push : (b : Problem) (prefix : List ℕ) (n : ℕ) → next (points_of b (prefix ++ n ∷ [])) ≡ (point_of b (points_of b prefix) n).issue + (row_at b n).parcels
@@ -39,29 +38,41 @@ none-ready block prefix begins none =
           absurd (subst (Among n) none (among-ready block prefix n now))
     ]
 
+-- these numbers are ready after the prefix
+abbrev pub AreReady : List Instr → List ℕ → List ℕ → Type 0
+AreReady block prefix ns = (m : ℕ) → Among m ns → is_ready block prefix m ≡ true
+
+pub all-ready : (block : List Instr) (prefix ns : List ℕ) → ns ≡ ready block prefix → AreReady block prefix ns
+all-ready block prefix ns are = λ m among. ready-among block prefix m (subst (Among m) are among)
+
+-- so is the first that is taken out, and those that are left
+pub taken-ready : (block : List Instr) (prefix ns rest : List ℕ) (n : ℕ) → ns ≡ n ∷ rest → AreReady block prefix ns → (is_ready block prefix n ≡ true) × AreReady block prefix rest
+taken-ready block prefix ns rest n is are =
+    (are n (subst (Among n) (sym is) (inl refl)), λ m among. are m (subst (Among m) (sym is) (inr among)))
+
 -- a number that is ready finds room
 pub ready-short : (block : List Instr) (prefix : List ℕ) (n : ℕ) → IsBeginning block prefix → is_ready block prefix n ≡ true → length prefix < length block
 ready-short block prefix n begins now =
     omega (arith, beginning-few block (prefix ++ n ∷ []) (step-begins block prefix n begins now), length-append prefix (n ∷ []))
 
+-- the walk has gone on from where it was
+pub record HasGoneOn (old w : Walked) : Type 0 where
+  pub same : w.problem ≡ old.problem
+  pub begins : IsBeginning w.problem.block w.numbers
+  pub more : length old.numbers ≤ length w.numbers
+  pub continues : take (length old.numbers) w.numbers ≡ old.numbers
+
 -- and each push goes on towards the whole order
-pub next-begins : (w same next : Walked) (n : ℕ) → IsBeginning w.problem.block w.numbers → is_ready w.problem.block w.numbers n ≡ true → same ≡ w → next ≡ record same { numbers = same.numbers ++ n ∷ [] } →
-    (next.problem ≡ w.problem) × IsBeginning next.problem.block next.numbers × (length next.problem.block - length next.numbers < length w.problem.block - length w.numbers)
-next-begins w same next n begins now is pushed =
+pub push-goes : (old w same next : Walked) (n : ℕ) → HasGoneOn old w → is_ready w.problem.block w.numbers n ≡ true → same ≡ w → next ≡ record same { numbers = same.numbers ++ n ∷ [] } →
+    HasGoneOn old next × (length next.problem.block - length next.numbers < length w.problem.block - length w.numbers)
+push-goes old w same next n gone now is pushed =
     let all : next ≡ record w { numbers = w.numbers ++ n ∷ [] } = pushed ∙ ap (λ (x : Walked). record x { numbers = x.numbers ++ n ∷ [] }) is in
-    subst (λ (x : Walked). (x.problem ≡ w.problem) × IsBeginning x.problem.block x.numbers × (length x.problem.block - length x.numbers < length w.problem.block - length w.numbers)) (sym all)
-    (refl, step-begins w.problem.block w.numbers n begins now, omega (arith, ready-short w.problem.block w.numbers n begins now, length-append w.numbers (n ∷ [])))
-
-by-first-more : (p : Priority) (b : Problem) (prefix more : List ℕ) (n : ℕ) → GoesOnByFirst p b prefix more → IsFirst p b (prefix ++ more) n → GoesOnByFirst p b prefix (more ++ n ∷ [])
-by-first-more p b prefix [] n h first = (subst (λ ns. IsFirst p b ns n) (append-nil prefix) first, tt)
-by-first-more p b prefix (m ∷ more) n h first =
-    (h.0, by-first-more p b (prefix ++ m ∷ []) more n h.1 (subst (λ ns. IsFirst p b ns n) (sym (append_assoc prefix (m ∷ []) more)) first))
-
-pub next-scheduled : (p : Priority) (old w same next : Walked) (n : ℕ) → w.problem ≡ old.problem → IsListScheduled p old.problem old.numbers w.numbers → IsFirst p w.problem w.numbers n → same ≡ w → next ≡ record same { numbers = same.numbers ++ n ∷ [] } → IsListScheduled p old.problem old.numbers next.numbers
-next-scheduled p old w same next n own scheduled first is pushed =
-    let (more, numbers, goes) = scheduled in
-    let here : IsFirst p old.problem (old.numbers ++ more) n = subst (λ ns. IsFirst p old.problem ns n) numbers (subst (λ (b : Problem). IsFirst p b w.numbers n) own first) in (
-      more ++ n ∷ [],
-      ap (λ (x : Walked). x.numbers) pushed ∙ ap (λ (x : Walked). x.numbers ++ n ∷ []) is ∙ ap (λ ns. ns ++ n ∷ []) numbers ∙ append_assoc old.numbers more (n ∷ []),
-      by-first-more p old.problem old.numbers more n goes here,
+    subst (λ (x : Walked). HasGoneOn old x × (length x.problem.block - length x.numbers < length w.problem.block - length w.numbers)) (sym all) (
+      record {
+        same = gone.same;
+        begins = step-begins w.problem.block w.numbers n gone.begins now;
+        more = omega (arith, gone.more, length-append w.numbers (n ∷ []));
+        continues = take-append-le (length old.numbers) w.numbers (n ∷ []) gone.more ∙ gone.continues;
+      },
+      omega (arith, ready-short w.problem.block w.numbers n gone.begins now, length-append w.numbers (n ∷ [])),
     )

@@ -128,9 +128,6 @@ module _ (rule : Rule) (b : Problem) (best : Span) (allowance : ℕ) (root : Lis
     next-room = omega (arith, deep)
 
     module _ (n : ℕ) (f2 : OpenSplit) (is : numbers_in f.left ≡ n ∷ numbers_in f2.left) (same_node : f2.node ≡ f.node) where
-      child : List ℕ
-      child = at ++ n ∷ []
-
       still : AreOpen b.block at (lefts (fs ++ f2 ∷ []))
       still =
           subst (AreOpen b.block at) (sym (lefts-push fs f2)) (stands.0, (λ m among. stands.1 m (subst (Among m) (sym is) (inr among))), stands.2)

@@ -3,5 +3,4 @@ pub mod Pieces
 pub mod Walked
 pub mod Growing
 pub mod Walking
-pub mod Schedules
 pub mod MarkTables

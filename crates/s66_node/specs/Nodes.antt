@@ -14,26 +14,19 @@ use Rattle.s66_node.specs.declared.name.Dominance.{Dominance}
 
 abbrev pub is_stored_open : State → Bool
 is_stored_open state.Open = true
-is_stored_open state.Out = false
-is_stored_open state.Closed = false
-is_stored_open state.Split = false
-is_stored_open state.Dominated = false
+is_stored_open _ = false
 
 -- open or out
 abbrev pub is_stored_live : State → Bool
 is_stored_live state.Open = true
 is_stored_live state.Out = true
-is_stored_live state.Closed = false
-is_stored_live state.Split = false
-is_stored_live state.Dominated = false
+is_stored_live _ = false
 
 -- it keeps its floor's value
 abbrev pub has_floor : State → Bool
-has_floor state.Open = true
-has_floor state.Out = true
-has_floor state.Closed = true
 has_floor state.Split = false
 has_floor state.Dominated = false
+has_floor _ = true
 
 -- PREFIXES
 

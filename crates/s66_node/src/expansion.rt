@@ -43,7 +43,8 @@ fn timed_of(
     }
 }
 
-/// Expands a prefix of a block's legal orders: a tree over it with at most `allowance` splits, made depth first by rising number.
+/// Expands a prefix of a block's legal orders by branch and bound: a tree over it with at most `allowance` splits, made depth first
+/// by rising number.
 ///
 /// A prefix whose floor is at least the best time isn't split, and carries its floor as leaf, as a whole order does; the others
 /// that aren't split are the frontier, which is empty if there are fewer splits than `allowance`. With the tree comes a least one
@@ -235,12 +236,14 @@ impl Walk<'_> {
         ensures timed { IfOk result (λ p. IsBestTimed self.old.problem prefix.now (tree_of p) p.timed) }
     {
         self.go_to(prefix);
+        let mut grown = Grown::empty(alloc);
+        grow(&mut grown, alloc, self, incumbent, allowance, rule, names)?;
         let Grown {
             nodes,
             dominances,
             splits,
             least,
-        } = grow(alloc, self, incumbent, allowance, rule, names)?;
+        } = grown;
         let block = self.clock.block();
         let profile = self.clock.profile();
         let origin = Origin {

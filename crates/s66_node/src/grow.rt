@@ -196,7 +196,7 @@ impl Grown {
     ghost use Rattle.s66_node.specs.Walking.{IsEmpty, IsUnsplitPut, IsSplitPut};
 
     /// No node yet.
-    fn empty(alloc: Global) -> Grown
+    pub(crate) fn empty(alloc: Global) -> Grown
         ensures { IsEmpty result }
     {
         Grown {
@@ -248,9 +248,9 @@ impl Grown {
     }
 }
 
-/// The tree over the walk's prefix, made depth first by rising number: at most `allowance` splits, each at an incomplete prefix
-/// whose floor is below the best time. A prefix is left open only after all of them. The best time is read at the walk's prefix,
-/// and before each split below it.
+/// Makes the tree over the walk's prefix, where there is no node yet, depth first by rising number: at most `allowance` splits, each
+/// at an incomplete prefix whose floor is below the best time. A prefix is left open only after all of them. The best time is read
+/// at the walk's prefix, and before each split below it.
 ///
 /// A split below the walk's prefix costs one look for each instruction that depends directly on its last number, and each of its
 /// children a push, an undo and a floor. Nothing is allocated but room for nodes and names.
@@ -258,28 +258,6 @@ impl Grown {
 /// Below its root, a prefix that would be split or stay open is dominated if a node is known that dominates it by the rule.
 /// Those that are split or stay open may be known from then on.
 pub(crate) fn grow<L: Least, N: Naming>(
-    alloc: Global,
-    walk: &mut Walk<'_>,
-    incumbent: &mut L,
-    allowance: u32,
-    rule: Rule,
-    names: &mut N,
-) -> Result<Grown, AllocError>
-    requires suits { N.suits names.old walk.old.problem }
-    requires unknown { rule ≡ WrittenEarlier → N.names names.old ≡ [] }
-    ensures suits { N.suits names.new walk.old.problem }
-    ensures same { walk.new.problem ≡ walk.old.problem }
-    ensures falls { L.kept incumbent.new ≤ L.kept incumbent.old }
-    ensures lowest { (L.lowest incumbent.new ≡ L.lowest incumbent.old) × (L.lowest incumbent.old ≤ L.kept incumbent.new) }
-    ensures grown { IfOk result (λ grown. (tree : Tree Terminal) × IsGrown rule walk.old.problem (span (L.kept incumbent.old) (L.kept incumbent.new)) allowance walk.old.numbers grown tree) }
-{
-    let mut grown = Grown::empty(alloc);
-    grow_into(&mut grown, alloc, walk, incumbent, allowance, rule, names)?;
-    Ok(grown)
-}
-
-/// Makes the tree that `grow` returns, where there is no node yet.
-fn grow_into<L: Least, N: Naming>(
     grown: &mut Grown,
     alloc: Global,
     walk: &mut Walk<'_>,

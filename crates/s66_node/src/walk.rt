@@ -220,15 +220,7 @@ impl<'a> Walk<'a> {
         self.bounds.floor_value_by_ranks(&self.clock, &self.ranks)
     }
 
-    /// The prefix's floor.
-    pub fn floor(&self) -> Leaf
-        ensures leaf { leaf_of result ≡ floor self.now.problem self.now.numbers }
-        ensures value { value_of result ≡ floor_value self.now.problem self.now.numbers }
-    {
-        self.bounds.floor(&self.clock)
-    }
-
-    /// The prefix's floor, whose value this is, in less time than `floor`.
+    /// The prefix's floor, whose value this is: a valued leaf of a tree.
     pub fn floor_of_value(&self, value: u32) -> Leaf
         requires { value ≡ floor_value self.now.problem self.now.numbers }
         ensures leaf { leaf_of result ≡ floor self.now.problem self.now.numbers }

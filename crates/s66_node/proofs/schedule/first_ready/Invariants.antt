@@ -1,12 +1,14 @@
-use Rattle.std.proofs.Common.{◌≡◌, length}
+use Rattle.std.proofs.Common.{◌≡◌, true, length}
+use Rattle.s66_model.specs.LegalOrder.{is_ready}
 use Rattle.s66_dep.specs.Members.{numbers_in}
-use Rattle.s66_node.proofs.Firsts.{IsFirstSoFar}
+use Rattle.s66_node.proofs.Schedules.{AreReady}
 use Rattle.s66_node.proofs.schedule.first_ready.Given as goal
 
 abbrev pub invariant-loop-number : goal.invariant-loop-number
 invariant-loop-number l = record {
   same : l.walk ≡ l.fn.walk;
-  best : IsFirstSoFar l.priority l.fn.walk.problem l.fn.walk.numbers (numbers_in l.rest) l.best;
+  best : is_ready l.fn.walk.problem.block l.fn.walk.numbers l.best.number ≡ true;
+  rest : AreReady l.fn.walk.problem.block l.fn.walk.numbers (numbers_in l.rest);
 }
 
 abbrev pub decreases-loop-number : goal.decreases-loop-number

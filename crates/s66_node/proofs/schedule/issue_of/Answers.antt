@@ -8,8 +8,3 @@ pub overflow_sub-result : goal.overflow_sub-result
 overflow_sub-result c =
     let w = c.args.walk.now in
     omega (arith, c.next-next.ensures, ap (λ (x : Walked). next (points_of x.problem x.numbers)) c.push.ensures, next-push w.problem w.numbers c.args.n, c.parcels-parcels.ensures)
-
-pub returns-clause-issue : goal.returns-clause-issue
-returns-clause-issue c =
-    let w = c.args.walk.now in
-    omega (arith, c.next-next.ensures, ap (λ (x : Walked). next (points_of x.problem x.numbers)) c.push.ensures, next-push w.problem w.numbers c.args.n, c.parcels-parcels.ensures)

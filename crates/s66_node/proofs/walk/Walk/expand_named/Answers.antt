@@ -52,29 +52,29 @@ module _ (g : Over) (c : In_ok-timed_of g) where
   abbrev best : Span
   best = span (g.L.Least.kept c.args.incumbent.now) (g.L.Least.kept c.grow.new.incumbent)
 
-  grown : (tree : Tree Terminal) × IsGrown c.args.rule b best c.args.allowance c.args.prefix.now c.in_ok-nodes.field-0 tree
-  grown = subst (λ (w : Walked). (tree : Tree Terminal) × IsGrown c.args.rule w.problem best c.args.allowance w.numbers c.in_ok-nodes.field-0 tree) c.go_to.ensures c.in_ok-nodes.ensures.grown
+  grown : (tree : Tree Terminal) × IsGrown c.args.rule b best c.args.allowance c.args.prefix.now c.grow.new.grown tree
+  grown = subst (λ (w : Walked). (tree : Tree Terminal) × IsGrown c.args.rule w.problem best c.args.allowance w.numbers c.grow.new.grown tree) c.go_to.ensures c.in_ok-grow.ensures.grown
 
-  timed : (tree : Tree Terminal) → IsGrown c.args.rule b best c.args.allowance c.args.prefix.now c.in_ok-nodes.field-0 tree → IsBestTimed b c.args.prefix.now tree shown
+  timed : (tree : Tree Terminal) → IsGrown c.args.rule b best c.args.allowance c.args.prefix.now c.grow.new.grown tree → IsBestTimed b c.args.prefix.now tree shown
   timed tree h =
       let ns = c.args.prefix.now in
-      subst (λ (p : Problem). IsLeast p (whole_orders ns tree) c.in_ok-nodes.field-0.least → IsBestTimed p ns tree shown) asked (c.in_ok-timed_of.ensures ns tree) h.least
+      subst (λ (p : Problem). IsLeast p (whole_orders ns tree) c.grow.new.grown.least → IsBestTimed p ns tree shown) asked (c.in_ok-timed_of.ensures ns tree) h.least
 
   abbrev piece : PieceOf
-  piece = record { rule = c.args.rule; problem = record { block = kept.source.block; profile = kept.profile }; prefix = kept.prefix.items; nodes = c.in_ok-nodes.field-0.nodes.items; names = names_of c.in_ok-nodes.field-0; timed = shown }
+  piece = record { rule = c.args.rule; problem = record { block = kept.source.block; profile = kept.profile }; prefix = kept.prefix.items; nodes = c.grow.new.grown.nodes.items; names = names_of c.grow.new.grown; timed = shown }
 
 pub invariant_of-result : goal.invariant_of-result
 invariant_of-result g c =
     let (tree, h) = grown g c in
-    piece-kept c.args.rule (b g c) (best g c) c.args.allowance c.args.prefix.now c.in_ok-nodes.field-0 tree h (piece g c) refl (own g c) (over g c) refl refl (timed g c tree h)
+    piece-kept c.args.rule (b g c) (best g c) c.args.allowance c.args.prefix.now c.grow.new.grown tree h (piece g c) refl (own g c) (over g c) refl refl (timed g c tree h)
 
 pub returns-clause-expansion : goal.returns-clause-expansion
 returns-clause-expansion g c =
     let (tree, h) = grown g c in
-    piece-expansion c.args.rule (b g c) (best g c) c.args.allowance c.args.prefix.now c.in_ok-nodes.field-0 tree h (piece g c) refl (own g c) (over g c) refl refl
+    piece-expansion c.args.rule (b g c) (best g c) c.args.allowance c.args.prefix.now c.grow.new.grown tree h (piece g c) refl (own g c) (over g c) refl refl
 
 pub returns-clause-timed : goal.returns-clause-timed
 returns-clause-timed g c =
     let (tree, h) = grown g c in
-    let is = piece-tree c.args.rule (b g c) (best g c) c.args.allowance c.args.prefix.now c.in_ok-nodes.field-0 tree h (piece g c) refl (own g c) (over g c) refl refl in
+    let is = piece-tree c.args.rule (b g c) (best g c) c.args.allowance c.args.prefix.now c.grow.new.grown tree h (piece g c) refl (own g c) (over g c) refl refl in
     subst (λ t. IsBestTimed (b g c) c.args.prefix.now t (shown g c)) (sym is) (timed g c tree h)

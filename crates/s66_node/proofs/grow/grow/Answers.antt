@@ -16,7 +16,7 @@ use Rattle.s66_node.proofs.Growing.{front-push}
 use Rattle.s66_node.proofs.GrowTurns.{root-unsplit, IsGrowing, root-split, child-ready, child-few, frames-few, child-unsplit, child-split, goes-up, ends, deep-enough, is-grown}
 use Rattle.s66_node.proofs.Pushing.{found-wider}
 use Rattle.s66_node.proofs.WalkTurns.{not-empty, is-empty, none-empty, work, work-terminal, work-split, work-up}
-use Rattle.s66_node.proofs.grow.grow_into.Goals as goal
+use Rattle.s66_node.proofs.grow.grow.Goals as goal
 
 pub prove-unreachable-requires : goal.prove-unreachable-requires
 prove-unreachable-requires g c =

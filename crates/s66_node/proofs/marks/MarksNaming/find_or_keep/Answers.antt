@@ -1,7 +1,7 @@
 use Rattle.std.proofs.Common.{◌≡◌, ◌⊎◌, ◌∙◌, inl, inr, subst}
 use Rattle.s66_isa.specs.Lists.{Among}
 use Rattle.s66_node.specs.MarkTables.{MarkTable}
-use Rattle.s66_node.proofs.marks.Marks.find_or_keep.Goals as goal
+use Rattle.s66_node.proofs.marks.MarksNaming.find_or_keep.Goals as goal
 
 pub returns-clause-kept : goal.returns-clause-kept
 returns-clause-kept c =

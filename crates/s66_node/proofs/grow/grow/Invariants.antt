@@ -2,7 +2,7 @@ use Rattle.std.proofs.Common.{◌+◌, ◌-◌, ◌*◌, ◌≤◌, ◌≡◌}
 use Rattle.s66_isa.specs.declared.limits.TheConstants.{BLOCK_LIMIT}
 use Rattle.s66_node.proofs.GrowTurns.{IsGrowing}
 use Rattle.s66_node.proofs.WalkTurns.{work}
-use Rattle.s66_node.proofs.grow.grow_into.Given as goal
+use Rattle.s66_node.proofs.grow.grow.Given as goal
 
 abbrev pub invariant-loop-frame : goal.invariant-loop-frame
 invariant-loop-frame g l =
