@@ -9,8 +9,11 @@ use Rattle.s66_moments.specs.Networks.{same_moment}
 use Rattle.s66_moments.specs.Known.{later, latest}
 use Rattle.s66_moments.proofs.MoreArcs.{same_moment-true}
 use Rattle.s66_moments.proofs.Spans.{height-same, height-later}
-use Rattle.s66_facts.specs.Passes.{add, when}
-use Rattle.s66_facts.specs.Chained.{number_of, no_arc, along, by_arc_to, by_arc_from, is_as_long, HasAsLong, IsFalling, IsPushed, IsChained}
+use Rattle.s66_facts.specs.declared.direction.Direction.{Direction}
+use Rattle.s66_facts.specs.declared.direction.Direction.TheVariants.{Forward, Backward}
+use Rattle.s66_facts.specs.Directions.{arc_start, arc_end}
+use Rattle.s66_facts.specs.Passes.{add, when, by_arc}
+use Rattle.s66_facts.specs.Chained.{number_of, no_arc, along, is_as_long, HasAsLong, IsFalling, IsPushed, IsChained}
 use Rattle.s66_facts.proofs.Latest.{later-none, later-assoc}
 
 later-comm : (o p : Option ℕ) → later o p ≡ later p o
@@ -92,29 +95,64 @@ falling-push arcs before other p falling le =
       ];
     }
 
+-- BY ONE ARC
+
+none-when : (m e : Moment) (o : Option ℕ) → number_of m ≢ number_of e → when (same_moment m e) o ≡ None
+none-when m e o differ =
+    elim (cases_Bool (same_moment m e)) [
+      | inl same ↦ absurd (differ (ap number_of (same_moment-true m e same)))
+      | inr off ↦ ap (λ t. when t o) off
+    ]
+
+by_arc-apart : (d : Direction) (time : Moment → Option ℕ) (e : Moment) (l : KnownArc) → number_of (arc_end d l) ≢ number_of e → by_arc d time e l ≡ None
+by_arc-apart d time e l differ = none-when (arc_end d l) e (add (time (arc_start d l)) l.wait) differ
+
+absorbs-add : (o : Option ℕ) (v w : ℕ) → w ≤ v → later (add o v) (add o w) ≡ add o v
+absorbs-add None v w le = refl
+absorbs-add (Some t) v w le = ap Some (omega (arith, le))
+
+absorbs-when : (t : Bool) (o : Option ℕ) (v w : ℕ) → w ≤ v → later (when t (add o v)) (when t (add o w)) ≡ when t (add o v)
+absorbs-when true o v w le = absorbs-add o v w le
+absorbs-when false o v w le = refl
+
+long-parts : (d : Direction) (l other : KnownArc) → is_as_long l other ≡ true → (arc_start d l ≡ arc_start d other) × (arc_end d l ≡ arc_end d other) × (other.wait ≤ l.wait)
+long-parts d l other long =
+    let (ends, wait) = and_parts (same_moment l.from other.from && same_moment l.to other.to) (leb other.wait l.wait) long in
+    let (from, to) = and_parts (same_moment l.from other.from) (same_moment l.to other.to) ends in
+    let (start, end) = at_ends d (same_moment-true l.from other.from from) (same_moment-true l.to other.to to) in
+    (start, end, leb-true other.wait l.wait wait)
+  where
+    at_ends : (d : Direction) → l.from ≡ other.from → l.to ≡ other.to → (arc_start d l ≡ arc_start d other) × (arc_end d l ≡ arc_end d other)
+    at_ends Forward from to = (from, to)
+    at_ends Backward from to = (to, from)
+
+by_arc-absorbs : (d : Direction) (time : Moment → Option ℕ) (e : Moment) (l other : KnownArc) → is_as_long l other ≡ true → later (by_arc d time e l) (by_arc d time e other) ≡ by_arc d time e l
+by_arc-absorbs d time e l other long =
+    let (start, end, le) = long-parts d l other long in
+    ap (λ m. later (by_arc d time e l) (when (same_moment m e) (add (time (arc_start d other)) other.wait))) (sym end)
+    ∙ (ap (λ m. later (by_arc d time e l) (when (same_moment (arc_end d l) e) (add (time m) other.wait))) (sym start)
+    ∙ absorbs-when (same_moment (arc_end d l) e) (time (arc_start d l)) l.wait other.wait le)
+
 -- ONE ARC MORE
 
-module _ (limit : ℕ) (by_arc : (Moment → Option ℕ) → Moment → KnownArc → Option ℕ) (own : KnownArc → Moment)
-    (apart : (time : Moment → Option ℕ) (e : Moment) (l : KnownArc) → number_of (own l) ≢ number_of e → by_arc time e l ≡ None)
-    (absorbs : (time : Moment → Option ℕ) (e : Moment) (l other : KnownArc) → is_as_long l other ≡ true → later (by_arc time e l) (by_arc time e other) ≡ by_arc time e l)
-    (arcs : List KnownArc) (last before last2 before2 : List ℕ) (other : KnownArc) (chained : IsChained limit by_arc arcs last before) where
+module _ (limit : ℕ) (d : Direction) (arcs : List KnownArc) (last before last2 before2 : List ℕ) (other : KnownArc) (chained : IsChained limit d arcs last before) where
   abbrev n : ℕ
-  n = number_of (own other)
+  n = number_of (arc_end d other)
 
   abbrev more : List KnownArc
   more = arcs ++ other ∷ []
 
   -- of a number whose chain stays
-  stays : (p : ℕ) (time : Moment → Option ℕ) (e : Moment) → 1 ≤ number_of e → number_of e ≤ limit → later (latest (by_arc time e) arcs) (by_arc time e other) ≡ latest (by_arc time e) arcs →
-      along (by_arc time e) more (before ++ p ∷ []) (get_or last (number_of e - 1) 0) (get_or last (number_of e - 1) 0) ≡ latest (by_arc time e) more
+  stays : (p : ℕ) (time : Moment → Option ℕ) (e : Moment) → 1 ≤ number_of e → number_of e ≤ limit → later (latest (by_arc d time e) arcs) (by_arc d time e other) ≡ latest (by_arc d time e) arcs →
+      along (by_arc d time e) more (before ++ p ∷ []) (get_or last (number_of e - 1) 0) (get_or last (number_of e - 1) 0) ≡ latest (by_arc d time e) more
   stays p time e low high nothing =
-      along-append (by_arc time e) arcs before chained.falling other p (get_or last (number_of e - 1) 0) (get_or last (number_of e - 1) 0) (omega arith) (chained.fits (number_of e) low high)
-      ∙ (chained.whole time e low high ∙ (sym nothing ∙ sym (latest-append (by_arc time e) arcs other)))
+      along-append (by_arc d time e) arcs before chained.falling other p (get_or last (number_of e - 1) 0) (get_or last (number_of e - 1) 0) (omega arith) (chained.fits (number_of e) low high)
+      ∙ (chained.whole time e low high ∙ (sym nothing ∙ sym (latest-append (by_arc d time e) arcs other)))
 
-  of-others : (time : Moment → Option ℕ) (e : Moment) → number_of e ≢ n → later (latest (by_arc time e) arcs) (by_arc time e other) ≡ latest (by_arc time e) arcs
-  of-others time e differ = ap (later (latest (by_arc time e) arcs)) (apart time e other (λ same. differ (sym same))) ∙ later-none (latest (by_arc time e) arcs)
+  of-others : (time : Moment → Option ℕ) (e : Moment) → number_of e ≢ n → later (latest (by_arc d time e) arcs) (by_arc d time e other) ≡ latest (by_arc d time e) arcs
+  of-others time e differ = ap (later (latest (by_arc d time e) arcs)) (by_arc-apart d time e other (λ same. differ (sym same))) ∙ later-none (latest (by_arc d time e) arcs)
 
-  skipped : (1 ≤ n → n ≤ limit → HasAsLong arcs before (get_or last (n - 1) 0) other) → IsChained limit by_arc more last (before ++ 0 ∷ [])
+  skipped : (1 ≤ n → n ≤ limit → HasAsLong arcs before (get_or last (n - 1) 0) other) → IsChained limit d more last (before ++ 0 ∷ [])
   skipped known =
       record {
         size = chained.size;
@@ -122,15 +160,15 @@ module _ (limit : ℕ) (by_arc : (Moment → Option ℕ) → Moment → KnownArc
         fits = λ k low high. omega (arith, chained.fits k low high, length-append arcs (other ∷ []));
         whole = λ time e low high. stays 0 time e low high (elim (cases_eq (number_of e) n) [
           | inl same ↦
-              let f : KnownArc → Option ℕ = by_arc time e in
+              let f : KnownArc → Option ℕ = by_arc d time e in
               let is : along f arcs before (get_or last (n - 1) 0) (get_or last (n - 1) 0) ≡ latest f arcs =
               subst (λ k. along f arcs before (get_or last (k - 1) 0) (get_or last (k - 1) 0) ≡ latest f arcs) same (chained.whole time e low high) in
-              ap (λ o. later o (f other)) (sym is) ∙ (known (omega (arith, low, same)) (omega (arith, high, same)) f (λ l long. absorbs time e l other long) ∙ is)
+              ap (λ o. later o (f other)) (sym is) ∙ (known (omega (arith, low, same)) (omega (arith, high, same)) f (λ l long. by_arc-absorbs d time e l other long) ∙ is)
           | inr differ ↦ of-others time e differ
         ]);
       }
 
-  linked : 1 ≤ n → n ≤ limit → IsChained limit by_arc more (set last (n - 1) (length arcs + 1)) (before ++ get_or last (n - 1) 0 ∷ [])
+  linked : 1 ≤ n → n ≤ limit → IsChained limit d more (set last (n - 1) (length arcs + 1)) (before ++ get_or last (n - 1) 0 ∷ [])
   linked low_n high_n =
       record {
         size = omega (arith, length-set last (n - 1) (length arcs + 1), room);
@@ -140,9 +178,9 @@ module _ (limit : ℕ) (by_arc : (Moment → Option ℕ) → Moment → KnownArc
           | inr differ ↦ omega (arith, get_or-set_other last (n - 1) (k - 1) (length arcs + 1) 0 (λ e. differ (omega (arith, e, low, low_n))), chained.fits k low high, length-append arcs (other ∷ []))
         ];
         whole = λ time e low high. elim (cases_eq (number_of e) n) [
-          | inl same ↦ ap (λ k. along (by_arc time e) more before_new (get_or last_new (k - 1) 0) (get_or last_new (k - 1) 0)) same ∙ its-own time e low high same
+          | inl same ↦ ap (λ k. along (by_arc d time e) more before_new (get_or last_new (k - 1) 0) (get_or last_new (k - 1) 0)) same ∙ its-own time e low high same
           | inr differ ↦
-              ap (λ j. along (by_arc time e) more before_new j j) (get_or-set_other last (n - 1) (number_of e - 1) (length arcs + 1) 0 (λ is. differ (omega (arith, is, low, low_n))))
+              ap (λ j. along (by_arc d time e) more before_new j j) (get_or-set_other last (n - 1) (number_of e - 1) (length arcs + 1) 0 (λ is. differ (omega (arith, is, low, low_n))))
               ∙ stays (get_or last (n - 1) 0) time e low high (of-others time e differ)
         ];
       }
@@ -163,9 +201,9 @@ module _ (limit : ℕ) (by_arc : (Moment → Option ℕ) → Moment → KnownArc
       falls = falling-push arcs before other (get_or last (n - 1) 0) chained.falling (chained.fits n low_n high_n)
 
       its-own : (time : Moment → Option ℕ) (e : Moment) → 1 ≤ number_of e → number_of e ≤ limit → number_of e ≡ n →
-          along (by_arc time e) more before_new (get_or last_new (n - 1) 0) (get_or last_new (n - 1) 0) ≡ latest (by_arc time e) more
+          along (by_arc d time e) more before_new (get_or last_new (n - 1) 0) (get_or last_new (n - 1) 0) ≡ latest (by_arc d time e) more
       its-own time e low high same =
-          let f : KnownArc → Option ℕ = by_arc time e in
+          let f : KnownArc → Option ℕ = by_arc d time e in
           let q : ℕ = get_or last (n - 1) 0 in
           let end : length arcs + 1 - 1 ≡ length arcs = omega arith in
           let is : along f arcs before q q ≡ latest f arcs = subst (λ k. along f arcs before (get_or last (k - 1) 0) (get_or last (k - 1) 0) ≡ latest f arcs) same (chained.whole time e low high) in
@@ -177,20 +215,20 @@ module _ (limit : ℕ) (by_arc : (Moment → Option ℕ) → Moment → KnownArc
           ∙ (ap (later (f other)) (along-append f arcs before chained.falling other q q q (omega arith) (chained.fits n low_n high_n) ∙ is)
           ∙ (later-comm (f other) (latest f arcs) ∙ sym (latest-append f arcs other)))))))
 
-  pub chained-push : IsPushed limit arcs other n last before last2 before2 → IsChained limit by_arc more last2 before2
+  pub chained-push : IsPushed limit arcs other n last before last2 before2 → IsChained limit d more last2 before2
   chained-push (inl (known, same, is)) =
-      subst (λ ps. IsChained limit by_arc more last2 ps) (sym is) (subst (λ ps. IsChained limit by_arc more ps (before ++ 0 ∷ [])) (sym same) (skipped known))
+      subst (λ ps. IsChained limit d more last2 ps) (sym is) (subst (λ ps. IsChained limit d more ps (before ++ 0 ∷ [])) (sym same) (skipped known))
   chained-push (inr (low, high, now, is)) =
-      subst (λ ps. IsChained limit by_arc more last2 ps) (sym is) (subst (λ ps. IsChained limit by_arc more ps (before ++ get_or last (n - 1) 0 ∷ [])) (sym now) (linked low high))
+      subst (λ ps. IsChained limit d more last2 ps) (sym is) (subst (λ ps. IsChained limit d more ps (before ++ get_or last (n - 1) 0 ∷ [])) (sym now) (linked low high))
 
 -- no arcs
-pub chained-none : (limit : ℕ) (by_arc : (Moment → Option ℕ) → Moment → KnownArc → Option ℕ) → IsChained limit by_arc [] (replicate limit 0) []
-chained-none limit by_arc =
+pub chained-none : (limit : ℕ) (d : Direction) → IsChained limit d [] (replicate limit 0) []
+chained-none limit d =
     record {
       size = omega (arith, length-replicate limit nil);
       falling = record { count = refl; falls = λ i less. absurd (omega (arith, less)) };
       fits = λ k low high. omega (arith, none k low high);
-      whole = λ time e low high. ap (λ j. along (by_arc time e) [] [] j j) (none (number_of e) low high);
+      whole = λ time e low high. ap (λ j. along (by_arc d time e) [] [] j j) (none (number_of e) low high);
     }
   where
     nil : ℕ
@@ -198,49 +236,3 @@ chained-none limit by_arc =
 
     none : (k : ℕ) → 1 ≤ k → k ≤ limit → get_or (replicate limit nil) (k - 1) nil ≡ nil
     none k low high = get_or-replicate limit (k - 1) nil nil (omega (arith, low, high))
-
--- BY ITS LAST MOMENT, AND BY ITS FIRST
-
-none-when : (m e : Moment) (o : Option ℕ) → number_of m ≢ number_of e → when (same_moment m e) o ≡ None
-none-when m e o differ =
-    elim (cases_Bool (same_moment m e)) [
-      | inl same ↦ absurd (differ (ap number_of (same_moment-true m e same)))
-      | inr off ↦ ap (λ t. when t o) off
-    ]
-
-absorbs-add : (o : Option ℕ) (v w : ℕ) → w ≤ v → later (add o v) (add o w) ≡ add o v
-absorbs-add None v w le = refl
-absorbs-add (Some t) v w le = ap Some (omega (arith, le))
-
-absorbs-when : (t : Bool) (o : Option ℕ) (v w : ℕ) → w ≤ v → later (when t (add o v)) (when t (add o w)) ≡ when t (add o v)
-absorbs-when true o v w le = absorbs-add o v w le
-absorbs-when false o v w le = refl
-
-module _ (l other : KnownArc) (long : is_as_long l other ≡ true) where
-  long-parts : (l.from ≡ other.from) × (l.to ≡ other.to) × (other.wait ≤ l.wait)
-  long-parts =
-      let (ends, wait) = and_parts (same_moment l.from other.from && same_moment l.to other.to) (leb other.wait l.wait) long in
-      let (from, to) = and_parts (same_moment l.from other.from) (same_moment l.to other.to) ends in
-      (same_moment-true l.from other.from from, same_moment-true l.to other.to to, leb-true other.wait l.wait wait)
-
-  pub to-absorbs : (time : Moment → Option ℕ) (e : Moment) → later (by_arc_to time e l) (by_arc_to time e other) ≡ by_arc_to time e l
-  to-absorbs time e =
-      let (from, to, le) = long-parts in
-      ap (λ m. later (by_arc_to time e l) (when (same_moment m e) (add (time other.from) other.wait))) (sym to)
-      ∙ (ap (λ m. later (by_arc_to time e l) (when (same_moment l.to e) (add (time m) other.wait))) (sym from)
-      ∙ absorbs-when (same_moment l.to e) (time l.from) l.wait other.wait le)
-
-  pub from-absorbs : (time : Moment → Option ℕ) (e : Moment) → later (by_arc_from time e l) (by_arc_from time e other) ≡ by_arc_from time e l
-  from-absorbs time e =
-      let (from, to, le) = long-parts in
-      ap (λ m. later (by_arc_from time e l) (when (same_moment m e) (add (time other.to) other.wait))) (sym from)
-      ∙ (ap (λ m. later (by_arc_from time e l) (when (same_moment l.from e) (add (time m) other.wait))) (sym to)
-      ∙ absorbs-when (same_moment l.from e) (time l.to) l.wait other.wait le)
-
-pub to-push : (limit : ℕ) (arcs : List KnownArc) (last before last2 before2 : List ℕ) (other : KnownArc) → IsChained limit by_arc_to arcs last before → IsPushed limit arcs other (number_of other.to) last before last2 before2 → IsChained limit by_arc_to (arcs ++ other ∷ []) last2 before2
-to-push limit arcs last before last2 before2 other =
-    chained-push limit by_arc_to (λ (l : KnownArc). l.to) (λ time e l differ. none-when l.to e (add (time l.from) l.wait) differ) (λ time e l k long. to-absorbs l k long time e) arcs last before last2 before2 other
-
-pub from-push : (limit : ℕ) (arcs : List KnownArc) (last before last2 before2 : List ℕ) (other : KnownArc) → IsChained limit by_arc_from arcs last before → IsPushed limit arcs other (number_of other.from) last before last2 before2 → IsChained limit by_arc_from (arcs ++ other ∷ []) last2 before2
-from-push limit arcs last before last2 before2 other =
-    chained-push limit by_arc_from (λ (l : KnownArc). l.from) (λ time e l differ. none-when l.from e (add (time l.to) l.wait) differ) (λ time e l k long. from-absorbs l k long time e) arcs last before last2 before2 other

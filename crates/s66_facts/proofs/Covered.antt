@@ -12,9 +12,12 @@ use Rattle.s66_model.specs.Timing.{Problem, row_at, copies}
 use Rattle.s66_model.proofs.LoadBound.{same_kind-true}
 use Rattle.s66_moments.specs.Moments.{writes, only_if}
 use Rattle.s66_moments.specs.Facts.{IsNumber}
+use Rattle.s66_facts.specs.declared.direction.Direction.{Direction}
+use Rattle.s66_facts.specs.declared.direction.Direction.TheVariants.{Forward, Backward}
 use Rattle.s66_facts.specs.declared.marks.Marks.{Marks}
 use Rattle.s66_facts.specs.Marked.{is_marked, is_in, no_marks, before_in}
 use Rattle.s66_facts.specs.Ground.{Ground, IsOrdered}
+use Rattle.s66_facts.specs.Directions.{sooner}
 use Rattle.s66_facts.specs.Near.{uses, hands_on, covers, IsNear}
 use Rattle.s66_facts.specs.Passes.{share_unit}
 
@@ -42,11 +45,9 @@ before-range marks m n first =
     let (low_n, high_n) = and_parts (leb 1 n) (leb n (length marks)) in_n in
     (leb-true 1 m low_m, leb-true m (length marks) high_m, leb-true 1 n low_n, leb-true n (length marks) high_n)
 
-pub near-number : (g : Ground) → IsOrdered g → (m n : ℕ) → before_in g.marks m n ≡ true → IsNumber g.problem m
-near-number g ordered m n first = (let (low, high, low2, high2) = before-range g.marks m n first in (low, omega (arith, high, ordered.count)))
-
-pub near-number_back : (g : Ground) → IsOrdered g → (m n : ℕ) → before_in g.marks n m ≡ true → IsNumber g.problem m
-near-number_back g ordered m n last = (let (low, high, low2, high2) = before-range g.marks n m last in (low2, omega (arith, high2, ordered.count)))
+pub sooner-number : (d : Direction) (g : Ground) → IsOrdered g → (m n : ℕ) → sooner d (before_in g.marks) m n ≡ true → IsNumber g.problem m
+sooner-number Forward g ordered m n first = (let (low, high, low2, high2) = before-range g.marks m n first in (low, omega (arith, high, ordered.count)))
+sooner-number Backward g ordered m n last = (let (low, high, low2, high2) = before-range g.marks n m last in (low2, omega (arith, high2, ordered.count)))
 
 pub if-only : (test : Bool) (w : ℕ) → test ≡ true → only_if test w ≡ Some w
 if-only true w is = refl

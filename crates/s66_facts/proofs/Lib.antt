@@ -2,6 +2,7 @@ pub mod MarkBits
 pub mod Latest
 pub mod Chained
 pub mod Edges
+pub mod Walks
 pub mod Results
 pub mod Covered
 pub mod Each

@@ -5,7 +5,8 @@ use Rattle.s66_moments.specs.declared.moment.Moment.TheVariants.{Origin, At, End
 use Rattle.s66_moments.specs.declared.fact_line.KnownArc.{KnownArc}
 use Rattle.s66_moments.specs.Networks.{same_moment}
 use Rattle.s66_moments.specs.Known.{later, latest}
-use Rattle.s66_facts.specs.Passes.{add, when}
+use Rattle.s66_facts.specs.declared.direction.Direction.{Direction}
+use Rattle.s66_facts.specs.Passes.{by_arc}
 
 -- of a moment, 0 if it has none
 abbrev pub number_of : Moment → ℕ
@@ -21,13 +22,6 @@ abbrev pub along : (KnownArc → Option ℕ) → List KnownArc → List ℕ → 
 along f arcs before zero place = None
 along f arcs before (suc fuel) zero = None
 along f arcs before (suc fuel) (suc i) = later (f (get_or arcs i no_arc)) (along f arcs before fuel (get_or before i 0))
-
--- by one arc to a moment, and by one from it, if its other moment has this time
-abbrev pub by_arc_to : (Moment → Option ℕ) → Moment → KnownArc → Option ℕ
-by_arc_to time e l = when (same_moment l.to e) (add (time l.from) l.wait)
-
-abbrev pub by_arc_from : (Moment → Option ℕ) → Moment → KnownArc → Option ℕ
-by_arc_from time e l = when (same_moment l.from e) (add (time l.to) l.wait)
 
 -- an arc between the same moments, no shorter than another
 abbrev pub is_as_long : KnownArc → KnownArc → Bool
@@ -50,10 +44,10 @@ IsPushed limit arcs other n last before last2 before2 =
     ((1 ≤ n → n ≤ limit → HasAsLong arcs before (get_or last (n - 1) 0) other) × (last2 ≡ last) × (before2 ≡ before ++ 0 ∷ []))
     ⊎ ((1 ≤ n) × (n ≤ limit) × (last2 ≡ set last (n - 1) (length arcs + 1)) × (before2 ≡ before ++ get_or last (n - 1) 0 ∷ []))
 
--- each number's chain gives what all arcs give
-pub record IsChained (limit : ℕ) (by_arc : (Moment → Option ℕ) → Moment → KnownArc → Option ℕ) (arcs : List KnownArc) (last before : List ℕ) : Type 0 where
+-- each number's chain gives what all arcs give that lead to its moments in a direction
+pub record IsChained (limit : ℕ) (d : Direction) (arcs : List KnownArc) (last before : List ℕ) : Type 0 where
   pub size : limit ≤ length last
   pub falling : IsFalling arcs before
   pub fits : (n : ℕ) → 1 ≤ n → n ≤ limit → get_or last (n - 1) 0 ≤ length arcs
   pub whole : (time : Moment → Option ℕ) (e : Moment) → 1 ≤ number_of e → number_of e ≤ limit →
-      along (by_arc time e) arcs before (get_or last (number_of e - 1) 0) (get_or last (number_of e - 1) 0) ≡ latest (by_arc time e) arcs
+      along (by_arc d time e) arcs before (get_or last (number_of e - 1) 0) (get_or last (number_of e - 1) 0) ≡ latest (by_arc d time e) arcs

@@ -3,5 +3,5 @@ pub mod Ground
 pub mod Passes
 pub mod Chained
 pub mod Near
-pub mod Rounds
+pub mod Directions
 pub mod Settled

@@ -1,5 +1,5 @@
 -- Used by contracts: the times of the moments of an instruction, and how they are found by one step from those of the others.
-use Rattle.std.specs.Prelude.{ℕ, zero, suc, ◌+◌, ◌-◌, ◌^◌, ◌≡◌, Bool, not, if◌then◌else◌, ◌&&◌, ◌==◌, min, List, [], ◌∷◌, get_or, Option, Some, None}
+use Rattle.std.specs.Prelude.{ℕ, zero, suc, ◌+◌, ◌-◌, ◌^◌, ◌≡◌, Bool, not, if◌then◌else◌, ◌&&◌, ◌==◌, max, min, List, [], ◌∷◌, get_or, Option, Some, None}
 use Rattle.s66_isa.specs.declared.reg.Reg.{Reg}
 use Rattle.s66_isa.specs.Table.{Row, Write, same_kind, has_reg, memory_pair, numbers}
 use Rattle.s66_model.specs.Timing.{Problem, row_at, copies}
@@ -10,13 +10,16 @@ use Rattle.s66_moments.specs.declared.fact_line.KnownArc.{KnownArc}
 use Rattle.s66_moments.specs.Moments.{writes, fetches, latency_to, only_if}
 use Rattle.s66_moments.specs.Networks.{same_moment}
 use Rattle.s66_moments.specs.Known.{later, latest}
+use Rattle.s66_facts.specs.declared.direction.Direction.{Direction}
+use Rattle.s66_facts.specs.declared.direction.Direction.TheVariants.{Forward, Backward}
 use Rattle.s66_facts.specs.declared.times.Times.{Times}
 use Rattle.s66_facts.specs.Ground.{Ground}
+use Rattle.s66_facts.specs.Directions.{source, arc_start, arc_end}
 
--- so much later, or the greatest number of the machine
+-- so much later, up to the greatest number of the machine
 abbrev pub add : Option ℕ → ℕ → Option ℕ
 add None wait = None
-add (Some t) wait = Some (min (t + wait) (2 ^ 64 - 1))
+add (Some t) wait = Some (max t (min (t + wait) (2 ^ 64 - 1)))
 
 abbrev pub when : Bool → Option ℕ → Option ℕ
 when test o = if test then o else None
@@ -67,6 +70,19 @@ time_at_moment times origin end (At n (Done x)) = None
 time_at_moment times origin end (At n Free) = None
 time_at_moment times origin end End = end
 
+-- the time of a moment by an arc that may lead to it, if the moment where that begins has this time
+abbrev pub by_arc : Direction → (Moment → Option ℕ) → Moment → KnownArc → Option ℕ
+by_arc d time e l = when (same_moment (arc_end d l) e) (add (time (arc_start d l)) l.wait)
+
+-- the moments where loads begin; the time of the one at which all paths do is given
+abbrev pub time_along : Direction → List Times → Option ℕ → Moment → Option ℕ
+time_along Forward times first = time_at_moment times first None
+time_along Backward times first = time_at_moment times None first
+
+-- the latest by loads that lead to a moment
+abbrev pub by_loads : Direction → List KnownArc → List Times → Moment → Moment → Option ℕ
+by_loads d loads times e f = latest (by_arc d (time_along d times (only_if (same_moment e (source d)) 0)) f) loads
+
 -- FROM A MOMENT ON: n after m, which stands before
 
 abbrev pub issue_after : Problem → ℕ → ℕ → Times → Option ℕ
@@ -92,25 +108,15 @@ after_one b times n m =
       second = second_of (done_after b m (times_at times m)) (row_at b n).writes;
     }
 
--- after all that pass
-abbrev pub after_all : Problem → (ℕ → Bool) → List Times → ℕ → Times
-after_all b near times n = gathered near (after_one b times n) (numbers b.block)
-
--- the latest by loads that lead to a moment
-abbrev pub by_loads_to : List KnownArc → List Times → Moment → Moment → Option ℕ
-by_loads_to loads times e f =
-    latest (λ (l : KnownArc). when (same_moment l.to f) (add (time_at_moment times (only_if (same_moment e Origin) 0) None l.from) l.wait)) loads
-
 -- from the moment itself, or from the origin
 abbrev pub at_once : Moment → Moment → Option ℕ
 at_once e f = later (only_if (same_moment e f) 0) (only_if (same_moment e Origin) 0)
 
-abbrev pub head_issue : List KnownArc → Moment → List Times → ℕ → Times → Option ℕ
-head_issue loads e times n after = later (at_once e (At n Issue)) (later after.issue (by_loads_to loads times e (At n Issue)))
+abbrev pub head_issue : Moment → ℕ → Times → Option ℕ → Option ℕ
+head_issue e n after load = later (at_once e (At n Issue)) (later after.issue load)
 
-abbrev pub head_start : List KnownArc → Moment → List Times → ℕ → Times → Option ℕ → Option ℕ
-head_start loads e times n after issue =
-    later (later (at_once e (At n Start)) issue) (later after.start (by_loads_to loads times e (At n Start)))
+abbrev pub head_start : Moment → ℕ → Times → Option ℕ → Option ℕ → Option ℕ
+head_start e n after issue load = later (later (at_once e (At n Start)) issue) (later after.start load)
 
 -- by its start, and by the readers of the register
 abbrev pub head_done : Problem → Moment → ℕ → Option ℕ → Option ℕ → Reg → Option ℕ
@@ -135,12 +141,12 @@ head_free b e n t =
 abbrev pub with_free : Times → Option ℕ → Times
 with_free t free = record { issue = t.issue; start = t.start; free = free; first = t.first; second = t.second }
 
-abbrev pub heads_of : Ground → (ℕ → Bool) → Moment → List Times → ℕ → Times
-heads_of g near e times n =
-    let after : Times = after_all g.problem near times n in
-    let issue : Option ℕ = head_issue g.loads e times n after in
-    let t : Times = head_results g.problem e n after issue (head_start g.loads e times n after issue) in
-    with_free t (head_free g.problem e n t)
+-- with the latest by loads that lead to its issue and to its start
+abbrev pub heads_of : Problem → Moment → ℕ → Times → (load_issue load_start : Option ℕ) → Times
+heads_of b e n after load_issue load_start =
+    let issue : Option ℕ = head_issue e n after load_issue in
+    let t : Times = head_results b e n after issue (head_start e n after issue load_start) in
+    with_free t (head_free b e n t)
 
 -- UP TO A MOMENT: n before m, which stands after
 
@@ -161,15 +167,6 @@ before_one b times n m =
       first = first_of (done_before b m (times_at times m)) (row_at b n).writes;
       second = second_of (done_before b m (times_at times m)) (row_at b n).writes;
     }
-
--- before all that pass
-abbrev pub before_all : Problem → (ℕ → Bool) → List Times → ℕ → Times
-before_all b near times n = gathered near (before_one b times n) (numbers b.block)
-
--- the latest by loads that come from a moment
-abbrev pub by_loads_from : List KnownArc → List Times → Moment → Moment → Option ℕ
-by_loads_from loads times f e =
-    latest (λ (l : KnownArc). when (same_moment l.from e) (add (time_at_moment times None (only_if (same_moment f End) 0) l.to) l.wait)) loads
 
 abbrev pub tail_free : Moment → Times → Option ℕ
 tail_free f before = later (only_if (same_moment f End) 0) before.free
@@ -194,22 +191,39 @@ latest_result r t [] = None
 latest_result r t (v ∷ []) = add t.first (latency_to r v.reg)
 latest_result r t (v ∷ (w ∷ ws)) = later (add t.first (latency_to r v.reg)) (add t.second (latency_to r w.reg))
 
-abbrev pub tail_start : Ground → Moment → List Times → ℕ → Times → Times → Option ℕ
-tail_start g f times n before t =
-    later (later (only_if (same_moment (At n Start) f) 0) (add t.free ((row_at g.problem n).hold + 1)))
-    (later (latest_result (row_at g.problem n) t (row_at g.problem n).writes)
-    (later before.start (by_loads_from g.loads times f (At n Start))))
+abbrev pub tail_start : Problem → Moment → ℕ → Times → Times → Option ℕ → Option ℕ
+tail_start b f n before t load =
+    later (later (only_if (same_moment f (At n Start)) 0) (add t.free ((row_at b n).hold + 1)))
+    (later (latest_result (row_at b n) t (row_at b n).writes) (later before.start load))
 
-abbrev pub tail_issue : List KnownArc → Moment → List Times → ℕ → Times → Option ℕ → Option ℕ
-tail_issue loads f times n before start =
-    later (later (only_if (same_moment (At n Issue) f) 0) start) (later before.issue (by_loads_from loads times f (At n Issue)))
+abbrev pub tail_issue : Moment → ℕ → Times → Option ℕ → Option ℕ → Option ℕ
+tail_issue f n before start load = later (later (only_if (same_moment f (At n Issue)) 0) start) (later before.issue load)
 
-abbrev pub tails_of : Ground → (ℕ → Bool) → Moment → List Times → ℕ → Times
-tails_of g near f times n =
-    let before : Times = before_all g.problem near times n in
-    let t : Times = tail_results g.problem f n before (tail_free f before) in
-    let start : Option ℕ = tail_start g f times n before t in
-    record { issue = tail_issue g.loads f times n before start; start = start; free = t.free; first = t.first; second = t.second }
+abbrev pub tails_of : Problem → Moment → ℕ → Times → (load_issue load_start : Option ℕ) → Times
+tails_of b f n before load_issue load_start =
+    let t : Times = tail_results b f n before (tail_free f before) in
+    let start : Option ℕ = tail_start b f n before t load_start in
+    record { issue = tail_issue f n before start load_issue; start = start; free = t.free; first = t.first; second = t.second }
+
+-- IN A DIRECTION
+
+-- n by one number that comes sooner
+abbrev pub by_one : Direction → Problem → List Times → ℕ → ℕ → Times
+by_one Forward = after_one
+by_one Backward = before_one
+
+-- by all that pass
+abbrev pub by_all : Direction → Problem → (ℕ → Bool) → List Times → ℕ → Times
+by_all d b near times n = gathered near (by_one d b times n) (numbers b.block)
+
+-- all its moments, by what is gathered and by loads
+abbrev pub all_moments : Direction → Problem → Moment → ℕ → Times → (load_issue load_start : Option ℕ) → Times
+all_moments Forward = heads_of
+all_moments Backward = tails_of
+
+abbrev pub times_of : Direction → Ground → (ℕ → Bool) → Moment → List Times → ℕ → Times
+times_of d g near e times n =
+    all_moments d g.problem e n (by_all d g.problem near times n) (by_loads d g.loads times e (At n Issue)) (by_loads d g.loads times e (At n Start))
 
 -- WHAT TIMES ARE
 

@@ -1,37 +1,43 @@
--- Used by contracts within the crate alone: which numbers have times that are right if those of the others are, so that all are right once all numbers have.
-use Rattle.std.specs.Prelude.{ℕ, ◌≡◌, Bool, true, not, ◌||◌, ◌==◌, List}
+-- Used by contracts within the crate alone: the times of all numbers, and which of them are right if those of all that comes sooner are, so that all are right once all numbers have theirs.
+use Rattle.std.specs.Prelude.{ℕ, ◌+◌, ◌-◌, ◌≡◌, ◌≤◌, Bool, true, not, ◌||◌, ◌==◌, List}
 use Rattle.s66_moments.specs.declared.moment.Moment.{Moment}
 use Rattle.s66_moments.specs.Facts.{IsNumber}
-use Rattle.s66_moments.specs.Known.{span}
+use Rattle.s66_facts.specs.declared.direction.Direction.{Direction}
+use Rattle.s66_facts.specs.declared.direction.Direction.TheVariants.{Forward, Backward}
 use Rattle.s66_facts.specs.declared.marks.Marks.{Marks}
 use Rattle.s66_facts.specs.declared.times.Times.{Times}
 use Rattle.s66_facts.specs.Marked.{is_marked, before_in}
-use Rattle.s66_facts.specs.Ground.{Ground, ground_arcs}
+use Rattle.s66_facts.specs.Ground.{Ground}
 use Rattle.s66_facts.specs.Passes.{times_at, AreTimes}
+use Rattle.s66_facts.specs.Directions.{sooner, rank, span_along}
 
--- these are the times of a number if those of all that stands before it are right
-abbrev pub IsHead : Ground → Moment → List Times → ℕ → Times → Type 0
-IsHead g e times n t =
-    ((m : ℕ) → IsNumber g.problem m → before_in g.marks m n ≡ true → AreTimes g.problem (λ k. span g.problem (ground_arcs g) e k) m (times_at times m)) →
-    AreTimes g.problem (λ k. span g.problem (ground_arcs g) e k) n t
+-- the longest paths between a moment and those of each number
+abbrev pub AreAll : Direction → Ground → Moment → List Times → Type 0
+AreAll d g e times = (n : ℕ) → IsNumber g.problem n → AreTimes g.problem (span_along d g e) n (times_at times n)
 
--- or of all that stands after it
-abbrev pub IsTail : Ground → Moment → List Times → ℕ → Times → Type 0
-IsTail g f times n t =
-    ((m : ℕ) → IsNumber g.problem m → before_in g.marks n m ≡ true → AreTimes g.problem (λ k. span g.problem (ground_arcs g) k f) m (times_at times m)) →
-    AreTimes g.problem (λ k. span g.problem (ground_arcs g) k f) n t
+-- these are the times of a number if those of all that comes sooner are right
+abbrev pub IsStep : Direction → Ground → Moment → List Times → ℕ → Times → Type 0
+IsStep d g e times n t =
+    ((m : ℕ) → IsNumber g.problem m → sooner d (before_in g.marks) m n ≡ true → AreTimes g.problem (span_along d g e) m (times_at times m)) →
+    AreTimes g.problem (span_along d g e) n t
 
 -- so it is for each number that is marked
-abbrev pub AreSettledHeads : Ground → Moment → List Times → Marks → Type 0
-AreSettledHeads g e times settled = (n : ℕ) → IsNumber g.problem n → is_marked settled n ≡ true → IsHead g e times n (times_at times n)
+abbrev pub AreSettled : Direction → Ground → Moment → List Times → Marks → Type 0
+AreSettled d g e times settled = (n : ℕ) → IsNumber g.problem n → is_marked settled n ≡ true → IsStep d g e times n (times_at times n)
 
-abbrev pub AreSettledTails : Ground → Moment → List Times → Marks → Type 0
-AreSettledTails g f times settled = (n : ℕ) → IsNumber g.problem n → is_marked settled n ≡ true → IsTail g f times n (times_at times n)
+-- all that comes sooner is marked
+abbrev pub IsReady : Direction → Ground → Marks → ℕ → Type 0
+IsReady d g done n = (m : ℕ) → IsNumber g.problem m → sooner d (before_in g.marks) m n ≡ true → is_marked done m ≡ true
 
--- the same numbers stand before k if m stands before n too: k isn't n nor after it, or is after m already
-abbrev pub keeps_before : (ℕ → ℕ → Bool) → ℕ → ℕ → ℕ → Bool
-keeps_before before m n k = before m k || not (k == n || before n k)
+-- all numbers are marked that have this rank at most; what comes sooner has a lesser one
+abbrev pub IsMarkedUpTo : Direction → Ground → ℕ → Marks → Type 0
+IsMarkedUpTo d g h done = (n : ℕ) → IsNumber g.problem n → rank d g n ≤ h → is_marked done n ≡ true
 
--- and after k
-abbrev pub keeps_after : (ℕ → ℕ → Bool) → ℕ → ℕ → ℕ → Bool
-keeps_after before m n k = before k n || not (k == m || before k m)
+-- the same numbers come sooner than k if m comes sooner than n too: k isn't n nor later, or is later than m already
+abbrev pub keeps : (ℕ → ℕ → Bool) → ℕ → ℕ → ℕ → Bool
+keeps before m n k = before m k || not (k == n || before n k)
+
+-- of so many numbers the one that is looked at after so many others
+abbrev pub nth_number : Direction → ℕ → ℕ → ℕ
+nth_number Forward count position = position + 1
+nth_number Backward count position = count - position

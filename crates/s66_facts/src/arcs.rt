@@ -1,14 +1,14 @@
 //! Arcs of loads, found by their moments.
 
-ghost use Rattle.std.specs.Prelude.{ℕ, ◌-◌, ◌≡◌, ◌≤◌, ◌<◌, ◌++◌, ◌∷◌, [], IsTrue, false, length, get_or, None};
+ghost use Rattle.std.specs.Prelude.{ℕ, ◌-◌, ◌≡◌, ◌≤◌, ◌<◌, ◌++◌, ◌∷◌, [], IsTrue, false, length, get_or};
 ghost use Rattle.s66_isa.specs.declared.limits.TheConstants.{BLOCK_LIMIT};
-ghost use Rattle.s66_moments.specs.Known.{latest};
 ghost use Rattle.s66_facts.specs.declared.limits.TheConstants.{FACT_LIMIT};
-ghost use Rattle.s66_facts.specs.Chained.{number_of, no_arc, along, by_arc_to, by_arc_from, is_as_long, HasAsLong, IsFalling};
-ghost use Rattle.s66_facts.specs.Passes.{time_at_moment};
+ghost use Rattle.s66_facts.specs.Chained.{number_of, no_arc, along, is_as_long, HasAsLong, IsFalling, IsChained};
+ghost use Rattle.s66_facts.specs.Passes.{by_arc, time_along, by_loads};
 
+use crate::direction::Direction;
 use crate::limits::FACT_LIMIT;
-use crate::times::{Times, add, later, same_moment, time_at_moment, when};
+use crate::times::{Times, add, later, same_moment, time_along, when, zero_if_same};
 use arrayvec::ArrayVec;
 use s66_isa::BLOCK_LIMIT;
 use s66_moments::{KnownArc, Moment};
@@ -57,29 +57,17 @@ fn place_before(before: &[u16], place: u16) -> u16
 }
 
 /// The time of a moment by an arc that may lead to it.
-fn by_arc_to(
+fn by_arc(
+    direction: Direction,
     times: &[Times; BLOCK_LIMIT],
-    origin: Option<u64>,
+    first: Option<u64>,
     to: &Moment,
     arc: &KnownArc,
 ) -> Option<u64>
-    ensures { result ≡ by_arc_to (time_at_moment times.now origin None) to.now arc.now }
+    ensures { result ≡ by_arc direction (time_along direction times.now first) to.now arc.now }
 {
-    let time = add(time_at_moment(times, origin, None, &arc.from), arc.wait);
-    when(same_moment(&arc.to, to), time)
-}
-
-/// By one that may come from it.
-fn by_arc_from(
-    times: &[Times; BLOCK_LIMIT],
-    end: Option<u64>,
-    from: &Moment,
-    arc: &KnownArc,
-) -> Option<u64>
-    ensures { result ≡ by_arc_from (time_at_moment times.now None end) from.now arc.now }
-{
-    let time = add(time_at_moment(times, None, end, &arc.to), arc.wait);
-    when(same_moment(&arc.from, from), time)
+    let time = time_along(direction, times, first, direction.start_of(arc));
+    when(same_moment(direction.end_of(arc), to), add(time, arc.wait))
 }
 
 /// Whether a chain has an arc that leads between the same moments as another, and is no shorter.
@@ -99,45 +87,23 @@ fn has_as_long(arcs: &[KnownArc], before: &[u16], first: u16, other: &KnownArc) 
 }
 
 /// The latest along a chain by arcs that lead to a moment.
-fn latest_to(
+fn latest_along(
+    direction: Direction,
     arcs: &[KnownArc],
     before: &[u16],
-    first: u16,
+    last: u16,
     times: &[Times; BLOCK_LIMIT],
-    origin: Option<u64>,
+    first: Option<u64>,
     to: &Moment,
 ) -> Option<u64>
     requires falling { IsFalling arcs.now before.now }
-    requires fits { first ≤ length arcs.now }
-    ensures { result ≡ along (by_arc_to (time_at_moment times.now origin None) to.now) arcs.now before.now first first }
+    requires fits { last ≤ length arcs.now }
+    ensures { result ≡ along (by_arc direction (time_along direction times.now first) to.now) arcs.now before.now last last }
 {
     let mut latest = None;
-    let mut place = first;
+    let mut place = last;
     while place > 0 {
-        let time = by_arc_to(times, origin, to, arc_at(arcs, place));
-        latest = later(latest, time);
-        place = place_before(before, place);
-    }
-    latest
-}
-
-/// By those that come from a moment.
-fn latest_from(
-    arcs: &[KnownArc],
-    before: &[u16],
-    first: u16,
-    times: &[Times; BLOCK_LIMIT],
-    end: Option<u64>,
-    from: &Moment,
-) -> Option<u64>
-    requires falling { IsFalling arcs.now before.now }
-    requires fits { first ≤ length arcs.now }
-    ensures { result ≡ along (by_arc_from (time_at_moment times.now None end) from.now) arcs.now before.now first first }
-{
-    let mut latest = None;
-    let mut place = first;
-    while place > 0 {
-        let time = by_arc_from(times, end, from, arc_at(arcs, place));
+        let time = by_arc(direction, times, first, to, arc_at(arcs, place));
         latest = later(latest, time);
         place = place_before(before, place);
     }
@@ -213,13 +179,14 @@ impl Model for Arcs {
     ghost use Rattle.std.specs.Prelude.{List};
     ghost use Rattle.s66_moments.specs.declared.fact_line.KnownArc.{KnownArc as KnownArcOf};
     ghost use Rattle.s66_isa.specs.declared.limits.TheConstants.{BLOCK_LIMIT};
-    ghost use Rattle.s66_facts.specs.Chained.{by_arc_to, by_arc_from, IsChained};
+    ghost use Rattle.s66_facts.specs.declared.direction.Direction.TheVariants.{Forward, Backward};
+    ghost use Rattle.s66_facts.specs.Chained.{IsChained};
 
     ghost Value = { List KnownArcOf };
 
     ghost view = { λ a. a.all.items };
 
-    ghost invariant = { λ a. IsChained BLOCK_LIMIT by_arc_to a.all.items a.to.last a.to.before.items × IsChained BLOCK_LIMIT by_arc_from a.all.items a.from.last a.from.before.items };
+    ghost invariant = { λ a. IsChained BLOCK_LIMIT Forward a.all.items a.to.last a.to.before.items × IsChained BLOCK_LIMIT Backward a.all.items a.from.last a.from.before.items };
 }
 
 impl Arcs {
@@ -259,46 +226,37 @@ impl Arcs {
         self.all.push(arc);
     }
 
-    /// The latest by those that lead to a moment, if each is its wait later than the moment from which it comes. It takes a look at each
-    /// that leads to its number and says something new.
-    pub(crate) fn latest_to(
+    /// Those that are found by the number to which they lead.
+    fn chains(&self, direction: Direction) -> &Chains
+        ensures { IsChained BLOCK_LIMIT direction self.now result.now.last result.now.before.items }
+    {
+        match direction {
+            Direction::Forward => &self.to,
+            Direction::Backward => &self.from,
+        }
+    }
+
+    /// The latest by those that lead to a moment, for paths from another one, if each is its wait later than the moment at which it
+    /// begins. It takes a look at each that leads to its number and says something new.
+    pub(crate) fn latest(
         &self,
+        direction: Direction,
         times: &[Times; BLOCK_LIMIT],
-        origin: Option<u64>,
+        from: &Moment,
         to: &Moment,
     ) -> Option<u64>
         requires { (1 ≤ number_of to.now) × (number_of to.now ≤ BLOCK_LIMIT) }
-        ensures { result ≡ latest (by_arc_to (time_at_moment times.now origin None) to.now) self.now }
+        ensures { result ≡ by_loads direction self.now times.now from.now to.now }
     {
-        let first = self.to.last[number_of(to) as usize - 1];
-        latest_to(
+        let chains = self.chains(direction);
+        latest_along(
+            direction,
             self.all.as_slice(),
-            self.to.before.as_slice(),
-            first,
+            chains.before.as_slice(),
+            chains.last[number_of(to) as usize - 1],
             times,
-            origin,
+            zero_if_same(from, &direction.source()),
             to,
-        )
-    }
-
-    /// By those that come from a moment, in the same way.
-    pub(crate) fn latest_from(
-        &self,
-        times: &[Times; BLOCK_LIMIT],
-        end: Option<u64>,
-        from: &Moment,
-    ) -> Option<u64>
-        requires { (1 ≤ number_of from.now) × (number_of from.now ≤ BLOCK_LIMIT) }
-        ensures { result ≡ latest (by_arc_from (time_at_moment times.now None end) from.now) self.now }
-    {
-        let first = self.from.last[number_of(from) as usize - 1];
-        latest_from(
-            self.all.as_slice(),
-            self.from.before.as_slice(),
-            first,
-            times,
-            end,
-            from,
         )
     }
 }

@@ -4,9 +4,8 @@ ghost use Rattle.std.specs.Prelude.{ℕ, ◌≡◌, ◌≤◌, ◌<◌, ◌||◌
 ghost use Rattle.s66_isa.specs.declared.limits.TheConstants.{BLOCK_LIMIT};
 ghost use Rattle.s66_facts.specs.declared.limits.TheConstants.{FACT_LIMIT};
 
-use crate::again::{
-    all_but, all_heads, all_tails, heads_again, same_after, same_before, tails_again,
-};
+use crate::again::{all_but, all_kept, find_again, find_all};
+use crate::direction::Direction;
 use crate::graph::Graph;
 use crate::loads::{are_used, is_load_line};
 use crate::times::{Times, reaches_both, reaches_through, same_moment, times_at};
@@ -36,13 +35,14 @@ impl Model for Facts {
     ghost use Rattle.s66_moments.specs.declared.moment.Moment.TheVariants.{Origin, End};
     ghost use Rattle.s66_moments.specs.Known.{is_front, is_back};
     ghost use Rattle.s66_facts.specs.Ground.{Ground};
-    ghost use Rattle.s66_facts.specs.Rounds.{AreAllHeads, AreAllTails};
+    ghost use Rattle.s66_facts.specs.declared.direction.Direction.TheVariants.{Forward, Backward};
+    ghost use Rattle.s66_facts.specs.Settled.{AreAll};
 
     ghost Value = { Ground };
 
     ghost view = { λ f. f.graph };
 
-    ghost invariant = { λ f. AreAllHeads f.graph Origin f.heads × AreAllTails f.graph End f.tails × (is_front f.from ≡ true) × AreAllHeads f.graph f.from f.heads_from × (is_back f.to ≡ true) × AreAllTails f.graph f.to f.tails_to };
+    ghost invariant = { λ f. AreAll Forward f.graph Origin f.heads × AreAll Backward f.graph End f.tails × (is_front f.from ≡ true) × AreAll Forward f.graph f.from f.heads_from × (is_back f.to ≡ true) × AreAll Backward f.graph f.to f.tails_to };
 }
 
 impl Facts {
@@ -64,8 +64,8 @@ impl Facts {
         let graph = Graph::new(block, profile);
         // its clauses say that the block is short, and that nothing forms a ring
         let _count = graph.count();
-        let heads = all_heads(&graph, &Moment::Origin);
-        let tails = all_tails(&graph, &Moment::End);
+        let heads = find_all(Direction::Forward, &graph, &Moment::Origin);
+        let tails = find_all(Direction::Backward, &graph, &Moment::End);
         Facts {
             graph,
             heads,
@@ -122,7 +122,7 @@ impl Facts {
         }
         match to {
             Moment::End => self.tails,
-            Moment::Origin | Moment::At(..) => all_tails(&self.graph, to),
+            Moment::Origin | Moment::At(..) => find_all(Direction::Backward, &self.graph, to),
         }
     }
 
@@ -138,7 +138,7 @@ impl Facts {
         }
         match from {
             Moment::Origin => self.heads,
-            Moment::At(..) | Moment::End => all_heads(&self.graph, from),
+            Moment::At(..) | Moment::End => find_all(Direction::Forward, &self.graph, from),
         }
     }
 
@@ -216,12 +216,24 @@ impl Facts {
         if self.is_before(m, n) {
             return true;
         }
-        let same_before = same_before(&self.graph, m, n);
-        let same_after = same_after(&self.graph, m, n);
+        let same_before = all_kept(Direction::Forward, &self.graph, m, n);
+        let same_after = all_kept(Direction::Backward, &self.graph, n, m);
         self.graph.add_pair(m, n);
         let _count = self.graph.count();
-        heads_again(&self.graph, &Moment::Origin, &mut self.heads, same_before);
-        tails_again(&self.graph, &Moment::End, &mut self.tails, same_after);
+        find_again(
+            Direction::Forward,
+            &self.graph,
+            &Moment::Origin,
+            &mut self.heads,
+            same_before,
+        );
+        find_again(
+            Direction::Backward,
+            &self.graph,
+            &Moment::End,
+            &mut self.tails,
+            same_after,
+        );
         self.from = Moment::Origin;
         self.heads_from = self.heads;
         self.to = Moment::End;
@@ -246,11 +258,10 @@ impl Facts {
         requires { is_front from.now ≡ true }
         ensures { self.new ≡ self.old }
     {
-        if same_moment(&self.from, from) {
-            return;
+        if !same_moment(&self.from, from) {
+            self.heads_from = self.heads_from(from);
+            self.from = *from;
         }
-        self.heads_from = self.heads_from(from);
-        self.from = *from;
     }
 
     /// Keeps the longest paths up to a moment.
@@ -258,11 +269,10 @@ impl Facts {
         requires { is_back to.now ≡ true }
         ensures { self.new ≡ self.old }
     {
-        if same_moment(&self.to, to) {
-            return;
+        if !same_moment(&self.to, to) {
+            self.tails_to = self.tails_to(to);
+            self.to = *to;
         }
-        self.tails_to = self.tails_to(to);
-        self.to = *to;
     }
 
     /// Keeps those from the first moment of a load line and up to its last one.
@@ -292,10 +302,34 @@ impl Facts {
         let not_from = all_but(&self.graph, &line.from);
         self.graph.add_load(&line.from, line.wait, &line.to);
         let _count = self.graph.count();
-        heads_again(&self.graph, &Moment::Origin, &mut self.heads, not_to);
-        tails_again(&self.graph, &Moment::End, &mut self.tails, not_from);
-        heads_again(&self.graph, &self.from, &mut self.heads_from, not_to);
-        tails_again(&self.graph, &self.to, &mut self.tails_to, not_from);
+        find_again(
+            Direction::Forward,
+            &self.graph,
+            &Moment::Origin,
+            &mut self.heads,
+            not_to,
+        );
+        find_again(
+            Direction::Backward,
+            &self.graph,
+            &Moment::End,
+            &mut self.tails,
+            not_from,
+        );
+        find_again(
+            Direction::Forward,
+            &self.graph,
+            &self.from,
+            &mut self.heads_from,
+            not_to,
+        );
+        find_again(
+            Direction::Backward,
+            &self.graph,
+            &self.to,
+            &mut self.tails_to,
+            not_from,
+        );
         true
     }
 

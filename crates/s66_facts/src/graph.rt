@@ -7,6 +7,7 @@ ghost use Rattle.s66_facts.specs.declared.limits.TheConstants.{FACT_LIMIT};
 
 use crate::arcs::Arcs;
 use crate::closure::{before_each, marks_at};
+use crate::direction::Direction;
 use crate::marks::{Marks, copy_of, none_each};
 use crate::near::near_each;
 use crate::pairs::{turned, with_pair};
@@ -60,6 +61,7 @@ impl Graph {
     ghost use Rattle.s66_moments.specs.Facts.{IsNumber};
     ghost use Rattle.s66_facts.specs.Marked.{is_marked, before_in};
     ghost use Rattle.s66_facts.specs.Ground.{IsOrdered, known_of};
+    ghost use Rattle.s66_facts.specs.Directions.{sooner};
     ghost use Rattle.s66_facts.specs.Near.{IsNear};
     ghost use Rattle.s66_facts.specs.Passes.{share_unit};
     ghost use Rattle.s66_moments.specs.Known.{known_first, with_line, is_number, is_arc_up};
@@ -178,32 +180,42 @@ impl Graph {
         self.before[n as usize - 1].has(m)
     }
 
-    /// The numbers that stand before n.
-    pub(crate) fn before(&self, n: u8) -> Marks
-        requires { IsNumber self.now.problem n }
-        ensures { (m : ℕ) → IsNumber self.now.problem m → is_marked result m ≡ before_in self.now.marks m n }
+    /// Whether m is known to come sooner than n in a direction.
+    pub(crate) fn is_sooner(&self, direction: Direction, m: u8, n: u8) -> bool
+        requires m { IsNumber self.now.problem m }
+        requires n { IsNumber self.now.problem n }
+        ensures { result ≡ sooner direction (before_in self.now.marks) m n }
     {
-        self.before[n as usize - 1]
+        match direction {
+            Direction::Forward => self.is_before(m, n),
+            Direction::Backward => self.is_before(n, m),
+        }
     }
 
-    /// The numbers that stand after n.
-    pub(crate) fn after(&self, n: u8) -> Marks
+    /// The numbers that come later than n.
+    pub(crate) fn later(&self, direction: Direction, n: u8) -> Marks
         requires { IsNumber self.now.problem n }
-        ensures { (m : ℕ) → IsNumber self.now.problem m → is_marked result m ≡ before_in self.now.marks n m }
+        ensures { (m : ℕ) → IsNumber self.now.problem m → is_marked result m ≡ sooner direction (before_in self.now.marks) n m }
     {
-        self.after[n as usize - 1]
+        match direction {
+            Direction::Forward => self.after[n as usize - 1],
+            Direction::Backward => self.before[n as usize - 1],
+        }
     }
 
-    /// Those of the numbers that stand before n that decide its times.
-    pub(crate) fn near_before(&self, n: u8) -> Marks
+    /// Those of the numbers that come sooner than n that decide its times.
+    pub(crate) fn near(&self, direction: Direction, n: u8) -> Marks
         requires { IsNumber self.now.problem n }
-        ensures { IsNear self.now.problem (before_in self.now.marks) result n }
+        ensures { IsNear self.now.problem (sooner direction (before_in self.now.marks)) result n }
     {
-        self.near_before[n as usize - 1]
+        match direction {
+            Direction::Forward => self.near_before[n as usize - 1],
+            Direction::Backward => self.near_after(n),
+        }
     }
 
-    /// Those of the numbers that stand after it.
-    pub(crate) fn near_after(&self, n: u8) -> Marks
+    /// Those of the numbers that stand after n.
+    fn near_after(&self, n: u8) -> Marks
         requires { IsNumber self.now.problem n }
         ensures { IsNear self.now.problem (λ m k. before_in self.now.marks k m) result n }
     {

@@ -1,17 +1,10 @@
-//! The longest paths from a moment to those of all instructions.
+//! The longest paths from a moment to those of an instruction, by those of what stands before it.
 
-ghost use Rattle.std.specs.Prelude.{ℕ, ◌≡◌, ◌≤◌, true};
-ghost use Rattle.s66_isa.specs.declared.limits.TheConstants.{BLOCK_LIMIT};
+ghost use Rattle.std.specs.Prelude.{◌≡◌};
 ghost use Rattle.s66_moments.specs.Facts.{IsNumber};
-ghost use Rattle.s66_moments.specs.Known.{is_front};
-ghost use Rattle.s66_facts.specs.Chained.{number_of};
-ghost use Rattle.s66_facts.specs.Marked.{is_marked};
-ghost use Rattle.s66_facts.specs.Ground.{IsOrdered};
-ghost use Rattle.s66_facts.specs.Settled.{IsHead};
-ghost use Rattle.s66_facts.specs.Passes.{issue_after, start_after, done_after, after_one, after_all, by_loads_to, at_once, head_issue, head_start, head_done, head_results, head_free, heads_of};
+ghost use Rattle.s66_facts.specs.Passes.{issue_after, start_after, done_after, after_one, at_once, head_issue, head_start, head_done, head_results, head_free, heads_of};
 
 use crate::graph::Graph;
-use crate::marks::Marks;
 use crate::times::{
     Times, add, latency_to, later, latest_held, latest_read, latest_written, times_at, when,
     zero_if_same,
@@ -53,7 +46,7 @@ fn done_after(graph: &Graph, m: u8, time: &Times, register: Reg) -> Option<u64>
 }
 
 /// The moments of n after m.
-fn after_one(graph: &Graph, times: &[Times; BLOCK_LIMIT], n: u8, m: u8) -> Times
+pub(crate) fn after_one(graph: &Graph, times: &[Times; BLOCK_LIMIT], n: u8, m: u8) -> Times
     requires n { IsNumber graph.now.problem n }
     requires m { IsNumber graph.now.problem m }
     ensures { result ≡ after_one graph.now.problem times.now n m }
@@ -78,36 +71,6 @@ fn after_one(graph: &Graph, times: &[Times; BLOCK_LIMIT], n: u8, m: u8) -> Times
     }
 }
 
-/// The moments of n after all that are marked.
-fn after_all(graph: &Graph, near: Marks, times: &[Times; BLOCK_LIMIT], n: u8) -> Times
-    requires n { IsNumber graph.now.problem n }
-    requires near { (m : ℕ) → 1 ≤ m → m ≤ BLOCK_LIMIT → is_marked near m ≡ true → IsNumber graph.now.problem m }
-    ensures { result ≡ after_all graph.now.problem (is_marked near) times.now n }
-{
-    // its clauses say that the block is short
-    let _count = graph.count();
-    let mut latest = Times::none();
-    let mut rest = near;
-    while let Some(m) = rest.pop_first() {
-        latest = latest.later(&after_one(graph, times, n, m));
-    }
-    latest
-}
-
-/// The latest by loads that lead to a moment.
-fn by_loads_to(
-    graph: &Graph,
-    times: &[Times; BLOCK_LIMIT],
-    from: &Moment,
-    to: &Moment,
-) -> Option<u64>
-    requires { (1 ≤ number_of to.now) × (number_of to.now ≤ BLOCK_LIMIT) }
-    ensures { result ≡ by_loads_to graph.now.loads times.now from.now to.now }
-{
-    let origin = zero_if_same(from, &Moment::Origin);
-    graph.loads().latest_to(times, origin, to)
-}
-
 /// A moment from itself, or from the origin.
 fn at_once(from: &Moment, to: &Moment) -> Option<u64>
     ensures { result ≡ at_once from.now to.now }
@@ -115,39 +78,29 @@ fn at_once(from: &Moment, to: &Moment) -> Option<u64>
     later(zero_if_same(from, to), zero_if_same(from, &Moment::Origin))
 }
 
-/// The issue of n, by the times of what stands before it.
-fn head_issue(
-    graph: &Graph,
-    from: &Moment,
-    times: &[Times; BLOCK_LIMIT],
-    n: u8,
-    after: &Times,
-) -> Option<u64>
-    requires { (1 ≤ n) × (n ≤ BLOCK_LIMIT) }
-    ensures { result ≡ head_issue graph.now.loads from.now times.now n after.now }
+/// The issue of n, by what stands before it and by loads.
+fn head_issue(from: &Moment, n: u8, after: &Times, load: Option<u64>) -> Option<u64>
+    ensures { result ≡ head_issue from.now n after.now load }
 {
-    let to = Moment::At(n, Stage::Issue);
-    let by_loads = by_loads_to(graph, times, from, &to);
-    later(at_once(from, &to), later(after.issue, by_loads))
+    later(
+        at_once(from, &Moment::At(n, Stage::Issue)),
+        later(after.issue, load),
+    )
 }
 
 /// Its start, by its issue too.
 fn head_start(
-    graph: &Graph,
     from: &Moment,
-    times: &[Times; BLOCK_LIMIT],
     n: u8,
     after: &Times,
     issue: Option<u64>,
+    load: Option<u64>,
 ) -> Option<u64>
-    requires { (1 ≤ n) × (n ≤ BLOCK_LIMIT) }
-    ensures { result ≡ head_start graph.now.loads from.now times.now n after.now issue }
+    ensures { result ≡ head_start from.now n after.now issue load }
 {
-    let to = Moment::At(n, Stage::Start);
-    let by_loads = by_loads_to(graph, times, from, &to);
     later(
-        later(at_once(from, &to), issue),
-        later(after.start, by_loads),
+        later(at_once(from, &Moment::At(n, Stage::Start)), issue),
+        later(after.start, load),
     )
 }
 
@@ -213,35 +166,21 @@ fn head_free(graph: &Graph, from: &Moment, n: u8, time: &Times) -> Option<u64>
     )
 }
 
-/// All its moments, by the times of all that are marked.
-fn heads_after(
+/// All its moments, by those of what stands before it, and by loads that lead to its issue and to its start.
+pub(crate) fn heads_of(
     graph: &Graph,
-    near: Marks,
     from: &Moment,
-    times: &[Times; BLOCK_LIMIT],
     n: u8,
+    after: &Times,
+    load_issue: Option<u64>,
+    load_start: Option<u64>,
 ) -> Times
-    requires n { IsNumber graph.now.problem n }
-    requires near { (m : ℕ) → 1 ≤ m → m ≤ BLOCK_LIMIT → is_marked near m ≡ true → IsNumber graph.now.problem m }
-    ensures { result ≡ heads_of graph.now (is_marked near) from.now times.now n }
+    requires { IsNumber graph.now.problem n }
+    ensures { result ≡ heads_of graph.now.problem from.now n after.now load_issue load_start }
 {
-    // its clauses say that the block is short
-    let _count = graph.count();
-    let after = after_all(graph, near, times, n);
-    let issue = head_issue(graph, from, times, n, &after);
-    let start = head_start(graph, from, times, n, &after, issue);
-    let time = head_results(graph, from, n, &after, issue, start);
+    let issue = head_issue(from, n, after, load_issue);
+    let start = head_start(from, n, after, issue, load_start);
+    let time = head_results(graph, from, n, after, issue, start);
     let free = head_free(graph, from, n, &time);
     Times { free, ..time }
-}
-
-/// All its moments, by the times of what stands before it. It takes a step for each number that decides them, and a
-/// look at each load that leads to it and says something new.
-pub(crate) fn heads_of(graph: &Graph, from: &Moment, times: &[Times; BLOCK_LIMIT], n: u8) -> Times
-    requires n { IsNumber graph.now.problem n }
-    requires ordered { IsOrdered graph.now }
-    requires from { is_front from.now ≡ true }
-    ensures { IsHead graph.now from.now times.now n result }
-{
-    heads_after(graph, graph.near_before(n), from, times, n)
 }

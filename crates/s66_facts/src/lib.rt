@@ -5,6 +5,7 @@
 mod again;
 mod arcs;
 mod closure;
+mod direction;
 mod facts;
 mod graph;
 mod heads;
@@ -13,6 +14,7 @@ mod loads;
 mod marks;
 mod near;
 mod pairs;
+mod paths;
 mod tails;
 mod times;
 

@@ -12,7 +12,8 @@ ghost use Rattle.s66_moments.specs.Known.{is_front, is_back, is_number, use_of, 
 ghost use Rattle.s66_facts.specs.Marked.{before_in};
 ghost use Rattle.s66_facts.specs.Ground.{ground_arcs};
 ghost use Rattle.s66_facts.specs.Passes.{AreTimes};
-ghost use Rattle.s66_facts.specs.Rounds.{AreAllHeads, AreAllTails};
+ghost use Rattle.s66_facts.specs.declared.direction.Direction.TheVariants.{Forward, Backward};
+ghost use Rattle.s66_facts.specs.Settled.{AreAll};
 
 use crate::graph::Graph;
 use crate::times::{Times, times_at};
@@ -222,8 +223,8 @@ pub(crate) fn are_used(
     tails: &[Times; BLOCK_LIMIT],
 ) -> bool
     requires some { 0 < length line.now.numbers.items }
-    requires heads { AreAllHeads graph.now line.now.from heads.now }
-    requires tails { AreAllTails graph.now line.now.to tails.now }
+    requires heads { AreAll Forward graph.now line.now.from heads.now }
+    requires tails { AreAll Backward graph.now line.now.to tails.now }
     ensures { result ≡ are_used graph.now.problem (ground_arcs graph.now) line.now (kind_of_load graph.now.problem line.now.numbers.items) }
 {
     // its clauses say that the block is short

@@ -6,8 +6,9 @@ ghost use Rattle.s66_isa.specs.Table.{Write as WriteOf, same_reg, has_reg};
 ghost use Rattle.s66_moments.specs.Moments.{writes, fetches, only_if};
 ghost use Rattle.s66_moments.specs.Networks.{same_moment, same_stage};
 ghost use Rattle.s66_moments.specs.Known.{later, plus, reaches};
-ghost use Rattle.s66_facts.specs.Passes.{add, when, times_at, latest_done, latest_result, time_at_moment};
+ghost use Rattle.s66_facts.specs.Passes.{add, when, times_at, latest_done, latest_result, time_at_moment, time_along};
 
+use crate::direction::Direction;
 use s66_isa::{BLOCK_LIMIT, Reg, Row, Write, has_register, is_same_register};
 use s66_moments::{Moment, Stage};
 
@@ -119,7 +120,7 @@ fn same_stage(a: &Stage, b: &Stage) -> bool
 }
 
 /// At what a load may come after or before; the origin and the end are given.
-pub(crate) fn time_at_moment(
+fn time_at_moment(
     times: &[Times; BLOCK_LIMIT],
     origin: Option<u64>,
     end: Option<u64>,
@@ -133,6 +134,21 @@ pub(crate) fn time_at_moment(
         Moment::At(n, Stage::Start) => times_at(times, *n).start,
         Moment::At(_, Stage::Done(_)) | Moment::At(_, Stage::Free) => None,
         Moment::End => end,
+    }
+}
+
+/// The time of a moment where a load may begin; that of the moment at which all paths begin is given.
+pub(crate) fn time_along(
+    direction: Direction,
+    times: &[Times; BLOCK_LIMIT],
+    first: Option<u64>,
+    moment: &Moment,
+) -> Option<u64>
+    ensures { result ≡ time_along direction times.now first moment.now }
+{
+    match direction {
+        Direction::Forward => time_at_moment(times, first, None, moment),
+        Direction::Backward => time_at_moment(times, None, first, moment),
     }
 }
 

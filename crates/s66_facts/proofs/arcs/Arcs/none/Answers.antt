@@ -1,16 +1,17 @@
 use Rattle.std.proofs.Common.{ℕ, List, [], replicate, sym, subst}
 use Rattle.s66_isa.specs.declared.limits.TheConstants.{BLOCK_LIMIT}
 use Rattle.s66_moments.specs.declared.fact_line.KnownArc.{KnownArc}
-use Rattle.s66_facts.specs.Chained.{by_arc_to, by_arc_from, IsChained}
+use Rattle.s66_facts.specs.declared.direction.Direction.TheVariants.{Forward, Backward}
+use Rattle.s66_facts.specs.Chained.{IsChained}
 use Rattle.s66_facts.proofs.Chained.{chained-none}
 use Rattle.s66_facts.proofs.arcs.Arcs.none.Goals as goal
 
 pub invariant_of-result : goal.invariant_of-result
 invariant_of-result c = (
-  subst (λ (arcs : List KnownArc). IsChained BLOCK_LIMIT by_arc_to arcs c.none.result.last c.none.result.before.items) (sym c.new.ensures)
-      (subst (λ (last : List ℕ). IsChained BLOCK_LIMIT by_arc_to [] last c.none.result.before.items) (sym c.none.ensures.last)
-      (subst (λ (before : List ℕ). IsChained BLOCK_LIMIT by_arc_to [] (replicate BLOCK_LIMIT 0) before) (sym c.none.ensures.before) (chained-none BLOCK_LIMIT by_arc_to))),
-  subst (λ (arcs : List KnownArc). IsChained BLOCK_LIMIT by_arc_from arcs c.none-2.result.last c.none-2.result.before.items) (sym c.new.ensures)
-      (subst (λ (last : List ℕ). IsChained BLOCK_LIMIT by_arc_from [] last c.none-2.result.before.items) (sym c.none-2.ensures.last)
-      (subst (λ (before : List ℕ). IsChained BLOCK_LIMIT by_arc_from [] (replicate BLOCK_LIMIT 0) before) (sym c.none-2.ensures.before) (chained-none BLOCK_LIMIT by_arc_from))),
+  subst (λ (arcs : List KnownArc). IsChained BLOCK_LIMIT Forward arcs c.none.result.last c.none.result.before.items) (sym c.new.ensures)
+      (subst (λ (last : List ℕ). IsChained BLOCK_LIMIT Forward [] last c.none.result.before.items) (sym c.none.ensures.last)
+      (subst (λ (before : List ℕ). IsChained BLOCK_LIMIT Forward [] (replicate BLOCK_LIMIT 0) before) (sym c.none.ensures.before) (chained-none BLOCK_LIMIT Forward))),
+  subst (λ (arcs : List KnownArc). IsChained BLOCK_LIMIT Backward arcs c.none-2.result.last c.none-2.result.before.items) (sym c.new.ensures)
+      (subst (λ (last : List ℕ). IsChained BLOCK_LIMIT Backward [] last c.none-2.result.before.items) (sym c.none-2.ensures.last)
+      (subst (λ (before : List ℕ). IsChained BLOCK_LIMIT Backward [] (replicate BLOCK_LIMIT 0) before) (sym c.none-2.ensures.before) (chained-none BLOCK_LIMIT Backward))),
 )

@@ -1,8 +1,9 @@
 use Rattle.std.proofs.Common.{ℕ, List, sym, subst}
 use Rattle.s66_isa.specs.declared.limits.TheConstants.{BLOCK_LIMIT}
 use Rattle.s66_moments.specs.declared.fact_line.KnownArc.{KnownArc}
-use Rattle.s66_facts.specs.Chained.{number_of, by_arc_to, by_arc_from, IsPushed, IsChained}
-use Rattle.s66_facts.proofs.Chained.{to-push, from-push}
+use Rattle.s66_facts.specs.declared.direction.Direction.TheVariants.{Forward, Backward}
+use Rattle.s66_facts.specs.Chained.{number_of, IsPushed, IsChained}
+use Rattle.s66_facts.proofs.Chained.{chained-push}
 use Rattle.s66_facts.proofs.arcs.Arcs.push.Goals as goal
 
 pub invariant_of-self : goal.invariant_of-self
@@ -20,6 +21,6 @@ invariant_of-self c =
     let pushed_from : IsPushed BLOCK_LIMIT arcs other (number_of other.from) old_from.last old_from.before.items new_from.last new_from.before.items =
     subst (λ (ls : List KnownArc). IsPushed BLOCK_LIMIT ls other (number_of other.from) old_from.last old_from.before.items new_from.last new_from.before.items) c.as_slice-all.ensures.value
     (subst (λ (k : ℕ). IsPushed BLOCK_LIMIT c.as_slice-all.result.now other k old_from.last old_from.before.items new_from.last new_from.before.items) c.number_of-2.ensures c.push-2.ensures) in (
-      subst (λ (ls : List KnownArc). IsChained BLOCK_LIMIT by_arc_to ls new_to.last new_to.before.items) (sym c.push-3.ensures.items) (to-push BLOCK_LIMIT arcs old_to.last old_to.before.items new_to.last new_to.before.items other to pushed_to),
-      subst (λ (ls : List KnownArc). IsChained BLOCK_LIMIT by_arc_from ls new_from.last new_from.before.items) (sym c.push-3.ensures.items) (from-push BLOCK_LIMIT arcs old_from.last old_from.before.items new_from.last new_from.before.items other from pushed_from),
+      subst (λ (ls : List KnownArc). IsChained BLOCK_LIMIT Forward ls new_to.last new_to.before.items) (sym c.push-3.ensures.items) (chained-push BLOCK_LIMIT Forward arcs old_to.last old_to.before.items new_to.last new_to.before.items other to pushed_to),
+      subst (λ (ls : List KnownArc). IsChained BLOCK_LIMIT Backward ls new_from.last new_from.before.items) (sym c.push-3.ensures.items) (chained-push BLOCK_LIMIT Backward arcs old_from.last old_from.before.items new_from.last new_from.before.items other from pushed_from),
     )

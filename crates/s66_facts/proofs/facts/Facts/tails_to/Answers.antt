@@ -1,10 +1,11 @@
 use Rattle.std.proofs.Common.{◌≡◌, sym, subst, ◌∙◌}
 use Rattle.s66_moments.proofs.MoreArcs.{same_moment-true}
 use Rattle.s66_facts.specs.Ground.{Ground}
-use Rattle.s66_facts.specs.Rounds.{AreAllTails}
+use Rattle.s66_facts.specs.declared.direction.Direction.TheVariants.{Backward}
+use Rattle.s66_facts.specs.Settled.{AreAll}
 use Rattle.s66_facts.proofs.facts.Facts.tails_to.Goals as goal
 
 pub returns-then-same_moment : goal.returns-then-same_moment
 returns-then-same_moment c =
     let is : c.self.inside.to ≡ c.args.to.now = same_moment-true c.self.inside.to c.args.to.now (sym c.same_moment.ensures ∙ c.if-same_moment.true) in
-    subst (λ (k : Ground). AreAllTails k c.args.to.now c.self.inside.tails_to) c.self.view_is (subst (λ m. AreAllTails c.self.inside.graph m c.self.inside.tails_to) is c.self.invariant.5)
+    subst (λ (k : Ground). AreAll Backward k c.args.to.now c.self.inside.tails_to) c.self.view_is (subst (λ m. AreAll Backward c.self.inside.graph m c.self.inside.tails_to) is c.self.invariant.5)

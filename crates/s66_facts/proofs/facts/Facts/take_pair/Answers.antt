@@ -2,26 +2,27 @@ use Rattle.std.proofs.Common.{◌≡◌, true, refl, sym, subst, ◌∙◌}
 use Rattle.s66_moments.specs.declared.moment.Moment.TheVariants.{Origin, End}
 use Rattle.s66_moments.specs.declared.fact_line.FactLine.TheVariants.{Pair}
 use Rattle.s66_moments.specs.Known.{is_pair_taken, with_line}
+use Rattle.s66_facts.specs.declared.direction.Direction.TheVariants.{Forward, Backward}
 use Rattle.s66_facts.specs.Marked.{before_in}
 use Rattle.s66_moments.proofs.KnownLines.{pair-tests}
 use Rattle.s66_facts.specs.Ground.{Ground, known_of}
-use Rattle.s66_facts.proofs.Settled.{heads-with_pair, tails-with_pair}
+use Rattle.s66_facts.proofs.Settled.{settled-with_pair}
 use Rattle.s66_facts.proofs.PairTaken.{known-pair}
 use Rattle.s66_facts.proofs.facts.Facts.take_pair.Goals as goal
 
-pub heads_again-requires-clause-settled : goal.heads_again-requires-clause-settled
-heads_again-requires-clause-settled c =
+pub find_again-requires-clause-settled : goal.find_again-requires-clause-settled
+find_again-requires-clause-settled c =
     let g : Ground = c.self.inside.graph in
     let taken : is_pair_taken g.problem c.args.bound (known_of g) c.args.m c.args.n ≡ true = subst (λ (k : Ground). is_pair_taken k.problem c.args.bound (known_of k) c.args.m c.args.n ≡ true) (sym c.self.view_is) (sym c.is_forced.ensures ∙ c.if-not-is_forced.false) in
     let (differ, is_m, is_n, off, late) = pair-tests g.problem c.args.bound (known_of g) c.args.m c.args.n taken in
-    heads-with_pair g c.add_pair.new.self c.count-count.ensures.ordered c.count-count-2.ensures.ordered c.add_pair.ensures.problem c.self.inside.heads c.same_before-same_before.result c.args.m c.args.n is_m is_n c.add_pair.ensures.known Origin refl c.self.invariant.0 c.same_before-same_before.ensures
+    settled-with_pair Forward g c.add_pair.new.self c.count-count.ensures.ordered c.count-count-2.ensures.ordered c.add_pair.ensures.problem Origin refl c.self.inside.heads c.self.invariant.0 c.all_kept-same_before.result c.args.m c.args.n is_m is_n c.add_pair.ensures.known c.all_kept-same_before.ensures
 
-pub tails_again-requires-clause-settled : goal.tails_again-requires-clause-settled
-tails_again-requires-clause-settled c =
+pub find_again-requires-2-clause-settled : goal.find_again-requires-2-clause-settled
+find_again-requires-2-clause-settled c =
     let g : Ground = c.self.inside.graph in
     let taken : is_pair_taken g.problem c.args.bound (known_of g) c.args.m c.args.n ≡ true = subst (λ (k : Ground). is_pair_taken k.problem c.args.bound (known_of k) c.args.m c.args.n ≡ true) (sym c.self.view_is) (sym c.is_forced.ensures ∙ c.if-not-is_forced.false) in
     let (differ, is_m, is_n, off, late) = pair-tests g.problem c.args.bound (known_of g) c.args.m c.args.n taken in
-    tails-with_pair g c.add_pair.new.self c.count-count.ensures.ordered c.count-count-2.ensures.ordered c.add_pair.ensures.problem c.self.inside.tails c.same_after-same_after.result c.args.m c.args.n is_m is_n c.add_pair.ensures.known End refl c.self.invariant.1 c.same_after-same_after.ensures
+    settled-with_pair Backward g c.add_pair.new.self c.count-count.ensures.ordered c.count-count-2.ensures.ordered c.add_pair.ensures.problem End refl c.self.inside.tails c.self.invariant.1 c.all_kept-same_after.result c.args.m c.args.n is_m is_n c.add_pair.ensures.known c.all_kept-same_after.ensures
 
 pub returns-then-is_before-clause-known : goal.returns-then-is_before-clause-known
 returns-then-is_before-clause-known c =

@@ -14,10 +14,7 @@ near_each-near_before-requires-clause-apart c =
     let n = c.args.n in
     let g : Ground = record { problem = record { block = c.self.inside.block.items; profile = c.self.inside.profile }; marks = c.self.inside.before.items; loads = c.self.inside.loads } in
     let marks = c.with_pair-before.result.items in
-    let after = c.self.inside.after.items in
-    let after2 = c.with_pair-after.result.items in
     let slice = c.as_slice.ensures.value in
-    let slice2 = c.as_slice-2.ensures.value in
     let count : length marks ≡ length g.marks = c.with_pair-before.ensures.count ∙ ap (λ (ms : List Marks). length ms) slice in
     let pairs : before_in marks ≡ with_pair (before_in g.marks) m n = c.with_pair-before.ensures.pairs ∙ ap (λ (ms : List Marks). with_pair (before_in ms) m n) slice in
     let is_m : IsNumber g.problem m = subst (λ (k : Ground). IsNumber k.problem m) (sym c.self.view_is) c.requires.m in
@@ -33,10 +30,7 @@ near_each-near_before-requires-clause-more c = λ i j first.
     let n = c.args.n in
     let g : Ground = record { problem = record { block = c.self.inside.block.items; profile = c.self.inside.profile }; marks = c.self.inside.before.items; loads = c.self.inside.loads } in
     let marks = c.with_pair-before.result.items in
-    let after = c.self.inside.after.items in
-    let after2 = c.with_pair-after.result.items in
     let slice = c.as_slice.ensures.value in
-    let slice2 = c.as_slice-2.ensures.value in
     let count : length marks ≡ length g.marks = c.with_pair-before.ensures.count ∙ ap (λ (ms : List Marks). length ms) slice in
     let pairs : before_in marks ≡ with_pair (before_in g.marks) m n = c.with_pair-before.ensures.pairs ∙ ap (λ (ms : List Marks). with_pair (before_in ms) m n) slice in
     let is_m : IsNumber g.problem m = subst (λ (k : Ground). IsNumber k.problem m) (sym c.self.view_is) c.requires.m in

@@ -1,0 +1,8 @@
+use Rattle.std.proofs.Common.{ℕ, ◌≡◌, ◌≤◌, true}
+use Rattle.s66_facts.specs.Marked.{is_marked, before_in}
+use Rattle.s66_facts.specs.Directions.{sooner}
+use Rattle.s66_facts.specs.Settled.{keeps}
+use Rattle.s66_facts.proofs.again.all_kept.Given as goal
+
+abbrev pub invariant-loop-position : goal.invariant-loop-position
+invariant-loop-position l = (k : ℕ) → 1 ≤ k → is_marked l.same k ≡ true → keeps (sooner l.direction (before_in l.graph.marks)) l.m l.n k ≡ true

@@ -1,0 +1,9 @@
+use Rattle.std.proofs.Common.{sym, subst}
+use Rattle.s66_facts.specs.Marked.{before_in}
+use Rattle.s66_facts.specs.Directions.{sooner}
+use Rattle.s66_facts.specs.Near.{IsNear}
+use Rattle.s66_facts.proofs.graph.Graph.near.Goals as goal
+
+pub returns-in-Backward : goal.returns-in-Backward
+returns-in-Backward c =
+    subst (λ d. IsNear c.args.self.now.problem (sooner d (before_in c.args.self.now.marks)) c.near_after.result c.args.n) (sym c.in-Backward.is) c.near_after.ensures
