@@ -5,22 +5,25 @@ use Rattle.s66_isa.specs.Lists.{Among}
 use Rattle.s66_model.specs.declared.rule.Rule.{Rule}
 use Rattle.s66_model.specs.Timing.{Problem}
 use Rattle.s66_model.specs.LegalOrder.{IsBeginning}
-use Rattle.s66_model.specs.Ledger.{Node, Open, Out, Cut, Closed, State, is_open_state, is_live_state, best_time}
+use Rattle.s66_model.specs.Answer.{Answer, IsAnswer}
+use Rattle.s66_model.specs.Ledger.{Ledger, Node, Open, Out, Cut, Closed, State, is_open_state, is_live_state, best_time}
 use Rattle.s66_model.specs.Coverage.{Covers, NodesHold, IsFinished, bound_of}
 use Rattle.s66_model.specs.Reached.{IsReached}
 use Rattle.s66_model.specs.Ended.{IsEnded, ended_answer}
 use Rattle.s66_dep.proofs.LongestBeginning.{beginning-few}
 use Rattle.s66_model.proofs.Histories.{run-join, reached-covers, reached-table}
 use Rattle.s66_model.proofs.EndedLedgers.{ended-finishes}
+use Rattle.s66_ledger.specs.Ledgers.{LedgerOf}
 use Rattle.s66_ledger.specs.LedgerMachine.{MachineOf, Stored, IsKeptMachine, ledger_of, machine_of}
 use Rattle.s66_ledger.specs.Answers.{IsKeptAnswer, ended_of}
-use Rattle.s66_ledger.specs.Finishing.{Leads, IsSearched}
+use Rattle.s66_ledger.specs.Finishing.{Leads, IsSearched, IsOffering}
 use Rattle.s66_ledger.proofs.Events.{kept-covers, kept-room}
 use Rattle.s66_ledger.proofs.SeenNodes.{length-nodes}
+use Rattle.s66_ledger.proofs.Leading.{leads-fall}
 
 -- WHAT LEADS
 
-pub leads-reached : (old new : MachineOf) → IsReached old.rule old.problem old.budget old.workers old.state → Leads old new → IsReached new.rule new.problem new.budget new.workers new.state
+pub leads-reached : (old new : LedgerOf) → IsReached old.rule old.problem old.budget old.workers old.state → Leads old new → IsReached new.rule new.problem new.budget new.workers new.state
 leads-reached old new (h, r) (problem, budget, workers, (k, s), by) =
     subst (λ q. IsReached q new.problem new.budget new.workers new.state) (sym by)
     (subst (λ b. IsReached old.rule b new.budget new.workers new.state) (sym problem)
@@ -41,7 +44,7 @@ live-open Cut live not = live
 live-open (Closed leaf) live not = live
 
 -- if nothing more is to be expanded, and no whole order that is open is below the best time, the steps have ended
-pub has-ended : (l : MachineOf) → Covers l.rule l.problem l.budget l.state → IsSearched l.problem l.budget l.state → IsEnded l.problem l.budget l.state
+pub has-ended : (l : LedgerOf) → Covers l.rule l.problem l.budget l.state → IsSearched l.problem l.budget l.state → IsEnded l.problem l.budget l.state
 has-ended l covers searched node among live =
     let b = l.problem in
     let begins = begin-among l.rule b (best_time b l.state) l.state.nodes l.state.nodes node covers.nodes among in
@@ -54,7 +57,7 @@ has-ended l covers searched node among live =
           ]
     ]
 
-pub finishes : (old new : MachineOf) → IsReached old.rule old.problem old.budget old.workers old.state → Leads old new → IsEnded new.problem new.budget new.state → IsFinished old.rule old.problem old.budget old.state (ended_answer new.problem new.state)
+pub finishes : (old new : LedgerOf) → IsReached old.rule old.problem old.budget old.workers old.state → Leads old new → IsEnded new.problem new.budget new.state → IsFinished old.rule old.problem old.budget old.state (ended_answer new.problem new.state)
 finishes old new reached (problem, budget, workers, (h, r), by) ended =
     subst (λ (p : Problem). IsFinished old.rule old.problem old.budget old.state (ended_answer p new.state)) (sym problem)
     (ended-finishes old.rule old.problem old.budget old.workers old.state new.state h reached r
@@ -82,10 +85,22 @@ module _ (m : Stored) (kept : IsKeptMachine m) (l : MachineOf) (view : machine_o
         room = omega (arith, length-nodes b m.nodes, kept.room, kept.few, kept-room m kept 0);
       })
 
-  pub kept-reached : IsReached l.rule l.problem l.budget l.workers l.state
-  kept-reached = subst (λ (l : MachineOf). IsReached l.rule l.problem l.budget l.workers l.state) view kept.reached
-
 -- if the events went on from a ledger that was reached
-pub reached-end : (first last : MachineOf) → IsReached first.rule first.problem first.budget first.workers first.state → Leads first last → IsSearched last.problem last.budget last.state → IsEnded last.problem last.budget last.state
+pub reached-end : (first last : LedgerOf) → IsReached first.rule first.problem first.budget first.workers first.state → Leads first last → IsSearched last.problem last.budget last.state → IsEnded last.problem last.budget last.state
 reached-end first last reached leads searched =
     has-ended last (reached-covers last.rule last.problem last.budget last.workers last.state (leads-reached first last reached leads)) searched
+
+-- and if an offer came before
+pub finished-offered : (old new : LedgerOf) (a : Answer) → IsOffering old new → IsFinished new.rule new.problem new.budget new.state a → IsFinished old.rule old.problem old.budget old.state a
+finished-offered old new a offers done =
+    let (problem, budget, workers, run, by) = offers.leads in
+    let falls = leads-fall old new offers.leads in
+    let here : IsAnswer old.rule old.problem old.budget a =
+    subst (λ r. IsAnswer r old.problem old.budget a) by
+    (subst (λ (b : Problem). IsAnswer new.rule b old.budget a) problem
+    (subst (λ n. IsAnswer new.rule new.problem n a) budget done.answer)) in
+    record {
+      answer = here;
+      time = omega (arith, done.time, falls, ap (λ (b : Problem). best_time b old.state) problem);
+      kept = λ node among cut. done.kept node (subst (Among node) (sym (ap (λ (l : Ledger). l.nodes) offers.same)) among) cut;
+    }

@@ -1,26 +1,32 @@
 -- Events lead from one ledger to another, and on; what holds at each place of a list.
-use Rattle.std.proofs.Common.{ℕ, zero, suc, ◌≤◌, ◌<◌, List, [], ◌∷◌, ◌++◌, length, get_or, set, refl, sym, arith, inl, inr, subst, ◌∙◌}
+use Rattle.std.proofs.Common.{ℕ, zero, suc, ◌≡◌, ◌≤◌, ◌<◌, List, [], ◌∷◌, ◌++◌, length, get_or, set, refl, sym, ap, arith, inl, inr, subst, ◌∙◌}
 use Rattle.s66_isa.specs.Lists.{Among}
 use Rattle.s66_model.specs.Timing.{Problem}
 use Rattle.s66_model.specs.Ledger.{best_time, Event, Reply, Run}
 use Rattle.s66_model.proofs.Histories.{run-join}
 use Rattle.s66_model.proofs.LedgerRuns.{run-falls}
 use Rattle.s66_ledger.specs.Finishing.{Leads}
-use Rattle.s66_ledger.specs.LedgerMachine.{MachineOf, IsMove}
+use Rattle.s66_ledger.specs.Ledgers.{LedgerOf, IsEvent}
 
-pub leads-nowhere : (l : MachineOf) → Leads l l
+pub leads-nowhere : (l : LedgerOf) → Leads l l
 leads-nowhere l = (refl, refl, refl, ([], refl), refl)
 
-pub event-leads : (old new : MachineOf) (event : Event) (reply : Reply) → IsMove old event reply new → Leads old new
-event-leads old new event reply h = (h.0, h.1, h.2, ((event, reply) ∷ [], (new.state, h.3, refl)), h.4)
+pub leads-still : (old new : LedgerOf) → new ≡ old → Leads old new
+leads-still old new same = subst (Leads old) (sym same) (leads-nowhere old)
 
-pub leads-on : (old mid new : MachineOf) → Leads old mid → Leads mid new → Leads old new
+pub event-leads : (old new : LedgerOf) (event : Event) (reply : Reply) → IsEvent old event reply new → Leads old new
+event-leads old new event reply h = (h.0, h.1, h.2, ((event, reply) ∷ [], (new.state, h.3, refl)), h.5)
+
+pub leads-on : (old mid new : LedgerOf) → Leads old mid → Leads mid new → Leads old new
 leads-on old mid new (p, q, r, (h, go), by) (p2, q2, r2, (k, on), by2) =
     let on_old : Run old.rule old.problem mid.state k new.state = subst (λ (b : Problem). Run old.rule b mid.state k new.state) p (subst (λ x. Run x mid.problem mid.state k new.state) by on) in
     (p2 ∙ p, q2 ∙ q, r2 ∙ r, (h ++ k, run-join old.rule old.problem h k old.state mid.state new.state go on_old), by2 ∙ by)
 
-pub leads-fall : (old new : MachineOf) → Leads old new → best_time new.problem new.state ≤ best_time new.problem old.state
+pub leads-fall : (old new : LedgerOf) → Leads old new → best_time new.problem new.state ≤ best_time new.problem old.state
 leads-fall old new (p, q, r, (h, go), by) = run-falls old.rule new.problem h old.state new.state (subst (λ (b : Problem). Run old.rule b old.state h new.state) (sym p) go)
+
+pub leads-best : (old new : LedgerOf) → Leads old new → best_time new.problem new.state ≤ best_time old.problem old.state
+leads-best old new leads = omega (arith, leads-fall old new leads, ap (λ (b : Problem). best_time b old.state) leads.0)
 
 -- LISTS
 

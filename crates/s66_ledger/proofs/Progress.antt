@@ -16,14 +16,13 @@ use Rattle.s66_time.specs.TimedOrder.{TimedOrder}
 use Rattle.s66_node.specs.Pieces.{PieceOf, tree_of, IsBestTimed}
 use Rattle.s66_model.specs.Tickets.{TicketOf}
 use Rattle.s66_ledger.specs.ClaimedNodes.{IsLeastOpen}
-use Rattle.s66_ledger.specs.LedgerMachine.{MachineOf, IsMove}
+use Rattle.s66_ledger.specs.Ledgers.{LedgerOf, IsEvent}
 use Rattle.s66_model.proofs.LedgerSteps.{root-stands}
 use Rattle.s66_ledger.proofs.Taken.{same-splits}
-use Rattle.s66_ledger.specs.GraftMoves.{IsTakenMove}
 use Rattle.s66_ledger.specs.PieceSplits.{piece_splits}
-use Rattle.s66_ledger.specs.Finishing.{IsSearched, IsBetweenRounds, IsOffering, still_to_go}
+use Rattle.s66_ledger.specs.Finishing.{IsSearched, IsBetweenRounds, IsOffering, IsTaken, still_to_go}
 use Rattle.s66_ledger.proofs.Events.{at-most-all}
-use Rattle.s66_ledger.proofs.Rounds.{leads-graft, claim-within, claim-back, graft-step}
+use Rattle.s66_ledger.proofs.Rounds.{taken-leads, claim-within, claim-back, graft-step}
 
 -- A PIECE MAY HAVE no more splits than the worker may spend, and one if that is one or more
 
@@ -65,23 +64,23 @@ expansion-gains rule b best allowance prefix (Alone (Carries leaf)) timed h some
 -- A ROUND HAS LESS TO GO
 
 -- the offer first, and then the graft
-pub taken-less : (old mid new : MachineOf) (ticket : TicketOf) (piece : PieceOf) →
+pub taken-less : (old mid new : LedgerOf) (ticket : TicketOf) (piece : PieceOf) →
     Covers old.rule old.problem old.budget old.state →
     IsOffering old mid →
     ((t : TimedOrder) → piece.timed ≡ Some t → best_time mid.problem mid.state ≤ total_of mid.problem t.numbers) →
-    IsTakenMove mid 1 ticket.node piece new →
+    IsTaken mid ticket.node piece new →
     Gains old.problem (best_time old.problem old.state) (tree_of piece) piece.timed →
     still_to_go new < still_to_go old
 taken-less old mid new ticket piece covers offers at_most grafts gains =
     let (problem, budget, workers, (history, run), by) = offers.leads in
-    let (problem2, budget2, workers2, run2, by2) = leads-graft mid new ticket piece grafts in
+    let (problem2, budget2, workers2, run2, by2) = taken-leads mid new ticket.node piece grafts in
     let (some, fits, holds, is) = graft-step mid new ticket piece grafts in
     let falls : best_time old.problem mid.state ≤ best_time old.problem old.state = run-falls old.rule old.problem history old.state mid.state run in
     let best : best_time new.problem new.state ≡ best_time old.problem mid.state = ap (λ p. best_time p new.state) (problem2 ∙ problem) ∙ ap (best_time old.problem) is in
     let spent : new.state.spent ≡ old.state.spent + splits grafts.part = omega (arith, ap (λ (l : Ledger). l.spent) is, ap (λ (l : Ledger). l.spent) offers.same) in
     let room : old.state.spent + splits grafts.part ≤ old.budget = omega (arith, covers.sum, fits, at-most-all old.state.allowances 0, ap (λ (l : Ledger). allowance l 1) offers.same) in
     elim gains [
-      | inl split ↦ omega (arith, split, same-splits (tree_of piece) grafts.part grafts.taken.opens, falls, best, spent, room, budget, budget2)
+      | inl split ↦ omega (arith, split, same-splits (tree_of piece) grafts.part grafts.opens, falls, best, spent, room, budget, budget2)
       | inr lower ↦
           omega (
             arith,
@@ -112,7 +111,7 @@ open-counted (x ∷ nodes) node (inl e) opens =
     omega (arith, ap (λ t. cond {A = ℕ} t 1 0) (sym (ap is_open e) ∙ opens))
 open-counted (x ∷ nodes) node (inr later) opens = omega (arith, open-counted nodes node later opens)
 
-pub none-searched : (old new : MachineOf) → IsBetweenRounds old.problem old.state → IsMove old (Claim 1) (Claimed None) new → IsSearched new.problem new.budget new.state
+pub none-searched : (old new : LedgerOf) → IsBetweenRounds old.problem old.state → IsEvent old (Claim 1) (Claimed None) new → IsSearched new.problem new.budget new.state
 none-searched old new between h =
     subst (λ (b : Problem). IsSearched b new.budget new.state) (sym h.0)
     (subst (IsSearched old.problem new.budget) (sym h.3.1.1)
@@ -134,11 +133,11 @@ least-searched b budget l ticket between least reached =
     }
 
 -- if a node that was claimed for its least floor is given back, and that isn't below the best time
-pub back-searched : (old mid new : MachineOf) (ticket : TicketOf) (best floor : ℕ) →
-    IsBetweenRounds old.problem old.state → IsMove old (Claim 1) (Claimed (Some ticket.node)) mid → ticket.prefix ≡ (node_at old.state.nodes ticket.node).prefix →
+pub back-searched : (old mid new : LedgerOf) (ticket : TicketOf) (best floor : ℕ) →
+    IsBetweenRounds old.problem old.state → IsEvent old (Claim 1) (Claimed (Some ticket.node)) mid → ticket.prefix ≡ (node_at old.state.nodes ticket.node).prefix →
     IsLeastOpen old.problem old.state (Some ticket) →
     best ≡ best_time mid.problem mid.state → floor ≡ floor_value mid.problem (node_at mid.state.nodes ticket.node).prefix → best ≤ floor →
-    IsMove mid (Back 1 ticket.node) Returned new → IsSearched new.problem new.budget new.state
+    IsEvent mid (Back 1 ticket.node) Returned new → IsSearched new.problem new.budget new.state
 back-searched old mid new ticket best floor between claimed prefix least best_is floor_is le back =
     let within = claim-within old mid ticket claimed prefix between in
     let same : new.state ≡ old.state = claim-back old mid ticket claimed prefix new back in

@@ -16,15 +16,15 @@ use Rattle.s66_model.specs.Tree.{Tree, Alone, Parted, Siblings, NoMore, Unsplit,
 use Rattle.s66_model.specs.Piece.{Terminal, Carries, Frontier, Passed, IsPiece}
 use Rattle.s66_model.specs.Expansion.{whole_orders}
 use Rattle.s66_model.specs.DominatedLeaves.{Bounding}
-use Rattle.s66_model.specs.Ledger.{Ledger, Node, State, Open, Out, Cut, Closed, Grant, Claim, Back, Granted, Claimed, Taken, Returned, no_node, node_at, with_state, is_out_state, is_out, is_live_state, best_time, allowance, share_of, state_of, root_state, sibling_nodes, new_nodes, after_offer, after_graft, Offer, Moves, Event}
+use Rattle.s66_model.specs.Ledger.{Ledger, Node, State, Open, Out, Cut, Closed, Grant, Claim, Back, Granted, Claimed, Taken, Returned, OverAllowance, no_node, node_at, with_state, is_out_state, is_out, is_live_state, best_time, allowance, share_of, state_of, root_state, sibling_nodes, new_nodes, after_offer, after_graft, Offer, Graft, Moves, Event}
 use Rattle.s66_model.specs.Coverage.{Covers}
 use Rattle.s66_node.specs.Pieces.{PieceOf, tree_of}
 use Rattle.s66_model.specs.Tickets.{TicketOf}
-use Rattle.s66_ledger.specs.LedgerMachine.{MachineOf, IsMove}
-use Rattle.s66_ledger.specs.GraftMoves.{taken_event, IsTakenMove}
-use Rattle.s66_ledger.proofs.Taken.{same-wholes}
-use Rattle.s66_ledger.specs.Finishing.{Leads, NoneOut, IsIdle, IsBetweenRounds, IsWithinRound, IsOffering, still_to_go}
-use Rattle.s66_ledger.proofs.Leading.{event-leads, leads-on, leads-fall}
+use Rattle.s66_ledger.specs.Ledgers.{LedgerOf, IsEvent}
+use Rattle.s66_ledger.specs.Grafts.{IsGraftAt}
+use Rattle.s66_ledger.proofs.Taken.{same-splits, same-wholes}
+use Rattle.s66_ledger.specs.Finishing.{Leads, NoneOut, IsIdle, IsBetweenRounds, IsWithinRound, IsOffering, IsTaken, still_to_go}
+use Rattle.s66_ledger.proofs.Leading.{leads-nowhere, event-leads, leads-on, leads-fall}
 use Rattle.s66_ledger.proofs.TimedWholes.{wholes-offered, wholes-moved, wholes-grafted}
 
 -- NODES THAT ARE OUT, counted
@@ -87,7 +87,7 @@ sum-set xs v some = weigh-set (λ n. n) xs 0 v 0 (omega (arith, some))
 alone-set : (xs : List ℕ) (v : ℕ) → 1 ≤ length xs → weigh (λ n. n) xs ≡ get_or xs 0 0 → weigh (λ n. n) (set xs 0 v) ≡ get_or (set xs 0 v) 0 0
 alone-set xs v some alone = omega (arith, sum-set xs v some, alone, get_or-set_same xs 0 v 0 (omega (arith, some)))
 
-module _ (old new : MachineOf) (n : ℕ) (h : IsMove old (Grant 1) (Granted n) new) where
+module _ (old new : LedgerOf) (n : ℕ) (h : IsEvent old (Grant 1) (Granted n) new) where
   pub grant-between : IsBetweenRounds old.problem old.state → IsBetweenRounds new.problem new.state
   grant-between between =
       subst (λ (b : Problem). IsBetweenRounds b new.state) (sym h.0)
@@ -105,7 +105,7 @@ module _ (old new : MachineOf) (n : ℕ) (h : IsMove old (Grant 1) (Granted n) n
 
 -- A CLAIM
 
-module _ (old new : MachineOf) (ticket : TicketOf) (h : IsMove old (Claim 1) (Claimed (Some ticket.node)) new) (prefix : ticket.prefix ≡ (node_at old.state.nodes ticket.node).prefix) where
+module _ (old new : LedgerOf) (ticket : TicketOf) (h : IsEvent old (Claim 1) (Claimed (Some ticket.node)) new) (prefix : ticket.prefix ≡ (node_at old.state.nodes ticket.node).prefix) where
   abbrev i : ℕ
   i = ticket.node
 
@@ -137,7 +137,7 @@ module _ (old new : MachineOf) (ticket : TicketOf) (h : IsMove old (Claim 1) (Cl
       }))
 
   -- a node that is given back is as it was
-  pub claim-back : (end : MachineOf) → IsMove new (Back 1 i) Returned end → end.state ≡ old.state
+  pub claim-back : (end : LedgerOf) → IsEvent new (Back 1 i) Returned end → end.state ≡ old.state
   claim-back end k =
       k.3.1.1 ∙ (ap (λ (l : Ledger). record l { nodes = with_state l.nodes i Open }) h.3.1.2 ∙ ap (λ (ns : List Node). record old.state { nodes = ns }) restored)
     where
@@ -151,7 +151,7 @@ module _ (old new : MachineOf) (ticket : TicketOf) (h : IsMove old (Claim 1) (Cl
 
 -- AN OFFER changes the best order alone
 
-module _ (old new : MachineOf) (offers : IsOffering old new) where
+module _ (old new : LedgerOf) (offers : IsOffering old new) where
   same-nodes : new.state.nodes ≡ old.state.nodes
   same-nodes = ap (λ (l : Ledger). l.nodes) offers.same
 
@@ -186,14 +186,18 @@ offer-moved rule b old new w own order time offered.Lower h = h.2 ∙ ap (after_
 offer-moved rule b old new w own order time (offered.NotLower least) h = h.3 ∙ ap (after_offer old) (sym (ap (λ (l : Ledger). l.best) h.3))
 offer-moved rule b old new w own order time offered.OtherBlock h = h.1 ∙ ap (after_offer old) (sym (ap (λ (l : Ledger). l.best) h.1))
 
-pub offer-offers : (old new : MachineOf) (w : ℕ) (timed : TimedOrder) (answer : Offered) → ((event : Event) × IsOfferOf old.problem w timed.problem timed.numbers event × IsMove old event (offered_reply answer) new) → IsOffering old new
+pub offer-offers : (old new : LedgerOf) (w : ℕ) (timed : TimedOrder) (answer : Offered) → ((event : Event) × IsOfferOf old.problem w timed.problem timed.numbers event × IsEvent old event (offered_reply answer) new) → IsOffering old new
 offer-offers old new w timed answer (event, (own, iff, stated), h) =
     record {
       leads = event-leads old new event (offered_reply answer) h;
       same = offer-moved old.rule old.problem old.state new.state w own timed.numbers (total_of timed.problem timed.numbers) answer (subst (λ (e : Event). Moves old.rule old.problem old.state e (offered_reply answer) new.state) stated h.3.1);
     }
 
-pub offer-on : (old mid new : MachineOf) → IsOffering old mid → IsOffering mid new → IsOffering old new
+pub nothing-offered : (old new : LedgerOf) → new ≡ old → IsOffering old new
+nothing-offered old new same =
+    subst (IsOffering old) (sym same) (record { leads = leads-nowhere old; same = refl })
+
+pub offer-on : (old mid new : LedgerOf) → IsOffering old mid → IsOffering mid new → IsOffering old new
 offer-on old mid new first second =
     record {
       leads = leads-on old mid new first.leads second.leads;
@@ -201,7 +205,7 @@ offer-on old mid new first second =
     }
 
 -- less is left to do, or as much
-pub offer-to-go : (old new : MachineOf) → IsOffering old new → still_to_go new ≤ still_to_go old
+pub offer-to-go : (old new : LedgerOf) → IsOffering old new → still_to_go new ≤ still_to_go old
 offer-to-go old new offers =
     let (problem, budget, workers, run, by) = offers.leads in
     let falls = leads-fall old new offers.leads in
@@ -210,20 +214,30 @@ offer-to-go old new offers =
 
 -- A GRAFT
 
-pub graft-step : (old new : MachineOf) (ticket : TicketOf) (piece : PieceOf) → (h : IsTakenMove old 1 ticket.node piece new) → (1 ≤ length old.state.allowances) × (splits h.part ≤ allowance old.state 1) × IsPiece old.rule old.problem piece.prefix h.part × (new.state ≡ after_graft old.problem old.state 1 ticket.node piece.prefix h.part)
-graft-step old new ticket piece h = (h.move.3.0.1, h.move.3.1.2, h.move.3.1.4, h.move.3.1.5)
+pub graft-taken : (old new : LedgerOf) (i : ℕ) (piece : PieceOf) → IsGraftAt old 1 i piece Taken new → IsTaken old i piece new
+graft-taken old new i piece (event, (own, part, owns, opens, is), h) =
+    record { own = own; part = part; opens = opens; event = subst (λ (e : Event). IsEvent old e Taken new) is h }
 
-pub leads-graft : (old new : MachineOf) (ticket : TicketOf) (piece : PieceOf) → IsTakenMove old 1 ticket.node piece new → Leads old new
-leads-graft old new ticket piece h = event-leads old new (taken_event 1 ticket.node piece h.part) Taken h.move
+pub taken-leads : (old new : LedgerOf) (i : ℕ) (piece : PieceOf) → IsTaken old i piece new → Leads old new
+taken-leads old new i piece h = event-leads old new (Graft 1 i h.own piece.prefix (splits h.part) (Some h.part)) Taken h.event
+
+-- a piece within the allowance isn't refused for its splits
+pub never-too_large : (old new : LedgerOf) (i : ℕ) (piece : PieceOf) → splits (tree_of piece) ≤ allowance old.state 1 → ¬ IsGraftAt old 1 i piece OverAllowance new
+never-too_large old new i piece within (event, (own, part, owns, opens, is), h) =
+    let moves = subst (λ (e : Event). Moves old.rule old.problem old.state e OverAllowance new.state) is h.3.1 in
+    absurd (omega (arith, moves.2, same-splits (tree_of piece) part opens, within))
+
+pub graft-step : (old new : LedgerOf) (ticket : TicketOf) (piece : PieceOf) → (h : IsTaken old ticket.node piece new) → (1 ≤ length old.state.allowances) × (splits h.part ≤ allowance old.state 1) × IsPiece old.rule old.problem piece.prefix h.part × (new.state ≡ after_graft old.problem old.state 1 ticket.node piece.prefix h.part)
+graft-step old new ticket piece h = (h.event.3.0.1, h.event.3.1.2, h.event.3.1.4, h.event.3.1.5)
 
 -- of a piece whose whole orders aren't below the best time
-pub graft-between : (old new : MachineOf) (ticket : TicketOf) (piece : PieceOf) → IsWithinRound old.problem old.state ticket → ((order : List ℕ) → Among order (whole_orders piece.prefix (tree_of piece)) → best_time old.problem old.state ≤ total_of old.problem order) → IsTakenMove old 1 ticket.node piece new → IsBetweenRounds new.problem new.state
+pub graft-between : (old new : LedgerOf) (ticket : TicketOf) (piece : PieceOf) → IsWithinRound old.problem old.state ticket → ((order : List ℕ) → Among order (whole_orders piece.prefix (tree_of piece)) → best_time old.problem old.state ≤ total_of old.problem order) → IsTaken old ticket.node piece new → IsBetweenRounds new.problem new.state
 graft-between old new ticket piece within each h =
     let b = old.problem in
     let l = old.state in
     let i = ticket.node in
     let tree = h.part in
-    let same : whole_orders piece.prefix (tree_of piece) ≡ whole_orders piece.prefix tree = same-wholes piece.prefix (tree_of piece) tree h.taken.opens in
+    let same : whole_orders piece.prefix (tree_of piece) ≡ whole_orders piece.prefix tree = same-wholes piece.prefix (tree_of piece) tree h.opens in
     let best = best_time b l in
     let taken = graft-step old new ticket piece h in
     let root : Node = record { prefix = (node_at l.nodes i).prefix; state = root_state b best piece.prefix tree } in
@@ -238,7 +252,7 @@ graft-between old new ticket piece within each h =
       ap (λ s. cond {A = ℕ} (is_out_state s) 1 0) within.out.1,
       ap (λ t. cond {A = ℕ} t 1 0) (root-not-out b best piece.prefix tree),
     ) in
-    subst (λ (p : Problem). IsBetweenRounds p new.state) (sym (leads-graft old new ticket piece h).0)
+    subst (λ (p : Problem). IsBetweenRounds p new.state) (sym (taken-leads old new ticket.node piece h).0)
     (subst (IsBetweenRounds b) (sym taken.3)
     (record {
       none_out = none-among (with_state l.nodes i (root_state b best piece.prefix tree) ++ made) none;

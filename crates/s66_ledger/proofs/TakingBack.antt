@@ -5,7 +5,8 @@ use Rattle.std.proofs.lemmas.List.{length-set, get_or-set_other, get_or-set_same
 use Rattle.s66_isa.specs.Lists.{weigh}
 use Rattle.s66_model.specs.Ledger.{Ledger, Node, State, Open, Out, no_node, node_at, with_state, Back, Retire, Returned, Retired, IsOut}
 use Rattle.s66_ledger.specs.Finishing.{NoneOut, NoneOutBelow, IsIdle, IsReopening}
-use Rattle.s66_ledger.specs.LedgerMachine.{MachineOf, IsMove, ledger_from}
+use Rattle.s66_ledger.specs.LedgerMachine.{ledger_from}
+use Rattle.s66_ledger.specs.Ledgers.{LedgerOf, IsEvent}
 use Rattle.s66_ledger.specs.Nodes.{nodes_of}
 use Rattle.s66_ledger.specs.OpenNodes as OpenNodes
 use Rattle.s66_node.specs.declared.node.Node as kept
@@ -19,14 +20,14 @@ retired-one (x ∷ xs) zero none = refl
 retired-one (x ∷ xs) (suc i) none = omega (arith, none, retired-one xs i (omega (arith, none)))
 
 -- the workers before this one have none, and now this one has none
-pub retired-next : (old new : MachineOf) (at : ℕ) → IsMove old (Retire (at + 1)) Retired new → weigh (λ n. n) (take at old.state.allowances) ≡ 0 → weigh (λ n. n) (take (at + 1) new.state.allowances) ≡ 0
+pub retired-next : (old new : LedgerOf) (at : ℕ) → IsEvent old (Retire (at + 1)) Retired new → weigh (λ n. n) (take at old.state.allowances) ≡ 0 → weigh (λ n. n) (take (at + 1) new.state.allowances) ≡ 0
 retired-next old new at h none =
     let next : at + 1 ≡ suc at = omega arith in
     let same : at + 1 - 1 ≡ at = omega arith in
     let is : new.state.allowances ≡ set old.state.allowances at 0 = ap (λ (l : Ledger). l.allowances) h.3.1 ∙ ap (λ i. set old.state.allowances i 0) same in
     ap (λ xs. weigh (λ n. n) (take (at + 1) xs)) is ∙ (ap (λ k. weigh (λ n. n) (take k (set old.state.allowances at 0))) next ∙ retired-one old.state.allowances at none)
 
-pub retired-count : (old new : MachineOf) (at : ℕ) → IsMove old (Retire (at + 1)) Retired new → length new.state.allowances ≡ length old.state.allowances
+pub retired-count : (old new : LedgerOf) (at : ℕ) → IsEvent old (Retire (at + 1)) Retired new → length new.state.allowances ≡ length old.state.allowances
 retired-count old new at h = ap (λ (l : Ledger). length l.allowances) h.3.1 ∙ length-set old.state.allowances (at + 1 - 1) 0
 
 pub retired-all : (xs : List ℕ) (count : ℕ) → length xs ≤ count → weigh (λ n. n) (take count xs) ≡ 0 → weigh (λ n. n) xs ≡ 0
@@ -46,7 +47,7 @@ one-more l i below here j lt =
       | inr not ↦ below j (omega (arith, lt, not))
     ]
 
-pub stayed-in : (l : MachineOf) (i : ℕ) → ¬ IsOut l.state i → IsReopening l i l
+pub stayed-in : (l : LedgerOf) (i : ℕ) → ¬ IsOut l.state i → IsReopening l i l
 stayed-in l i never =
     record {
       leads = leads-nowhere l;
@@ -66,7 +67,7 @@ others-in nodes i s below j lt out =
     let y : Node = record { prefix = (node_at nodes i).prefix; state = s } in
     below j lt (sym (ap (λ (n : Node). n.state) (get_or-set_other nodes i j y no_node (λ e. absurd (omega (arith, e, lt))))) ∙ out)
 
-pub reopened : (old new : MachineOf) (w i : ℕ) → IsMove old (Back w i) Returned new → IsReopening old i new
+pub reopened : (old new : LedgerOf) (w i : ℕ) → IsEvent old (Back w i) Returned new → IsReopening old i new
 reopened old new w i h =
     let is : new.state.nodes ≡ with_state old.state.nodes i Open = ap (λ (l : Ledger). l.nodes) h.3.1.1 in
     record {

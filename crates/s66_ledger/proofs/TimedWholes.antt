@@ -15,7 +15,7 @@ use Rattle.s66_model.proofs.Floors.{floor-whole}
 use Rattle.s66_time.specs.TimedOrder.{TimedOrder}
 use Rattle.s66_node.specs.Pieces.{IsBestTimed}
 use Rattle.s66_node.proofs.Leasts.{among-either}
-use Rattle.s66_ledger.specs.LedgerMachine.{MachineOf}
+use Rattle.s66_ledger.specs.Ledgers.{LedgerOf}
 use Rattle.s66_ledger.proofs.Taken.{dominated-part}
 use Rattle.s66_ledger.specs.Finishing.{WholesAreTimed, IsOffering}
 use Rattle.s66_ledger.proofs.Leading.{each-set, leads-fall}
@@ -26,7 +26,7 @@ IsTimedNode b time node = is_live node ≡ true → IsComplete b.block node.pref
 
 -- AN OFFER lowers the best time alone
 
-pub wholes-offered : (old new : MachineOf) → IsOffering old new → WholesAreTimed old.problem old.state → WholesAreTimed new.problem new.state
+pub wholes-offered : (old new : LedgerOf) → IsOffering old new → WholesAreTimed old.problem old.state → WholesAreTimed new.problem new.state
 wholes-offered old new offers wholes node among live whole =
     let falls = leads-fall old new offers.leads in
     let before : WholesAreTimed new.problem old.state = subst (λ (b : Problem). WholesAreTimed b old.state) (sym offers.leads.0) wholes in

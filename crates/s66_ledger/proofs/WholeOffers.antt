@@ -16,7 +16,8 @@ use Rattle.s66_time.specs.TimedOrder.{TimedOrder}
 use Rattle.s66_ledger.specs.declared.reply.Offered.{Offered}
 use Rattle.s66_ledger.specs.declared.reply.Offered.TheVariants as offered
 use Rattle.s66_ledger.specs.Finishing.{WholesAreTimed, IsTimedAt, IsOffering, IsTiming}
-use Rattle.s66_ledger.specs.LedgerMachine.{MachineOf, IsMove, Stored, IsKeptMachine, machine_of, ledger_from}
+use Rattle.s66_ledger.specs.Ledgers.{LedgerOf, IsEvent}
+use Rattle.s66_ledger.specs.LedgerMachine.{MachineOf, Stored, IsKeptMachine, machine_of, ledger_from}
 use Rattle.s66_node.specs.Nodes.{has_floor, is_stored_live}
 use Rattle.s66_ledger.specs.Nodes.{prefixes, name_at, stored_at, nodes_of, seen_state}
 use Rattle.s66_node.specs.declared.node.Node.{Node}
@@ -25,9 +26,9 @@ use Rattle.s66_node.specs.declared.node.State.TheVariants as state
 use Rattle.s66_ledger.specs.Replies.{offered_reply}
 use Rattle.s66_ledger.proofs.SeenNodes.{at-nodes, length-nodes}
 use Rattle.s66_ledger.proofs.Leading.{each-among, leads-fall}
-use Rattle.s66_ledger.proofs.Rounds.{offer-offers}
+use Rattle.s66_ledger.proofs.Rounds.{nothing-offered}
 
-timed-still : (old new : MachineOf) (i : ℕ) → IsOffering old new → IsTimedAt old.problem old.state i → IsTimedAt new.problem new.state i
+timed-still : (old new : LedgerOf) (i : ℕ) → IsOffering old new → IsTimedAt old.problem old.state i → IsTimedAt new.problem new.state i
 timed-still old new i offers timed =
     let before : IsTimedAt new.problem old.state i = subst (λ (b : Problem). IsTimedAt b old.state i) (sym offers.leads.0) timed in
     let falls = leads-fall old new offers.leads in
@@ -35,7 +36,7 @@ timed-still old new i offers timed =
     (λ live whole. omega (arith, before live whole, falls))
 
 -- what was timed stays so, and one more is
-pub timed-next : (old new : MachineOf) (i : ℕ) → IsTiming old i new → ((j : ℕ) → j < i → IsTimedAt old.problem old.state j) → (j : ℕ) → j < i + 1 → IsTimedAt new.problem new.state j
+pub timed-next : (old new : LedgerOf) (i : ℕ) → IsTiming old i new → ((j : ℕ) → j < i → IsTimedAt old.problem old.state j) → (j : ℕ) → j < i + 1 → IsTimedAt new.problem new.state j
 timed-next old new i h before j lt =
     elim (cases_eq j i) [
       | inl is ↦ subst (IsTimedAt new.problem new.state) (sym is) h.timed
@@ -54,23 +55,32 @@ at-most rule b old new w own order time offered.Lower is same h = omega (arith, 
 at-most rule b old new w own order time (offered.NotLower least) is same h = omega (arith, ap (best_time b) h.3, h.1, same)
 at-most rule b old new w own order time offered.OtherBlock is same h = absurd (true≢false (sym is ∙ h.0))
 
+-- of an order of the problem that is offered
+pub offered-at-most : (old new : LedgerOf) (w : ℕ) (timed : TimedOrder) (answer : Offered) → ((event : Event) × IsOfferOf old.problem w timed.problem timed.numbers event × IsEvent old event (offered_reply answer) new) → timed.problem ≡ old.problem → best_time new.problem new.state ≤ total_of timed.problem timed.numbers
+offered-at-most old new w timed answer (event, (own, iff, stated), h) problem =
+    let b = old.problem in
+    let step : Moves old.rule b old.state (Offer w own timed.numbers (total_of timed.problem timed.numbers)) (offered_reply answer) new.state = subst (λ (e : Event). Moves old.rule b old.state e (offered_reply answer) new.state) stated h.3.1 in
+    let same = ap (λ p. total_of p timed.numbers) problem in
+    omega (arith, at-most old.rule b old.state new.state w own timed.numbers (total_of timed.problem timed.numbers) answer (iff.1 problem) same step, same, ap (λ (p : Problem). best_time p new.state) h.0)
+
 -- the order of a complete prefix is offered
-pub timed-now : (old new : MachineOf) (w i : ℕ) (timed : TimedOrder) (answer : Offered) → timed ≡ record { problem = old.problem; numbers = (model.node_at old.state.nodes i).prefix } → ((event : Event) × IsOfferOf old.problem w timed.problem timed.numbers event × IsMove old event (offered_reply answer) new) → IsTiming old i new
-timed-now old new w i timed answer is (event, (own, iff, stated), h) =
+pub timed-now : (old new : LedgerOf) (i : ℕ) (order : List ℕ) → order ≡ (model.node_at old.state.nodes i).prefix → IsOffering old new → best_time new.problem new.state ≤ total_of old.problem order → IsTiming old i new
+timed-now old new i order is offers fast =
     let b = old.problem in
     let at = (model.node_at old.state.nodes i).prefix in
-    let problem : timed.problem ≡ b = ap (λ (t : TimedOrder). t.problem) is in
-    let numbers : timed.numbers ≡ at = ap (λ (t : TimedOrder). t.numbers) is in
-    let step : Moves old.rule b old.state (Offer w own timed.numbers (total_of timed.problem timed.numbers)) (offered_reply answer) new.state = subst (λ (e : Event). Moves old.rule b old.state e (offered_reply answer) new.state) stated h.3.1 in
-    let fast = at-most old.rule b old.state new.state w own timed.numbers (total_of timed.problem timed.numbers) answer (iff.1 problem) (ap (λ p. total_of p timed.numbers) problem) step in
-    let offers = offer-offers old new w timed answer (event, (own, iff, stated), h) in
+    let same = offers.leads.0 in
+    let now : best_time b new.state ≤ total_of b at = omega (arith, fast, ap (total_of b) is, ap (λ (p : Problem). best_time p new.state) same) in
     record {
       offers = offers;
       timed =
-          subst (λ (p : Problem). IsTimedAt p new.state i) (sym h.0)
+          subst (λ (p : Problem). IsTimedAt p new.state i) (sym same)
           (subst (λ ns. is_live (model.node_at ns i) ≡ true → IsComplete b.block (model.node_at ns i).prefix → best_time b new.state ≤ floor_value b (model.node_at ns i).prefix) (sym (ap (λ (l : Ledger). l.nodes) offers.same))
-          (λ live whole. omega (arith, fast, ap (total_of b) numbers, ap (value b at) (floor-whole b at whole))));
+          (λ live whole. omega (arith, now, ap (value b at) (floor-whole b at whole))));
     }
+
+-- a node that is neither open nor out below the best time, or has no whole order, needs no offer
+pub timed-already : (l : LedgerOf) (i : ℕ) → IsTimedAt l.problem l.state i → IsTiming l i l
+timed-already l i timed = record { offers = nothing-offered l l refl; timed = timed }
 
 -- WHAT IS NOT OFFERED
 

@@ -1,15 +1,19 @@
--- Used by contracts within the crate alone: the steps by which a ledger is brought to its end.
-use Rattle.std.specs.Prelude.{ℕ, ◌+◌, ◌-◌, ◌≡◌, ◌<◌, ◌≤◌, ◌⊎◌, ◌≢◌, true, List, length}
+-- Used by contracts: the events by which a ledger goes on, and those by which it is brought to its end.
+use Rattle.std.specs.Prelude.{ℕ, ◌+◌, ◌-◌, ◌≡◌, ◌<◌, ◌≤◌, ◌⊎◌, ◌≢◌, Bool, true, List, length, Some}
 use Rattle.s66_isa.specs.Lists.{Among, weigh, tally}
 use Rattle.s66_model.specs.Timing.{Problem}
 use Rattle.s66_model.specs.LegalOrder.{IsComplete}
 use Rattle.s66_model.specs.Leaves.{floor_value}
-use Rattle.s66_model.specs.Ledger.{Ledger, Node, Out, Event, Reply, Run, IsOut, is_open, is_out, is_live, best_time, allowance, node_at, after_offer}
+use Rattle.s66_model.specs.Tree.{Tree, splits}
+use Rattle.s66_model.specs.Piece.{Terminal}
+use Rattle.s66_model.specs.Recorded.{TreeOpens}
+use Rattle.s66_node.specs.Pieces.{PieceOf, tree_of}
+use Rattle.s66_model.specs.Ledger.{Ledger, Node, Out, Event, Reply, Run, Graft, Taken, IsOut, is_open, is_out, is_live, best_time, allowance, node_at, after_offer}
 use Rattle.s66_model.specs.Tickets.{TicketOf}
-use Rattle.s66_ledger.specs.LedgerMachine.{MachineOf}
+use Rattle.s66_ledger.specs.Ledgers.{LedgerOf, IsEvent}
 
 -- some events lead from one to the other
-abbrev pub Leads : MachineOf → MachineOf → Type 0
+abbrev pub Leads : LedgerOf → LedgerOf → Type 0
 Leads old new =
     (new.problem ≡ old.problem) × (new.budget ≡ old.budget) × (new.workers ≡ old.workers)
     × ((events : List (Event × Reply)) × Run old.rule old.problem old.state events new.state)
@@ -35,7 +39,7 @@ pub record IsSearched (b : Problem) (budget : ℕ) (l : Ledger) : Type 0 where
   pub wholes : WholesAreTimed b l
 
 -- an order is offered, or some are: nothing changes but the best one
-pub record IsOffering (old new : MachineOf) : Type 0 where
+pub record IsOffering (old new : LedgerOf) : Type 0 where
   pub leads : Leads old new
   pub same : new.state ≡ after_offer old.state new.state.best
 
@@ -46,7 +50,7 @@ abbrev pub NoneOutBelow : ℕ → Ledger → Type 0
 NoneOutBelow count l = (i : ℕ) → i < count → (node_at l.nodes i).state ≢ Out
 
 -- the node isn't out any more, nor is one before it that wasn't
-pub record IsReopening (old : MachineOf) (node : ℕ) (new : MachineOf) : Type 0 where
+pub record IsReopening (old : LedgerOf) (node : ℕ) (new : LedgerOf) : Type 0 where
   pub leads : Leads old new
   pub in_hand : NoneOutBelow node old.state → NoneOutBelow (node + 1) new.state
   pub count : length new.state.nodes ≡ length old.state.nodes
@@ -58,7 +62,7 @@ IsTimedAt b l i =
     is_live (node_at l.nodes i) ≡ true → IsComplete b.block (node_at l.nodes i).prefix → best_time b l ≤ floor_value b (node_at l.nodes i).prefix
 
 -- the node's order is offered if it is whole
-pub record IsTiming (old : MachineOf) (node : ℕ) (new : MachineOf) : Type 0 where
+pub record IsTiming (old : LedgerOf) (node : ℕ) (new : LedgerOf) : Type 0 where
   pub offers : IsOffering old new
   pub timed : IsTimedAt new.problem new.state node
 
@@ -78,6 +82,13 @@ pub record IsWithinRound (b : Problem) (l : Ledger) (ticket : TicketOf) : Type 0
   pub alone : weigh (λ n. n) l.allowances ≡ allowance l 1
   pub wholes : WholesAreTimed b l
 
+-- worker 1's piece is in the place of the node, with some of its dominated prefixes left open
+pub record IsTaken (old : LedgerOf) (node : ℕ) (piece : PieceOf) (new : LedgerOf) : Type 0 where
+  pub own : Bool
+  pub part : Tree Terminal
+  pub opens : TreeOpens (tree_of piece) part
+  pub event : IsEvent old (Graft 1 node own piece.prefix (splits part) (Some part)) Taken new
+
 -- what a search still has: splits of the budget, and minor cycles of the best time
-abbrev pub still_to_go : MachineOf → ℕ
+abbrev pub still_to_go : LedgerOf → ℕ
 still_to_go l = (l.budget - l.state.spent) + best_time l.problem l.state

@@ -17,7 +17,7 @@ use std::marker::Model;
 /// The ledger of a search over one block's orders, for one thread; it borrows the block. It keeps its history.
 #[derive(Drop)]
 pub struct Ledger<'a> {
-    machine: Machine<'a>,
+    pub(crate) machine: Machine<'a>,
     history: History,
 }
 
@@ -75,30 +75,17 @@ impl<'a> Ledger<'a> {
         ensures state { IfOk result (λ l. l.state ≡ opening l.problem budget workers) }
         ensures history { IfOk result (λ l. (l.entries ≡ []) × (l.bytes ≡ [])) }
     {
-        Ledger::by_rule(alloc, block, profile, Rule::NoneNamed, budget, workers)
+        Ledger::of_walk(
+            alloc,
+            &Walk::new(block, profile),
+            Rule::NoneNamed,
+            budget,
+            workers,
+        )
     }
 
-    /// A ledger as `new` makes one, whose pieces may have dominated leaves by this rule.
-    pub fn by_rule(
-        alloc: Global,
-        block: &'a Block<'a>,
-        profile: &Profile,
-        rule: Rule,
-        budget: u32,
-        workers: u8,
-    ) -> Result<Ledger<'a>, AllocError>
-        requires { budget ≤ BUDGET_LIMIT }
-        ensures rule { IfOk result (λ l. l.rule ≡ rule) }
-        ensures problem { IfOk result (λ l. l.problem ≡ record { block = instrs_of block.now; profile = profile.now }) }
-        ensures budget { IfOk result (λ l. l.budget ≡ budget) }
-        ensures workers { IfOk result (λ l. l.workers ≡ workers) }
-        ensures state { IfOk result (λ l. l.state ≡ opening l.problem budget workers) }
-        ensures history { IfOk result (λ l. (l.entries ≡ []) × (l.bytes ≡ [])) }
-    {
-        Ledger::of_walk(alloc, &Walk::new(block, profile), rule, budget, workers)
-    }
-
-    /// A ledger as `by_rule` makes one, of a walk's block and profile; the walk is at the empty prefix.
+    /// A ledger as `new` makes one, of a walk's block and profile, whose pieces may have dominated leaves by this rule. The walk is at
+    /// the empty prefix.
     pub fn of_walk(
         alloc: Global,
         walk: &Walk<'a>,
@@ -380,22 +367,15 @@ impl<'a> Ledger<'a> {
         self.graft_if(w, node, piece, own)
     }
 
-    /// Puts a piece in the place of the node of this number, as `graft_at` does, if its caller knows that it is of the ledger's
-    /// block and profile, and by its rule: nothing of these is compared.
-    pub fn graft_own(&mut self, w: u8, node: u32, piece: &Piece) -> Result<(), GraftError>
-        requires worker { (1 ≤ w) × (w ≤ self.old.workers) }
-        requires rule { piece.now.rule ≡ self.old.rule }
-        requires problem { piece.now.problem ≡ self.old.problem }
-        ensures ok { OnOk result (IsGraftAt self.old w node piece.now Taken self.new) }
-        ensures refused { IfErr result (λ why. IsRefusedGraftAt self.old w node piece.now why self.new) }
-        ensures err { OnErr result (self.new.state ≡ self.old.state) }
-    {
-        self.graft_if(w, node, piece, true)
-    }
-
     /// Puts a piece in the place of the node of this number, if `own` says that it is of the ledger's block and profile, and by
     /// its rule.
-    fn graft_if(&mut self, w: u8, node: u32, piece: &Piece, own: bool) -> Result<(), GraftError>
+    pub(crate) fn graft_if(
+        &mut self,
+        w: u8,
+        node: u32,
+        piece: &Piece,
+        own: bool,
+    ) -> Result<(), GraftError>
         requires worker { (1 ≤ w) × (w ≤ self.old.workers) }
         requires own { IsOwnPiece self.old.rule self.old.problem piece.now.rule piece.now.problem own }
         ensures ok { OnOk result (IsGraftAt self.old w node piece.now Taken self.new) }
@@ -446,25 +426,27 @@ impl<'a> Ledger<'a> {
 
     /// Brings the search to its end. It offers two list schedules, takes back every allowance and every node that is out, and
     /// offers the whole orders among the nodes. Then it goes on until no open node's floor is below the best time, or the budget
-    /// is spent and no whole order is below it. The history is dropped first, and nothing of this is recorded.
+    /// is spent and no whole order is below it.
     ///
     /// The time is that of expanding what it claims, and linear in the number of nodes. `Err` is out of memory.
-    pub fn finish(self, alloc: Global) -> Result<Answer, AllocError>
+    pub fn finish(mut self, alloc: Global) -> Result<Answer, AllocError>
         requires { 1 ≤ self.workers }
         ensures rule { IfOk result (λ a. a.rule ≡ self.entry.rule) }
         ensures problem { IfOk result (λ a. a.problem ≡ self.entry.problem) }
         ensures budget { IfOk result (λ a. a.budget ≡ self.entry.budget) }
         ensures finished { IfOk result (λ a. IsFinished self.entry.rule self.entry.problem self.entry.budget self.entry.state (answer_of a)) }
     {
-        let Ledger { machine, history } = self;
-        drop(history);
-        machine.finish(alloc)
+        let mut walk = Walk::new(self.block(), self.profile());
+        self.offer_schedules(&mut walk)?;
+        let mut marks = Marks::new(alloc, self.block(), self.profile());
+        let answer = self.finish_with(alloc, &mut walk, &mut marks)?;
+        Ok(answer)
     }
 
     /// Brings the search to its end as `finish` does, but offers no list schedule, and goes on with a walk and marks of nodes that
     /// its caller has used.
     pub fn finish_with(
-        self,
+        mut self,
         alloc: Global,
         walk: &mut Walk<'_>,
         marks: &mut Marks<'_>,
@@ -477,8 +459,10 @@ impl<'a> Ledger<'a> {
         ensures budget { IfOk result (λ a. a.budget ≡ self.entry.budget) }
         ensures finished { IfOk result (λ a. IsFinished self.entry.rule self.entry.problem self.entry.budget self.entry.state (answer_of a)) }
     {
-        let Ledger { machine, history } = self;
-        drop(history);
-        machine.finish_with(alloc, walk, marks)
+        // proof only: it leads to the ledger as it is
+        let _history = self.history();
+        self.search_on(alloc, walk, marks, None)?;
+        let Ledger { machine, .. } = self;
+        Ok(machine.into_answer())
     }
 }

@@ -7,7 +7,7 @@ use s66_dep::Order;
 use s66_isa::{BLOCK_LIMIT, Profile};
 use s66_line::Block;
 use s66_model::{BUDGET_LIMIT, Rule, Ticket};
-use s66_node::{Marks, Piece, Priority, State, Walk};
+use s66_node::{Piece, State, Walk};
 use s66_time::{Timed, time_of};
 use std::alloc::{AllocError, Global};
 use std::marker::Model;
@@ -58,7 +58,7 @@ impl<'a> Machine<'a> {
     ghost use Rattle.s66_ledger.specs.LedgerMachine.{IsMove, IsMadeAs};
     ghost use Rattle.s66_model.specs.Ended.{IsEnded, ended_answer};
     ghost use Rattle.s66_ledger.specs.Answers.{answer_of};
-    ghost use Rattle.s66_ledger.specs.Finishing.{IsReopening, IsSearched, Leads, NoneOut, WholesAreTimed};
+    ghost use Rattle.s66_ledger.specs.Finishing.{NoneOut, WholesAreTimed};
     ghost use Rattle.s66_ledger.specs.GraftMoves.{IsTakenMove, IsRefusedMove};
     ghost use Rattle.s66_ledger.specs.ClaimedNodes.{claimed_node, IsTicketOf, IsLeastOpen};
     ghost use Rattle.s66_ledger.specs.Replies.{offered_reply};
@@ -161,6 +161,22 @@ impl<'a> Machine<'a> {
         self.allowances[at] = 0;
     }
 
+    /// How many splits worker 1 may spend.
+    pub(crate) fn first_allowance(&self) -> u32
+        requires { 1 ≤ self.now.workers }
+        ensures { result ≡ allowance self.now.state 1 }
+    {
+        self.allowances[0]
+    }
+
+    /// The value of the floor of a node that is out.
+    pub(crate) fn floor_of(&self, node: u32) -> u32
+        requires { IsOut self.now.state node }
+        ensures { result ≡ floor_value self.now.problem (node_at self.now.state.nodes node).prefix }
+    {
+        self.table.value_of(node)
+    }
+
     pub fn claim(&mut self, w: u8) -> Option<Ticket>
         requires { (1 ≤ w) × (w ≤ self.old.workers) }
         ensures ok { IsMove self.old (Claim w) (Claimed (claimed_node result)) self.new }
@@ -192,16 +208,11 @@ impl<'a> Machine<'a> {
         Ok(())
     }
 
-    /// Takes a node back if it is out, as worker 1.
-    pub(crate) fn reopen(&mut self, node: u32) -> Result<(), AllocError>
-        requires { 1 ≤ self.old.workers }
-        ensures ok { OnOk result (IsReopening self.old node self.new) }
-        ensures err { OnErr result (self.new ≡ self.old) }
+    /// Whether a node is out.
+    pub(crate) fn is_out(&self, node: u32) -> bool
+        ensures { IsTrue result ↔ IsOut self.now.state node }
     {
-        if self.table.is_out(node) {
-            self.table.give_back(node)?;
-        }
-        Ok(())
+        self.table.is_out(node)
     }
 
     /// Whether it is known that no node is out.
@@ -322,7 +333,7 @@ impl<'a> Machine<'a> {
 
     /// Puts a piece that needs no test in the place of a node: it is of the block and the profile, by the rule, and within what the
     /// worker may spend, and the node is out and has its prefix.
-    pub(crate) fn put_in(&mut self, w: u8, node: u32, piece: &Piece) -> Result<(), AllocError>
+    fn put_in(&mut self, w: u8, node: u32, piece: &Piece) -> Result<(), AllocError>
         requires worker { (1 ≤ w) × (w ≤ self.old.workers) }
         requires rule { piece.now.rule ≡ self.old.rule }
         requires problem { piece.now.problem ≡ self.old.problem }
@@ -344,64 +355,8 @@ impl<'a> Machine<'a> {
         Ok(())
     }
 
-    pub fn finish(mut self, alloc: Global) -> Result<Answer, AllocError>
-        requires { 1 ≤ self.workers }
-        ensures rule { IfOk result (λ a. a.rule ≡ self.entry.rule) }
-        ensures problem { IfOk result (λ a. a.problem ≡ self.entry.problem) }
-        ensures budget { IfOk result (λ a. a.budget ≡ self.entry.budget) }
-        ensures finished { IfOk result (λ a. IsFinished self.entry.rule self.entry.problem self.entry.budget self.entry.state (answer_of a)) }
-    {
-        let mut walk = Walk::new(self.block, &self.profile);
-        self.offer_schedule(&mut walk, Priority::Start);
-        walk.go_to(&[]);
-        self.offer_schedule(&mut walk, Priority::Issue);
-        let mut marks = Marks::new(alloc, self.block, &self.profile);
-        self.search_to_end(alloc, &mut walk, &mut marks)?;
-        Ok(self.into_answer())
-    }
-
-    pub fn finish_with(
-        mut self,
-        alloc: Global,
-        walk: &mut Walk<'_>,
-        marks: &mut Marks<'_>,
-    ) -> Result<Answer, AllocError>
-        requires walk { walk.old.problem ≡ self.problem }
-        requires marks { marks.old.problem ≡ self.problem }
-        requires workers { 1 ≤ self.workers }
-        ensures rule { IfOk result (λ a. a.rule ≡ self.entry.rule) }
-        ensures problem { IfOk result (λ a. a.problem ≡ self.entry.problem) }
-        ensures budget { IfOk result (λ a. a.budget ≡ self.entry.budget) }
-        ensures finished { IfOk result (λ a. IsFinished self.entry.rule self.entry.problem self.entry.budget self.entry.state (answer_of a)) }
-    {
-        // proof only: here its invariant is read, as it was before the search
-        prove!(self.block.count() <= BLOCK_LIMIT);
-        self.search_to_end(alloc, walk, marks)?;
-        Ok(self.into_answer())
-    }
-
-    /// Takes back every allowance and every node that is out, offers the whole orders among the nodes, and searches until no open
-    /// node's floor is below the best time, or the budget is spent and no whole order is below it.
-    fn search_to_end(
-        &mut self,
-        alloc: Global,
-        walk: &mut Walk<'_>,
-        marks: &mut Marks<'_>,
-    ) -> Result<(), AllocError>
-        requires walk { walk.old.problem ≡ self.old.problem }
-        requires marks { marks.old.problem ≡ self.old.problem }
-        requires workers { 1 ≤ self.old.workers }
-        ensures leads { OnOk result (Leads self.old self.new) }
-        ensures searched { OnOk result (IsSearched self.new.problem self.new.budget self.new.state) }
-    {
-        self.take_back()?;
-        self.offer_wholes();
-        self.search(alloc, walk, marks)?;
-        Ok(())
-    }
-
     /// The answer that the ledger is if its steps have ended.
-    fn into_answer(self) -> Answer
+    pub(crate) fn into_answer(self) -> Answer
         requires { IsEnded self.problem self.budget self.state }
         ensures rule { result.rule ≡ self.entry.rule }
         ensures problem { result.problem ≡ self.entry.problem }

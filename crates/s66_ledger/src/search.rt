@@ -1,16 +1,13 @@
-ghost use Rattle.std.specs.Prelude.{◌≡◌, ◌≤◌, ◌<◌, ◌/◌, ◌↔◌, IsTrue, IfOk};
-ghost use Rattle.s66_model.specs.LegalOrder.{IsBeginning};
-ghost use Rattle.s66_model.specs.Tree.{splits};
-ghost use Rattle.s66_model.specs.Expansion.{IsExpansion};
-ghost use Rattle.s66_node.specs.Pieces.{tree_of, IsBestTimed};
+ghost use Rattle.std.specs.Prelude.{◌≡◌, ◌≤◌, ◌<◌, ◌/◌, ◌↔◌, IsTrue};
 ghost use Rattle.s66_ledger.specs.PieceSplits.{piece_splits};
 ghost use Rattle.s66_ledger.specs.declared.limits.TheConstants.{SCHEDULE_SPLITS};
 
+use crate::ledger::Ledger;
 use crate::limits::{DOMINATED_PIECE_LIMIT, SCHEDULE_SPLITS};
-use crate::machine::Machine;
-use crate::reply::BackError;
+use crate::reply::{BackError, GraftError};
 use s66_model::{Rule, Ticket};
 use s66_node::{Constant, Marks, Piece, Priority, Walk, schedule_below};
+use s66_time::Timed;
 use std::alloc::{AllocError, Global};
 
 /// How many splits a piece may have within an allowance, by the rule of dominated leaves. If any node of the ledger may be named,
@@ -33,78 +30,127 @@ pub fn is_schedule_due(before: u32, after: u32) -> bool
     before / SCHEDULE_SPLITS < after / SCHEDULE_SPLITS
 }
 
-/// Goes to a prefix and expands it by a rule of dominated leaves, with as many splits as a piece may have within an allowance. The
-/// marks grow by those of the nodes that it makes. `Err` is out of memory.
-pub fn expand_by_rule(
-    alloc: Global,
-    walk: &mut Walk<'_>,
-    marks: &mut Marks<'_>,
-    rule: Rule,
-    prefix: &[u8],
-    best: u32,
-    allowance: u32,
-) -> Result<Piece, AllocError>
-    requires marks { marks.old.problem ≡ walk.old.problem }
-    requires prefix { IsBeginning walk.old.problem.block prefix.now }
-    ensures same { walk.new.problem ≡ walk.old.problem }
-    ensures marks { marks.new.problem ≡ marks.old.problem }
-    ensures rule { IfOk result (λ p. p.rule ≡ rule) }
-    ensures problem { IfOk result (λ p. p.problem ≡ walk.old.problem) }
-    ensures prefix { IfOk result (λ p. p.prefix ≡ prefix.now) }
-    ensures expansion { IfOk result (λ p. IsExpansion rule walk.old.problem best best (piece_splits rule allowance) prefix.now (tree_of p)) }
-    ensures within { IfOk result (λ p. splits (tree_of p) ≤ allowance) }
-    ensures timed { IfOk result (λ p. IsBestTimed walk.old.problem prefix.now (tree_of p) p.timed) }
-{
-    let most = piece_splits(rule, allowance);
-    match rule {
-        Rule::NoneNamed => walk.expand(alloc, prefix, best, most),
-        Rule::WrittenEarlier | Rule::ClampedStanding => {
-            walk.expand_dominated(alloc, prefix, &mut Constant(best), most, marks, rule)
-        }
-    }
+/// Where a search stops before it has come to its end: after this many splits in all, or at a best time of no more than this, in
+/// minor cycles.
+#[derive(Clone, Copy)]
+pub(crate) struct Stop {
+    splits: u32,
+    time: u32,
 }
 
-impl<'a> Machine<'a> {
-    ghost use Rattle.std.specs.Prelude.{true, false, Some, ◌≡◌, ◌≤◌, ◌<◌, OnOk, IfOk};
+impl Ledger<'_> {
+    ghost use Rattle.std.specs.Prelude.{true, false, Some, None, ◌≡◌, ◌≤◌, ◌<◌, OnOk, IfOk};
+    ghost use Rattle.s66_model.specs.Tree.{splits};
     ghost use Rattle.s66_model.specs.Leaves.{floor_value};
     ghost use Rattle.s66_model.specs.Timing.{total_of};
     ghost use Rattle.s66_model.specs.LegalOrder.{IsBeginning};
     ghost use Rattle.s66_time.specs.TimedOrder.{TimedOrder};
-    ghost use Rattle.s66_model.specs.Ledger.{best_time, allowance, node_at, IsOut};
+    ghost use Rattle.s66_model.specs.Ledger.{best_time, allowance, node_at, IsOut, Back, Returned};
     ghost use Rattle.s66_model.specs.Coverage.{Covers};
     ghost use Rattle.s66_model.specs.Expansion.{IsExpansion};
     ghost use Rattle.s66_node.specs.Pieces.{tree_of, IsBestTimed};
+    ghost use Rattle.s66_ledger.specs.Ledgers.{IsEvent};
     ghost use Rattle.s66_ledger.specs.PieceSplits.{piece_splits};
-    ghost use Rattle.s66_ledger.specs.Finishing.{Leads, IsIdle, WholesAreTimed, IsSearched, IsBetweenRounds, IsWithinRound, IsOffering, still_to_go};
+    ghost use Rattle.s66_ledger.specs.Finishing.{Leads, IsIdle, WholesAreTimed, IsSearched, IsBetweenRounds, IsWithinRound, IsOffering, IsTaken, still_to_go};
 
-    /// Goes on, as worker 1, until no open node's floor is below the best time or the budget is spent. Each round claims the open
-    /// node of the least floor, expands it by what the worker may spend, offers the best of its whole orders and grafts the
-    /// piece. The marks grow by those of the nodes that it makes. After each `SCHEDULE_SPLITS` splits it offers a list schedule that
-    /// begins with the node's prefix, so that good orders are found even if no expansion comes to its end.
-    pub(crate) fn search(
+    /// Searches as worker 1, from where the ledger is, until `most` splits are spent in all, the best time is no more than `goal` minor
+    /// cycles, no open node's floor is below the best time, or the budget is spent. Every allowance and every node that is out is
+    /// taken back first, and what is left of worker 1's allowance goes back to the budget at the end. The walk and the marks are of the
+    /// ledger's block and profile; the marks grow by those of the nodes that are made.
+    ///
+    /// Each round claims the open node of the least floor, expands it by what the worker may spend, offers the best of its whole orders
+    /// and grafts the piece. After each `SCHEDULE_SPLITS` splits it offers a list schedule that begins with the node's prefix, so
+    /// that good orders are found even if no expansion comes to its end.
+    ///
+    /// `Err` is out of memory. What is grafted by then stays.
+    pub fn search(
         &mut self,
         alloc: Global,
         walk: &mut Walk<'_>,
         marks: &mut Marks<'_>,
+        most: u32,
+        goal: u32,
+    ) -> Result<(), AllocError>
+        requires walk { walk.old.problem ≡ self.old.problem }
+        requires marks { marks.old.problem ≡ self.old.problem }
+        requires workers { 1 ≤ self.old.workers }
+        ensures walk { walk.new.problem ≡ walk.old.problem }
+        ensures marks { marks.new.problem ≡ marks.old.problem }
+        ensures leads { Leads self.old self.new }
+        ensures best { best_time self.new.problem self.new.state ≤ best_time self.old.problem self.old.state }
+    {
+        let stop = Some(Stop {
+            splits: most,
+            time: goal,
+        });
+        self.search_on(alloc, walk, marks, stop)?;
+        self.retire(1)?;
+        Ok(())
+    }
+
+    /// Takes back every allowance and every node that is out, offers the whole orders among the nodes, and searches until it has to
+    /// stop, no open node's floor is below the best time, or the budget is spent and no whole order is below it.
+    pub(crate) fn search_on(
+        &mut self,
+        alloc: Global,
+        walk: &mut Walk<'_>,
+        marks: &mut Marks<'_>,
+        stop: Option<Stop>,
+    ) -> Result<(), AllocError>
+        requires walk { walk.old.problem ≡ self.old.problem }
+        requires marks { marks.old.problem ≡ self.old.problem }
+        requires workers { 1 ≤ self.old.workers }
+        ensures walk { walk.new.problem ≡ walk.old.problem }
+        ensures marks { marks.new.problem ≡ marks.old.problem }
+        ensures leads { Leads self.old self.new }
+        ensures searched { OnOk result (stop ≡ None → IsSearched self.new.problem self.new.budget self.new.state) }
+    {
+        self.take_back()?;
+        self.offer_wholes()?;
+        self.search_rounds(alloc, walk, marks, stop)?;
+        Ok(())
+    }
+
+    /// Searches round by round, as worker 1.
+    fn search_rounds(
+        &mut self,
+        alloc: Global,
+        walk: &mut Walk<'_>,
+        marks: &mut Marks<'_>,
+        stop: Option<Stop>,
     ) -> Result<(), AllocError>
         requires walk { walk.old.problem ≡ self.old.problem }
         requires marks { marks.old.problem ≡ self.old.problem }
         requires workers { 1 ≤ self.old.workers }
         requires idle { IsIdle self.old.state }
         requires wholes { WholesAreTimed self.old.problem self.old.state }
-        ensures same { walk.new.problem ≡ walk.old.problem }
-        ensures leads { OnOk result (Leads self.old self.new) }
-        ensures searched { OnOk result (IsSearched self.new.problem self.new.budget self.new.state) }
+        ensures walk { walk.new.problem ≡ walk.old.problem }
+        ensures marks { marks.new.problem ≡ marks.old.problem }
+        ensures leads { Leads self.old self.new }
+        ensures searched { OnOk result (stop ≡ None → IsSearched self.new.problem self.new.budget self.new.state) }
     {
-        let mut before = self.spent;
-        while self.search_round(alloc, walk, marks)? {
-            self.offer_sometimes(walk, before);
-            before = self.spent;
+        while !self.has_to_stop(stop) {
+            let before = self.splits();
+            let goes_on = self.search_round(alloc, walk, marks)?;
+            if !goes_on {
+                return Ok(());
+            }
+            self.offer_sometimes(walk, before)?;
         }
         Ok(())
     }
 
-    /// One round of a search; false if the search has ended.
+    /// Whether a search stops here.
+    fn has_to_stop(&self, stop: Option<Stop>) -> bool
+        ensures { stop ≡ None → result ≡ false }
+    {
+        match stop {
+            Some(stop) => stop.splits <= self.splits() || self.best() <= stop.time,
+            None => false,
+        }
+    }
+
+    /// One round of a search; false if the search has come to its end.
     fn search_round(
         &mut self,
         alloc: Global,
@@ -117,24 +163,21 @@ impl<'a> Machine<'a> {
         requires between { IsBetweenRounds self.old.problem self.old.state }
         ensures same { walk.new.problem ≡ walk.old.problem }
         ensures marks { marks.new.problem ≡ marks.old.problem }
-        ensures leads { IfOk result (λ on. Leads self.old self.new) }
+        ensures leads { Leads self.old self.new }
         ensures goes_on { IfOk result (λ on. on ≡ true → IsBetweenRounds self.new.problem self.new.state × (still_to_go self.new < still_to_go self.old)) }
         ensures ends { IfOk result (λ on. on ≡ false → IsSearched self.new.problem self.new.budget self.new.state) }
     {
-        let allowance = self.allowance_or_grant();
+        let allowance = self.allowance_or_grant()?;
         if allowance == 0 {
             return Ok(false);
         }
-        let Some(ticket) = self.claim(1) else {
+        let Some(ticket) = self.claim(1)? else {
             return Ok(false);
         };
         let best = self.best();
-        if best <= self.floor_of(ticket.node()) {
-            return match self.back(1, ticket.node()) {
-                Ok(()) => Ok(false),
-                Err(BackError::OutOfMemory) => Err(AllocError),
-                Err(BackError::NotOut) => unreachable!(),
-            };
+        if best <= self.machine.floor_of(ticket.node()) {
+            self.give_back(ticket.node())?;
+            return Ok(false);
         }
         let piece = self.expand(alloc, walk, marks, ticket.prefix())?;
         let root = ticket.node();
@@ -144,7 +187,8 @@ impl<'a> Machine<'a> {
         Ok(true)
     }
 
-    /// Expands a prefix by the rule of dominated leaves, by as many splits as a piece may have of those that worker 1 may spend.
+    /// Goes to a prefix and expands it by the rule of dominated leaves, by as many splits as a piece may have of those that worker 1 may
+    /// spend. The marks grow by those of the nodes that it makes.
     fn expand(
         &self,
         alloc: Global,
@@ -166,62 +210,96 @@ impl<'a> Machine<'a> {
         ensures timed { IfOk result (λ p. IsBestTimed self.now.problem prefix.now (tree_of p) p.timed) }
     {
         let best = self.best();
-        expand_by_rule(
-            alloc,
-            walk,
-            marks,
-            self.rule,
-            prefix,
-            best,
-            self.allowances[0],
-        )
+        let rule = self.rule();
+        let most = piece_splits(rule, self.machine.first_allowance());
+        match rule {
+            Rule::NoneNamed => walk.expand(alloc, prefix, best, most),
+            Rule::WrittenEarlier | Rule::ClampedStanding => {
+                walk.expand_dominated(alloc, prefix, &mut Constant(best), most, marks, rule)
+            }
+        }
     }
 
     /// How many splits worker 1 may spend, after a grant if it has none; 0 only if the budget is spent.
-    fn allowance_or_grant(&mut self) -> u32
+    fn allowance_or_grant(&mut self) -> Result<u32, AllocError>
         requires workers { 1 ≤ self.old.workers }
         requires between { IsBetweenRounds self.old.problem self.old.state }
-        ensures value { result ≡ allowance self.new.state 1 }
+        ensures value { IfOk result (λ n. n ≡ allowance self.new.state 1) }
         ensures leads { Leads self.old self.new }
-        ensures between { IsBetweenRounds self.new.problem self.new.state }
-        ensures same { still_to_go self.new ≡ still_to_go self.old }
-        ensures spent { result ≡ 0 → self.new.state.spent ≡ self.new.budget }
+        ensures between { OnOk result (IsBetweenRounds self.new.problem self.new.state) }
+        ensures same { OnOk result (still_to_go self.new ≡ still_to_go self.old) }
+        ensures spent { IfOk result (λ n. n ≡ 0 → self.new.state.spent ≡ self.new.budget) }
     {
-        let allowance = self.allowances[0];
+        let allowance = self.machine.first_allowance();
         if 0 < allowance {
-            return allowance;
+            return Ok(allowance);
         }
-        self.grant(1)
+        let granted = self.grant(1)?;
+        Ok(granted)
+    }
+
+    /// Takes a node back that is out, as worker 1.
+    pub(crate) fn give_back(&mut self, node: u32) -> Result<(), AllocError>
+        requires workers { 1 ≤ self.old.workers }
+        requires out { IsOut self.old.state node }
+        ensures leads { Leads self.old self.new }
+        ensures ok { OnOk result (IsEvent self.old (Back 1 node) Returned self.new) }
+    {
+        match self.back_at(1, node) {
+            Ok(()) => Ok(()),
+            Err(BackError::OutOfMemory) => Err(AllocError),
+            Err(BackError::NotOut) => unreachable!(),
+        }
+    }
+
+    /// Offers two list schedules of the whole block, so that a search begins with a good order. The walk is at the empty prefix.
+    /// `Err` is out of memory.
+    pub fn offer_schedules(&mut self, walk: &mut Walk<'_>) -> Result<(), AllocError>
+        requires { 1 ≤ self.old.workers }
+        ensures walk { walk.new.problem ≡ walk.old.problem }
+        ensures offers { IsOffering self.old self.new }
+        ensures best { best_time self.new.problem self.new.state ≤ best_time self.old.problem self.old.state }
+    {
+        self.offer_schedule(walk, Priority::Start)?;
+        walk.go_to(&[]);
+        self.offer_schedule(walk, Priority::Issue)?;
+        Ok(())
     }
 
     /// Offers a list schedule from the walk's prefix on, if one is due since `before` splits were spent.
-    fn offer_sometimes(&mut self, walk: &mut Walk<'_>, before: u32)
+    fn offer_sometimes(&mut self, walk: &mut Walk<'_>, before: u32) -> Result<(), AllocError>
         requires { 1 ≤ self.old.workers }
         ensures walk { walk.new.problem ≡ walk.old.problem }
         ensures offers { IsOffering self.old self.new }
     {
-        if is_schedule_due(before, self.spent) {
-            self.offer_schedule(walk, Priority::Start);
+        if is_schedule_due(before, self.splits()) {
+            self.offer_schedule(walk, Priority::Start)?;
         }
+        Ok(())
     }
 
     /// Offers a list schedule from the walk's prefix on, if its time is below the best; the walk ends at the whole order.
-    pub(crate) fn offer_schedule(&mut self, walk: &mut Walk<'_>, priority: Priority)
+    fn offer_schedule(&mut self, walk: &mut Walk<'_>, priority: Priority) -> Result<(), AllocError>
         requires { 1 ≤ self.old.workers }
         ensures walk { walk.new.problem ≡ walk.old.problem }
         ensures offers { IsOffering self.old self.new }
     {
-        if let Some(timed) = schedule_below(walk, priority, self.best()) {
-            self.offer(1, timed);
+        match schedule_below(walk, priority, self.best()) {
+            Some(timed) => self.offer_order(timed),
+            None => Ok(()),
         }
     }
 
-    /// The value of the floor of a node that is out.
-    fn floor_of(&self, node: u32) -> u32
-        requires { IsOut self.now.state node }
-        ensures { result ≡ floor_value self.now.problem (node_at self.now.state.nodes node).prefix }
+    /// Offers an order as worker 1: if it is one of the block under the profile, the best time is then no more than its total. `Err` is
+    /// out of memory.
+    pub fn offer_order(&mut self, timed: Timed) -> Result<(), AllocError>
+        requires { 1 ≤ self.old.workers }
+        ensures offers { IsOffering self.old self.new }
+        ensures best { best_time self.new.problem self.new.state ≤ best_time self.old.problem self.old.state }
+        ensures at_most { OnOk result (timed.problem ≡ self.old.problem → best_time self.new.problem self.new.state ≤ total_of timed.problem timed.numbers) }
     {
-        self.table.value_of(node)
+        self.offer(1, timed)?;
+        Ok(())
     }
 
     /// Offers the best of the piece's whole orders, and puts the piece in the place of the ticket's node.
@@ -236,25 +314,50 @@ impl<'a> Machine<'a> {
         requires timed { IsBestTimed self.old.problem piece.prefix (tree_of piece) piece.timed }
         requires some { 1 ≤ allowance self.old.state 1 }
         requires below { floor_value self.old.problem piece.prefix < best_time self.old.problem self.old.state }
-        ensures leads { OnOk result (Leads self.old self.new) }
+        ensures leads { Leads self.old self.new }
         ensures between { OnOk result (IsBetweenRounds self.new.problem self.new.state) }
         ensures less { OnOk result (still_to_go self.new < still_to_go self.old) }
     {
         // first, so that no whole order is left open below the best time
-        self.offer_best(&piece);
-        self.put_in(1, ticket.node(), &piece)?;
+        self.offer_best(&piece)?;
+        self.graft_within(ticket.node(), &piece)?;
         Ok(())
     }
 
-    /// Offers the best of the piece's whole orders, if it has some.
-    fn offer_best(&mut self, piece: &Piece)
+    /// Offers the best of the piece's whole orders, if it has one below the best time.
+    fn offer_best(&mut self, piece: &Piece) -> Result<(), AllocError>
         requires workers { 1 ≤ self.old.workers }
         requires problem { piece.now.problem ≡ self.old.problem }
         ensures offers { IsOffering self.old self.new }
-        ensures at_most { (timed : TimedOrder) → piece.now.timed ≡ Some timed → best_time self.new.problem self.new.state ≤ total_of self.new.problem timed.numbers }
+        ensures at_most { OnOk result ((timed : TimedOrder) → piece.now.timed ≡ Some timed → best_time self.new.problem self.new.state ≤ total_of self.new.problem timed.numbers) }
     {
-        if let Some(timed) = piece.timed() {
-            self.offer(1, timed.duplicate());
+        let Some(timed) = piece.timed() else {
+            return Ok(());
+        };
+        if timed.total() < self.best() {
+            self.offer_order(timed.duplicate())?;
+        }
+        Ok(())
+    }
+
+    /// Puts a piece that no test refuses in the place of a node, as worker 1: it is of the block and the profile, by the rule, and within
+    /// what the worker may spend, and the node is out and has its prefix.
+    fn graft_within(&mut self, node: u32, piece: &Piece) -> Result<(), AllocError>
+        requires worker { 1 ≤ self.old.workers }
+        requires rule { piece.now.rule ≡ self.old.rule }
+        requires problem { piece.now.problem ≡ self.old.problem }
+        requires out { IsOut self.old.state node }
+        requires prefix { (node_at self.old.state.nodes node).prefix ≡ piece.now.prefix }
+        requires within { splits (tree_of piece.now) ≤ allowance self.old.state 1 }
+        ensures leads { Leads self.old self.new }
+        ensures ok { OnOk result (IsTaken self.old node piece.now self.new) }
+    {
+        match self.graft_if(1, node, piece, true) {
+            Ok(()) => Ok(()),
+            Err(GraftError::OutOfMemory) => Err(AllocError),
+            Err(GraftError::NotOut) => unreachable!(),
+            Err(GraftError::OtherPrefix) => unreachable!(),
+            Err(GraftError::OverAllowance) => unreachable!(),
         }
     }
 }

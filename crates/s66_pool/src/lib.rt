@@ -1,7 +1,6 @@
 //! The workers of a search: its ledger under a lock, a hint of its best time, a seat at each for every worker, and threads.
 #![tactic(auto)]
 
-mod alone;
 mod calls;
 mod crew;
 mod expander;

@@ -1,7 +1,6 @@
 //! A search of one thread, which stops and goes on.
 
-use crate::alone::search_alone;
-use crate::search::{offer_first, offer_schedules};
+use crate::search::offer_first;
 use s66_isa::Profile;
 use s66_ledger::{Answer, Ledger};
 use s66_line::Block;
@@ -64,7 +63,7 @@ impl<'a> LoneSearch<'a> {
     {
         let mut walk = Walk::new(block, profile);
         let mut ledger = Ledger::of_walk(alloc, &walk, options.rule, options.nodes, 1)?;
-        offer_schedules(&mut ledger, &mut walk)?;
+        ledger.offer_schedules(&mut walk)?;
         Ok(LoneSearch {
             alloc,
             walk,
@@ -78,14 +77,8 @@ impl<'a> LoneSearch<'a> {
     pub fn search(&mut self, most: u32, goal: u32) -> Result<(), AllocError>
         ensures { GoesOn self.old self.new }
     {
-        search_alone(
-            self.alloc,
-            &mut self.ledger,
-            &mut self.walk,
-            &mut self.marks,
-            most,
-            goal,
-        )?;
+        self.ledger
+            .search(self.alloc, &mut self.walk, &mut self.marks, most, goal)?;
         all_kept(&self.marks)
     }
 

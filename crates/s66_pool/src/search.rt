@@ -3,7 +3,6 @@ ghost use Rattle.s66_line.specs.Block.{instrs_of};
 ghost use Rattle.s66_model.specs.declared.limits.TheConstants.{BUDGET_LIMIT, WORKERS_LIMIT};
 ghost use Rattle.s66_pool.specs.Workers.{GoesOn, HasTaken, TakesNoLonger};
 
-use crate::alone::search_alone;
 use crate::crew::work_by_marks;
 use crate::gate::Gate;
 use crate::hub::Hub;
@@ -13,60 +12,23 @@ use s66_isa::Profile;
 use s66_ledger::{Answer, Ledger};
 use s66_line::Block;
 use s66_model::{Options, Rule};
-use s66_node::{Marks, Priority, Walk, schedule_below};
+use s66_node::{Marks, Walk};
 use s66_time::Timed;
 use std::alloc::{AllocError, Global};
 use std::sync::Wait;
 use std::thread::Threads;
 
-/// Offers an order as worker 1. One of another block or profile is left alone. `Err` is out of memory, and changes nothing.
-pub(crate) fn offer(ledger: &mut Ledger<'_>, timed: Timed) -> Result<(), AllocError>
-    requires { 1 ≤ ledger.old.workers }
-    ensures on { GoesOn ledger.old ledger.new }
-    ensures order { OnOk result (HasTaken ledger.new timed) }
-{
-    ledger.offer(1, timed)?;
-    Ok(())
-}
-
-/// Offers a list schedule from the walk's prefix on, if its time is below the best, as worker 1.
-pub(crate) fn offer_schedule(
-    ledger: &mut Ledger<'_>,
-    walk: &mut Walk<'_>,
-    priority: Priority,
-) -> Result<(), AllocError>
-    requires { 1 ≤ ledger.old.workers }
-    ensures walk { walk.new.problem ≡ walk.old.problem }
-    ensures on { GoesOn ledger.old ledger.new }
-{
-    match schedule_below(walk, priority, ledger.best()) {
-        Some(timed) => offer(ledger, timed),
-        None => Ok(()),
-    }
-}
-
-/// Offers two list schedules of the whole block, so that the search begins with a good order. The walk is at the empty prefix.
-pub(crate) fn offer_schedules(
-    ledger: &mut Ledger<'_>,
-    walk: &mut Walk<'_>,
-) -> Result<(), AllocError>
-    requires { 1 ≤ ledger.old.workers }
-    ensures walk { walk.new.problem ≡ walk.old.problem }
-    ensures on { GoesOn ledger.old ledger.new }
-{
-    offer_schedule(ledger, walk, Priority::Start)?;
-    walk.go_to(&[]);
-    offer_schedule(ledger, walk, Priority::Issue)
-}
-
-/// Offers an order, if there is one.
+/// Offers an order as worker 1, if there is one. `Err` is out of memory, and changes nothing.
 pub(crate) fn offer_first(ledger: &mut Ledger<'_>, first: Option<&Timed>) -> Result<(), AllocError>
     requires { 1 ≤ ledger.old.workers }
     ensures on { GoesOn ledger.old ledger.new }
     ensures order { OnOk result (IfSome first.entry (λ timed. HasTaken ledger.new timed.now)) }
 {
     match first {
-        Some(timed) => offer(ledger, timed.duplicate()),
+        Some(timed) => {
+            ledger.offer_order(timed.duplicate())?;
+            Ok(())
+        }
         None => Ok(()),
     }
 }
@@ -169,10 +131,10 @@ pub fn run_from<R: AllocGlobal + Threads + Wait + Sync, G: Gate + Sync>(
     }
     let mut walk = Walk::new(block, profile);
     let mut ledger = Ledger::of_walk(alloc, &walk, options.rule, options.nodes, options.workers)?;
-    offer_schedules(&mut ledger, &mut walk)?;
+    ledger.offer_schedules(&mut walk)?;
     offer_first(&mut ledger, first)?;
     let mut marks = Marks::new(alloc, block, profile);
-    search_alone(alloc, &mut ledger, &mut walk, &mut marks, FIRST_SPLITS, 0)?;
+    ledger.search(alloc, &mut walk, &mut marks, FIRST_SPLITS, 0)?;
     let rule = options.rule;
     let ledger = search_by_workers(rt, ledger, block, profile, rule, gate, &mut marks)?;
     ledger.finish_with(alloc, &mut walk, &mut marks)

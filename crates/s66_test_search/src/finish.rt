@@ -5,6 +5,7 @@ use s66_isa::Profile;
 use s66_ledger::Ledger;
 use s66_line::Block;
 use s66_model::Rule;
+use s66_node::Walk;
 use std::process::Abort;
 
 /// More splits than any of the searches takes.
@@ -25,7 +26,7 @@ const SEARCHES: &[(&str, Rule, u32, u32)] = &[
 /// Checks how a ledger that no worker has touched is brought to its end.
 fn check_finish<R: AllocGlobal + Abort>(rt: &R, block: &Block, rule: Rule, time: u32, splits: u32) {
     let profile = Profile::standard();
-    let ledger = Ledger::by_rule(rt.alloc(), block, &profile, rule, BUDGET, 1);
+    let ledger = Ledger::of_walk(rt.alloc(), &Walk::new(block, &profile), rule, BUDGET, 1);
     check_finished(rt, ledger.expect(rt, "memory"), (time, time, splits));
 }
 

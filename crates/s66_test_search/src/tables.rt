@@ -26,9 +26,13 @@ fn open_ledger<'a, R: AllocGlobal + Abort>(rt: &R, block: &'a Block<'a>) -> Ledg
 {
     let profile = Profile::standard();
     let rule = Rule::ClampedStanding;
-    let mut ledger = Ledger::by_rule(rt.alloc(), block, &profile, rule, BUDGET, 1).expect(
-        rt, "memory",
-    );
+    let mut ledger = Ledger::of_walk(
+        rt.alloc(),
+        &Walk::new(block, &profile),
+        rule,
+        BUDGET,
+        1,
+    ).expect(rt, "memory");
     check_grant(rt, &mut ledger, 1, BUDGET);
     ledger
 }

@@ -9,6 +9,7 @@ use s66_isa::Profile;
 use s66_ledger::Ledger;
 use s66_line::Block;
 use s66_model::{BUDGET_LIMIT, Options, Rule, WORKERS_LIMIT};
+use s66_node::Walk;
 use s66_pool::{FIRST_SPLITS, Free, Gate, Hub, Seat, run, work};
 use std::process::Abort;
 use std::sync::Wait;
@@ -74,7 +75,9 @@ fn left_by<R: AllocGlobal + Abort + Threads + Wait + Sync, G: Gate + Sync>(
         nodes,
         rule,
     } = options;
-    let ledger = Ledger::by_rule(alloc, block, &profile, rule, nodes, workers).expect(rt, "memory");
+    let ledger = Ledger::of_walk(alloc, &Walk::new(block, &profile), rule, nodes, workers).expect(
+        rt, "memory",
+    );
     let (hub, seats) = Hub::new(alloc, ledger).expect(rt, "memory");
     let Ok(seats) = work(rt, &hub, seats, block, &profile, options, gate) else {
         panic!(rt; "no memory")

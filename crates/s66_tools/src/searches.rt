@@ -6,6 +6,7 @@ use s66_isa::Profile;
 use s66_ledger::{Answer, Ledger};
 use s66_line::Block;
 use s66_model::Options;
+use s66_node::Walk;
 use s66_pool::{Free, Hub, work};
 use std::alloc::{AllocError, Global};
 use std::sync::Wait;
@@ -20,7 +21,7 @@ fn counts_of(answer: &Answer) -> Counts {
     }
 }
 
-/// A search of at most `budget` splits without workers, which keeps no history. `Err` is out of memory.
+/// A search of at most `budget` splits without workers. `Err` is out of memory.
 pub fn search_alone(
     alloc: Global,
     block: &Block,
@@ -50,7 +51,7 @@ pub fn search_by_workers<R: AllocGlobal + Threads + Wait + Sync>(
         nodes,
         rule,
     } = options;
-    let ledger = Ledger::by_rule(alloc, block, profile, rule, nodes, workers)?;
+    let ledger = Ledger::of_walk(alloc, &Walk::new(block, profile), rule, nodes, workers)?;
     let (hub, seats) = Hub::new(alloc, ledger)?;
     let seats = match work(rt, &hub, seats, block, profile, options, &Free) {
         Ok(seats) => seats,
