@@ -1,9 +1,10 @@
-//! What is found of a block before its orders are searched: a good order, and fact lines by which a certificate shows a bound. Whether
-//! they are right is for a checker to say.
+//! What is found of a block beside a search of its orders: a good order, and fact lines and a tree by which a certificate shows a bound.
+//! Whether they are right is for a checker to say.
 #![tactic(auto)]
 
 mod beam;
 mod best_first;
+mod classes;
 mod facts;
 mod floors;
 mod instance;
@@ -15,6 +16,7 @@ mod ranges;
 mod search;
 mod trees;
 mod walk;
+mod work;
 
 pub use beam::beam_below;
 pub use best_first::{Branched, Limits, branch};

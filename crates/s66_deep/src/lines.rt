@@ -6,27 +6,10 @@ ghost use Rattle.s66_deep.specs.Orders.{IsGood};
 use crate::beam::beam_below;
 use crate::facts::Finder;
 use crate::instance::Instance;
+use crate::limits::{BEAM_WIDTH, BEAMS_LIMIT, FIRST_WIDTHS, HALVES_LIMIT};
 use crate::orders::faster;
 use s66_time::Timed;
 use std::alloc::AllocError;
-
-/// How many beginnings of a length a beam keeps.
-pub(crate) const BEAM_WIDTH: usize = 64;
-
-/// The same of the first beams, one after the other.
-const WIDTHS: [usize; 3] = [2, 16, BEAM_WIDTH];
-
-/// The same of one that is tried where the others left something to be found.
-pub(crate) const WIDE_WIDTH: usize = 512;
-
-/// The same of one that is tried where some splits ended no search either.
-pub(crate) const WIDEST_WIDTH: usize = 2048;
-
-/// How often a beam goes on by the lines for a better time.
-const BEAMS_LIMIT: u32 = 4;
-
-/// How often the middle of a bound and a time is tried at most.
-const HALVES_LIMIT: u32 = 8;
 
 /// The best order, and the fact lines for orders that take less.
 #[derive(Drop)]
@@ -82,7 +65,7 @@ pub(crate) fn best_by_beams(
 {
     let (_, bound) = finder.root();
     let mut best = best;
-    for width in WIDTHS {
+    for width in FIRST_WIDTHS {
         if best.total() <= bound {
             break;
         }

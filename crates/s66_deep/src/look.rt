@@ -1,5 +1,4 @@
-ghost use Rattle.std.specs.Prelude.{◌≡◌, ◌≤◌, ◌+◌, ◌/◌, IfOk, IfSome, length};
-ghost use Rattle.s66_isa.specs.declared.limits.TheConstants.{BLOCK_LIMIT};
+ghost use Rattle.std.specs.Prelude.{◌≡◌, ◌≤◌, ◌+◌, ◌/◌, IfOk, IfSome};
 ghost use Rattle.s66_line.specs.Block.{instrs_of};
 ghost use Rattle.s66_model.specs.Answer.{source_time};
 ghost use Rattle.s66_model.specs.Timing.{Problem};
@@ -12,9 +11,8 @@ use crate::orders::{faster, source_order};
 use crate::ranges::are_lines;
 use crate::search::{Searched, Written, search};
 use crate::trees::splits_of;
-use arrayvec::ArrayVec;
 use s66_cert::{FACT_LIMIT, Tree};
-use s66_isa::{BLOCK_LIMIT, Instr, Profile};
+use s66_isa::Profile;
 use s66_line::Block;
 use s66_moments::FactLine;
 use s66_time::Timed;
@@ -44,17 +42,6 @@ pub struct Look {
     pub found: Option<Looked>,
     /// How many splits were made for it.
     pub splits: u32,
-}
-
-/// The instructions of a block.
-fn instrs_of(block: &Block) -> ArrayVec<Instr, BLOCK_LIMIT>
-    ensures { length result.items ≤ BLOCK_LIMIT }
-{
-    let mut instrs = ArrayVec::new();
-    for position in 0..block.count() {
-        instrs.push(block.instr(position + 1));
-    }
-    instrs
 }
 
 /// What is found, if a certificate may have it.
@@ -94,7 +81,7 @@ pub fn look_at(
     let written = source_order(block, profile);
     let source = written.total();
     let best = faster(written, Some(first.duplicate()));
-    let mut finder = Finder::new(alloc, instrs_of(block).as_slice(), profile)?;
+    let mut finder = Finder::new(alloc, block, profile)?;
     finder.find_loads()?;
     let instance = Instance {
         alloc,

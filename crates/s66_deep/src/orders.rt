@@ -1,9 +1,9 @@
 //! A good order of a block.
 
-ghost use Rattle.std.specs.Prelude.{◌≡◌, IfSome};
+ghost use Rattle.std.specs.Prelude.{◌≡◌, ◌<◌, IfSome};
 ghost use Rattle.s66_isa.specs.Table.{numbers};
 ghost use Rattle.s66_line.specs.Block.{instrs_of};
-ghost use Rattle.s66_model.specs.Timing.{Problem};
+ghost use Rattle.s66_model.specs.Timing.{Problem, total_of};
 ghost use Rattle.s66_deep.specs.Orders.{IsGood};
 
 use s66_dep::Order;
@@ -26,5 +26,26 @@ pub fn faster(best: Timed, other: Option<Timed>) -> Timed
     match other {
         Some(timed) if timed.total() < best.total() => timed,
         _ => best,
+    }
+}
+
+/// The order of these numbers with its times, if it is legal and its total is below the best, in minor cycles.
+pub(crate) fn timed_below(
+    block: &Block,
+    profile: &Profile,
+    numbers: &[u8],
+    best: u32,
+) -> Option<Timed>
+    ensures problem { IfSome result (λ timed. timed.problem ≡ record { block = instrs_of block.now; profile = profile.now }) }
+    ensures below { IfSome result (λ timed. total_of timed.problem timed.numbers < best) }
+{
+    let Ok(order) = Order::new(block, numbers) else {
+        return None;
+    };
+    let timed = time_of(block, profile, &order);
+    if timed.total() < best {
+        Some(timed)
+    } else {
+        None
     }
 }

@@ -6,22 +6,14 @@ ghost use Rattle.s66_deep.specs.Orders.{IsGood};
 use crate::best_first::{Branched, Limits, branch};
 use crate::facts::Finder;
 use crate::instance::Instance;
-use crate::lines::{
-    BEAM_WIDTH, Bound, Halved, Lined, WIDE_WIDTH, WIDEST_WIDTH, beam_by, best_by_lines,
-    found_below, halve,
-};
+use crate::limits::{BEAM_WIDTH, FIRST_SHARE, RAISES_LIMIT, WIDE_WIDTH, WIDEST_WIDTH};
+use crate::lines::{Bound, Halved, Lined, beam_by, best_by_lines, found_below, halve};
 use crate::orders::faster;
 use s66_cert::{Tree, TreeLine};
 use s66_line::Block;
 use s66_moments::FactLine;
 use s66_time::Timed;
 use std::alloc::{AllocError, Global};
-
-/// By how many minor cycles a bound is raised at most.
-const RAISES_LIMIT: u32 = 128;
-
-/// What part of its splits a search makes before the widest beam is tried, which takes longer than most searches.
-const FIRST_SHARE: u32 = 16;
 
 /// The lines of a document before its fact lines, but for those of its instructions.
 const HEAD_LINES: u32 = 6;
@@ -165,13 +157,11 @@ fn search_below(
         first_line: first_line(instance.block, below.lines()),
     };
     let copy = best.duplicate();
-    let tails = below.tails();
     let branched = branch(
         instance.alloc,
         instance.block,
         instance.profile,
-        below.facts(),
-        &tails,
+        &below,
         copy,
         limits,
     )?;

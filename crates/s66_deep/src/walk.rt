@@ -1,12 +1,13 @@
 ghost use Rattle.std.specs.Prelude.{◌≡◌};
 
 use crate::floors::{Left, PathBounds, Tails};
+use crate::orders::timed_below;
 use arrayvec::ArrayVec;
 use s66_bound::Bounds;
-use s66_dep::{Openings, Order, Set};
+use s66_dep::{Openings, Set};
 use s66_isa::{BLOCK_LIMIT, KINDS, Kind, Profile};
 use s66_line::Block;
-use s66_time::{Clock, Mark, Timed, time_of};
+use s66_time::{Clock, Mark, Timed};
 use s66_tree::TreeLine;
 use std::marker::Model;
 
@@ -160,20 +161,17 @@ impl<'a> Prefix<'a> {
         self.numbers.len() == self.clock.block().count()
     }
 
-    /// The whole order that it is, with its times, if it takes less than this: in time quadratic in the block's length.
+    /// The order that it is, with its times, if it is whole and takes less than this, in minor cycles: in time quadratic in the
+    /// block's length.
     pub fn timed_below(&self, total: u32) -> Option<Timed>
-        requires { IsComplete self.now.problem.block self.now.numbers }
         ensures problem { IfSome result (λ timed. timed.problem ≡ self.now.problem) }
         ensures below { IfSome result (λ timed. total_of timed.problem timed.numbers < total) }
     {
         if total <= self.clock.total() {
             return None;
         }
-        let block = self.clock.block();
-        let Ok(order) = Order::new(block, self.numbers.as_slice()) else {
-            unreachable!()
-        };
-        Some(time_of(block, self.clock.profile(), &order))
+        let (block, profile) = (self.clock.block(), self.clock.profile());
+        timed_below(block, profile, self.numbers.as_slice(), total)
     }
 
     /// The greatest path of what remains, in minor cycles: what each completion takes at least, if the tails are right.

@@ -1,12 +1,10 @@
 //! Blocks, each the only one of a source, and what is read of one.
 
-ghost use Rattle.std.specs.Prelude.{◌≡◌, ◌≤◌, length};
-ghost use Rattle.s66_isa.specs.declared.limits.TheConstants.{BLOCK_LIMIT};
+ghost use Rattle.std.specs.Prelude.{◌≡◌};
 ghost use Rattle.s66_line.specs.Block.{instrs_of};
 
-use arrayvec::ArrayVec;
 use s66_dep::Order;
-use s66_isa::{BLOCK_LIMIT, Instr, Profile};
+use s66_isa::Profile;
 use s66_line::Block;
 use s66_source::Source;
 use s66_time::{Timed, time_of};
@@ -79,17 +77,6 @@ pub fn only_block<'s, 't>(source: &'s Source<'t>) -> Option<&'s Block<'t>> {
         [block] => Some(block),
         _ => None,
     }
-}
-
-/// The instructions of a block.
-pub fn instrs_of(block: &Block) -> ArrayVec<Instr, BLOCK_LIMIT>
-    ensures { length result.items ≤ BLOCK_LIMIT }
-{
-    let mut instrs = ArrayVec::new();
-    for position in 0..block.count() {
-        instrs.push(block.instr(position + 1));
-    }
-    instrs
 }
 
 /// The order in which a block is written, with its times.

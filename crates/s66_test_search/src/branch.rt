@@ -51,8 +51,7 @@ fn search_until<R: AllocGlobal + Abort>(
         splits,
         first_line: first_line(block, finder.lines().len()),
     };
-    let (facts, tails) = (finder.facts(), finder.tails());
-    branch(rt.alloc(), block, &profile, facts, &tails, written, limits).expect(rt, "memory")
+    branch(rt.alloc(), block, &profile, finder, written, limits).expect(rt, "memory")
 }
 
 /// The tree of a search.

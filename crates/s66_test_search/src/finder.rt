@@ -1,4 +1,4 @@
-use crate::blocks::{SIXTEEN, TWENTY, TWENTY_FOUR, TWO_BOOLEANS, TWO_SUMS, as_written, instrs_of};
+use crate::blocks::{SIXTEEN, TWENTY, TWENTY_FOUR, TWO_BOOLEANS, TWO_SUMS, as_written};
 use crate::reading::{block_of, source_of};
 use crate::text::{Claimed, NONE, verdict_on};
 use s66_checker::{Reason, Verdict};
@@ -10,12 +10,7 @@ use std::process::Abort;
 
 /// What a finder knows of a block by dependences alone.
 pub fn found_at_first<R: AllocGlobal + Abort>(rt: &R, block: &Block) -> Finder {
-    Finder::new(
-        rt.alloc(),
-        instrs_of(block).as_slice(),
-        &Profile::standard(),
-    )
-    .expect(rt, "memory")
+    Finder::new(rt.alloc(), block, &Profile::standard()).expect(rt, "memory")
 }
 
 /// What a finder knows of a block that has found its loads.

@@ -2,6 +2,7 @@
 
 use crate::beam::child::{Child, Rank};
 use crate::beam::merit::Merit;
+use crate::facts::copy_of;
 use crate::walk::Prefix;
 use arrayvec::ArrayVec;
 use s66_dep::Set;
@@ -11,7 +12,7 @@ use std::alloc::{AllocError, Global};
 
 /// A beginning that is kept.
 #[derive(Drop)]
-pub struct Kept {
+pub struct Beginning {
     pub numbers: ArrayVec<u8, BLOCK_LIMIT>,
     placed: Set,
     merit: Merit,
@@ -24,10 +25,10 @@ struct Seen {
     mark: Mark,
 }
 
-impl Kept {
+impl Beginning {
     /// The empty one.
-    pub fn empty() -> Kept {
-        Kept {
+    pub fn empty() -> Beginning {
+        Beginning {
             numbers: ArrayVec::new(),
             placed: Set::empty(),
             merit: Merit { floor: 0, reach: 0 },
@@ -35,13 +36,10 @@ impl Kept {
     }
 
     /// A child of this one.
-    fn child(&self, child: &Child) -> Kept {
-        let mut numbers = ArrayVec::new();
-        for number in self.numbers.as_slice() {
-            let _ = numbers.try_push(*number);
-        }
+    fn child(&self, child: &Child) -> Beginning {
+        let mut numbers = copy_of(self.numbers.as_slice());
         let _ = numbers.try_push(child.number);
-        Kept {
+        Beginning {
             numbers,
             placed: child.placed,
             merit: child.merit,
@@ -90,7 +88,7 @@ fn is_dominated(seen: &[Seen], other: &Seen) -> bool {
 fn children_of(
     alloc: Global,
     prefix: &mut Prefix<'_>,
-    kept: &[Kept],
+    kept: &[Beginning],
     width: usize,
     best: u32,
 ) -> Result<Vec<Child>, AllocError> {
@@ -128,7 +126,7 @@ fn ranked(alloc: Global, children: &[Child]) -> Result<Vec<Rank>, AllocError> {
 }
 
 /// Whether one of these is like a child, which is no better than any of them; they are by merit, the best first.
-fn has_like(kept: &[Kept], child: &Child) -> bool {
+fn has_like(kept: &[Beginning], child: &Child) -> bool {
     for back in 0..kept.len() {
         let one = &kept[kept.len() - 1 - back];
         if one.merit != child.merit {
@@ -144,10 +142,10 @@ fn has_like(kept: &[Kept], child: &Child) -> bool {
 /// The best of the children, `most` at most, one of those that are alike.
 fn best_of(
     alloc: Global,
-    kept: &[Kept],
+    kept: &[Beginning],
     children: &[Child],
     most: usize,
-) -> Result<Vec<Kept>, AllocError> {
+) -> Result<Vec<Beginning>, AllocError> {
     let ranks = ranked(alloc, children)?;
     let mut next = Vec::new(alloc);
     for rank in ranks.as_slice() {
@@ -172,10 +170,10 @@ fn best_of(
 pub fn next_depth(
     alloc: Global,
     prefix: &mut Prefix<'_>,
-    kept: &[Kept],
+    kept: &[Beginning],
     width: usize,
     best: u32,
-) -> Result<Vec<Kept>, AllocError> {
+) -> Result<Vec<Beginning>, AllocError> {
     let children = children_of(alloc, prefix, kept, width, best)?;
     best_of(alloc, kept, children.as_slice(), width.saturating_mul(2))
 }

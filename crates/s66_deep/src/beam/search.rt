@@ -2,30 +2,14 @@ ghost use Rattle.std.specs.Prelude.{◌≡◌, ◌<◌, IfOk, IfSome};
 ghost use Rattle.s66_line.specs.Block.{instrs_of};
 ghost use Rattle.s66_model.specs.Timing.{total_of};
 
-use crate::beam::depth::{Kept, next_depth};
+use crate::beam::depth::{Beginning, next_depth};
 use crate::floors::Tails;
+use crate::orders::timed_below;
 use crate::walk::Prefix;
-use s66_dep::Order;
 use s66_isa::{BLOCK_LIMIT, Profile};
 use s66_line::Block;
-use s66_time::{Timed, time_of};
+use s66_time::Timed;
 use std::alloc::{AllocError, Global};
-
-/// The order of these numbers with its times, if it is legal and its total is below the best.
-fn timed_below(block: &Block, profile: &Profile, numbers: &[u8], best: u32) -> Option<Timed>
-    ensures problem { IfSome result (λ timed. timed.problem ≡ record { block = instrs_of block.now; profile = profile.now }) }
-    ensures below { IfSome result (λ timed. total_of timed.problem timed.numbers < best) }
-{
-    let Ok(order) = Order::new(block, numbers) else {
-        return None;
-    };
-    let timed = time_of(block, profile, &order);
-    if timed.total() < best {
-        Some(timed)
-    } else {
-        None
-    }
-}
 
 /// The whole order with the least total that a beam of this width finds, with its times, if that is below `best`, in minor cycles;
 /// None if it finds none.
@@ -49,7 +33,7 @@ pub fn beam_below(
 {
     let mut prefix = Prefix::new(block, profile, tails);
     let mut kept = Vec::new(alloc);
-    kept.push(Kept::empty())?;
+    kept.push(Beginning::empty())?;
     for _ in 0..block.count() {
         kept = next_depth(alloc, &mut prefix, kept.as_slice(), width, best)?;
     }

@@ -1,5 +1,6 @@
 //! The uses that begin of one kind of unit, and how long they keep its units.
 
+use crate::work::Work;
 use arrayvec::ArrayVec;
 use s66_isa::BLOCK_LIMIT;
 
@@ -22,56 +23,18 @@ pub struct Chosen {
     count: usize,
 }
 
-/// Some uses of one kind of unit.
-#[derive(Clone, Copy)]
-struct Work {
-    count: u32,
-    /// How long they are together, and the least of them.
-    amount: u32,
-    least: u32,
-}
-
-impl Work {
-    /// None.
-    fn none() -> Work {
-        Work {
-            count: 0,
-            amount: 0,
-            least: u32::MAX,
-        }
-    }
-
-    /// The same with one more.
-    fn with(&self, amount: u32) -> Work {
-        Work {
-            count: self.count.saturating_add(1),
-            amount: self.amount.saturating_add(amount),
-            least: self.least.min(amount),
-        }
-    }
-
-    /// Whether so many units have work by these for a time at least.
-    fn takes(&self, copies: u32, time: u32) -> bool {
-        if copies.saturating_mul(time.saturating_sub(1)) < self.amount {
-            return true;
-        }
-        // one unit has so many of them
-        copies > 1 && self.count.div_ceil(copies).saturating_mul(self.least) >= time
-    }
-}
-
 /// Whether an order takes `low` at least, in which units have this work from a minor cycle on, and so much is left after it.
 fn is_long(after: u32, work: &Work, copies: u32, left: u32, low: u32) -> bool {
     match low.checked_sub(after.saturating_add(left)) {
         None => true,
         // by then the work is to be over in an order that takes less
-        Some(time) => work.takes(copies, time),
+        Some(time) => time <= work.time(copies),
     }
 }
 
 /// How many of these it takes, from the first on, until those that begin so late show that an order takes `low` at least.
 fn count_shown(begun: &[Begun], after: u32, copies: u32, low: u32) -> Option<usize> {
-    let mut work = Work::none();
+    let mut work = Work::default();
     for place in 0..begun.len() {
         let one = &begun[place];
         if one.soonest < after {

@@ -1,12 +1,13 @@
 //! The prefixes that may dominate others, to be found by the sets of their numbers.
 
 ghost use Rattle.std.specs.Prelude.{◌≤◌, length};
-ghost use Rattle.s66_deep.specs.declared.best_first.kept.TheConstants.{KEPT_LIMIT};
+ghost use Rattle.s66_deep.specs.declared.limits.TheConstants.{KEPT_LIMIT};
 
 use crate::best_first::allowed::Allowed;
 use crate::best_first::nodes::Nodes;
 use crate::best_first::remaining::Remaining;
 use crate::best_first::waits::Waits;
+use crate::limits::{KEPT_LIMIT, LOOK_LIMIT};
 use s66_dep::Set;
 use s66_isa::{KINDS, Profile};
 use s66_time::{Clock, Mark, dominates_clamped};
@@ -17,12 +18,6 @@ const NONE: u32 = u32::MAX;
 
 /// How many lists there are at first.
 const FIRST_LISTS: usize = 64;
-
-/// At how many prefixes of a list one look goes.
-const LOOK_LIMIT: usize = 64;
-
-/// The most prefixes that are kept.
-const KEPT_LIMIT: usize = 262_144;
 
 /// What is compared of two prefixes before their words.
 #[derive(Clone, Copy)]
@@ -55,7 +50,7 @@ pub struct Sought {
     pub waits: Waits,
 }
 
-/// Prefixes, each in the list of the hash of its set, some 170 bytes each, and some 380 more with its mark. At most 262,144 are kept.
+/// A transposition table: prefixes, each in the list of the hash of its set, some 170 bytes each, and some 380 more with its mark. At most 262,144 are kept.
 ///
 /// Nothing is promised of what is in which list: who looks for a set compares it with that of each entry.
 #[derive(Drop)]
@@ -117,7 +112,7 @@ impl Key {
 
 impl Kept {
     ghost use Rattle.std.specs.Prelude.{◌≤◌, length};
-    ghost use Rattle.s66_deep.specs.declared.best_first.kept.TheConstants.{KEPT_LIMIT};
+    ghost use Rattle.s66_deep.specs.declared.limits.TheConstants.{KEPT_LIMIT};
 
     /// No prefix under a profile.
     pub fn new(alloc: Global, profile: &Profile) -> Kept {

@@ -1,12 +1,12 @@
 //! Loads that close a prefix: units of one kind have so much work for what remains.
 
 use crate::best_first::begun::{Begun, Chosen, choose, numbers_of};
-use crate::best_first::known::Known;
+use crate::best_first::instructions::Instructions;
 use crate::best_first::remaining::{next_issue, operands};
 use crate::floors::Tails;
 use arrayvec::ArrayVec;
 use s66_dep::Set;
-use s66_isa::{BLOCK_LIMIT, KIND_COUNT, KINDS, Kind, Profile, Row};
+use s66_isa::{BLOCK_LIMIT, KIND_COUNT, KINDS, Kind};
 use s66_time::Clock;
 use std::alloc::{AllocError, Global};
 
@@ -45,7 +45,7 @@ struct Uses {
 
 /// A load that closes a prefix: these numbers of one kind remain and rise, and none of them uses its unit sooner if it comes next.
 #[derive(Drop)]
-pub struct Load {
+pub struct ClosingLoad {
     /// In minor cycles.
     pub after: u32,
     pub numbers: ArrayVec<u8, BLOCK_LIMIT>,
@@ -71,9 +71,8 @@ impl Head {
     }
 }
 
-/// The use by a number with this row, where this follows its stages.
-fn use_of(n: u8, row: &Row, tails: &Tails, begin: Begin) -> Use {
-    let amount = row.hold.saturating_add(1);
+/// The use by a number that has its unit for so long, where this follows its stages.
+fn use_of(n: u8, amount: u32, tails: &Tails, begin: Begin) -> Use {
     let tail = match begin {
         Begin::Issue => tails.issue,
         Begin::Start => tails.start,
@@ -88,17 +87,15 @@ fn use_of(n: u8, row: &Row, tails: &Tails, begin: Begin) -> Use {
 /// The uses of a kind, by what follows the stages of each number, that of n at place n - 1; those first after which most is left.
 fn uses_of(
     alloc: Global,
-    known: &Known,
+    instructions: &Instructions<'_>,
     kind: Kind,
     tails: &[Tails; BLOCK_LIMIT],
     begin: Begin,
 ) -> Result<Vec<Use>, AllocError> {
     let mut uses = Vec::new(alloc);
-    for n in known.takers(kind).numbers().as_slice() {
-        if let Some(row) = known.row(*n)
-            && let Some(tails) = tails.get((*n as usize).saturating_sub(1))
-        {
-            uses.push(use_of(*n, row, tails, begin))?;
+    for n in instructions.takers(kind).numbers().as_slice() {
+        if let Some(tails) = tails.get((*n as usize).saturating_sub(1)) {
+            uses.push(use_of(*n, instructions.amount(*n), tails, begin))?;
         }
     }
     uses.sort_by(|a, b| b.left.cmp(&a.left))?;
@@ -137,17 +134,16 @@ impl Loads {
     /// `AllocError` if memory runs out.
     pub fn of(
         alloc: Global,
-        known: &Known,
-        profile: &Profile,
+        instructions: &Instructions<'_>,
         tails: &[Tails; BLOCK_LIMIT],
     ) -> Result<Loads, AllocError> {
         let mut uses = Vec::with_capacity(alloc, KIND_COUNT)?;
         for kind in KINDS {
             uses.push(Uses {
                 kind,
-                copies: profile.copies(kind),
-                from_issue: uses_of(alloc, known, kind, tails, Begin::Issue)?,
-                from_start: uses_of(alloc, known, kind, tails, Begin::Start)?,
+                copies: instructions.copies(kind),
+                from_issue: uses_of(alloc, instructions, kind, tails, Begin::Issue)?,
+                from_start: uses_of(alloc, instructions, kind, tails, Begin::Start)?,
             })?;
         }
         Ok(Loads {
@@ -160,7 +156,7 @@ impl Loads {
 
 /// Puts the heads of these numbers after the prefix of a clock into their room, where a unit of their kind is free from then on.
 fn put_heads(
-    known: &Known,
+    instructions: &Instructions<'_>,
     clock: &Clock<'_>,
     numbers: &Set,
     free: u32,
@@ -168,7 +164,7 @@ fn put_heads(
 ) {
     let mut rest = *numbers;
     while let Some(n) = rest.pop_first() {
-        if let Some(row) = known.row(n)
+        if let Some(row) = instructions.row(n)
             && let Some(head) = heads.get_mut((n as usize).saturating_sub(1))
         {
             let issue = next_issue(clock, row, free);
@@ -183,19 +179,19 @@ impl Loads {
     /// room.
     fn choose_of(
         &mut self,
-        known: &Known,
+        instructions: &Instructions<'_>,
         clock: &Clock<'_>,
         low: u32,
         place: usize,
     ) -> Option<Chosen> {
         let uses = self.uses.get(place)?;
-        let numbers = known.takers(uses.kind).without(&clock.pushed());
+        let numbers = instructions.takers(uses.kind).without(&clock.pushed());
         // as many as there are units wait for no other
         if numbers.count() <= uses.copies {
             return None;
         }
         let free = clock.soonest_free(uses.kind);
-        put_heads(known, clock, &numbers, free, &mut self.heads);
+        put_heads(instructions, clock, &numbers, free, &mut self.heads);
         for (begin, those) in [
             (Begin::Issue, &uses.from_issue),
             (Begin::Start, &uses.from_start),
@@ -215,9 +211,14 @@ impl Loads {
     }
 
     /// The same of all kinds.
-    fn choose(&mut self, known: &Known, clock: &Clock<'_>, low: u32) -> Option<Chosen> {
+    fn choose(
+        &mut self,
+        instructions: &Instructions<'_>,
+        clock: &Clock<'_>,
+        low: u32,
+    ) -> Option<Chosen> {
         for place in 0..self.uses.len() {
-            if let Some(chosen) = self.choose_of(known, clock, low, place) {
+            if let Some(chosen) = self.choose_of(instructions, clock, low, place) {
                 return Some(chosen);
             }
         }
@@ -226,14 +227,19 @@ impl Loads {
 
     /// Whether a load shows that an order takes `low` at least if it begins with the prefix of a clock: for each kind a few looks at each
     /// instruction that remains, and one more for each minor cycle at which another one begins.
-    pub fn close(&mut self, known: &Known, clock: &Clock<'_>, low: u32) -> bool {
-        self.choose(known, clock, low).is_some()
+    pub fn close(&mut self, instructions: &Instructions<'_>, clock: &Clock<'_>, low: u32) -> bool {
+        self.choose(instructions, clock, low).is_some()
     }
 
     /// The load that shows it, if one does, in the same time.
-    pub fn closing(&mut self, known: &Known, clock: &Clock<'_>, low: u32) -> Option<Load> {
-        let chosen = self.choose(known, clock, low)?;
-        Some(Load {
+    pub fn closing(
+        &mut self,
+        instructions: &Instructions<'_>,
+        clock: &Clock<'_>,
+        low: u32,
+    ) -> Option<ClosingLoad> {
+        let chosen = self.choose(instructions, clock, low)?;
+        Some(ClosingLoad {
             after: chosen.after,
             numbers: numbers_of(self.begun.as_slice(), &chosen),
         })

@@ -3,10 +3,9 @@
 
 mod allowed;
 mod begun;
+mod instructions;
 mod kept;
-mod known;
 mod loads;
-mod lookers;
 mod nodes;
 mod open;
 mod remaining;

@@ -1,9 +1,9 @@
 //! How soon the instructions that remain after a prefix can look at what it leaves them.
 
-use crate::best_first::known::Known;
+use crate::best_first::instructions::Instructions;
 use crate::best_first::waits::{READERS_AT, REFERENCES_AT, STORES_AT, UNITS_AT};
 use s66_dep::Set;
-use s66_isa::Row;
+use s66_isa::{KINDS, Row};
 use s66_time::Clock;
 
 /// When an instruction looks at a word.
@@ -38,7 +38,7 @@ pub fn operands(clock: &Clock<'_>, row: &Row) -> u32 {
 /// The numbers that remain after a prefix, which has this clock.
 #[derive(Clone, Copy)]
 pub struct Remaining<'s, 'a> {
-    known: &'s Known,
+    instructions: &'s Instructions<'a>,
     pub clock: &'s Clock<'a>,
     numbers: Set,
 }
@@ -49,22 +49,22 @@ impl<'s, 'a> Remaining<'s, 'a> {
     ghost use Rattle.s66_deep.specs.declared.best_first.waits.TheConstants.{WORD_COUNT};
 
     /// After the prefix of a clock.
-    pub fn new(known: &'s Known, clock: &'s Clock<'a>) -> Remaining<'s, 'a> {
+    pub fn new(instructions: &'s Instructions<'a>, clock: &'s Clock<'a>) -> Remaining<'s, 'a> {
         Remaining {
-            known,
+            instructions,
             clock,
-            numbers: known.without(&clock.pushed()),
+            numbers: instructions.without(&clock.pushed()),
         }
     }
 
     /// The soonest issue of n by its turn: what remains and is known to stand before it issues first, a parcel in a minor cycle.
     fn turn(&self, n: u8) -> u32 {
-        let before = self.known.before(n).both(&self.numbers);
+        let before = self.instructions.before(n).both(&self.numbers);
         // nothing has to come before most numbers, and counting takes longer than this look
         if before == Set::empty() {
             return self.clock.next();
         }
-        let second_parcels = before.both(&self.known.lookers.long).count();
+        let second_parcels = before.both(&self.instructions.long).count();
         self.clock
             .next()
             .saturating_add(before.count())
@@ -95,7 +95,7 @@ impl<'s, 'a> Remaining<'s, 'a> {
 
     /// The soonest look of n; 0 if the block has no such number.
     fn moment(&self, n: u8, look: Look) -> u32 {
-        let Some(row) = self.known.row(n) else {
+        let Some(row) = self.instructions.row(n) else {
             return 0;
         };
         match look {
@@ -119,29 +119,30 @@ impl<'s, 'a> Remaining<'s, 'a> {
     fn soonest_use(&self, register: usize) -> u32
         requires { register < REGISTER_COUNT }
     {
-        let lookers = &self.known.lookers;
-        let written = self.soonest(&lookers.writers[register], Look::Issue);
-        written.min(self.soonest(&lookers.readers[register], Look::Start))
+        let instructions = self.instructions;
+        let written = self.soonest(&instructions.writers[register], Look::Issue);
+        written.min(self.soonest(&instructions.readers[register], Look::Start))
     }
 
     /// The soonest moment at which a number that remains looks at the word at a place; the greatest number if none does.
     pub fn soonest_look(&self, place: usize) -> u32
         requires { place < WORD_COUNT }
     {
-        let lookers = &self.known.lookers;
+        let instructions = self.instructions;
         if place < STORES_AT {
             return self.soonest_use(place);
         }
         if place == STORES_AT {
-            return self.soonest(&lookers.loads, Look::Start);
+            return self.soonest(&instructions.loads, Look::Start);
         }
         if place == REFERENCES_AT {
-            return self.soonest(&lookers.stores, Look::Start);
+            return self.soonest(&instructions.stores, Look::Start);
         }
         if place < READERS_AT {
-            return self.soonest(&lookers.takers[(place - UNITS_AT) / 2], Look::Issue);
+            let takers = instructions.takers(KINDS[(place - UNITS_AT) / 2]);
+            return self.soonest(&takers, Look::Issue);
         }
         let register = place - READERS_AT;
-        self.soonest(&lookers.writers[register], Look::Result(register))
+        self.soonest(&instructions.writers[register], Look::Result(register))
     }
 }

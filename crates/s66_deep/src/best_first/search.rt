@@ -1,11 +1,10 @@
 ghost use Rattle.std.specs.Prelude.{◌≡◌, ◌≤◌, IfOk};
 ghost use Rattle.s66_line.specs.Block.{instrs_of};
-ghost use Rattle.s66_model.specs.LegalOrder.{IsComplete};
 ghost use Rattle.s66_model.specs.Timing.{total_of};
 ghost use Rattle.s66_deep.specs.Branching.{IsNoSlower};
 
+use crate::best_first::instructions::Instructions;
 use crate::best_first::kept::{Kept, Key, Sought};
-use crate::best_first::known::Known;
 use crate::best_first::loads::Loads;
 use crate::best_first::nodes::{Fate, Node, Nodes, ROOT};
 use crate::best_first::open::{Next, Open};
@@ -13,9 +12,8 @@ use crate::best_first::remaining::Remaining;
 use crate::best_first::trail::Trail;
 use crate::best_first::waits::{Waits, word};
 use crate::best_first::writer::{Leaves, written};
-use crate::floors::Tails;
+use crate::facts::Finder;
 use crate::walk::Prefix;
-use s66_facts::Facts;
 use s66_isa::{BLOCK_LIMIT, Profile};
 use s66_line::Block;
 use s66_time::Timed;
@@ -65,7 +63,7 @@ enum Found {
 #[derive(Drop)]
 struct Search<'a> {
     trail: Trail<'a>,
-    known: Known,
+    instructions: Instructions<'a>,
     loads: Loads,
     nodes: Nodes,
     open: Open,
@@ -91,12 +89,11 @@ impl<'a> Model for Search<'a> {
     ghost invariant = { λ s. s.trail ≡ s.best.problem };
 }
 
-/// Keeps the whole order that a prefix is, if it is faster than the best.
+/// Keeps the whole order that a prefix is, if it is one and faster than the best.
 // few prefixes come here, and no other is to pay for its locals
 #[inline(never)]
 fn keep_faster(prefix: &Prefix<'_>, best: &mut Timed)
-    requires complete { IsComplete prefix.now.problem.block prefix.now.numbers }
-    requires same { prefix.now.problem ≡ best.old.problem }
+    requires { prefix.now.problem ≡ best.old.problem }
     ensures { IsNoSlower best.old best.new }
 {
     if let Some(timed) = prefix.timed_below(best.total()) {
@@ -127,7 +124,7 @@ impl<'a> Search<'a> {
 
     /// What becomes of the prefix at which the trail is, if another one that is kept dominates it.
     fn dominated(&self, sought: &Sought) -> Option<Fate> {
-        let remaining = Remaining::new(&self.known, self.trail.prefix.clock());
+        let remaining = Remaining::new(&self.instructions, self.trail.prefix.clock());
         let other = self.kept.find(&self.nodes, &remaining, sought)?;
         Some(Fate::Dominated {
             other,
@@ -137,7 +134,10 @@ impl<'a> Search<'a> {
 
     /// The first number that is known to stand before n and isn't in the prefix.
     fn missing_before(&self, n: u8) -> Option<u8> {
-        let mut missing = self.known.before(n).without(&self.trail.prefix.pushed());
+        let mut missing = self
+            .instructions
+            .before(n)
+            .without(&self.trail.prefix.pushed());
         missing.pop_first()
     }
 
@@ -205,7 +205,7 @@ impl<'a> Search<'a> {
         let first = self.nodes.len();
         let ready = self.trail.prefix.ready().numbers();
         for n in ready.as_slice() {
-            let after = self.known.place_after(place, *n);
+            let after = self.instructions.place_after(place, *n);
             if !self.add_child(node, after, *n)? {
                 return Ok(false);
             }
@@ -224,7 +224,7 @@ impl<'a> Search<'a> {
             return Some(fate);
         }
         let clock = self.trail.prefix.clock();
-        if self.loads.close(&self.known, clock, self.low) {
+        if self.loads.close(&self.instructions, clock, self.low) {
             return Some(Fate::Closed);
         }
         None
@@ -288,9 +288,8 @@ impl<'a> Search<'a> {
 }
 
 /// Goes through the legal orders of a block under a profile that take less than a limit, the most promising prefix first, and writes the
-/// tree of why none does, or why none takes less than the fastest that it met. `best` is the fastest order so far. The facts are of the
-/// orders below the limit, and so are the tails: what follows the stages of number n, at place n - 1, in minor cycles. What was found
-/// for a greater time stays so when a faster order is met.
+/// tree of why none does, or why none takes less than the fastest that it met. `best` is the fastest order so far. What the finder knows of
+/// the block is so in the orders below the limit; it stays so when a faster order is met.
 ///
 /// A child of a split costs a push, an undo, a few looks for each word of its clock that is late, and at most 64 comparisons with others
 /// of the same numbers; for each word that is later in one of them, once a look at each instruction that remains and waits for it. A
@@ -305,8 +304,7 @@ pub fn branch(
     alloc: Global,
     block: &Block<'_>,
     profile: &Profile,
-    facts: &Facts,
-    tails: &[Tails; BLOCK_LIMIT],
+    finder: &Finder,
     best: Timed,
     limits: Limits,
 ) -> Result<Branched, AllocError>
@@ -315,11 +313,12 @@ pub fn branch(
     ensures total { IfOk result (λ branched. total_of branched.best.problem branched.best.numbers ≤ total_of best.problem best.numbers) }
     ensures splits { IfOk result (λ branched. branched.splits ≤ limits.splits) }
 {
-    let known = Known::new(block, profile, facts);
+    let instructions = Instructions::new(finder);
+    let tails = finder.tails();
     let mut search = Search {
-        trail: Trail::new(Prefix::new(block, profile, tails)),
-        loads: Loads::of(alloc, &known, profile, tails)?,
-        known,
+        trail: Trail::new(Prefix::new(block, profile, &tails)),
+        loads: Loads::of(alloc, &instructions, &tails)?,
+        instructions,
         nodes: Nodes::new(alloc)?,
         open: Open::new(alloc),
         kept: Kept::new(alloc, profile),
@@ -334,8 +333,8 @@ pub fn branch(
     let shows_more = limits.enough < bound && !search.has_enough();
     let Search {
         mut trail,
-        known,
-        mut loads,
+        instructions,
+        loads,
         nodes,
         open,
         kept,
@@ -355,8 +354,8 @@ pub fn branch(
         });
     }
     let leaves = Leaves {
-        known: &known,
-        loads: &mut loads,
+        instructions: &instructions,
+        loads,
         low: bound,
     };
     let tree = written(alloc, &mut trail, &nodes, leaves, limits.first_line)?;

@@ -2,7 +2,7 @@
 
 ghost use Rattle.std.specs.Prelude.{◌≡◌};
 
-use crate::best_first::known::Known;
+use crate::best_first::instructions::Instructions;
 use crate::best_first::loads::Loads;
 use crate::best_first::nodes::{Fate, Node, Nodes, ROOT};
 use crate::best_first::trail::Trail;
@@ -91,8 +91,8 @@ fn next_of(nodes: &Nodes, index: u32, fate: Fate) -> Option<u32> {
 /// By what leaves close their prefixes.
 #[derive(Drop)]
 pub struct Leaves<'s> {
-    pub known: &'s Known,
-    pub loads: &'s mut Loads,
+    pub instructions: &'s Instructions<'s>,
+    pub loads: Loads,
     /// What each has to show at least, in minor cycles.
     pub low: u32,
 }
@@ -108,7 +108,10 @@ impl Leaves<'_> {
             tree.push(line)?;
             return Ok(true);
         }
-        let Some(load) = self.loads.closing(self.known, prefix.clock(), self.low) else {
+        let Some(load) = self
+            .loads
+            .closing(self.instructions, prefix.clock(), self.low)
+        else {
             return Ok(false);
         };
         tree.push(TreeLine::LoadFrom(load.after, load.numbers.as_slice()))?;

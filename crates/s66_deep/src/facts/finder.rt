@@ -1,15 +1,12 @@
 //! Finds fact lines of a block.
 
-ghost use Rattle.std.specs.Prelude.{◌≤◌, length};
-ghost use Rattle.s66_isa.specs.declared.limits.TheConstants.{BLOCK_LIMIT};
-
+use crate::facts::copies::{copies_of, copy_of_line};
 use crate::facts::ground::Ground;
-use crate::facts::known::Known;
-use crate::facts::lines::{copies_of, copy_of_line};
 use crate::facts::load::{Best, Load};
 use crate::facts::needed::needed_of;
 use crate::facts::network::Network;
 use crate::facts::pairs::Forced;
+use crate::facts::precedence::Precedence;
 use crate::facts::sketch::Sketch;
 use crate::facts::spans::{FROM_ORIGIN, Spans, TO_END, at_issue};
 use crate::facts::taken::{Taken, word};
@@ -18,7 +15,8 @@ use crate::floors::Tails;
 use crate::limits::{PASSES_LIMIT, ROUNDS_LIMIT, WAIT_LIMIT};
 use s66_dep::Set;
 use s66_facts::{Facts, Times};
-use s66_isa::{BLOCK_LIMIT, Instr, KINDS, Kind, Profile};
+use s66_isa::{BLOCK_LIMIT, KINDS, Kind, Profile};
+use s66_line::Block;
 use s66_moments::{FactLine, LoadLine, Moment, Stage};
 use std::alloc::{AllocError, Global};
 use std::boxed::Box;
@@ -79,7 +77,7 @@ fn tails_of(times: &Times) -> Tails {
 
 /// A load line as it was found, and the numbers of a kind from which its own are.
 #[derive(Clone, Copy)]
-struct Found {
+struct FoundLoad {
     best: Best,
     kind: Kind,
     numbers: Set,
@@ -95,7 +93,7 @@ fn load_of<'a>(
     numbers: Set,
 ) -> Load<'a> {
     Load {
-        rows: ground.rows(),
+        ground,
         spans,
         from: front_place(from),
         to: back_place(to),
@@ -106,9 +104,7 @@ fn load_of<'a>(
 
 impl Finder {
     /// Knows only what follows by dependence. `Err` is out of memory.
-    pub fn new(alloc: Global, block: &[Instr], profile: &Profile) -> Result<Finder, AllocError>
-        requires { length block.now ≤ BLOCK_LIMIT }
-    {
+    pub fn new(alloc: Global, block: &Block<'_>, profile: &Profile) -> Result<Finder, AllocError> {
         Finder::of_ground(alloc, Box::new(alloc, Ground::of(block, profile))?)
     }
 
@@ -160,8 +156,13 @@ impl Finder {
         tails
     }
 
+    /// What the block's instructions need.
+    pub(crate) fn ground(&self) -> &Ground {
+        &self.ground
+    }
+
     /// What is known.
-    pub fn facts(&self) -> &Facts {
+    pub(crate) fn facts(&self) -> &Facts {
         self.taken.facts()
     }
 
@@ -196,7 +197,7 @@ impl Finder {
             return self.duplicate();
         }
         let lines = self.lines.as_slice();
-        let known = Known::of(Taken::new(&self.ground).facts());
+        let known = Precedence::of(Taken::new(&self.ground).facts());
         let first = Sketch::of(self.alloc, &self.ground, known)?;
         let places = needed_of(self.alloc, first, lines, bound)?;
         let mut other = self.without_lines()?;
@@ -217,7 +218,7 @@ impl Finder {
     }
 
     /// The arcs by what is known.
-    fn network(&self, known: &Known) -> Result<Network, AllocError> {
+    fn network(&self, known: &Precedence) -> Result<Network, AllocError> {
         Network::of(self.alloc, &self.ground, known, self.lines.as_slice())
     }
 
@@ -227,7 +228,7 @@ impl Finder {
             if self.root().1 >= bound {
                 return Ok(true);
             }
-            let known = Known::of(self.taken.facts());
+            let known = Precedence::of(self.taken.facts());
             let network = self.network(&known)?;
             let forced = Forced::of(&self.ground, &known, &network, bound);
             if !self.take_forced(&known, &forced, bound)? {
@@ -240,7 +241,7 @@ impl Finder {
     /// Takes forced pairs; whether there are some. With one of a ring some path takes the bound.
     fn take_forced(
         &mut self,
-        known: &Known,
+        known: &Precedence,
         forced: &Forced,
         bound: u32,
     ) -> Result<bool, AllocError> {
@@ -278,7 +279,7 @@ impl Finder {
 
     /// Takes load lines from all places, the last ones first, so that what stands between two is known; whether some are taken.
     fn take_loads(&mut self, has_origin: bool) -> Result<bool, AllocError> {
-        let known = Known::of(self.taken.facts());
+        let known = Precedence::of(self.taken.facts());
         let network = self.network(&known)?;
         let mut spans = Spans::of(self.alloc, &network, self.taken.facts().count())?;
         let mut is_more = false;
@@ -297,7 +298,7 @@ impl Finder {
     /// Takes load lines from a number, or from the origin, if it is 0; whether some are taken.
     fn take_from(
         &mut self,
-        known: &Known,
+        known: &Precedence,
         spans: &mut Spans,
         from: u8,
     ) -> Result<bool, AllocError> {
@@ -318,11 +319,11 @@ impl Finder {
     /// What says most between two places, if with it a path from the origin or to the end grows.
     fn best_between(
         &mut self,
-        known: &Known,
+        known: &Precedence,
         spans: &Spans,
         from: u8,
         to: u8,
-    ) -> Result<Option<Found>, AllocError> {
+    ) -> Result<Option<FoundLoad>, AllocError> {
         let between = known.between(from, to);
         let mut wait = wait_known(spans, from, to);
         let mut found = None;
@@ -330,7 +331,7 @@ impl Finder {
             let numbers = between.both(&self.ground.users(kind));
             if let Some(best) = self.best_of(spans, from, to, kind, numbers, wait)? {
                 wait = u32::try_from(best.wait).unwrap_or(u32::MAX);
-                found = Some(Found {
+                found = Some(FoundLoad {
                     best,
                     kind,
                     numbers,
@@ -360,7 +361,7 @@ impl Finder {
     /// Takes the load line that says most between two places, if one is worth it; whether one is taken.
     fn take_between(
         &mut self,
-        known: &Known,
+        known: &Precedence,
         spans: &mut Spans,
         from: u8,
         to: u8,

@@ -3,9 +3,12 @@
 ghost use Rattle.std.specs.Prelude.{◌≤◌, length};
 ghost use Rattle.s66_isa.specs.declared.limits.TheConstants.{BLOCK_LIMIT};
 
+use crate::facts::copies::copy_of;
 use arrayvec::ArrayVec;
 use s66_dep::Set;
 use s66_isa::{BLOCK_LIMIT, Instr, KIND_COUNT, KINDS, Kind, Profile, Row, kind_number};
+use s66_line::Block;
+use s66_time::rows_of;
 
 /// A block under a profile, its rows, and its units.
 #[derive(Drop)]
@@ -19,26 +22,13 @@ pub struct Ground {
     users: [Set; KIND_COUNT],
 }
 
-/// The same instructions.
-fn copy_of(block: &[Instr]) -> ArrayVec<Instr, BLOCK_LIMIT> {
-    let mut copy = ArrayVec::new();
-    for instr in block {
-        if !copy.is_full() {
-            copy.push(*instr);
-        }
+/// The instructions of a block.
+fn instrs_of(block: &Block<'_>) -> ArrayVec<Instr, BLOCK_LIMIT> {
+    let mut instrs = ArrayVec::new();
+    for position in 0..block.count() {
+        instrs.push(block.instr(position + 1));
     }
-    copy
-}
-
-/// The rows of a block's instructions.
-fn rows_of(block: &[Instr], profile: &Profile) -> ArrayVec<Row, BLOCK_LIMIT> {
-    let mut rows: ArrayVec<Row, BLOCK_LIMIT> = ArrayVec::new();
-    for instr in block {
-        if !rows.is_full() {
-            rows.push(Row::of(instr, profile));
-        }
-    }
-    rows
+    instrs
 }
 
 /// The numbers that need a unit of each kind.
@@ -64,16 +54,15 @@ fn copies_of(profile: &Profile) -> [u32; KIND_COUNT] {
 }
 
 impl Ground {
-    /// Of a block under a profile, which has at most `BLOCK_LIMIT` instructions.
-    pub fn of(block: &[Instr], profile: &Profile) -> Ground {
+    /// Of a block under a profile.
+    pub fn of(block: &Block<'_>, profile: &Profile) -> Ground {
         let rows = rows_of(block, profile);
-        let users = users_of(rows.as_slice());
         Ground {
-            block: copy_of(block),
+            block: instrs_of(block),
             profile: *profile,
-            rows,
             copies: copies_of(profile),
-            users,
+            users: users_of(rows.as_slice()),
+            rows,
         }
     }
 
@@ -107,7 +96,9 @@ impl Ground {
     }
 
     /// The rows; that of number n is at n - 1.
-    pub fn rows(&self) -> &[Row] {
+    pub fn rows(&self) -> &[Row]
+        ensures { length result.now ≤ BLOCK_LIMIT }
+    {
         self.rows.as_slice()
     }
 
@@ -117,6 +108,14 @@ impl Ground {
             return None;
         }
         self.rows.get(n as usize - 1)
+    }
+
+    /// How long an instruction has its unit, in minor cycles; 0 if the block has no such number.
+    pub fn amount(&self, n: u8) -> u32 {
+        match self.row(n) {
+            None => 0,
+            Some(row) => row.hold.saturating_add(1),
+        }
     }
 
     /// How many units there are of a kind.

@@ -1,9 +1,10 @@
 //! Instructions of a kind between two places, of which a load line may speak.
 
+use crate::facts::ground::Ground;
 use crate::facts::spans::{Spans, at_issue, at_start};
 use arrayvec::ArrayVec;
 use s66_dep::Set;
-use s66_isa::{BLOCK_LIMIT, Row};
+use s66_isa::BLOCK_LIMIT;
 
 /// What may be said of a load: its instructions begin so late, and so much is left after them; the wait follows.
 #[derive(Clone, Copy)]
@@ -28,7 +29,7 @@ pub struct Way {
 /// Instructions that need units of a kind between two places.
 #[derive(Clone, Copy)]
 pub struct Load<'a> {
-    pub rows: &'a [Row],
+    pub ground: &'a Ground,
     pub spans: &'a Spans,
     pub from: usize,
     pub to: usize,
@@ -37,65 +38,12 @@ pub struct Load<'a> {
     pub copies: u32,
 }
 
-/// How long some instructions have units of one kind.
-#[derive(Clone, Copy, Default)]
-pub struct Amounts {
-    count: u32,
-    sum: u32,
-    least: u32,
-    greatest: u32,
-}
-
-/// What one of so many units has of this at least.
-fn over(work: u32, copies: u32) -> u32 {
-    match copies {
-        0 | 1 => work,
-        _ => work.saturating_add(copies - 1) / copies,
-    }
-}
-
-impl Amounts {
-    /// The same with one more.
-    pub fn with(&self, amount: u32) -> Amounts {
-        Amounts {
-            count: self.count.saturating_add(1),
-            sum: self.sum.saturating_add(amount),
-            least: match self.count {
-                0 => amount,
-                _ => self.least.min(amount),
-            },
-            greatest: self.greatest.max(amount),
-        }
-    }
-
-    /// How long so many units have work by all of them at least, if each is one unit's.
-    pub fn time(&self, copies: u32) -> u32 {
-        over(self.sum, copies).max(over(self.count, copies).saturating_mul(self.least))
-    }
-
-    /// No less than they have by any of them.
-    pub fn longest_time(&self, copies: u32) -> u32 {
-        over(self.sum, copies).max(over(self.count, copies).saturating_mul(self.greatest))
-    }
-}
-
 impl Load<'_> {
-    /// How long an instruction has its unit.
-    pub fn amount(&self, n: u8) -> u32 {
-        if n == 0 {
-            return 0;
-        }
-        match self.rows.get(n as usize - 1) {
-            None => 0,
-            Some(row) => row.hold.saturating_add(1),
-        }
-    }
-
     /// The way of an instruction whose use begins at a place, if there are paths to there and from there.
     pub fn way(&self, n: u8, place: usize) -> Option<Way> {
         let head = self.spans.between(self.from, place)?;
         let tail = self.spans.between(place, self.to)?;
-        let amount = self.amount(n);
+        let amount = self.ground.amount(n);
         Some(Way {
             number: n,
             amount,

@@ -1,10 +1,11 @@
-//! The arcs between the moments of a block, without those that a longer path covers.
+//! The arcs between the moments of a block, without those that a longer path covers, and the longest paths by them.
 
+use crate::classes::is_written;
 use crate::facts::ground::Ground;
-use crate::facts::known::Known;
 use crate::facts::nodes::{
     END, NODE_COUNT, ORIGIN, Times, first, free, issue, raise, second, start, time_at,
 };
+use crate::facts::precedence::Precedence;
 use s66_dep::Set;
 use s66_isa::{Memory, Reg, Row, has_register, is_same_register};
 use s66_moments::{FactLine, KnownArc, Moment, Stage};
@@ -31,21 +32,11 @@ pub struct Paths {
     pub tails: Times,
 }
 
-/// Whether an instruction writes a register.
-fn writes(row: &Row, register: Reg) -> bool {
-    for write in row.writes.as_slice() {
-        if is_same_register(write.reg, register) {
-            return true;
-        }
-    }
-    false
-}
-
 /// The last number before n that writes a register, in the block's own order; 0 if none does.
 fn last_writer(ground: &Ground, n: u8, register: Reg) -> u8 {
     for back in 1..n {
         if let Some(row) = ground.row(n - back)
-            && writes(row, register)
+            && is_written(row.writes.as_slice(), register)
         {
             return n - back;
         }
@@ -92,7 +83,7 @@ impl Network {
     pub fn of(
         alloc: Global,
         ground: &Ground,
-        known: &Known,
+        known: &Precedence,
         lines: &[FactLine],
     ) -> Result<Network, AllocError> {
         let mut network = Network {
@@ -115,7 +106,7 @@ impl Network {
     fn add_issue(
         &mut self,
         ground: &Ground,
-        known: &Known,
+        known: &Precedence,
         lines: &[FactLine],
         n: u8,
     ) -> Result<(), AllocError> {
@@ -134,7 +125,12 @@ impl Network {
     }
 
     /// To the issue of n from those of the numbers right before it.
-    fn add_parcels(&mut self, ground: &Ground, known: &Known, n: u8) -> Result<(), AllocError> {
+    fn add_parcels(
+        &mut self,
+        ground: &Ground,
+        known: &Precedence,
+        n: u8,
+    ) -> Result<(), AllocError> {
         for m in known.before(n).numbers().as_slice() {
             if known.after(*m).both(&known.before(n)).count() == 0
                 && let Some(row) = ground.row(*m)
@@ -146,7 +142,7 @@ impl Network {
     }
 
     /// To the issue of n from the free of the only unit of its kind, by those of these numbers that are right before it.
-    fn add_unit(&mut self, known: &Known, users: Set, n: u8) -> Result<(), AllocError> {
+    fn add_unit(&mut self, known: &Precedence, users: Set, n: u8) -> Result<(), AllocError> {
         for m in users.numbers().as_slice() {
             if known.after(*m).both(&users).count() == 0 {
                 self.add(free(*m), 0, issue(n))?;
@@ -245,7 +241,7 @@ impl Network {
                 if has_register(row.reads.as_slice(), register) {
                     self.add(start(n - back), 1, to)?;
                 }
-                if writes(row, register) {
+                if is_written(row.writes.as_slice(), register) {
                     return Ok(());
                 }
             }

@@ -1,9 +1,9 @@
-//! Which pairs are forced in all orders that take less than a bound.
+//! Which pairs are forced in all orders that take less than a bound: immediate selection.
 
 use crate::facts::ground::Ground;
-use crate::facts::known::{Known, set_of, turned};
 use crate::facts::network::{Network, Paths};
 use crate::facts::nodes::{free, issue, time_at};
+use crate::facts::precedence::{Precedence, set_of, turned};
 use s66_dep::Set;
 use s66_isa::{BLOCK_LIMIT, is_same_kind};
 
@@ -18,7 +18,7 @@ pub struct Forced {
 #[derive(Drop)]
 struct Looks<'a> {
     ground: &'a Ground,
-    known: &'a Known,
+    known: &'a Precedence,
     paths: Paths,
     bound: u32,
 }
@@ -74,7 +74,7 @@ impl<'a> Looks<'a> {
 
 impl Forced {
     /// By what is known, for a bound.
-    pub fn of(ground: &Ground, known: &Known, network: &Network, bound: u32) -> Forced {
+    pub fn of(ground: &Ground, known: &Precedence, network: &Network, bound: u32) -> Forced {
         let looks = Looks {
             ground,
             known,
@@ -100,12 +100,12 @@ impl Forced {
     }
 
     /// The numbers that have to stand after m, which isn't known.
-    pub fn after(&self, known: &Known, m: u8) -> Set {
+    pub fn after(&self, known: &Precedence, m: u8) -> Set {
         set_of(&self.after, m).without(&known.after(m))
     }
 
     /// Those of them that don't follow from what others have to.
-    pub fn right_after(&self, known: &Known, m: u8) -> Set {
+    pub fn right_after(&self, known: &Precedence, m: u8) -> Set {
         let mut those = Set::empty();
         let all = set_of(&self.after, m);
         let mut new = self.after(known, m);

@@ -1,8 +1,9 @@
 //! Whether a load may say more than a wait: a quick look, which few loads pass.
 
-use crate::facts::load::{Amounts, Load};
+use crate::facts::load::Load;
 use crate::facts::sort::sort;
 use crate::facts::spans::{at_issue, at_start};
+use crate::work::Work;
 use std::alloc::{AllocError, Global};
 
 /// What an instruction may add to a load.
@@ -30,16 +31,16 @@ impl Share {
 
 /// How long so many units have work by any of these at most.
 fn longest_time(shares: &[Share], copies: u32) -> u32 {
-    let mut amounts = Amounts::default();
+    let mut work = Work::default();
     for share in shares {
-        amounts = amounts.with(share.amount);
+        work = work.with(share.amount);
     }
-    amounts.longest_time(copies)
+    work.longest_time(copies)
 }
 
 /// Whether some of these that begin so late may say more than a wait. They are sorted, and any of them take no longer than this.
 fn pass_after(shares: &[Share], copies: u32, longest: u32, after: u32, wait: u32) -> bool {
-    let mut amounts = Amounts::default();
+    let mut work = Work::default();
     for share in shares {
         let room = wait as i64 - after as i64 - share.tail as i64 + share.amount as i64;
         // after those that follow no more is left
@@ -47,8 +48,8 @@ fn pass_after(shares: &[Share], copies: u32, longest: u32, after: u32, wait: u32
             return false;
         }
         if share.head >= after {
-            amounts = amounts.with(share.amount);
-            if amounts.longest_time(copies) as i64 > room {
+            work = work.with(share.amount);
+            if work.longest_time(copies) as i64 > room {
                 return true;
             }
         }
@@ -76,7 +77,7 @@ impl Shares {
         let mut rest = load.numbers;
         while let Some(n) = rest.pop_first() {
             self.shares.push(Share {
-                amount: load.amount(n),
+                amount: load.ground.amount(n),
                 head: load.spans.between(load.from, at_start(n)).unwrap_or(0),
                 tail: load.spans.between(at_issue(n), load.to).unwrap_or(0),
             })?;

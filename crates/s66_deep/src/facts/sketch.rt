@@ -1,11 +1,11 @@
 //! What is known of a block after some lines, found quickly.
 
 use crate::facts::ground::Ground;
-use crate::facts::known::Known;
-use crate::facts::load::Amounts;
 use crate::facts::network::{Network, Paths, node_of};
 use crate::facts::nodes::{Times, issue, start, time_at};
 use crate::facts::pairs::is_late;
+use crate::facts::precedence::Precedence;
+use crate::work::Work;
 use s66_isa::BLOCK_LIMIT;
 use s66_moments::{FactLine, KnownArc, LoadLine, Moment};
 use std::alloc::{AllocError, Global};
@@ -15,7 +15,7 @@ use std::alloc::{AllocError, Global};
 pub struct Sketch<'a> {
     alloc: Global,
     ground: &'a Ground,
-    known: Known,
+    known: Precedence,
     loads: Vec<KnownArc>,
     network: Network,
     paths: Paths,
@@ -47,7 +47,11 @@ impl Uses<'_> {
 
 impl<'a> Sketch<'a> {
     /// By what is known of a block by dependence alone.
-    pub fn of(alloc: Global, ground: &'a Ground, known: Known) -> Result<Sketch<'a>, AllocError> {
+    pub fn of(
+        alloc: Global,
+        ground: &'a Ground,
+        known: Precedence,
+    ) -> Result<Sketch<'a>, AllocError> {
         let network = Network::of(alloc, ground, &known, &[])?;
         let paths = network.paths();
         Ok(Sketch {
@@ -135,25 +139,17 @@ impl<'a> Sketch<'a> {
         }
     }
 
-    /// How long an instruction has its unit.
-    fn amount(&self, n: u8) -> u32 {
-        match self.ground.row(n) {
-            None => 0,
-            Some(row) => row.hold.saturating_add(1),
-        }
-    }
-
     /// How long the units have work by all of these, which need one of the same kind.
     fn time_of(&self, numbers: &[u8]) -> u32 {
-        let mut amounts = Amounts::default();
+        let mut work = Work::default();
         let mut copies = 1;
         for n in numbers {
-            amounts = amounts.with(self.amount(*n));
+            work = work.with(self.ground.amount(*n));
             if let Some(row) = self.ground.row(*n) {
                 copies = self.ground.copies(row.kind);
             }
         }
-        amounts.time(copies)
+        work.time(copies)
     }
 
     /// The longest paths from a moment.
@@ -182,7 +178,7 @@ impl<'a> Sketch<'a> {
             tails: self.tails(&load.to),
         };
         for n in numbers {
-            let amount = self.amount(*n);
+            let amount = self.ground.amount(*n);
             if !uses.is_from(issue(*n), amount) && !uses.is_from(start(*n), amount) {
                 return false;
             }

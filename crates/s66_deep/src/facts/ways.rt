@@ -1,10 +1,12 @@
-//! The load line that says most between two places.
+//! The load line that says most between two places, by energetic reasoning: what units of a kind have to do there takes so long at
+//! least.
 
-use crate::facts::load::{Amounts, Best, Load, Way};
+use crate::facts::load::{Best, Load, Way};
 use crate::facts::shares::Shares;
 use crate::facts::sort::sort;
 use crate::facts::spans::{at_issue, at_start};
 use crate::limits::WAIT_LIMIT;
+use crate::work::Work;
 use s66_dep::Set;
 use s66_isa::BLOCK_LIMIT;
 use std::alloc::{AllocError, Global};
@@ -13,7 +15,7 @@ use std::alloc::{AllocError, Global};
 fn best_after(ways: &[Way], copies: u32, longest: u32, after: u32, best: Best) -> Best {
     let mut best = best;
     let mut seen = Set::empty();
-    let mut amounts = Amounts::default();
+    let mut work = Work::default();
     for way in ways {
         // those that follow have no more left
         if (after as i64 + longest as i64).saturating_add(way.left) <= best.wait {
@@ -22,8 +24,8 @@ fn best_after(ways: &[Way], copies: u32, longest: u32, after: u32, best: Best) -
         let n = way.number;
         if way.head >= after && !seen.has(n) && n >= 1 && n as usize <= BLOCK_LIMIT {
             seen = seen.with(n);
-            amounts = amounts.with(way.amount);
-            let wait = (after as i64 + amounts.time(copies) as i64).saturating_add(way.left);
+            work = work.with(way.amount);
+            let wait = (after as i64 + work.time(copies) as i64).saturating_add(way.left);
             if wait > best.wait {
                 best = Best {
                     after,

@@ -2,7 +2,6 @@
 //! follows each moment. Only that this is safe is proved: what it finds, a certificate shows.
 
 mod bounds;
-mod class;
 mod left;
 mod tables;
 mod tails;

@@ -1,10 +1,10 @@
 ghost use Rattle.std.specs.Prelude.{ℕ, ◌≤◌, length};
 ghost use Rattle.s66_isa.specs.declared.limits.TheConstants.{BLOCK_LIMIT};
-ghost use Rattle.s66_dep.specs.Ranks.{AreUpTo, IsRanking, AreAtMost};
+ghost use Rattle.s66_dep.specs.Ranks.{IsRanking, AreAtMost};
 ghost use Rattle.s66_deep.specs.declared.limits.TheConstants.{TAIL_LIMIT};
 ghost use Rattle.s66_deep.specs.FollowingWords.{AreSmall, AreSmallWords, HasSmallWords, HasRanks};
 
-use crate::floors::class::{Class, Role, is_in};
+use crate::classes::{Class, Role, those_of, users_of};
 use crate::floors::tails::{Part, Tails};
 use s66_dep::{Ranking, Set};
 use s66_isa::{BLOCK_LIMIT, KIND_COUNT, KINDS, REGISTER_COUNT, Reg, Row};
@@ -91,31 +91,6 @@ fn ranking_by(tails: &[Tails; BLOCK_LIMIT], part: Part, count: usize) -> Ranking
     ensures at_most { AreAtMost TAIL_LIMIT result }
 {
     Ranking::of(&column(tails, part), count)
-}
-
-/// The numbers of a class.
-fn those_of(rows: &[Row], class: &Class) -> Set
-    requires { length rows.now ≤ BLOCK_LIMIT }
-    ensures { AreUpTo (length rows.now) result }
-{
-    let mut those = Set::empty();
-    for place in 0..rows.len() {
-        if is_in(&rows[place], class) {
-            those = those.with((place + 1) as u8);
-        }
-    }
-    those
-}
-
-/// The numbers that have a role with each register, by its index.
-fn users_of(rows: &[Row], role: Role) -> [Set; REGISTER_COUNT]
-    requires { length rows.now ≤ BLOCK_LIMIT }
-{
-    let mut users = [Set::empty(); REGISTER_COUNT];
-    for index in 0..REGISTER_COUNT {
-        users[index] = those_of(rows, &Class::Uses(role, Reg::of_index(index as u8)));
-    }
-    users
 }
 
 /// The ranks of the numbers of a class.

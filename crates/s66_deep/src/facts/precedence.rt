@@ -1,9 +1,10 @@
-//! Which number is known to stand before which.
+//! The precedence of a block's instructions: which number is known to stand before which.
 
 ghost use Rattle.std.specs.Prelude.{◌≤◌};
 ghost use Rattle.s66_isa.specs.declared.limits.TheConstants.{BLOCK_LIMIT};
 ghost use Rattle.s66_moments.specs.Facts.{IsNumber};
 
+use crate::facts::copies::copy_of;
 use arrayvec::ArrayVec;
 use s66_dep::Set;
 use s66_facts::Facts;
@@ -11,7 +12,7 @@ use s66_isa::BLOCK_LIMIT;
 
 /// Which number is known to stand before which, as words. What is of number n is at n - 1.
 #[derive(Drop)]
-pub struct Known {
+pub struct Precedence {
     /// All numbers of the block.
     all: Set,
     before: [Set; BLOCK_LIMIT],
@@ -118,22 +119,11 @@ fn add_each(sets: &mut [Set; BLOCK_LIMIT], all: Set, at: Set, more: Set) {
     }
 }
 
-/// The same numbers.
-fn copy_of(order: &[u8]) -> ArrayVec<u8, BLOCK_LIMIT> {
-    let mut copy = ArrayVec::new();
-    for n in order {
-        if !copy.is_full() {
-            copy.push(*n);
-        }
-    }
-    copy
-}
-
-impl Known {
+impl Precedence {
     /// By what is known of a block.
-    pub fn of(facts: &Facts) -> Known {
+    pub fn of(facts: &Facts) -> Precedence {
         let before = before_each(facts);
-        Known {
+        Precedence {
             all: Set::up_to(facts.count() as usize),
             before,
             after: turned(&before),
@@ -142,8 +132,8 @@ impl Known {
     }
 
     /// The same.
-    pub fn duplicate(&self) -> Known {
-        Known {
+    pub fn duplicate(&self) -> Precedence {
+        Precedence {
             all: self.all,
             before: self.before,
             after: self.after,

@@ -1,4 +1,13 @@
-use s66_isa::{Kind, Memory, Reg, Row, Write, has_register, is_same_kind, is_same_register};
+//! Instructions by what they wait for.
+
+ghost use Rattle.std.specs.Prelude.{◌≤◌, length};
+ghost use Rattle.s66_isa.specs.declared.limits.TheConstants.{BLOCK_LIMIT};
+ghost use Rattle.s66_dep.specs.Ranks.{AreUpTo};
+
+use s66_dep::Set;
+use s66_isa::{
+    Kind, Memory, REGISTER_COUNT, Reg, Row, Write, has_register, is_same_kind, is_same_register,
+};
 
 /// What an instruction does with a register.
 #[derive(Clone, Copy)]
@@ -27,7 +36,7 @@ pub enum Class {
 }
 
 /// Whether one of the results is in the register.
-fn is_written(writes: &[Write], register: Reg) -> bool {
+pub fn is_written(writes: &[Write], register: Reg) -> bool {
     for write in writes {
         if is_same_register(write.reg, register) {
             return true;
@@ -65,7 +74,7 @@ fn uses(row: &Row, role: Role, register: Reg) -> bool {
 }
 
 /// Whether an instruction is in a class.
-pub fn is_in(row: &Row, class: &Class) -> bool {
+fn is_in(row: &Row, class: &Class) -> bool {
     match *class {
         Class::Long => row.parcels == 2,
         Class::Takes(kind) => is_same_kind(row.kind, kind),
@@ -89,4 +98,29 @@ fn is_store(memory: Memory) -> bool {
         Memory::None | Memory::Load => false,
         Memory::Store => true,
     }
+}
+
+/// The numbers of a class.
+pub fn those_of(rows: &[Row], class: &Class) -> Set
+    requires { length rows.now ≤ BLOCK_LIMIT }
+    ensures { AreUpTo (length rows.now) result }
+{
+    let mut those = Set::empty();
+    for place in 0..rows.len() {
+        if is_in(&rows[place], class) {
+            those = those.with((place + 1) as u8);
+        }
+    }
+    those
+}
+
+/// The numbers that have a role with each register, by its index.
+pub fn users_of(rows: &[Row], role: Role) -> [Set; REGISTER_COUNT]
+    requires { length rows.now ≤ BLOCK_LIMIT }
+{
+    let mut users = [Set::empty(); REGISTER_COUNT];
+    for index in 0..REGISTER_COUNT {
+        users[index] = those_of(rows, &Class::Uses(role, Reg::of_index(index as u8)));
+    }
+    users
 }

@@ -1,23 +1,25 @@
-//! Copies of fact lines.
+//! Copies of what is found.
 
 use arrayvec::ArrayVec;
+use s66_isa::BLOCK_LIMIT;
 use s66_moments::{FactLine, LoadLine};
 use std::alloc::{AllocError, Global};
 
+/// The same items, of which there are no more than a block's instructions.
+pub fn copy_of<T: Copy + Default>(items: &[T]) -> ArrayVec<T, BLOCK_LIMIT> {
+    let mut copy = ArrayVec::new();
+    let _ = copy.try_extend_from_slice(items);
+    copy
+}
+
 /// The same load line.
-fn copy_of(load: &LoadLine) -> LoadLine {
-    let mut numbers = ArrayVec::new();
-    for n in load.numbers.as_slice() {
-        if !numbers.is_full() {
-            numbers.push(*n);
-        }
-    }
+fn copy_of_load(load: &LoadLine) -> LoadLine {
     LoadLine {
         from: load.from,
         to: load.to,
         after: load.after,
         wait: load.wait,
-        numbers,
+        numbers: copy_of(load.numbers.as_slice()),
     }
 }
 
@@ -25,7 +27,7 @@ fn copy_of(load: &LoadLine) -> LoadLine {
 pub fn copy_of_line(line: &FactLine) -> FactLine {
     match line {
         FactLine::Pair(m, n) => FactLine::Pair(*m, *n),
-        FactLine::Load(load) => FactLine::Load(copy_of(load)),
+        FactLine::Load(load) => FactLine::Load(copy_of_load(load)),
     }
 }
 

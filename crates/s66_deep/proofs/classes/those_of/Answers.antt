@@ -3,8 +3,8 @@ use Rattle.std.proofs.lemmas.Bool.{cases_eq}
 use Rattle.s66_isa.specs.Lists.{has}
 use Rattle.s66_dep.specs.declared.set.Set.{Set}
 use Rattle.s66_dep.specs.Members.{numbers_in}
-use Rattle.s66_deep.proofs.floors.tables.those_of.Goals.{then-is_in, else-is_in}
-use Rattle.s66_deep.proofs.floors.tables.those_of.Goals as goal
+use Rattle.s66_deep.proofs.classes.those_of.Goals.{then-is_in, else-is_in}
+use Rattle.s66_deep.proofs.classes.those_of.Goals as goal
 
 pub loop-place-init : goal.loop-place-init
 loop-place-init c = λ m there. absurd (true≢false (sym there ∙ ap (has m) c.empty-those.ensures))
