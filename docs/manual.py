@@ -11,18 +11,15 @@ import os
 import re
 import sys
 
-ROOT = os.path.dirname(os.path.dirname(os.path.abspath(__file__)))
+sys.dont_write_bytecode = True
+from definitions import ROOT, read
+
 PAGE = "docs/s66.1"
 START, END = '.\\" made by docs/manual.py\n', '.\\" end\n'
 COMMAND = re.compile(r"^  (?!help)([a-z]+)  ", re.MULTILINE)
 HELP = re.compile(r"(.*?)\n\nUsage: .*?\n\nOptions:\n(.*?)\n\nExample: .*?\n\nStatus: (.*)\n", re.DOTALL)
 OPTION = re.compile(r" {2,6}(?:-\w, )?--([\w-]+)(?: <(\w+)>)?(?:  +(\S.*))?$")
 STATUS = re.compile(r"(\d) ([^,]*)")
-
-
-def read(path):
-    with open(os.path.join(ROOT, path), encoding="utf-8") as opened:
-        return opened.read()
 
 
 def roff(text):
