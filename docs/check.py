@@ -6,8 +6,8 @@
 PROGRAM is the built program. Without a DOCUMENT all are checked:
 
 - README.md, CONTRIBUTING.md, CHANGELOG.md, the README.md of bench/, *.md of examples/, and docs/*.md;
-- the manual page docs/s66.1: that its literal displays are what a terminal shows, and that it has each sentence of the program's
-  help;
+- the manual page docs/s66.1: that its literal displays are what a terminal shows, and that its part that docs/manual.py makes of
+  the program's help is current;
 - docs/help: that each file is what the program shows;
 - ARCHITECTURE.md's table of crates: that each file of a crate's code is in a row of that crate;
 - what docs/definitions.py makes in documents: that it is as that makes it now;
@@ -47,6 +47,7 @@ import tempfile
 
 sys.dont_write_bytecode = True
 import definitions
+import manual
 
 ROOT = os.path.dirname(os.path.dirname(os.path.abspath(__file__)))
 
@@ -58,9 +59,6 @@ ANY = re.compile(r"\\\*|\b[A-Z]+\b(?!\\.md)")
 NAME = re.compile(r"[A-Za-z]\w*(::\w+)*")
 IS_MIXED = re.compile(r"[a-z0-9]_[a-z0-9]|::|[a-z][A-Z]")
 DISPLAY = re.compile(r"^\.Bd -literal.*\n((?:.*\n)*?)^\.Ed$", re.MULTILINE)
-HELP = re.compile(r"^ +(?:--)?(?!help)[\w-]+(?: <N>| <TEXT>)?  +(\S.*)$", re.MULTILINE)
-CONTINUED = re.compile(r"\n {8,}(?=\S)")
-STATUSES = re.compile(r"^Status: (.*)$", re.MULTILINE)
 COMMENT = re.compile(r"^\s*(//|--).*$", re.MULTILINE)
 BEST = re.compile(r"^\* BLOCK (\d+) COUNT \d+ SOURCE \d+ TIME (\d+) BEST$", re.MULTILINE)
 CLAIM = re.compile(r"^TIME (\d+)\nBOUND (\d+)$", re.MULTILINE)
@@ -247,22 +245,12 @@ def wrong_names(name, text, repository):
 
 
 def wrong_manual(name, program):
-    """What the manual page shows otherwise than the program does it, and what only the program's help says."""
+    """What the manual page shows otherwise than the program does it, or docs/help says it."""
     with open(os.path.join(ROOT, name), encoding="utf-8") as opened:
         page = opened.read()
     for display in DISPLAY.findall(page):
         yield from wrong_commands(name, "```console\n" + display.replace(r"\e", "\\") + "```\n", program)
-    manual = " ".join(line for line in page.splitlines() if not line.startswith("."))
-    help_of_all = run(["s66 --help\n"], program)[0][0]
-    subcommands = re.findall(r"^  (?!help)([a-z]+)  ", help_of_all, re.MULTILINE)
-    if not subcommands:
-        yield f"{name}: the program's help has no subcommands"
-    for shown in [help_of_all] + [text for text, _ in run([f"s66 {word} -h\n" for word in subcommands], program)]:
-        text = CONTINUED.sub(" ", shown)
-        statuses = [status.split(" ", 1)[1] for line in STATUSES.findall(text) for status in line.split(", ")]
-        for sentence in HELP.findall(text) + statuses:
-            if sentence not in manual:
-                yield f"{name}: doesn't say: {sentence}"
+    yield from manual.stale()
 
 
 def wrong_help(program):
