@@ -12,7 +12,7 @@ use Rattle.clap.specs.declared.parser.matches.ArgMatches.{ArgMatches}
 use Rattle.clap.specs.declared.parser.matches.ArgMatches.TheViews.{out-ArgMatches, out-SubCommand}
 use Rattle.clap.specs.declared.parser.matches.Found.{Found}
 use Rattle.clap.specs.declared.parser.matches.SubCommand.{SubCommand}
-use Rattle.clap.specs.Walk.{Held, Names, Outcome, done, waits, plain, refused, Row, Step, next, trailing, subcommand, value, Waiting, idle, option, positional, Walk, after_flag, after_step, answers_to, arg_by_id, arg_by_index, arg_by_long, bundle, finished, is_empty, settled, long_met, long_or_other, nothing_held, plain_word, rows_after, short_or_plain, subcommand_met, subcommand_or_other, to_positional, walk, walk_from, walked, walked_from, word_met}
+use Rattle.clap.specs.Walk.{Held, Names, Outcome, done, waits, plain, refused, Row, Step, next, trailing, subcommand, value, Waiting, idle, option, positional, Walk, after_flag, after_step, answers_to, arg_by_index, arg_by_long, bundle, finished, is_empty, settled, long_met, long_or_other, nothing_held, plain_word, rows_after, short_or_plain, subcommand_met, subcommand_or_other, to_positional, walk, walk_from, walked, walked_from, word_met}
 use Rattle.clap.specs.Lexer.{long_of, short_of}
 use Rattle.clap.specs.Simple.{entered, label_of, names_of}
 use Rattle.clap.specs.Faults.{check_fault, defaults_fault, entered_fault, fault_of, level_fault, settle_fault, other_fault, turn_fault, walk_fault, word_fault}
