@@ -1,5 +1,5 @@
 -- Words that clap takes name a subcommand.
-use Rattle.std.proofs.Common.{◌≡◌, ◌⊎◌, inl, inr, if◌then◌else◌, ℕ, Bool, cond, true, false, true≢false, ◌||◌, List, [], ◌∷◌, ◌++◌, Option, Some, None, refl, sym, ap, ap₂, ◌∙◌, subst, Box, box_value, codes, find, fold, drop, is_some, map, option_and_then, option_map, bytes_eq}
+use Rattle.std.proofs.Common.{◌≡◌, ◌⊎◌, inl, inr, if◌then◌else◌, ℕ, Bool, cond, true, false, true≢false, ◌||◌, List, [], ◌∷◌, ◌++◌, Option, Some, None, refl, sym, ap, ap₂, ◌∙◌, subst, Box, box_value, codes, find, fold, drop, is_some, map, option_and_then, option_map, bytes_eq, IsErrAnd, MatchResult, Result}
 use Rattle.std.specs.Prelude.{unwrap_or}
 use Rattle.std.specs.Borrow.{Bor}
 use Rattle.std.specs.List.{list_all, list_any}
@@ -7,11 +7,12 @@ use Rattle.std.specs.Option.{option_map_or}
 use Rattle.std.proofs.lemmas.Slice.Eq.{bytes_eq-Decides}
 use Rattle.clap.specs.Words.{App, HasMatchesOf, Rule, Shape, Text, built, first_of, first_value, is_simple_and_free, one_of, one_text, rows_of, subcommand_name_of, subcommand_of, subcommand_rows, subcommand_rows_of}
 use Rattle.clap.specs.Takes.{is_given}
+use Rattle.clap.specs.declared.error.kind.ErrorKind.TheVariants.{ArgumentConflict}
 use Rattle.clap.specs.declared.parser.matches.ArgMatches.{ArgMatches}
 use Rattle.clap.specs.declared.parser.matches.ArgMatches.TheViews.{out-ArgMatches, out-SubCommand}
 use Rattle.clap.specs.declared.parser.matches.Found.{Found}
 use Rattle.clap.specs.declared.parser.matches.SubCommand.{SubCommand}
-use Rattle.clap.specs.Walk.{Held, Names, Outcome, done, waits, plain, refused, Row, Step, next, trailing, subcommand, value, Waiting, idle, option, positional, Walk, after_flag, after_step, answers_to, arg_by_id, arg_by_index, arg_by_long, bundle, finished, is_empty, settled, long_met, long_or_other, nothing_held, plain_word, rows_after, short_or_plain, subcommand_met, subcommand_or_other, to_positional, walk, walk_from, walked, walked_from, word_met}
+use Rattle.clap.specs.Walk.{Held, Names, Outcome, done, waits, plain, refused, Row, Step, next, trailing, subcommand, value, Waiting, idle, option, positional, Walk, after_flag, after_step, answers_to, arg_by_index, arg_by_long, bundle, finished, is_empty, settled, long_met, long_or_other, nothing_held, plain_word, rows_after, short_or_plain, subcommand_met, subcommand_or_other, to_positional, walk, walk_from, walked, walked_from, word_met}
 use Rattle.clap.specs.Lexer.{long_of, short_of}
 use Rattle.clap.specs.Simple.{entered, label_of, names_of}
 use Rattle.clap.specs.Faults.{check_fault, defaults_fault, entered_fault, fault_of, level_fault, settle_fault, other_fault, turn_fault, walk_fault, word_fault}
@@ -21,11 +22,13 @@ use Rattle.s66_model.specs.declared.limits.TheConstants.{BUDGET_LIMIT, WORKERS_L
 use Rattle.s66_model.specs.declared.rule.Rule.{Rule as LeafRule}
 use Rattle.s66_command.specs.declared.limits.TheConstants.{BLOCK_NUMBER_LIMIT, NODES_DEFAULT, WORKERS_DEFAULT}
 use Rattle.s66_command.specs.declared.strategy.Strategy.{Strategy}
-use Rattle.s66_command.specs.FoundOptions.{AreColumnsFound, IsBlockFound, IsFlagFound, IsNumber, IsNumberFound, IsOrderFound, IsReadAs, IsRuleFound, IsStrategyFound, IsTaken}
-use Rattle.s66_command.specs.Usage.{AsksFor, GivesBlock, GivesColumns, GivesOrder, GivesProfile, GivesSearch, IsNumberIn, are_columns_alone, gives_columns_alone, gives_two, has_option, option_text, rule_given, rule_unless_two, s66_app, subcommand_name}
+use Rattle.s66_command.specs.FoundOptions.{AreColumnsFound, IsBlockFound, IsFlagFound, IsFlagOf, IsNumber, IsNumberFound, IsOrderFound, IsRuleFound, IsStrategyFound, IsTaken}
+use Rattle.s66_command.specs.declared.usage.Usage.{Usage}
+use Rattle.s66_command.specs.Usage.{AsksFor, GivesBlock, GivesColumns, GivesOrder, GivesProfile, GivesSearch, IsNumberIn, IsNumberOrDefault, IsUsageOf, Refuses, are_columns_alone, gives_columns_alone, gives_two, has_option, option_text, rule_given, rule_unless_two, s66_app, subcommand_name}
 use Rattle.s66_command.proofs.Faults.{first-none, full, second-none}
 use Rattle.s66_command.proofs.Flags.{HasFlag, flag-is}
 use Rattle.s66_command.proofs.OptionRanges.{HasNumber, number-is}
+use Rattle.s66_command.proofs.Refused.{handed-on, refused-two}
 
 -- A NAME OF A LIST
 
@@ -269,16 +272,12 @@ met m words given found s is gives rows same at =
     let asks = asks-for m words given s.name is gives same in
     (asks, matched m words found s is asks.1 at rows)
 
--- the options have the flag of this name
-abbrev pub HasFlagOf : Text → List Rule → Type 0
-HasFlagOf name rules = HasFlag name name rules × (is_some (arg_by_id rules name) ≡ true)
-
 -- a flag of a subcommand, as it was read of what was found for it
-pub flag-of : (words : List Text) (found : Found) (flag : Bool) (s : Shape) (name : Text) → IsMatched found words s → HasFlagOf name s.rules → IsFlagFound found name flag →
+pub flag-of : (words : List Text) (found : Found) (flag : Bool) (s : Shape) (name : Text) → IsMatched found words s → HasFlag name s.rules → IsFlagFound found name flag →
     flag ≡ has_option name words
-flag-of words found flag s name is (options, there) (when-true, when-false) =
-    flag-is name name s.rules options there is.0 (rows_of found) (one_text found name) flag is.1 (one_text-rows found name) when-true when-false
-    ∙ sym (ap (λ o. option_map_or (λ (p : Text × List Row). is_given name p.1) o false) is.2)
+flag-of words found flag s name is has read =
+    flag-is name s has is.0 false is.3 flag (subst (λ text. IsFlagOf text flag) (one_text-rows found name ∙ ap (one_of name) is.1) read)
+    ∙ sym (ap (is_given name) is.1) ∙ sym (ap (λ o. option_map_or (λ (p : Text × List Row). is_given name p.1) o false) is.2)
 
 -- the text of a subcommand's profile, as it was found
 pub profile-of : (words : List Text) (found : Found) (s : Shape) (profile : Option (Bor Text)) → IsMatched found words s →
@@ -296,10 +295,10 @@ number-of words found s id least most is options = (
 
 -- a number's option of a subcommand, as it was read of what was found for it
 number-given : (words : List Text) (found : Found) (s : Shape) (id : Text) (least most default n : ℕ) → IsMatched found words s → HasNumber id least most s.rules →
-    IsNumberFound found id least most default n → IsReadAs least most default (option_text id words) n
+    IsNumberFound found id least most default n → IsNumberOrDefault least most default (option_text id words) n
 number-given words found s id least most default n is options read =
     let there = number-of words found s id least most is options in
-    subst (λ text. IsReadAs least most default text n) there.1 (read there.0)
+    subst (λ text. IsNumberOrDefault least most default text n) there.1 (read there.0)
 
 -- the number of a block, as it was read of what was found for its option
 pub block-of : (words : List Text) (found : Found) (block : Option ℕ) (s : Shape) → IsMatched found words s → HasNumber (codes "block") 1 BLOCK_NUMBER_LIMIT s.rules → IsBlockFound found block →
@@ -314,65 +313,7 @@ block-of words found block s is options read =
 abbrev pub HasSearchOptions : List Rule → Type 0
 HasSearchOptions rules =
     HasNumber (codes "workers") 1 WORKERS_LIMIT rules × HasNumber (codes "nodes") 0 BUDGET_LIMIT rules
-    × HasFlagOf (codes "dominate") rules × HasFlagOf (codes "dominate-tree") rules × HasFlagOf (codes "deep") rules
-
--- the options of the subcommand of that name
-abbrev rules_at : Text → List Rule
-rules_at name = option_map_or (λ (s : Shape). s.rules) (subcommand_at name) []
-
-pub order-options : HasSearchOptions (rules_at (codes "order"))
-order-options = (
-  (inr refl, (inr refl, (inr refl, (inr refl, (inl refl, (inr refl, (inr refl, (inr refl, (inr refl, (inr refl, (inr refl, (inr refl, (inr refl, tt))))))))))))),
-  (inr refl, (inr refl, (inr refl, (inl refl, (inr refl, (inr refl, (inr refl, (inr refl, (inr refl, (inr refl, (inr refl, (inr refl, (inr refl, tt))))))))))))),
-  ((inr refl, (inr refl, (inr refl, (inr refl, (inr refl, (inl refl, (inr refl, (inr refl, (inr refl, (inr refl, (inr refl, (inr refl, (inr refl, tt))))))))))))), refl),
-  ((inr refl, (inr refl, (inr refl, (inr refl, (inr refl, (inr refl, (inl refl, (inr refl, (inr refl, (inr refl, (inr refl, (inr refl, (inr refl, tt))))))))))))), refl),
-  ((inl refl, (inr refl, (inr refl, (inr refl, (inr refl, (inr refl, (inr refl, (inr refl, (inr refl, (inr refl, (inr refl, (inr refl, (inr refl, tt))))))))))))), refl),
-)
-
-pub sum-options : HasSearchOptions (rules_at (codes "sum"))
-sum-options = (
-  (inr refl, (inr refl, (inr refl, (inr refl, (inl refl, (inr refl, (inr refl, (inr refl, (inr refl, (inr refl, (inr refl, tt))))))))))),
-  (inr refl, (inr refl, (inr refl, (inl refl, (inr refl, (inr refl, (inr refl, (inr refl, (inr refl, (inr refl, (inr refl, tt))))))))))),
-  ((inr refl, (inr refl, (inr refl, (inr refl, (inr refl, (inl refl, (inr refl, (inr refl, (inr refl, (inr refl, (inr refl, tt))))))))))), refl),
-  ((inr refl, (inr refl, (inr refl, (inr refl, (inr refl, (inr refl, (inl refl, (inr refl, (inr refl, (inr refl, (inr refl, tt))))))))))), refl),
-  ((inl refl, (inr refl, (inr refl, (inr refl, (inr refl, (inr refl, (inr refl, (inr refl, (inr refl, (inr refl, (inr refl, tt))))))))))), refl),
-)
-
-pub prove-options : HasSearchOptions (rules_at (codes "prove"))
-prove-options = (
-  (inr refl, (inr refl, (inr refl, (inr refl, (inl refl, (inr refl, (inr refl, (inr refl, (inr refl, tt))))))))),
-  (inr refl, (inr refl, (inr refl, (inl refl, (inr refl, (inr refl, (inr refl, (inr refl, (inr refl, tt))))))))),
-  ((inr refl, (inr refl, (inr refl, (inr refl, (inr refl, (inl refl, (inr refl, (inr refl, (inr refl, tt))))))))), refl),
-  ((inr refl, (inr refl, (inr refl, (inr refl, (inr refl, (inr refl, (inl refl, (inr refl, (inr refl, tt))))))))), refl),
-  ((inl refl, (inr refl, (inr refl, (inr refl, (inr refl, (inr refl, (inr refl, (inr refl, (inr refl, tt))))))))), refl),
-)
-
-pub why-options : HasSearchOptions (rules_at (codes "why"))
-why-options = (
-  (inr refl, (inr refl, (inr refl, (inr refl, (inl refl, (inr refl, (inr refl, (inr refl, (inr refl, (inr refl, (inr refl, tt))))))))))),
-  (inr refl, (inr refl, (inr refl, (inl refl, (inr refl, (inr refl, (inr refl, (inr refl, (inr refl, (inr refl, (inr refl, tt))))))))))),
-  ((inr refl, (inr refl, (inr refl, (inr refl, (inr refl, (inl refl, (inr refl, (inr refl, (inr refl, (inr refl, (inr refl, tt))))))))))), refl),
-  ((inr refl, (inr refl, (inr refl, (inr refl, (inr refl, (inr refl, (inl refl, (inr refl, (inr refl, (inr refl, (inr refl, tt))))))))))), refl),
-  ((inl refl, (inr refl, (inr refl, (inr refl, (inr refl, (inr refl, (inr refl, (inr refl, (inr refl, (inr refl, (inr refl, tt))))))))))), refl),
-)
-
-pub page-options : HasSearchOptions (rules_at (codes "page"))
-page-options = (
-  (inr refl, (inr refl, (inr refl, (inr refl, (inl refl, (inr refl, (inr refl, (inr refl, (inr refl, tt))))))))),
-  (inr refl, (inr refl, (inr refl, (inl refl, (inr refl, (inr refl, (inr refl, (inr refl, (inr refl, tt))))))))),
-  ((inr refl, (inr refl, (inr refl, (inr refl, (inr refl, (inl refl, (inr refl, (inr refl, (inr refl, tt))))))))), refl),
-  ((inr refl, (inr refl, (inr refl, (inr refl, (inr refl, (inr refl, (inl refl, (inr refl, (inr refl, tt))))))))), refl),
-  ((inl refl, (inr refl, (inr refl, (inr refl, (inr refl, (inr refl, (inr refl, (inr refl, (inr refl, tt))))))))), refl),
-)
-
-pub json-options : HasSearchOptions (rules_at (codes "json"))
-json-options = (
-  (inr refl, (inr refl, (inr refl, (inr refl, (inl refl, (inr refl, (inr refl, (inr refl, (inr refl, (inr refl, tt)))))))))),
-  (inr refl, (inr refl, (inr refl, (inl refl, (inr refl, (inr refl, (inr refl, (inr refl, (inr refl, (inr refl, tt)))))))))),
-  ((inr refl, (inr refl, (inr refl, (inr refl, (inr refl, (inl refl, (inr refl, (inr refl, (inr refl, (inr refl, tt)))))))))), refl),
-  ((inr refl, (inr refl, (inr refl, (inr refl, (inr refl, (inr refl, (inl refl, (inr refl, (inr refl, (inr refl, tt)))))))))), refl),
-  ((inl refl, (inr refl, (inr refl, (inr refl, (inr refl, (inr refl, (inr refl, (inr refl, (inr refl, (inr refl, tt)))))))))), refl),
-)
+    × HasFlag (codes "dominate") rules × HasFlag (codes "dominate-tree") rules × HasFlag (codes "deep") rules
 
 -- the rule is what the words give
 rule-given : (words : List Text) (found : Found) (rule : Option LeafRule) (s : Shape) → IsMatched found words s → HasSearchOptions s.rules → IsRuleFound found rule →
@@ -393,28 +334,28 @@ search-of words found strategy s is has (workers, nodes, rule, deep) =
     let by = number-given words found s (codes "workers") 1 WORKERS_LIMIT WORKERS_DEFAULT strategy.search.workers is has.0 workers in
     let up-to = number-given words found s (codes "nodes") 0 BUDGET_LIMIT NODES_DEFAULT strategy.search.nodes is has.1 nodes in
     let (same, one) = one-given (gives_two words) strategy.search.rule (rule_given words) (rule-given words found (Some strategy.search.rule) s is has rule) in
-    ((by.0, by.1, by.2, up-to.0, up-to.2, same, one), flag-of words found strategy.deep s (codes "deep") is has.4 deep)
+    ((by, up-to, same, one), flag-of words found strategy.deep s (codes "deep") is has.4 deep)
 
 two-given : {T : Type 0} (two : Bool) (by : T) → None ≡ (if two then None else Some by) → two ≡ true
 two-given true by is = refl
 two-given false by is = absurd (true≢false (ap is_some (sym is)))
 
-pub two-of : (words : List Text) (found : Found) (s : Shape) → IsMatched found words s → HasSearchOptions s.rules → IsStrategyFound found None → gives_two words ≡ true
+two-of : (words : List Text) (found : Found) (s : Shape) → IsMatched found words s → HasSearchOptions s.rules → IsStrategyFound found None → gives_two words ≡ true
 two-of words found s is has read = two-given (gives_two words) (rule_given words) (rule-given words found None s is has read)
 
 -- the best order is asked for, with this strategy, or it isn't
-pub order-of : (words : List Text) (found : Found) (strategy : Strategy) (order : Option Strategy) (s : Shape) → IsMatched found words s → HasFlagOf (codes "order") s.rules →
+pub order-of : (words : List Text) (found : Found) (strategy : Strategy) (order : Option Strategy) (s : Shape) → IsMatched found words s → HasFlag (codes "order") s.rules →
     GivesSearch words strategy → IsOrderFound found strategy order → GivesOrder words order
 order-of words found strategy order s is has gives (given, read, by) =
     subst (GivesOrder words) (sym by) (order-by given (flag-of words found given s (codes "order") is has read))
   where
     order-by : (given : Bool) → given ≡ has_option (codes "order") words → GivesOrder words (if given then Some strategy else None)
     order-by true same = (sym same, gives)
-    order-by false same = (sym same, gives.0.6)
+    order-by false same = (sym same, gives.0.3)
 
 -- what is read of the flags for columns is by the words
-columns-given : (words : List Text) (found : Found) (asked : Option Bool) (s : Shape) → IsMatched found words s → HasFlagOf (codes "columns") s.rules →
-    HasFlagOf (codes "keep") s.rules → AreColumnsFound found asked →
+columns-given : (words : List Text) (found : Found) (asked : Option Bool) (s : Shape) → IsMatched found words s → HasFlag (codes "columns") s.rules →
+    HasFlag (codes "keep") s.rules → AreColumnsFound found asked →
     asked ≡ (if gives_columns_alone words then None else Some (has_option (codes "columns") words))
 columns-given words found asked s is has has-keep (columns, keep, read, keep-read, by) =
     let same = flag-of words found columns s (codes "columns") is has read in
@@ -422,12 +363,19 @@ columns-given words found asked s is has has-keep (columns, keep, read, keep-rea
     by ∙ ap₂ (λ c k. if are_columns_alone c k then None else Some c) same same-keep
 
 -- columns are kept, or not, as the words say
-pub columns-of : (words : List Text) (found : Found) (columns : Bool) (s : Shape) → IsMatched found words s → HasFlagOf (codes "columns") s.rules →
-    HasFlagOf (codes "keep") s.rules → AreColumnsFound found (Some columns) → GivesColumns words columns
+pub columns-of : (words : List Text) (found : Found) (columns : Bool) (s : Shape) → IsMatched found words s → HasFlag (codes "columns") s.rules →
+    HasFlag (codes "keep") s.rules → AreColumnsFound found (Some columns) → GivesColumns words columns
 columns-of words found columns s is has has-keep read =
     one-given (gives_columns_alone words) columns (has_option (codes "columns") words) (columns-given words found (Some columns) s is has has-keep read)
 
-pub alone-of : (words : List Text) (found : Found) (s : Shape) → IsMatched found words s → HasFlagOf (codes "columns") s.rules →
-    HasFlagOf (codes "keep") s.rules → AreColumnsFound found None → gives_columns_alone words ≡ true
+pub alone-of : (words : List Text) (found : Found) (s : Shape) → IsMatched found words s → HasFlag (codes "columns") s.rules →
+    HasFlag (codes "keep") s.rules → AreColumnsFound found None → gives_columns_alone words ≡ true
 alone-of words found s is has has-keep read =
     two-given (gives_columns_alone words) (has_option (codes "columns") words) (columns-given words found None s is has has-keep read)
+
+-- two of the flags are a mistake, which the command line of the subcommand tells
+pub two-refused : {T : Type 0} (words : List Text) (found : Found) (s : Shape) (usage : Usage) (result : Result T Usage) (P : T → Type 0) → fault_of s66_app words ≡ [] →
+    IsMatched found words s → HasSearchOptions s.rules → IsStrategyFound found None × IsUsageOf ArgumentConflict usage → IsErrAnd result (λ e. e ≡ usage) →
+    MatchResult result P (Refuses words)
+two-refused words found s usage result P none is has (two, told) same =
+    handed-on result usage words P same (refused-two usage words none (two-of words found s is has two) told)

@@ -1,163 +1,91 @@
 -- After words without a fault, a subcommand has no value of a number's option, or one within the limits.
-use Rattle.std.proofs.Common.{◌≡◌, ◌⊎◌, ◌∙◌, ◌≤◌, ◌<◌, ◌^◌, inl, inr, ℕ, zero, suc, Bool, cond, true, false, true≢false, ◌&&◌, List, [], ◌∷◌, ◌++◌, Option, Some, None, is_some, option_and_then, refl, sym, ap, subst, find, fold, drop, bytes_eq, length, encode_utf8, slice_get, chars, min, ◌+◌}
+use Rattle.std.proofs.Common.{◌≡◌, ◌∙◌, ◌≤◌, ◌<◌, ◌^◌, ℕ, Bool, cond, true, false, List, [], ◌∷◌, ◌++◌, Option, Some, None, option_and_then, refl, sym, ap, subst, length}
 use Rattle.std.specs.Prelude.{Ok, Result, pos, unwrap_or}
-use Rattle.std.specs.Option.{option_map_or}
 use Rattle.std.specs.Str.Parse.{ParsesUnsigned}
 use Rattle.clap.specs.Words.{Kinds, ReadsOne, Row, Rule, Shape, Text, one_of, without_minus}
 use Rattle.clap.specs.Simple.{filled}
-use Rattle.clap.specs.Lexer.{long_of, short_of}
 use Rattle.clap.specs.Values.{IsSignedIn}
 use Rattle.clap.specs.ValueTests.{accepts}
 use Rattle.clap.specs.Kinds.{or_else, range_kinds}
-use Rattle.clap.specs.Faults.{bundle_fault, bundle_step_fault, flag_word_fault, flags_fault, level_fault, long_fault, option_fault, other_fault, positional_fault, react_fault, repeat_fault, set_fault, settle_fault, short_fault, step_fault, turn_fault, use_fault, values_fault, walk_fault, word_fault}
-use Rattle.clap.specs.Walk.{Held, Outcome, done, waits, plain, refused, Step, next, trailing, subcommand, value, Waiting, idle, option, positional, Walk, after_flag, after_step, arg_by_id, arg_by_index, arg_by_long, arg_by_short, at_row, attached_value, bundle, bundle_met, bundle_step, count_of, counted, default_rows, flag_met, has_row, is_pending, long_met, long_or_other, more_values, new_count, nothing_held, option_met, option_word, plain_word, reacted, reading_by, row_text, rows_after, settled, settled_rows, short_met, short_or_plain, subcommand_met, subcommand_or_other, takes_several, takes_values, to_positional, used, used_as, used_by_id, values_or_missing, walk, walk_from, walked, walked_from, with_count, with_default, with_values, without, word_met}
-use Rattle.clap.specs.declared.builder.action.ArgAction.{ArgAction}
-use Rattle.clap.specs.declared.builder.action.ArgAction.TheVariants.{Append, Count, Help, HelpLong, HelpShort, Set, SetFalse, SetTrue, Version}
-use Rattle.clap.specs.declared.builder.value_parser.Reading.{Reading}
+use Rattle.clap.specs.Faults.{level_fault, repeat_fault, set_fault, use_fault, values_fault}
+use Rattle.clap.specs.Walk.{has_row, more_values, nothing_held, row_text, rows_after, used, with_default, without}
 use Rattle.clap.specs.declared.builder.value_parser.Reading.TheVariants.{WithoutMinus}
 use Rattle.clap.specs.declared.builder.value_parser.ValueParser.TheVariants.{Signed}
 use Rattle.clap.specs.declared.error.kind.ErrorKind.TheVariants.{ValueValidation}
-use Rattle.clap.specs.declared.parser.matches.ValueSource.{ValueSource}
-use Rattle.clap.specs.declared.parser.matches.ValueSource.TheVariants.{CommandLine, DefaultValue}
+use Rattle.clap.specs.declared.parser.matches.ValueSource.TheVariants.{CommandLine}
 use Rattle.clap.proofs.CallerReads.{signed_reads}
 use Rattle.clap.proofs.ValueTestLemmas.{accepts-Accepts}
-use Rattle.s66_command.specs.FoundOptions.{IsNumber, IsReadAs}
-use Rattle.s66_command.specs.Usage.{IsNumberIn, number_rule}
-use Rattle.s66_command.proofs.Faults.{first-none, full, second-none}
+use Rattle.s66_command.specs.FoundOptions.{IsNumber}
+use Rattle.s66_command.specs.Usage.{IsNumberIn, IsNumberOrDefault, number_rule}
+use Rattle.s66_command.proofs.Faults.{full, second-none}
+use Rattle.s66_command.proofs.OptionRows.{AllGood, IsAmongRules, IsGoodIfFound, defaults-good, found-good, good-change, good-without, walked-good}
 
 module _ (id : Text) (least most : ℕ) where
   -- the option, as clap fills it in
   abbrev number : Rule
   number = filled (number_rule id least most)
 
-  -- each option is this one, or has another id
   abbrev pub HasNumber : List Rule → Type 0
-  HasNumber [] = Unit {0}
-  HasNumber (a ∷ rest) = ((a ≡ number) ⊎ (bytes_eq a.id id ≡ false)) × HasNumber rest
+  HasNumber rules = IsAmongRules number rules
 
   -- A ROW OF THE OPTION BEGINS WITH A NUMBER WITHIN THE LIMITS
 
   abbrev is-within : Text → Bool
   is-within text = accepts false (Signed (pos least) (pos most)) text
 
-  abbrev BeginsWell : Reading → List Text → Type 0
-  BeginsWell how values = (v : Text) × (vs : List Text) × (values ≡ v ∷ vs) × (how ≡ WithoutMinus) × (is-within v ≡ true)
-
-  abbrev IsGoodAt : Text → Reading → List Text → Type 0
-  IsGoodAt other how values = bytes_eq other id ≡ true → BeginsWell how values
-
-  abbrev IsGood : Row → Type 0
-  IsGood r = IsGoodAt r.id r.reading r.values
-
-  abbrev AllGood : List Row → Type 0
-  AllGood [] = Unit {0}
-  AllGood (r ∷ rows) = IsGood r × AllGood rows
-
-  other-good : (other : Text) (how : Reading) (values : List Text) → bytes_eq other id ≡ false → IsGoodAt other how values
-  other-good other how values apart same = absurd (true≢false (sym same ∙ apart))
-
-  longer-good : (other : Text) (how : Reading) (values more : List Text) → IsGoodAt other how values → IsGoodAt other how (values ++ more)
-  longer-good other how values more good here =
-      let begins : BeginsWell how values = good here in
-      (begins.0, begins.1 ++ more, ap (λ vs. vs ++ more) begins.2, begins.3, begins.4)
-
-  good-join : (xs ys : List Row) → AllGood xs → AllGood ys → AllGood (xs ++ ys)
-  good-join [] ys left right = right
-  good-join (x ∷ xs) ys left right = (left.0, good-join xs ys left.1 right)
-
-  good-head : (b : Bool) (r : Row) (changed rows rest : List Row) → IsGood r → AllGood changed → AllGood rows → AllGood rest →
-      AllGood (cond b (changed ++ rows) (r ∷ rest))
-  good-head true r changed rows rest good left right more = good-join changed rows left right
-  good-head false r changed rows rest good left right more = (good, more)
-
-  good-change : (other : Text) (change : Row → List Row) (missing : List Row) → ((r : Row) → IsGood r → AllGood (change r)) → AllGood missing →
-      (rows : List Row) → AllGood rows → AllGood (at_row other change missing rows)
-  good-change other change missing keeps new [] good = new
-  good-change other change missing keeps new (r ∷ rows) good =
-      good-head (bytes_eq r.id other) r (change r) rows _ good.0 (keeps r good.0) good.1 (good-change other change missing keeps new rows good.1)
-
-  good-without : (other : Text) (rows : List Row) → AllGood rows → AllGood (without other rows)
-  good-without other = good-change other (λ _. []) [] (λ r is. tt) tt
-
-  good-values : (other : Text) (how : Reading) (source : ValueSource) (values : List Text) → IsGoodAt other how values →
-      (rows : List Row) → AllGood rows → AllGood (with_values other how source values rows)
-  good-values other how source values new =
-      good-change other (more_values source values) _ (λ r is. (longer-good r.id r.reading r.values values is, tt)) (new, tt)
-
-  good-set : (other : Text) (how : Reading) (values : List Text) → IsGoodAt other how values →
-      (rows : List Row) → AllGood rows → AllGood (with_values other how CommandLine values (without other rows))
-  good-set other how values new rows good = good-values other how CommandLine values new (without other rows) (good-without other rows good)
-
-  good-count : (other : Text) (how : Reading) (n : ℕ) → bytes_eq other id ≡ false → (rows : List Row) → AllGood rows →
-      AllGood (with_count other how CommandLine n rows)
-  good-count other how n apart =
-      good-change other (new_count CommandLine n) _ (λ r is. (longer-good r.id r.reading r.values _ is, tt)) (other-good other how _ apart, tt)
-
-  good-counted : (other : Text) (how : Reading) (values : List Text) → bytes_eq other id ≡ false → (rows : List Row) → AllGood rows →
-      AllGood (counted other how values rows)
-  good-counted other how [] apart rows good = good-count other how (min (count_of other rows + 1) 255) apart (without other rows) (good-without other rows good)
-  good-counted other how (v ∷ vs) apart rows good = good-set other how (v ∷ vs) (other-good other how _ apart) rows good
-
-  -- A USE OF AN OPTION
-
-  other-used : (action : ArgAction) (other : Text) (how : Reading) (values : List Text) → bytes_eq other id ≡ false → (rows : List Row) → AllGood rows →
-      AllGood (used_as action other how values rows)
-  other-used Set other how values apart rows good = good-set other how values (other-good other how _ apart) rows good
-  other-used SetTrue other how values apart rows good = good-set other how values (other-good other how _ apart) rows good
-  other-used SetFalse other how values apart rows good = good-set other how values (other-good other how _ apart) rows good
-  other-used Append other how values apart rows good = good-values other how CommandLine values (other-good other how _ apart) rows good
-  other-used Count other how values apart rows good = good-counted other how values apart rows good
-  other-used Help other how values apart rows good = good
-  other-used HelpShort other how values apart rows good = good
-  other-used HelpLong other how values apart rows good = good
-  other-used Version other how values apart rows good = good
+  abbrev IsNumberRow : Row → Type 0
+  IsNumberRow r = (v : Text) × (vs : List Text) × (r.values ≡ v ∷ vs) × (r.reading ≡ WithoutMinus) × (is-within v ≡ true)
 
   within-by : (b : Bool) (more : Kinds) → or_else (cond b [] (ValueValidation ∷ [])) more ≡ [] → b ≡ true
   within-by true more none = refl
   within-by false more none = absurd (full ValueValidation [] none)
 
-  number-used : (again : Bool) (values : List Text) (rows : List Row) → use_fault again number values rows ≡ [] → AllGood rows → AllGood (used number values rows)
+  number-used : (again : Bool) (values : List Text) (rows : List Row) → use_fault again number values rows ≡ [] → AllGood number IsNumberRow rows →
+      AllGood number IsNumberRow (used number values rows)
   number-used again [] rows none good = absurd (full _ _ none)
   number-used again (v ∷ vs) rows none good =
       let set = second-none (range_kinds 1 1 (length (v ∷ vs))) (set_fault again number (v ∷ vs) rows) none in
       let passed = second-none (repeat_fault again id rows) (values_fault number (v ∷ vs)) set in
-      good-set id WithoutMinus (v ∷ vs) (λ same. (v, vs, refl, refl, within-by (is-within v) (values_fault number vs) passed)) rows good
+      good-change number IsNumberRow id (more_values CommandLine (v ∷ vs)) _ (λ r same is. (λ here. longer r (is here), tt))
+      (λ same. (v, vs, refl, refl, within-by (is-within v) (values_fault number vs) passed), tt) (without id rows) (good-without number IsNumberRow id rows good)
+    where
+      longer : (r : Row) → IsNumberRow r → (w : Text) × (ws : List Text) × (r.values ++ v ∷ vs ≡ w ∷ ws) × (r.reading ≡ WithoutMinus) × (is-within w ≡ true)
+      longer r (w, ws, begins, how, within) = (w, ws ++ v ∷ vs, ap (λ us. us ++ v ∷ vs) begins, how, within)
 
-  abbrev IsOption : Rule → Type 0
-  IsOption a = (a ≡ number) ⊎ (bytes_eq a.id id ≡ false)
-
-  used-good : (again : Bool) (a : Rule) → IsOption a → (values : List Text) (rows : List Row) → use_fault again a values rows ≡ [] → AllGood rows →
-      AllGood (used a values rows)
-  used-good again a (inl e) values rows none good =
-      subst (λ x. AllGood (used x values rows)) (sym e) (number-used again values rows (subst (λ x. use_fault again x values rows ≡ []) e none) good)
-  used-good again a (inr apart) values rows none good =
-      other-used (unwrap_or a.action Set) a.id (reading_by a) (values_or_missing a values) apart rows good
+  -- the option has no default
+  number-default : (rows : List Row) → AllGood number IsNumberRow rows → AllGood number IsNumberRow (with_default rows number)
+  number-default rows good = either (has_row id rows)
+    where
+      either : (b : Bool) → AllGood number IsNumberRow (cond b rows rows)
+      either true = good
+      either false = good
 
   -- THE TEXT OF THE OPTION
 
   -- there is no text, or one of a number within the limits
-  row-number : (r : Row) → BeginsWell r.reading r.values → IsNumber least most (row_text r)
+  row-number : (r : Row) → IsNumberRow r → IsNumber least most (row_text r)
   row-number r begins = subst (λ (x : Row). IsNumber least most (row_text x)) (sym shown) (begins.0, refl, accepts-Accepts false (Signed (pos least) (pos most)) begins.0 begins.4)
     where
       shown : r ≡ record r { values = begins.0 ∷ begins.1; reading = WithoutMinus }
       shown = ap (λ vs. record r { values = vs }) begins.2 ∙ ap (λ how. record r { values = begins.0 ∷ begins.1; reading = how }) begins.3
 
-  number-head : (b : Bool) (r : Row) (rest : Option Row) → bytes_eq r.id id ≡ b → IsGood r → IsNumber least most (option_and_then row_text rest) →
-      IsNumber least most (option_and_then row_text (cond b (Some r) rest))
-  number-head true r rest here good more = row-number r (good here)
-  number-head false r rest here good more = more
+  number-in : (found : Option Row) → IsGoodIfFound number IsNumberRow found → IsNumber least most (option_and_then row_text found)
+  number-in None good = tt
+  number-in (Some r) good = row-number r good
 
-  number-in : (rows : List Row) → AllGood rows → IsNumber least most (one_of id rows)
-  number-in [] good = tt
-  number-in (r ∷ rows) good = number-head (bytes_eq r.id id) r _ refl good.0 (number-in rows good.1)
+  pub number-is : (s : Shape) → HasNumber s.rules → (words : List Text) (given : Bool) → level_fault s [] nothing_held words given [] ≡ [] →
+      IsNumber least most (one_of id (rows_after s.rules [] words))
+  number-is s has words given none =
+      let good = walked-good number IsNumberRow number-used s has words given none in
+      number-in _ (found-good number IsNumberRow _ (defaults-good number IsNumberRow number-default s.rules has _ good))
 
   -- what `get_one` makes of a text by a type's `from_str`
   module _ (E : Type 0) (gives : Text → Result ℕ E → Type 0) (k : ℕ) (parses : (t : Text) (x : Result ℕ E) → gives t x → ParsesUnsigned k 10 t x) (fits : most < 2 ^ k) where
     read-text : (default : ℕ) (v : Text) (r : Option ℕ) → IsSignedIn (pos least) (pos most) v → ReadsOne gives (without_minus v) r →
-        IsReadAs least most default (Some (without_minus v)) (unwrap_or r default)
+        IsNumberOrDefault least most default (Some (without_minus v)) (unwrap_or r default)
     read-text default v r within reads =
         let found = signed_reads E gives k least most v r reads parses fits within in
-        subst (λ (o : Option ℕ). IsReadAs least most default (Some (without_minus v)) (unwrap_or o default)) (sym found.1)
+        subst (λ (o : Option ℕ). IsNumberOrDefault least most default (Some (without_minus v)) (unwrap_or o default)) (sym found.1)
         ((parses (without_minus v) (Ok found.0) (subst (ReadsOne gives (without_minus v)) found.1 reads)).1, found.2, found.3)
 
     given-text : (v : Text) (r : Option ℕ) → IsSignedIn (pos least) (pos most) v → ReadsOne gives (without_minus v) r → IsNumberIn least most (Some (without_minus v)) r
@@ -173,210 +101,12 @@ module _ (id : Text) (least most : ℕ) where
         subst (λ t. IsNumberIn least most (Some t) r) (sym is.1) (given-text is.0 r is.2 (subst (λ t. ReadsOne gives t r) is.1 (some text refl)))
 
     read-option : (default : ℕ) (text : Option Text) (r : Option ℕ) → IsNumber least most text → least ≤ default → default ≤ most → (text ≡ None → r ≡ None) →
-        ((t : Text) → text ≡ Some t → ReadsOne gives t r) → IsReadAs least most default text (unwrap_or r default)
-    read-option default None r is low high none some = subst (λ (o : Option ℕ). IsReadAs least most default None (unwrap_or o default)) (sym (none refl)) (refl, low, high)
+        ((t : Text) → text ≡ Some t → ReadsOne gives t r) → IsNumberOrDefault least most default text (unwrap_or r default)
+    read-option default None r is low high none some = subst (λ (o : Option ℕ). IsNumberOrDefault least most default None (unwrap_or o default)) (sym (none refl)) (refl, low, high)
     read-option default (Some text) r is low high none some =
-        subst (λ t. IsReadAs least most default (Some t) (unwrap_or r default)) (sym is.1) (read-text default is.0 r is.2 (subst (λ t. ReadsOne gives t r) is.1 (some text refl)))
+        subst (λ t. IsNumberOrDefault least most default (Some t) (unwrap_or r default)) (sym is.1) (read-text default is.0 r is.2 (subst (λ t. ReadsOne gives t r) is.1 (some text refl)))
 
     pub number-read : (default : ℕ) (text : Option Text) (r : Option ℕ) (n : ℕ) → least ≤ default → default ≤ most → (text ≡ None → r ≡ None) →
-        ((t : Text) → text ≡ Some t → ReadsOne gives t r) → n ≡ unwrap_or r default → IsNumber least most text → IsReadAs least most default text n
+        ((t : Text) → text ≡ Some t → ReadsOne gives t r) → n ≡ unwrap_or r default → IsNumber least most text → IsNumberOrDefault least most default text n
     number-read default text r n low high none some taken is =
-        subst (λ x. IsReadAs least most default text x) (sym taken) (read-option default text r is low high none some)
-
-  -- A WORD, OF A SUBCOMMAND THAT HAS THE OPTION
-
-  module _ (s : Shape) (options : HasNumber s.rules) where
-    abbrev c : List Rule
-    c = s.rules
-
-    abbrev again : Bool
-    again = s.args_override_self
-
-    abbrev IsFound : Option Rule → Type 0
-    IsFound None = Unit {0}
-    IsFound (Some a) = IsOption a
-
-    found-head : (b : Bool) (a : Rule) (rest : Option Rule) → IsOption a → IsFound rest → IsFound (cond b (Some a) rest)
-    found-head true a rest is more = is
-    found-head false a rest is more = more
-
-    found-in : (p : Rule → Bool) (xs : List Rule) → HasNumber xs → IsFound (find p xs)
-    found-in p [] has = tt
-    found-in p (a ∷ rest) has = found-head (p a) a (find p rest) has.0 (found-in p rest has.1)
-
-    either : {X : Type 0} (rows : X → List Row) (b : Bool) (x y : X) → AllGood (rows x) → AllGood (rows y) → AllGood (rows (cond b x y))
-    either rows true x y left right = left
-    either rows false x y left right = right
-
-    by-id : (found : Option Rule) (values : List Text) (rows : List Row) → IsFound found → option_map_or (λ a. use_fault again a values rows) found [] ≡ [] →
-        AllGood rows → AllGood (used_by_id found values rows)
-    by-id None values rows is none good = good
-    by-id (Some a) values rows is none good = used-good again a is values rows none good
-
-    settled-rows : (p : Option (Text × List Text)) (rows : List Row) →
-        option_map_or (λ p. option_map_or (λ a. use_fault again a p.1 rows) (arg_by_id c p.0) []) p [] ≡ [] → AllGood rows → AllGood (settled_rows c p rows)
-    settled-rows None rows none good = good
-    settled-rows (Some p) rows none good = by-id (arg_by_id c p.0) p.1 rows (found-in (λ a. bytes_eq a.id p.0) c options) none good
-
-    settled-good : (h : Held) → settle_fault c again h ≡ [] → AllGood h.rows → AllGood (settled c h).rows
-    settled-good h none good = settled-rows h.pending h.rows none good
-
-    reacted-good : (a : Rule) → IsOption a → (values : List Text) (h : Held) → react_fault c again a values h ≡ [] → AllGood h.rows →
-        AllGood (reacted c a values h).rows
-    reacted-good a is values h none good =
-        used-good again a is values (settled c h).rows (second-none (settle_fault c again h) _ none) (settled-good h (first-none (settle_fault c again h) _ none) good)
-
-    option-good : (a : Rule) (v : Option Text) (h : Held) → IsOption a → option_fault c again a v h ≡ [] → AllGood h.rows → AllGood (option_met c a v h).0.rows
-    option-good a (Some v) h is none good = reacted-good a is (v ∷ []) h none good
-    option-good a None h is none good = settled-good h none good
-
-    flag-good : (a : Rule) (v : Option Text) (h : Held) (kinds : Kinds) → IsOption a → cond (is_some v) kinds (react_fault c again a [] h) ≡ [] → AllGood h.rows →
-        AllGood (flag_met c a v h).0.rows
-    flag-good a (Some v) h kinds is none good = good
-    flag-good a None h kinds is none good = reacted-good a is [] h none good
-
-    long-by : (b : Bool) (a : Rule) (v : Option Text) (h : Held) (kinds : Kinds) → IsOption a →
-        cond b (option_fault c again a v h) (cond (is_some v) kinds (react_fault c again a [] h)) ≡ [] → AllGood h.rows →
-        AllGood (cond b (option_met c a v h) (flag_met c a v h)).0.rows
-    long-by true a v h kinds is none good = option-good a v h is none good
-    long-by false a v h kinds is none good = flag-good a v h kinds is none good
-
-    long-good : (found : Option Rule) (v : Option Text) (h : Held) → IsFound found → long_fault c again found v h ≡ [] → AllGood h.rows →
-        AllGood (long_met c found v h).0.rows
-    long-good None v h is none good = good
-    long-good (Some a) v h is none good = long-by (takes_values a) a v h _ is none good
-
-    -- what goes on from what is held without a fault keeps the rows good
-    abbrev GoesOn : (Held → Held × Outcome) → (Held → Kinds) → Type 0
-    GoesOn go faults = (k : Held) → faults k ≡ [] → AllGood k.rows → AllGood (go k).0.rows
-
-    short-by : (b : Bool) (a : Rule) (rest : Text) (h : Held) (go : Held → Held × Outcome) (faults : Held → Kinds) → GoesOn go faults → IsOption a →
-        cond b (option_fault c again a (attached_value rest) h) (or_else (react_fault c again a [] h) (faults (reacted c a [] h))) ≡ [] → AllGood h.rows →
-        AllGood (cond b (option_met c a (attached_value rest) h) (go (reacted c a [] h))).0.rows
-    short-by true a rest h go faults goes is none good = option-good a (attached_value rest) h is none good
-    short-by false a rest h go faults goes is none good =
-        goes (reacted c a [] h) (second-none (react_fault c again a [] h) _ none) (reacted-good a is [] h (first-none (react_fault c again a [] h) _ none) good)
-
-    short-good : (found : Option Rule) (rest : Text) (h : Held) (go : Held → Held × Outcome) (faults : Held → Kinds) → GoesOn go faults → IsFound found →
-        short_fault c again found rest h faults ≡ [] → AllGood h.rows → AllGood (short_met c found rest h go).0.rows
-    short-good None rest h go faults goes is none good = good
-    short-good (Some a) rest h go faults goes is none good = short-by (takes_values a) a rest h go faults goes is none good
-
-    bundle-step : (x : Option ℕ) (flags : Text) (skip : ℕ) (so_far : Outcome) (h : Held) (go : Text → ℕ → Outcome → Held → Held × Outcome)
-        (faults : Text → ℕ → Held → Kinds) → ((f : Text) (n : ℕ) (o : Outcome) → GoesOn (go f n o) (faults f n)) →
-        bundle_step_fault c again x flags skip h faults ≡ [] → AllGood h.rows → AllGood (bundle_step c x flags skip so_far h go).0.rows
-    bundle-step None flags skip so_far h go faults goes none good = good
-    bundle-step (Some x) flags zero so_far h go faults goes none good =
-        let rest = drop (length (encode_utf8 x)) flags in
-        short-good (arg_by_short c x) rest h (go rest 0 done) (faults rest 0) (goes rest 0 done) (found-in _ c options) none good
-    bundle-step (Some x) flags (suc skip) so_far h go faults goes none good =
-        goes (drop (length (encode_utf8 x)) flags) skip so_far h none good
-
-    bundle-good : (n : ℕ) (flags : Text) (skip : ℕ) (so_far : Outcome) → GoesOn (bundle_met c n flags skip so_far) (flags_fault c again n flags skip)
-    unfolding bundle_met flags_fault
-    bundle-good zero flags skip so_far h none good = good
-    bundle-good (suc n) flags skip so_far h none good =
-        bundle-step (slice_get (chars flags) 0) flags skip so_far h (bundle_met c n) (flags_fault c again n) (λ f k o. bundle-good n f k o) none good
-
-    plain-good : (waiting : Waiting) (word : Text) (h : Held) → AllGood h.rows → AllGood (plain_word c waiting word h).0.rows
-    plain-good idle word h good = good
-    plain-good (option name) word h good = given (arg_by_id c name)
-      where
-        given : (found : Option Rule) → AllGood (option_word found name word h).0.rows
-        given None = good
-        given (Some a) = good
-    plain-good positional word h good = good
-
-    after-good : (waiting : Waiting) (word : Text) (h : Held) (o : Outcome) → AllGood h.rows → AllGood (after_flag c waiting word h o).0.rows
-    after-good waiting word h done good = good
-    after-good waiting word h (waits name) good = good
-    after-good waiting word h plain good = plain-good waiting word h good
-    after-good waiting word h refused good = plain-good waiting word h good
-
-    short-word : (waiting : Waiting) (word : Text) (flags : Option Text) (h : Held) →
-        option_map_or (λ f. bundle_fault c again f h) flags [] ≡ [] → AllGood h.rows → AllGood (short_or_plain c waiting word flags h).0.rows
-    short-word waiting word None h none good = plain-good waiting word h good
-    short-word waiting word (Some flags) h none good =
-        after-good waiting word (bundle c flags h).0 (bundle c flags h).1 (bundle-good (length flags) flags h.skip plain (record h { skip = 0 }) none good)
-
-    long-word : (waiting : Waiting) (word : Text) (found : Option (Text × Option Text)) (h : Held) → flag_word_fault c again found word h ≡ [] →
-        AllGood h.rows → AllGood (long_or_other c waiting word found h).0.rows
-    long-word waiting word None h none good = short-word waiting word (short_of word) h none good
-    long-word waiting word (Some p) h none good =
-        let met = long_met c (arg_by_long c p.0) p.1 h in
-        after-good waiting word met.0 met.1 (long-good (arg_by_long c p.0) p.1 h (found-in _ c options) none good)
-
-    dashes-word : (b : Bool) (waiting : Waiting) (position : ℕ) (word : Text) (h : Held) → cond b [] (flag_word_fault c again (long_of word) word h) ≡ [] →
-        AllGood h.rows → AllGood (cond b (h, trailing position) (long_or_other c waiting word (long_of word) h)).0.rows
-    dashes-word true waiting position word h none good = good
-    dashes-word false waiting position word h none good = long-word waiting word (long_of word) h none good
-
-    other-word : (met : Option Text) (waiting : Waiting) (position : ℕ) (word : Text) (h : Held) → other_fault s met word h ≡ [] → AllGood h.rows →
-        AllGood (subcommand_or_other c met waiting position word h).0.rows
-    other-word (Some name) waiting position word h none good = good
-    other-word None waiting position word h none good = dashes-word (bytes_eq word (45 ∷ 45 ∷ [])) waiting position word h none good
-
-    word-good : (t : Bool) (waiting : Waiting) (position : ℕ) (word : Text) (h : Held) → word_fault s [] t waiting word h ≡ [] → AllGood h.rows →
-        AllGood (word_met c [] t waiting position word h).0.rows
-    word-good true waiting position word h none good = good
-    word-good false waiting position word h none good = other-word (subcommand_met [] waiting word) waiting position word h none good
-
-    positional-by : (b : Bool) (h : Held) → cond b [] (settle_fault c again h) ≡ [] → AllGood h.rows → AllGood (cond b h (settled c h)).rows
-    positional-by true h none good = good
-    positional-by false h none good = settled-good h none good
-
-    positional-good : (found : Option Rule) (stray : Kinds) (word : Text) (w : Walk) (h : Held) →
-        option_map_or (λ a. positional_fault c again a h) found stray ≡ [] → AllGood h.rows → AllGood (to_positional c found word w h).held.rows
-    positional-good None stray word w h none good = good
-    positional-good (Some a) stray word w h none good = positional-by (is_pending a h.pending && takes_several a) h none good
-
-    step-good : (word : Text) (w : Walk) (h : Held) (met : Step) → step_fault s w.position h met ≡ [] → AllGood h.rows →
-        AllGood (after_step c word w h met).held.rows
-    step-good word w h (next waiting) none good = good
-    step-good word w h (trailing position) none good = good
-    step-good word w h (subcommand name) none good = good
-    step-good word w h value none good = positional-good (arg_by_index c w.position) _ word w h none good
-
-    -- THE WORDS
-
-    walked-by : (stop : Option (Text × List Text)) (w : Walk) (word : Text) → w.stopped ≡ stop → turn_fault s [] w word ≡ [] → AllGood w.held.rows →
-        AllGood (walked_from c [] stop w word).held.rows
-    walked-by (Some p) w word is none good = good
-    walked-by None w word is none good =
-        let going = subst (λ (o : Option (Text × List Text)). cond (is_some o) [] (turn_fault s [] (record w { stopped = None }) word) ≡ []) is none in
-        let met = word_met c [] w.is_trailing w.waiting w.position word w.held in
-        let fault = word_fault s [] w.is_trailing w.waiting word w.held in
-        step-good word w met.0 met.1 (second-none fault _ going) (word-good w.is_trailing w.waiting w.position word w.held (first-none fault _ going) good)
-
-    walk-good : (words : List Text) (w : Walk) → walk_fault s [] w words ≡ [] → AllGood w.held.rows → AllGood (fold (walked c []) w words).held.rows
-    unfolding walk_fault walked
-    walk-good [] w none good = good
-    walk-good (word ∷ rest) w none good =
-        walk-good rest (walked c [] w word) (second-none (turn_fault s [] w word) _ none)
-        (walked-by w.stopped w word refl (first-none (turn_fault s [] w word) _ none) good)
-
-    default-by : (b : Bool) (other : Text) (how : Reading) (values : List Text) → bytes_eq other id ≡ false → (rows : List Row) → AllGood rows →
-        AllGood (cond b rows (default_rows other how values rows))
-    default-by true other how values apart rows good = good
-    default-by false other how [] apart rows good = good
-    default-by false other how (v ∷ vs) apart rows good = good-values other how DefaultValue (v ∷ vs) (other-good other how _ apart) rows good
-
-    default-good : (a : Rule) → IsOption a → (rows : List Row) → AllGood rows → AllGood (with_default rows a)
-    default-good a (inl e) rows good =
-        subst (λ x. AllGood (with_default rows x)) (sym e) (either (λ x. x) (has_row id rows) rows rows good good)
-    default-good a (inr apart) rows good = default-by (has_row a.id rows) a.id (reading_by a) a.defaults apart rows good
-
-    defaults-good : (xs : List Rule) → HasNumber xs → (rows : List Row) → AllGood rows → AllGood (fold with_default rows xs)
-    defaults-good [] has rows good = good
-    defaults-good (a ∷ rest) has rows good = defaults-good rest has.1 (with_default rows a) (default-good a has.0 rows good)
-
-    rows-good : (words : List Text) (given : Bool) → level_fault s [] nothing_held words given [] ≡ [] → AllGood (rows_after c [] words)
-    rows-good words given none =
-        let end = walk c [] nothing_held words in
-        let walking = walk_fault s [] (walk_from nothing_held) words in
-        let settling = second-none walking _ none in
-        defaults-good c options (settled c end.held).rows
-        (settled-good end.held (first-none (settle_fault c again end.held) _ settling) (walk-good words (walk_from nothing_held) (first-none walking _ none) tt))
-
-    pub number-is : (words : List Text) (given : Bool) → level_fault s [] nothing_held words given [] ≡ [] → IsNumber least most (one_of id (rows_after c [] words))
-    number-is words given none = number-in (rows_after c [] words) (rows-good words given none)
+        subst (λ x. IsNumberOrDefault least most default text x) (sym taken) (read-option default text r is low high none some)

@@ -1,7 +1,6 @@
 -- Used by contracts within the crate alone: what clap found among the words, and the options of a search as it found them among those
 -- of a subcommand.
-use Rattle.std.specs.Prelude.{◌≡◌, ◌≤◌, if◌then◌else◌, ℕ, Bool, List, [], true, false, Option, None, Some, codes, pos}
-use Rattle.std.specs.Option.{option_map_or}
+use Rattle.std.specs.Prelude.{◌≡◌, if◌then◌else◌, ℕ, Bool, List, [], true, false, Option, None, Some, codes, pos}
 use Rattle.clap.specs.Values.{IsSignedIn}
 use Rattle.clap.specs.Words.{Text, fault_of, one_text, subcommand_of, subcommand_rows_of, without_minus}
 use Rattle.clap.specs.declared.parser.matches.ArgMatches.{ArgMatches}
@@ -10,7 +9,7 @@ use Rattle.s66_model.specs.declared.limits.TheConstants.{BUDGET_LIMIT, WORKERS_L
 use Rattle.s66_model.specs.declared.rule.Rule.{Rule as LeafRule}
 use Rattle.s66_command.specs.declared.limits.TheConstants.{BLOCK_NUMBER_LIMIT, NODES_DEFAULT, WORKERS_DEFAULT}
 use Rattle.s66_command.specs.declared.strategy.Strategy.{Strategy}
-use Rattle.s66_command.specs.Usage.{IsNumberIn, are_columns_alone, number_in, rule_unless_two, s66_app}
+use Rattle.s66_command.specs.Usage.{IsNumberIn, IsNumberOrDefault, are_columns_alone, rule_unless_two, s66_app}
 
 -- the words have no fault, and the matches are theirs
 abbrev pub IsTaken : ArgMatches → List Text → Type 0
@@ -21,14 +20,9 @@ abbrev pub IsNumber : (least most : ℕ) → Option Text → Type 0
 IsNumber least most None = Unit {0}
 IsNumber least most (Some text) = (v : Text) × (text ≡ without_minus v) × IsSignedIn (pos least) (pos most) v
 
--- the number of the text, or the default if there is none, is within the limits
-abbrev pub IsReadAs : (least most default : ℕ) → Option Text → ℕ → Type 0
-IsReadAs least most default text n =
-    (n ≡ option_map_or number_in text default) × (least ≤ n) × (n ≤ most)
-
 -- a number as it is read of what was found for its option, if that is a number within the limits
 abbrev pub IsNumberFound : Found → Text → (least most default : ℕ) → ℕ → Type 0
-IsNumberFound found id least most default n = IsNumber least most (one_text found id) → IsReadAs least most default (one_text found id) n
+IsNumberFound found id least most default n = IsNumber least most (one_text found id) → IsNumberOrDefault least most default (one_text found id) n
 
 abbrev pub AreWorkersFound : Found → ℕ → Type 0
 AreWorkersFound found workers = IsNumberFound found (codes "workers") 1 WORKERS_LIMIT WORKERS_DEFAULT workers
@@ -41,9 +35,13 @@ abbrev pub IsBlockFound : Found → Option ℕ → Type 0
 IsBlockFound found block =
     IsNumber 1 BLOCK_NUMBER_LIMIT (one_text found (codes "block")) → IsNumberIn 1 BLOCK_NUMBER_LIMIT (one_text found (codes "block")) block
 
+-- a flag as it is read of the text for it
+abbrev pub IsFlagOf : Option Text → Bool → Type 0
+IsFlagOf text flag = (text ≡ None → flag ≡ false) × (text ≡ Some (codes "true") → flag ≡ true) × (text ≡ Some (codes "false") → flag ≡ false)
+
 -- a flag as it is read of what was found for it
 abbrev pub IsFlagFound : Found → Text → Bool → Type 0
-IsFlagFound found id flag = (one_text found id ≡ Some (codes "true") → flag ≡ true) × (one_text found id ≡ Some (codes "false") → flag ≡ false)
+IsFlagFound found id flag = IsFlagOf (one_text found id) flag
 
 -- the rule by the three flags, unless two of them were found
 abbrev pub IsRuleFound : Found → Option LeafRule → Type 0

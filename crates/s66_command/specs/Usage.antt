@@ -167,9 +167,9 @@ plain_text id words = option_and_then (λ s. first_of id s.1) (subcommand_of s66
 abbrev pub number_in : Text → ℕ
 number_in text = digits_value 10 (without_leading_plus text)
 
--- the number that the words give the subcommand for this option, or else the default
-abbrev pub option_number : Text → ℕ → List Text → ℕ
-option_number id default words = option_map_or number_in (option_text id words) default
+-- the number of the text, or the default if there is none, is from the least to the most
+abbrev pub IsNumberOrDefault : (least most default : ℕ) → Option Text → ℕ → Type 0
+IsNumberOrDefault least most default text n = (n ≡ option_map_or number_in text default) × (least ≤ n) × (n ≤ most)
 
 -- the words, of which the first is the program's name, have no fault and name the subcommand
 abbrev pub AsksFor : List Text → Text → Type 0
@@ -214,8 +214,8 @@ GivesColumns words columns = GivesFlag (codes "columns") words columns × (gives
 -- they give a search these options: numbers within their limits, and a rule by one flag at most
 abbrev pub GivesOptions : List Text → Options → Type 0
 GivesOptions words options =
-    (options.workers ≡ option_number (codes "workers") WORKERS_DEFAULT words) × (1 ≤ options.workers) × (options.workers ≤ WORKERS_LIMIT)
-    × (options.nodes ≡ option_number (codes "nodes") NODES_DEFAULT words) × (options.nodes ≤ BUDGET_LIMIT)
+    IsNumberOrDefault 1 WORKERS_LIMIT WORKERS_DEFAULT (option_text (codes "workers") words) options.workers
+    × IsNumberOrDefault 0 BUDGET_LIMIT NODES_DEFAULT (option_text (codes "nodes") words) options.nodes
     × (options.rule ≡ rule_given words) × (gives_two words ≡ false)
 
 -- they say how to look for the best order: by these options of a search, and with facts first by the flag `--deep`

@@ -2,13 +2,20 @@
 
 ghost use Rattle.std.specs.Prelude.{◌≡◌};
 ghost use Rattle.clap.specs.Words.{found_of};
-ghost use Rattle.s66_command.specs.FoundOptions.{AreColumnsFound, AreNodesFound, AreWorkersFound, IsBlockFound, IsOrderFound, IsStrategyFound};
+ghost use Rattle.s66_command.specs.FoundOptions.{AreColumnsFound, AreNodesFound, AreWorkersFound, IsBlockFound, IsFlagFound, IsOrderFound, IsStrategyFound};
 ghost use Rattle.s66_command.specs.Usage.{rule_unless_two};
 
 use crate::limits::{NODES_DEFAULT, WORKERS_DEFAULT};
 use crate::strategy::Strategy;
 use clap::ArgMatches;
 use s66_model::{Options, Rule};
+
+/// Whether a flag is given.
+pub(crate) fn flag_in(matches: &ArgMatches, name: &str) -> bool
+    ensures { IsFlagFound (found_of matches.now) name.now result }
+{
+    matches.get_flag(name)
+}
 
 /// How many workers search, by the words of a subcommand that searches.
 fn workers_in(matches: &ArgMatches) -> u8
@@ -47,9 +54,9 @@ fn rule_of(dominate: bool, dominate_tree: bool, deep: bool) -> Option<Rule>
 pub(crate) fn strategy_in(matches: &ArgMatches) -> Option<Strategy>
     ensures { IsStrategyFound (found_of matches.now) result }
 {
-    let dominate = matches.get_flag("dominate");
-    let dominate_tree = matches.get_flag("dominate-tree");
-    let deep = matches.get_flag("deep");
+    let dominate = flag_in(matches, "dominate");
+    let dominate_tree = flag_in(matches, "dominate-tree");
+    let deep = flag_in(matches, "deep");
     let rule = rule_of(dominate, dominate_tree, deep)?;
     let search = Options {
         workers: workers_in(matches),
@@ -63,7 +70,7 @@ pub(crate) fn strategy_in(matches: &ArgMatches) -> Option<Strategy>
 pub(crate) fn order_in(matches: &ArgMatches, strategy: Strategy) -> Option<Strategy>
     ensures { IsOrderFound (found_of matches.now) strategy result }
 {
-    if matches.get_flag("order") {
+    if flag_in(matches, "order") {
         Some(strategy)
     } else {
         None
@@ -74,7 +81,7 @@ pub(crate) fn order_in(matches: &ArgMatches, strategy: Strategy) -> Option<Strat
 pub(crate) fn columns_in(matches: &ArgMatches) -> Option<bool>
     ensures { AreColumnsFound (found_of matches.now) result }
 {
-    match (matches.get_flag("columns"), matches.get_flag("keep")) {
+    match (flag_in(matches, "columns"), flag_in(matches, "keep")) {
         (true, false) => None,
         (columns, _) => Some(columns),
     }

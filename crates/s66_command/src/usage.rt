@@ -9,7 +9,7 @@ use crate::app::{
     json_command, order_command, page_command, program, prove_command, sum_command, why_command,
 };
 use crate::command::Command as Asked;
-use crate::options::{block_in, columns_in, order_in, strategy_in};
+use crate::options::{block_in, columns_in, flag_in, order_in, strategy_in};
 use crate::strategy::Strategy;
 use clap::error::ErrorKind;
 use clap::{ArgMatches, Command, Error};
@@ -93,9 +93,9 @@ fn mistake(alloc: Global, command: &mut Command<'_>, kind: ErrorKind, message: &
 fn two_given(alloc: Global, matches: &ArgMatches, command: &mut Command<'_>) -> Usage
     ensures { IsUsageOf ArgumentConflict result }
 {
-    let dominate = matches.get_flag("dominate");
-    let dominate_tree = matches.get_flag("dominate-tree");
-    let message = match (dominate, dominate_tree, matches.get_flag("deep")) {
+    let dominate = flag_in(matches, "dominate");
+    let dominate_tree = flag_in(matches, "dominate-tree");
+    let message = match (dominate, dominate_tree, flag_in(matches, "deep")) {
         (true, true, false) => "the argument '--dominate' cannot be used with '--dominate-tree'",
         (true, false, true) => "the argument '--dominate' cannot be used with '--deep'",
         (false, true, true) => "the argument '--dominate-tree' cannot be used with '--deep'",
@@ -154,75 +154,75 @@ fn asked<'a>(alloc: Global, matches: &ArgMatches<'a>) -> Result<Asked<'a>, Usage
     };
     match name {
         "time" => Ok(Asked::Time {
-            cut: given.get_flag("cut"),
-            trace: given.get_flag("trace"),
+            cut: flag_in(given, "cut"),
+            trace: flag_in(given, "trace"),
             block: block_in(given),
             profile: given.get_str("profile"),
         }),
         "deps" => Ok(Asked::Deps {
-            cut: given.get_flag("cut"),
+            cut: flag_in(given, "cut"),
             block: block_in(given),
         }),
         "chart" => Ok(Asked::Chart {
-            cut: given.get_flag("cut"),
-            text: given.get_flag("text"),
+            cut: flag_in(given, "cut"),
+            text: flag_in(given, "text"),
             block: block_in(given),
             profile: given.get_str("profile"),
         }),
         "why" => {
             let strategy = strategy_or_mistake(alloc, given, why_command)?;
             Ok(Asked::Why {
-                cut: given.get_flag("cut"),
+                cut: flag_in(given, "cut"),
                 order: order_in(given, strategy),
-                text: given.get_flag("text"),
+                text: flag_in(given, "text"),
                 block: block_in(given),
                 profile: given.get_str("profile"),
             })
         }
         "page" => Ok(Asked::Page {
             strategy: strategy_or_mistake(alloc, given, page_command)?,
-            cut: given.get_flag("cut"),
+            cut: flag_in(given, "cut"),
             block: block_in(given),
             profile: given.get_str("profile"),
         }),
         "order" => Ok(Asked::Order {
             strategy: strategy_or_mistake(alloc, given, order_command)?,
             columns: columns_or_mistake(alloc, given)?,
-            cut: given.get_flag("cut"),
-            trace: given.get_flag("trace"),
-            keep: given.get_flag("keep"),
-            quiet: given.get_flag("quiet"),
+            cut: flag_in(given, "cut"),
+            trace: flag_in(given, "trace"),
+            keep: flag_in(given, "keep"),
+            quiet: flag_in(given, "quiet"),
             block: block_in(given),
             profile: given.get_str("profile"),
         }),
         "prove" => Ok(Asked::Prove {
             strategy: strategy_or_mistake(alloc, given, prove_command)?,
-            cut: given.get_flag("cut"),
+            cut: flag_in(given, "cut"),
             block: block_in(given),
             profile: given.get_str("profile"),
         }),
         "check" => Ok(Asked::Check {
-            text: given.get_flag("text"),
+            text: flag_in(given, "text"),
         }),
         "lint" => Ok(Asked::Lint {
-            cut: given.get_flag("cut"),
+            cut: flag_in(given, "cut"),
         }),
         "sum" => Ok(Asked::Sum {
             strategy: strategy_or_mistake(alloc, given, sum_command)?,
-            cut: given.get_flag("cut"),
-            trace: given.get_flag("trace"),
-            words: given.get_flag("words"),
+            cut: flag_in(given, "cut"),
+            trace: flag_in(given, "trace"),
+            words: flag_in(given, "words"),
             block: block_in(given),
             profile: given.get_str("profile"),
         }),
         "compare" => Ok(Asked::Compare {
-            cut: given.get_flag("cut"),
+            cut: flag_in(given, "cut"),
             profile: given.get_str("profile"),
         }),
         "json" => {
             let strategy = strategy_or_mistake(alloc, given, json_command)?;
             Ok(Asked::Json {
-                cut: given.get_flag("cut"),
+                cut: flag_in(given, "cut"),
                 order: order_in(given, strategy),
                 block: block_in(given),
                 profile: given.get_str("profile"),

@@ -7,7 +7,7 @@ use Rattle.s66_program.specs.Output.{IsSearchWithin, IsWithinLimits}
 use Rattle.s66_command.specs.Usage.{Asks, GivesSearch, Text}
 
 search-within : (words : List Text) (strategy : Strategy) → GivesSearch words strategy → IsSearchWithin strategy.search.workers strategy.search.nodes
-search-within words strategy h = (h.0.1, h.0.2, h.0.4)
+search-within words strategy h = (h.0.0.1, h.0.0.2, h.0.1.2)
 
 pub asked-within : (words : List Text) (command : Command) → Asks words command → IsWithinLimits command
 asked-within words (Time cut trace only profile) h = h.3.1

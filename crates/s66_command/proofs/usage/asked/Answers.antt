@@ -1,8 +1,8 @@
 use Rattle.std.proofs.Common.{rules, codes, inl, inr, refl}
 use Rattle.clap.specs.Words.{found_of}
 use Rattle.s66_command.specs.Usage.{Asks}
-use Rattle.s66_command.proofs.Named.{alone-of, block-of, columns-of, flag-of, json-options, met, name-known, order-of, order-options, page-options, profile-of, prove-options, search-of, sum-options, two-of, why-options}
-use Rattle.s66_command.proofs.Refused.{handed-on, refused-alone, refused-two}
+use Rattle.s66_command.proofs.Named.{alone-of, block-of, columns-of, flag-of, met, name-known, order-of, profile-of, search-of, two-refused}
+use Rattle.s66_command.proofs.Refused.{handed-on, refused-alone}
 use Rattle.s66_command.proofs.usage.asked.Goals as goal
 
 pub unreachable-requires : goal.unreachable-requires
@@ -34,9 +34,9 @@ returns-in-time c words is =
     let found = found_of c.in-Some.given.now in
     let there = met c.args.matches.now words _ found _ is c.in-Some.ensures.name c.in-Some.ensures.rows c.in-time.is refl in (
       there.0,
-      flag-of words found c.get_flag.result _ (codes "cut") there.1 ((inl refl, (inr refl, (inr refl, (inr refl, (inr refl, tt))))), refl) (c.get_flag.ensures.value, c.get_flag.ensures.other),
-      flag-of words found c.get_flag-in-time.result _ (codes "trace") there.1 ((inr refl, (inr refl, (inl refl, (inr refl, (inr refl, tt))))), refl) (c.get_flag-in-time.ensures.value, c.get_flag-in-time.ensures.other),
-      block-of words found c.block_in.result _ there.1 (inr refl, (inr refl, (inr refl, (inl refl, (inr refl, tt))))) c.block_in.ensures,
+      flag-of words found c.flag_in.result _ (codes "cut") there.1 refl c.flag_in.ensures,
+      flag-of words found c.flag_in-in-time.result _ (codes "trace") there.1 refl c.flag_in-in-time.ensures,
+      block-of words found c.block_in.result _ there.1 refl c.block_in.ensures,
       profile-of words found _ c.get_str.result there.1 c.get_str.ensures,
     )
 
@@ -45,8 +45,8 @@ returns-in-deps c words is =
     let found = found_of c.in-Some.given.now in
     let there = met c.args.matches.now words _ found _ is c.in-Some.ensures.name c.in-Some.ensures.rows c.in-deps.is refl in (
       there.0,
-      flag-of words found c.get_flag-in-deps.result _ (codes "cut") there.1 ((inl refl, (inr refl, (inr refl, tt))), refl) (c.get_flag-in-deps.ensures.value, c.get_flag-in-deps.ensures.other),
-      block-of words found c.block_in-in-deps.result _ there.1 (inr refl, (inl refl, (inr refl, tt))) c.block_in-in-deps.ensures,
+      flag-of words found c.flag_in-in-deps.result _ (codes "cut") there.1 refl c.flag_in-in-deps.ensures,
+      block-of words found c.block_in-in-deps.result _ there.1 refl c.block_in-in-deps.ensures,
     )
 
 pub returns-in-chart : goal.returns-in-chart
@@ -54,9 +54,9 @@ returns-in-chart c words is =
     let found = found_of c.in-Some.given.now in
     let there = met c.args.matches.now words _ found _ is c.in-Some.ensures.name c.in-Some.ensures.rows c.in-chart.is refl in (
       there.0,
-      flag-of words found c.get_flag-in-chart.result _ (codes "cut") there.1 ((inl refl, (inr refl, (inr refl, (inr refl, (inr refl, tt))))), refl) (c.get_flag-in-chart.ensures.value, c.get_flag-in-chart.ensures.other),
-      flag-of words found c.get_flag-in-chart-2.result _ (codes "text") there.1 ((inr refl, (inr refl, (inl refl, (inr refl, (inr refl, tt))))), refl) (c.get_flag-in-chart-2.ensures.value, c.get_flag-in-chart-2.ensures.other),
-      block-of words found c.block_in-in-chart.result _ there.1 (inr refl, (inr refl, (inr refl, (inl refl, (inr refl, tt))))) c.block_in-in-chart.ensures,
+      flag-of words found c.flag_in-in-chart.result _ (codes "cut") there.1 refl c.flag_in-in-chart.ensures,
+      flag-of words found c.flag_in-in-chart-2.result _ (codes "text") there.1 refl c.flag_in-in-chart-2.ensures,
+      block-of words found c.block_in-in-chart.result _ there.1 refl c.block_in-in-chart.ensures,
       profile-of words found _ c.get_str-in-chart.result there.1 c.get_str-in-chart.ensures,
     )
 
@@ -64,19 +64,17 @@ pub returns-in_err-strategy-in-why : goal.returns-in_err-strategy-in-why
 returns-in_err-strategy-in-why c words is =
     let found = found_of c.in-Some.given.now in
     let there = met c.args.matches.now words _ found _ is c.in-Some.ensures.name c.in-Some.ensures.rows c.in-why.is refl in
-    let mistake = c.in_err-strategy-in-why.ensures.err in
-    handed-on c.from_residual.result c.in_err-strategy-in-why.field-0.0 words (Asks words) c.from_residual.ensures.1
-    (refused-two c.in_err-strategy-in-why.field-0.0 words there.0.0 (two-of words found _ there.1 why-options mistake.0) mistake.1)
+    two-refused words found _ c.in_err-strategy-in-why.field-0.0 c.from_residual.result (Asks words) there.0.0 there.1 (refl, refl, refl, refl, refl) c.in_err-strategy-in-why.ensures.err c.from_residual.ensures.1
 
 pub returns-in_ok-strategy-in-why : goal.returns-in_ok-strategy-in-why
 returns-in_ok-strategy-in-why c words is =
     let found = found_of c.in-Some.given.now in
     let there = met c.args.matches.now words _ found _ is c.in-Some.ensures.name c.in-Some.ensures.rows c.in-why.is refl in (
       there.0,
-      flag-of words found c.get_flag-in-why.result _ (codes "cut") there.1 ((inr refl, (inl refl, (inr refl, (inr refl, (inr refl, (inr refl, (inr refl, (inr refl, (inr refl, (inr refl, (inr refl, tt))))))))))), refl) (c.get_flag-in-why.ensures.value, c.get_flag-in-why.ensures.other),
-      order-of words found c.in_ok-strategy-in-why.strategy c.order_in.result _ there.1 ((inr refl, (inr refl, (inr refl, (inr refl, (inr refl, (inr refl, (inr refl, (inl refl, (inr refl, (inr refl, (inr refl, tt))))))))))), refl) (search-of words found c.in_ok-strategy-in-why.strategy _ there.1 why-options c.in_ok-strategy-in-why.ensures.ok) c.order_in.ensures,
-      flag-of words found c.get_flag-in-why-2.result _ (codes "text") there.1 ((inr refl, (inr refl, (inr refl, (inr refl, (inr refl, (inr refl, (inr refl, (inr refl, (inl refl, (inr refl, (inr refl, tt))))))))))), refl) (c.get_flag-in-why-2.ensures.value, c.get_flag-in-why-2.ensures.other),
-      block-of words found c.block_in-in-why.result _ there.1 (inr refl, (inr refl, (inr refl, (inr refl, (inr refl, (inr refl, (inr refl, (inr refl, (inr refl, (inl refl, (inr refl, tt))))))))))) c.block_in-in-why.ensures,
+      flag-of words found c.flag_in-in-why.result _ (codes "cut") there.1 refl c.flag_in-in-why.ensures,
+      order-of words found c.in_ok-strategy-in-why.strategy c.order_in.result _ there.1 refl (search-of words found c.in_ok-strategy-in-why.strategy _ there.1 (refl, refl, refl, refl, refl) c.in_ok-strategy-in-why.ensures.ok) c.order_in.ensures,
+      flag-of words found c.flag_in-in-why-2.result _ (codes "text") there.1 refl c.flag_in-in-why-2.ensures,
+      block-of words found c.block_in-in-why.result _ there.1 refl c.block_in-in-why.ensures,
       profile-of words found _ c.get_str-in-why.result there.1 c.get_str-in-why.ensures,
     )
 
@@ -84,18 +82,16 @@ pub returns-in_err-strategy-in-json : goal.returns-in_err-strategy-in-json
 returns-in_err-strategy-in-json c words is =
     let found = found_of c.in-Some.given.now in
     let there = met c.args.matches.now words _ found _ is c.in-Some.ensures.name c.in-Some.ensures.rows c.in-json.is refl in
-    let mistake = c.in_err-strategy-in-json.ensures.err in
-    handed-on c.from_residual-in_err-strategy-in-json.result c.in_err-strategy-in-json.field-0.0 words (Asks words) c.from_residual-in_err-strategy-in-json.ensures.1
-    (refused-two c.in_err-strategy-in-json.field-0.0 words there.0.0 (two-of words found _ there.1 json-options mistake.0) mistake.1)
+    two-refused words found _ c.in_err-strategy-in-json.field-0.0 c.from_residual-in_err-strategy-in-json.result (Asks words) there.0.0 there.1 (refl, refl, refl, refl, refl) c.in_err-strategy-in-json.ensures.err c.from_residual-in_err-strategy-in-json.ensures.1
 
 pub returns-in_ok-strategy-in-json : goal.returns-in_ok-strategy-in-json
 returns-in_ok-strategy-in-json c words is =
     let found = found_of c.in-Some.given.now in
     let there = met c.args.matches.now words _ found _ is c.in-Some.ensures.name c.in-Some.ensures.rows c.in-json.is refl in (
       there.0,
-      flag-of words found c.get_flag-in-json.result _ (codes "cut") there.1 ((inr refl, (inl refl, (inr refl, (inr refl, (inr refl, (inr refl, (inr refl, (inr refl, (inr refl, (inr refl, tt)))))))))), refl) (c.get_flag-in-json.ensures.value, c.get_flag-in-json.ensures.other),
-      order-of words found c.in_ok-strategy-in-json.strategy c.order_in-in-json.result _ there.1 ((inr refl, (inr refl, (inr refl, (inr refl, (inr refl, (inr refl, (inr refl, (inl refl, (inr refl, (inr refl, tt)))))))))), refl) (search-of words found c.in_ok-strategy-in-json.strategy _ there.1 json-options c.in_ok-strategy-in-json.ensures.ok) c.order_in-in-json.ensures,
-      block-of words found c.block_in-in-json.result _ there.1 (inr refl, (inr refl, (inr refl, (inr refl, (inr refl, (inr refl, (inr refl, (inr refl, (inl refl, (inr refl, tt)))))))))) c.block_in-in-json.ensures,
+      flag-of words found c.flag_in-in-json.result _ (codes "cut") there.1 refl c.flag_in-in-json.ensures,
+      order-of words found c.in_ok-strategy-in-json.strategy c.order_in-in-json.result _ there.1 refl (search-of words found c.in_ok-strategy-in-json.strategy _ there.1 (refl, refl, refl, refl, refl) c.in_ok-strategy-in-json.ensures.ok) c.order_in-in-json.ensures,
+      block-of words found c.block_in-in-json.result _ there.1 refl c.block_in-in-json.ensures,
       profile-of words found _ c.get_str-in-json.result there.1 c.get_str-in-json.ensures,
     )
 
@@ -103,18 +99,16 @@ pub returns-in_err-strategy_or_mistake-in-page : goal.returns-in_err-strategy_or
 returns-in_err-strategy_or_mistake-in-page c words is =
     let found = found_of c.in-Some.given.now in
     let there = met c.args.matches.now words _ found _ is c.in-Some.ensures.name c.in-Some.ensures.rows c.in-page.is refl in
-    let mistake = c.in_err-strategy_or_mistake-in-page.ensures.err in
-    handed-on c.from_residual-in_err-strategy_or_mistake-in-page.result c.in_err-strategy_or_mistake-in-page.field-0.0 words (Asks words) c.from_residual-in_err-strategy_or_mistake-in-page.ensures.1
-    (refused-two c.in_err-strategy_or_mistake-in-page.field-0.0 words there.0.0 (two-of words found _ there.1 page-options mistake.0) mistake.1)
+    two-refused words found _ c.in_err-strategy_or_mistake-in-page.field-0.0 c.from_residual-in_err-strategy_or_mistake-in-page.result (Asks words) there.0.0 there.1 (refl, refl, refl, refl, refl) c.in_err-strategy_or_mistake-in-page.ensures.err c.from_residual-in_err-strategy_or_mistake-in-page.ensures.1
 
 pub returns-in_ok-strategy_or_mistake-in-page : goal.returns-in_ok-strategy_or_mistake-in-page
 returns-in_ok-strategy_or_mistake-in-page c words is =
     let found = found_of c.in-Some.given.now in
     let there = met c.args.matches.now words _ found _ is c.in-Some.ensures.name c.in-Some.ensures.rows c.in-page.is refl in (
       there.0,
-      flag-of words found c.get_flag-in-page.result _ (codes "cut") there.1 ((inr refl, (inl refl, (inr refl, (inr refl, (inr refl, (inr refl, (inr refl, (inr refl, (inr refl, tt))))))))), refl) (c.get_flag-in-page.ensures.value, c.get_flag-in-page.ensures.other),
-      search-of words found c.in_ok-strategy_or_mistake-in-page.field-0 _ there.1 page-options c.in_ok-strategy_or_mistake-in-page.ensures.ok,
-      block-of words found c.block_in-in-page.result _ there.1 (inr refl, (inr refl, (inr refl, (inr refl, (inr refl, (inr refl, (inr refl, (inl refl, (inr refl, tt))))))))) c.block_in-in-page.ensures,
+      flag-of words found c.flag_in-in-page.result _ (codes "cut") there.1 refl c.flag_in-in-page.ensures,
+      search-of words found c.in_ok-strategy_or_mistake-in-page.field-0 _ there.1 (refl, refl, refl, refl, refl) c.in_ok-strategy_or_mistake-in-page.ensures.ok,
+      block-of words found c.block_in-in-page.result _ there.1 refl c.block_in-in-page.ensures,
       profile-of words found _ c.get_str-in-page.result there.1 c.get_str-in-page.ensures,
     )
 
@@ -122,9 +116,7 @@ pub returns-in_err-strategy_or_mistake-in-order : goal.returns-in_err-strategy_o
 returns-in_err-strategy_or_mistake-in-order c words is =
     let found = found_of c.in-Some.given.now in
     let there = met c.args.matches.now words _ found _ is c.in-Some.ensures.name c.in-Some.ensures.rows c.in-order.is refl in
-    let mistake = c.in_err-strategy_or_mistake-in-order.ensures.err in
-    handed-on c.from_residual-in_err-strategy_or_mistake-in-order.result c.in_err-strategy_or_mistake-in-order.field-0.0 words (Asks words) c.from_residual-in_err-strategy_or_mistake-in-order.ensures.1
-    (refused-two c.in_err-strategy_or_mistake-in-order.field-0.0 words there.0.0 (two-of words found _ there.1 order-options mistake.0) mistake.1)
+    two-refused words found _ c.in_err-strategy_or_mistake-in-order.field-0.0 c.from_residual-in_err-strategy_or_mistake-in-order.result (Asks words) there.0.0 there.1 (refl, refl, refl, refl, refl) c.in_err-strategy_or_mistake-in-order.ensures.err c.from_residual-in_err-strategy_or_mistake-in-order.ensures.1
 
 pub returns-in_err-columns_or_mistake-in-order : goal.returns-in_err-columns_or_mistake-in-order
 returns-in_err-columns_or_mistake-in-order c words is =
@@ -132,20 +124,20 @@ returns-in_err-columns_or_mistake-in-order c words is =
     let there = met c.args.matches.now words _ found _ is c.in-Some.ensures.name c.in-Some.ensures.rows c.in-order.is refl in
     let mistake = c.in_err-columns_or_mistake-in-order.ensures.err in
     handed-on c.from_residual-in_err-columns_or_mistake-in-order.result c.in_err-columns_or_mistake-in-order.field-0.0 words (Asks words) c.from_residual-in_err-columns_or_mistake-in-order.ensures.1
-    (refused-alone c.in_err-columns_or_mistake-in-order.field-0.0 words there.0.0 (alone-of words found _ there.1 ((inr refl, (inr refl, (inr refl, (inr refl, (inr refl, (inr refl, (inr refl, (inr refl, (inr refl, (inl refl, (inr refl, (inr refl, (inr refl, tt))))))))))))), refl) ((inr refl, (inr refl, (inr refl, (inr refl, (inr refl, (inr refl, (inr refl, (inr refl, (inl refl, (inr refl, (inr refl, (inr refl, (inr refl, tt))))))))))))), refl) mistake.0) mistake.1)
+    (refused-alone c.in_err-columns_or_mistake-in-order.field-0.0 words there.0.0 (alone-of words found _ there.1 refl refl mistake.0) mistake.1)
 
 pub returns-in_ok-columns_or_mistake-in-order : goal.returns-in_ok-columns_or_mistake-in-order
 returns-in_ok-columns_or_mistake-in-order c words is =
     let found = found_of c.in-Some.given.now in
     let there = met c.args.matches.now words _ found _ is c.in-Some.ensures.name c.in-Some.ensures.rows c.in-order.is refl in (
       there.0,
-      flag-of words found c.get_flag-in-order.result _ (codes "cut") there.1 ((inr refl, (inl refl, (inr refl, (inr refl, (inr refl, (inr refl, (inr refl, (inr refl, (inr refl, (inr refl, (inr refl, (inr refl, (inr refl, tt))))))))))))), refl) (c.get_flag-in-order.ensures.value, c.get_flag-in-order.ensures.other),
-      search-of words found c.in_ok-strategy_or_mistake-in-order.field-0 _ there.1 order-options c.in_ok-strategy_or_mistake-in-order.ensures.ok,
-      flag-of words found c.get_flag-in-order-2.result _ (codes "trace") there.1 ((inr refl, (inr refl, (inr refl, (inr refl, (inr refl, (inr refl, (inr refl, (inl refl, (inr refl, (inr refl, (inr refl, (inr refl, (inr refl, tt))))))))))))), refl) (c.get_flag-in-order-2.ensures.value, c.get_flag-in-order-2.ensures.other),
-      flag-of words found c.get_flag-in-order-3.result _ (codes "keep") there.1 ((inr refl, (inr refl, (inr refl, (inr refl, (inr refl, (inr refl, (inr refl, (inr refl, (inl refl, (inr refl, (inr refl, (inr refl, (inr refl, tt))))))))))))), refl) (c.get_flag-in-order-3.ensures.value, c.get_flag-in-order-3.ensures.other),
-      columns-of words found c.in_ok-columns_or_mistake-in-order.field-0 _ there.1 ((inr refl, (inr refl, (inr refl, (inr refl, (inr refl, (inr refl, (inr refl, (inr refl, (inr refl, (inl refl, (inr refl, (inr refl, (inr refl, tt))))))))))))), refl) ((inr refl, (inr refl, (inr refl, (inr refl, (inr refl, (inr refl, (inr refl, (inr refl, (inl refl, (inr refl, (inr refl, (inr refl, (inr refl, tt))))))))))))), refl) c.in_ok-columns_or_mistake-in-order.ensures.ok,
-      flag-of words found c.get_flag-in-order-4.result _ (codes "quiet") there.1 ((inr refl, (inr refl, (inr refl, (inr refl, (inr refl, (inr refl, (inr refl, (inr refl, (inr refl, (inr refl, (inl refl, (inr refl, (inr refl, tt))))))))))))), refl) (c.get_flag-in-order-4.ensures.value, c.get_flag-in-order-4.ensures.other),
-      block-of words found c.block_in-in-order.result _ there.1 (inr refl, (inr refl, (inr refl, (inr refl, (inr refl, (inr refl, (inr refl, (inr refl, (inr refl, (inr refl, (inr refl, (inl refl, (inr refl, tt))))))))))))) c.block_in-in-order.ensures,
+      flag-of words found c.flag_in-in-order.result _ (codes "cut") there.1 refl c.flag_in-in-order.ensures,
+      search-of words found c.in_ok-strategy_or_mistake-in-order.field-0 _ there.1 (refl, refl, refl, refl, refl) c.in_ok-strategy_or_mistake-in-order.ensures.ok,
+      flag-of words found c.flag_in-in-order-2.result _ (codes "trace") there.1 refl c.flag_in-in-order-2.ensures,
+      flag-of words found c.flag_in-in-order-3.result _ (codes "keep") there.1 refl c.flag_in-in-order-3.ensures,
+      columns-of words found c.in_ok-columns_or_mistake-in-order.field-0 _ there.1 refl refl c.in_ok-columns_or_mistake-in-order.ensures.ok,
+      flag-of words found c.flag_in-in-order-4.result _ (codes "quiet") there.1 refl c.flag_in-in-order-4.ensures,
+      block-of words found c.block_in-in-order.result _ there.1 refl c.block_in-in-order.ensures,
       profile-of words found _ c.get_str-in-order.result there.1 c.get_str-in-order.ensures,
     )
 
@@ -153,18 +145,16 @@ pub returns-in_err-strategy_or_mistake-in-prove : goal.returns-in_err-strategy_o
 returns-in_err-strategy_or_mistake-in-prove c words is =
     let found = found_of c.in-Some.given.now in
     let there = met c.args.matches.now words _ found _ is c.in-Some.ensures.name c.in-Some.ensures.rows c.in-prove.is refl in
-    let mistake = c.in_err-strategy_or_mistake-in-prove.ensures.err in
-    handed-on c.from_residual-in_err-strategy_or_mistake-in-prove.result c.in_err-strategy_or_mistake-in-prove.field-0.0 words (Asks words) c.from_residual-in_err-strategy_or_mistake-in-prove.ensures.1
-    (refused-two c.in_err-strategy_or_mistake-in-prove.field-0.0 words there.0.0 (two-of words found _ there.1 prove-options mistake.0) mistake.1)
+    two-refused words found _ c.in_err-strategy_or_mistake-in-prove.field-0.0 c.from_residual-in_err-strategy_or_mistake-in-prove.result (Asks words) there.0.0 there.1 (refl, refl, refl, refl, refl) c.in_err-strategy_or_mistake-in-prove.ensures.err c.from_residual-in_err-strategy_or_mistake-in-prove.ensures.1
 
 pub returns-in_ok-strategy_or_mistake-in-prove : goal.returns-in_ok-strategy_or_mistake-in-prove
 returns-in_ok-strategy_or_mistake-in-prove c words is =
     let found = found_of c.in-Some.given.now in
     let there = met c.args.matches.now words _ found _ is c.in-Some.ensures.name c.in-Some.ensures.rows c.in-prove.is refl in (
       there.0,
-      flag-of words found c.get_flag-in-prove.result _ (codes "cut") there.1 ((inr refl, (inl refl, (inr refl, (inr refl, (inr refl, (inr refl, (inr refl, (inr refl, (inr refl, tt))))))))), refl) (c.get_flag-in-prove.ensures.value, c.get_flag-in-prove.ensures.other),
-      search-of words found c.in_ok-strategy_or_mistake-in-prove.field-0 _ there.1 prove-options c.in_ok-strategy_or_mistake-in-prove.ensures.ok,
-      block-of words found c.block_in-in-prove.result _ there.1 (inr refl, (inr refl, (inr refl, (inr refl, (inr refl, (inr refl, (inr refl, (inl refl, (inr refl, tt))))))))) c.block_in-in-prove.ensures,
+      flag-of words found c.flag_in-in-prove.result _ (codes "cut") there.1 refl c.flag_in-in-prove.ensures,
+      search-of words found c.in_ok-strategy_or_mistake-in-prove.field-0 _ there.1 (refl, refl, refl, refl, refl) c.in_ok-strategy_or_mistake-in-prove.ensures.ok,
+      block-of words found c.block_in-in-prove.result _ there.1 refl c.block_in-in-prove.ensures,
       profile-of words found _ c.get_str-in-prove.result there.1 c.get_str-in-prove.ensures,
     )
 
@@ -172,20 +162,18 @@ pub returns-in_err-strategy_or_mistake-in-sum : goal.returns-in_err-strategy_or_
 returns-in_err-strategy_or_mistake-in-sum c words is =
     let found = found_of c.in-Some.given.now in
     let there = met c.args.matches.now words _ found _ is c.in-Some.ensures.name c.in-Some.ensures.rows c.in-sum.is refl in
-    let mistake = c.in_err-strategy_or_mistake-in-sum.ensures.err in
-    handed-on c.from_residual-in_err-strategy_or_mistake-in-sum.result c.in_err-strategy_or_mistake-in-sum.field-0.0 words (Asks words) c.from_residual-in_err-strategy_or_mistake-in-sum.ensures.1
-    (refused-two c.in_err-strategy_or_mistake-in-sum.field-0.0 words there.0.0 (two-of words found _ there.1 sum-options mistake.0) mistake.1)
+    two-refused words found _ c.in_err-strategy_or_mistake-in-sum.field-0.0 c.from_residual-in_err-strategy_or_mistake-in-sum.result (Asks words) there.0.0 there.1 (refl, refl, refl, refl, refl) c.in_err-strategy_or_mistake-in-sum.ensures.err c.from_residual-in_err-strategy_or_mistake-in-sum.ensures.1
 
 pub returns-in_ok-strategy_or_mistake-in-sum : goal.returns-in_ok-strategy_or_mistake-in-sum
 returns-in_ok-strategy_or_mistake-in-sum c words is =
     let found = found_of c.in-Some.given.now in
     let there = met c.args.matches.now words _ found _ is c.in-Some.ensures.name c.in-Some.ensures.rows c.in-sum.is refl in (
       there.0,
-      flag-of words found c.get_flag-in-sum.result _ (codes "cut") there.1 ((inr refl, (inl refl, (inr refl, (inr refl, (inr refl, (inr refl, (inr refl, (inr refl, (inr refl, (inr refl, (inr refl, tt))))))))))), refl) (c.get_flag-in-sum.ensures.value, c.get_flag-in-sum.ensures.other),
-      search-of words found c.in_ok-strategy_or_mistake-in-sum.field-0 _ there.1 sum-options c.in_ok-strategy_or_mistake-in-sum.ensures.ok,
-      flag-of words found c.get_flag-in-sum-2.result _ (codes "trace") there.1 ((inr refl, (inr refl, (inr refl, (inr refl, (inr refl, (inr refl, (inr refl, (inl refl, (inr refl, (inr refl, (inr refl, tt))))))))))), refl) (c.get_flag-in-sum-2.ensures.value, c.get_flag-in-sum-2.ensures.other),
-      flag-of words found c.get_flag-in-sum-3.result _ (codes "words") there.1 ((inr refl, (inr refl, (inr refl, (inr refl, (inr refl, (inr refl, (inr refl, (inr refl, (inl refl, (inr refl, (inr refl, tt))))))))))), refl) (c.get_flag-in-sum-3.ensures.value, c.get_flag-in-sum-3.ensures.other),
-      block-of words found c.block_in-in-sum.result _ there.1 (inr refl, (inr refl, (inr refl, (inr refl, (inr refl, (inr refl, (inr refl, (inr refl, (inr refl, (inl refl, (inr refl, tt))))))))))) c.block_in-in-sum.ensures,
+      flag-of words found c.flag_in-in-sum.result _ (codes "cut") there.1 refl c.flag_in-in-sum.ensures,
+      search-of words found c.in_ok-strategy_or_mistake-in-sum.field-0 _ there.1 (refl, refl, refl, refl, refl) c.in_ok-strategy_or_mistake-in-sum.ensures.ok,
+      flag-of words found c.flag_in-in-sum-2.result _ (codes "trace") there.1 refl c.flag_in-in-sum-2.ensures,
+      flag-of words found c.flag_in-in-sum-3.result _ (codes "words") there.1 refl c.flag_in-in-sum-3.ensures,
+      block-of words found c.block_in-in-sum.result _ there.1 refl c.block_in-in-sum.ensures,
       profile-of words found _ c.get_str-in-sum.result there.1 c.get_str-in-sum.ensures,
     )
 
@@ -194,7 +182,7 @@ returns-in-check c words is =
     let found = found_of c.in-Some.given.now in
     let there = met c.args.matches.now words _ found _ is c.in-Some.ensures.name c.in-Some.ensures.rows c.in-check.is refl in (
       there.0,
-      flag-of words found c.get_flag-in-check.result _ (codes "text") there.1 ((inl refl, (inr refl, tt)), refl) (c.get_flag-in-check.ensures.value, c.get_flag-in-check.ensures.other),
+      flag-of words found c.flag_in-in-check.result _ (codes "text") there.1 refl c.flag_in-in-check.ensures,
     )
 
 pub returns-in-compare : goal.returns-in-compare
@@ -202,7 +190,7 @@ returns-in-compare c words is =
     let found = found_of c.in-Some.given.now in
     let there = met c.args.matches.now words _ found _ is c.in-Some.ensures.name c.in-Some.ensures.rows c.in-compare.is refl in (
       there.0,
-      flag-of words found c.get_flag-in-compare.result _ (codes "cut") there.1 ((inl refl, (inr refl, (inr refl, tt))), refl) (c.get_flag-in-compare.ensures.value, c.get_flag-in-compare.ensures.other),
+      flag-of words found c.flag_in-in-compare.result _ (codes "cut") there.1 refl c.flag_in-in-compare.ensures,
       profile-of words found _ c.get_str-in-compare.result there.1 c.get_str-in-compare.ensures,
     )
 
@@ -211,5 +199,5 @@ returns-in-lint c words is =
     let found = found_of c.in-Some.given.now in
     let there = met c.args.matches.now words _ found _ is c.in-Some.ensures.name c.in-Some.ensures.rows c.in-lint.is refl in (
       there.0,
-      flag-of words found c.get_flag-in-lint.result _ (codes "cut") there.1 ((inl refl, (inr refl, tt)), refl) (c.get_flag-in-lint.ensures.value, c.get_flag-in-lint.ensures.other),
+      flag-of words found c.flag_in-in-lint.result _ (codes "cut") there.1 refl c.flag_in-in-lint.ensures,
     )
