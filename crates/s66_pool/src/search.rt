@@ -24,13 +24,10 @@ pub(crate) fn offer_first(ledger: &mut Ledger<'_>, first: Option<&Timed>) -> Res
     ensures on { GoesOn ledger.old ledger.new }
     ensures order { OnOk result (IfSome first.entry (λ timed. HasTaken ledger.new timed.now)) }
 {
-    match first {
-        Some(timed) => {
-            ledger.offer_order(timed.duplicate())?;
-            Ok(())
-        }
-        None => Ok(()),
+    if let Some(timed) = first {
+        ledger.offer_order(timed.duplicate())?;
     }
+    Ok(())
 }
 
 /// Whether a search has something left for workers: an open node whose floor is below the best time, and splits.

@@ -5,8 +5,8 @@ use Rattle.s66_time.specs.TimedOrder.{TimedOrder}
 use Rattle.s66_pool.specs.Workers.{HasTaken}
 use Rattle.s66_pool.proofs.search.offer_first.Goals as goal
 
-pub returns-in-Some-clause-order : goal.returns-in-Some-clause-order
-returns-in-Some-clause-order c =
+pub returns-in_ok-offer_order-clause-order : goal.returns-in_ok-offer_order-clause-order
+returns-in_ok-offer_order-clause-order c =
     let new = c.offer_order.new.self in
     let taken : HasTaken new c.in-Some.timed.now =
     subst (λ (t : TimedOrder). HasTaken new t) c.duplicate.ensures (λ own. c.in_ok-offer_order.ensures.at_most (own ∙ c.offer_order.ensures.offers.leads.0)) in
