@@ -113,7 +113,8 @@ impl Keep<u8> for JsonLines {
             found.order(),
             found.bound(),
             found.splits(),
-        )
+        )?;
+        Ok(())
     }
 }
 
@@ -129,7 +130,8 @@ impl Keep<u8> for Waits {
     fn keep(&self, parts: &mut Vec<u8>, answer: BlockAnswer) -> Result<(), AllocError> {
         let mut timer = Timer::new(answer.profile);
         let timed = timer.time(answer.block, answer.found.order());
-        push_waits(parts, self.text, answer.number, answer.block, &timed)
+        push_waits(parts, self.text, answer.number, answer.block, &timed)?;
+        Ok(())
     }
 }
 
@@ -155,6 +157,7 @@ impl Keep<u8> for Documents {
             ..
         } = answer;
         let document = found.into_document(self.alloc, block, profile, strategy)?;
-        push_document(self.alloc, parts, &document)
+        push_document(self.alloc, parts, &document)?;
+        Ok(())
     }
 }

@@ -20,6 +20,6 @@ returns c =
     c.args.parts.now.items
     ++ json_line c.args.answer.number block (as_written q (instrs_of block)) (found_data (record { problem = record { block = instrs_of block; profile = q }; numbers = ns }) bound splits)
     in
-    c.push_json_found.ensures.line
+    c.in_ok-push_json_found.ensures.line
     ∙ ap₂ (λ (q : Profile) (o : Ordered). line q o.numbers c.bound.result c.splits.result) c.new-timer.ensures (c.order.ensures strategy p block c.requires)
     ∙ ap₂ (λ bound splits. line p (answer_in c.args.answer.found).order bound splits) c.bound.ensures c.splits.ensures

@@ -19,4 +19,4 @@ returns c =
     c.time-timed.ensures.value
     ∙ ap₂ (λ (q : Profile) (o : Ordered). record { problem = record { block = instrs_of block; profile = q }; numbers = o.numbers }) c.new-timer.ensures (c.order.ensures strategy p block c.requires)
     in
-    c.push_waits.ensures ∙ ap (λ (t : TimedOrder). c.args.parts.now.items ++ waits_lines c.args.self.now.text c.args.answer.number block t) timed
+    c.in_ok-push_waits.ensures ∙ ap (λ (t : TimedOrder). c.args.parts.now.items ++ waits_lines c.args.self.now.text c.args.answer.number block t) timed
