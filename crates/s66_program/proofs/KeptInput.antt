@@ -1,5 +1,6 @@
 -- What is kept of an input decides what becomes of it.
-use Rattle.std.proofs.Common.{◌≡◌, ◌≤◌, ℕ, Bool, true, false, List, ◌++◌, length, Option, None, Some, IfSome, Ok, Err, inl, inr, ap, sym, subst, ◌∙◌}
+use Rattle.std.proofs.Common.{◌≡◌, ◌≤◌, ℕ, Bool, true, false, List, ◌++◌, length, Option, None, Some, IfSome, Ok, Err, inl, inr, ap, refl, sym, subst, ◌∙◌}
+use Rattle.std.proofs.lemmas.Bool.{true≢false}
 use Rattle.std.proofs.lemmas.List.{append-nil}
 use Rattle.s66_isa.specs.declared.profile.Profile.{Profile}
 use Rattle.s66_line.specs.Block.{Block}
@@ -72,33 +73,26 @@ pub whole-remark : (p : Profile) (command : Command) (most : Option ℕ) (input 
 whole-remark p command most input held text status r most-is kept output remark =
     subst (λ i. IsRemark command i r) (kept-whole p command most input held text status most-is kept output) remark
 
+-- it reads neither documents nor two sources
+reads-one : (command : Command) → reads_source command ≡ true → (reads_documents command ≡ false) × (reads_two command ≡ false)
+reads-one (Time cut trace only profile) reads = (refl, refl)
+reads-one (Deps cut only) reads = (refl, refl)
+reads-one (Chart cut texts only profile) reads = (refl, refl)
+reads-one (Why cut order texts only profile) reads = (refl, refl)
+reads-one (Page cut strategy only profile) reads = (refl, refl)
+reads-one (Json cut order only profile) reads = (refl, refl)
+reads-one (Order cut strategy trace keep columns quiet only profile) reads = (refl, refl)
+reads-one (Prove cut strategy only profile) reads = (refl, refl)
+reads-one (Check texts) reads = absurd (cc)
+reads-one (Lint cut) reads = absurd (cc)
+reads-one (Sum cut strategy trace words only profile) reads = (refl, refl)
+reads-one (Compare cut profile) reads = absurd (cc)
+
 no-documents : (command : Command) → reads_source command ≡ true → reads_documents command ≡ true → ⊥
-no-documents (Time cut trace only profile) source documents = cc
-no-documents (Deps cut only) source documents = cc
-no-documents (Chart cut texts only profile) source documents = cc
-no-documents (Why cut order texts only profile) source documents = cc
-no-documents (Page cut strategy only profile) source documents = cc
-no-documents (Json cut order only profile) source documents = cc
-no-documents (Order cut strategy trace keep columns quiet only profile) source documents = cc
-no-documents (Prove cut strategy only profile) source documents = cc
-no-documents (Check texts) source documents = cc
-no-documents (Lint cut) source documents = cc
-no-documents (Sum cut strategy trace words only profile) source documents = cc
-no-documents (Compare cut profile) source documents = cc
+no-documents command reads documents = true≢false (sym documents ∙ (reads-one command reads).0)
 
 not-two : (command : Command) → reads_source command ≡ true → reads_two command ≡ true → ⊥
-not-two (Time cut trace only profile) source two = cc
-not-two (Deps cut only) source two = cc
-not-two (Chart cut texts only profile) source two = cc
-not-two (Why cut order texts only profile) source two = cc
-not-two (Page cut strategy only profile) source two = cc
-not-two (Json cut order only profile) source two = cc
-not-two (Order cut strategy trace keep columns quiet only profile) source two = cc
-not-two (Prove cut strategy only profile) source two = cc
-not-two (Check texts) source two = cc
-not-two (Lint cut) source two = cc
-not-two (Sum cut strategy trace words only profile) source two = cc
-not-two (Compare cut profile) source two = cc
+not-two command reads two = true≢false (sym two ∙ (reads-one command reads).1)
 
 refused-for : (command : Command) (input held : List ℕ) (f : Fault) → reads_source command ≡ true → source_of (source_in command input) ≡ source_of (source_in command held) → IsRefusal command held f → IsRefusal command input f
 refused-for command input held (fault.Source e) reads same (other, inl (is, refused)) = (other, inl (is, same ∙ refused))

@@ -2,14 +2,18 @@
 use Rattle.std.specs.Prelude.{ℕ, ◌+◌, ◌≡◌, ◌==◌, ◌&&◌, Bool, true, List, [], ◌∷◌, ◌++◌, slice_index_or, Option}
 use Rattle.s66_isa.specs.declared.profile.Profile.{Profile}
 use Rattle.s66_line.specs.Block.{Block}
+use Rattle.s66_source.specs.LeftAlone.{Reading}
 use Rattle.s66_source.specs.Printed.{Placed}
 use Rattle.s66_cert.specs.Document.{document_text}
 use Rattle.s66_command.specs.declared.strategy.Strategy.{Strategy}
 use Rattle.s66_page.specs.Found.{Found}
 use Rattle.s66_text.specs.Answers.{Answer, AreAnswers, IsAnswer, document_under}
 use Rattle.s66_text.specs.KeptText.{given_by}
-use Rattle.s66_text.specs.OrderText.{all_best, placed_by}
+use Rattle.s66_text.specs.OrderText.{placed_by}
+use Rattle.s66_text.specs.declared.outcome.Status.{Status}
+use Rattle.s66_text.specs.OfAnswers.{IsOfAnswers, all_best, all_parts}
 use Rattle.s66_text.specs.PageText.{found_by}
+use Rattle.s66_text.specs.Shown.{before}
 use Rattle.s66_program.specs.declared.kept.Kept.{Kept}
 
 -- PARTS of an answer to the n-th block, from 1
@@ -28,11 +32,6 @@ given_part trace keep p n block a = given_by p trace keep block a ∷ []
 
 -- WHAT IS KEPT
 
--- the parts of answers to these blocks, before which n come
-abbrev pub all_parts : {X : Type 0} → (ℕ → Block → Answer → List X) → ℕ → List Block → List Answer → List X
-all_parts part n (block ∷ blocks) (a ∷ answers) = part (n + 1) block a ++ all_parts part (n + 1) blocks answers
-all_parts part n blocks answers = []
-
 -- the part of an answer to the n-th block was appended, and the answer is best or not
 abbrev pub IsKept : {X : Type 0} → (ℕ → Block → Answer → List X) → Strategy → Profile → ℕ → Block → (old new : List X) → Bool → Type 0
 IsKept part strategy p n block old new best = (a : Answer) × IsAnswer strategy p block a × (new ≡ old ++ part n block a) × (best ≡ (a.bound == a.time))
@@ -41,6 +40,11 @@ IsKept part strategy p n block old new best = (a : Answer) × IsAnswer strategy 
 abbrev pub AreKept : {X : Type 0} → (ℕ → Block → Answer → List X) → Strategy → Profile → ℕ → List Block → List X → Bool → Type 0
 AreKept part strategy p n blocks kept best =
     (answers : List Answer) × AreAnswers strategy p blocks answers × (kept ≡ all_parts part n blocks answers) × (best ≡ all_best answers)
+
+-- and of the blocks of a source that are shown, with the status of the answers
+abbrev pub AreAnswered : {X : Type 0} → (ℕ → Block → Answer → List X) → Strategy → Profile → (only : Option ℕ) (source : Reading) → List X → Status → Type 0
+AreAnswered part strategy p only source parts status =
+    IsOfAnswers (λ blocks answers. parts ≡ all_parts part (before only) blocks answers) strategy p only source status
 
 -- EACH BY ITSELF
 

@@ -1,11 +1,11 @@
-ghost use Rattle.std.specs.Prelude.{◌≡◌, ◌<◌, ◌^◌, ℕ, List, true, IfOk, length};
+ghost use Rattle.std.specs.Prelude.{◌≡◌, ◌<◌, ◌^◌, ◌+◌, ◌++◌, ℕ, List, true, IfOk, OnOk, length};
 ghost use Rattle.s66_isa.specs.declared.profile.Profile.{Profile as ProfileOf};
 ghost use Rattle.s66_line.specs.Block.{Block as BlockOf};
 ghost use Rattle.s66_command.specs.declared.strategy.Strategy.{Strategy as StrategyOf};
 ghost use Rattle.s66_text.specs.Answers.{Answer as AnswerOf};
 ghost use Rattle.s66_program.specs.Kept.{AreKept, IsKept, IsKeptAt, are_best, parts_in};
 ghost use Rattle.s66_program.specs.Output.{IsSearchWithin};
-ghost use Rattle.s66_program.specs.Stored.{IsFor};
+ghost use Rattle.s66_program.specs.Stored.{IsFor, answer_in};
 
 use crate::answers::{Found, answer_alone, answer_to};
 use crate::turns::{Task, make_each};
@@ -17,25 +17,29 @@ use std::alloc::{AllocError, Global};
 use std::sync::Wait;
 use std::thread::Threads;
 
+/// An answer to a block under a profile, and the number of the block, from 1.
+#[derive(Drop)]
+pub(crate) struct BlockAnswer<'s, 'b> {
+    pub number: usize,
+    pub block: &'s Block<'b>,
+    pub profile: &'s Profile,
+    pub strategy: Strategy,
+    pub found: Found,
+}
+
 /// What is kept of an answer to a block. The answer itself, whose tree may be large, is let go.
 pub(crate) trait Keep<X> {
     ghost part: { Self → StrategyOf → ProfileOf → ℕ → BlockOf → AnswerOf → List X };
 
     /// Whether documents are printed of what is kept.
-    fn prints_documents(&self) -> bool;
+    fn prints_documents(&self) -> bool {
+        false
+    }
 
-    /// Appends what is kept of an answer to a block, whose number is from 1. Returns whether the answer is best.
-    fn keep(
-        &self,
-        parts: &mut Vec<X>,
-        number: usize,
-        block: &Block,
-        profile: &Profile,
-        strategy: Strategy,
-        found: Found,
-    ) -> Result<bool, AllocError>
-        requires { IsFor strategy profile.now block.now found }
-        ensures { IfOk result (λ best. IsKept (part self.now strategy profile.now) strategy profile.now number block.now parts.old.items parts.new.items best) };
+    /// Appends what is kept of an answer.
+    fn keep(&self, parts: &mut Vec<X>, answer: BlockAnswer) -> Result<(), AllocError>
+        requires { IsFor answer.strategy answer.profile.now answer.block.now answer.found }
+        ensures { OnOk result (parts.new.items ≡ parts.old.items ++ part self.now answer.entry.strategy answer.entry.profile.now answer.entry.number answer.entry.block.now (answer_in answer.entry.found)) };
 }
 
 /// What is kept of answers to blocks, one after the other, and whether all are best.
@@ -45,39 +49,65 @@ pub(crate) struct Kept<X> {
     pub all_best: bool,
 }
 
-/// What is kept of the block at a place, with facts, by the calling thread alone.
-fn kept_at<X: Drop, K: Keep<X>>(
-    alloc: Global,
-    what: &K,
-    before: usize,
-    blocks: &[Block],
-    place: usize,
-    profile: &Profile,
-    strategy: Strategy,
-) -> Result<Kept<X>, AllocError>
-    requires search { IsSearchWithin strategy.search.workers strategy.search.nodes }
-    requires deep { strategy.deep ≡ true }
-    requires before { before < 2 ^ 32 }
-    requires within { place < length blocks.now }
-    ensures { IfOk result (IsKeptAt (K.part what.now strategy profile.now) strategy profile.now before blocks.now place) }
-{
-    let block = &blocks[place];
-    let found = answer_alone(alloc, block, profile, strategy, what.prints_documents())?;
-    let mut parts = Vec::new(alloc);
-    let number = before + place + 1;
-    let all_best = what.keep(&mut parts, number, block, profile, strategy, found)?;
-    Ok(Kept { parts, all_best })
+/// The searches of blocks, before which so many come, and what is kept of their answers.
+#[derive(Drop)]
+pub(crate) struct Searches<'s, 'b, K> {
+    pub alloc: Global,
+    pub what: &'s K,
+    pub before: usize,
+    pub blocks: &'s [Block<'b>],
+    pub profile: &'s Profile,
+    pub strategy: Strategy,
 }
 
-/// The searches of blocks, each by one thread.
-#[derive(Drop)]
-struct Searches<'s, 'b, K> {
-    alloc: Global,
-    what: &'s K,
-    before: usize,
-    blocks: &'s [Block<'b>],
-    profile: &'s Profile,
-    strategy: Strategy,
+/// Appends what is kept of an answer to the block at a place. Returns whether the answer is best.
+fn keep_found<X: Drop, K: Keep<X>>(
+    searches: &Searches<'_, '_, K>,
+    parts: &mut Vec<X>,
+    place: usize,
+    block: &Block,
+    found: Found,
+) -> Result<bool, AllocError>
+    requires before { searches.now.before < 2 ^ 32 }
+    requires within { place < length searches.now.blocks.now }
+    requires found { IsFor searches.now.strategy searches.now.profile.now block.now found }
+    ensures { let s = searches.now in IfOk result (λ best. IsKept (K.part s.what.now s.strategy s.profile.now) s.strategy s.profile.now (s.before + place + 1) block.now parts.old.items parts.new.items best) }
+{
+    let best = found.is_best();
+    let answer = BlockAnswer {
+        number: searches.before + place + 1,
+        block,
+        profile: searches.profile,
+        strategy: searches.strategy,
+        found,
+    };
+    searches.what.keep(parts, answer)?;
+    Ok(best)
+}
+
+/// What is kept of the block at a place, with facts, by the calling thread alone.
+fn kept_at<X: Drop, K: Keep<X>>(
+    searches: &Searches<'_, '_, K>,
+    place: usize,
+) -> Result<Kept<X>, AllocError>
+    requires search { IsSearchWithin searches.now.strategy.search.workers searches.now.strategy.search.nodes }
+    requires deep { searches.now.strategy.deep ≡ true }
+    requires before { searches.now.before < 2 ^ 32 }
+    requires within { place < length searches.now.blocks.now }
+    ensures { let s = searches.now in IfOk result (IsKeptAt (K.part s.what.now s.strategy s.profile.now) s.strategy s.profile.now s.before s.blocks.now place) }
+{
+    let block = &searches.blocks[place];
+    let prints = searches.what.prints_documents();
+    let found = answer_alone(
+        searches.alloc,
+        block,
+        searches.profile,
+        searches.strategy,
+        prints,
+    )?;
+    let mut parts = Vec::new(searches.alloc);
+    let all_best = keep_found(searches, &mut parts, place, block, found)?;
+    Ok(Kept { parts, all_best })
 }
 
 impl<'s, 'b, X: Drop, K: Keep<X>> Task<Kept<X>> for Searches<'s, 'b, K> {
@@ -86,15 +116,7 @@ impl<'s, 'b, X: Drop, K: Keep<X>> Task<Kept<X>> for Searches<'s, 'b, K> {
     ghost gives = { λ t i kept. IsKeptAt (K.part t.what.now t.strategy t.profile.now) t.strategy t.profile.now t.before t.blocks.now i kept };
 
     fn make(&self, number: usize) -> Result<Kept<X>, AllocError> {
-        kept_at(
-            self.alloc,
-            self.what,
-            self.before,
-            self.blocks,
-            number,
-            self.profile,
-            self.strategy,
-        )
+        kept_at(self, number)
     }
 }
 
@@ -116,90 +138,63 @@ fn joined<X: Drop>(alloc: Global, each: Vec<Kept<X>>) -> Result<Kept<X>, AllocEr
     Ok(Kept { parts, all_best })
 }
 
-/// Searches the orders of blocks side by side, with facts.
+/// Searches the orders of blocks side by side, with facts, each by one thread.
 fn keep_side_by_side<
     R: AllocGlobal + Threads + Sync,
     X: Send + Drop,
     K: Keep<X> + Sync,
     O: Observer,
->(
-    rt: &R,
-    what: &K,
-    before: usize,
-    blocks: &[Block],
-    profile: &Profile,
-    strategy: Strategy,
-    observer: &mut O,
-) -> Result<Kept<X>, AllocError>
-    requires search { IsSearchWithin strategy.search.workers strategy.search.nodes }
-    requires deep { strategy.deep ≡ true }
-    requires before { before < 2 ^ 32 }
-    ensures { IfOk result (λ all. AreKept (K.part what.now strategy profile.now) strategy profile.now before blocks.now all.parts.items all.all_best) }
+>(rt: &R, searches: &Searches<'_, '_, K>, observer: &mut O) -> Result<Kept<X>, AllocError>
+    requires search { IsSearchWithin searches.now.strategy.search.workers searches.now.strategy.search.nodes }
+    requires deep { searches.now.strategy.deep ≡ true }
+    requires before { searches.now.before < 2 ^ 32 }
+    ensures { let s = searches.now in IfOk result (λ all. AreKept (K.part s.what.now s.strategy s.profile.now) s.strategy s.profile.now s.before s.blocks.now all.parts.items all.all_best) }
 {
-    let alloc = rt.alloc();
-    let searches = Searches {
-        alloc,
-        what,
-        before,
-        blocks,
-        profile,
-        strategy,
-    };
-    let workers = strategy.search.workers as usize;
-    let each = make_each(rt, alloc, &searches, blocks.len(), workers, observer)?;
+    let alloc = searches.alloc;
+    let count = searches.blocks.len();
+    let workers = searches.strategy.search.workers as usize;
+    let each = make_each(rt, alloc, searches, count, workers, observer)?;
     let all = joined(alloc, each)?;
     Ok(all)
 }
 
-/// Searches the orders of each block, one after the other.
+/// Searches the orders of each block, one after the other, by all workers.
 fn keep_in_turn<R: AllocGlobal + Threads + Wait + Sync, X: Drop, K: Keep<X>, O: Observer>(
     rt: &R,
-    what: &K,
-    before: usize,
-    blocks: &[Block],
-    profile: &Profile,
-    strategy: Strategy,
+    searches: &Searches<'_, '_, K>,
     observer: &mut O,
 ) -> Result<Kept<X>, AllocError>
-    requires search { IsSearchWithin strategy.search.workers strategy.search.nodes }
-    requires before { before < 2 ^ 32 }
-    ensures { IfOk result (λ all. AreKept (K.part what.now strategy profile.now) strategy profile.now before blocks.now all.parts.items all.all_best) }
+    requires search { IsSearchWithin searches.now.strategy.search.workers searches.now.strategy.search.nodes }
+    requires before { searches.now.before < 2 ^ 32 }
+    ensures { let s = searches.now in IfOk result (λ all. AreKept (K.part s.what.now s.strategy s.profile.now) s.strategy s.profile.now s.before s.blocks.now all.parts.items all.all_best) }
 {
-    let mut parts = Vec::new(rt.alloc());
+    let blocks = searches.blocks;
+    let mut parts = Vec::new(searches.alloc);
     let mut all_best = true;
     for (done, block) in blocks.iter().enumerate() {
         observer.done(done, blocks.len());
-        let found = answer_to(rt, block, profile, strategy)?;
-        let number = before + done + 1;
-        let best = what.keep(&mut parts, number, block, profile, strategy, found)?;
+        let found = answer_to(rt, block, searches.profile, searches.strategy)?;
+        let best = keep_found(searches, &mut parts, done, block, found)?;
         all_best = all_best && best;
     }
     Ok(Kept { parts, all_best })
 }
 
-/// What is kept of an answer to each of these blocks, before which so many come. With facts the blocks are searched side by side, each
-/// by one thread; else one after the other, each by all workers. `Err` is out of memory.
-pub(crate) fn keep_all<
+/// What is kept of an answer to each block. With facts the blocks are searched side by side, each by one thread; else one after the
+/// other, each by all workers. `Err` is out of memory.
+pub(crate) fn keep_each<
     R: AllocGlobal + Threads + Wait + Sync,
     X: Send + Drop,
     K: Keep<X> + Sync,
     O: Observer,
->(
-    rt: &R,
-    what: &K,
-    before: usize,
-    blocks: &[Block],
-    profile: &Profile,
-    strategy: Strategy,
-    observer: &mut O,
-) -> Result<Kept<X>, AllocError>
-    requires search { IsSearchWithin strategy.search.workers strategy.search.nodes }
-    requires before { before < 2 ^ 32 }
-    ensures { IfOk result (λ all. AreKept (K.part what.now strategy profile.now) strategy profile.now before blocks.now all.parts.items all.all_best) }
+>(rt: &R, searches: &Searches<'_, '_, K>, observer: &mut O) -> Result<Kept<X>, AllocError>
+    requires search { IsSearchWithin searches.now.strategy.search.workers searches.now.strategy.search.nodes }
+    requires before { searches.now.before < 2 ^ 32 }
+    ensures { let s = searches.now in IfOk result (λ all. AreKept (K.part s.what.now s.strategy s.profile.now) s.strategy s.profile.now s.before s.blocks.now all.parts.items all.all_best) }
 {
-    if strategy.deep {
-        keep_side_by_side(rt, what, before, blocks, profile, strategy, observer)
+    if searches.strategy.deep {
+        keep_side_by_side(rt, searches, observer)
     } else {
-        keep_in_turn(rt, what, before, blocks, profile, strategy, observer)
+        keep_in_turn(rt, searches, observer)
     }
 }

@@ -1,24 +1,23 @@
 //! The program but for its process: what is read for a command, and what is written.
 #![tactic(auto)]
 
+mod answered;
 mod answers;
 mod compare_text;
 mod documents;
 mod examples;
 mod fault;
 mod hint;
-mod json_text;
 mod kept;
-mod kept_text;
 mod laws;
 mod limits;
 mod order_laws;
 mod order_text;
 mod output;
 mod page_text;
+mod parts;
 mod program;
 mod progress;
-mod prove_text;
 mod reading;
 mod remark;
 mod run;
@@ -26,7 +25,6 @@ mod share;
 mod sum_text;
 mod telling;
 mod turns;
-mod why_text;
 
 pub use documents::document_of;
 pub use examples::remark_examples;

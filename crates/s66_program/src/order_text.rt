@@ -1,87 +1,35 @@
-ghost use Rattle.std.specs.Prelude.{◌≡◌, IfOk};
-ghost use Rattle.s66_isa.specs.declared.profile.Profile.{Profile as ProfileOf};
-ghost use Rattle.s66_line.specs.Block.{Block as BlockOf};
-ghost use Rattle.s66_command.specs.declared.strategy.Strategy.{Strategy as StrategyOf};
-ghost use Rattle.s66_text.specs.OrderText.{IsOrderOutput, placed_by};
-ghost use Rattle.s66_text.specs.PlacedAnswers.{AreAllPlaced};
-ghost use Rattle.s66_program.specs.Kept.{placed_part};
+ghost use Rattle.std.specs.Prelude.{IfOk};
+ghost use Rattle.s66_text.specs.KeptText.{IsKeptOutput, IsOrdered};
+ghost use Rattle.s66_text.specs.OrderText.{IsOrderOutput};
 ghost use Rattle.s66_program.specs.Output.{IsSearchWithin};
-ghost use Rattle.s66_program.specs.Stored.{IsFor, answer_in};
 
-use crate::answers::Found;
-use crate::kept::{Keep, keep_all};
-use arrayvec::ArrayVec;
+use crate::answered::keep_answers;
+use crate::parts::{Givings, Placings};
 use s66_command::Strategy;
 use s66_isa::Profile;
-use s66_line::Block;
-use s66_source::{Placed, Source, print_source};
-use s66_text::{Observer, Output, status_of};
+use s66_source::{Columns, Source, print_keeping, print_source};
+use s66_text::{Observer, Output, blocks_before};
 use std::alloc::AllocError;
 use std::sync::Wait;
 use std::thread::Threads;
 
-/// How an answer's block is to be printed.
-pub(crate) fn placing(answer: &Found, trace: bool) -> Placed
-    ensures { (strategy : StrategyOf) (p : ProfileOf) (block : BlockOf) → IsFor strategy p block answer.now → result ≡ placed_by p trace block (answer_in answer.now) }
-{
-    let Ok(order) = ArrayVec::try_from(answer.order().numbers()) else {
-        unreachable!()
-    };
-    Placed {
-        order,
-        source: answer.source(),
-        time: answer.time(),
-        bound: answer.bound(),
-        splits: if trace { Some(answer.splits()) } else { None },
-    }
-}
-
-/// How blocks are to be printed.
-#[derive(Drop)]
-struct Placings {
-    trace: bool,
-}
-
-impl Keep<Placed> for Placings {
-    ghost part = { λ placings strategy p. placed_part placings.trace p };
-
-    fn prints_documents(&self) -> bool {
-        false
-    }
-
-    fn keep(
-        &self,
-        parts: &mut Vec<Placed>,
-        _number: usize,
-        _block: &Block,
-        _profile: &Profile,
-        _strategy: Strategy,
-        found: Found,
-    ) -> Result<bool, AllocError> {
-        parts.push(placing(&found, self.trace))?;
-        Ok(found.is_best())
-    }
-}
-
-/// Searches the orders of each block. Returns how each is to be printed.
-pub(crate) fn search_all<R: AllocGlobal + Threads + Wait + Sync, O: Observer>(
-    rt: &R,
-    blocks: &[Block],
-    profile: &Profile,
-    strategy: Strategy,
-    trace: bool,
-    observer: &mut O,
-) -> Result<Vec<Placed>, AllocError>
-    requires { IsSearchWithin strategy.search.workers strategy.search.nodes }
-    ensures { IfOk result (λ found. AreAllPlaced strategy profile.now trace blocks.now found.items) }
-{
-    let placings = Placings { trace };
-    let all = keep_all(rt, &placings, 0, blocks, profile, strategy, observer)?;
-    Ok(all.parts)
+/// How a source is printed by `order`.
+#[derive(Clone, Copy)]
+pub struct Style {
+    /// Whether splits are printed.
+    pub trace: bool,
+    /// Whether a block that keeps its order is copied as it stands, without a report.
+    pub keep: bool,
+    /// In which columns the operations of the other blocks stand.
+    pub columns: Columns,
+    /// Whether no report is printed.
+    pub quiet: bool,
+    /// The only block that is put in order; the others are copied as they stand.
+    pub only: Option<u32>,
 }
 
 /// A source with each block in the best order that a search finds under a profile.
-pub fn order_output<R: AllocGlobal + Threads + Wait + Sync, O: Observer>(
+fn order_output<R: AllocGlobal + Threads + Wait + Sync, O: Observer>(
     rt: &R,
     source: &Source,
     profile: &Profile,
@@ -92,10 +40,61 @@ pub fn order_output<R: AllocGlobal + Threads + Wait + Sync, O: Observer>(
     requires { IsSearchWithin strategy.search.workers strategy.search.nodes }
     ensures { IfOk result (λ output. IsOrderOutput strategy profile.now trace source.now output.text.items output.status) }
 {
-    let alloc = rt.alloc();
-    let found = search_all(rt, source.blocks(), profile, strategy, trace, observer)?;
+    let placings = Placings { trace };
+    let all = keep_answers(rt, &placings, source, None, profile, strategy, observer)?;
     Ok(Output {
-        text: print_source(alloc, source, found.as_slice())?,
-        status: status_of(found.as_slice()),
+        text: print_source(rt.alloc(), source, all.parts.as_slice())?,
+        status: all.status,
     })
+}
+
+/// A source with each block, or the only one that is put in order, in the best order that a search finds under a profile, where some
+/// blocks stand.
+fn kept_output<R: AllocGlobal + Threads + Wait + Sync, O: Observer>(
+    rt: &R,
+    source: &Source,
+    profile: &Profile,
+    strategy: Strategy,
+    style: Style,
+    observer: &mut O,
+) -> Result<Output, AllocError>
+    requires { IsSearchWithin strategy.search.workers strategy.search.nodes }
+    ensures { IfOk result (λ output. IsKeptOutput strategy profile.now style.trace style.keep style.columns style.quiet style.only source.now output.text.items output.status) }
+{
+    let givings = Givings {
+        trace: style.trace,
+        keep: style.keep,
+    };
+    let only = style.only;
+    let all = keep_answers(rt, &givings, source, only, profile, strategy, observer)?;
+    Ok(Output {
+        text: print_keeping(
+            rt.alloc(),
+            source,
+            blocks_before(only),
+            all.parts.as_slice(),
+            style.quiet,
+            style.columns,
+        )?,
+        status: all.status,
+    })
+}
+
+/// A source with its blocks in the best orders that a search finds under a profile, printed in this way.
+pub fn ordered_output<R: AllocGlobal + Threads + Wait + Sync, O: Observer>(
+    rt: &R,
+    source: &Source,
+    profile: &Profile,
+    strategy: Strategy,
+    style: Style,
+    observer: &mut O,
+) -> Result<Output, AllocError>
+    requires { IsSearchWithin strategy.search.workers strategy.search.nodes }
+    ensures { IfOk result (λ output. IsOrdered strategy profile.now style.trace style.keep style.columns style.quiet style.only source.now output.text.items output.status) }
+{
+    if style.keep || style.quiet || style.only.is_some() {
+        kept_output(rt, source, profile, strategy, style, observer)
+    } else {
+        order_output(rt, source, profile, strategy, style.trace, observer)
+    }
 }

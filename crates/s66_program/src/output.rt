@@ -1,17 +1,17 @@
 ghost use Rattle.std.specs.Prelude.{◌≡◌, true, IfOk, IfErr, IfSome};
+ghost use Rattle.s66_text.specs.ProveText.{IsProveOutput};
 ghost use Rattle.s66_program.specs.Output.{IsOutput, IsLinesOutput, IsSearchWithin, IsWaitsOutput, IsWithinLimits, columns_by, is_cut, reads_source};
 ghost use Rattle.s66_program.specs.Remarks.{IsRemark};
 ghost use Rattle.s66_program.specs.Run.{IsRefusal};
 
+use crate::answered::text_of_answers;
 use crate::compare_text::compare_output;
 use crate::fault::Fault;
-use crate::json_text::json_output;
-use crate::kept_text::{Style, ordered_output};
+use crate::order_text::{Style, ordered_output};
 use crate::page_text::page_output;
-use crate::prove_text::prove_output;
+use crate::parts::{Documents, JsonLines, Waits};
 use crate::remark::{Finished, remark_of, untold};
 use crate::sum_text::{Fields, sum_output};
-use crate::why_text::why_output;
 use s66_command::{Command, Strategy};
 use s66_isa::Profile;
 use s66_source::{Columns, Source, read_source_with};
@@ -63,7 +63,10 @@ fn waits_output<R: AllocGlobal + Threads + Wait + Sync, O: Observer>(
 {
     match order {
         None => listing_output(rt.alloc(), profile, &Listing::Why { text }, only, source),
-        Some(strategy) => why_output(rt, source, text, only, profile, strategy, observer),
+        Some(strategy) => {
+            let waits = Waits { text };
+            text_of_answers(rt, &waits, source, only, profile, strategy, observer)
+        }
     }
 }
 
@@ -82,8 +85,27 @@ fn lines_output<R: AllocGlobal + Threads + Wait + Sync, O: Observer>(
 {
     match order {
         None => listing_output(rt.alloc(), profile, &Listing::Json, only, source),
-        Some(strategy) => json_output(rt, source, only, profile, strategy, observer),
+        Some(strategy) => {
+            text_of_answers(rt, &JsonLines, source, only, profile, strategy, observer)
+        }
     }
+}
+
+/// A document for each block of a source, or for the only one that is printed, of the answer that a search finds under a profile.
+fn documents_output<R: AllocGlobal + Threads + Wait + Sync, O: Observer>(
+    rt: &R,
+    source: &Source,
+    only: Option<u32>,
+    profile: &Profile,
+    strategy: Strategy,
+    observer: &mut O,
+) -> Result<Output, AllocError>
+    requires { IsSearchWithin strategy.search.workers strategy.search.nodes }
+    ensures { IfOk result (λ output. IsProveOutput strategy profile.now only source.now output.text.items output.status) }
+{
+    let documents = Documents { alloc: rt.alloc() };
+    let output = text_of_answers(rt, &documents, source, only, profile, strategy, observer)?;
+    Ok(output)
 }
 
 /// What a command that reads a source writes for one under a profile. `Err` is out of memory.
@@ -146,7 +168,7 @@ fn output_of<R: AllocGlobal + Threads + Wait + Sync, O: Observer>(
             strategy,
             block,
             ..
-        } => prove_output(rt, source, profile, strategy, block, observer),
+        } => documents_output(rt, source, block, profile, strategy, observer),
         Command::Sum {
             strategy,
             trace,

@@ -5,7 +5,6 @@ pub mod BlockTexts
 pub mod CheckedAnswers
 pub mod Dependences
 pub mod FoundAnswers
-pub mod InTurn
 pub mod OrderedAgain
 pub mod KeptAnswers
 pub mod LongestRuns

@@ -1,16 +1,16 @@
 -- To be believed: what `order` writes with `--keep`, with `--columns` or without it, `--quiet` or `--block`, and how it ends.
-use Rattle.std.specs.Prelude.{ℕ, suc, ◌≡◌, ◌==◌, ◌&&◌, ◌||◌, if◌then◌else◌, Bool, true, false, List, [], ◌∷◌, Option, Some, None, Ok}
+use Rattle.std.specs.Prelude.{ℕ, suc, ◌≡◌, ◌==◌, ◌&&◌, ◌||◌, if◌then◌else◌, Bool, true, false, List, [], ◌∷◌, Option, Some, None}
 use Rattle.std.specs.Option.{is_some}
 use Rattle.s66_isa.specs.declared.profile.Profile.{Profile}
 use Rattle.s66_line.specs.Block.{Block}
 use Rattle.s66_source.specs.Keeping.{printed_keeping}
 use Rattle.s66_source.specs.LeftAlone.{Reading}
 use Rattle.s66_source.specs.Printed.{Placed}
-use Rattle.s66_source.specs.Source.{source_of}
 use Rattle.s66_source.specs.declared.columns.Columns.{Columns}
 use Rattle.s66_command.specs.declared.strategy.Strategy.{Strategy}
-use Rattle.s66_text.specs.Answers.{Answer, AreAnswers}
-use Rattle.s66_text.specs.OrderText.{IsOrderOutput, placed_by, status_of}
+use Rattle.s66_text.specs.Answers.{Answer}
+use Rattle.s66_text.specs.OrderText.{IsOrderOutput, placed_by}
+use Rattle.s66_text.specs.OfAnswers.{IsOfAnswers}
 use Rattle.s66_text.specs.Shown.{before, shown}
 use Rattle.s66_text.specs.declared.outcome.Status.{Status}
 
@@ -27,12 +27,10 @@ abbrev pub all_given : Profile → (trace keep : Bool) → List Block → List A
 all_given p trace keep (block ∷ blocks) (a ∷ answers) = given_by p trace keep block a ∷ all_given p trace keep blocks answers
 all_given p trace keep blocks answers = []
 
--- for some answers to the blocks that are shown, the source printed by them, all other blocks of which stand, and their status
+-- the source printed by answers to the blocks that are shown, all other blocks of which stand
 abbrev pub IsKeptOutput : Strategy → Profile → (trace keep : Bool) → Columns → (quiet : Bool) (only : Option ℕ) (source : Reading) (text : List ℕ) → Status → Type 0
 IsKeptOutput strategy p trace keep columns quiet only source text status =
-    (blocks : List Block) × (source_of source ≡ Ok blocks)
-    × ((answers : List Answer) × AreAnswers strategy p (shown only blocks) answers
-    × (text ≡ printed_keeping quiet columns source (before only) (all_given p trace keep (shown only blocks) answers)) × (status ≡ status_of answers))
+    IsOfAnswers (λ blocks answers. text ≡ printed_keeping quiet columns source (before only) (all_given p trace keep blocks answers)) strategy p only source status
 
 -- one of the options is there
 abbrev pub is_other : (keep quiet : Bool) → Option ℕ → Bool

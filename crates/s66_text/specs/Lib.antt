@@ -5,10 +5,11 @@ pub mod BlockHead
 pub mod TimeText
 pub mod DepsText
 pub mod ChartText
+pub mod Answers
+pub mod OfAnswers
 pub mod WhyText
 pub mod JsonText
 pub mod Listing
-pub mod Answers
 pub mod OrderText
 pub mod PageText
 pub mod ProveText
@@ -22,5 +23,4 @@ pub mod SumRows
 pub mod OrderedAgain
 pub mod Reports
 pub mod CheckedAnswers
-pub mod PlacedAnswers
 pub mod ProvedAnswers

@@ -1,28 +1,14 @@
 -- To be believed: what `order` writes for a source, and how it ends: for each block an answer, of which there may be several.
-use Rattle.std.specs.Prelude.{ℕ, ◌≡◌, ◌==◌, if◌then◌else◌, Bool, List, [], ◌∷◌, Some, None, Ok}
-use Rattle.s66_isa.specs.Lists.{every}
+use Rattle.std.specs.Prelude.{ℕ, ◌≡◌, if◌then◌else◌, Bool, List, [], ◌∷◌, Some, None}
 use Rattle.s66_isa.specs.declared.profile.Profile.{Profile}
 use Rattle.s66_line.specs.Block.{Block}
 use Rattle.s66_source.specs.Printed.{Placed, printed}
 use Rattle.s66_source.specs.LeftAlone.{Reading}
-use Rattle.s66_source.specs.Source.{source_of}
 use Rattle.s66_model.specs.Answer.{source_time}
 use Rattle.s66_command.specs.declared.strategy.Strategy.{Strategy}
-use Rattle.s66_text.specs.Answers.{Answer, AreAnswers, problem_of}
+use Rattle.s66_text.specs.Answers.{Answer, problem_of}
 use Rattle.s66_text.specs.declared.outcome.Status.{Status}
-use Rattle.s66_text.specs.declared.outcome.Status.TheVariants.{Done, Bounded}
-
--- ANSWERS
-
--- each is best: its time is its bound
-abbrev pub all_best : List Answer → Bool
-all_best answers = every (λ (a : Answer). a.bound == a.time) answers
-
--- done if each answer is best
-abbrev pub status_of : List Answer → Status
-status_of answers = if all_best answers then Done else Bounded
-
--- WHAT IS WRITTEN
+use Rattle.s66_text.specs.OfAnswers.{IsOfAnswers}
 
 -- a block in the order of its answer; with the trace its splits are printed
 abbrev pub placed_by : Profile → Bool → Block → Answer → Placed
@@ -33,8 +19,7 @@ abbrev pub all_placed : Profile → Bool → List Block → List Answer → List
 all_placed p trace (block ∷ blocks) (a ∷ answers) = placed_by p trace block a ∷ all_placed p trace blocks answers
 all_placed p trace blocks answers = []
 
--- for some answers, the source printed in their orders, and their status
+-- the source printed in the orders of answers to its blocks
 abbrev pub IsOrderOutput : Strategy → Profile → (trace : Bool) (source : Reading) (text : List ℕ) → Status → Type 0
 IsOrderOutput strategy p trace source text status =
-    (blocks : List Block) × (source_of source ≡ Ok blocks)
-    × ((answers : List Answer) × AreAnswers strategy p blocks answers × (text ≡ printed source (all_placed p trace blocks answers)) × (status ≡ status_of answers))
+    IsOfAnswers (λ blocks answers. text ≡ printed source (all_placed p trace blocks answers)) strategy p None source status

@@ -1,19 +1,18 @@
 -- To be believed: what `sum` writes for a source, and how it ends. There is a row for each block, those first whose orders save
 -- most time, what all blocks take, and how many instructions their orders move, for answers of searches as those of `order`. With the trace each line has its splits, and with
 -- `--words` the words that a block takes.
-use Rattle.std.specs.Prelude.{ℕ, ◌+◌, ◌-◌, ◌≡◌, ◌≤◌, ◌<◌, ◌⊎◌, ◌==◌, if◌then◌else◌, Bool, List, [], ◌∷◌, ◌++◌, Option, None, Some, Ok, IsPermutation, codes, decimal, length, slice_index_or, unwrap_or}
+use Rattle.std.specs.Prelude.{ℕ, ◌+◌, ◌-◌, ◌≡◌, ◌≤◌, ◌<◌, ◌⊎◌, ◌==◌, if◌then◌else◌, Bool, List, [], ◌∷◌, ◌++◌, Option, None, Some, IsPermutation, codes, decimal, length, slice_index_or, unwrap_or}
 use Rattle.s66_isa.specs.Lists.{tally, weigh}
 use Rattle.s66_isa.specs.Table.{numbers}
 use Rattle.s66_isa.specs.declared.profile.Profile.{Profile}
 use Rattle.s66_line.specs.Block.{instrs_of, line_of, Block}
 use Rattle.s66_source.specs.Printed.{Placed}
 use Rattle.s66_source.specs.LeftAlone.{Reading}
-use Rattle.s66_source.specs.Source.{source_of}
 use Rattle.s66_command.specs.declared.strategy.Strategy.{Strategy}
-use Rattle.s66_text.specs.Answers.{Answer, AreAnswers}
 use Rattle.s66_text.specs.Moved.{moved}
 use Rattle.s66_text.specs.Words.{words_of}
-use Rattle.s66_text.specs.OrderText.{all_placed, status_of}
+use Rattle.s66_text.specs.OrderText.{all_placed}
+use Rattle.s66_text.specs.OfAnswers.{IsOfAnswers}
 use Rattle.s66_text.specs.Shown.{before, shown}
 use Rattle.s66_text.specs.declared.outcome.Status.{Status}
 use Rattle.s66_text.specs.declared.sum_rows.Row.{Row}
@@ -107,10 +106,7 @@ abbrev pub IsSumText : (trace words : Bool) (rows : List Row) (text : List ℕ) 
 IsSumText trace words rows text =
     (ordered : List Row) × IsPermutation rows ordered × AreInOrder ordered × (text ≡ row_lines words ordered ++ total_line trace words rows)
 
--- for some answers to the blocks that are shown, the rows of what `order` would print, and their status
+-- the rows of what `order` would print of the blocks that are shown
 abbrev pub IsSumOutput : Strategy → Profile → (trace words : Bool) (only : Option ℕ) (source : Reading) (text : List ℕ) → Status → Type 0
 IsSumOutput strategy p trace words only source text status =
-    (blocks : List Block) × (source_of source ≡ Ok blocks)
-    × ((answers : List Answer) × AreAnswers strategy p (shown only blocks) answers
-    × IsSumText trace words (rows_of (before only) (shown only blocks) (all_placed p trace (shown only blocks) answers)) text
-    × (status ≡ status_of answers))
+    IsOfAnswers (λ blocks answers. IsSumText trace words (rows_of (before only) blocks (all_placed p trace blocks answers)) text) strategy p only source status

@@ -1,17 +1,16 @@
 -- To be believed: what `why` writes of a source, and how it ends: for each block a line as that of `chart`, and what its instructions wait for, as the block was written or with `--order` in the order of an answer of a search; with `--text` the text of each instruction stands beside its number.
-use Rattle.std.specs.Prelude.{ℕ, Bool, ◌+◌, ◌≡◌, List, [], ◌∷◌, ◌++◌, Ok, Option}
+use Rattle.std.specs.Prelude.{ℕ, Bool, ◌+◌, ◌≡◌, List, ◌++◌, Option}
 use Rattle.s66_isa.specs.declared.profile.Profile.{Profile}
 use Rattle.s66_line.specs.Block.{instrs_of, Block}
 use Rattle.s66_source.specs.LeftAlone.{Reading}
-use Rattle.s66_source.specs.Source.{source_of}
 use Rattle.s66_command.specs.declared.strategy.Strategy.{Strategy}
 use Rattle.s66_time.specs.TimedOrder.{TimedOrder}
 use Rattle.s66_why.specs.Why.{why_text}
-use Rattle.s66_text.specs.Answers.{Answer, AreAnswers, problem_of}
+use Rattle.s66_text.specs.Answers.{Answer, problem_of}
 use Rattle.s66_text.specs.declared.outcome.Status.{Status}
 use Rattle.s66_text.specs.AsWritten.{as_written}
 use Rattle.s66_text.specs.ChartText.{timed_line}
-use Rattle.s66_text.specs.OrderText.{status_of}
+use Rattle.s66_text.specs.OfAnswers.{IsOfAnswers, all_parts}
 use Rattle.s66_text.specs.Shown.{before, shown}
 
 -- of the n-th block, from 1, in an order
@@ -26,14 +25,7 @@ why_lines p texts n block = waits_lines texts n block (as_written p (instrs_of b
 abbrev pub answer_lines : (texts : Bool) → Profile → ℕ → Block → Answer → List ℕ
 answer_lines texts p n block a = waits_lines texts n block (record { problem = problem_of p block; numbers = a.order })
 
--- of these blocks, before which n come
-abbrev pub lines_of_answers : (texts : Bool) → Profile → ℕ → List Block → List Answer → List ℕ
-lines_of_answers texts p n (block ∷ blocks) (a ∷ answers) = answer_lines texts p (n + 1) block a ++ lines_of_answers texts p (n + 1) blocks answers
-lines_of_answers texts p n blocks answers = []
-
--- for some answers to the blocks that are shown, their lines and their status
+-- the lines of the blocks that are shown
 abbrev pub IsWhyOutput : Strategy → Profile → (texts : Bool) (only : Option ℕ) (source : Reading) (text : List ℕ) → Status → Type 0
 IsWhyOutput strategy p texts only source text status =
-    (blocks : List Block) × (source_of source ≡ Ok blocks)
-    × ((answers : List Answer) × AreAnswers strategy p (shown only blocks) answers
-    × (text ≡ lines_of_answers texts p (before only) (shown only blocks) answers) × (status ≡ status_of answers))
+    IsOfAnswers (λ blocks answers. text ≡ all_parts (answer_lines texts p) (before only) blocks answers) strategy p only source status

@@ -1,3 +1,6 @@
+ghost use Rattle.std.specs.Prelude.{◌≡◌, if◌then◌else◌};
+ghost use Rattle.s66_text.specs.declared.outcome.Status.TheVariants.{Done, Bounded};
+
 /// How a command that wrote all its text ended.
 #[derive(Clone, Copy, Debug, PartialEq, Eq)]
 pub enum Status {
@@ -31,5 +34,16 @@ impl Status {
             Status::Bounded => 7,
             Status::Listed => 8,
         }
+    }
+}
+
+/// Done if all orders are best.
+pub fn status_by(all_best: bool) -> Status
+    ensures { result ≡ (if all_best then Done else Bounded) }
+{
+    if all_best {
+        Status::Done
+    } else {
+        Status::Bounded
     }
 }

@@ -1,7 +1,7 @@
-use Rattle.s66_text.proofs.InTurn.{GoesOnAt}
-use Rattle.s66_program.specs.Kept.{all_parts}
+use Rattle.s66_program.proofs.KeptParts.{GoesOnAt}
 use Rattle.s66_program.proofs.kept.keep_in_turn.Given as goal
 
 abbrev pub invariant-loop-done : goal.invariant-loop-done
 invariant-loop-done g l =
-    GoesOnAt (g.K.Keep.part l.what l.strategy l.profile) (all_parts (g.K.Keep.part l.what l.strategy l.profile)) l.strategy l.profile l.before l.blocks l.done l.parts.items l.all_best
+    let s = l.searches in
+    GoesOnAt (g.K.Keep.part s.what.now s.strategy s.profile.now) s.strategy s.profile.now s.before s.blocks.now l.done l.parts.items l.all_best

@@ -1,20 +1,28 @@
-use Rattle.std.proofs.Common.{◌≡◌, ◌∙◌, if◌then◌else◌, ap, sym, subst}
+use Rattle.std.proofs.Common.{◌∙◌, None, ap, refl, subst, sym}
 use Rattle.s66_source.specs.Printed.{ArePlaced, printed}
 use Rattle.s66_source.specs.Source.{blocks_of, classed_lines}
-use Rattle.s66_text.specs.declared.outcome.Status.TheVariants.{Done, Bounded}
-use Rattle.s66_text.specs.PlacedAnswers.{tell_best}
-use Rattle.s66_text.proofs.PlacedAnswers.{order-output, placed-within}
+use Rattle.s66_text.specs.OrderText.{all_placed}
+use Rattle.s66_text.proofs.PlacedAnswers.{placed-within}
+use Rattle.s66_program.specs.Kept.{placed_part}
+use Rattle.s66_program.proofs.KeptParts.{kept-whole}
 use Rattle.s66_program.proofs.order_text.order_output.Goals as goal
 
 pub print_source-requires : goal.print_source-requires
 print_source-requires g c =
-    let same : c.as_slice.result.now ≡ c.in_ok-found.found.items = c.as_slice.ensures.value in
-    subst (ArePlaced (blocks_of (classed_lines c.args.source.now))) (sym same)
-    (placed-within c.args.strategy c.args.profile.now c.args.trace c.args.source.now c.blocks-2.result.now c.in_ok-found.found.items c.blocks-2.ensures c.in_ok-found.ensures)
+    let strategy = c.args.strategy in
+    let p = c.args.profile.now in
+    let trace = c.args.trace in
+    let source = c.args.source.now in
+    let all = c.in_ok-all.all in
+    let (blocks, read, answers, are, is, ends) = kept-whole (placed_part trace p) strategy p (λ n. all_placed p trace) (λ n. refl) (λ n b bs a more. refl) None source all.parts.items all.status c.in_ok-all.ensures in
+    subst (ArePlaced (blocks_of (classed_lines source))) (sym (c.as_slice.ensures.value ∙ is)) (placed-within strategy p trace source blocks answers read are)
 
 pub returns : goal.returns
 returns g c =
-    let same : c.as_slice.result.now ≡ c.in_ok-found.found.items = c.as_slice.ensures.value in
-    order-output c.args.strategy c.args.profile.now c.args.trace c.args.source.now c.in_ok-print_source.field-0.items c.status_of.result c.blocks-2.result.now c.in_ok-found.found.items c.blocks-2.ensures c.in_ok-found.ensures
-    (c.in_ok-print_source.ensures ∙ ap (printed c.args.source.now) same)
-    (c.status_of.ensures ∙ ap (λ ps. if tell_best ps then Done else Bounded) c.as_slice-2.ensures.value)
+    let strategy = c.args.strategy in
+    let p = c.args.profile.now in
+    let trace = c.args.trace in
+    let source = c.args.source.now in
+    let all = c.in_ok-all.all in
+    let (blocks, read, answers, are, is, ends) = kept-whole (placed_part trace p) strategy p (λ n. all_placed p trace) (λ n. refl) (λ n b bs a more. refl) None source all.parts.items all.status c.in_ok-all.ensures in
+    (blocks, read, (answers, are, c.in_ok-print_source.ensures ∙ ap (printed source) (c.as_slice.ensures.value ∙ is), ends))

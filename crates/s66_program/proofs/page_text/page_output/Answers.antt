@@ -1,18 +1,21 @@
-use Rattle.std.proofs.Common.{ℕ, List, [], ◌∷◌, Option, None, Some, ◌≡◌, ◌≤◌, ◌<◌, ◌^◌, ◌-◌, ◌++◌, ◌∙◌, ap, ap₂, arith, drop, if◌then◌else◌, length, refl, subst, sym, take}
+use Rattle.std.proofs.Common.{ℕ, List, [], ◌∷◌, Option, None, Some, Ok, ◌≡◌, ◌≤◌, ◌<◌, ◌^◌, ◌-◌, ◌++◌, ◌∙◌, ap, ap₂, arith, drop, length, refl, subst, sym, take}
+use Rattle.s66_isa.specs.declared.profile.Profile.{Profile}
 use Rattle.s66_line.specs.Block.{Block}
-use Rattle.s66_text.specs.declared.outcome.Status.TheVariants.{Done, Bounded}
-use Rattle.s66_page.specs.Found.{AreOf}
+use Rattle.s66_page.specs.Found.{AreOf, Found}
 use Rattle.s66_page.specs.Page.{page_text}
-use Rattle.s66_text.specs.Answers.{Answer, AreAnswers}
-use Rattle.s66_text.specs.OrderText.{status_of}
-use Rattle.s66_text.specs.PageText.{all_found}
+use Rattle.s66_source.specs.LeftAlone.{Reading}
 use Rattle.s66_source.specs.declared.limits.TheConstants.{SOURCE_LINES_LIMIT}
+use Rattle.s66_source.specs.Source.{source_of}
+use Rattle.s66_command.specs.declared.strategy.Strategy.{Strategy}
+use Rattle.s66_text.specs.declared.outcome.Status.{Status}
+use Rattle.s66_text.specs.Answers.{Answer, AreAnswers}
+use Rattle.s66_text.specs.OfAnswers.{status_of}
+use Rattle.s66_text.specs.PageText.{all_found}
 use Rattle.s66_text.specs.Shown.{before, shown}
 use Rattle.s66_text.proofs.FoundAnswers.{found-of}
-use Rattle.s66_text.proofs.InTurn.{founds}
 use Rattle.s66_text.proofs.SumRows.{few-blocks}
-use Rattle.s66_program.specs.Kept.{found_part}
-use Rattle.s66_program.proofs.KeptParts.{kept-whole}
+use Rattle.s66_program.specs.Kept.{AreAnswered, found_part}
+use Rattle.s66_program.proofs.KeptParts.{kept-whole, of-read}
 use Rattle.s66_program.proofs.page_text.page_output.Goals as goal
 
 few-one : (blocks : List Block) → length (take 1 blocks) ≤ 1
@@ -23,6 +26,13 @@ few-shown : (only : Option ℕ) (blocks : List Block) → length blocks ≤ SOUR
 few-shown None blocks few = omega (arith, few)
 few-shown (Some n) blocks few = omega (arith, few-one (drop (n - 1) blocks))
 
+-- what is found of the blocks that were read
+found : (strategy : Strategy) (p : Profile) (only : Option ℕ) (source : Reading) (status : Status) (blocks : List Block) (fs : List Found) → source_of source ≡ Ok blocks → AreAnswered found_part strategy p only source fs status →
+    (answers : List Answer) × AreAnswers strategy p (shown only blocks) answers × (fs ≡ all_found (shown only blocks) answers) × (status ≡ status_of answers)
+found strategy p only source status blocks fs read kept =
+    of-read (λ bs answers. fs ≡ all_found bs answers) strategy p only source status blocks read
+    (kept-whole found_part strategy p (λ n. all_found) (λ n. refl) (λ n b bs a more. refl) only source fs status kept)
+
 pub push_page-requires-clause-few : goal.push_page-requires-clause-few
 push_page-requires-clause-few g c =
     let blocks = c.blocks-2.result.now in
@@ -30,32 +40,26 @@ push_page-requires-clause-few g c =
 
 pub push_page-requires-clause-found : goal.push_page-requires-clause-found
 push_page-requires-clause-found g c =
-    let blocks = c.shown-blocks.result.now in
     let strategy = c.args.strategy in
     let p = c.args.profile.now in
+    let only = c.args.only in
+    let blocks = c.blocks-2.result.now in
     let all = c.in_ok-all.all in
-    let (answers, are, is, best) = kept-whole found_part strategy p founds (λ n. refl) (λ n b bs a more. refl) 0 blocks all.parts.items all.all_best c.in_ok-all.ensures in
-    subst (AreOf blocks) (sym (c.as_slice.ensures.value ∙ is)) (found-of strategy p blocks answers are)
+    let (answers, are, is, ends) = found strategy p only c.args.source.now all.status blocks all.parts.items c.blocks-2.ensures c.in_ok-all.ensures in
+    subst (λ (bs : List Block). AreOf bs c.as_slice.result.now) (sym c.shown-blocks.ensures)
+    (subst (AreOf (shown only blocks)) (sym (c.as_slice.ensures.value ∙ is)) (found-of strategy p (shown only blocks) answers are))
 
 pub returns : goal.returns
 returns g c =
     let p = c.args.profile.now in
-    let strategy = c.args.strategy in
     let only = c.args.only in
-    let blocks = c.shown-blocks.result.now in
+    let blocks = c.blocks-2.result.now in
     let n = c.blocks_before.result in
-    let found = c.as_slice.result.now in
-    let page = c.push_page.new.out.items in
     let all = c.in_ok-all.all in
-    let (answers, are, is, best) = kept-whole found_part strategy p founds (λ n. refl) (λ n b bs a more. refl) 0 blocks all.parts.items all.all_best c.in_ok-all.ensures in
-    let text : page ≡ page_text p (before only) blocks (all_found blocks answers) =
-    c.in_ok-push_page.ensures.text ∙ ap (λ xs. xs ++ page_text c.new-timer.result n blocks found) c.new-text.ensures.items
-    ∙ ap₂ (λ q fs. page_text q n blocks fs) c.new-timer.ensures (c.as_slice.ensures.value ∙ is) ∙ ap (λ k. page_text p k blocks (all_found blocks answers)) c.blocks_before.ensures.value
+    let (answers, are, is, ends) = found c.args.strategy p only c.args.source.now all.status blocks all.parts.items c.blocks-2.ensures c.in_ok-all.ensures in
+    let page = all_found (shown only blocks) answers in
+    let text : c.push_page.new.out.items ≡ page_text p (before only) (shown only blocks) page =
+    c.in_ok-push_page.ensures.text ∙ ap (λ xs. xs ++ page_text c.new-timer.result n c.shown-blocks.result.now c.as_slice.result.now) c.new-text.ensures.items
+    ∙ ap₂ (λ q fs. page_text q n c.shown-blocks.result.now fs) c.new-timer.ensures (c.as_slice.ensures.value ∙ is) ∙ ap₂ (λ k bs. page_text p k bs page) c.blocks_before.ensures.value c.shown-blocks.ensures
     in
-    let ends : c.status_by.result ≡ status_of answers = c.status_by.ensures ∙ ap (λ b. if b then Done else Bounded) best in (
-      c.blocks-2.result.now,
-      c.blocks-2.ensures,
-      subst
-          (λ (bs : List Block). (given : List Answer) × AreAnswers strategy p bs given × (page ≡ page_text p (before only) bs (all_found bs given)) × (c.status_by.result ≡ status_of given))
-          c.shown-blocks.ensures (answers, are, text, ends),
-    )
+    (blocks, c.blocks-2.ensures, (answers, are, text, ends))

@@ -1,31 +1,56 @@
-use Rattle.std.proofs.Common.{◌≡◌, ◌≤◌, ◌∙◌, if◌then◌else◌, List, length, ap, ap₂, sym, subst}
+use Rattle.std.proofs.Common.{ℕ, ◌≡◌, ◌≤◌, ◌∙◌, Bool, List, Ok, Option, length, ap, ap₂, refl, sym, subst}
+use Rattle.s66_isa.specs.declared.profile.Profile.{Profile}
 use Rattle.s66_line.specs.Block.{Block}
+use Rattle.s66_source.specs.LeftAlone.{Reading}
 use Rattle.s66_source.specs.declared.limits.TheConstants.{SOURCE_LINES_LIMIT}
 use Rattle.s66_source.specs.Printed.{ArePlaced, Placed}
-use Rattle.s66_text.specs.declared.outcome.Status.TheVariants.{Done, Bounded}
+use Rattle.s66_source.specs.Source.{source_of}
+use Rattle.s66_command.specs.declared.strategy.Strategy.{Strategy}
+use Rattle.s66_text.specs.declared.outcome.Status.{Status}
 use Rattle.s66_text.specs.declared.sum_rows.Row.{Row}
-use Rattle.s66_text.specs.PlacedAnswers.{AreAllPlaced, tell_best}
+use Rattle.s66_text.specs.Answers.{Answer, AreAnswers}
+use Rattle.s66_text.specs.OfAnswers.{status_of}
+use Rattle.s66_text.specs.OrderText.{all_placed}
 use Rattle.s66_text.specs.Shown.{before, shown}
 use Rattle.s66_text.specs.SumRows.{AreNumbered}
 use Rattle.s66_text.specs.SumText.{IsSumText, rows_of}
-use Rattle.s66_text.proofs.SumRows.{few-rows, length-placed, placed-each, rows-numbered, sum-output}
+use Rattle.s66_text.proofs.PlacedAnswers.{all-within}
+use Rattle.s66_text.proofs.SumRows.{few-rows, length-placed, rows-numbered}
+use Rattle.s66_program.specs.Kept.{AreAnswered, placed_part}
+use Rattle.s66_program.proofs.KeptParts.{kept-whole, of-read}
 use Rattle.s66_program.proofs.sum_text.sum_output.Goals as goal
+
+module _ (strategy : Strategy) (p : Profile) (trace : Bool) (only : Option ℕ) (source : Reading) (status : Status) (blocks : List Block) (ps : List Placed)
+    (read : source_of source ≡ Ok blocks) (kept : AreAnswered (placed_part trace p) strategy p only source ps status) where
+  placed : (answers : List Answer) × AreAnswers strategy p (shown only blocks) answers × (ps ≡ all_placed p trace (shown only blocks) answers) × (status ≡ status_of answers)
+  placed =
+      of-read (λ bs answers. ps ≡ all_placed p trace bs answers) strategy p only source status blocks read
+      (kept-whole (placed_part trace p) strategy p (λ n. all_placed p trace) (λ n. refl) (λ n b bs a more. refl) only source ps status kept)
+
+  placed-shown : ArePlaced (shown only blocks) ps
+  placed-shown =
+      let (answers, are, is, ends) = placed in
+      subst (ArePlaced (shown only blocks)) (sym is) (all-within strategy p trace (shown only blocks) answers are)
 
 pub rows_of-requires-clause-found : goal.rows_of-requires-clause-found
 rows_of-requires-clause-found g c =
-    let placed = placed-each c.args.strategy c.args.profile.now c.args.fields.trace c.shown-blocks.result.now c.in_ok-found.found.items c.in_ok-found.ensures in
-    ap (λ (ps : List Placed). length ps) c.as_slice.ensures.value ∙ length-placed c.shown-blocks.result.now c.in_ok-found.found.items placed
+    let only = c.args.only in
+    let blocks = c.blocks-2.result.now in
+    let all = c.in_ok-all.all in
+    let are = placed-shown c.args.strategy c.args.profile.now c.args.fields.trace only c.args.source.now all.status blocks all.parts.items c.blocks-2.ensures c.in_ok-all.ensures in
+    ap (λ (ps : List Placed). length ps) c.as_slice.ensures.value ∙ length-placed (shown only blocks) all.parts.items are ∙ sym (ap (λ (bs : List Block). length bs) c.shown-blocks.ensures)
 
 pub rows_of-requires-clause-placed : goal.rows_of-requires-clause-placed
 rows_of-requires-clause-placed g c =
-    subst (ArePlaced c.shown-blocks.result.now) (sym c.as_slice.ensures.value)
-    (placed-each c.args.strategy c.args.profile.now c.args.fields.trace c.shown-blocks.result.now c.in_ok-found.found.items c.in_ok-found.ensures)
+    let all = c.in_ok-all.all in
+    let are = placed-shown c.args.strategy c.args.profile.now c.args.fields.trace c.args.only c.args.source.now all.status c.blocks-2.result.now all.parts.items c.blocks-2.ensures c.in_ok-all.ensures in
+    subst (λ (bs : List Block). ArePlaced bs c.as_slice.result.now) (sym c.shown-blocks.ensures) (subst (ArePlaced (shown c.args.only c.blocks-2.result.now)) (sym c.as_slice.ensures.value) are)
 
 pub sum_text-requires : goal.sum_text-requires
 sum_text-requires g c =
     let only = c.args.only in
     let blocks = c.blocks-2.result.now in
-    let ps = c.in_ok-found.found.items in
+    let ps = c.in_ok-all.all.parts.items in
     let same : c.in_ok-rows.rows.items ≡ rows_of (before only) (shown only blocks) ps =
     c.in_ok-rows.ensures ∙ ap (rows_of c.blocks_before.result c.shown-blocks.result.now) c.as_slice.ensures.value ∙ ap₂ (λ n bs. rows_of n bs ps) c.blocks_before.ensures.value c.shown-blocks.ensures
     in
@@ -36,17 +61,16 @@ sum_text-requires g c =
 
 pub returns : goal.returns
 returns g c =
+    let p = c.args.profile.now in
     let only = c.args.only in
     let trace = c.args.fields.trace in
     let words = c.args.fields.words in
     let blocks = c.blocks-2.result.now in
-    let ps = c.in_ok-found.found.items in
+    let all = c.in_ok-all.all in
     let text = c.in_ok-sum_text.field-0.items in
-    let same : c.in_ok-rows.rows.items ≡ rows_of (before only) (shown only blocks) ps =
-    c.in_ok-rows.ensures ∙ ap (rows_of c.blocks_before.result c.shown-blocks.result.now) c.as_slice.ensures.value ∙ ap₂ (λ n bs. rows_of n bs ps) c.blocks_before.ensures.value c.shown-blocks.ensures
+    let (answers, are, is, ends) = placed c.args.strategy p trace only c.args.source.now all.status blocks all.parts.items c.blocks-2.ensures c.in_ok-all.ensures in
+    let same : c.in_ok-rows.rows.items ≡ rows_of (before only) (shown only blocks) (all_placed p trace (shown only blocks) answers) =
+    c.in_ok-rows.ensures ∙ ap (rows_of c.blocks_before.result c.shown-blocks.result.now) (c.as_slice.ensures.value ∙ is)
+    ∙ ap₂ (λ n bs. rows_of n bs (all_placed p trace (shown only blocks) answers)) c.blocks_before.ensures.value c.shown-blocks.ensures
     in
-    let are : AreAllPlaced c.args.strategy c.args.profile.now trace (shown only blocks) ps =
-    subst (λ (bs : List Block). AreAllPlaced c.args.strategy c.args.profile.now trace bs ps) c.shown-blocks.ensures c.in_ok-found.ensures
-    in
-    sum-output c.args.strategy c.args.profile.now trace words only c.args.source.now text c.status_of.result blocks ps c.blocks-2.ensures are
-    (subst (λ rows. IsSumText trace words rows text) same c.in_ok-sum_text.ensures) (c.status_of.ensures ∙ ap (λ qs. if tell_best qs then Done else Bounded) c.as_slice-2.ensures.value)
+    (blocks, c.blocks-2.ensures, (answers, are, subst (λ rows. IsSumText trace words rows text) same c.in_ok-sum_text.ensures, ends))
