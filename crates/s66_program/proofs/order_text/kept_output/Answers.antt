@@ -15,7 +15,7 @@ print_keeping-requires g c =
     let style = c.args.style in
     let source = c.args.source.now in
     let all = c.in_ok-all.all in
-    let (blocks, read, answers, are, is, ends) =
+    let (blocks, read, (answers, are, is, ends)) =
     kept-whole (given_part style.trace style.keep p) strategy p (λ n. all_given p style.trace style.keep) (λ n. refl) (λ n b bs a more. refl) style.only source all.parts.items all.status c.in_ok-all.ensures
     in
     subst (λ k. AreGiven (drop k (blocks_of (classed_lines source))) c.as_slice.result.now) (sym c.blocks_before.ensures.value)
@@ -29,7 +29,7 @@ returns g c =
     let style = c.args.style in
     let source = c.args.source.now in
     let all = c.in_ok-all.all in
-    let (blocks, read, answers, are, is, ends) =
+    let (blocks, read, (answers, are, is, ends)) =
     kept-whole (given_part style.trace style.keep p) strategy p (λ n. all_given p style.trace style.keep) (λ n. refl) (λ n b bs a more. refl) style.only source all.parts.items all.status c.in_ok-all.ensures
     in (
       blocks,

@@ -14,7 +14,7 @@ print_source-requires g c =
     let trace = c.args.trace in
     let source = c.args.source.now in
     let all = c.in_ok-all.all in
-    let (blocks, read, answers, are, is, ends) = kept-whole (placed_part trace p) strategy p (λ n. all_placed p trace) (λ n. refl) (λ n b bs a more. refl) None source all.parts.items all.status c.in_ok-all.ensures in
+    let (blocks, read, (answers, are, is, ends)) = kept-whole (placed_part trace p) strategy p (λ n. all_placed p trace) (λ n. refl) (λ n b bs a more. refl) None source all.parts.items all.status c.in_ok-all.ensures in
     subst (ArePlaced (blocks_of (classed_lines source))) (sym (c.as_slice.ensures.value ∙ is)) (placed-within strategy p trace source blocks answers read are)
 
 pub returns : goal.returns
@@ -24,5 +24,5 @@ returns g c =
     let trace = c.args.trace in
     let source = c.args.source.now in
     let all = c.in_ok-all.all in
-    let (blocks, read, answers, are, is, ends) = kept-whole (placed_part trace p) strategy p (λ n. all_placed p trace) (λ n. refl) (λ n b bs a more. refl) None source all.parts.items all.status c.in_ok-all.ensures in
+    let (blocks, read, (answers, are, is, ends)) = kept-whole (placed_part trace p) strategy p (λ n. all_placed p trace) (λ n. refl) (λ n b bs a more. refl) None source all.parts.items all.status c.in_ok-all.ensures in
     (blocks, read, (answers, are, c.in_ok-print_source.ensures ∙ ap (printed source) (c.as_slice.ensures.value ∙ is), ends))
