@@ -7,9 +7,9 @@ use Rattle.s66_model.specs.declared.rule.Rule.{Rule}
 use Rattle.s66_model.specs.Timing.{Problem, total_of}
 use Rattle.s66_model.specs.LegalOrder.{IsLegal, IsBeginning, IsComplete}
 use Rattle.s66_model.specs.Leaves.{floor_value, value}
-use Rattle.s66_model.specs.Ledger as model
-use Rattle.s66_model.specs.Ledger.{Ledger, is_live, best_time, Event, Offer, Moves}
-use Rattle.s66_model.specs.Recorded.{IsOfferOf}
+use Rattle.s66_machine.specs.Ledger as model
+use Rattle.s66_machine.specs.Ledger.{Ledger, is_live, best_time, Event, Offer, Moves}
+use Rattle.s66_machine.specs.Recorded.{IsOfferOf}
 use Rattle.s66_model.proofs.Floors.{floor-whole}
 use Rattle.s66_model.proofs.LegalOrders.{order-legal}
 use Rattle.s66_time.specs.TimedOrder.{TimedOrder}

@@ -2,8 +2,8 @@
 use Rattle.std.specs.Prelude.{ℕ, ◌≡◌}
 use Rattle.s66_model.specs.declared.rule.Rule.{Rule}
 use Rattle.s66_model.specs.Timing.{Problem}
-use Rattle.s66_model.specs.Ledger as model
-use Rattle.s66_model.specs.Recorded.{IsGraftOf, IsOfferOf}
+use Rattle.s66_machine.specs.Ledger as model
+use Rattle.s66_machine.specs.Recorded.{IsGraftOf, IsOfferOf}
 use Rattle.s66_node.specs.Pieces.{tree_of}
 use Rattle.s66_ledger.specs.declared.step.Event.{Event}
 use Rattle.s66_ledger.specs.declared.step.Event.TheVariants as event

@@ -5,7 +5,7 @@ ghost use Rattle.s66_ledger.specs.Steps.{reply_of};
 
 use crate::ledger::Ledger;
 use crate::reply::{BackError, GraftError, Offered};
-use s66_model::Ticket;
+use s66_machine::Ticket;
 use s66_node::Piece;
 use s66_time::Timed;
 use std::alloc::AllocError;
@@ -56,7 +56,7 @@ pub enum Reply {
 
 impl Ledger<'_> {
     ghost use Rattle.std.specs.Prelude.{◌≡◌, ◌≤◌, OnErr, IfOk};
-    ghost use Rattle.s66_model.specs.Ledger as model;
+    ghost use Rattle.s66_machine.specs.Ledger as model;
     ghost use Rattle.s66_ledger.specs.Ledgers.{IsEvent};
     ghost use Rattle.s66_ledger.specs.Grafts.{IsGraftAt};
     ghost use Rattle.s66_ledger.specs.Steps.{IsEventOf, worker_of, reply_of};

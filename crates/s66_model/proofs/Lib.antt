@@ -1,4 +1,3 @@
-pub mod AccountLaws
 pub mod Issue
 pub mod Packed
 pub mod LegalOrders
@@ -31,16 +30,6 @@ pub mod UnitLoad
 pub mod WalkOver
 pub mod HeadByRegisters
 pub mod FloorWalk
-pub mod OnceCovered
-pub mod LedgerSteps
-pub mod LedgerRuns
-pub mod OneTree
-pub mod Histories
-pub mod GrownTrees
-pub mod NodeTrees
-pub mod NamedNodes
-pub mod EndedLedgers
-pub mod TreeLines
 pub mod WrittenOrders
 pub mod LowRegisters
 pub mod FreeTimes

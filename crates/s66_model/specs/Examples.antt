@@ -1,6 +1,6 @@
 -- Used by examples alone: worked blocks of a few instructions, their COMPASS lines above each. Words say what an order of one
--- does under the standard profile, what leaves a prefix has, and what trees and ledgers there are of them.
-use Rattle.std.specs.Prelude.{ℕ, Bool, zero, suc, true, false, ◌≢◌, List, [], ◌∷◌, map, reverse, Some, None}
+-- does under the standard profile, what leaves a prefix has, and what trees there are of them.
+use Rattle.std.specs.Prelude.{ℕ, Bool, zero, suc, true, false, ◌≢◌, List, [], ◌∷◌, map, reverse}
 use Rattle.std.proofs.Common.{lit≤}
 use Rattle.s66_isa.specs.declared.instr.Instr.{Instr}
 use Rattle.s66_isa.specs.declared.instr.Kind.{Kind}
@@ -10,7 +10,7 @@ use Rattle.s66_isa.specs.declared.reg.Reg.{Reg}
 use Rattle.s66_isa.specs.declared.profile.Profile.{Profile}
 use Rattle.s66_isa.specs.Table.{instr, numbers, Row, Write, standard, a_reg, b_reg, all_kinds, reads_of, results_of, memory_of, memory_pair}
 use Rattle.s66_model.specs.declared.rule.Rule.{Rule}
-use Rattle.s66_model.specs.declared.rule.Rule.TheVariants.{NoneNamed, WrittenEarlier, ClampedStanding}
+use Rattle.s66_model.specs.declared.rule.Rule.TheVariants.{WrittenEarlier, ClampedStanding}
 use Rattle.s66_model.specs.Packing.{parcels_from, fillers, len_at}
 use Rattle.s66_model.specs.Dependence.{share}
 use Rattle.s66_model.specs.Meaning.{Term, Initial, Computed, Terms, NoTerms, Then, Storage, meaning}
@@ -21,7 +21,6 @@ use Rattle.s66_model.specs.Tree.{Tree, Parted, Siblings, NoMore, Unsplit, Split}
 use Rattle.s66_model.specs.Answer.{Answer}
 use Rattle.s66_model.specs.DominatedLeaves.{Ending, Bounding, Dominated, tree_bounding}
 use Rattle.s66_model.specs.Piece.{Terminal, Carries, Frontier}
-use Rattle.s66_model.specs.Ledger.{State, Open, Out, Cut, Closed, Node, Ledger, Event, Grant, Claim, Graft, Offer, Reply, Granted, Claimed, Taken, NotOut, NotLower, Step, Run}
 
 abbrev pub standard_problem : List Instr → Problem
 standard_problem block = record { block = block; profile = standard }
@@ -382,65 +381,6 @@ first_unsplit second =
 abbrev pub order_ending : Ending → Tree Ending
 order_ending ending =
     Parted (1 ∷ 2 ∷ 3 ∷ []) (Split (2 ∷ 3 ∷ []) (Split (3 ∷ []) (Unsplit ending NoMore) (Unsplit increments_load NoMore)) (children 2 increments_load))
-
--- LEDGERS AND THEIR HISTORIES
-
-abbrev pub node : List ℕ → State → Node
-node prefix state = record { prefix = prefix; state = state }
-
--- a ledger's nodes, its best order, what is left of the budget, the allowances and what is spent
-abbrev pub ledger : List Node → List ℕ → ℕ → List ℕ → ℕ → Ledger
-ledger nodes best left allowances spent =
-    record { nodes = nodes; best = best; left = left; allowances = allowances; spent = spent }
-
--- three_multiplies with a budget of 10 and two workers, all of it granted to worker 1; node 0 alone, in this state
-abbrev pub first_node : State → Ledger
-first_node state = ledger (node [] state ∷ []) (1 ∷ 2 ∷ 3 ∷ []) 0 (10 ∷ 0 ∷ []) 0
-
--- its root split by worker 1, and the children in these states
-abbrev pub root_split : State → State → State → Ledger
-root_split one two three =
-    ledger (node [] Cut ∷ node (1 ∷ []) one ∷ node (2 ∷ []) two ∷ node (3 ∷ []) three ∷ []) (1 ∷ 2 ∷ 3 ∷ []) 0 (9 ∷ 0 ∷ []) 1
-
--- and the child 2 split by worker 1 too
-abbrev pub second_split : Ledger
-second_split =
-    ledger (node [] Cut ∷ node (1 ∷ []) Open ∷ node (2 ∷ []) Cut ∷ node (3 ∷ []) Open ∷ node (2 ∷ 1 ∷ []) Open ∷ node (2 ∷ 3 ∷ []) Open ∷ []) (1 ∷ 2 ∷ 3 ∷ []) 0 (8 ∷ 0 ∷ []) 2
-
--- three_multiplies with node 0 open: so much is left, and worker 2 of two has been granted so much
-abbrev pub granted_to_2 : ℕ → ℕ → Ledger
-granted_to_2 left allowance = ledger (node [] Open ∷ []) (1 ∷ 2 ∷ 3 ∷ []) left (0 ∷ allowance ∷ []) 0
-
--- a budget of 10 of which nothing is granted to the one worker: these nodes and this best order
-abbrev pub without_grants : List Node → List ℕ → Ledger
-without_grants nodes best = ledger nodes best 10 (0 ∷ []) 0
-
--- a grant, a claim, a graft of one split, the same graft again, an offer, a grant of nothing, and a claim of a child
-abbrev pub ledger_events : List (Event × Reply)
-ledger_events =
-    (Grant 1, Granted 10) ∷ (Claim 1, Claimed (Some 0)) ∷ (Graft 1 0 true [] 1 (Some (one_split Frontier)), Taken) ∷ (Graft 1 0 true [] 1 None, NotOut)
-    ∷ (Offer 2 true (1 ∷ 2 ∷ 3 ∷ []) 22, NotLower 22) ∷ (Grant 2, Granted 0) ∷ (Claim 2, Claimed (Some 2)) ∷ []
-
--- one_load with a budget of 10, of which worker 2 has three splits: node 0 is out, and this order is the best
-abbrev pub load_out : List ℕ → Ledger
-load_out best = ledger (node [] Out ∷ []) best 7 (0 ∷ 3 ∷ []) 0
-
--- load_piece is grafted there, and its whole order takes this state
-abbrev pub load_grafted : List ℕ → State → Ledger
-load_grafted best whole =
-    ledger (node [] Cut ∷ node (1 ∷ []) Cut ∷ node (1 ∷ 2 ∷ []) (Closed (Bounding (Load Boolean))) ∷ node (1 ∷ 3 ∷ []) Cut ∷ node (1 ∷ 3 ∷ 2 ∷ []) whole ∷ node (3 ∷ []) Open ∷ []) best 7 (0 ∷ 0 ∷ []) 3
-
--- one_load with a budget of 1 that was spent on a split at 1, below node 0, which is open
-abbrev pub loose_split : Ledger
-loose_split = ledger (node [] Open ∷ node (1 ∷ []) Cut ∷ []) (1 ∷ 2 ∷ 3 ∷ []) 0 (0 ∷ []) 1
-
--- the event doesn't get this reply, whatever it leads to
-abbrev pub NeverAnswers : Problem → Ledger → Event → Reply → Type 0
-NeverAnswers b old event reply = (new : Ledger) → ¬ Step NoneNamed b old event reply new
-
--- there is no such history, whatever it leads to
-abbrev pub NeverRuns : Problem → Ledger → List (Event × Reply) → Type 0
-NeverRuns b old history = (new : Ledger) → ¬ Run NoneNamed b old history new
 
 -- WHAT ORDERS MEAN
 

@@ -6,7 +6,7 @@ ghost use Rattle.s66_model.specs.Timing.{Problem};
 ghost use Rattle.s66_model.specs.LegalOrder.{IsBeginning};
 ghost use Rattle.s66_model.specs.Tree.{Tree};
 ghost use Rattle.s66_model.specs.Piece.{Terminal};
-ghost use Rattle.s66_model.specs.Expansion.{IsExpansion, whole_orders};
+ghost use Rattle.s66_machine.specs.Expansion.{IsExpansion, whole_orders};
 ghost use Rattle.s66_node.specs.Pieces.{tree_of, IsBestTimed};
 ghost use Rattle.s66_node.specs.Walking.{IsLeast};
 
@@ -129,7 +129,7 @@ impl Walk<'_> {
     ghost use Rattle.std.specs.Prelude.{◌≡◌, ◌≤◌, [], IfOk};
     ghost use Rattle.s66_model.specs.declared.rule.Rule.TheVariants.{NoneNamed, WrittenEarlier};
     ghost use Rattle.s66_model.specs.LegalOrder.{IsBeginning};
-    ghost use Rattle.s66_model.specs.Expansion.{IsExpansion};
+    ghost use Rattle.s66_machine.specs.Expansion.{IsExpansion};
     ghost use Rattle.s66_node.specs.Pieces.{tree_of, IsBestTimed};
 
     /// Goes to a prefix and expands it, as `expand` does; the tables of the block are there already. On `Err` the walk is at some

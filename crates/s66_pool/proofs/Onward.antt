@@ -1,6 +1,6 @@
 -- A search that goes on, call by call of its ledger.
 use Rattle.std.proofs.Common.{◌≡◌, Bor, Option, None, Some, Result, Ok, Err, IfSome, IfOk, ◌∙◌, arith}
-use Rattle.s66_model.specs.Coverage.{IsFinished}
+use Rattle.s66_machine.specs.Coverage.{IsFinished}
 use Rattle.s66_time.specs.TimedOrder.{TimedOrder}
 use Rattle.s66_ledger.specs.Answers.{AnswerOf, answer_of}
 use Rattle.s66_ledger.specs.Ledgers.{LedgerOf}

@@ -1,4 +1,4 @@
-use s66_model::Ticket;
+use s66_machine::Ticket;
 use s66_share::{Lane, Pass, Thief};
 use std::marker::Model;
 

@@ -1,5 +1,5 @@
 use crate::lanes::protocol::Hand;
-use s66_model::Ticket;
+use s66_machine::Ticket;
 use std::marker::Model;
 
 /// A thief's place at a lane, with which it steals. If it is dropped, it stays out.

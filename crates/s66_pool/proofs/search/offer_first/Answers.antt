@@ -1,6 +1,6 @@
 use Rattle.std.proofs.Common.{◌≡◌, ◌∙◌, ◌≤◌, IfSome, sym, subst}
 use Rattle.s66_model.specs.Timing.{total_of}
-use Rattle.s66_model.specs.Ledger.{best_time}
+use Rattle.s66_machine.specs.Ledger.{best_time}
 use Rattle.s66_time.specs.TimedOrder.{TimedOrder}
 use Rattle.s66_pool.specs.Workers.{HasTaken}
 use Rattle.s66_pool.proofs.search.offer_first.Goals as goal

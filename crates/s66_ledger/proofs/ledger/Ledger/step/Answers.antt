@@ -1,6 +1,6 @@
 use Rattle.std.proofs.Common.{refl, sym, subst}
 use Rattle.std.proofs.lemmas.Result.{IfOk-weaker}
-use Rattle.s66_model.specs.Ledger as model
+use Rattle.s66_machine.specs.Ledger as model
 use Rattle.s66_ledger.specs.declared.step.Event.{Event}
 use Rattle.s66_ledger.specs.Ledgers.{IsEvent}
 use Rattle.s66_ledger.specs.Steps.{reply_of, IsEventOf}

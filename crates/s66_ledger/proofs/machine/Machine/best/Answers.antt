@@ -1,7 +1,7 @@
 use Rattle.std.proofs.Common.{length, subst}
-use Rattle.s66_model.specs.Coverage.{Covers}
-use Rattle.s66_model.specs.NodeTable.{IsTable}
-use Rattle.s66_model.proofs.Histories.{reached-covers, reached-table}
+use Rattle.s66_machine.specs.Coverage.{Covers}
+use Rattle.s66_machine.specs.NodeTable.{IsTable}
+use Rattle.s66_machine.proofs.Histories.{reached-covers, reached-table}
 use Rattle.s66_ledger.specs.LedgerMachine.{MachineOf}
 use Rattle.s66_ledger.proofs.machine.Machine.best.Goals as goal
 

@@ -2,10 +2,10 @@ use Rattle.std.proofs.Common.{◌∙◌, ◌∷◌, ap, sym, subst, length}
 use Rattle.s66_isa.specs.Lists.{least}
 use Rattle.s66_model.specs.Timing.{total_of}
 use Rattle.s66_model.specs.BestAndBound.{IsBound}
-use Rattle.s66_model.specs.NodeTable.{IsTable}
-use Rattle.s66_model.proofs.Histories.{reached-table}
-use Rattle.s66_model.specs.Coverage.{Covers, bound_of}
-use Rattle.s66_model.proofs.EndedLedgers.{covers-bound}
+use Rattle.s66_machine.specs.NodeTable.{IsTable}
+use Rattle.s66_machine.proofs.Histories.{reached-table}
+use Rattle.s66_machine.specs.Coverage.{Covers, bound_of}
+use Rattle.s66_machine.proofs.EndedLedgers.{covers-bound}
 use Rattle.s66_ledger.specs.LiveNodes.{live_values}
 use Rattle.s66_ledger.specs.LedgerMachine.{MachineOf}
 use Rattle.s66_ledger.proofs.Stored.{stored_of}

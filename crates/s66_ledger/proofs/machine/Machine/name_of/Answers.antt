@@ -2,8 +2,8 @@ use Rattle.std.proofs.Common.{ℕ, List, ◌≡◌, ◌≢◌, ◌<◌, ◌∙�
 use Rattle.s66_isa.proofs.Lists.{cases_le}
 use Rattle.s66_model.specs.Timing.{Problem}
 use Rattle.s66_model.specs.DominatedLeaves.{Dominated}
-use Rattle.s66_model.specs.Ledger as model
-use Rattle.s66_model.specs.Ledger.{Cut, Closed}
+use Rattle.s66_machine.specs.Ledger as model
+use Rattle.s66_machine.specs.Ledger.{Cut, Closed}
 use Rattle.s66_node.specs.declared.node.Node.{Node}
 use Rattle.s66_node.specs.declared.node.State.TheVariants as state
 use Rattle.s66_ledger.specs.LedgerMachine.{MachineOf}

@@ -1,6 +1,6 @@
 use Rattle.std.proofs.Common.{◌∙◌, ap, sym}
 use Rattle.s66_isa.specs.Lists.{tally}
-use Rattle.s66_model.specs.Ledger.{is_open}
+use Rattle.s66_machine.specs.Ledger.{is_open}
 use Rattle.s66_ledger.specs.LedgerMachine.{MachineOf}
 use Rattle.s66_ledger.proofs.Stored.{stored_of}
 use Rattle.s66_ledger.proofs.SeenNodes.{open-nodes}

@@ -1,0 +1,12 @@
+pub mod Accounts
+pub mod Expansion
+pub mod Ledger
+pub mod Coverage
+pub mod NodeTable
+pub mod NodeTree
+pub mod Ended
+pub mod Tickets
+pub mod Reached
+pub mod Recorded
+pub mod TreeLines
+pub mod Examples

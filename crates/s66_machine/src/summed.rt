@@ -1,0 +1,12 @@
+use std::boxed::Box;
+
+/// A value with a summary, which is all that the rule of a lock reads of it.
+pub trait Summed {
+    ghost use Rattle.s66_machine.specs.Accounts.{Summary};
+
+    ghost summary: { Self → Summary };
+}
+
+impl<T: Summed> Summed for Box<T> {
+    ghost summary = { λ b. T.summary b.value };
+}
