@@ -74,7 +74,7 @@ LOOK = """(() => {
     whole: [...document.querySelectorAll('pre')].every(e => e.scrollHeight <= e.clientHeight + 1 && e.scrollWidth <= e.clientWidth + 1),
     right: Math.max(0, ...[...document.querySelectorAll('h2, h3, pre, rect, tspan')].map(e => place(e)[2])),
     orders: [...document.querySelectorAll('table.order')].map(order),
-    why: [...document.querySelectorAll('pre')].map(e => e.textContent),
+    why: [...document.querySelectorAll('pre:not([style])')].map(e => e.textContent),
     height: document.documentElement.scrollHeight,
   };
 })()"""
