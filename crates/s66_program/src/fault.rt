@@ -6,8 +6,8 @@ ghost use Rattle.s66_program.specs.Fault.{document_fault, new_refusal_line, new_
 use arrayvec::ArrayString;
 use itoa::Buffer;
 use s66_cert::CertError;
-use s66_device::{FAULT_ROOM, short_text};
 use s66_command::ProfileError;
+use s66_device::{FAULT_ROOM, short_text};
 use s66_source::SourceError;
 use std::alloc::{AllocError, AllocFailed};
 use std::{error, fmt};

@@ -9,9 +9,8 @@ ghost use Rattle.s66_program.specs.Remarks.{IsTold, remark_text};
 use crate::fault::Fault;
 use crate::hint::way_out;
 use crate::remark::Ended;
-use s66_command::Usage;
+use s66_command::{Usage, profile_hint};
 use s66_device::{Sink, write_all};
-use s66_command::profile_hint;
 use std::alloc::{AllocError, Global};
 use std::io;
 
