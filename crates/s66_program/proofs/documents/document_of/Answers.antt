@@ -57,6 +57,7 @@ returns-clause-document c = document c
 pub returns-clause-yes : goal.returns-clause-yes
 returns-clause-yes c =
     let a = answer_of c.args.answer.now in
-    let spelled = (omega (arith, c.count.ensures.value, c.count.ensures.some), omega (arith, c.count.ensures.value, c.count.ensures.few), c.in_ok-texts_of.ensures.spelled) in
     subst (λ (d : Document). verdict d ≡ Yes a.time a.bound) (sym (document c))
-    (verdict-of_search c.args.answer.now.rule c.args.profile.now c.args.block.now c.args.answer.now.budget a spelled (omega (arith, c.splits.ensures.value, c.splits.ensures.few)) (is c.before))
+    (verdict-of_search c.args.answer.now.rule c.args.profile.now c.args.block.now c.args.answer.now.budget a
+    (omega (arith, c.count.ensures.value, c.count.ensures.some), omega (arith, c.count.ensures.value, c.count.ensures.few), c.in_ok-texts_of.ensures.spelled)
+    (omega (arith, c.splits.ensures.value, c.splits.ensures.few)) (is c.before))
