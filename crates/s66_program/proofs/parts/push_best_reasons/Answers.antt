@@ -14,7 +14,7 @@ returns-then-not-is_best c =
     sym (append-nil out) ∙ ap (λ b. out ++ (if b then reasons_text d else [])) (sym c.if-not-is_best.true ∙ c.is_best.ensures.value)
 
 pub push_reasons-requires : goal.push_reasons-requires
-push_reasons-requires c = c.in_ok-document.ensures.yes ∙ ap₂ Yes (sym c.time.ensures.value) (sym c.bound.ensures)
+push_reasons-requires c = c.in_ok-document.ensures.yes ∙ ap₂ Yes (sym c.time-time.ensures.value) (sym c.bound-bound.ensures)
 
 pub returns : goal.returns
 returns c =

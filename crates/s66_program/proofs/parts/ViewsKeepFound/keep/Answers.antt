@@ -10,9 +10,9 @@ pub returns : goal.returns
 returns c =
     let block = c.args.answer.block.now in
     let a = answer_in c.args.answer.found in
-    let order : c.duplicate.result ≡ record { block = instrs_of block; numbers = a.order } = c.duplicate.ensures ∙ c.order.ensures c.args.answer.strategy c.args.answer.profile.now block c.requires in
+    let order : c.duplicate-order.result ≡ record { block = instrs_of block; numbers = a.order } = c.duplicate-order.ensures ∙ c.order.ensures c.args.answer.strategy c.args.answer.profile.now block c.requires in
     let best = best_reasons c.args.answer.strategy.search.rule c.args.answer.profile.now block a in
     let reasons : c.push_best_reasons.new.out.items ≡ best = c.in_ok-push_best_reasons.ensures ∙ ap (λ xs. xs ++ best) c.new-reasons.ensures.items in
     let kept : Ordered → ℕ → List ℕ → List Found = λ o n xs. c.args.parts.now.items ++ record { order = o; bound = n; reasons = xs } ∷ [] in
-    c.in_ok-push.ensures.items ∙ ap₂ (λ (o : Ordered) (n : ℕ). kept o n c.push_best_reasons.new.out.items) order c.bound.ensures
+    c.in_ok-push.ensures.items ∙ ap₂ (λ (o : Ordered) (n : ℕ). kept o n c.push_best_reasons.new.out.items) order c.bound-bound.ensures
     ∙ ap (kept (record { block = instrs_of block; numbers = a.order }) a.bound) reasons
