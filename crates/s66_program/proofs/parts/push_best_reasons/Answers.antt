@@ -1,6 +1,5 @@
 use Rattle.std.proofs.Common.{ℕ, ◌≡◌, ◌∙◌, ◌++◌, if◌then◌else◌, List, [], OnOk, ap, ap₂, subst, sym}
 use Rattle.std.proofs.lemmas.List.{append-nil}
-use Rattle.s66_cert.specs.Document.{Document}
 use Rattle.s66_reasons.specs.Reasons.{reasons_text}
 use Rattle.s66_checker.specs.declared.verdict.Verdict.TheVariants.{Yes}
 use Rattle.s66_text.specs.Answers.{document_under}
