@@ -7,8 +7,9 @@ Pages are made of the sources of examples/, of random sources, of a long block, 
 text. Each is opened at a phone's width, at that of a desk and at a projector's, dark and light, and as it is printed on A4 and Letter,
 upright and across. It must have no error, no script and no request but for itself, no row or heading may lie over another, none may be
 hidden, and all that `why` says must be seen. Its bars must begin and end where `time --trace` and `why` say of the source order, and
-`time --trace` of what `order` prints and `why --order` of the best one, and its list must say what `sum` says. On paper nothing may
-stand past the sheet, nor may a bar on a screen once the page is to fit its width. Each wrong thing is told, and the last line counts
+`time --trace` of what `order` prints and `why --order` of the best one, and its list must say what `sum` says. Below the orders of a
+block whose best order is `BEST` must stand the sentences that `check --text` and `why --order` write of it. On paper nothing may stand
+past the sheet, nor may a bar on a screen once the page is to fit its width. Each wrong thing is told, and the last line counts
 the pages. The status is 1 if something is wrong.
 
 With FOLDER a picture of each page of an example is written there, for each width, dark and light, and its sheets as PDF. Chromium is
@@ -74,7 +75,8 @@ LOOK = """(() => {
     whole: [...document.querySelectorAll('pre')].every(e => e.scrollHeight <= e.clientHeight + 1 && e.scrollWidth <= e.clientWidth + 1),
     right: Math.max(0, ...[...document.querySelectorAll('h2, h3, pre, rect, tspan')].map(e => place(e)[2])),
     orders: [...document.querySelectorAll('table.order')].map(order),
-    why: [...document.querySelectorAll('pre')].map(e => e.textContent),
+    why: [...document.querySelectorAll('pre:not([style])')].map(e => e.textContent),
+    reasons: [...document.querySelectorAll('pre[style]')].map(e => e.textContent),
     height: document.documentElement.scrollHeight,
   };
 })()"""
@@ -194,15 +196,27 @@ def run(program, words, given):
     return done.stdout
 
 
-def by_blocks(text):
-    """The lines below each line of a block."""
+def by_blocks(text, head="BLOCK "):
+    """The lines below each line of a block, or below each that begins so."""
     blocks = []
     for line in text.decode().splitlines():
-        if line.startswith("BLOCK "):
+        if line.startswith(head):
             blocks.append([])
         else:
             blocks[-1].append(line)
     return blocks
+
+
+def waits_and_reasons(lines):
+    """What `why --order` says of an order, and the sentences below it."""
+    end = next(index for index, line in enumerate(lines) if line.startswith("LOST ")) + 1
+    return lines[:end], lines[end:]
+
+
+def reasons_of(program, given):
+    """Of each block whose order is best, the sentences that say why no order is faster."""
+    text = run(program, ["check", "--text"], run(program, ["prove", *SEARCH], given))
+    return [lines for lines in by_blocks(text, "DOCUMENT ") if lines[-1].endswith(" is best.")]
 
 
 def orders_of(program, given):
@@ -217,7 +231,7 @@ def orders_of(program, given):
              for text, words in ((given, ["why"]), (ordered, ["why", "--order", *SEARCH]))]
     for index, row in enumerate(rows):
         for time, (traces, whys) in zip((row[4], row[5]), texts[: 2 if int(row[5]) < int(row[4]) else 1]):
-            orders.append((whys is texts[0][1], int(time), [TRACE.fullmatch(line) for line in traces[index]], whys[index]))
+            orders.append((whys is texts[0][1], int(time), [TRACE.fullmatch(line) for line in traces[index]], waits_and_reasons(whys[index])[0]))
     listed = [[*row.groups()[:5], saved(row[4], row[5]), row[6]] for row in rows]
     count = str(sum(int(row[3]) for row in rows))
     return listed, ["TOTAL", "", count, total[1], total[2], saved(total[1], total[2]), total[3]], orders
@@ -288,7 +302,7 @@ def list_faults(shown, rows, total):
     return faults if shown["title"] == (names + ["s66"])[0] else faults + [f"title {shown['title']}, not {names[:1]}"]
 
 
-def faults_of(shown, events, path, rows, total, orders):
+def faults_of(shown, events, path, rows, total, orders, reasons):
     """What is wrong with a page that was opened."""
     faults = []
     asked = [event["params"]["request"]["url"] for event in events if event.get("method") == "Network.requestWillBeSent"]
@@ -309,6 +323,8 @@ def faults_of(shown, events, path, rows, total, orders):
         faults.append("a piece of the page lies over the next one")
     if [text.splitlines() for text in shown["why"]] != [why for *_, why in orders]:
         faults.append("below an order stands otherwise than why says")
+    if [text.splitlines() for text in shown["reasons"]] != reasons:
+        faults.append("below a block stands otherwise than check --text says")
     for number, (order, (_, time, trace, why)) in enumerate(zip(shown["orders"], orders), 1):
         faults += [f"order {number}: {fault}" for fault in order_faults(order, time, trace, why)]
         faults += [f"order {number}: row {row} lies over the next one" for row in overlaps([row["place"] for row in order["rows"]])]
@@ -360,30 +376,30 @@ def past(what, right, width):
     return [f"{what} end at {right:.0f} of {width} dots"] if right > width + 0.6 else []
 
 
-def sheet_faults(browser, path, rows, total, orders, folder):
+def sheet_faults(browser, path, rows, total, orders, reasons, folder):
     """What is wrong with a page on paper, which is written to this folder, if any."""
     faults = []
     for sheet, (wide, high) in SHEETS.items():
         width = int((wide - 2 * MARGIN) * DOTS)
         shown, events = browser.open(path, width, "light", "print")
-        found = faults_of(shown, events, path, rows, total, orders) + past("bars and words", shown["right"], width)
+        found = faults_of(shown, events, path, rows, total, orders, reasons) + past("bars and words", shown["right"], width)
         faults += [f"{sheet}: {fault}" for fault in found]
         if folder:
             browser.print(f"{folder}-{sheet}.pdf", (wide, high))
     return faults
 
 
-def screen_faults(browser, path, given, rows, total, orders, folder):
+def screen_faults(browser, path, given, rows, total, orders, reasons, folder):
     """What is wrong with a page on screens, of which pictures are written to this folder, if any."""
     faults = []
     for name, width in WIDTHS.items():
         for scheme in SCHEMES:
             shown, events = browser.open(path, width, scheme)
-            found = faults_of(shown, events, path, rows, total, orders) + text_faults(shown, orders, given)
+            found = faults_of(shown, events, path, rows, total, orders, reasons) + text_faults(shown, orders, given)
             if folder:
                 browser.picture(f"{folder}-{name}-{scheme}.png", width, shown["height"])
             fitted = browser.fitted()
-            found += faults_of(fitted, events, path, rows, total, orders)
+            found += faults_of(fitted, events, path, rows, total, orders, reasons)
             bars = [bar["place"][2] for order in fitted["orders"] for row in order["rows"] for bar in row["bars"]]
             found += past("bars that are to fit", max(bars, default=0), width)
             faults += [f"{name}, {scheme}: {fault}" for fault in found]
@@ -393,12 +409,16 @@ def screen_faults(browser, path, given, rows, total, orders, folder):
 def check_page(browser, program, name, given, pictures):
     """What is wrong with the page of a source, on screens and on paper. Pictures are written to this folder, if any."""
     rows, total, orders = orders_of(program, given)
+    reasons = reasons_of(program, given)
+    below = [waits_and_reasons(lines)[1] for lines in by_blocks(run(program, ["why", "--order", *SEARCH], given))]
+    if [lines for lines in below if lines] != reasons:
+        return [f"{name}, why --order says otherwise than check --text why no order is faster"]
     folder = os.path.join(pictures, name) if pictures else None
     with tempfile.NamedTemporaryFile(suffix=".html") as file:
         file.write(run(program, ["page", *SEARCH], given))
         file.flush()
-        faults = screen_faults(browser, file.name, given, rows, total, orders, folder)
-        faults += sheet_faults(browser, file.name, rows, total, orders, folder)
+        faults = screen_faults(browser, file.name, given, rows, total, orders, reasons, folder)
+        faults += sheet_faults(browser, file.name, rows, total, orders, reasons, folder)
     return [f"{name}, {fault}" for fault in faults]
 
 

@@ -22,6 +22,7 @@ from compare_certificates import Maker, run
 ROOT = os.path.dirname(os.path.dirname(os.path.abspath(__file__)))
 NAMES = {"LONGADD": "Long Add"}
 NAMES.update((unit, unit.title()) for unit in "BOOLEAN SHIFT ADD MULTIPLY DIVIDE INCREMENT".split())
+NO_WAY = -(10**9)
 VERDICT = re.compile(r"DOCUMENT \d+ (YES TIME (\d+) BOUND (\d+)|NO LINE \d+ REASON \d+)")
 
 
@@ -213,13 +214,61 @@ class Texts:
             must(self.known.add_fact(fact), f"not right: {sentence}")
 
     def path(self, numbers):
+        self.at_first = {n: set(before) for n, before in self.known.before.items()}
         self.facts()
         [n] = numbers
         number, sentence = self.row()
         must(number == 0 and self.number(read("(.*) can issue", sentence)[0]) == n, f"another instruction: {sentence}")
-        number, sentence = self.row()
-        must(sentence == "the end, by the longest path from there", f"not the end: {sentence}")
+        places, reached = {("issue", n)}, 0
+        while True:
+            number, sentence = self.row()
+            if sentence == "the end, by the longest path from there":
+                break
+            arcs = [(begin, end) for begin, end in self.arcs(sentence) if reached + self.way(places, begin, end) == number]
+            must(arcs, f"{number} isn't the sum: {sentence}")
+            places, reached = {end for _, end in arcs}, number
+        must(places == {END} and reached >= self.document.bound, f"{reached} doesn't reach the bound")
         must(number == self.document.bound <= self.known.next_value((), n), f"{number} isn't shown")
+
+    def way(self, places, begin, end):
+        """How long an arc takes, after the longest way to its begin from one of these moments of the same instruction, by what that
+        does alone; far less than nothing if there is no such way.
+        """
+        paths, moments = dict.fromkeys(places, 0), self.known.moments(begin[1]) if begin[1] in self.problem.block else ()
+        for moment in moments:
+            for later, wait in self.known.arcs[moment].items() if moment in paths else ():
+                if later in moments:
+                    paths[later] = max(paths[moment] + wait, paths.get(later, 0))
+        return paths.get(begin, NO_WAY) + self.known.arcs.get(begin, {}).get(end, NO_WAY)
+
+    def arcs(self, sentence):
+        """The arcs that a row may be of."""
+        found = re.fullmatch("(?:([0-9]+) (issue|start)s|the end), by ([0-9]+)[.]", sentence)
+        if found:
+            load, end = self.document.facts[int(found[3]) - 1], (found[2], int(found[1])) if found[1] else END
+            must(isinstance(load, Load) and load.end == end, f"another line: {sentence}")
+            return [(load.begin, end)]
+        sentence, pair = read(r"(.*?)(?: \(by ([0-9]+)[.]\))?", sentence)
+        arcs = self.table_arcs(sentence)
+        begin, end = arcs[0]
+        by_pair = end != END and begin[1] not in self.at_first[end[1]]
+        must(bool(pair) == by_pair and (not pair or isinstance(self.document.facts[int(pair) - 1], Pair)), f"by which line: {sentence}")
+        return arcs
+
+    def table_arcs(self, sentence):
+        for words, arc in (
+            ("(.*) can issue, ([12] parcels?) after (.*)", lambda n, p, m: [(("issue", m), ("issue", n))]),
+            ("the (?:.*) unit of (.*) is free, which (.*) needs", lambda m, n: [(("free", m), ("issue", n))]),
+            ("(.*) can reference memory, after (.*) has", lambda n, m: [(("start", m), ("start", n))]),
+            ("(.*) has read ([ABX][0-7]), so that of (.*) can be there", lambda m, x, n: [(("start", m), (x, n))]),
+            ("([ABX][0-7]) of (.*) is there, which (.*?) (?:reads|writes again)", lambda x, m, n: [((x, m), ("start", n)), ((x, m), ("issue", n))]),
+            ("([ABX][0-7]) of (.*) is there, and that is the end", lambda x, n: [((x, n), END)]),
+            ("the unit of (.*) is free, and that is the end", lambda n: [(("free", n), END)]),
+        ):
+            found = re.fullmatch(words, sentence)
+            if found:
+                return arc(*(self.number(part) if re.match("[0-9]+ [A-Z]{2}", part) else part for part in found.groups()))
+        must(False, f"no arc: {sentence}")
 
     def left(self, names):
         self.facts()

@@ -2,11 +2,15 @@
 use Rattle.std.proofs.Common.{ℕ, ◌^◌, ◌<◌, ◌≡◌, Bool, true, List, [], ◌∷◌, ◌++◌, arith, inl, inr, refl}
 use Rattle.s66_isa.specs.Lists.{Among, every, rising}
 use Rattle.s66_isa.proofs.Lists.{every-each, rising-among}
-use Rattle.s66_page.specs.Escape.{digits, escaped, escaped_byte, is_harmless, is_reference_or}
+use Rattle.s66_page.specs.Escape.{digits, escaped, escaped_byte, escaped_lines, escaped_or_newline, is_harmless, is_harmless_or_newline, is_reference_or}
 
 harmless-byte : (b : ℕ) → b < 2 ^ 8 → every is_harmless (escaped_byte b) ≡ true
 unfolding digits
 harmless-byte b lt = every-each (λ n. every is_harmless (escaped_byte n)) b (rising 256 0) refl (rising-among 256 0 b (omega arith) (omega arith))
+
+harmless-newline : (b : ℕ) → b < 2 ^ 8 → every is_harmless_or_newline (escaped_or_newline b) ≡ true
+unfolding digits
+harmless-newline b lt = every-each (λ n. every is_harmless_or_newline (escaped_or_newline n)) b (rising 256 0) refl (rising-among 256 0 b (omega arith) (omega arith))
 
 pub reference-byte : (b : ℕ) → b < 2 ^ 8 → is_reference_or b (escaped_byte b) ≡ true
 unfolding digits
@@ -22,3 +26,8 @@ pub harmless-text : (text : List ℕ) → ((b : ℕ) → Among b text → b < 2 
 harmless-text [] bytes = refl
 harmless-text (b ∷ text) bytes =
     every-both is_harmless (escaped_byte b) (escaped text) (harmless-byte b (bytes b (inl refl))) (harmless-text text (λ c among. bytes c (inr among)))
+
+pub harmless-lines : (text : List ℕ) → ((b : ℕ) → Among b text → b < 2 ^ 8) → every is_harmless_or_newline (escaped_lines text) ≡ true
+harmless-lines [] bytes = refl
+harmless-lines (b ∷ text) bytes =
+    every-both is_harmless_or_newline (escaped_or_newline b) (escaped_lines text) (harmless-newline b (bytes b (inl refl))) (harmless-lines text (λ c among. bytes c (inr among)))

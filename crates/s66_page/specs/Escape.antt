@@ -22,9 +22,19 @@ escaped_byte b =
 abbrev pub escaped : List ℕ → List ℕ
 escaped text = flat_map escaped_byte text
 
+-- of several lines: each ends as it did
+abbrev pub escaped_or_newline : ℕ → List ℕ
+escaped_or_newline b = if b == 10 then b ∷ [] else escaped_byte b
+
+abbrev pub escaped_lines : List ℕ → List ℕ
+escaped_lines text = flat_map escaped_or_newline text
+
 -- it is printed, and no bracket or quote
 abbrev pub is_harmless : ℕ → Bool
 is_harmless b = is_printed b && not (b == 60 || b == 62 || b == 34 || b == 39)
+
+abbrev pub is_harmless_or_newline : ℕ → Bool
+is_harmless_or_newline b = b == 10 || is_harmless b
 
 -- letters, digits and number signs up to a semicolon, which is the last
 abbrev pub ends_reference : List ℕ → Bool

@@ -3,10 +3,11 @@ use Rattle.std.specs.Prelude.{ℕ, ◌≡◌, List, [], ◌∷◌, ⊤}
 use Rattle.s66_dep.specs.Ordered.{Ordered}
 use Rattle.s66_line.specs.Block.{Block, instrs_of}
 
--- an order, and what every order takes at least
+-- an order, what every order takes at least, and sentences that say why no order is faster; none if they aren't shown
 pub record Found : Type 0 where
   pub order : Ordered
   pub bound : ℕ
+  pub reasons : List ℕ
 
 -- one for each block, with an order of it
 abbrev pub AreOf : List Block → List Found → Type 0

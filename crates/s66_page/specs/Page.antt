@@ -23,7 +23,7 @@ use Rattle.s66_page.specs.declared.page.Part.{Part}
 use Rattle.s66_page.specs.declared.page.Part.TheVariants.{Row, Orders}
 use Rattle.s66_page.specs.declared.start.TheConstants.{PAGE_START, PAGE_HEAD}
 use Rattle.s66_page.specs.Found.{Found}
-use Rattle.s66_page.specs.Escape.{escaped}
+use Rattle.s66_page.specs.Escape.{escaped, escaped_lines}
 
 -- Points are in order, the newest first, as in Timing: s are all points before p.
 
@@ -246,9 +246,18 @@ block_head label b = block_title label b ++ block_verdict b
 abbrev pub best_text : Block → (source best : TimedOrder) → List ℕ
 best_text block source best = if nat_lt (cycles_of best) (cycles_of source) then order_text block (codes "In the best order found") best else []
 
-unfoldable pub block_text : ℕ → Block → (source best : TimedOrder) (bound : ℕ) → List ℕ
-block_text n block source best bound =
+-- lines below each other
+unfoldable pub listing : List ℕ → List ℕ
+listing text = codes "<pre style='columns:auto'>" ++ escaped_lines text ++ codes "</pre>\n"
+
+-- why no order is faster, if that is said
+abbrev pub reasons_below : (reasons : List ℕ) → List ℕ
+reasons_below reasons = if length reasons == 0 then [] else listing reasons
+
+unfoldable pub block_text : ℕ → Block → (source best : TimedOrder) (bound : ℕ) (reasons : List ℕ) → List ℕ
+block_text n block source best bound reasons =
     block_head block.label (summary n block source best bound) ++ order_text block (codes "As it is written") source ++ best_text block source best
+    ++ reasons_below reasons
 
 -- THE LIST OF BLOCKS
 
@@ -300,7 +309,7 @@ unfoldable pub index_entry : Profile → ℕ → Block → Found → List ℕ
 index_entry p n block f = index_row block.label (summary n block (as_written p block) (as_found p block f) f.bound)
 
 unfoldable pub block_entry : Profile → ℕ → Block → Found → List ℕ
-block_entry p n block f = block_text n block (as_written p block) (as_found p block f) f.bound
+block_entry p n block f = block_text n block (as_written p block) (as_found p block f) f.bound f.reasons
 
 abbrev pub entry : Part → Profile → ℕ → Block → Found → List ℕ
 entry Row p n block f = index_entry p n block f

@@ -1,8 +1,8 @@
 ghost use Rattle.std.specs.Prelude.{◌≡◌, ◌<◌, ◌^◌, ◌++◌, OnOk};
 ghost use Rattle.s66_line.specs.Block.{instrs_of};
-ghost use Rattle.s66_page.specs.Page.{best_cell, best_text, block_anchor, block_head, block_place, block_text, block_times, block_title, block_verdict, bound_cell, bound_text, cell, index_link, index_row, label_cell, summary, time_cells, total_row};
+ghost use Rattle.s66_page.specs.Page.{best_cell, best_text, block_anchor, block_head, block_place, block_text, block_times, block_title, block_verdict, bound_cell, bound_text, cell, index_link, index_row, label_cell, listing, reasons_below, summary, time_cells, total_row};
 
-use crate::escape::push_escaped;
+use crate::escape::{push_escaped, push_escaped_lines};
 use crate::order::push_order;
 use crate::summary::{Summary, Total};
 use crate::text::{push_between, push_text, push_two};
@@ -124,8 +124,29 @@ fn push_best(
     }
 }
 
-/// Appends a block, whose number is from 1: its heading, its source order, and the best order found if that takes less. No order
-/// takes less than the bound. It takes time quadratic in the length of the block, which is at most `BLOCK_LIMIT`, and allocates
+/// Lines below each other.
+#[tactic(auto, unfolding(crate::specs::Page::listing))]
+fn push_listing(out: &mut Vec<u8>, text: &[u8]) -> Result<(), AllocError>
+    ensures { OnOk result (out.new.items ≡ out.old.items ++ listing text.now) }
+{
+    push_text(out, b"<pre style='columns:auto'>")?;
+    push_escaped_lines(out, text)?;
+    push_text(out, b"</pre>\n")
+}
+
+/// Sentences that say why no order is faster, if there are some.
+fn push_reasons_below(out: &mut Vec<u8>, reasons: &[u8]) -> Result<(), AllocError>
+    ensures { OnOk result (out.new.items ≡ out.old.items ++ reasons_below reasons.now) }
+{
+    if reasons.is_empty() {
+        Ok(())
+    } else {
+        push_listing(out, reasons)
+    }
+}
+
+/// Appends a block, whose number is from 1: its heading, its source order, the best order found if that takes less, and the sentences
+/// that say why no order is faster, if there are some. No order takes less than the bound. It takes time quadratic in the length of the block, which is at most `BLOCK_LIMIT`, and allocates
 /// nothing but room in `out`. `Err` is out of memory.
 #[tactic(auto, unfolding(crate::specs::Page::block_text))]
 pub fn push_block(
@@ -135,15 +156,17 @@ pub fn push_block(
     source: &Timed,
     best: &Timed,
     bound: u32,
+    reasons: &[u8],
 ) -> Result<(), AllocError>
     requires source { source.now.problem.block ≡ instrs_of block.now }
     requires best { best.now.problem.block ≡ instrs_of block.now }
-    ensures { OnOk result (out.new.items ≡ out.old.items ++ block_text number block.now source.now best.now bound) }
+    ensures { OnOk result (out.new.items ≡ out.old.items ++ block_text number block.now source.now best.now bound reasons.now) }
 {
     let summary = summary_of(number, block, source, best, bound);
     push_block_head(out, block.label(), &summary)?;
     push_order(out, block, b"As it is written", source)?;
-    push_best(out, block, source, best)
+    push_best(out, block, source, best)?;
+    push_reasons_below(out, reasons)
 }
 
 /// The link to a block.

@@ -1,5 +1,5 @@
 ghost use Rattle.std.specs.Prelude.{◌≡◌, ◌++◌, OnOk, codes, decimal, if◌then◌else◌, nat_le};
-ghost use Rattle.s66_page.specs.Escape.{is_printed, escaped_byte, escaped};
+ghost use Rattle.s66_page.specs.Escape.{is_printed, escaped_byte, escaped, escaped_lines, escaped_or_newline};
 
 use s66_device::push_field;
 use std::alloc::AllocError;
@@ -52,6 +52,27 @@ pub fn push_escaped(out: &mut Vec<u8>, text: &[u8]) -> Result<(), AllocError>
 {
     for byte in text {
         push_byte(out, *byte)?;
+    }
+    Ok(())
+}
+
+/// A byte of a text of several lines, or what stands for it.
+fn push_byte_or_newline(out: &mut Vec<u8>, byte: u8) -> Result<(), AllocError>
+    ensures { OnOk result (out.new.items ≡ out.old.items ++ escaped_or_newline byte) }
+{
+    if byte == b'\n' {
+        out.extend_from_slice(b"\n")
+    } else {
+        push_byte(out, byte)
+    }
+}
+
+/// Appends a text of several lines in the same way; each ends as it did. `Err` is out of memory.
+pub fn push_escaped_lines(out: &mut Vec<u8>, text: &[u8]) -> Result<(), AllocError>
+    ensures { OnOk result (out.new.items ≡ out.old.items ++ escaped_lines text.now) }
+{
+    for byte in text {
+        push_byte_or_newline(out, *byte)?;
     }
     Ok(())
 }

@@ -8,9 +8,9 @@ ghost use Rattle.s66_page.specs.Examples.{in_order, labelled, one_boolean, third
 ghost use Rattle.s66_page.specs.Page.{all_kind_rows, block_text, index_row, instruction_rows, page_title, total_of_all, works};
 
 /// A block of one instruction, whose unit is taken for four minor cycles and works for three; its label and its remark are escaped.
-#[tactic(auto, unfolding(s66_isa::specs::Table::row, s66_model::specs::Timing::issue_of, s66_model::specs::Timing::start_of, s66_model::specs::Timing::point, crate::specs::Escape::digits, crate::specs::Page::span, crate::specs::Page::bar_start, crate::specs::Page::stretch_title, crate::specs::Page::stretch_bar, crate::specs::Page::stretch_words, crate::specs::Page::work_title, crate::specs::Page::work_bar, crate::specs::Page::row_head, crate::specs::Page::row_words, crate::specs::Page::row_marks, crate::specs::Page::numbered_bar, crate::specs::Page::unit_number, crate::specs::Page::unit_bars, crate::specs::Page::unit_shares, crate::specs::Page::unit_head, crate::specs::Page::unit_row, crate::specs::Page::kind_rows, crate::specs::Page::all_kind_rows, crate::specs::Page::tick, crate::specs::Page::heading, crate::specs::Page::heading_end, crate::specs::Page::table_start, crate::specs::Page::order_head, crate::specs::Page::why_below, crate::specs::Page::order_text, crate::specs::Page::bound_text, crate::specs::Page::block_place, crate::specs::Page::block_times, crate::specs::Page::block_anchor, crate::specs::Page::block_title, crate::specs::Page::block_verdict, crate::specs::Page::block_head, crate::specs::Page::block_text))]
+#[tactic(auto, unfolding(s66_isa::specs::Table::row, s66_model::specs::Timing::issue_of, s66_model::specs::Timing::start_of, s66_model::specs::Timing::point, crate::specs::Escape::digits, crate::specs::Page::span, crate::specs::Page::bar_start, crate::specs::Page::stretch_title, crate::specs::Page::stretch_bar, crate::specs::Page::stretch_words, crate::specs::Page::work_title, crate::specs::Page::work_bar, crate::specs::Page::row_head, crate::specs::Page::row_words, crate::specs::Page::row_marks, crate::specs::Page::numbered_bar, crate::specs::Page::unit_number, crate::specs::Page::unit_bars, crate::specs::Page::unit_shares, crate::specs::Page::unit_head, crate::specs::Page::unit_row, crate::specs::Page::kind_rows, crate::specs::Page::all_kind_rows, crate::specs::Page::tick, crate::specs::Page::heading, crate::specs::Page::heading_end, crate::specs::Page::table_start, crate::specs::Page::order_head, crate::specs::Page::why_below, crate::specs::Page::order_text, crate::specs::Page::bound_text, crate::specs::Page::block_place, crate::specs::Page::block_times, crate::specs::Page::block_anchor, crate::specs::Page::block_title, crate::specs::Page::block_verdict, crate::specs::Page::block_head, crate::specs::Page::listing, crate::specs::Page::block_text))]
 pub fn block_example()
-    ensures { block_text 1 labelled (in_order one_boolean (1 ∷ [])) (in_order one_boolean (1 ∷ [])) 4 ≡
+    ensures { block_text 1 labelled (in_order one_boolean (1 ∷ [])) (in_order one_boolean (1 ∷ [])) 4 (codes "X1 < X2\n") ≡
         codes "<h2 id='b1'>A&amp;B BLOCK 1 LINE 1 COUNT 1 SOURCE 4 TIME 4 BEST <a href='#top'>&#8593;</a></h2>\n" ++
         codes "<h3>As it is written: 4 minor cycles</h3>\n" ++
         codes "<table class='order' style='--n:4'>\n" ++
@@ -22,6 +22,8 @@ pub fn block_example()
         codes "<pre>PATH 1\n" ++
         codes "STEPS 4 TIME 4\n" ++
         codes "LOST FIRST 0 SECOND 0 THIRD 0\n" ++
+        codes "</pre>\n" ++
+        codes "<pre style='columns:auto'>X1 &lt; X2\n" ++
         codes "</pre>\n" }
 {}
 

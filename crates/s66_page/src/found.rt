@@ -1,11 +1,13 @@
 use s66_dep::Order;
 use std::marker::Model;
 
-/// What was found for a block: an order, and what every order takes at least, in minor cycles of 100 ns.
+/// What was found for a block: an order, what every order takes at least, in minor cycles of 100 ns, and sentences that say why no
+/// order is faster; none if they aren't shown.
 #[derive(Drop)]
 pub struct Found {
     pub order: Order,
     pub bound: u32,
+    pub reasons: Vec<u8>,
 }
 
 impl Model for Found {
@@ -13,5 +15,5 @@ impl Model for Found {
 
     ghost Value = { Found };
 
-    ghost view = { λ f. record { order = f.order; bound = f.bound } };
+    ghost view = { λ f. record { order = f.order; bound = f.bound; reasons = f.reasons.items } };
 }

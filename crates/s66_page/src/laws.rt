@@ -4,7 +4,7 @@ ghost use Rattle.s66_isa.specs.Table.{latency_of};
 ghost use Rattle.s66_line.specs.Block.{Block as BlockOf};
 ghost use Rattle.s66_model.specs.Timing.{Point as PointOf, points_of};
 ghost use Rattle.s66_time.specs.TimedOrder.{TimedOrder, point_at};
-ghost use Rattle.s66_page.specs.Escape.{escaped_byte, escaped, is_harmless, is_reference_or};
+ghost use Rattle.s66_page.specs.Escape.{escaped_byte, escaped, escaped_lines, is_harmless, is_harmless_or_newline, is_reference_or};
 ghost use Rattle.s66_page.specs.Page.{instruction_row, on_path, order_text};
 ghost use Rattle.s66_page.specs.Rows.{Holds, place_of_bar, title_of_times};
 ghost use Rattle.s66_page.specs.Still.{is_still};
@@ -13,9 +13,10 @@ ghost use Rattle.s66_why.specs.Why.{stretches_at};
 ghost use Rattle.s66_why.specs.declared.stretch.Stretch.{Stretch as StretchOf};
 
 /// A source can't break out of its text. Whatever its bytes are, an escaped text has printed bytes of ASCII and tabs alone, and no
-/// bracket or quote, so that no element or attribute begins or ends in it. Each byte is itself, or a reference to one character.
+/// bracket or quote, so that no element or attribute begins or ends in it; of several lines, newlines too. Each byte is itself, or a reference to one character.
 pub fn escape_law()
     ensures harmless { (text : List ℕ) → ((b : ℕ) → Among b text → b < 2 ^ 8) → every is_harmless (escaped text) ≡ true }
+    ensures lines { (text : List ℕ) → ((b : ℕ) → Among b text → b < 2 ^ 8) → every is_harmless_or_newline (escaped_lines text) ≡ true }
     ensures references { (b : ℕ) → b < 2 ^ 8 → is_reference_or b (escaped_byte b) ≡ true }
 {}
 

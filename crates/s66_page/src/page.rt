@@ -42,7 +42,10 @@ fn push_entry(
     let best = timer.time(block, &found.order);
     match part {
         Part::Row => push_index_row(out, number, block, &source, &best, found.bound),
-        Part::Orders => push_block(out, number, block, &source, &best, found.bound),
+        Part::Orders => {
+            let reasons = found.reasons.as_slice();
+            push_block(out, number, block, &source, &best, found.bound, reasons)
+        }
     }
 }
 
@@ -173,7 +176,7 @@ fn push_index(
 }
 
 /// Appends a page that shows blocks of a source, before which `before` blocks come, under the timer's profile: each in its source
-/// order, and in the order that was found for it if that takes less. Above them is a list of all with a total, which links to each. The page is
+/// order, in the order that was found for it if that takes less, and with the sentences that say why no order is faster. Above them is a list of all with a total, which links to each. The page is
 /// a file that stands alone: no script, and nothing to be fetched. It takes time and room linear in the number of blocks and
 /// quadratic in the length of each, which is at most `BLOCK_LIMIT`, and allocates nothing but room in `out`. `Err` is out of
 /// memory.

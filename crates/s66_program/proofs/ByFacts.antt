@@ -60,6 +60,7 @@ module _ (strategy : Strategy) (p : Profile) (block : Block) (c : Candidate) (l 
           },
         );
         document = same-document;
+        accepted = shown.accepted;
         order = shown.order ∙ whole ∙ ap (λ (d : Parts). record { block = instrs_of block; numbers = d.numbers }) back;
         source = shown.source ∙ is.source;
       }

@@ -14,6 +14,7 @@ use Rattle.s66_text.specs.declared.outcome.Status.{Status}
 use Rattle.s66_text.specs.OfAnswers.{IsOfAnswers, all_best, all_parts}
 use Rattle.s66_text.specs.PageText.{found_by}
 use Rattle.s66_text.specs.Shown.{before}
+use Rattle.s66_text.specs.WhyText.{answer_lines}
 use Rattle.s66_program.specs.declared.kept.Kept.{Kept}
 
 -- PARTS of an answer to the n-th block, from 1
@@ -21,8 +22,11 @@ use Rattle.s66_program.specs.declared.kept.Kept.{Kept}
 abbrev pub document_part : Strategy → Profile → ℕ → Block → Answer → List ℕ
 document_part strategy p n block a = document_text (document_under strategy.search.rule p block a)
 
-abbrev pub found_part : ℕ → Block → Answer → List Found
-found_part n block a = found_by block a ∷ []
+abbrev pub found_part : Strategy → Profile → ℕ → Block → Answer → List Found
+found_part strategy p n block a = found_by strategy.search.rule p block a ∷ []
+
+abbrev pub waits_part : (texts : Bool) → Strategy → Profile → ℕ → Block → Answer → List ℕ
+waits_part texts strategy = answer_lines texts strategy.search.rule
 
 abbrev pub placed_part : Bool → Profile → ℕ → Block → Answer → List Placed
 placed_part trace p n block a = placed_by p trace block a ∷ []

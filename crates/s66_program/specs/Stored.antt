@@ -81,10 +81,11 @@ pub record IsShownBy (p : Profile) (block : Block) (c : Candidate) (l : Shows) (
   pub source : s.source ≡ c.source
   pub splits : s.splits ≡ c.splits
 
--- an answer to the block, with its document and its order
+-- an answer to the block, with its document, which passes the checker, and its order
 pub record IsClaimed (strategy : Strategy) (p : Profile) (block : Block) (s : ByFacts) : Type 0 where
   pub answer : IsAnswer strategy p block (claimed s)
   pub document : document_of s.document ≡ document_under strategy.search.rule p block (claimed s)
+  pub accepted : IsAccepted s.document
   pub order : s.order ≡ record { block = instrs_of block; numbers = s.document.numbers }
   pub source : s.source ≡ source_time (problem_of p block)
 

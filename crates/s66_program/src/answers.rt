@@ -71,6 +71,8 @@ impl Found {
     ghost use Rattle.s66_line.specs.Block.{instrs_of, Block as BlockOf};
     ghost use Rattle.s66_model.specs.Answer.{source_time};
     ghost use Rattle.s66_cert.specs.DocumentParts.{document_of};
+    ghost use Rattle.s66_checker.specs.Verdict.{verdict};
+    ghost use Rattle.s66_checker.specs.declared.verdict.Verdict.TheVariants.{Yes};
     ghost use Rattle.s66_command.specs.declared.strategy.Strategy.{Strategy as StrategyOf};
     ghost use Rattle.s66_text.specs.Answers.{IsAnswer, document_under, problem_of};
     ghost use Rattle.s66_program.specs.Stored.{IsFor, answer_in};
@@ -134,7 +136,7 @@ impl Found {
         self.bound() == self.time()
     }
 
-    /// The document of an answer to this block under this profile. `Err` is out of memory.
+    /// The document of an answer to this block under this profile, on which the verdict is yes. `Err` is out of memory.
     pub fn into_document(
         self,
         alloc: Global,
@@ -143,7 +145,8 @@ impl Found {
         strategy: Strategy,
     ) -> Result<Document, AllocError>
         requires { IsFor strategy profile.now block.now self }
-        ensures { IfOk result (λ document. document_of document ≡ document_under strategy.search.rule profile.now block.now (answer_in self)) }
+        ensures document { IfOk result (λ document. document_of document ≡ document_under strategy.search.rule profile.now block.now (answer_in self)) }
+        ensures yes { IfOk result (λ document. verdict (document_of document) ≡ Yes (answer_in self).time (answer_in self).bound) }
     {
         match self {
             Found::Searched(found) => document_of(alloc, block, profile, &found.answer),

@@ -5,6 +5,8 @@ ghost use Rattle.s66_ledger.specs.Answers.{answer_of};
 ghost use Rattle.s66_model.specs.declared.rule.Rule.TheVariants.{NoneNamed};
 ghost use Rattle.s66_tree.specs.Lines.{has_dominated_line};
 ghost use Rattle.s66_cert.specs.DocumentParts.{document_of};
+ghost use Rattle.s66_checker.specs.Verdict.{verdict};
+ghost use Rattle.s66_checker.specs.declared.verdict.Verdict.TheVariants.{Yes};
 ghost use Rattle.s66_text.specs.Answers.{document_under, searched};
 ghost use Rattle.s66_program.specs.Stored.{IsAccepted, IsFit, parts_by};
 
@@ -30,8 +32,8 @@ fn rule_of(rule: Rule, tree: &Tree) -> Rule
     }
 }
 
-/// The document of an answer to this block under this profile: what it claims, and the tree that shows its bound. `Err` is out of
-/// memory.
+/// The document of an answer to this block under this profile: what it claims, and the tree that shows its bound. The verdict on it is
+/// yes. `Err` is out of memory.
 pub fn document_of(
     alloc: Global,
     block: &Block,
@@ -39,7 +41,8 @@ pub fn document_of(
     answer: &Answer,
 ) -> Result<Document, AllocError>
     requires { answer.now.problem ≡ record { block = instrs_of block.now; profile = profile.now } }
-    ensures { IfOk result (λ document. document_of document ≡ document_under answer.now.rule profile.now block.now (searched (answer_of answer.now))) }
+    ensures document { IfOk result (λ document. document_of document ≡ document_under answer.now.rule profile.now block.now (searched (answer_of answer.now))) }
+    ensures yes { IfOk result (λ document. verdict (document_of document) ≡ Yes (answer_of answer.now).time (answer_of answer.now).bound) }
 {
     let Ok(order) = ArrayVec::try_from(answer.order().numbers()) else {
         unreachable!()

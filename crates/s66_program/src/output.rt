@@ -64,7 +64,10 @@ fn waits_output<R: AllocGlobal + Threads + Wait + Sync, O: Observer>(
     match order {
         None => listing_output(rt.alloc(), profile, &Listing::Why { text }, only, source),
         Some(strategy) => {
-            let waits = Waits { text };
+            let waits = Waits {
+                alloc: rt.alloc(),
+                text,
+            };
             text_of_answers(rt, &waits, source, only, profile, strategy, observer)
         }
     }

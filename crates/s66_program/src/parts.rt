@@ -1,20 +1,21 @@
 //! What is kept of an answer to a block, by what is printed of it.
 
-ghost use Rattle.std.specs.Prelude.{◌≡◌};
+ghost use Rattle.std.specs.Prelude.{◌≡◌, ◌++◌, OnOk};
 ghost use Rattle.s66_isa.specs.declared.profile.Profile.{Profile as ProfileOf};
 ghost use Rattle.s66_line.specs.Block.{Block as BlockOf};
 ghost use Rattle.s66_command.specs.declared.strategy.Strategy.{Strategy as StrategyOf};
+ghost use Rattle.s66_text.specs.BestReasons.{best_reasons};
 ghost use Rattle.s66_text.specs.JsonText.{answer_line};
 ghost use Rattle.s66_text.specs.KeptText.{given_by};
 ghost use Rattle.s66_text.specs.OrderText.{placed_by};
-ghost use Rattle.s66_text.specs.WhyText.{answer_lines};
-ghost use Rattle.s66_program.specs.Kept.{document_part, found_part, given_part, placed_part};
+ghost use Rattle.s66_program.specs.Kept.{document_part, found_part, given_part, placed_part, waits_part};
 ghost use Rattle.s66_program.specs.Stored.{IsFor, answer_in};
 
 use crate::answers;
 use crate::kept::{BlockAnswer, Keep};
 use arrayvec::ArrayVec;
 use s66_page::Found;
+use s66_reasons::push_reasons;
 use s66_source::Placed;
 use s66_text::{keeps_order, push_document, push_json_found, push_waits};
 use s66_time::Timer;
@@ -46,6 +47,31 @@ fn given(answer: &answers::Found, trace: bool, keep: bool) -> Option<Placed>
     } else {
         Some(placed)
     }
+}
+
+/// Appends the sentences that say why no order of a block is faster, if that of an answer is best; else nothing.
+fn push_best_reasons(
+    alloc: Global,
+    out: &mut Vec<u8>,
+    answer: BlockAnswer,
+) -> Result<(), AllocError>
+    requires { IsFor answer.strategy answer.profile.now answer.block.now answer.found }
+    ensures { OnOk result (out.new.items ≡ out.old.items ++ best_reasons answer.entry.strategy.search.rule answer.entry.profile.now answer.entry.block.now (answer_in answer.entry.found)) }
+{
+    let BlockAnswer {
+        block,
+        profile,
+        strategy,
+        found,
+        ..
+    } = answer;
+    if !found.is_best() {
+        return Ok(());
+    }
+    let time = found.time();
+    let bound = found.bound();
+    let document = found.into_document(alloc, block, profile, strategy)?;
+    push_reasons(out, &document, time, bound)
 }
 
 /// How blocks are to be printed.
@@ -81,15 +107,26 @@ impl Keep<Option<Placed>> for Givings {
 
 /// What a page shows of blocks beside their source orders.
 #[derive(Drop)]
-pub(crate) struct Views;
+pub(crate) struct Views {
+    pub alloc: Global,
+}
 
 impl Keep<Found> for Views {
-    ghost part = { λ _ strategy p. found_part };
+    ghost part = { λ _. found_part };
+
+    fn prints_documents(&self) -> bool {
+        true
+    }
 
     fn keep(&self, parts: &mut Vec<Found>, answer: BlockAnswer) -> Result<(), AllocError> {
+        let order = answer.found.order().duplicate();
+        let bound = answer.found.bound();
+        let mut reasons = Vec::new(self.alloc);
+        push_best_reasons(self.alloc, &mut reasons, answer)?;
         parts.push(Found {
-            order: answer.found.order().duplicate(),
-            bound: answer.found.bound(),
+            order,
+            bound,
+            reasons,
         })?;
         Ok(())
     }
@@ -118,19 +155,25 @@ impl Keep<u8> for JsonLines {
     }
 }
 
-/// What the instructions of blocks wait for in the orders of answers.
+/// What the instructions of blocks wait for in the orders of answers, and why no order is faster than a best one.
 #[derive(Drop)]
 pub(crate) struct Waits {
+    pub alloc: Global,
     pub text: bool,
 }
 
 impl Keep<u8> for Waits {
-    ghost part = { λ waits strategy. answer_lines waits.text };
+    ghost part = { λ waits. waits_part waits.text };
+
+    fn prints_documents(&self) -> bool {
+        true
+    }
 
     fn keep(&self, parts: &mut Vec<u8>, answer: BlockAnswer) -> Result<(), AllocError> {
         let mut timer = Timer::new(answer.profile);
         let timed = timer.time(answer.block, answer.found.order());
         push_waits(parts, self.text, answer.number, answer.block, &timed)?;
+        push_best_reasons(self.alloc, parts, answer)?;
         Ok(())
     }
 }

@@ -1,6 +1,6 @@
 -- What is known of a document whose verdict is yes, and whose tree is one leaf.
 use Rattle.std.proofs.Common.{ℕ, suc, zero, ◌≡◌, ◌≤◌, ◌<◌, ◌&&◌, ◌∙◌, Bool, true, true≢false, cond, not, List, [], ◌∷◌, Option, None, Some, inl, inr, length, map, subst, sym, arith}
-use Rattle.std.specs.Prelude.{nat_lt}
+use Rattle.std.specs.Prelude.{nat_le, nat_lt}
 use Rattle.std.proofs.lemmas.Bool.{and_parts, cases_Bool, ltb-true, not-false}
 use Rattle.std.proofs.lemmas.List.{length-map}
 use Rattle.s66_isa.specs.declared.instr.Kind.{Kind}
@@ -15,7 +15,7 @@ use Rattle.s66_model.proofs.Remaining.{remaining-parts}
 use Rattle.s66_line.specs.InstructionText.{instr_in_text}
 use Rattle.s66_moments.specs.declared.fact_line.FactLine.{FactLine}
 use Rattle.s66_moments.specs.FactLines.{use_time}
-use Rattle.s66_moments.specs.Known.{Known, are_rising, is_left, is_loaded, kind_of_load, use_of}
+use Rattle.s66_moments.specs.Known.{Known, are_rising, is_left, is_loaded, kind_of_load, next_value, use_of}
 use Rattle.s66_cert.specs.Document.{Document, IsDocument, TreeFits, tree_placed}
 use Rattle.s66_checker.specs.declared.verdict.Verdict.TheVariants.{Yes}
 use Rattle.s66_checker.specs.declared.verdict.Reason.{Reason as FaultOf}
@@ -47,7 +47,7 @@ claimed-leaf limit d time bound leaf is holds first =
 
 -- WHAT IS GRANTED of a leaf at the head of a tree, which has no fault
 
-passes : (d : Document) (time bound : ℕ) (ending : Ending) → verdict d ≡ Yes time bound → top d.tree ≡ AtTerminal ending →
+pub passes : (d : Document) (time bound : ℕ) (ending : Ending) → verdict d ≡ Yes time bound → top d.tree ≡ AtTerminal ending →
     AreTaken d × (line_fault d [] (AtTerminal ending) ≡ None)
 passes d time bound ending holds first =
     let is = ((granted d time bound).0 holds).2 in
@@ -79,6 +79,15 @@ granted-left d after ns none =
     let stay = remain b known kind d.bound after time ns parts.1 in
     (ltb-true 0 (length ns) some.0, rising-few b [] ns some.1 stay, stay)
 
+-- a number that remains, after which the bound is reached
+pub granted-next : (d : Document) (n : ℕ) → line_fault d [] (AtTerminal (Next n)) ≡ None →
+    (is_remaining (problem_of d).block [] n ≡ true) × (nat_le d.bound (next_value (problem_of d) (known_of d) [] n) ≡ true)
+granted-next d n none =
+    let b : Problem = problem_of d in
+    let stays = is_remaining b.block [] n in
+    let reaches = nat_le d.bound (next_value b (known_of d) [] n) in
+    and_parts stays reaches (tested (is_complete b []) (stays && reaches) fault.Place fault.Event none)
+
 -- THE NUMBERS OF A CHAIN
 
 walk-within : (b : Problem) (n : ℕ) (ns : List ℕ) → IsWalk b [] n ns → AreWithin (length b.block) (n ∷ ns)
@@ -103,7 +112,9 @@ granted-first d time bound (AtTerminal (Bounding (Load kind))) is holds first = 
 granted-first d time bound (AtTerminal (Bounding Parcels)) is holds first = tt
 granted-first d time bound (AtTerminal (Dominated name)) is holds first = tt
 granted-first d time bound (AtTerminal (Next n)) is holds first =
-    (passes d time bound (Next n) holds first).0
+    let both = passes d time bound (Next n) holds first in
+    let (low, high, new) = remaining-parts (problem_of d).block [] n (granted-next d n both.1).0 in
+    (both.0, (low, high))
 granted-first d time bound (AtTerminal (Turned one other)) is holds first = tt
 granted-first d time bound (AtTerminal (AtLine line)) is holds first = tt
 granted-first d time bound (AtTerminal (LoadFrom after ns)) is holds first =

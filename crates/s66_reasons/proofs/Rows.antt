@@ -1,5 +1,5 @@
 -- What the rows of a leaf say of the end is the value of the leaf.
-use Rattle.std.proofs.Common.{ℕ, ◌≡◌, ◌≤◌, ◌∙◌, ◌+◌, List, [], ◌∷◌, length, map, refl, ap, sym, arith}
+use Rattle.std.proofs.Common.{ℕ, ◌≡◌, ◌≤◌, ◌∙◌, ◌+◌, List, [], ◌∷◌, ◌++◌, length, map, refl, ap, sym, arith}
 use Rattle.s66_isa.specs.declared.reg.Reg.{Reg}
 use Rattle.s66_isa.specs.Lists.{greatest, least}
 use Rattle.s66_isa.specs.Table.{Row, Write, numbers}
@@ -10,7 +10,8 @@ use Rattle.s66_model.proofs.Remaining.{all-remain}
 use Rattle.s66_cert.specs.Document.{Document}
 use Rattle.s66_checker.specs.Verdict.{problem_of}
 use Rattle.s66_reasons.specs.Words.{Reason}
-use Rattle.s66_reasons.specs.Reasons.{last_row, leaf_rows, walk_rows}
+use Rattle.s66_reasons.specs.ChainWords.{walk_rows}
+use Rattle.s66_reasons.specs.Reasons.{last_row, leaf_rows}
 use Rattle.s66_reasons.specs.Shown.{end_by, last_number}
 
 walk-end : (d : Document) (t n : ℕ) (ns : List ℕ) → last_number (walk_rows d t n ns) ≡ t + walk (problem_of d) n ns
@@ -27,6 +28,12 @@ none-greatest (x ∷ xs) = omega (arith, none-greatest xs)
 -- the first instruction waits for nothing
 first-head : (r : Row) → head [] r ≡ 0
 first-head r = omega (arith, none-greatest {X = Reg} r.reads, none-greatest {X = Write} r.writes)
+
+-- of rows before another one, that is the last
+pub last-row : (rows : List Reason) (r : Reason) → last_number (rows ++ r ∷ []) ≡ r.number
+last-row [] r = refl
+last-row (q ∷ []) r = refl
+last-row (q ∷ (s ∷ rows)) r = last-row (s ∷ rows) r
 
 least-last : (d : Document) (ns : List ℕ) → least (λ (r : Reason). r.number) (map (last_row d) ns) ≡ least (if_last (problem_of d) []) ns
 least-last d [] = refl

@@ -9,7 +9,7 @@ use Rattle.s66_model.specs.Leaves.{link}
 use Rattle.s66_cert.specs.Document.{Document}
 use Rattle.s66_checker.specs.Verdict.{problem_of}
 use Rattle.s66_reasons.specs.Words.{Reason, in_four, row_text, rows_text}
-use Rattle.s66_reasons.specs.Reasons.{link_row, walk_rows}
+use Rattle.s66_reasons.specs.ChainWords.{link_row, walk_rows}
 
 -- its number, its words, and the end of the line
 pub row-pushed : {T E : Type 0} (r : Result T E) (out first second new words : List ℕ) (number : ℕ) → first ≡ out ++ (in_four number ++ codes "  ") →
@@ -23,6 +23,12 @@ row-pushed r out first second new words number one two three =
 pub joined : (out one two front middle rest : List ℕ) → one ≡ out ++ front → two ≡ one ++ middle → two ++ rest ≡ out ++ (front ++ middle ++ rest)
 joined out one two front middle rest first second =
     ap (λ xs. xs ++ rest) (second ∙ ap (λ xs. xs ++ middle) first ∙ append_assoc out front middle) ∙ append_assoc out (front ++ middle) rest
+
+-- a text, and three more at once after it
+pub pushed-after : (out first front one two three : List ℕ) → first ≡ out ++ front → first ++ (one ++ two ++ three) ≡ out ++ (front ++ one ++ two ++ three)
+pushed-after out first front one two three is =
+    ap (λ xs. xs ++ (one ++ two ++ three)) is ∙ append_assoc out front (one ++ two ++ three)
+    ∙ ap (λ xs. out ++ xs) (sym (append_assoc front (one ++ two) three) ∙ ap (λ xs. xs ++ three) (sym (append_assoc front one two)))
 
 -- one row of a chain more
 pub walk-more : (d : Document) (t n : ℕ) (ms : List ℕ) (i wait : ℕ) (old new : List ℕ) → i < length ms →

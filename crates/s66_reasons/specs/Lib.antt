@@ -1,5 +1,7 @@
 pub mod Words
 pub mod FactWords
+pub mod ChainWords
+pub mod LongestPaths
 pub mod Reasons
 pub mod Shown
 pub mod Within

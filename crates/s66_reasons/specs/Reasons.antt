@@ -1,66 +1,22 @@
 -- To be believed: why no order is faster, in sentences: what is said of a document whose verdict is yes, each number in it one that its lines are checked by.
-use Rattle.std.specs.Prelude.{ℕ, ◌+◌, ◌-◌, if◌then◌else◌, ◌&&◌, ◌==◌, List, [], ◌∷◌, ◌++◌, codes, decimal, drop, get_or, length, map, Option, None, Some}
+use Rattle.std.specs.Prelude.{ℕ, ◌+◌, ◌-◌, if◌then◌else◌, ◌&&◌, ◌==◌, List, [], ◌∷◌, ◌++◌, codes, decimal, length, map}
 use Rattle.std.specs.List.{filter}
 use Rattle.s66_isa.specs.declared.instr.Kind.{Kind}
-use Rattle.s66_isa.specs.declared.reg.Reg.{Reg}
-use Rattle.s66_isa.specs.Table.{Row, Write, has_reg, numbers, same_kind}
+use Rattle.s66_isa.specs.Table.{numbers, same_kind}
 use Rattle.s66_model.specs.Timing.{Problem, copies, row_at}
 use Rattle.s66_model.specs.LegalOrder.{sum_remaining}
-use Rattle.s66_model.specs.Leaves.{Whole, Chain, Load, Parcels, if_last, link, load, tail, uses, work_of}
+use Rattle.s66_model.specs.Leaves.{Whole, Chain, Load, Parcels, if_last, load, tail, work_of}
 use Rattle.s66_model.specs.Tree.{Tree, Alone, Parted, Vertex, AtTerminal, AtSplit, splits}
 use Rattle.s66_model.specs.DominatedLeaves.{Ending, Bounding, Dominated, Next, Turned, AtLine, LoadFrom}
 use Rattle.s66_cert.specs.Document.{Document}
-use Rattle.s66_moments.specs.declared.moment.Moment.TheVariants.{Origin, End}
+use Rattle.s66_moments.specs.declared.moment.Stage.TheVariants.{Issue}
+use Rattle.s66_moments.specs.declared.moment.Moment.TheVariants.{Origin, At, End}
 use Rattle.s66_moments.specs.Known.{known_first}
 use Rattle.s66_checker.specs.Verdict.{problem_of, facts_of}
-use Rattle.s66_reasons.specs.Words.{Reason, counted, each_words, instruction, listed, longest_use, register, rows_text, unit_name}
+use Rattle.s66_reasons.specs.Words.{Reason, counted, each_words, instruction, listed, longest_use, rows_text, unit_name}
+use Rattle.s66_reasons.specs.ChainWords.{chain_rows}
 use Rattle.s66_reasons.specs.FactWords.{facts_from, load_sentence}
-
--- A CHAIN: what an instruction waits for of the one before it, and the end of the last
-
--- the first of these results for which n waits so long; none if it waits for a reference to memory
-abbrev pub awaited : ℕ → Row → List Write → Option Reg
-awaited wait n [] = None
-awaited wait n (w ∷ ws) = if uses n w.reg && w.latency == wait then Some w.reg else awaited wait n ws
-
-abbrev pub link_words : Document → ℕ → ℕ → Option Reg → List ℕ
-link_words d m n None = instruction d n ++ codes " can reference memory, after " ++ instruction d m ++ codes " has"
-link_words d m n (Some x) =
-    register x ++ codes " of " ++ instruction d m ++ codes " is there, which " ++ instruction d n
-    ++ (if has_reg x (row_at (problem_of d) n).reads then codes " reads" else codes " writes again")
-
--- m starts at t, and n starts no sooner than this
-abbrev pub link_row : Document → ℕ → ℕ → ℕ → Reason
-link_row d t m n =
-    let wait : ℕ = link (row_at (problem_of d) m) (row_at (problem_of d) n) in
-    record { number = t + wait; words = link_words d m n (awaited wait (row_at (problem_of d) n) (row_at (problem_of d) m).writes) }
-
--- the first of these results that takes so long
-abbrev pub lasting : ℕ → List Write → Option Reg
-lasting time [] = None
-lasting time (w ∷ ws) = if w.latency == time then Some w.reg else lasting time ws
-
--- the result that is there last of all that an instruction does; none if its unit is free no sooner
-abbrev pub last_result : Row → Option Reg
-last_result r = if r.hold + 1 == tail r then None else lasting (tail r) r.writes
-
-abbrev pub end_words : Document → ℕ → Option Reg → List ℕ
-end_words d n None = codes "the unit of " ++ instruction d n ++ codes " is free, and that is the end"
-end_words d n (Some x) = register x ++ codes " of " ++ instruction d n ++ codes " is there, and that is the end"
-
--- n starts at t
-abbrev pub end_row : Document → ℕ → ℕ → Reason
-end_row d t n =
-    record { number = t + tail (row_at (problem_of d) n); words = end_words d n (last_result (row_at (problem_of d) n)) }
-
--- from the start of n at t along the chain
-abbrev pub walk_rows : Document → ℕ → ℕ → List ℕ → List Reason
-walk_rows d t n [] = end_row d t n ∷ []
-walk_rows d t n (m ∷ ms) = link_row d t n m ∷ walk_rows d (t + link (row_at (problem_of d) n) (row_at (problem_of d) m)) m ms
-
--- a chain has a first number
-abbrev pub chain_rows : Document → List ℕ → List Reason
-chain_rows d ns = walk_rows d 0 (get_or ns 0 0) (drop 1 ns)
+use Rattle.s66_reasons.specs.LongestPaths.{hops_of, path_rows}
 
 -- THE LOAD OF A KIND OF UNIT
 
@@ -121,6 +77,10 @@ issue_row d n = record { number = 0; words = instruction d n ++ codes " can issu
 abbrev pub path_row : (bound : ℕ) → Reason
 path_row bound = record { number = bound; words = codes "the end, by the longest path from there" }
 
+-- the arcs of a longest path, between where it begins and where it leads
+abbrev pub next_rows : Document → ℕ → List Reason
+next_rows d n = issue_row d n ∷ (path_rows d 0 (At n Issue) (hops_of d n) ++ path_row d.bound ∷ [])
+
 abbrev pub left_row : Document → ℕ → List ℕ → Reason
 left_row d after ns = record { number = d.bound; words = load_sentence (problem_of d) Origin End after d.bound ns }
 
@@ -132,7 +92,7 @@ leaf_rows d (Bounding (Chain ns)) = chain_rows d ns
 leaf_rows d (Bounding (Load kind)) = load_row d kind ∷ []
 leaf_rows d (Bounding Parcels) = map (last_row d) (numbers (problem_of d).block)
 leaf_rows d (Dominated name) = []
-leaf_rows d (Next n) = issue_row d n ∷ path_row d.bound ∷ []
+leaf_rows d (Next n) = next_rows d n
 leaf_rows d (Turned first second) = []
 leaf_rows d (AtLine line) = []
 leaf_rows d (LoadFrom after ns) = left_row d after ns ∷ []

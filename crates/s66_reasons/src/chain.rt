@@ -6,7 +6,7 @@ ghost use Rattle.s66_model.specs.Timing.{row_at};
 ghost use Rattle.s66_model.specs.Leaves.{link};
 ghost use Rattle.s66_cert.specs.DocumentParts.{document_of};
 ghost use Rattle.s66_checker.specs.Verdict.{problem_of};
-ghost use Rattle.s66_reasons.specs.Reasons.{awaited, chain_rows, end_row, end_words, last_result, lasting, link_row, link_words, walk_rows};
+ghost use Rattle.s66_reasons.specs.ChainWords.{awaited, chain_rows, end_row, end_words, last_result, lasting, link_row, link_words, walk_rows};
 ghost use Rattle.s66_reasons.specs.Words.{row_text, rows_text};
 ghost use Rattle.s66_reasons.specs.Within.{AreWithin};
 
@@ -54,7 +54,7 @@ fn last_result(row: &Row) -> Option<Reg>
 }
 
 /// What n waits for of m.
-fn push_link_words(
+pub(crate) fn push_link_words(
     out: &mut Vec<u8>,
     document: &Document,
     later: &Row,
@@ -104,7 +104,7 @@ fn push_result_end(
 }
 
 /// What comes last of all that n does.
-fn push_end_words(
+pub(crate) fn push_end_words(
     out: &mut Vec<u8>,
     document: &Document,
     n: u8,

@@ -1,6 +1,6 @@
 //! Fact lines in sentences, each by what is known before it.
 
-ghost use Rattle.std.specs.Prelude.{◌≡◌, ◌≤◌, ◌<◌, ◌+◌, ◌++◌, [], true, OnOk, Some, decimal, length};
+ghost use Rattle.std.specs.Prelude.{◌≡◌, ◌≤◌, ◌<◌, ◌+◌, ◌++◌, [], true, IfOk, OnOk, Some, decimal, length};
 ghost use Rattle.s66_isa.specs.declared.limits.TheConstants.{BLOCK_LIMIT};
 ghost use Rattle.s66_isa.specs.Lists.{every};
 ghost use Rattle.s66_model.specs.Timing.{row_at};
@@ -11,7 +11,7 @@ ghost use Rattle.s66_moments.specs.Known.{arcs_of, is_taken, known_first, plus, 
 ghost use Rattle.s66_facts.specs.Ground.{known_of as known_in};
 ghost use Rattle.s66_cert.specs.declared.limits.TheConstants.{FACT_LIMIT};
 ghost use Rattle.s66_cert.specs.DocumentParts.{document_of};
-ghost use Rattle.s66_checker.specs.KeptKnown.{AreTaken};
+ghost use Rattle.s66_checker.specs.KeptKnown.{AreTaken, KnowsAll};
 ghost use Rattle.s66_checker.specs.Verdict.{facts_of, problem_of};
 ghost use Rattle.s66_reasons.specs.Words.{listed};
 ghost use Rattle.s66_reasons.specs.FactWords.{begins, by_parcels, by_unit, could_words, fact_sentence, facts_from, from_words, has_words, in_all, issues_words, last_words, late_words, left_to, load_sentence, many_words, mixed_words, need_words, numbered_fact, one_words, pair_sentence, pair_words, rest_words, side_by_side, so_words, to_words, units_words, until_words, which_words};
@@ -468,19 +468,20 @@ fn take_right(facts: &mut Facts, bound: u32, line: &FactLine)
     take(facts, bound, line);
 }
 
-/// All fact lines of a document, numbered.
+/// All fact lines of a document, numbered. Returns what is known after them.
 pub(crate) fn push_facts(
     out: &mut Vec<u8>,
     document: &Document,
     prefix: &Prefix,
     mut facts: Facts,
-) -> Result<(), AllocError>
+) -> Result<Facts, AllocError>
     requires same { prefix.now.problem ≡ problem_of (document_of document.now) }
     requires start { prefix.now.numbers ≡ [] }
     requires problem { facts.problem ≡ problem_of (document_of document.now) }
     requires known { known_in facts ≡ known_first (problem_of (document_of document.now)) }
     requires taken { AreTaken (document_of document.now) }
-    ensures { OnOk result (out.new.items ≡ out.old.items ++ facts_from (document_of document.now) (known_first (problem_of (document_of document.now))) 1 (facts_of (document_of document.now))) }
+    ensures text { OnOk result (out.new.items ≡ out.old.items ++ facts_from (document_of document.now) (known_first (problem_of (document_of document.now))) 1 (facts_of (document_of document.now))) }
+    ensures knows { IfOk result (KnowsAll (document_of document.now)) }
 {
     let bound = document.bound();
     let mut number = 0;
@@ -490,5 +491,5 @@ pub(crate) fn push_facts(
         push_numbered(out, document, prefix, &facts, number, line)?;
         take_right(&mut facts, bound, line);
     }
-    Ok(())
+    Ok(facts)
 }

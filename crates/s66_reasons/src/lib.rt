@@ -4,11 +4,15 @@
 //! Nothing here bounds an order: numbers come from the document, and from what the checker computes of it (`s66_checker`, `s66_facts`).
 #![tactic(auto)]
 
+mod arcs;
 mod chain;
 mod examples;
 mod facts;
+mod hop;
 mod laws;
 mod parcels;
+mod path;
+mod place;
 mod reasons;
 mod units;
 mod words;

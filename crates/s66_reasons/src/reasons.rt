@@ -5,6 +5,7 @@ ghost use Rattle.s66_model.specs.LegalOrder.{is_remaining};
 ghost use Rattle.s66_model.specs.Tree.{AtTerminal, splits};
 ghost use Rattle.s66_model.specs.DominatedLeaves.{Next, LoadFrom};
 ghost use Rattle.s66_tree.specs.Lines.{vertex_of};
+ghost use Rattle.s66_moments.specs.Facts.{IsNumber};
 ghost use Rattle.s66_moments.specs.Known.{known_first};
 ghost use Rattle.s66_facts.specs.Ground.{known_of as known_in};
 ghost use Rattle.s66_cert.specs.declared.limits.TheConstants.{SPLIT_LIMIT};
@@ -19,6 +20,7 @@ ghost use Rattle.s66_reasons.specs.Within.{IsGranted, is_split};
 use crate::chain::push_chain;
 use crate::facts::{push_facts, push_load_sentence};
 use crate::parcels::push_parcels;
+use crate::path::push_longest;
 use crate::units::push_load;
 use crate::words::{push_around, push_between, push_counted, push_number, push_words};
 use s66_cert::{Document, TreeLine, TreeLines};
@@ -111,10 +113,13 @@ fn push_path(
     requires problem { facts.problem ≡ problem_of (document_of document.now) }
     requires known { known_in facts ≡ known_first (problem_of (document_of document.now)) }
     requires taken { AreTaken (document_of document.now) }
+    requires n { IsNumber (problem_of (document_of document.now)) n }
     ensures { OnOk result (out.new.items ≡ out.old.items ++ said_at (document_of document.now) (AtTerminal (Next n))) }
 {
-    push_facts(out, document, prefix, facts)?;
+    let first = facts.duplicate();
+    let facts = push_facts(out, document, prefix, facts)?;
     push_issue_row(out, document, n)?;
+    push_longest(out, document, prefix, &first, &facts, n)?;
     push_path_row(out, document.bound())
 }
 

@@ -58,9 +58,9 @@ true-claim rule p block budget a spelled is =
       tree = subst (λ (b : Problem). ShowsBy (rule_of rule None a.tree) b a.bound [] a.tree) same (answer-shows rule (problem_of p block) budget a is);
     }
 
-pub verdict-of_search : (rule : Rule) (p : Profile) (block : Block) (budget : ℕ) (a : Answer) → IsSpelledBlock block → budget ≤ SPLIT_LIMIT → IsAnswer rule (problem_of p block) budget a →
+pub verdict-of_search : (rule : Rule) (p : Profile) (block : Block) (budget : ℕ) (a : Answer) → IsSpelledBlock block → a.splits ≤ SPLIT_LIMIT → IsAnswer rule (problem_of p block) budget a →
     checker.verdict (document_under rule p block (searched a)) ≡ Yes a.time a.bound
 verdict-of_search rule p block budget a (some, few, spelled) within is =
     let d : Document = document_under rule p block (searched a) in
-    let document : IsDocument BLOCK_LIMIT d = search-document rule p block budget a is (omega (arith, is.within, within)) some few spelled in
+    let document : IsDocument BLOCK_LIMIT d = search-document rule p block budget a is within some few spelled in
     (verdict-yes BLOCK_LIMIT d a.time a.bound document refl).1 (refl, refl, true-claim rule p block budget a spelled is)

@@ -40,7 +40,7 @@ module _ (strategy : Strategy) (p : Profile) (block : Block) (a : Answer) (spell
   pub answer-verdict : IsAnswer strategy p block a → checker.verdict (document_under strategy.search.rule p block a) ≡ Yes a.time a.bound
   answer-verdict (inl (found, is, same, all)) =
       subst (λ (x : Answer). checker.verdict (document_under strategy.search.rule p block x) ≡ Yes x.time x.bound) (sym same)
-      (verdict-of_search strategy.search.rule p block strategy.search.nodes found spelled within is)
+      (verdict-of_search strategy.search.rule p block strategy.search.nodes found spelled (omega (arith, is.within, within)) is)
   answer-verdict (inr (deep, shown)) = shown.yes
 
   pub answer-bound : IsAnswer strategy p block a → IsBound (problem_of p block) a.bound

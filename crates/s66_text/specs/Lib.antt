@@ -7,6 +7,7 @@ pub mod DepsText
 pub mod ChartText
 pub mod Answers
 pub mod OfAnswers
+pub mod BestReasons
 pub mod WhyText
 pub mod JsonText
 pub mod Listing

@@ -133,7 +133,7 @@ pub(crate) const ROWS: &[Row] = &[
         &["s66", "why", "--order", "--workers", "1"],
         HARMED,
         0,
-        "BLOCK 1 LINE 1 TIME 12\n  2 SECOND 1 TO 8 REGISTER X1 BY 1\nPATH 1 2\nSTEPS 8 4 TIME 12\nLOST FIRST 0 SECOND 7 THIRD 0\n",
+        "BLOCK 1 LINE 1 TIME 12\n  2 SECOND 1 TO 8 REGISTER X1 BY 1\nPATH 1 2\nSTEPS 8 4 TIME 12\nLOST FIRST 0 SECOND 7 THIRD 0\nEvery order takes 12 or more:\n   8  X1 of 1 SA1 A1+B1 is there, which 2 BX6 X1 reads\n  12  the unit of 2 BX6 X1 is free, and that is the end\nSo the order of 12 is best.\n",
     ),
     (
         "none is told of a listing",

@@ -27,7 +27,7 @@ pub(crate) const ROWS: &[Row] = &[
         &["s66", "why", "--order", "--text", "--workers", "1"],
         ONE_LOAD,
         0,
-        "BLOCK 1 LINE 1 TIME 12\n  2 BX6 X1    FIRST 2 TO 5 UNIT BOOLEAN BY 3 BX7 X2\n  2 BX6 X1    SECOND 5 TO 8 REGISTER X1 BY 1 SA1 A1+B1\nPATH\n  1 SA1 A1+B1    8\n  2 BX6 X1       4\nTIME            12\nLOST FIRST 3 SECOND 3 THIRD 0\n",
+        "BLOCK 1 LINE 1 TIME 12\n  2 BX6 X1    FIRST 2 TO 5 UNIT BOOLEAN BY 3 BX7 X2\n  2 BX6 X1    SECOND 5 TO 8 REGISTER X1 BY 1 SA1 A1+B1\nPATH\n  1 SA1 A1+B1    8\n  2 BX6 X1       4\nTIME            12\nLOST FIRST 3 SECOND 3 THIRD 0\nEvery order takes 12 or more:\n   8  X1 of 1 SA1 A1+B1 is there, which 2 BX6 X1 reads\n  12  the unit of 2 BX6 X1 is free, and that is the end\nSo the order of 12 is best.\n",
     ),
     (
         "packing gap, why",
@@ -83,7 +83,7 @@ pub(crate) const ROWS: &[Row] = &[
         &["s66", "why", "--order", "--workers", "1"],
         ONE_LOAD,
         0,
-        "BLOCK 1 LINE 1 TIME 12\n  2 FIRST 2 TO 5 UNIT BOOLEAN BY 3\n  2 SECOND 5 TO 8 REGISTER X1 BY 1\nPATH 1 2\nSTEPS 8 4 TIME 12\nLOST FIRST 3 SECOND 3 THIRD 0\n",
+        "BLOCK 1 LINE 1 TIME 12\n  2 FIRST 2 TO 5 UNIT BOOLEAN BY 3\n  2 SECOND 5 TO 8 REGISTER X1 BY 1\nPATH 1 2\nSTEPS 8 4 TIME 12\nLOST FIRST 3 SECOND 3 THIRD 0\nEvery order takes 12 or more:\n   8  X1 of 1 SA1 A1+B1 is there, which 2 BX6 X1 reads\n  12  the unit of 2 BX6 X1 is free, and that is the end\nSo the order of 12 is best.\n",
     ),
     (
         "three multiplies, why, one split short",
@@ -97,7 +97,7 @@ pub(crate) const ROWS: &[Row] = &[
         &["s66", "why", "--block", "2", "--order", "--workers", "1"],
         "  FX1 X2*X3\n  FX4 X5*X6\n  FX0 X7*X7\n  EQ B1,B2,L\n  SA1 A1+B1\n  BX6 X1\n  BX7 X2\n",
         0,
-        "BLOCK 2 LINE 5 TIME 12\n  2 FIRST 2 TO 5 UNIT BOOLEAN BY 3\n  2 SECOND 5 TO 8 REGISTER X1 BY 1\nPATH 1 2\nSTEPS 8 4 TIME 12\nLOST FIRST 3 SECOND 3 THIRD 0\n",
+        "BLOCK 2 LINE 5 TIME 12\n  2 FIRST 2 TO 5 UNIT BOOLEAN BY 3\n  2 SECOND 5 TO 8 REGISTER X1 BY 1\nPATH 1 2\nSTEPS 8 4 TIME 12\nLOST FIRST 3 SECOND 3 THIRD 0\nEvery order takes 12 or more:\n   8  X1 of 1 SA1 A1+B1 is there, which 2 BX6 X1 reads\n  12  the unit of 2 BX6 X1 is free, and that is the end\nSo the order of 12 is best.\n",
     ),
     (
         "the second block, why",

@@ -1,6 +1,6 @@
 use Rattle.std.proofs.Common.{ℕ, List, ◌++◌, ◌∙◌, ap, codes}
 use Rattle.s66_page.specs.declared.summary.Summary.{Summary}
-use Rattle.s66_page.specs.Page.{best_text, block_head, block_text, order_text, summary}
+use Rattle.s66_page.specs.Page.{best_text, block_head, block_text, order_text, reasons_below, summary}
 use Rattle.s66_page.proofs.Pieces.{more, last}
 use Rattle.s66_page.proofs.block.push_block.Goals as goal
 
@@ -16,5 +16,7 @@ returns c =
     let first =
     c.in_ok-push_block_head.ensures ∙ ap (λ (label : List ℕ). out ++ block_head label c.summary_of-summary.result) c.label.ensures
     ∙ ap (λ (s : Summary). out ++ block_head block.label s) c.summary_of-summary.ensures.value in
-    last c.push_best.result out c.push_order.new.out.items c.push_best.new.out.items (head ++ order) (best_text block source best)
-    (more out c.push_block_head.new.out.items c.push_order.new.out.items head order first c.in_ok-push_order.ensures) c.push_best.ensures
+    let above = head ++ order ++ best_text block source best in
+    last c.push_reasons_below.result out c.push_best.new.out.items c.push_reasons_below.new.out.items above (reasons_below c.args.reasons.now)
+    (more out c.push_order.new.out.items c.push_best.new.out.items (head ++ order) (best_text block source best)
+    (more out c.push_block_head.new.out.items c.push_order.new.out.items head order first c.in_ok-push_order.ensures) c.in_ok-push_best.ensures) c.push_reasons_below.ensures

@@ -5,11 +5,16 @@ use Rattle.s66_model.specs.declared.rule.Rule.TheVariants.{NoneNamed}
 use Rattle.s66_model.specs.Timing.{Problem}
 use Rattle.s66_ledger.specs.Answers.{answer_of}
 use Rattle.s66_tree.specs.Lines.{has_dominated_line}
+use Rattle.s66_cert.specs.Document.{Document}
 use Rattle.s66_cert.specs.DocumentParts.{Parts, AreWhole, document_of}
 use Rattle.s66_model.specs.Answer.{IsAnswer}
+use Rattle.s66_checker.specs.declared.verdict.Verdict.TheVariants.{Yes}
+use Rattle.s66_checker.specs.Verdict.{verdict}
+use Rattle.s66_text.specs.Answers.{document_under, searched}
+use Rattle.s66_text.proofs.AnswerVerdicts.{verdict-of_search}
 use Rattle.s66_text.proofs.AnswerDocuments.{parts_under, parts-document, parts-whole, same-parts}
 use Rattle.s66_program.proofs.documents.document_of.Goals as goal
-use Rattle.s66_program.proofs.documents.document_of.Goals.{After-bound}
+use Rattle.s66_program.proofs.documents.document_of.Goals.{After-bound, After-new}
 
 -- what the claim says, and the answer's own parts
 abbrev claimed : After-bound → Parts
@@ -41,7 +46,18 @@ new-requires c =
     (parts-whole c.args.answer.now.rule c.args.profile.now c.args.block.now c.args.answer.now.budget (answer_of c.args.answer.now) (is c) (omega (arith, c.splits.ensures.value, c.splits.ensures.few))
     (omega (arith, c.count.ensures.value, c.count.ensures.some)) (omega (arith, c.count.ensures.value, c.count.ensures.few)) c.in_ok-texts_of.ensures.spelled)
 
-pub returns : goal.returns
-returns c =
+document : (c : After-new) → document_of c.new.result ≡ document_under c.args.answer.now.rule c.args.profile.now c.args.block.now (searched (answer_of c.args.answer.now))
+document c =
     ap document_of (c.new.ensures ∙ same c.before)
     ∙ parts-document c.args.answer.now.rule c.args.profile.now c.args.block.now c.args.answer.now.budget (answer_of c.args.answer.now) (is c.before)
+
+pub returns-clause-document : goal.returns-clause-document
+returns-clause-document c = document c
+
+pub returns-clause-yes : goal.returns-clause-yes
+returns-clause-yes c =
+    let a = answer_of c.args.answer.now in
+    subst (λ (d : Document). verdict d ≡ Yes a.time a.bound) (sym (document c))
+    (verdict-of_search c.args.answer.now.rule c.args.profile.now c.args.block.now c.args.answer.now.budget a
+    (omega (arith, c.count.ensures.value, c.count.ensures.some), omega (arith, c.count.ensures.value, c.count.ensures.few), c.in_ok-texts_of.ensures.spelled)
+    (omega (arith, c.splits.ensures.value, c.splits.ensures.few)) (is c.before))

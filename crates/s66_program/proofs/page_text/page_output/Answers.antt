@@ -27,11 +27,11 @@ few-shown None blocks few = omega (arith, few)
 few-shown (Some n) blocks few = omega (arith, few-one (drop (n - 1) blocks))
 
 -- what is found of the blocks that were read
-found : (strategy : Strategy) (p : Profile) (only : Option ℕ) (source : Reading) (status : Status) (blocks : List Block) (fs : List Found) → source_of source ≡ Ok blocks → AreAnswered found_part strategy p only source fs status →
-    (answers : List Answer) × AreAnswers strategy p (shown only blocks) answers × (fs ≡ all_found (shown only blocks) answers) × (status ≡ status_of answers)
+found : (strategy : Strategy) (p : Profile) (only : Option ℕ) (source : Reading) (status : Status) (blocks : List Block) (fs : List Found) → source_of source ≡ Ok blocks → AreAnswered (found_part strategy p) strategy p only source fs status →
+    (answers : List Answer) × AreAnswers strategy p (shown only blocks) answers × (fs ≡ all_found strategy.search.rule p (shown only blocks) answers) × (status ≡ status_of answers)
 found strategy p only source status blocks fs read kept =
-    of-read (λ bs answers. fs ≡ all_found bs answers) strategy p only source status blocks read
-    (kept-whole found_part strategy p (λ n. all_found) (λ n. refl) (λ n b bs a more. refl) only source fs status kept)
+    of-read (λ bs answers. fs ≡ all_found strategy.search.rule p bs answers) strategy p only source status blocks read
+    (kept-whole (found_part strategy p) strategy p (λ n. all_found strategy.search.rule p) (λ n. refl) (λ n b bs a more. refl) only source fs status kept)
 
 pub push_page-requires-clause-few : goal.push_page-requires-clause-few
 push_page-requires-clause-few g c =
@@ -47,7 +47,7 @@ push_page-requires-clause-found g c =
     let all = c.in_ok-all.all in
     let (answers, are, is, ends) = found strategy p only c.args.source.now all.status blocks all.parts.items c.blocks-2.ensures c.in_ok-all.ensures in
     subst (λ (bs : List Block). AreOf bs c.as_slice.result.now) (sym c.shown-blocks.ensures)
-    (subst (AreOf (shown only blocks)) (sym (c.as_slice.ensures.value ∙ is)) (found-of strategy p (shown only blocks) answers are))
+    (subst (AreOf (shown only blocks)) (sym (c.as_slice.ensures.value ∙ is)) (found-of strategy strategy.search.rule p (shown only blocks) answers are))
 
 pub returns : goal.returns
 returns g c =
@@ -57,7 +57,7 @@ returns g c =
     let n = c.blocks_before.result in
     let all = c.in_ok-all.all in
     let (answers, are, is, ends) = found c.args.strategy p only c.args.source.now all.status blocks all.parts.items c.blocks-2.ensures c.in_ok-all.ensures in
-    let page = all_found (shown only blocks) answers in
+    let page = all_found c.args.strategy.search.rule p (shown only blocks) answers in
     let text : c.push_page.new.out.items ≡ page_text p (before only) (shown only blocks) page =
     c.in_ok-push_page.ensures.text ∙ ap (λ xs. xs ++ page_text c.new-timer.result n c.shown-blocks.result.now c.as_slice.result.now) c.new-text.ensures.items
     ∙ ap₂ (λ q fs. page_text q n c.shown-blocks.result.now fs) c.new-timer.ensures (c.as_slice.ensures.value ∙ is) ∙ ap₂ (λ k bs. page_text p k bs page) c.blocks_before.ensures.value c.shown-blocks.ensures

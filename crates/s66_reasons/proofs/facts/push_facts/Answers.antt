@@ -1,7 +1,7 @@
 use Rattle.std.proofs.Common.{◌≡◌, ◌+◌, ◌∙◌, true, List, ap, sym, drop, arith, subst}
 use Rattle.s66_model.specs.Timing.{Problem}
 use Rattle.s66_moments.specs.declared.fact_line.FactLine.{FactLine}
-use Rattle.s66_moments.specs.Known.{Known, are_taken, is_taken}
+use Rattle.s66_moments.specs.Known.{Known, are_taken, is_taken, known_after}
 use Rattle.s66_facts.specs.Ground.{known_of as known_in}
 use Rattle.s66_cert.specs.DocumentParts.{document_of}
 use Rattle.s66_cert.proofs.Printed.{drop-here}
@@ -43,5 +43,6 @@ loop-line-preserved c =
       number = omega (arith, inv.number);
       problem = c.take_right.ensures.problem ∙ inv.problem;
       room = omega (arith, inv.room, c.take_right.ensures.one_more);
+      known = ap (λ (k : Known). known_after k more) c.take_right.ensures.known ∙ sym (ap (known_after known) (drop-here lines i line c.loop-line-test.true c.line-item.is)) ∙ inv.known;
       taken = ap (λ (k : Known). are_taken b c.bound-bound.result k more) c.take_right.ensures.known ∙ both.1;
     }

@@ -13,4 +13,4 @@ returns c =
     let facts : List ℕ = facts_text d in
     let row : List ℕ = row_text (left_row d c.args.after c.args.numbers.now) in
     IfOk-equal c.push_left_row.result _ _ _ c.push_left_row.ensures
-    (ap (λ xs. xs ++ row) c.in_ok-push_facts.ensures ∙ append_assoc out facts row ∙ ap (λ xs. out ++ (facts ++ xs)) (sym (append-nil row)))
+    (ap (λ xs. xs ++ row) c.in_ok-push_facts.ensures.text ∙ append_assoc out facts row ∙ ap (λ xs. out ++ (facts ++ xs)) (sym (append-nil row)))

@@ -1,9 +1,10 @@
-use Rattle.std.proofs.Common.{◌∙◌, ◌≡◌, ◌++◌, ap, ap₂}
+use Rattle.std.proofs.Common.{ℕ, ◌∙◌, ◌≡◌, ◌++◌, List, ap, ap₂, append_assoc}
 use Rattle.s66_isa.specs.declared.profile.Profile.{Profile}
 use Rattle.s66_dep.specs.Ordered.{Ordered}
 use Rattle.s66_time.specs.TimedOrder.{TimedOrder}
 use Rattle.s66_line.specs.Block.{instrs_of}
 use Rattle.s66_program.specs.Stored.{answer_in}
+use Rattle.s66_text.specs.BestReasons.{best_reasons}
 use Rattle.s66_text.specs.WhyText.{waits_lines}
 use Rattle.s66_program.proofs.parts.WaitsKeepU8.keep.Goals as goal
 
@@ -19,4 +20,7 @@ returns c =
     c.time-timed.ensures.value
     ∙ ap₂ (λ (q : Profile) (o : Ordered). record { problem = record { block = instrs_of block; profile = q }; numbers = o.numbers }) c.new-timer.ensures (c.order.ensures strategy p block c.requires)
     in
-    c.in_ok-push_waits.ensures ∙ ap (λ (t : TimedOrder). c.args.parts.now.items ++ waits_lines c.args.self.now.text c.args.answer.number block t) timed
+    let waits : TimedOrder → List ℕ = λ t. waits_lines c.args.self.now.text c.args.answer.number block t in
+    let reasons = best_reasons strategy.search.rule p block (answer_in c.args.answer.found) in
+    c.in_ok-push_best_reasons.ensures ∙ ap (λ xs. xs ++ reasons) c.in_ok-push_waits.ensures
+    ∙ append_assoc c.args.parts.now.items (waits c.time-timed.result) reasons ∙ ap (λ (t : TimedOrder). c.args.parts.now.items ++ (waits t ++ reasons)) timed

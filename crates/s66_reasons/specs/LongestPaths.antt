@@ -1,0 +1,169 @@
+-- To be believed: a longest path from an instruction to the end by what is known after the fact lines of a document, arc by arc, and what is said of each arc.
+use Rattle.std.specs.Prelude.{ℕ, zero, suc, ◌+◌, ◌-◌, if◌then◌else◌, Bool, false, ◌&&◌, ◌||◌, ◌==◌, List, [], ◌∷◌, ◌++◌, codes, decimal, length, nat_le, Option, None, Some, unwrap_or}
+use Rattle.s66_isa.specs.declared.instr.Kind.{Kind}
+use Rattle.s66_isa.specs.Table.{Write, numbers}
+use Rattle.s66_model.specs.Timing.{row_at}
+use Rattle.s66_moments.specs.declared.moment.Stage.{Stage}
+use Rattle.s66_moments.specs.declared.moment.Stage.TheVariants.{Issue, Start, Done, Free}
+use Rattle.s66_moments.specs.declared.moment.Moment.{Moment}
+use Rattle.s66_moments.specs.declared.moment.Moment.TheVariants.{Origin, At, End}
+use Rattle.s66_moments.specs.declared.fact_line.FactLine.{FactLine}
+use Rattle.s66_moments.specs.declared.fact_line.FactLine.TheVariants.{Pair, Load}
+use Rattle.s66_moments.specs.Networks.{Network, most_arcs, network, precedes, same_moment}
+use Rattle.s66_moments.specs.Known.{arcs_of, is_number, plus, reaches, span}
+use Rattle.s66_cert.specs.Document.{Document}
+use Rattle.s66_checker.specs.Verdict.{facts_of, known_of, problem_of}
+use Rattle.s66_reasons.specs.declared.hop.Hop.{Hop}
+use Rattle.s66_reasons.specs.ChainWords.{end_words, link_words}
+use Rattle.s66_reasons.specs.Words.{Reason, counted, instruction, register, unit_name}
+
+-- THE PATH
+
+-- how much later each moment comes at least than each other by one arc, in orders that take less than the bound
+abbrev pub arcs : Document → Network
+arcs d = arcs_of (problem_of d) (known_of d)
+
+-- and the end than a moment by arcs
+abbrev pub to_end : Document → Moment → Option ℕ
+to_end d Origin = span (problem_of d) (arcs d) Origin End
+to_end d (At n stage) = span (problem_of d) (arcs d) (At n stage) End
+to_end d End = Some 0
+
+-- the arc from e to f, if that and a longest path from f take so long
+abbrev pub hop_to : Document → (left : ℕ) → (e f : Moment) → Option Hop
+hop_to d left e f =
+    if reaches left (plus (arcs d e f) (to_end d f)) then Some (record { wait = unwrap_or (arcs d e f) 0; to = f }) else None
+
+abbrev pub or_else : Option Hop → Option Hop → Option Hop
+or_else None other = other
+or_else (Some hop) other = Some hop
+
+-- to the first of these results of n to which there is one
+abbrev pub hop_to_result : Document → (left : ℕ) → Moment → ℕ → List Write → Option Hop
+hop_to_result d left e n [] = None
+hop_to_result d left e n (v ∷ []) = hop_to d left e (At n (Done v.reg))
+hop_to_result d left e n (v ∷ (w ∷ ws)) = or_else (hop_to d left e (At n (Done v.reg))) (hop_to d left e (At n (Done w.reg)))
+
+-- to the first moment of n
+abbrev pub hop_to_moment_of : Document → (left : ℕ) → Moment → ℕ → Option Hop
+hop_to_moment_of d left e n =
+    or_else (hop_to d left e (At n Issue))
+    (or_else (hop_to d left e (At n Start))
+    (or_else (hop_to d left e (At n Free))
+    (hop_to_result d left e n (row_at (problem_of d) n).writes)))
+
+abbrev pub hop_among : Document → (left : ℕ) → Moment → List ℕ → Option Hop
+hop_among d left e [] = None
+hop_among d left e (n ∷ ns) = or_else (hop_to_moment_of d left e n) (hop_among d left e ns)
+
+-- to the end, or else to a moment of the first number
+abbrev pub next_hop : Document → (left : ℕ) → Moment → Option Hop
+next_hop d left e = or_else (hop_to d left e End) (hop_among d left e (numbers (problem_of d).block))
+
+abbrev pub hop_and : Option Hop → (Hop → List Hop) → List Hop
+hop_and None more = []
+hop_and (Some hop) more = hop ∷ more hop
+
+-- at most so many, from e to the end, which comes so much later
+abbrev pub hops_from : Document → (most left : ℕ) → Moment → List Hop
+hops_from d zero left e = []
+hops_from d (suc more) left Origin = []
+hops_from d (suc more) left (At n stage) = hop_and (next_hop d left (At n stage)) (λ (hop : Hop). hops_from d more (left - hop.wait) hop.to)
+hops_from d (suc more) left End = []
+
+-- from the issue of n
+abbrev pub hops_of : Document → ℕ → List Hop
+hops_of d n = hops_from d (most_arcs (problem_of d)) (unwrap_or (to_end d (At n Issue)) 0) (At n Issue)
+
+-- WHICH FACT LINE GIVES AN ARC
+
+-- the number of the first of these lines that passes, if the first of them has this number; 0 if none passes
+abbrev pub first_line : (FactLine → Bool) → ℕ → List FactLine → ℕ
+first_line test number [] = 0
+first_line test number (line ∷ lines) = if test line then number else first_line test (number + 1) lines
+
+-- m stands before n by this pair, with what is known beside it
+abbrev pub puts_before : Document → (m n : ℕ) → FactLine → Bool
+puts_before d m n (Pair j k) =
+    is_number (problem_of d) j && is_number (problem_of d) k && (m == j || (known_of d).before m j) && (n == k || (known_of d).before k n)
+puts_before d m n (Load line) = false
+
+-- 0 if n depends on m
+abbrev pub line_of_pair : Document → (m n : ℕ) → ℕ
+line_of_pair d m n = if precedes (problem_of d).block m n then 0 else first_line (puts_before d m n) 1 (facts_of d)
+
+-- f comes so much later than e by this load
+abbrev pub keeps_apart : (e f : Moment) → (wait : ℕ) → FactLine → Bool
+keeps_apart e f wait (Pair m n) = false
+keeps_apart e f wait (Load line) = same_moment line.from e && same_moment line.to f && nat_le wait line.wait
+
+abbrev pub line_of_load : Document → Moment → Hop → ℕ
+line_of_load d e hop = first_line (keeps_apart e hop.to hop.wait) 1 (facts_of d)
+
+-- WHAT IS SAID
+
+-- by which fact line, if by one
+abbrev pub by_words : ℕ → List ℕ
+by_words number = if number == 0 then [] else codes " (by " ++ decimal number ++ codes ".)"
+
+abbrev pub parcels_words : Document → (parcels m n : ℕ) → List ℕ
+parcels_words d parcels m n =
+    instruction d n ++ codes " can issue, " ++ counted parcels (codes "parcel") ++ codes " after " ++ instruction d m
+
+abbrev pub free_unit_words : Document → Kind → (m n : ℕ) → List ℕ
+free_unit_words d kind m n =
+    codes "the " ++ unit_name kind ++ codes " unit of " ++ instruction d m ++ codes " is free, which " ++ instruction d n ++ codes " needs"
+
+-- the third order of conflict, in a register that m reads
+abbrev pub third_words : Document → (m n : ℕ) → Stage → List ℕ
+third_words d m n (Done x) =
+    instruction d m ++ codes " has read " ++ register x ++ codes ", so that of " ++ instruction d n ++ codes " can be there"
+third_words d m n Issue = link_words d m n None
+third_words d m n Start = link_words d m n None
+third_words d m n Free = link_words d m n None
+
+-- n waits for this stage of m
+abbrev pub later_words : Document → (m n : ℕ) → (e f : Stage) → List ℕ
+later_words d m n Issue f = parcels_words d (row_at (problem_of d) m).parcels m n
+later_words d m n Start f = third_words d m n f
+later_words d m n (Done x) f = link_words d m n (Some x)
+later_words d m n Free f = free_unit_words d (row_at (problem_of d) m).kind m n
+
+-- what is last of n
+abbrev pub at_end_words : Document → ℕ → Stage → List ℕ
+at_end_words d n (Done x) = end_words d n (Some x)
+at_end_words d n Issue = end_words d n None
+at_end_words d n Start = end_words d n None
+at_end_words d n Free = end_words d n None
+
+-- the row of an arc of the table, which leads to f in this minor cycle; none if both moments are of one instruction
+abbrev pub table_rows : Document → (number : ℕ) → (e f : Moment) → List Reason
+table_rows d number Origin f = []
+table_rows d number (At m e) Origin = []
+table_rows d number (At m e) (At n f) =
+    if m == n then [] else record { number = number; words = later_words d m n e f ++ by_words (line_of_pair d m n) } ∷ []
+table_rows d number (At m e) End = record { number = number; words = at_end_words d m e } ∷ []
+table_rows d number End f = []
+
+-- what a load comes before
+abbrev pub reached_words : Moment → List ℕ
+reached_words Origin = []
+reached_words (At n Issue) = decimal n ++ codes " issues"
+reached_words (At n Start) = decimal n ++ codes " starts"
+reached_words (At n (Done x)) = []
+reached_words (At n Free) = []
+reached_words End = codes "the end"
+
+abbrev pub load_row : Document → (number : ℕ) → Moment → Hop → Reason
+load_row d number e hop = record { number = number; words = reached_words hop.to ++ codes ", by " ++ decimal (line_of_load d e hop) ++ codes "." }
+
+-- an arc is of the table if that has it as long
+abbrev pub hop_rows : Document → (number : ℕ) → Moment → Hop → List Reason
+hop_rows d number e hop =
+    if reaches hop.wait (network (problem_of d) (known_of d).before e hop.to) then table_rows d number e hop.to
+    else load_row d number e hop ∷ []
+
+-- the rows of arcs that lead on from e in this minor cycle
+abbrev pub path_rows : Document → (number : ℕ) → Moment → List Hop → List Reason
+path_rows d number e [] = []
+path_rows d number e (hop ∷ hops) = hop_rows d (number + hop.wait) e hop ++ path_rows d (number + hop.wait) hop.to hops
