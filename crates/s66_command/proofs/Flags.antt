@@ -14,18 +14,22 @@ use Rattle.clap.specs.declared.builder.value_parser.Reading.TheVariants.{AsWritt
 use Rattle.clap.specs.declared.error.kind.ErrorKind.TheVariants.{WrongNumberOfValues}
 use Rattle.clap.specs.declared.parser.matches.ValueSource.{ValueSource}
 use Rattle.clap.specs.declared.parser.matches.ValueSource.TheVariants.{CommandLine, DefaultValue}
-use Rattle.s66_command.specs.FoundOptions.{IsFlagOf}
 use Rattle.s66_command.specs.Usage.{flag_rule}
 use Rattle.s66_command.proofs.Faults.{full}
-use Rattle.s66_command.proofs.OptionRows.{AllGood, IsAmongRules, IsGoodIfFound, defaults-good, found-good, good-change, good-without, walked-good}
+use Rattle.s66_command.proofs.OptionRows.{AllGood, AreOptions, IsGoodIfFound, defaults-good, found-good, good-change, good-without, walked-good}
+
+-- a flag as it is read of the text for it
+abbrev pub IsFlagOf : Option Text → Bool → Type 0
+IsFlagOf text flag = (text ≡ None → flag ≡ false) × (text ≡ Some (codes "true") → flag ≡ true) × (text ≡ Some (codes "false") → flag ≡ false)
 
 module _ (name : Text) where
   -- the flag, as clap fills it in
   abbrev flag : Rule
   flag = filled (flag_rule name)
 
+  -- no rule but the flag has its name
   abbrev pub HasFlag : List Rule → Type 0
-  HasFlag rules = IsAmongRules flag rules
+  HasFlag rules = AreOptions flag rules
 
   -- A ROW OF THE FLAG IS OF USES OF IT, OR ITS DEFAULT
 

@@ -1,6 +1,7 @@
 pub mod CommandLine
 pub mod Faults
 pub mod Flags
+pub mod GivenOptions
 pub mod Named
 pub mod OptionRanges
 pub mod OptionRows

@@ -1,34 +1,24 @@
 -- Words that clap takes name a subcommand.
-use Rattle.std.proofs.Common.{◌≡◌, ◌⊎◌, inl, inr, if◌then◌else◌, ℕ, Bool, cond, true, false, true≢false, ◌||◌, List, [], ◌∷◌, ◌++◌, Option, Some, None, refl, sym, ap, ap₂, ◌∙◌, subst, Box, box_value, codes, find, fold, drop, is_some, map, option_and_then, option_map, bytes_eq, IsErrAnd, MatchResult, Result}
+use Rattle.std.proofs.Common.{◌≡◌, ◌⊎◌, inl, inr, ℕ, Bool, cond, true, false, true≢false, ◌||◌, List, [], ◌∷◌, ◌++◌, Option, Some, None, refl, sym, ap, ◌∙◌, subst, Box, box_value, codes, find, fold, drop, is_some, map, option_map, bytes_eq}
 use Rattle.std.specs.Prelude.{unwrap_or}
-use Rattle.std.specs.Borrow.{Bor}
 use Rattle.std.specs.List.{list_all, list_any}
 use Rattle.std.specs.Option.{option_map_or}
 use Rattle.std.proofs.lemmas.Slice.Eq.{bytes_eq-Decides}
-use Rattle.clap.specs.Words.{App, HasMatchesOf, Rule, Shape, Text, built, first_of, first_value, is_simple_and_free, one_of, one_text, rows_of, subcommand_name_of, subcommand_of, subcommand_rows, subcommand_rows_of}
-use Rattle.clap.specs.Takes.{is_given}
-use Rattle.clap.specs.declared.error.kind.ErrorKind.TheVariants.{ArgumentConflict}
+use Rattle.clap.specs.Words.{App, HasMatchesOf, Rule, Shape, Text, built, is_simple_and_free, subcommand_name_of, subcommand_of, subcommand_rows}
 use Rattle.clap.specs.declared.parser.matches.ArgMatches.{ArgMatches}
 use Rattle.clap.specs.declared.parser.matches.ArgMatches.TheViews.{out-ArgMatches, out-SubCommand}
-use Rattle.clap.specs.declared.parser.matches.Found.{Found}
 use Rattle.clap.specs.declared.parser.matches.SubCommand.{SubCommand}
 use Rattle.clap.specs.Walk.{Held, Names, Outcome, done, waits, plain, refused, Row, Step, next, trailing, subcommand, value, Waiting, idle, option, positional, Walk, after_flag, after_step, answers_to, arg_by_index, arg_by_long, bundle, finished, is_empty, settled, long_met, long_or_other, nothing_held, plain_word, rows_after, short_or_plain, subcommand_met, subcommand_or_other, to_positional, walk, walk_from, walked, walked_from, word_met}
 use Rattle.clap.specs.Lexer.{long_of, short_of}
 use Rattle.clap.specs.Simple.{entered, label_of, names_of}
 use Rattle.clap.specs.Faults.{check_fault, defaults_fault, entered_fault, fault_of, level_fault, settle_fault, other_fault, turn_fault, walk_fault, word_fault}
 use Rattle.clap.proofs.SimpleLemmas.{is_nil}
-use Rattle.clap.proofs.WalkLemmas.{both, first_value-rows, one_text-rows}
-use Rattle.s66_model.specs.declared.limits.TheConstants.{BUDGET_LIMIT, WORKERS_LIMIT}
-use Rattle.s66_model.specs.declared.rule.Rule.{Rule as LeafRule}
-use Rattle.s66_command.specs.declared.limits.TheConstants.{BLOCK_NUMBER_LIMIT, NODES_DEFAULT, WORKERS_DEFAULT}
-use Rattle.s66_command.specs.declared.strategy.Strategy.{Strategy}
-use Rattle.s66_command.specs.FoundOptions.{AreColumnsFound, IsBlockFound, IsFlagFound, IsFlagOf, IsNumber, IsNumberFound, IsOrderFound, IsRuleFound, IsStrategyFound, IsTaken}
-use Rattle.s66_command.specs.declared.usage.Usage.{Usage}
-use Rattle.s66_command.specs.Usage.{AsksFor, GivesBlock, GivesColumns, GivesOrder, GivesProfile, GivesSearch, IsNumberIn, IsNumberOrDefault, IsUsageOf, Refuses, are_columns_alone, gives_columns_alone, gives_two, has_option, option_text, rule_given, rule_unless_two, s66_app, subcommand_name}
+use Rattle.clap.proofs.WalkLemmas.{both}
+use Rattle.s66_command.specs.FoundOptions.{IsTaken}
+use Rattle.s66_command.specs.declared.subcommand.Subcommand.{Subcommand}
+use Rattle.s66_command.specs.declared.subcommand.TheConstants.{SUBCOMMANDS}
+use Rattle.s66_command.specs.Usage.{gives_conflict, name_of, AsksFor, s66_app, subcommand_name}
 use Rattle.s66_command.proofs.Faults.{first-none, full, second-none}
-use Rattle.s66_command.proofs.Flags.{HasFlag, flag-is}
-use Rattle.s66_command.proofs.OptionRanges.{HasNumber, number-is}
-use Rattle.s66_command.proofs.Refused.{handed-on, refused-two}
 
 -- A NAME OF A LIST
 
@@ -187,7 +177,7 @@ abbrev subcommand_at : Text → Option Shape
 subcommand_at name = find (λ s. answers_to name (label_of s)) (built s66_app).subs
 
 -- the subcommand is one of the program's, with its matches on some words that have no fault
-abbrev IsEntered : Option (Text × List Row) → Type 0
+abbrev pub IsEntered : Option (Text × List Row) → Type 0
 IsEntered met = (s : Shape) × (rest : List Text) × (met ≡ Some (s.name, rows_after s.rules [] rest))
     × (subcommand_at s.name ≡ Some s) × IsNamed (map label_of s66_app.subs) s.name × (level_fault s [] nothing_held rest false [] ≡ [])
 
@@ -205,7 +195,7 @@ entered-at (Some (name, rest)) rows stops below none =
       sym (ap (λ o. option_map_or (λ s. level_fault s [] nothing_held rest false []) o []) at.2) ∙ below,
     )
 
-named : (words : List Text) → fault_of s66_app words ≡ [] → IsEntered (subcommand_of s66_app words)
+pub named : (words : List Text) → fault_of s66_app words ≡ [] → IsEntered (subcommand_of s66_app words)
 named words none =
     let words-after = drop 1 words in
     let end = walk top.rules names nothing_held words-after in
@@ -232,9 +222,23 @@ name-at (Some b) = refl
 name-is : (m : ArgMatches) (words : List Text) → IsTaken m words → subcommand_name_of m ≡ subcommand_name words
 name-is m words is = name-at (out-ArgMatches m).subcommand ∙ ap (option_map (λ s. s.0)) is.1
 
-asks-for : (m : ArgMatches) (words : List Text) (given name : Text) → IsTaken m words → Some given ≡ subcommand_name_of m → given ≡ name →
-    AsksFor words name
-asks-for m words given name is gives same = (is.0, sym (name-is m words is) ∙ sym gives ∙ ap (λ n. Some n) same)
+abbrev subcommand_called : Text → List Subcommand → Option Subcommand
+subcommand_called name = find (λ s. bytes_eq (name_of s) name)
+
+called-head : (b : Bool) (t s : Subcommand) (rest : Option Subcommand) (name : Text) → bytes_eq (name_of t) name ≡ b → (rest ≡ Some s → name_of s ≡ name) →
+    cond b (Some t) rest ≡ Some s → name_of s ≡ name
+called-head true t s rest name same more at = sym (ap (λ o. name_of (unwrap_or o t)) at) ∙ (bytes_eq-Decides (name_of t) name).0 same
+called-head false t s rest name apart more at = more at
+
+called-name : (all : List Subcommand) (s : Subcommand) (name : Text) → subcommand_called name all ≡ Some s → name_of s ≡ name
+called-name [] s name at = absurd (true≢false (ap is_some (sym at)))
+called-name (t ∷ rest) s name at = called-head (bytes_eq (name_of t) name) t s _ name refl (called-name rest s name) at
+
+-- the subcommand that clap gives by its name is the one that the words name
+pub asks-for : (m : ArgMatches) (words : List Text) (name : Text) (s : Subcommand) → IsTaken m words → Some name ≡ subcommand_name_of m →
+    subcommand_called name SUBCOMMANDS ≡ Some s → gives_conflict words ≡ false → AsksFor words (name_of s)
+asks-for m words name s is gives called none =
+    (is.0, none, sym (name-is m words is) ∙ sym gives ∙ ap (λ n. Some n) (sym (called-name SUBCOMMANDS s name called)))
 
 -- clap gives a name, which is a subcommand's
 abbrev IsKnown : Option Text → Type 0
@@ -246,136 +250,16 @@ name-known m words given is gives =
     let met = named words is.0 in
     subst IsKnown (sym (gives ∙ name-is m words is ∙ ap (option_map (λ s. s.0)) met.2)) met.4
 
--- what was found are the subcommand's matches on some words that have no fault
-abbrev pub IsMatched : Found → List Text → Shape → Type 0
-IsMatched found words s = (rest : List Text) × (rows_of found ≡ rows_after s.rules [] rest) × (subcommand_of s66_app words ≡ Some (s.name, rows_of found))
-    × (level_fault s [] nothing_held rest false [] ≡ [])
+-- a subcommand has that name
+abbrev IsCalled : Text → List Subcommand → Type 0
+IsCalled name all = IsNamed (map (λ s. (name_of s, [])) all) name
 
-matched : (m : ArgMatches) (words : List Text) (found : Found) (s : Shape) → IsTaken m words → subcommand_name words ≡ Some s.name →
-    subcommand_at s.name ≡ Some s → Some (rows_of found) ≡ option_map (λ p. p.1) (subcommand_rows_of m) → IsMatched found words s
-matched m words found s is name at rows =
-    let met = named words is.0 in
-    let same-name : met.0.name ≡ s.name = ap (λ o. unwrap_or o []) (ap (option_map (λ p. p.0)) (sym met.2) ∙ name) in
-    let same-shape : met.0 ≡ s = ap (λ o. unwrap_or o s) (sym met.3 ∙ ap subcommand_at same-name ∙ at) in
-    let same-rows : rows_of found ≡ rows_after met.0.rules [] met.1 = ap (λ o. unwrap_or o []) (rows ∙ ap (option_map (λ p. p.1)) (is.1 ∙ met.2)) in (
-      met.1,
-      same-rows ∙ ap (λ (t : Shape). rows_after t.rules [] met.1) same-shape,
-      met.2 ∙ ap (λ n. Some (n, rows_after met.0.rules [] met.1)) same-name ∙ ap (λ r. Some (s.name, r)) (sym same-rows),
-      subst (λ (t : Shape). level_fault t [] nothing_held met.1 false [] ≡ []) same-shape met.5,
-    )
+found-head : (b : Bool) (t : Subcommand) (rest : List Subcommand) (name : Text) → bytes_eq (name_of t) name ≡ b → IsCalled name (t ∷ rest) →
+    (IsCalled name rest → subcommand_called name rest ≡ None → ⊥) → cond b (Some t) (subcommand_called name rest) ≡ None → ⊥
+found-head true t rest name here is more none = true≢false (ap is_some none)
+found-head false t rest name here (inl e) more none = true≢false (sym ((bytes_eq-Decides (name_of t) name).1 (sym e)) ∙ here)
+found-head false t rest name here (inr is) more none = more is none
 
--- the subcommand of this shape is the one that clap gives
-pub met : (m : ArgMatches) (words : List Text) (given : Text) (found : Found) (s : Shape) → IsTaken m words → Some given ≡ subcommand_name_of m →
-    Some (rows_of found) ≡ option_map (λ p. p.1) (subcommand_rows_of m) → given ≡ s.name → subcommand_at s.name ≡ Some s →
-    AsksFor words s.name × IsMatched found words s
-met m words given found s is gives rows same at =
-    let asks = asks-for m words given s.name is gives same in
-    (asks, matched m words found s is asks.1 at rows)
-
--- a flag of a subcommand, as it was read of what was found for it
-pub flag-of : (words : List Text) (found : Found) (flag : Bool) (s : Shape) (name : Text) → IsMatched found words s → HasFlag name s.rules → IsFlagFound found name flag →
-    flag ≡ has_option name words
-flag-of words found flag s name is has read =
-    flag-is name s has is.0 false is.3 flag (subst (λ text. IsFlagOf text flag) (one_text-rows found name ∙ ap (one_of name) is.1) read)
-    ∙ sym (ap (is_given name) is.1) ∙ sym (ap (λ o. option_map_or (λ (p : Text × List Row). is_given name p.1) o false) is.2)
-
--- the text of a subcommand's profile, as it was found
-pub profile-of : (words : List Text) (found : Found) (s : Shape) (profile : Option (Bor Text)) → IsMatched found words s →
-    option_map (λ text. text.now) profile ≡ first_value found (codes "profile") → GivesProfile words profile
-profile-of words found s profile is given =
-    given ∙ first_value-rows found (codes "profile") ∙ sym (ap (option_and_then (λ (p : Text × List Row). first_of (codes "profile") p.1)) is.2)
-
--- the text of a number's option, as it was found
-number-of : (words : List Text) (found : Found) (s : Shape) (id : Text) (least most : ℕ) → IsMatched found words s → HasNumber id least most s.rules →
-    IsNumber least most (one_text found id) × (one_text found id ≡ option_text id words)
-number-of words found s id least most is options = (
-  subst (IsNumber least most) (sym (one_text-rows found id ∙ ap (one_of id) is.1)) (number-is id least most s options is.0 false is.3),
-  one_text-rows found id ∙ sym (ap (option_and_then (λ (p : Text × List Row). one_of id p.1)) is.2),
-)
-
--- a number's option of a subcommand, as it was read of what was found for it
-number-given : (words : List Text) (found : Found) (s : Shape) (id : Text) (least most default n : ℕ) → IsMatched found words s → HasNumber id least most s.rules →
-    IsNumberFound found id least most default n → IsNumberOrDefault least most default (option_text id words) n
-number-given words found s id least most default n is options read =
-    let there = number-of words found s id least most is options in
-    subst (λ text. IsNumberOrDefault least most default text n) there.1 (read there.0)
-
--- the number of a block, as it was read of what was found for its option
-pub block-of : (words : List Text) (found : Found) (block : Option ℕ) (s : Shape) → IsMatched found words s → HasNumber (codes "block") 1 BLOCK_NUMBER_LIMIT s.rules → IsBlockFound found block →
-    GivesBlock words block
-block-of words found block s is options read =
-    let there = number-of words found s (codes "block") 1 BLOCK_NUMBER_LIMIT is options in
-    subst (λ text. IsNumberIn 1 BLOCK_NUMBER_LIMIT text block) there.1 (read there.0)
-
--- THE OPTIONS OF A SEARCH
-
--- the options have the numbers of a search and the three flags
-abbrev pub HasSearchOptions : List Rule → Type 0
-HasSearchOptions rules =
-    HasNumber (codes "workers") 1 WORKERS_LIMIT rules × HasNumber (codes "nodes") 0 BUDGET_LIMIT rules
-    × HasFlag (codes "dominate") rules × HasFlag (codes "dominate-tree") rules × HasFlag (codes "deep") rules
-
--- the rule is what the words give
-rule-given : (words : List Text) (found : Found) (rule : Option LeafRule) (s : Shape) → IsMatched found words s → HasSearchOptions s.rules → IsRuleFound found rule →
-    rule ≡ (if gives_two words then None else Some (rule_given words))
-rule-given words found rule s is (workers, nodes, has, has-tree, has-deep) (dominate, any, deep, read, any-read, deep-read, by) =
-    let same = flag-of words found dominate s (codes "dominate") is has read in
-    let same-any = flag-of words found any s (codes "dominate-tree") is has-tree any-read in
-    let same-deep = flag-of words found deep s (codes "deep") is has-deep deep-read in
-    by ∙ ap (λ b. rule_unless_two b any deep) same ∙ ap₂ (rule_unless_two (has_option (codes "dominate") words)) same-any same-deep
-
-one-given : {T : Type 0} (two : Bool) (rule by : T) → Some rule ≡ (if two then None else Some by) → (rule ≡ by) × (two ≡ false)
-one-given true rule by is = absurd (true≢false (ap is_some is))
-one-given false rule by is = (ap (λ o. unwrap_or o rule) is, refl)
-
-pub search-of : (words : List Text) (found : Found) (strategy : Strategy) (s : Shape) → IsMatched found words s → HasSearchOptions s.rules →
-    IsStrategyFound found (Some strategy) → GivesSearch words strategy
-search-of words found strategy s is has (workers, nodes, rule, deep) =
-    let by = number-given words found s (codes "workers") 1 WORKERS_LIMIT WORKERS_DEFAULT strategy.search.workers is has.0 workers in
-    let up-to = number-given words found s (codes "nodes") 0 BUDGET_LIMIT NODES_DEFAULT strategy.search.nodes is has.1 nodes in
-    let (same, one) = one-given (gives_two words) strategy.search.rule (rule_given words) (rule-given words found (Some strategy.search.rule) s is has rule) in
-    ((by, up-to, same, one), flag-of words found strategy.deep s (codes "deep") is has.4 deep)
-
-two-given : {T : Type 0} (two : Bool) (by : T) → None ≡ (if two then None else Some by) → two ≡ true
-two-given true by is = refl
-two-given false by is = absurd (true≢false (ap is_some (sym is)))
-
-two-of : (words : List Text) (found : Found) (s : Shape) → IsMatched found words s → HasSearchOptions s.rules → IsStrategyFound found None → gives_two words ≡ true
-two-of words found s is has read = two-given (gives_two words) (rule_given words) (rule-given words found None s is has read)
-
--- the best order is asked for, with this strategy, or it isn't
-pub order-of : (words : List Text) (found : Found) (strategy : Strategy) (order : Option Strategy) (s : Shape) → IsMatched found words s → HasFlag (codes "order") s.rules →
-    GivesSearch words strategy → IsOrderFound found strategy order → GivesOrder words order
-order-of words found strategy order s is has gives (given, read, by) =
-    subst (GivesOrder words) (sym by) (order-by given (flag-of words found given s (codes "order") is has read))
-  where
-    order-by : (given : Bool) → given ≡ has_option (codes "order") words → GivesOrder words (if given then Some strategy else None)
-    order-by true same = (sym same, gives)
-    order-by false same = (sym same, gives.0.3)
-
--- what is read of the flags for columns is by the words
-columns-given : (words : List Text) (found : Found) (asked : Option Bool) (s : Shape) → IsMatched found words s → HasFlag (codes "columns") s.rules →
-    HasFlag (codes "keep") s.rules → AreColumnsFound found asked →
-    asked ≡ (if gives_columns_alone words then None else Some (has_option (codes "columns") words))
-columns-given words found asked s is has has-keep (columns, keep, read, keep-read, by) =
-    let same = flag-of words found columns s (codes "columns") is has read in
-    let same-keep = flag-of words found keep s (codes "keep") is has-keep keep-read in
-    by ∙ ap₂ (λ c k. if are_columns_alone c k then None else Some c) same same-keep
-
--- columns are kept, or not, as the words say
-pub columns-of : (words : List Text) (found : Found) (columns : Bool) (s : Shape) → IsMatched found words s → HasFlag (codes "columns") s.rules →
-    HasFlag (codes "keep") s.rules → AreColumnsFound found (Some columns) → GivesColumns words columns
-columns-of words found columns s is has has-keep read =
-    one-given (gives_columns_alone words) columns (has_option (codes "columns") words) (columns-given words found (Some columns) s is has has-keep read)
-
-pub alone-of : (words : List Text) (found : Found) (s : Shape) → IsMatched found words s → HasFlag (codes "columns") s.rules →
-    HasFlag (codes "keep") s.rules → AreColumnsFound found None → gives_columns_alone words ≡ true
-alone-of words found s is has has-keep read =
-    two-given (gives_columns_alone words) (has_option (codes "columns") words) (columns-given words found None s is has has-keep read)
-
--- two of the flags are a mistake, which the command line of the subcommand tells
-pub two-refused : {T : Type 0} (words : List Text) (found : Found) (s : Shape) (usage : Usage) (result : Result T Usage) (P : T → Type 0) → fault_of s66_app words ≡ [] →
-    IsMatched found words s → HasSearchOptions s.rules → IsStrategyFound found None × IsUsageOf ArgumentConflict usage → IsErrAnd result (λ e. e ≡ usage) →
-    MatchResult result P (Refuses words)
-two-refused words found s usage result P none is has (two, told) same =
-    handed-on result usage words P same (refused-two usage words none (two-of words found s is has two) told)
+pub found-called : (all : List Subcommand) (name : Text) → IsCalled name all → subcommand_called name all ≡ None → ⊥
+found-called [] name is none = is
+found-called (t ∷ rest) name is none = found-head (bytes_eq (name_of t) name) t rest name refl is (found-called rest name) none

@@ -15,18 +15,23 @@ use Rattle.clap.specs.declared.error.kind.ErrorKind.TheVariants.{ValueValidation
 use Rattle.clap.specs.declared.parser.matches.ValueSource.TheVariants.{CommandLine}
 use Rattle.clap.proofs.CallerReads.{signed_reads}
 use Rattle.clap.proofs.ValueTestLemmas.{accepts-Accepts}
-use Rattle.s66_command.specs.FoundOptions.{IsNumber}
 use Rattle.s66_command.specs.Usage.{IsNumberIn, IsNumberOrDefault, number_rule}
 use Rattle.s66_command.proofs.Faults.{full, second-none}
-use Rattle.s66_command.proofs.OptionRows.{AllGood, IsAmongRules, IsGoodIfFound, defaults-good, found-good, good-change, good-without, walked-good}
+use Rattle.s66_command.proofs.OptionRows.{AllGood, AreOptions, IsGoodIfFound, defaults-good, found-good, good-change, good-without, walked-good}
+
+-- the text, if there is one, is a number from the least to the most
+abbrev pub IsNumber : (least most : ℕ) → Option Text → Type 0
+IsNumber least most None = Unit {0}
+IsNumber least most (Some text) = (v : Text) × (text ≡ without_minus v) × IsSignedIn (pos least) (pos most) v
 
 module _ (id : Text) (least most : ℕ) where
   -- the option, as clap fills it in
   abbrev number : Rule
   number = filled (number_rule id least most)
 
+  -- no rule but the option has its name
   abbrev pub HasNumber : List Rule → Type 0
-  HasNumber rules = IsAmongRules number rules
+  HasNumber rules = AreOptions number rules
 
   -- A ROW OF THE OPTION BEGINS WITH A NUMBER WITHIN THE LIMITS
 

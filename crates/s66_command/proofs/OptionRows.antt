@@ -1,5 +1,5 @@
 -- After words without a fault, what was found of an option is of its uses, or its default.
-use Rattle.std.proofs.Common.{◌≡◌, ◌⊎◌, ◌∙◌, inl, inr, ℕ, zero, suc, Bool, cond, true, false, true≢false, ◌&&◌, List, [], ◌∷◌, ◌++◌, Option, Some, None, is_some, refl, sym, ap, subst, find, filter, fold, drop, bytes_eq, length, encode_utf8, slice_get, chars, min, ◌+◌}
+use Rattle.std.proofs.Common.{◌≡◌, ◌⊎◌, ◌∙◌, inl, inr, ℕ, zero, suc, Bool, cond, true, false, true≢false, ◌&&◌, List, [], ◌∷◌, ◌++◌, Option, Some, None, is_some, refl, sym, ap, subst, find, fold, drop, bytes_eq, length, encode_utf8, slice_get, chars, min, ◌+◌}
 use Rattle.std.specs.Prelude.{unwrap_or}
 use Rattle.std.specs.Option.{option_map_or}
 use Rattle.std.proofs.lemmas.Slice.Eq.{bytes_eq-Decides}
@@ -22,32 +22,12 @@ module _ (own : Rule) where
   -- THE OPTIONS OF A SUBCOMMAND
 
   -- the option, or one of another id
-  abbrev IsOption : Rule → Type 0
+  abbrev pub IsOption : Rule → Type 0
   IsOption a = (a ≡ own) ⊎ (bytes_eq a.id id ≡ false)
 
-  abbrev AreOptions : List Rule → Type 0
+  abbrev pub AreOptions : List Rule → Type 0
   AreOptions [] = Unit {0}
   AreOptions (a ∷ rest) = IsOption a × AreOptions rest
-
-  -- the option is one of the rules, and no other has its id
-  abbrev pub IsAmongRules : List Rule → Type 0
-  IsAmongRules rules = filter (λ a. bytes_eq a.id id) rules ≡ own ∷ []
-
-  abbrev AreOwn : List Rule → Type 0
-  AreOwn [] = Unit {0}
-  AreOwn (a ∷ rest) = (a ≡ own) × AreOwn rest
-
-  options-head : (b : Bool) (a : Rule) (rest passed : List Rule) → bytes_eq a.id id ≡ b → AreOwn (cond b (a ∷ passed) passed) → (AreOwn passed → AreOptions rest) →
-      AreOptions (a ∷ rest)
-  options-head true a rest passed same (is, more) others = (inl is, others more)
-  options-head false a rest passed apart more others = (inr apart, others more)
-
-  options-in : (rules : List Rule) → AreOwn (filter (λ a. bytes_eq a.id id) rules) → AreOptions rules
-  options-in [] all = tt
-  options-in (a ∷ rest) all = options-head (bytes_eq a.id id) a rest (filter (λ b. bytes_eq b.id id) rest) refl all (options-in rest)
-
-  are-options : (rules : List Rule) → IsAmongRules rules → AreOptions rules
-  are-options rules is = options-in rules (subst AreOwn (sym is) (refl, tt))
 
   -- the rows of the option are of the kind P
   module _ (P : Row → Type 0) where
@@ -143,12 +123,9 @@ module _ (own : Rule) where
       default-good a (inl e) rows good = subst (λ x. AllGood (with_default rows x)) (sym e) (own-default rows good)
       default-good a (inr apart) rows good = default-by (has_row a.id rows) a.id (reading_by a) a.defaults apart rows good
 
-      defaults-in : (xs : List Rule) → AreOptions xs → (rows : List Row) → AllGood rows → AllGood (fold with_default rows xs)
-      defaults-in [] has rows good = good
-      defaults-in (a ∷ rest) has rows good = defaults-in rest has.1 (with_default rows a) (default-good a has.0 rows good)
-
-      pub defaults-good : (rules : List Rule) → IsAmongRules rules → (rows : List Row) → AllGood rows → AllGood (fold with_default rows rules)
-      defaults-good rules is = defaults-in rules (are-options rules is)
+      pub defaults-good : (xs : List Rule) → AreOptions xs → (rows : List Row) → AllGood rows → AllGood (fold with_default rows xs)
+      defaults-good [] has rows good = good
+      defaults-good (a ∷ rest) has rows good = defaults-good rest has.1 (with_default rows a) (default-good a has.0 rows good)
 
     -- A USE OF AN OPTION
 
@@ -162,15 +139,12 @@ module _ (own : Rule) where
 
       -- A WORD, OF A SUBCOMMAND THAT HAS THE OPTION
 
-      module _ (s : Shape) (among : IsAmongRules s.rules) where
+      module _ (s : Shape) (options : AreOptions s.rules) where
         abbrev c : List Rule
         c = s.rules
 
         abbrev again : Bool
         again = s.args_override_self
-
-        options : AreOptions s.rules
-        options = are-options s.rules among
 
         abbrev IsFound : Option Rule → Type 0
         IsFound None = Unit {0}

@@ -1,10 +1,6 @@
--- To be believed: the command line, by clap's rules: the subcommands `lint`, `order`, `compare`, `sum`, `prove`, `check`, `time`, `why`, `chart`,
--- `deps`, `page` and `json`, and a version. All but `check` have the flag `--cut`. `order`, `compare`, `sum`, `prove`, `time`, `why`, `chart`, `page`
--- and `json` have the option `--profile`, and those of them that search (`order`, `sum`, `prove`, `why`, `page` and `json`) also `--nodes` and
--- `--workers`, and one at most of the flags `--deep`, `--dominate` and `--dominate-tree`. `order`, `sum` and `time` have the flag `--trace`, `order` also
--- `--keep`, with that `--columns`, and `--quiet`, `sum` has `--words`, `check`, `why` and `chart` have `--text`, and `why` and `json` have `--order`, and
--- with that the options of a search. All but `check`, `lint` and `compare` have the option `--block`.
-use Rattle.std.specs.Prelude.{◌≡◌, ◌≢◌, ◌⊎◌, ◌≤◌, ◌&&◌, ◌||◌, not, if◌then◌else◌, IfSome, ℕ, Bool, List, [], false, true, Option, None, Some, codes, option_and_then, pos}
+-- To be believed: the command line, by clap's rules: the subcommands, which options each takes, what words ask for by them, and which words are
+-- refused.
+use Rattle.std.specs.Prelude.{◌≡◌, ◌≢◌, ◌⊎◌, ◌≤◌, ◌&&◌, ◌||◌, not, if◌then◌else◌, IfSome, ℕ, Bool, List, [], ◌∷◌, ◌++◌, fold, false, true, Option, None, Some, codes, option_and_then, pos}
 use Rattle.std.specs.Borrow.{Bor}
 use Rattle.std.specs.Option.{option_map, option_map_or}
 use Rattle.std.specs.Str.Parse.{digits_value, without_leading_plus}
@@ -23,6 +19,11 @@ use Rattle.s66_model.specs.declared.options.Options.{Options}
 use Rattle.s66_model.specs.declared.rule.Rule.{Rule as LeafRule}
 use Rattle.s66_model.specs.declared.rule.Rule.TheVariants.{NoneNamed, WrittenEarlier, ClampedStanding}
 use Rattle.s66_command.specs.declared.limits.TheConstants.{BLOCK_NUMBER_LIMIT, NODES_DEFAULT, WORKERS_DEFAULT}
+use Rattle.s66_command.specs.declared.subcommand.OptionName.{OptionName}
+use Rattle.s66_command.specs.declared.subcommand.OptionName.TheVariants as option
+use Rattle.s66_command.specs.declared.subcommand.Subcommand.{Subcommand}
+use Rattle.s66_command.specs.declared.subcommand.Subcommand.TheVariants as sub
+use Rattle.s66_command.specs.declared.subcommand.TheConstants.{SUBCOMMANDS}
 use Rattle.s66_command.specs.declared.command.Command.{Command}
 use Rattle.s66_command.specs.declared.command.Command.TheVariants.{Time, Deps, Chart, Why, Page, Order, Prove, Check, Sum, Compare, Json, Lint}
 use Rattle.s66_command.specs.declared.strategy.Strategy.{Strategy}
@@ -33,111 +34,82 @@ use Rattle.s66_command.specs.declared.usage.Usage.TheVariants.{Help, Bad, OutOfM
 abbrev pub flag_rule : Text → Rule
 flag_rule name = record (new_rule name) { long = Some name; action = Some SetTrue }
 
-abbrev pub cut_rule : Rule
-cut_rule = flag_rule (codes "cut")
-
-abbrev pub trace_rule : Rule
-trace_rule = flag_rule (codes "trace")
-
-abbrev pub keep_rule : Rule
-keep_rule = flag_rule (codes "keep")
-
-abbrev pub columns_rule : Rule
-columns_rule = flag_rule (codes "columns")
-
-abbrev pub words_rule : Rule
-words_rule = flag_rule (codes "words")
-
-abbrev pub quiet_rule : Rule
-quiet_rule = flag_rule (codes "quiet")
-
-abbrev pub text_rule : Rule
-text_rule = flag_rule (codes "text")
-
-abbrev pub order_rule : Rule
-order_rule = flag_rule (codes "order")
-
-abbrev pub dominate_rule : Rule
-dominate_rule = flag_rule (codes "dominate")
-
-abbrev pub dominate_tree_rule : Rule
-dominate_tree_rule = flag_rule (codes "dominate-tree")
-
-abbrev pub deep_rule : Rule
-deep_rule = flag_rule (codes "deep")
-
 -- an option whose value is a number from the least to the most
 abbrev pub number_rule : Text → ℕ → ℕ → Rule
 number_rule name least most = record (new_rule name) { long = Some name; value_names = 1; parser = Some (Signed (pos least) (pos most)) }
 
-abbrev pub workers_rule : Rule
-workers_rule = number_rule (codes "workers") 1 WORKERS_LIMIT
+-- the option by its name, with its range; all that take no value are flags
+abbrev pub rule_of_option : OptionName → Rule
+rule_of_option option.Deep = flag_rule (codes "deep")
+rule_of_option option.Cut = flag_rule (codes "cut")
+rule_of_option option.Profile = record (new_rule (codes "profile")) { long = Some (codes "profile"); value_names = 1 }
+rule_of_option option.Nodes = number_rule (codes "nodes") 0 BUDGET_LIMIT
+rule_of_option option.Workers = number_rule (codes "workers") 1 WORKERS_LIMIT
+rule_of_option option.Dominate = flag_rule (codes "dominate")
+rule_of_option option.DominateTree = flag_rule (codes "dominate-tree")
+rule_of_option option.Order = flag_rule (codes "order")
+rule_of_option option.Text = flag_rule (codes "text")
+rule_of_option option.Trace = flag_rule (codes "trace")
+rule_of_option option.Keep = flag_rule (codes "keep")
+rule_of_option option.Columns = flag_rule (codes "columns")
+rule_of_option option.Quiet = flag_rule (codes "quiet")
+rule_of_option option.Words = flag_rule (codes "words")
+rule_of_option option.Block = number_rule (codes "block") 1 BLOCK_NUMBER_LIMIT
 
-abbrev pub nodes_rule : Rule
-nodes_rule = number_rule (codes "nodes") 0 BUDGET_LIMIT
+-- the word by which a subcommand is called
+abbrev pub name_of : Subcommand → Text
+name_of sub.Lint = codes "lint"
+name_of sub.Order = codes "order"
+name_of sub.Compare = codes "compare"
+name_of sub.Sum = codes "sum"
+name_of sub.Prove = codes "prove"
+name_of sub.Check = codes "check"
+name_of sub.Time = codes "time"
+name_of sub.Why = codes "why"
+name_of sub.Chart = codes "chart"
+name_of sub.Deps = codes "deps"
+name_of sub.Page = codes "page"
+name_of sub.Json = codes "json"
 
-abbrev pub block_rule : Rule
-block_rule = number_rule (codes "block") 1 BLOCK_NUMBER_LIMIT
+-- the options of a search
+abbrev pub search_options : List OptionName
+search_options = option.Deep ∷ option.Cut ∷ option.Profile ∷ option.Nodes ∷ option.Workers ∷ option.Dominate ∷ option.DominateTree ∷ []
 
--- its value is any text
-abbrev pub profile_rule : Rule
-profile_rule = record (new_rule (codes "profile")) { long = Some (codes "profile"); value_names = 1 }
+-- the options that a subcommand takes
+abbrev pub options_of : Subcommand → List OptionName
+options_of sub.Lint = option.Cut ∷ []
+options_of sub.Order = search_options ++ option.Trace ∷ option.Keep ∷ option.Columns ∷ option.Quiet ∷ option.Block ∷ []
+options_of sub.Compare = option.Cut ∷ option.Profile ∷ []
+options_of sub.Sum = search_options ++ option.Trace ∷ option.Words ∷ option.Block ∷ []
+options_of sub.Prove = search_options ++ option.Block ∷ []
+options_of sub.Check = option.Text ∷ []
+options_of sub.Time = option.Cut ∷ option.Profile ∷ option.Trace ∷ option.Block ∷ []
+options_of sub.Why = search_options ++ option.Order ∷ option.Text ∷ option.Block ∷ []
+options_of sub.Chart = option.Cut ∷ option.Profile ∷ option.Text ∷ option.Block ∷ []
+options_of sub.Deps = option.Cut ∷ option.Block ∷ []
+options_of sub.Page = search_options ++ option.Block ∷ []
+options_of sub.Json = search_options ++ option.Order ∷ option.Block ∷ []
 
--- a subcommand that reads a source
-abbrev pub source_app : Text → App
-source_app name = with_rule (new_app name) cut_rule
+-- a command line with these options too
+abbrev pub with_options : App → List OptionName → App
+with_options a options = fold (λ a o. with_rule a (rule_of_option o)) a options
 
-abbrev pub time_app : App
-time_app = with_rule (with_rule (with_rule (source_app (codes "time")) profile_rule) trace_rule) block_rule
+-- the command line of a subcommand
+abbrev pub app_of_subcommand : Subcommand → App
+app_of_subcommand s = with_options (new_app (name_of s)) (options_of s)
 
-abbrev pub deps_app : App
-deps_app = with_rule (source_app (codes "deps")) block_rule
+-- a command line with these subcommands too
+abbrev pub with_subcommands : App → List Subcommand → App
+with_subcommands a subcommands = fold (λ a s. with_subcommand a (app_of_subcommand s).top) a subcommands
 
-abbrev pub chart_app : App
-chart_app = with_rule (with_rule (with_rule (source_app (codes "chart")) profile_rule) text_rule) block_rule
-
--- a subcommand that searches, and may leave out what is dominated or look for facts first
-abbrev pub search_app : Text → App
-search_app name =
-    let reading = with_rule (with_rule (with_rule (new_app name) deep_rule) cut_rule) profile_rule in
-    with_rule (with_rule (with_rule (with_rule reading nodes_rule) workers_rule) dominate_rule) dominate_tree_rule
-
-abbrev pub why_app : App
-why_app = with_rule (with_rule (with_rule (search_app (codes "why")) order_rule) text_rule) block_rule
-
-abbrev pub page_app : App
-page_app = with_rule (search_app (codes "page")) block_rule
-
-abbrev pub order_app : App
-order_app =
-    let keeping = with_rule (with_rule (with_rule (search_app (codes "order")) trace_rule) keep_rule) columns_rule in
-    with_rule (with_rule keeping quiet_rule) block_rule
-
-abbrev pub prove_app : App
-prove_app = with_rule (search_app (codes "prove")) block_rule
-
-abbrev pub check_app : App
-check_app = with_rule (new_app (codes "check")) text_rule
-
-abbrev pub lint_app : App
-lint_app = source_app (codes "lint")
-
-abbrev pub sum_app : App
-sum_app = with_rule (with_rule (with_rule (search_app (codes "sum")) trace_rule) words_rule) block_rule
-
-abbrev pub compare_app : App
-compare_app = with_rule (source_app (codes "compare")) profile_rule
-
-abbrev pub json_app : App
-json_app = with_rule (with_rule (search_app (codes "json")) order_rule) block_rule
+-- the command line before its subcommands: one is required, and there is a version
+abbrev pub start_app : App
+start_app =
+    let a = new_app (codes "s66") in
+    record a { top = record a.top { subcommand_required = true; has_version = true } }
 
 abbrev pub s66_app : App
-s66_app =
-    let ordering = with_subcommand (with_subcommand (with_subcommand (new_app (codes "s66")) lint_app.top) order_app.top) compare_app.top in
-    let proving = with_subcommand (with_subcommand (with_subcommand ordering sum_app.top) prove_app.top) check_app.top in
-    let timing = with_subcommand (with_subcommand (with_subcommand proving time_app.top) why_app.top) chart_app.top in
-    let a = with_subcommand (with_subcommand (with_subcommand timing deps_app.top) page_app.top) json_app.top in
-    record a { top = record a.top { subcommand_required = true; has_version = true } }
+s66_app = with_subcommands start_app SUBCOMMANDS
 
 -- the argument is this one, and not for all subcommands
 abbrev pub IsArgumentOf : Rule → Arg → Type 0
@@ -171,10 +143,6 @@ number_in text = digits_value 10 (without_leading_plus text)
 abbrev pub IsNumberOrDefault : (least most default : ℕ) → Option Text → ℕ → Type 0
 IsNumberOrDefault least most default text n = (n ≡ option_map_or number_in text default) × (least ≤ n) × (n ≤ most)
 
--- the words, of which the first is the program's name, have no fault and name the subcommand
-abbrev pub AsksFor : List Text → Text → Type 0
-AsksFor words name = (fault_of s66_app words ≡ []) × (subcommand_name words ≡ Some name)
-
 -- which nodes dominated leaves name by the flags `--dominate`, `--dominate-tree` and `--deep`
 abbrev pub rule_by : (dominate dominate_tree deep : Bool) → LeafRule
 rule_by dominate dominate_tree deep = if dominate_tree || deep then ClampedStanding else (if dominate then WrittenEarlier else NoneNamed)
@@ -183,48 +151,45 @@ rule_by dominate dominate_tree deep = if dominate_tree || deep then ClampedStand
 abbrev pub are_two : (first second third : Bool) → Bool
 are_two first second third = (first && second) || ((first && third) || (second && third))
 
--- by one of them at most
-abbrev pub rule_unless_two : (dominate dominate_tree deep : Bool) → Option LeafRule
-rule_unless_two dominate dominate_tree deep = if are_two dominate dominate_tree deep then None else Some (rule_by dominate dominate_tree deep)
+-- flags don't go together if they are two of the first three, or `--columns` without `--keep`, which it needs
+abbrev pub are_in_conflict : (dominate dominate_tree deep columns keep : Bool) → Bool
+are_in_conflict dominate dominate_tree deep columns keep = are_two dominate dominate_tree deep || (columns && not keep)
 
--- by the words
-abbrev pub rule_given : List Text → LeafRule
-rule_given words = rule_by (has_option (codes "dominate") words) (has_option (codes "dominate-tree") words) (has_option (codes "deep") words)
+-- the words give the subcommand flags that don't go together
+abbrev pub gives_conflict : List Text → Bool
+gives_conflict words =
+    let has = λ (name : Text). has_option name words in
+    are_in_conflict (has (codes "dominate")) (has (codes "dominate-tree")) (has (codes "deep")) (has (codes "columns")) (has (codes "keep"))
 
--- the words give two of the flags, or all
-abbrev pub gives_two : List Text → Bool
-gives_two words = are_two (has_option (codes "dominate") words) (has_option (codes "dominate-tree") words) (has_option (codes "deep") words)
-
--- the flag `--columns` is given without `--keep`, which it needs
-abbrev pub are_columns_alone : (columns keep : Bool) → Bool
-are_columns_alone columns keep = columns && not keep
-
--- by the words
-abbrev pub gives_columns_alone : List Text → Bool
-gives_columns_alone words = are_columns_alone (has_option (codes "columns") words) (has_option (codes "keep") words)
+-- the words, of which the first is the program's name, have no fault, give no options that don't go together, and name the subcommand
+abbrev pub AsksFor : List Text → Text → Type 0
+AsksFor words name = (fault_of s66_app words ≡ []) × (gives_conflict words ≡ false) × (subcommand_name words ≡ Some name)
 
 -- they give the subcommand the flag of this name, or don't
 abbrev pub GivesFlag : (name : Text) → List Text → Bool → Type 0
 GivesFlag name words flag = flag ≡ has_option name words
 
--- they give it the flag `--columns`, and then also `--keep`, or don't
-abbrev pub GivesColumns : List Text → Bool → Type 0
-GivesColumns words columns = GivesFlag (codes "columns") words columns × (gives_columns_alone words ≡ false)
+-- they give a search this number of workers
+abbrev pub GivesWorkers : List Text → ℕ → Type 0
+GivesWorkers words workers = IsNumberOrDefault 1 WORKERS_LIMIT WORKERS_DEFAULT (option_text (codes "workers") words) workers
 
--- they give a search these options: numbers within their limits, and a rule by one flag at most
+-- they give a search this number of splits at most
+abbrev pub GivesNodes : List Text → ℕ → Type 0
+GivesNodes words nodes = IsNumberOrDefault 0 BUDGET_LIMIT NODES_DEFAULT (option_text (codes "nodes") words) nodes
+
+-- they give a search these options: numbers within their limits, and a rule by the flags
 abbrev pub GivesOptions : List Text → Options → Type 0
 GivesOptions words options =
-    IsNumberOrDefault 1 WORKERS_LIMIT WORKERS_DEFAULT (option_text (codes "workers") words) options.workers
-    × IsNumberOrDefault 0 BUDGET_LIMIT NODES_DEFAULT (option_text (codes "nodes") words) options.nodes
-    × (options.rule ≡ rule_given words) × (gives_two words ≡ false)
+    GivesWorkers words options.workers × GivesNodes words options.nodes
+    × (options.rule ≡ rule_by (has_option (codes "dominate") words) (has_option (codes "dominate-tree") words) (has_option (codes "deep") words))
 
 -- they say how to look for the best order: by these options of a search, and with facts first by the flag `--deep`
 abbrev pub GivesSearch : List Text → Strategy → Type 0
 GivesSearch words strategy = GivesOptions words strategy.search × GivesFlag (codes "deep") words strategy.deep
 
--- they ask for the best order, and say how to look for it, or don't ask for it; two of the flags are a mistake even then
+-- they ask for the best order, and say how to look for it, or don't ask for it
 abbrev pub GivesOrder : List Text → Option Strategy → Type 0
-GivesOrder words None = (has_option (codes "order") words ≡ false) × (gives_two words ≡ false)
+GivesOrder words None = has_option (codes "order") words ≡ false
 GivesOrder words (Some strategy) = (has_option (codes "order") words ≡ true) × GivesSearch words strategy
 
 -- a number of a text, if there is one, is from the least to the most
@@ -256,7 +221,7 @@ Asks words (Page cut strategy block profile) =
     × GivesProfile words profile
 Asks words (Order cut strategy trace keep columns quiet block profile) =
     AsksFor words (codes "order") × GivesFlag (codes "cut") words cut × GivesSearch words strategy × GivesFlag (codes "trace") words trace
-    × GivesFlag (codes "keep") words keep × GivesColumns words columns × GivesFlag (codes "quiet") words quiet × GivesBlock words block
+    × GivesFlag (codes "keep") words keep × GivesFlag (codes "columns") words columns × GivesFlag (codes "quiet") words quiet × GivesBlock words block
     × GivesProfile words profile
 Asks words (Prove cut strategy block profile) =
     AsksFor words (codes "prove") × GivesFlag (codes "cut") words cut × GivesSearch words strategy × GivesBlock words block
@@ -274,19 +239,21 @@ Asks words (Lint cut) = AsksFor words (codes "lint") × GivesFlag (codes "cut") 
 abbrev pub IsHelp : ErrorKind → Type 0
 IsHelp k = (k ≡ kind.DisplayHelp) ⊎ (k ≡ kind.DisplayVersion)
 
+-- a kind of error that is a mistake
+abbrev pub IsMistake : ErrorKind → Type 0
+IsMistake k = (IsHelp k → ⊥) × (k ≢ kind.OutOfMemory)
+
 -- how an error of this kind is shown; out of memory may come in place of any other
 abbrev pub IsUsageOf : ErrorKind → Usage → Type 0
 IsUsageOf k (Help text) = IsHelp k
-IsUsageOf k (Bad text) = (IsHelp k → ⊥) × (k ≢ kind.OutOfMemory)
+IsUsageOf k (Bad text) = IsMistake k
 IsUsageOf k OutOfMemory = Unit {0}
 
--- the words are no command: they ask for help, or they have a fault that is no help, or they have none but give two flags that exclude one
--- another, or one without that which it needs
+-- the words are no command: they ask for help, or they have a fault that is no help, or they have none but give options that don't go together
 abbrev pub Refuses : List Text → Usage → Type 0
 Refuses words (Help text) = (k : ErrorKind) × IsAmong k (fault_of s66_app words) × IsHelp k
 Refuses words (Bad text) =
-    ((k : ErrorKind) × IsAmong k (fault_of s66_app words) × (IsHelp k → ⊥))
-    ⊎ ((fault_of s66_app words ≡ []) × ((gives_two words ≡ true) ⊎ (gives_columns_alone words ≡ true)))
+    ((k : ErrorKind) × IsAmong k (fault_of s66_app words) × (IsHelp k → ⊥)) ⊎ ((fault_of s66_app words ≡ []) × (gives_conflict words ≡ true))
 Refuses words OutOfMemory = Unit {0}
 
 abbrev pub usage_code : Usage → ℕ

@@ -11,6 +11,7 @@ mod options;
 mod profile;
 mod profile_error;
 mod strategy;
+mod subcommand;
 mod usage;
 
 pub use app::VERSION;

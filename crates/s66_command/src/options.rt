@@ -1,88 +1,130 @@
-//! The options of a subcommand, as clap found them among its words.
+//! The options of a subcommand, as clap found them among its words. One that the subcommand doesn't take is not given.
 
-ghost use Rattle.std.specs.Prelude.{◌≡◌};
-ghost use Rattle.clap.specs.Words.{found_of};
-ghost use Rattle.s66_command.specs.FoundOptions.{AreColumnsFound, AreNodesFound, AreWorkersFound, IsBlockFound, IsFlagFound, IsOrderFound, IsStrategyFound};
-ghost use Rattle.s66_command.specs.Usage.{rule_unless_two};
+ghost use Rattle.std.specs.Prelude.{◌≡◌, IfSome, List, is_some};
+ghost use Rattle.clap.specs.Words.{Text, found_of};
+ghost use Rattle.s66_command.specs.FoundOptions.{IsFlag, IsFoundBy};
+ghost use Rattle.s66_command.specs.Usage.{GivesBlock, GivesFlag, GivesNodes, GivesOrder, GivesProfile, GivesSearch, GivesWorkers, IsMistake, are_in_conflict, gives_conflict, rule_by, rule_of_option};
 
 use crate::limits::{NODES_DEFAULT, WORKERS_DEFAULT};
 use crate::strategy::Strategy;
+use crate::subcommand::OptionName;
 use clap::ArgMatches;
+use clap::error::ErrorKind;
 use s66_model::{Options, Rule};
 
 /// Whether a flag is given.
-pub(crate) fn flag_in(matches: &ArgMatches, name: &str) -> bool
-    ensures { IsFlagFound (found_of matches.now) name.now result }
+pub(crate) fn flag_in(matches: &ArgMatches, flag: OptionName) -> bool
+    ensures { IsFlag flag → (words : List Text) → IsFoundBy (found_of matches.now) words → GivesFlag (rule_of_option flag).id words result }
 {
-    matches.get_flag(name)
+    matches.get_flag(flag.name())
 }
 
-/// How many workers search, by the words of a subcommand that searches.
+/// How many workers search.
 fn workers_in(matches: &ArgMatches) -> u8
-    ensures { AreWorkersFound (found_of matches.now) result }
+    ensures { (words : List Text) → IsFoundBy (found_of matches.now) words → GivesWorkers words result }
 {
-    matches.get_one("workers").unwrap_or(WORKERS_DEFAULT)
+    matches
+        .get_one(OptionName::Workers.name())
+        .unwrap_or(WORKERS_DEFAULT)
 }
 
-/// The most splits of a search, by the words of a subcommand that searches.
+/// The most splits of a search.
 fn nodes_in(matches: &ArgMatches) -> u32
-    ensures { AreNodesFound (found_of matches.now) result }
+    ensures { (words : List Text) → IsFoundBy (found_of matches.now) words → GivesNodes words result }
 {
-    matches.get_one("nodes").unwrap_or(NODES_DEFAULT)
+    matches
+        .get_one(OptionName::Nodes.name())
+        .unwrap_or(NODES_DEFAULT)
 }
 
-/// The number of the only block that is printed, by the words of a subcommand that prints blocks.
+/// The number of the only block that is printed.
 pub(crate) fn block_in(matches: &ArgMatches) -> Option<u32>
-    ensures { IsBlockFound (found_of matches.now) result }
+    ensures { (words : List Text) → IsFoundBy (found_of matches.now) words → GivesBlock words result }
 {
-    matches.get_one("block")
+    matches.get_one(OptionName::Block.name())
 }
 
-/// Which nodes dominated leaves name by the flags `--dominate`, `--dominate-tree` and `--deep`, unless two of them are given.
-fn rule_of(dominate: bool, dominate_tree: bool, deep: bool) -> Option<Rule>
-    ensures { result ≡ rule_unless_two dominate dominate_tree deep }
+/// The text of the profile.
+pub(crate) fn profile_in<'a>(matches: &ArgMatches<'a>) -> Option<&'a str>
+    ensures { (words : List Text) → IsFoundBy (found_of matches.now) words → GivesProfile words result }
 {
-    match (dominate, dominate_tree, deep) {
-        (false, false, false) => Some(Rule::NoneNamed),
-        (true, false, false) => Some(Rule::WrittenEarlier),
-        (false, true, false) | (false, false, true) => Some(Rule::ClampedStanding),
-        _ => None,
+    matches.get_str(OptionName::Profile.name())
+}
+
+/// Which nodes dominated leaves name by the flags `--dominate`, `--dominate-tree` and `--deep`, of which one at most is given.
+fn rule_of(dominate: bool, dominate_tree: bool, deep: bool) -> Rule
+    ensures { result ≡ rule_by dominate dominate_tree deep }
+{
+    if dominate_tree || deep {
+        Rule::ClampedStanding
+    } else if dominate {
+        Rule::WrittenEarlier
+    } else {
+        Rule::NoneNamed
     }
 }
 
-/// How a subcommand that searches is to look for the best order by its words, unless they give two of these flags.
-pub(crate) fn strategy_in(matches: &ArgMatches) -> Option<Strategy>
-    ensures { IsStrategyFound (found_of matches.now) result }
+/// How the best order is looked for.
+pub(crate) fn strategy_in(matches: &ArgMatches) -> Strategy
+    ensures { (words : List Text) → IsFoundBy (found_of matches.now) words → GivesSearch words result }
 {
-    let dominate = flag_in(matches, "dominate");
-    let dominate_tree = flag_in(matches, "dominate-tree");
-    let deep = flag_in(matches, "deep");
-    let rule = rule_of(dominate, dominate_tree, deep)?;
+    let dominate = flag_in(matches, OptionName::Dominate);
+    let dominate_tree = flag_in(matches, OptionName::DominateTree);
+    let deep = flag_in(matches, OptionName::Deep);
     let search = Options {
         workers: workers_in(matches),
         nodes: nodes_in(matches),
-        rule,
+        rule: rule_of(dominate, dominate_tree, deep),
     };
-    Some(Strategy { search, deep })
+    Strategy { search, deep }
 }
 
-/// This strategy, if the flag `--order` is given.
-pub(crate) fn order_in(matches: &ArgMatches, strategy: Strategy) -> Option<Strategy>
-    ensures { IsOrderFound (found_of matches.now) strategy result }
+/// How the best order is looked for, if the flag `--order` is given.
+pub(crate) fn order_in(matches: &ArgMatches) -> Option<Strategy>
+    ensures { (words : List Text) → IsFoundBy (found_of matches.now) words → GivesOrder words result }
 {
-    if flag_in(matches, "order") {
-        Some(strategy)
+    if flag_in(matches, OptionName::Order) {
+        Some(strategy_in(matches))
     } else {
         None
     }
 }
 
-/// Whether `order` keeps columns, unless its words ask for that without `--keep`.
-pub(crate) fn columns_in(matches: &ArgMatches) -> Option<bool>
-    ensures { AreColumnsFound (found_of matches.now) result }
+/// What is wrong with these flags together, if anything is.
+fn conflict_of(
+    dominate: bool,
+    dominate_tree: bool,
+    deep: bool,
+    columns: bool,
+    keep: bool,
+) -> Option<(ErrorKind, &'static str)>
+    ensures kind { IfSome result (λ conflict. IsMistake conflict.0) }
+    ensures given { is_some result ≡ are_in_conflict dominate dominate_tree deep columns keep }
 {
-    match (flag_in(matches, "columns"), flag_in(matches, "keep")) {
-        (true, false) => None,
-        (columns, _) => Some(columns),
-    }
+    let message = match (dominate, dominate_tree, deep) {
+        (true, true, false) => "the argument '--dominate' cannot be used with '--dominate-tree'",
+        (true, false, true) => "the argument '--dominate' cannot be used with '--deep'",
+        (false, true, true) => "the argument '--dominate-tree' cannot be used with '--deep'",
+        (true, true, true) =>
+            "the argument '--dominate' cannot be used with:\n  --dominate-tree\n  --deep",
+        _ if columns && !keep => {
+            let message = "the following required arguments were not provided:\n  --keep";
+            return Some((ErrorKind::MissingRequiredArgument, message));
+        }
+        _ => return None,
+    };
+    Some((ErrorKind::ArgumentConflict, message))
+}
+
+/// What is wrong with the options of a subcommand together, if anything is: the kind of the mistake, and its text.
+pub(crate) fn conflict_in(matches: &ArgMatches) -> Option<(ErrorKind, &'static str)>
+    ensures kind { IfSome result (λ conflict. IsMistake conflict.0) }
+    ensures given { (words : List Text) → IsFoundBy (found_of matches.now) words → is_some result ≡ gives_conflict words }
+{
+    let dominate = flag_in(matches, OptionName::Dominate);
+    let dominate_tree = flag_in(matches, OptionName::DominateTree);
+    let deep = flag_in(matches, OptionName::Deep);
+    let columns = flag_in(matches, OptionName::Columns);
+    let keep = flag_in(matches, OptionName::Keep);
+    conflict_of(dominate, dominate_tree, deep, columns, keep)
 }

@@ -1,18 +1,16 @@
-ghost use Rattle.std.specs.Prelude.{◌≡◌, IfOk, IfErr, List, MatchResult, Some, None, map};
+ghost use Rattle.std.specs.Prelude.{◌≡◌, IfOk, IfErr, List, MatchResult, map};
 ghost use Rattle.clap.specs.Words.{Text, found_of, kind_of};
-ghost use Rattle.clap.specs.declared.error.kind.ErrorKind.TheVariants.{ArgumentConflict, MissingRequiredArgument, UnknownArgument};
-ghost use Rattle.s66_command.specs.FoundOptions.{AreColumnsFound, IsStrategyFound, IsTaken};
-ghost use Rattle.s66_command.specs.Usage.{Asks, IsUsageOf, Refuses};
+ghost use Rattle.clap.specs.declared.error.kind.ErrorKind.TheVariants.{UnknownArgument};
+ghost use Rattle.s66_command.specs.FoundOptions.{IsFoundBy, IsTaken};
+ghost use Rattle.s66_command.specs.Usage.{Asks, AsksFor, IsUsageOf, Refuses, name_of};
 ghost use Rattle.s66_command.specs.declared.usage.Usage.TheVariants.{OutOfMemory};
 
-use crate::app::{
-    json_command, order_command, page_command, program, prove_command, sum_command, why_command,
-};
+use crate::app::{program, subcommand_line};
 use crate::command::Command as Asked;
-use crate::options::{block_in, columns_in, flag_in, order_in, strategy_in};
-use crate::strategy::Strategy;
+use crate::options::{block_in, conflict_in, flag_in, order_in, profile_in, strategy_in};
+use crate::subcommand::{OptionName, Subcommand};
 use clap::error::ErrorKind;
-use clap::{ArgMatches, Command, Error};
+use clap::{ArgMatches, Error};
 use std::alloc::{AllocError, Global};
 use std::convert::AsStr;
 
@@ -79,72 +77,94 @@ fn usage_of(alloc: Global, error: &Error) -> Usage
     }
 }
 
-/// A mistake of this kind, as the command line of a subcommand tells it.
-fn mistake(alloc: Global, command: &mut Command<'_>, kind: ErrorKind, message: &str) -> Usage
+/// A mistake of this kind, as the command line of the subcommand tells it.
+fn mistake(alloc: Global, subcommand: Subcommand, kind: ErrorKind, message: &str) -> Usage
     ensures { IsUsageOf kind result }
 {
+    let Ok(mut command) = subcommand_line(alloc, subcommand) else {
+        return Usage::OutOfMemory;
+    };
     match command.error(kind, message) {
         Ok(error) => usage_of(alloc, &error),
         Err(AllocError) => Usage::OutOfMemory,
     }
 }
 
-/// The mistake of words that give a subcommand two of the flags `--dominate`, `--dominate-tree` and `--deep`, or all three.
-fn two_given(alloc: Global, matches: &ArgMatches, command: &mut Command<'_>) -> Usage
-    ensures { IsUsageOf ArgumentConflict result }
+/// The command of a subcommand, by what clap found of its options.
+fn command_by<'a>(subcommand: Subcommand, given: &ArgMatches<'a>) -> Asked<'a>
+    ensures { (words : List Text) → IsFoundBy (found_of given.now) words → AsksFor words (name_of subcommand) → Asks words result }
 {
-    let dominate = flag_in(matches, "dominate");
-    let dominate_tree = flag_in(matches, "dominate-tree");
-    let message = match (dominate, dominate_tree, flag_in(matches, "deep")) {
-        (true, true, false) => "the argument '--dominate' cannot be used with '--dominate-tree'",
-        (true, false, true) => "the argument '--dominate' cannot be used with '--deep'",
-        (false, true, true) => "the argument '--dominate-tree' cannot be used with '--deep'",
-        _ => "the argument '--dominate' cannot be used with:\n  --dominate-tree\n  --deep",
-    };
-    mistake(alloc, command, ErrorKind::ArgumentConflict, message)
-}
-
-/// How a subcommand that searches is to look for the best order by its words. Two of the flags `--dominate`, `--dominate-tree` and
-/// `--deep` are a mistake, which its own command line tells.
-fn strategy_or_mistake<'a, F: FnOnce(Global) -> Result<Command<'a>, AllocError>>(
-    alloc: Global,
-    matches: &ArgMatches,
-    subcommand: F,
-) -> Result<Strategy, Usage>
-    requires { F.IsAlwaysCallable subcommand }
-    ensures ok { IfOk result (λ strategy. IsStrategyFound (found_of matches.now) (Some strategy)) }
-    ensures err { IfErr result (λ usage. IsStrategyFound (found_of matches.now) None × IsUsageOf ArgumentConflict usage) }
-{
-    match strategy_in(matches) {
-        Some(strategy) => Ok(strategy),
-        None => {
-            let mut command = subcommand(alloc)?;
-            Err(two_given(alloc, matches, &mut command))
-        }
+    let cut = flag_in(given, OptionName::Cut);
+    let text = flag_in(given, OptionName::Text);
+    let trace = flag_in(given, OptionName::Trace);
+    let strategy = strategy_in(given);
+    let order = order_in(given);
+    let block = block_in(given);
+    let profile = profile_in(given);
+    match subcommand {
+        Subcommand::Lint => Asked::Lint { cut },
+        Subcommand::Order => Asked::Order {
+            cut,
+            strategy,
+            trace,
+            keep: flag_in(given, OptionName::Keep),
+            columns: flag_in(given, OptionName::Columns),
+            quiet: flag_in(given, OptionName::Quiet),
+            block,
+            profile,
+        },
+        Subcommand::Compare => Asked::Compare { cut, profile },
+        Subcommand::Sum => Asked::Sum {
+            cut,
+            strategy,
+            trace,
+            words: flag_in(given, OptionName::Words),
+            block,
+            profile,
+        },
+        Subcommand::Prove => Asked::Prove {
+            cut,
+            strategy,
+            block,
+            profile,
+        },
+        Subcommand::Check => Asked::Check { text },
+        Subcommand::Time => Asked::Time {
+            cut,
+            trace,
+            block,
+            profile,
+        },
+        Subcommand::Why => Asked::Why {
+            cut,
+            order,
+            text,
+            block,
+            profile,
+        },
+        Subcommand::Chart => Asked::Chart {
+            cut,
+            text,
+            block,
+            profile,
+        },
+        Subcommand::Deps => Asked::Deps { cut, block },
+        Subcommand::Page => Asked::Page {
+            cut,
+            strategy,
+            block,
+            profile,
+        },
+        Subcommand::Json => Asked::Json {
+            cut,
+            order,
+            block,
+            profile,
+        },
     }
 }
 
-/// Whether `order` keeps columns by its words. `--columns` without `--keep` is a mistake.
-fn columns_or_mistake(alloc: Global, matches: &ArgMatches) -> Result<bool, Usage>
-    ensures ok { IfOk result (λ columns. AreColumnsFound (found_of matches.now) (Some columns)) }
-    ensures err { IfErr result (λ usage. AreColumnsFound (found_of matches.now) None × IsUsageOf MissingRequiredArgument usage) }
-{
-    match columns_in(matches) {
-        Some(columns) => Ok(columns),
-        None => {
-            let message = "the following required arguments were not provided:\n  --keep";
-            let mut command = order_command(alloc)?;
-            Err(mistake(
-                alloc,
-                &mut command,
-                ErrorKind::MissingRequiredArgument,
-                message,
-            ))
-        }
-    }
-}
-
-/// The command that the words give as clap took them.
+/// The command that the words give as clap took them. Options that don't go together are a mistake.
 fn asked<'a>(alloc: Global, matches: &ArgMatches<'a>) -> Result<Asked<'a>, Usage>
     requires { (words : List Text) × IsTaken matches.now words }
     ensures { (words : List Text) → IsTaken matches.now words → MatchResult result (Asks words) (Refuses words) }
@@ -152,83 +172,12 @@ fn asked<'a>(alloc: Global, matches: &ArgMatches<'a>) -> Result<Asked<'a>, Usage
     let Some((name, given)) = matches.subcommand() else {
         unreachable!()
     };
-    match name {
-        "time" => Ok(Asked::Time {
-            cut: flag_in(given, "cut"),
-            trace: flag_in(given, "trace"),
-            block: block_in(given),
-            profile: given.get_str("profile"),
-        }),
-        "deps" => Ok(Asked::Deps {
-            cut: flag_in(given, "cut"),
-            block: block_in(given),
-        }),
-        "chart" => Ok(Asked::Chart {
-            cut: flag_in(given, "cut"),
-            text: flag_in(given, "text"),
-            block: block_in(given),
-            profile: given.get_str("profile"),
-        }),
-        "why" => {
-            let strategy = strategy_or_mistake(alloc, given, why_command)?;
-            Ok(Asked::Why {
-                cut: flag_in(given, "cut"),
-                order: order_in(given, strategy),
-                text: flag_in(given, "text"),
-                block: block_in(given),
-                profile: given.get_str("profile"),
-            })
-        }
-        "page" => Ok(Asked::Page {
-            strategy: strategy_or_mistake(alloc, given, page_command)?,
-            cut: flag_in(given, "cut"),
-            block: block_in(given),
-            profile: given.get_str("profile"),
-        }),
-        "order" => Ok(Asked::Order {
-            strategy: strategy_or_mistake(alloc, given, order_command)?,
-            columns: columns_or_mistake(alloc, given)?,
-            cut: flag_in(given, "cut"),
-            trace: flag_in(given, "trace"),
-            keep: flag_in(given, "keep"),
-            quiet: flag_in(given, "quiet"),
-            block: block_in(given),
-            profile: given.get_str("profile"),
-        }),
-        "prove" => Ok(Asked::Prove {
-            strategy: strategy_or_mistake(alloc, given, prove_command)?,
-            cut: flag_in(given, "cut"),
-            block: block_in(given),
-            profile: given.get_str("profile"),
-        }),
-        "check" => Ok(Asked::Check {
-            text: flag_in(given, "text"),
-        }),
-        "lint" => Ok(Asked::Lint {
-            cut: flag_in(given, "cut"),
-        }),
-        "sum" => Ok(Asked::Sum {
-            strategy: strategy_or_mistake(alloc, given, sum_command)?,
-            cut: flag_in(given, "cut"),
-            trace: flag_in(given, "trace"),
-            words: flag_in(given, "words"),
-            block: block_in(given),
-            profile: given.get_str("profile"),
-        }),
-        "compare" => Ok(Asked::Compare {
-            cut: flag_in(given, "cut"),
-            profile: given.get_str("profile"),
-        }),
-        "json" => {
-            let strategy = strategy_or_mistake(alloc, given, json_command)?;
-            Ok(Asked::Json {
-                cut: flag_in(given, "cut"),
-                order: order_in(given, strategy),
-                block: block_in(given),
-                profile: given.get_str("profile"),
-            })
-        }
-        _ => unreachable!(),
+    let Some(subcommand) = Subcommand::named(name) else {
+        unreachable!()
+    };
+    match conflict_in(given) {
+        Some((kind, message)) => Err(mistake(alloc, subcommand, kind, message)),
+        None => Ok(command_by(subcommand, given)),
     }
 }
 
