@@ -224,14 +224,14 @@ fn is_fetched(results: &[Write], register: Reg) -> bool
     false
 }
 
-/// Whether it fetches a word from memory into a register, so that no unit holds this result.
+/// Whether an instruction fetches a word from memory into a register, so that no unit holds this result.
 pub fn fetches(row: &Row, register: Reg) -> bool
     ensures { result ≡ fetches row.now register }
 {
     is_fetched(row.writes.as_slice(), register)
 }
 
-/// How many minor cycles the one in a register takes from the start of its instruction; 0 if none is in it.
+/// How many minor cycles the result in a register takes from the start of its instruction; 0 if none of these is there.
 pub fn latency_to(results: &[Write], register: Reg) -> u32
     ensures { result ≡ greatest (λ (w : WriteOf). if same_reg w.reg register then w.latency else 0) results.now }
 {
