@@ -15,7 +15,7 @@ use crate::direction::Direction;
 use crate::graph::Graph;
 use crate::marks::Marks;
 use crate::paths::times_of;
-use crate::times::{Times, same_moment, times_at};
+use crate::times::{Times, is_same_moment, times_at};
 use s66_isa::BLOCK_LIMIT;
 use s66_moments::{Moment, Stage};
 
@@ -49,8 +49,8 @@ pub(crate) fn all_kept(direction: Direction, graph: &Graph, m: u8, n: u8) -> Mar
 fn is_its(moment: &Moment, n: u8) -> bool
     ensures { result ≡ (same_moment moment.now (At n Issue) || same_moment moment.now (At n Start)) }
 {
-    same_moment(moment, &Moment::At(n, Stage::Issue))
-        || same_moment(moment, &Moment::At(n, Stage::Start))
+    is_same_moment(moment, &Moment::At(n, Stage::Issue))
+        || is_same_moment(moment, &Moment::At(n, Stage::Start))
 }
 
 /// All numbers but that of a moment, an issue or a start.

@@ -8,7 +8,7 @@ ghost use Rattle.s66_facts.specs.Passes.{by_arc, time_along, by_loads};
 
 use crate::direction::Direction;
 use crate::limits::FACT_LIMIT;
-use crate::times::{Times, add, later, same_moment, time_along, when, zero_if_same};
+use crate::times::{Times, add, is_same_moment, later, time_along, when, zero_if_same};
 use arrayvec::ArrayVec;
 use s66_isa::BLOCK_LIMIT;
 use s66_moments::{KnownArc, Moment};
@@ -37,7 +37,9 @@ struct Chains {
 fn is_as_long(arc: &KnownArc, other: &KnownArc) -> bool
     ensures { result ≡ is_as_long arc.now other.now }
 {
-    same_moment(&arc.from, &other.from) && same_moment(&arc.to, &other.to) && other.wait <= arc.wait
+    is_same_moment(&arc.from, &other.from)
+        && is_same_moment(&arc.to, &other.to)
+        && other.wait <= arc.wait
 }
 
 /// The arc at a place.
@@ -67,7 +69,10 @@ fn by_arc(
     ensures { result ≡ by_arc direction (time_along direction times.now first) to.now arc.now }
 {
     let time = time_along(direction, times, first, direction.start_of(arc));
-    when(same_moment(direction.end_of(arc), to), add(time, arc.wait))
+    when(
+        is_same_moment(direction.end_of(arc), to),
+        add(time, arc.wait),
+    )
 }
 
 /// Whether a chain has an arc that leads between the same moments as another, and is no shorter.

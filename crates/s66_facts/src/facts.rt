@@ -8,7 +8,7 @@ use crate::again::{all_but, all_kept, find_again, find_all};
 use crate::direction::Direction;
 use crate::graph::Graph;
 use crate::loads::{are_used, is_load_line};
-use crate::times::{Times, reaches_both, reaches_through, same_moment, times_at};
+use crate::times::{Times, is_same_moment, reaches_both, reaches_through, times_at};
 use s66_isa::{BLOCK_LIMIT, Instr, Profile};
 use s66_moments::{LoadLine, Moment};
 use std::marker::Model;
@@ -117,7 +117,7 @@ impl Facts {
     {
         // as in `new`
         let _count = self.graph.count();
-        if same_moment(&self.to, to) {
+        if is_same_moment(&self.to, to) {
             return self.tails_to;
         }
         match to {
@@ -133,7 +133,7 @@ impl Facts {
     {
         // as in `new`
         let _count = self.graph.count();
-        if same_moment(&self.from, from) {
+        if is_same_moment(&self.from, from) {
             return self.heads_from;
         }
         match from {
@@ -258,7 +258,7 @@ impl Facts {
         requires { is_front from.now ≡ true }
         ensures { self.new ≡ self.old }
     {
-        if !same_moment(&self.from, from) {
+        if !is_same_moment(&self.from, from) {
             self.heads_from = self.heads_from(from);
             self.from = *from;
         }
@@ -269,7 +269,7 @@ impl Facts {
         requires { is_back to.now ≡ true }
         ensures { self.new ≡ self.old }
     {
-        if !same_moment(&self.to, to) {
+        if !is_same_moment(&self.to, to) {
             self.tails_to = self.tails_to(to);
             self.to = *to;
         }

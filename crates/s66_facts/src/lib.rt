@@ -22,4 +22,4 @@ pub use facts::Facts;
 pub use limits::FACT_LIMIT;
 pub use loads::are_rising;
 pub use marks::Marks;
-pub use times::{Times, times_at};
+pub use times::{Times, fetches, is_same_moment, latency_to, times_at, writes};

@@ -6,8 +6,7 @@ ghost use Rattle.s66_facts.specs.Passes.{start_before, done_before, before_one, 
 
 use crate::graph::Graph;
 use crate::times::{
-    Times, add, is_fetched, is_written, later, latest_read, latest_result, times_at, when,
-    zero_if_same,
+    Times, add, fetches, later, latest_read, latest_result, times_at, when, writes, zero_if_same,
 };
 use s66_isa::{BLOCK_LIMIT, Reg, has_register, is_memory_conflict};
 use s66_moments::{Moment, Stage};
@@ -31,7 +30,7 @@ fn done_before(graph: &Graph, m: u8, time: &Times, register: Reg) -> Option<u64>
 {
     let row = graph.row(m);
     later(
-        when(is_written(row.writes.as_slice(), register), time.issue),
+        when(writes(row, register), time.issue),
         when(has_register(row.reads.as_slice(), register), time.start),
     )
 }
@@ -72,10 +71,7 @@ fn tail_done(
     requires { IsNumber graph.now.problem n }
     ensures { result ≡ tail_done graph.now.problem to.now n free waiting register }
 {
-    let by_unit = when(
-        !is_fetched(graph.row(n).writes.as_slice(), register),
-        add(free, 1),
-    );
+    let by_unit = when(!fetches(graph.row(n), register), add(free, 1));
     later(zero_if_same(to, &Moment::End), later(by_unit, waiting))
 }
 

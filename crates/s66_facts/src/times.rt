@@ -91,13 +91,13 @@ pub(crate) fn when(test: bool, time: Option<u64>) -> Option<u64>
 }
 
 /// Whether two moments are the same.
-pub(crate) fn same_moment(a: &Moment, b: &Moment) -> bool
+pub fn is_same_moment(a: &Moment, b: &Moment) -> bool
     ensures { result ≡ same_moment a.now b.now }
 {
     match a {
         Moment::Origin => matches!(b, Moment::Origin),
         Moment::At(m, e) => match b {
-            Moment::At(n, f) => *m == *n && same_stage(e, f),
+            Moment::At(n, f) => *m == *n && is_same_stage(e, f),
             Moment::Origin | Moment::End => false,
         },
         Moment::End => matches!(b, Moment::End),
@@ -105,7 +105,7 @@ pub(crate) fn same_moment(a: &Moment, b: &Moment) -> bool
 }
 
 /// Whether two stages are the same.
-fn same_stage(a: &Stage, b: &Stage) -> bool
+fn is_same_stage(a: &Stage, b: &Stage) -> bool
     ensures { result ≡ same_stage a.now b.now }
 {
     match a {
@@ -156,7 +156,7 @@ pub(crate) fn time_along(
 pub(crate) fn zero_if_same(a: &Moment, b: &Moment) -> Option<u64>
     ensures { result ≡ only_if (same_moment a.now b.now) 0 }
 {
-    when(same_moment(a, b), Some(0))
+    when(is_same_moment(a, b), Some(0))
 }
 
 /// Those of a number, which are at n - 1; no path if there are none.
@@ -194,7 +194,7 @@ pub(crate) fn reaches_both(low: u32, first: Option<u64>, second: Option<u64>) ->
 }
 
 /// Whether one of these results is in a register.
-pub(crate) fn is_written(results: &[Write], register: Reg) -> bool
+fn is_written(results: &[Write], register: Reg) -> bool
     ensures { result ≡ some_of (λ (w : WriteOf). same_reg w.reg register) results.now }
 {
     for write in results {
@@ -206,14 +206,14 @@ pub(crate) fn is_written(results: &[Write], register: Reg) -> bool
 }
 
 /// Whether an instruction writes a register.
-pub(crate) fn writes(row: &Row, register: Reg) -> bool
+pub fn writes(row: &Row, register: Reg) -> bool
     ensures { result ≡ writes row.now register }
 {
     is_written(row.writes.as_slice(), register)
 }
 
 /// Whether one of them is fetched from memory into a register.
-pub(crate) fn is_fetched(results: &[Write], register: Reg) -> bool
+fn is_fetched(results: &[Write], register: Reg) -> bool
     ensures { result ≡ some_of (λ (w : WriteOf). same_reg w.reg register && not w.held) results.now }
 {
     for write in results {
@@ -224,8 +224,15 @@ pub(crate) fn is_fetched(results: &[Write], register: Reg) -> bool
     false
 }
 
-/// How long the one in a register takes.
-pub(crate) fn latency_to(results: &[Write], register: Reg) -> u32
+/// Whether an instruction fetches a word from memory into a register, so that no unit holds this result.
+pub fn fetches(row: &Row, register: Reg) -> bool
+    ensures { result ≡ fetches row.now register }
+{
+    is_fetched(row.writes.as_slice(), register)
+}
+
+/// How many minor cycles the result in a register takes from the start of its instruction; 0 if none of these is there.
+pub fn latency_to(results: &[Write], register: Reg) -> u32
     ensures { result ≡ greatest (λ (w : WriteOf). if same_reg w.reg register then w.latency else 0) results.now }
 {
     let mut latency = 0u32;
@@ -271,10 +278,10 @@ pub(crate) fn latest_held(row: &Row, time: &Times) -> Option<u64>
 {
     match row.writes.as_slice() {
         [] => None,
-        [one] => when(!is_fetched(row.writes.as_slice(), one.reg), time.first),
+        [one] => when(!fetches(row, one.reg), time.first),
         [one, two, ..] => later(
-            when(!is_fetched(row.writes.as_slice(), one.reg), time.first),
-            when(!is_fetched(row.writes.as_slice(), two.reg), time.second),
+            when(!fetches(row, one.reg), time.first),
+            when(!fetches(row, two.reg), time.second),
         ),
     }
 }

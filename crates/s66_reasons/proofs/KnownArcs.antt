@@ -6,14 +6,12 @@ use Rattle.std.proofs.lemmas.List.{append-nil}
 use Rattle.s66_model.specs.Timing.{Problem, row_at}
 use Rattle.s66_model.specs.LegalOrder.{is_remaining}
 use Rattle.s66_model.proofs.Remaining.{remaining-parts}
-use Rattle.s66_moments.specs.declared.moment.Stage.{Stage}
 use Rattle.s66_moments.specs.declared.moment.Moment.{Moment}
 use Rattle.s66_moments.specs.declared.moment.Moment.TheVariants.{Origin, At, End}
 use Rattle.s66_moments.specs.declared.fact_line.FactLine.{FactLine}
 use Rattle.s66_moments.specs.declared.fact_line.FactLine.TheVariants.{Pair, Load}
 use Rattle.s66_moments.specs.declared.fact_line.KnownArc.{KnownArc}
 use Rattle.s66_moments.specs.declared.fact_line.LoadLine.{LoadLine}
-use Rattle.s66_moments.specs.Facts.{IsNumber}
 use Rattle.s66_moments.specs.Moments.{has_stage, is_moment}
 use Rattle.s66_moments.specs.Networks.{Network, network, same_moment, with_arc}
 use Rattle.s66_moments.specs.Known.{Known, known_after, known_first, with_line as known_with, with_loads}
@@ -62,7 +60,7 @@ arcs-lines d e f =
 
 -- INSTRUCTIONS OF THE BLOCK
 
-moment-number : (b : Problem) (e : Moment) → is_moment b e ≡ true → IsNumberOf b e
+pub moment-number : (b : Problem) (e : Moment) → is_moment b e ≡ true → IsNumberOf b e
 moment-number b Origin is = tt
 moment-number b (At n stage) is =
     let stays = and_parts (is_remaining b.block [] n) (has_stage (row_at b n) stage) is in
@@ -70,7 +68,7 @@ moment-number b (At n stage) is =
     (low, high)
 moment-number b End is = tt
 
-pub table-numbers : (b : Problem) (before : ℕ → ℕ → Bool) (m w : ℕ) (e : Stage) (f : Moment) → network b before (At m e) f ≡ Some w → IsNumber b m × IsNumberOf b f
-table-numbers b before m w e f is =
-    let parts = network-parts b before (At m e) f w is in
-    (moment-number b (At m e) parts.0, moment-number b f parts.1)
+pub table-numbers : (b : Problem) (before : ℕ → ℕ → Bool) (w : ℕ) (e f : Moment) → network b before e f ≡ Some w → IsNumberOf b e × IsNumberOf b f
+table-numbers b before w e f is =
+    let parts = network-parts b before e f w is in
+    (moment-number b e parts.0, moment-number b f parts.1)

@@ -1,7 +1,7 @@
 -- To be believed: a longest path from an instruction to the end by what is known after the fact lines of a document, arc by arc, and what is said of each arc.
-use Rattle.std.specs.Prelude.{ℕ, zero, suc, ◌+◌, ◌-◌, if◌then◌else◌, Bool, false, ◌&&◌, ◌||◌, ◌==◌, List, [], ◌∷◌, ◌++◌, codes, decimal, length, nat_le, Option, None, Some, unwrap_or}
+use Rattle.std.specs.Prelude.{ℕ, zero, suc, ◌+◌, ◌-◌, if◌then◌else◌, Bool, false, ◌&&◌, ◌||◌, ◌==◌, List, [], ◌∷◌, ◌++◌, codes, decimal, nat_le, Option, None, Some, unwrap_or}
+use Rattle.std.specs.Option.{option_or}
 use Rattle.s66_isa.specs.declared.instr.Kind.{Kind}
-use Rattle.s66_isa.specs.Table.{Write, numbers}
 use Rattle.s66_model.specs.Timing.{row_at}
 use Rattle.s66_moments.specs.declared.moment.Stage.{Stage}
 use Rattle.s66_moments.specs.declared.moment.Stage.TheVariants.{Issue, Start, Done, Free}
@@ -9,7 +9,7 @@ use Rattle.s66_moments.specs.declared.moment.Moment.{Moment}
 use Rattle.s66_moments.specs.declared.moment.Moment.TheVariants.{Origin, At, End}
 use Rattle.s66_moments.specs.declared.fact_line.FactLine.{FactLine}
 use Rattle.s66_moments.specs.declared.fact_line.FactLine.TheVariants.{Pair, Load}
-use Rattle.s66_moments.specs.Networks.{Network, most_arcs, network, precedes, same_moment}
+use Rattle.s66_moments.specs.Networks.{Network, most_arcs, network, precedes, same_moment, targets}
 use Rattle.s66_moments.specs.Known.{arcs_of, is_number, plus, reaches, span}
 use Rattle.s66_cert.specs.Document.{Document}
 use Rattle.s66_checker.specs.Verdict.{facts_of, known_of, problem_of}
@@ -23,7 +23,7 @@ use Rattle.s66_reasons.specs.Words.{Reason, counted, instruction, register, unit
 abbrev pub arcs : Document → Network
 arcs d = arcs_of (problem_of d) (known_of d)
 
--- and the end than a moment by arcs
+-- how much later the end comes at least than a moment, along arcs
 abbrev pub to_end : Document → Moment → Option ℕ
 to_end d Origin = span (problem_of d) (arcs d) Origin End
 to_end d (At n stage) = span (problem_of d) (arcs d) (At n stage) End
@@ -34,31 +34,14 @@ abbrev pub hop_to : Document → (left : ℕ) → (e f : Moment) → Option Hop
 hop_to d left e f =
     if reaches left (plus (arcs d e f) (to_end d f)) then Some (record { wait = unwrap_or (arcs d e f) 0; to = f }) else None
 
-abbrev pub or_else : Option Hop → Option Hop → Option Hop
-or_else None other = other
-or_else (Some hop) other = Some hop
+-- to the first of these moments to which there is one
+abbrev pub first_hop : Document → (left : ℕ) → Moment → List Moment → Option Hop
+first_hop d left e [] = None
+first_hop d left e (f ∷ fs) = option_or (hop_to d left e f) (first_hop d left e fs)
 
--- to the first of these results of n to which there is one
-abbrev pub hop_to_result : Document → (left : ℕ) → Moment → ℕ → List Write → Option Hop
-hop_to_result d left e n [] = None
-hop_to_result d left e n (v ∷ []) = hop_to d left e (At n (Done v.reg))
-hop_to_result d left e n (v ∷ (w ∷ ws)) = or_else (hop_to d left e (At n (Done v.reg))) (hop_to d left e (At n (Done w.reg)))
-
--- to the first moment of n
-abbrev pub hop_to_moment_of : Document → (left : ℕ) → Moment → ℕ → Option Hop
-hop_to_moment_of d left e n =
-    or_else (hop_to d left e (At n Issue))
-    (or_else (hop_to d left e (At n Start))
-    (or_else (hop_to d left e (At n Free))
-    (hop_to_result d left e n (row_at (problem_of d) n).writes)))
-
-abbrev pub hop_among : Document → (left : ℕ) → Moment → List ℕ → Option Hop
-hop_among d left e [] = None
-hop_among d left e (n ∷ ns) = or_else (hop_to_moment_of d left e n) (hop_among d left e ns)
-
--- to the end, or else to a moment of the first number
+-- of all to which an arc may lead: the end, and then the moments of each number
 abbrev pub next_hop : Document → (left : ℕ) → Moment → Option Hop
-next_hop d left e = or_else (hop_to d left e End) (hop_among d left e (numbers (problem_of d).block))
+next_hop d left e = first_hop d left e (targets (problem_of d))
 
 abbrev pub hop_and : Option Hop → (Hop → List Hop) → List Hop
 hop_and None more = []
@@ -67,9 +50,7 @@ hop_and (Some hop) more = hop ∷ more hop
 -- at most so many, from e to the end, which comes so much later
 abbrev pub hops_from : Document → (most left : ℕ) → Moment → List Hop
 hops_from d zero left e = []
-hops_from d (suc more) left Origin = []
-hops_from d (suc more) left (At n stage) = hop_and (next_hop d left (At n stage)) (λ (hop : Hop). hops_from d more (left - hop.wait) hop.to)
-hops_from d (suc more) left End = []
+hops_from d (suc more) left e = hop_and (next_hop d left e) (λ (hop : Hop). hops_from d more (left - hop.wait) hop.to)
 
 -- from the issue of n
 abbrev pub hops_of : Document → ℕ → List Hop

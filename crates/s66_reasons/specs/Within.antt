@@ -1,4 +1,4 @@
--- Used by contracts within the crate alone: numbers of a block, what is granted of the leaf of a document, which lines of a tree are splits, the arcs of fact lines, and moments of a block.
+-- Used by contracts within the crate alone: numbers of a block, what is granted of the leaf of a document, which lines of a tree are splits, the arcs of fact lines, moments of a block, and what is known of it.
 use Rattle.std.specs.Prelude.{ℕ, ◌≡◌, ◌≤◌, ◌<◌, if◌then◌else◌, ◌&&◌, [], ◌∷◌, Bool, true, false, List, Some, length, get_or, max, unwrap_or}
 use Rattle.s66_isa.specs.declared.limits.TheConstants.{BLOCK_LIMIT}
 use Rattle.s66_isa.specs.Lists.{every}
@@ -12,9 +12,12 @@ use Rattle.s66_moments.specs.declared.fact_line.FactLine.TheVariants as fact
 use Rattle.s66_moments.specs.declared.moment.Moment.{Moment}
 use Rattle.s66_moments.specs.declared.moment.Moment.TheVariants.{Origin, At, End}
 use Rattle.s66_moments.specs.Facts.{IsNumber}
+use Rattle.s66_moments.specs.Known.{known_first}
 use Rattle.s66_moments.specs.Networks.{Network, same_moment}
+use Rattle.s66_facts.specs.Ground.{Ground, known_of as known_in}
 use Rattle.s66_cert.specs.Document.{Document}
-use Rattle.s66_checker.specs.KeptKnown.{AreTaken}
+use Rattle.s66_replay.specs.Checked.{Checked}
+use Rattle.s66_checker.specs.KeptKnown.{AreTaken, KnowsAll}
 use Rattle.s66_checker.specs.Verdict.{problem_of}
 
 -- each of a block of so many
@@ -54,3 +57,11 @@ abbrev pub IsNumberOf : Problem → Moment → Type 0
 IsNumberOf b Origin = Unit {0}
 IsNumberOf b (At n stage) = IsNumber b n
 IsNumberOf b End = Unit {0}
+
+-- the empty prefix of its block, what is known of this by dependence alone, and what is known after its fact lines
+pub record AreKnown (d : Document) (prefix : Checked) (by_dependence by_lines : Ground) : Type 0 where
+  pub problem : prefix.problem ≡ problem_of d
+  pub start : prefix.numbers ≡ []
+  pub first_problem : by_dependence.problem ≡ problem_of d
+  pub first : known_in by_dependence ≡ known_first (problem_of d)
+  pub all : KnowsAll d by_lines

@@ -1,105 +1,17 @@
-//! How much later a moment comes at least than another by one arc, by the table or by a load line.
+//! How much later a moment comes at least than another by one arc, by the instruction table or by a load line.
 
-ghost use Rattle.std.specs.Prelude.{ℕ, ◌≡◌, ◌&&◌, Bool, not, if◌then◌else◌, []};
-ghost use Rattle.s66_isa.specs.Lists.{greatest, some_of};
-ghost use Rattle.s66_isa.specs.Table.{Write as WriteOf, same_reg};
-ghost use Rattle.s66_moments.specs.declared.moment.Moment.TheVariants.{At, End};
-ghost use Rattle.s66_moments.specs.Moments.{fetches, has_stage, is_moment, later_arc, only_if, own_arc, writes};
-ghost use Rattle.s66_moments.specs.Networks.{Network as NetworkOf, network, same_moment, same_stage};
+ghost use Rattle.std.specs.Prelude.{◌≡◌, if◌then◌else◌, ◌||◌, ◌==◌, [], IsTrue, None};
+ghost use Rattle.s66_moments.specs.declared.moment.Moment.TheVariants.{At};
+ghost use Rattle.s66_moments.specs.Facts.{IsNumber};
+ghost use Rattle.s66_moments.specs.Moments.{arc, has_stage, is_moment, later_arc, own_arc};
+ghost use Rattle.s66_moments.specs.Networks.{Network as NetworkOf, network};
 ghost use Rattle.s66_facts.specs.Marked.{before_in};
-ghost use Rattle.s66_reasons.specs.Within.{with_line, with_lines};
+ghost use Rattle.s66_reasons.specs.Within.{IsNumberOf, with_line, with_lines};
 
-use s66_facts::Facts;
-use s66_isa::{Reg, Row, Write, has_register, is_memory_conflict, is_same_kind, is_same_register};
+use s66_facts::{Facts, fetches, is_same_moment, latency_to, writes};
+use s66_isa::{Row, has_register, is_memory_conflict, is_same_kind};
 use s66_moments::{FactLine, Moment, Stage};
 use s66_replay::Prefix;
-
-/// If the test is met.
-fn only_if(test: bool, wait: u32) -> Option<u32>
-    ensures { result ≡ only_if test wait }
-{
-    if test { Some(wait) } else { None }
-}
-
-/// Whether two stages are the same.
-fn is_same_stage(one: &Stage, other: &Stage) -> bool
-    ensures { result ≡ same_stage one.now other.now }
-{
-    match one {
-        Stage::Issue => matches!(other, Stage::Issue),
-        Stage::Start => matches!(other, Stage::Start),
-        Stage::Done(x) => match other {
-            Stage::Done(y) => is_same_register(*x, *y),
-            Stage::Issue | Stage::Start | Stage::Free => false,
-        },
-        Stage::Free => matches!(other, Stage::Free),
-    }
-}
-
-/// Whether two moments are the same.
-pub(crate) fn is_same_moment(one: &Moment, other: &Moment) -> bool
-    ensures { result ≡ same_moment one.now other.now }
-{
-    match one {
-        Moment::Origin => matches!(other, Moment::Origin),
-        Moment::At(m, e) => match other {
-            Moment::At(n, f) => *m == *n && is_same_stage(e, f),
-            Moment::Origin | Moment::End => false,
-        },
-        Moment::End => matches!(other, Moment::End),
-    }
-}
-
-/// Whether one of these results is in a register.
-fn has_result(results: &[Write], register: Reg) -> bool
-    ensures { result ≡ some_of (λ (w : WriteOf). same_reg w.reg register) results.now }
-{
-    for write in results {
-        if is_same_register(write.reg, register) {
-            return true;
-        }
-    }
-    false
-}
-
-/// Whether one of them comes from memory into a register, so that no unit holds it.
-fn has_fetched(results: &[Write], register: Reg) -> bool
-    ensures { result ≡ some_of (λ (w : WriteOf). same_reg w.reg register && not w.held) results.now }
-{
-    for write in results {
-        if is_same_register(write.reg, register) && !write.held {
-            return true;
-        }
-    }
-    false
-}
-
-/// Whether an instruction writes a register.
-fn writes(row: &Row, register: Reg) -> bool
-    ensures { result ≡ writes row.now register }
-{
-    has_result(row.writes.as_slice(), register)
-}
-
-/// Whether it fetches a word from memory into a register.
-fn fetches(row: &Row, register: Reg) -> bool
-    ensures { result ≡ fetches row.now register }
-{
-    has_fetched(row.writes.as_slice(), register)
-}
-
-/// How long the one in a register takes.
-fn latency_into(results: &[Write], register: Reg) -> u32
-    ensures { result ≡ greatest (λ (w : WriteOf). if same_reg w.reg register then w.latency else 0) results.now }
-{
-    let mut latency = 0u32;
-    for write in results {
-        if is_same_register(write.reg, register) {
-            latency = latency.max(write.latency);
-        }
-    }
-    latency
-}
 
 /// Whether an instruction has a stage.
 fn has_stage(row: &Row, stage: &Stage) -> bool
@@ -111,60 +23,66 @@ fn has_stage(row: &Row, stage: &Stage) -> bool
     }
 }
 
-/// Whether a number of the block has a stage.
-fn is_moment(prefix: &Prefix, n: u8, stage: &Stage) -> bool
+/// Whether it is a moment of the block: the origin, the end, or a stage that one of its instructions has.
+fn is_moment(prefix: &Prefix, moment: &Moment) -> bool
     requires { prefix.now.numbers ≡ [] }
-    ensures { result ≡ is_moment prefix.now.problem (At n stage.now) }
+    ensures value { result ≡ is_moment prefix.now.problem moment.now }
+    ensures number { IsTrue result → IsNumberOf prefix.now.problem moment.now }
 {
-    prefix.is_remaining(n) && has_stage(prefix.row(n), stage)
+    match moment {
+        Moment::Origin | Moment::End => true,
+        Moment::At(n, stage) => prefix.is_remaining(*n) && has_stage(prefix.row(*n), stage),
+    }
 }
 
-/// Between two stages of one instruction.
+/// How many minor cycles a stage of an instruction comes later at least than another; `None` if nothing is said of the two.
 fn own_arc(row: &Row, from: &Stage, to: &Stage) -> Option<u32>
     ensures { result ≡ own_arc row.now from.now to.now }
 {
     match from {
-        Stage::Issue => only_if(matches!(to, Stage::Start), 0),
+        Stage::Issue => matches!(to, Stage::Start).then_some(0),
         Stage::Start => match to {
             Stage::Issue | Stage::Start => None,
-            Stage::Done(register) => Some(latency_into(row.writes.as_slice(), *register)),
+            Stage::Done(register) => Some(latency_to(row.writes.as_slice(), *register)),
             Stage::Free => Some(row.hold + 1),
         },
         Stage::Done(register) => match to {
             Stage::Issue | Stage::Start | Stage::Done(_) => None,
-            Stage::Free => only_if(!fetches(row, *register), 1),
+            Stage::Free => (!fetches(row, *register)).then_some(1),
         },
         Stage::Free => None,
     }
 }
 
-/// Between stages of an instruction and of one that stands after it.
+/// The same of a stage of an instruction, and one of another that stands after it.
 fn later_arc(prefix: &Prefix, earlier: &Row, later: &Row, from: &Stage, to: &Stage) -> Option<u32>
     ensures { result ≡ later_arc prefix.now.problem earlier.now later.now from.now to.now }
 {
     match from {
-        Stage::Issue => only_if(matches!(to, Stage::Issue), earlier.parcels),
+        Stage::Issue => matches!(to, Stage::Issue).then_some(earlier.parcels),
         Stage::Start => match to {
             Stage::Issue | Stage::Free => None,
-            Stage::Start => only_if(is_memory_conflict(earlier.memory, later.memory), 1),
-            Stage::Done(register) => only_if(has_register(earlier.reads.as_slice(), *register), 1),
+            Stage::Start => is_memory_conflict(earlier.memory, later.memory).then_some(1),
+            Stage::Done(register) => {
+                has_register(earlier.reads.as_slice(), *register).then_some(1)
+            }
         },
         Stage::Done(register) => match to {
-            Stage::Issue => only_if(writes(later, *register), 0),
-            Stage::Start => only_if(has_register(later.reads.as_slice(), *register), 0),
+            Stage::Issue => writes(later, *register).then_some(0),
+            Stage::Start => has_register(later.reads.as_slice(), *register).then_some(0),
             Stage::Done(_) | Stage::Free => None,
         },
         Stage::Free => match to {
-            Stage::Issue => only_if(
-                is_same_kind(earlier.kind, later.kind) && prefix.copies(later.kind) == 1,
-                0,
-            ),
+            Stage::Issue => {
+                let is_only = prefix.copies(later.kind) == 1;
+                (is_same_kind(earlier.kind, later.kind) && is_only).then_some(0)
+            }
             Stage::Start | Stage::Done(_) | Stage::Free => None,
         },
     }
 }
 
-/// Between stages of two instructions, by which of these stands before the other.
+/// The same of stages of two instructions of the block, by which of these is known to stand before the other.
 fn arc_between(
     prefix: &Prefix,
     facts: &Facts,
@@ -174,12 +92,11 @@ fn arc_between(
     to: &Stage,
 ) -> Option<u32>
     requires same { prefix.now.problem ≡ facts.now.problem }
-    requires start { prefix.now.numbers ≡ [] }
-    ensures { result ≡ network prefix.now.problem (before_in facts.now.marks) (At m from.now) (At n to.now) }
+    requires m { IsNumber prefix.now.problem m }
+    requires n { IsNumber prefix.now.problem n }
+    ensures { result ≡ if m == n || before_in facts.now.marks m n then arc prefix.now.problem (At m from.now) (At n to.now) else None }
 {
-    if !is_moment(prefix, m, from) || !is_moment(prefix, n, to) {
-        None
-    } else if m == n {
+    if m == n {
         own_arc(prefix.row(m), from, to)
     } else if facts.is_before(m, n) {
         later_arc(prefix, prefix.row(m), prefix.row(n), from, to)
@@ -188,35 +105,31 @@ fn arc_between(
     }
 }
 
-/// From a stage of m to the end.
-fn arc_to_end(prefix: &Prefix, m: u8, from: &Stage) -> Option<u32>
-    requires { prefix.now.numbers ≡ [] }
-    ensures { (before : ℕ → ℕ → Bool) → result ≡ network prefix.now.problem before (At m from.now) End }
-{
-    let is_last = matches!(from, Stage::Done(_) | Stage::Free);
-    only_if(is_last && is_moment(prefix, m, from), 0)
-}
-
-/// From a stage of m by the table, and by which number stands before which.
-pub(crate) fn table_arc(
-    prefix: &Prefix,
-    facts: &Facts,
-    m: u8,
-    from: &Stage,
-    to: &Moment,
-) -> Option<u32>
+/// How many minor cycles a moment comes later at least than another by the table, and by which number is known to stand before which;
+/// `None` if that says nothing of the two.
+pub(crate) fn table_arc(prefix: &Prefix, facts: &Facts, from: &Moment, to: &Moment) -> Option<u32>
     requires same { prefix.now.problem ≡ facts.now.problem }
     requires start { prefix.now.numbers ≡ [] }
-    ensures { result ≡ network prefix.now.problem (before_in facts.now.marks) (At m from.now) to.now }
+    ensures { result ≡ network prefix.now.problem (before_in facts.now.marks) from.now to.now }
 {
+    if !is_moment(prefix, from) || !is_moment(prefix, to) {
+        return None;
+    }
     match to {
         Moment::Origin => None,
-        Moment::At(n, stage) => arc_between(prefix, facts, m, from, *n, stage),
-        Moment::End => arc_to_end(prefix, m, from),
+        Moment::At(n, stage) => match from {
+            Moment::Origin => Some(0),
+            Moment::At(m, earlier) => arc_between(prefix, facts, *m, earlier, *n, stage),
+            Moment::End => None,
+        },
+        Moment::End => match from {
+            Moment::Origin | Moment::At(_, Stage::Done(_) | Stage::Free) => Some(0),
+            Moment::At(_, Stage::Issue | Stage::Start) | Moment::End => None,
+        },
     }
 }
 
-/// With that of a fact line too.
+/// The same with one more fact line, where it is `wait` without that.
 fn with_line(wait: Option<u32>, line: &FactLine, from: &Moment, to: &Moment) -> Option<u32>
     ensures { (arcs : NetworkOf) → wait ≡ arcs from.now to.now → result ≡ with_line arcs line.now from.now to.now }
 {
@@ -232,25 +145,23 @@ fn with_line(wait: Option<u32>, line: &FactLine, from: &Moment, to: &Moment) -> 
     }
 }
 
-/// From a stage of m by all that is known, of which these are the fact lines.
+/// The same with all of these fact lines.
 pub(crate) fn arc_by_lines(
     prefix: &Prefix,
     facts: &Facts,
     lines: &[FactLine],
-    m: u8,
-    from: &Stage,
+    from: &Moment,
     to: &Moment,
 ) -> Option<u32>
     requires same { prefix.now.problem ≡ facts.now.problem }
     requires start { prefix.now.numbers ≡ [] }
-    ensures { result ≡ with_lines (network prefix.now.problem (before_in facts.now.marks)) lines.now (At m from.now) to.now }
+    ensures { result ≡ with_lines (network prefix.now.problem (before_in facts.now.marks)) lines.now from.now to.now }
 {
-    let moment = Moment::At(m, *from);
-    let mut wait = table_arc(prefix, facts, m, from, to);
+    let mut wait = table_arc(prefix, facts, from, to);
     let mut left = lines.len();
     while left > 0 {
         left -= 1;
-        wait = with_line(wait, &lines[left], &moment, to);
+        wait = with_line(wait, &lines[left], from, to);
     }
     wait
 }

@@ -61,21 +61,25 @@ fn push_left_to(out: &mut Vec<u8>, to: &Moment, rest: usize, wait: u32) -> Resul
     push_field(out, b" or more: ", wait as usize)
 }
 
-/// A load of one instruction.
-fn push_one(
-    out: &mut Vec<u8>,
-    work: &Work,
-    to: &Moment,
+/// What units have to do before a moment, if they begin to work at `after`; so the moment comes at `wait` or later. Both are minor
+/// cycles after the first moment of a load.
+#[derive(Drop)]
+struct UnitLoad {
+    work: Work,
+    to: Moment,
     after: u32,
     wait: u32,
-    n: u8,
-) -> Result<(), AllocError>
-    ensures { OnOk result (out.new.items ≡ out.old.items ++ one_words work.now to.now after wait n) }
+}
+
+/// A load of one instruction.
+fn push_one(out: &mut Vec<u8>, load: &UnitLoad, n: u8) -> Result<(), AllocError>
+    ensures { OnOk result (out.new.items ≡ out.old.items ++ one_words load.now.work load.now.to load.now.after load.now.wait n) }
 {
     push_between(out, b"", n as usize, b" has its ")?;
-    out.extend_from_slice(unit_name(work.kind))?;
+    out.extend_from_slice(unit_name(load.work.kind))?;
     out.extend_from_slice(b" unit, and from there to ")?;
-    push_left_to(out, to, wait.saturating_sub(after) as usize, wait)
+    let rest = load.wait.saturating_sub(load.after);
+    push_left_to(out, &load.to, rest as usize, load.wait)
 }
 
 /// Which units instructions share.
@@ -135,21 +139,15 @@ fn push_mixed(out: &mut Vec<u8>, to: &Moment, wait: u32) -> Result<(), AllocErro
 }
 
 /// What follows of what so many instructions need.
-fn push_so(
-    out: &mut Vec<u8>,
-    work: &Work,
-    to: &Moment,
-    after: u32,
-    wait: u32,
-    count: usize,
-) -> Result<(), AllocError>
+fn push_so(out: &mut Vec<u8>, load: &UnitLoad, count: usize) -> Result<(), AllocError>
     requires { count ≤ BLOCK_LIMIT }
-    ensures { OnOk result (out.new.items ≡ out.old.items ++ so_words work.now to.now after wait count) }
+    ensures { OnOk result (out.new.items ≡ out.old.items ++ so_words load.now.work load.now.to load.now.after load.now.wait count) }
 {
+    let work = &load.work;
     if work.total as usize == count * work.most as usize {
-        push_last(out, to, begins(work, after), wait)
+        push_last(out, &load.to, begins(work, load.after), load.wait)
     } else {
-        push_mixed(out, to, wait)
+        push_mixed(out, &load.to, load.wait)
     }
 }
 
@@ -189,38 +187,24 @@ fn push_need(out: &mut Vec<u8>, work: &Work, count: usize) -> Result<(), AllocEr
 }
 
 /// A load of several instructions.
-fn push_many(
-    out: &mut Vec<u8>,
-    work: &Work,
-    to: &Moment,
-    after: u32,
-    wait: u32,
-    numbers: &[u8],
-) -> Result<(), AllocError>
+fn push_many(out: &mut Vec<u8>, load: &UnitLoad, numbers: &[u8]) -> Result<(), AllocError>
     requires { length numbers.now ≤ BLOCK_LIMIT }
-    ensures { OnOk result (out.new.items ≡ out.old.items ++ many_words work.now to.now after wait numbers.now) }
+    ensures { OnOk result (out.new.items ≡ out.old.items ++ many_words load.now.work load.now.to load.now.after load.now.wait numbers.now) }
 {
-    push_which(out, work, numbers)?;
-    push_need(out, work, numbers.len())?;
-    push_so(out, work, to, after, wait, numbers.len())
+    push_which(out, &load.work, numbers)?;
+    push_need(out, &load.work, numbers.len())?;
+    push_so(out, load, numbers.len())
 }
 
 /// A load up to where its first use begins, and from there on.
-fn push_until(
-    out: &mut Vec<u8>,
-    work: &Work,
-    to: &Moment,
-    after: u32,
-    wait: u32,
-    numbers: &[u8],
-) -> Result<(), AllocError>
+fn push_until(out: &mut Vec<u8>, load: &UnitLoad, numbers: &[u8]) -> Result<(), AllocError>
     requires { length numbers.now ≤ BLOCK_LIMIT }
-    ensures { OnOk result (out.new.items ≡ out.old.items ++ until_words work.now to.now after wait numbers.now) }
+    ensures { OnOk result (out.new.items ≡ out.old.items ++ until_words load.now.work load.now.to load.now.after load.now.wait numbers.now) }
 {
     if numbers.len() == 1 {
-        push_one(out, work, to, after, wait, numbers[0])
+        push_one(out, load, numbers[0])
     } else {
-        push_many(out, work, to, after, wait, numbers)
+        push_many(out, load, numbers)
     }
 }
 
@@ -240,10 +224,15 @@ pub(crate) fn push_load_sentence(
     requires remain { every (is_remaining prefix.now.problem.block []) numbers.now ≡ true }
     ensures { OnOk result (out.new.items ≡ out.old.items ++ load_sentence prefix.now.problem from.now to.now after wait numbers.now) }
 {
-    let work = Work::of(prefix, numbers);
+    let load = UnitLoad {
+        work: Work::of(prefix, numbers),
+        to: *to,
+        after,
+        wait,
+    };
     push_from(out, from)?;
     push_between(out, b" it is ", after as usize, b" or more until ")?;
-    push_until(out, &work, to, after, wait, numbers)
+    push_until(out, &load, numbers)
 }
 
 /// What is left to the end, so that the bound is reached.

@@ -19,8 +19,8 @@ ghost use Rattle.s66_reasons.specs.Within.{IsGranted, is_split};
 
 use crate::chain::push_chain;
 use crate::facts::{push_facts, push_load_sentence};
+use crate::known_paths::KnownPaths;
 use crate::parcels::push_parcels;
-use crate::path::push_longest;
 use crate::units::push_load;
 use crate::words::{push_around, push_between, push_counted, push_number, push_words};
 use s66_cert::{Document, TreeLine, TreeLines};
@@ -116,10 +116,10 @@ fn push_path(
     requires n { IsNumber (problem_of (document_of document.now)) n }
     ensures { OnOk result (out.new.items ≡ out.old.items ++ said_at (document_of document.now) (AtTerminal (Next n))) }
 {
-    let first = facts.duplicate();
-    let facts = push_facts(out, document, prefix, facts)?;
+    let by_dependence = facts.duplicate();
+    let by_lines = push_facts(out, document, prefix, facts)?;
     push_issue_row(out, document, n)?;
-    push_longest(out, document, prefix, &first, &facts, n)?;
+    KnownPaths::new(document, prefix, &by_dependence, &by_lines).push_longest(out, n)?;
     push_path_row(out, document.bound())
 }
 

@@ -1,5 +1,4 @@
 use Rattle.std.proofs.Common.{◌≡◌, ◌≤◌, drop, length}
-use Rattle.s66_moments.specs.declared.moment.Moment.TheVariants.{At}
 use Rattle.s66_moments.specs.Networks.{network}
 use Rattle.s66_facts.specs.Marked.{before_in}
 use Rattle.s66_reasons.specs.Within.{with_lines}
@@ -11,6 +10,6 @@ decreases-loop-left l = l.left
 -- the arc by the lines from there on
 abbrev pub invariant-loop-left : goal.invariant-loop-left
 invariant-loop-left l = record {
-  wait : l.wait ≡ with_lines (network l.prefix.problem (before_in l.facts.marks)) (drop l.left l.lines) (At l.m l.from) l.to;
+  wait : l.wait ≡ with_lines (network l.prefix.problem (before_in l.facts.marks)) (drop l.left l.lines) l.from l.to;
   within : l.left ≤ length l.lines;
 }

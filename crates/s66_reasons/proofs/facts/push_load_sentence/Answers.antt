@@ -12,4 +12,4 @@ returns c =
     let later = codes " it is " ++ decimal c.args.after ++ codes " or more until " in
     IfOk-equal c.push_until.result _ _ _ c.push_until.ensures
     (joined out _ _ from later _ c.in_ok-push_from.ensures c.in_ok-push_between.ensures
-    ∙ ap (λ (w : Work). out ++ (from ++ later ++ until_words w c.args.to.now c.args.after c.args.wait c.args.numbers.now)) c.of-work.ensures)
+    ∙ ap (λ (w : Work). out ++ (from ++ later ++ until_words w c.args.to.now c.args.after c.args.wait c.args.numbers.now)) c.of.ensures)

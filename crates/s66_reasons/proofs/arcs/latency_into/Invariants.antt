@@ -1,9 +1,0 @@
-use Rattle.std.proofs.Common.{◌≡◌, cond, max, drop, ℕ}
-use Rattle.s66_isa.specs.Lists.{greatest}
-use Rattle.s66_isa.specs.Table.{Write, same_reg}
-use Rattle.s66_reasons.proofs.arcs.latency_into.Given as goal
-
-abbrev pub invariant-loop-write : goal.invariant-loop-write
-invariant-loop-write l =
-    max l.latency (greatest (λ (w : Write). cond {A = ℕ} (same_reg w.reg l.register) w.latency 0) (drop l.write-index l.results))
-    ≡ greatest (λ (w : Write). cond {A = ℕ} (same_reg w.reg l.register) w.latency 0) l.results
