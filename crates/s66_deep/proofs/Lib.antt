@@ -1,4 +1,3 @@
 pub mod Each
-pub mod Begins
 pub mod FittingLines
 pub mod WholeTrees

@@ -68,7 +68,8 @@ pub fn expand(
     ensures expansion { IfOk result (λ p. IsExpansion NoneNamed (record { block = instrs_of block.now; profile = profile.now }) best best allowance prefix.now (tree_of p)) }
     ensures timed { IfOk result (λ p. IsBestTimed (record { block = instrs_of block.now; profile = profile.now }) prefix.now (tree_of p) p.timed) }
 {
-    Walk::new(block, profile).expand(alloc, prefix, best, allowance)
+    let incumbent = &mut Constant(best);
+    expand_with(alloc, block, profile, prefix, incumbent, allowance)
 }
 
 /// Expands a prefix as `expand` does, by a best time that may fall meanwhile: it is read at the prefix, and before each split
@@ -131,26 +132,6 @@ impl Walk<'_> {
     ghost use Rattle.s66_model.specs.LegalOrder.{IsBeginning};
     ghost use Rattle.s66_machine.specs.Expansion.{IsExpansion};
     ghost use Rattle.s66_node.specs.Pieces.{tree_of, IsBestTimed};
-
-    /// Goes to a prefix and expands it, as `expand` does; the tables of the block are there already. On `Err` the walk is at some
-    /// prefix of the same block.
-    pub fn expand(
-        &mut self,
-        alloc: Global,
-        prefix: &[u8],
-        best: u32,
-        allowance: u32,
-    ) -> Result<Piece, AllocError>
-        requires { IsBeginning self.old.problem.block prefix.now }
-        ensures same { self.new.problem ≡ self.old.problem }
-        ensures problem { IfOk result (λ p. p.problem ≡ self.old.problem) }
-        ensures rule { IfOk result (λ p. p.rule ≡ NoneNamed) }
-        ensures prefix { IfOk result (λ p. p.prefix ≡ prefix.now) }
-        ensures expansion { IfOk result (λ p. IsExpansion NoneNamed self.old.problem best best allowance prefix.now (tree_of p)) }
-        ensures timed { IfOk result (λ p. IsBestTimed self.old.problem prefix.now (tree_of p) p.timed) }
-    {
-        self.expand_with(alloc, prefix, &mut Constant(best), allowance)
-    }
 
     /// Goes to a prefix and expands it, as `expand_with` does; the tables of the block are there already. On `Err` the walk is at
     /// some prefix of the same block, and the best time may have fallen.

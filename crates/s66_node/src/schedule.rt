@@ -37,7 +37,7 @@ impl Candidate {
                 Priority::Start => start_of(walk, number),
                 Priority::Issue => issue_of(walk, number),
             },
-            tail: walk.tail(number),
+            tail: walk.bounds().tail(number),
         }
     }
 
@@ -54,7 +54,7 @@ fn issue_of(walk: &mut Walk<'_>, n: u8) -> u32
 {
     let parcels = walk.parcels(n);
     walk.push(n);
-    let next = walk.next();
+    let next = walk.clock().next();
     walk.undo();
     next - parcels
 }
@@ -63,7 +63,7 @@ fn issue_of(walk: &mut Walk<'_>, n: u8) -> u32
 fn last_done(walk: &Walk<'_>, registers: &[Reg]) -> u32 {
     let mut last = 0u32;
     for register in registers {
-        last = last.max(walk.done_of(*register));
+        last = last.max(walk.clock().done_of(*register));
     }
     last
 }

@@ -66,12 +66,12 @@ impl<'a> Walk<'a> {
     ghost use Rattle.s66_isa.specs.declared.limits.TheConstants.{BLOCK_LIMIT};
     ghost use Rattle.s66_isa.specs.Lists.{has};
     ghost use Rattle.s66_time.specs.Marks.{IsMarkOf};
+    ghost use Rattle.s66_time.specs.Ticking.{problem_of};
     ghost use Rattle.s66_model.specs.LegalOrder.{is_ready, ready, IsBeginning, IsComplete, IsIncomplete};
     ghost use Rattle.s66_model.specs.Leaves.{floor, floor_value};
     ghost use Rattle.s66_model.specs.Later.{IsNextReady};
     ghost use Rattle.s66_bound.specs.LeafValues.{leaf_of, value_of};
-    ghost use Rattle.s66_model.specs.Timing.{row_at, next, done_of, points_of};
-    ghost use Rattle.s66_model.specs.Tails.{longest_tail};
+    ghost use Rattle.s66_model.specs.Timing.{row_at};
     ghost use Rattle.s66_dep.specs.Members.{numbers_in};
     ghost use Rattle.s66_node.specs.Walked.{front};
 
@@ -111,6 +111,21 @@ impl<'a> Walk<'a> {
         ensures { result.now ≡ self.now.problem.profile }
     {
         self.clock.profile()
+    }
+
+    /// The times of the prefix.
+    pub fn clock(&self) -> &Clock<'a>
+        ensures problem { problem_of result.now ≡ self.now.problem }
+        ensures numbers { result.now.numbers ≡ self.now.numbers }
+    {
+        &self.clock
+    }
+
+    /// The lower bounds of what begins with a prefix.
+    pub fn bounds(&self) -> &Bounds<'a>
+        ensures { result.now ≡ self.now.problem }
+    {
+        &self.bounds
     }
 
     /// Goes on with a number that is ready, in the time of a clock's push.
@@ -197,7 +212,7 @@ impl<'a> Walk<'a> {
     }
 
     /// How many numbers the prefix has.
-    pub(crate) fn depth(&self) -> u8
+    pub fn depth(&self) -> u8
         ensures { result ≡ length self.now.numbers }
     {
         self.numbers.len() as u8
@@ -254,7 +269,7 @@ impl<'a> Walk<'a> {
     }
 
     /// Whether a number is ready after the prefix, in constant time.
-    fn is_ready(&self, n: u8) -> bool
+    pub fn is_ready(&self, n: u8) -> bool
         ensures { result ≡ is_ready self.now.problem.block self.now.numbers n }
     {
         if n == 0 || self.clock.block().count() < n as usize {
@@ -303,13 +318,6 @@ impl<'a> Walk<'a> {
         self.clock.pushed()
     }
 
-    /// The first minor cycle after the last issue in which an instruction can issue.
-    pub(crate) fn next(&self) -> u32
-        ensures { result ≡ next (points_of self.now.problem self.now.numbers) }
-    {
-        self.clock.next()
-    }
-
     /// The parcels of a number.
     #[tactic(auto, unfolding(s66_isa::specs::Table::row))]
     pub(crate) fn parcels(&self, n: u8) -> u32
@@ -326,20 +334,5 @@ impl<'a> Walk<'a> {
         ensures { result.items ≡ (row_at self.now.problem n).reads }
     {
         self.clock.block().instr(n as usize).reads()
-    }
-
-    /// When the last result in a register is done; 0 if none is written.
-    pub(crate) fn done_of(&self, register: Reg) -> u32
-        ensures { result ≡ done_of (points_of self.now.problem self.now.numbers) register }
-    {
-        self.clock.done_of(register)
-    }
-
-    /// The time of the longest walk from a number along the links to later ones, in minor cycles.
-    pub(crate) fn tail(&self, n: u8) -> u32
-        requires { (1 ≤ n) × (n ≤ length self.now.problem.block) }
-        ensures { result ≡ longest_tail self.now.problem n }
-    {
-        self.bounds.tail(n)
     }
 }

@@ -56,7 +56,7 @@ fn check_block<R: Abort>(rt: &R, block: &Block, profile: &Profile) {
     let tails = plain_tails(block, profile);
     let bounds = PathBounds::new(block, profile, &tails);
     let mut clock = Clock::new(block, profile);
-    let mut left = bounds.all_left();
+    let mut left = bounds.left_after(&Set::empty());
     let mut random = 12345u32;
     check_floors(rt, &bounds, &clock, &left, &tails);
     for _ in 0..TRIES {

@@ -11,7 +11,7 @@ use std::process::Abort;
 /// time, and none says more.
 fn check_floor<R: Abort>(rt: &R, block: &Block, tails: &[Tails; BLOCK_LIMIT], floor: u32) {
     let prefix = Prefix::new(block, &Profile::standard(), tails);
-    assert!(rt; !prefix.is_complete());
+    assert!(rt; !prefix.walk().is_complete());
     assert!(rt; prefix.path_floor() == floor && prefix.floor() == floor);
     assert!(rt; matches!(prefix.leaf(floor), Some(TreeLine::Next(1))));
     assert!(rt; prefix.leaf(floor.saturating_add(1)).is_none());
@@ -43,11 +43,12 @@ fn check_like_made<R: Abort>(rt: &R, gone: &Prefix<'_>, made: &mut Prefix<'_>, n
     for n in numbers {
         assert!(rt; made.try_push(*n));
     }
-    let is_made = gone.pushed() == made.pushed() && gone.path_floor() == made.path_floor();
-    let (clock, other) = (gone.clock(), made.clock());
+    let (walk, plain) = (gone.walk(), made.walk());
+    let is_made = walk.pushed() == plain.pushed() && gone.path_floor() == made.path_floor();
+    let (clock, other) = (walk.clock(), plain.clock());
     let is_timed = clock.next() == other.next() && clock.total() == other.total();
     assert!(rt;
-        is_made && is_timed && gone.len() == numbers.len(),
+        is_made && is_timed && walk.numbers() == numbers,
         "{numbers:?}"
     );
 }

@@ -1,6 +1,6 @@
 use s66_isa::Profile;
 use s66_line::Block;
-use s66_node::{Priority, Walk, schedule_rest};
+use s66_node::{Constant, Priority, Walk, schedule_rest};
 use std::alloc::{AllocError, Global};
 
 /// How many beginnings a tree splits, how many pushes that takes, and the least total that it finds.
@@ -22,7 +22,7 @@ pub fn grow(
     let mut walk = Walk::new(block, profile);
     schedule_rest(&mut walk, Priority::Issue);
     let total = walk.floor_value();
-    let piece = walk.expand(alloc, &[], total, budget)?;
+    let piece = walk.expand_with(alloc, &[], &mut Constant(total), budget)?;
     let best = match piece.timed() {
         Some(timed) => timed.total().min(total),
         None => total,

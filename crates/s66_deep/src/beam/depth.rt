@@ -59,7 +59,7 @@ fn push_children(
     while let Some(number) = rest.pop_first() {
         if prefix.try_push(number) {
             let merit = Merit::of(prefix, floor);
-            let placed = prefix.pushed();
+            let placed = prefix.walk().pushed();
             prefix.undo();
             if merit.floor < best {
                 children.push(Child {
@@ -102,7 +102,7 @@ fn children_of(
         prefix.go_to(one.numbers.as_slice());
         let this = Seen {
             placed: one.placed,
-            mark: prefix.mark(),
+            mark: prefix.walk().mark(),
         };
         if !is_dominated(seen.as_slice(), &this) {
             seen.push(this)?;

@@ -32,7 +32,7 @@ fn lateness(clock: &Clock<'_>) -> u32 {
 impl Merit {
     /// How promising a prefix is: its floor, no less than this one, and how far its instructions reach.
     pub fn of(prefix: &Prefix<'_>, floor: u32) -> Merit {
-        let clock = prefix.clock();
+        let clock = prefix.walk().clock();
         Merit {
             floor: floor.max(prefix.path_floor()).max(clock.total()),
             reach: clock

@@ -108,7 +108,7 @@ impl<'a> Search<'a> {
 
     /// The prefix at which the trail is, as that of a node: the place in its word of its next parcel, and its floor.
     fn sought(&self, node: u32, place: u8, floor: u32) -> Sought {
-        let clock = self.trail.prefix.clock();
+        let clock = self.trail.prefix.walk().clock();
         Sought {
             key: Key {
                 pushed: clock.pushed(),
@@ -124,7 +124,7 @@ impl<'a> Search<'a> {
 
     /// What becomes of the prefix at which the trail is, if another one that is kept dominates it.
     fn dominated(&self, sought: &Sought) -> Option<Fate> {
-        let remaining = Remaining::new(&self.instructions, self.trail.prefix.clock());
+        let remaining = Remaining::new(&self.instructions, self.trail.prefix.walk().clock());
         let other = self.kept.find(&self.nodes, &remaining, sought)?;
         Some(Fate::Dominated {
             other,
@@ -137,7 +137,7 @@ impl<'a> Search<'a> {
         let mut missing = self
             .instructions
             .before(n)
-            .without(&self.trail.prefix.pushed());
+            .without(&self.trail.prefix.walk().pushed());
         missing.pop_first()
     }
 
@@ -146,7 +146,7 @@ impl<'a> Search<'a> {
     fn look(&mut self, node: u32, place: u8) -> Result<Found, AllocError>
         ensures { Looks self.old self.new }
     {
-        if self.trail.prefix.is_complete() {
+        if self.trail.prefix.walk().is_complete() {
             keep_faster(&self.trail.prefix, &mut self.best);
             self.low = self.low.min(self.best.total());
             return Ok(Found::Is(Fate::Closed));
@@ -159,7 +159,7 @@ impl<'a> Search<'a> {
         if let Some(fate) = self.dominated(&sought) {
             return Ok(Found::Is(fate));
         }
-        self.kept.keep(&sought, self.trail.prefix.clock())?;
+        self.kept.keep(&sought, self.trail.prefix.walk().clock())?;
         Ok(Found::IsOpen(floor))
     }
 
@@ -174,7 +174,7 @@ impl<'a> Search<'a> {
         if !self.trail.prefix.try_push(n) {
             return Ok(false);
         }
-        let depth = self.trail.prefix.len() as u8;
+        let depth = self.trail.prefix.depth();
         let found = match missing {
             Some(other) => Found::Is(Fate::Turned(other)),
             None => self.look(index, place)?,
@@ -223,7 +223,7 @@ impl<'a> Search<'a> {
         if let Some(fate) = self.dominated(sought) {
             return Some(fate);
         }
-        let clock = self.trail.prefix.clock();
+        let clock = self.trail.prefix.walk().clock();
         if self.loads.close(&self.instructions, clock, self.low) {
             return Some(Fate::Closed);
         }

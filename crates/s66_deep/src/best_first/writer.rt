@@ -100,7 +100,7 @@ pub struct Leaves<'s> {
 impl Leaves<'_> {
     /// Writes the leaf of a prefix, if it has one: it is a whole order, a bound is so great at least, or a load closes it.
     fn write(&mut self, prefix: &Prefix<'_>, tree: &mut Tree) -> Result<bool, AllocError> {
-        if prefix.is_complete() {
+        if prefix.walk().is_complete() {
             tree.push(TreeLine::Whole)?;
             return Ok(true);
         }
@@ -110,7 +110,7 @@ impl Leaves<'_> {
         }
         let Some(load) = self
             .loads
-            .closing(self.instructions, prefix.clock(), self.low)
+            .closing(self.instructions, prefix.walk().clock(), self.low)
         else {
             return Ok(false);
         };

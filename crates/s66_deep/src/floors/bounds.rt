@@ -33,7 +33,6 @@ impl<'a> Model for PathBounds<'a> {
 impl<'a> PathBounds<'a> {
     ghost use Rattle.std.specs.Prelude.{◌≡◌, ◌≤◌, length};
     ghost use Rattle.s66_line.specs.Block.{instrs_of};
-    ghost use Rattle.s66_dep.specs.Ranks.{AreUpTo};
 
     /// Of a block under a profile, by what follows the stages of each number, n at place n - 1, in some network: in time quadratic in
     /// the block's length.
@@ -53,18 +52,12 @@ impl<'a> PathBounds<'a> {
         }
     }
 
-    /// What remains after the empty prefix: all numbers of the block, a step for each.
-    pub fn all_left(&self) -> Left {
-        self.left_of(&self.tables.all)
-    }
-
-    /// What remains after a prefix, from its numbers.
-    fn left_of(&self, rest: &Set) -> Left
-        requires { AreUpTo self.now rest.now }
-    {
+    /// What remains after a prefix of these numbers: a step for each number that remains.
+    pub fn left_after(&self, pushed: &Set) -> Left {
+        let rest = self.tables.all.without(pushed);
         Left {
-            by_issue: self.tables.by_issue.ranks(rest),
-            by_start: self.tables.by_start.ranks(rest),
+            by_issue: self.tables.by_issue.ranks(&rest),
+            by_start: self.tables.by_start.ranks(&rest),
         }
     }
 
@@ -92,8 +85,7 @@ impl<'a> PathBounds<'a> {
 
     /// The greatest path of what remains, in minor cycles; 0 if nothing does. A step for each number that remains.
     pub fn floor(&self, clock: &Clock<'_>) -> u32 {
-        let rest = self.tables.all.without(&clock.pushed());
-        self.floor_by_ranks(clock, &self.left_of(&rest))
+        self.floor_by_ranks(clock, &self.left_after(&clock.pushed()))
     }
 
     /// The same value as `floor`, for a caller that keeps what remains: a few looks for each word of the clock that is late, and one

@@ -1,8 +1,16 @@
-use Rattle.s66_deep.proofs.Begins.{begun-undo, last-range}
+use Rattle.std.proofs.Common.{ℕ, ◌≡◌, ◌<◌, ◌-◌, length, get_or, take, sym, subst, arith}
+use Rattle.s66_model.specs.LegalOrder.{IsBeginning}
+use Rattle.s66_model.proofs.LegalOrders.{ready-parts}
+use Rattle.s66_node.proofs.Standing.{ready-at}
 use Rattle.s66_deep.proofs.walk.Prefix.undo.Goals as goal
 
 pub put_back-requires : goal.put_back-requires
-put_back-requires c = last-range c.self.inside.clock _ _ _ _ c.args.self.now c.self.invariant c.self.view_is c.pop.new.self.items c.in-Some.n c.in-Some.ensures.items
-
-pub invariant_of-self-2 : goal.invariant_of-self-2
-invariant_of-self-2 c = begun-undo c.self.inside.clock _ _ _ _ c.args.self.now c.self.invariant c.self.view_is c.undo.new.self c.pop.new.self.items c.undo.ensures.value c.pop.ensures.rest
+put_back-requires c =
+    let block = c.self.inside.walk.problem.block in
+    let ns = c.numbers.result.now in
+    let last : ℕ = length ns - 1 in
+    let within : last < length ns = omega (arith, c.in-Some.ensures.item.3.0) in
+    let here : c.in-Some.field-0.now ≡ get_or ns last 0 = c.in-Some.ensures.item.4 (omega arith) 0 in
+    let begins = subst (IsBeginning block) (sym c.numbers.ensures.value) c.numbers.ensures.begins in
+    let (low, high, new, met) = ready-parts block (take last ns) (get_or ns last 0) (ready-at block ns last begins within) in
+    (omega (arith, low, here), omega (arith, high, here, c.self.invariant))

@@ -1,8 +1,0 @@
-use Rattle.std.proofs.Common.{length, ap, ◌∙◌}
-use Rattle.s66_line.specs.Block.{Block, instrs_of}
-use Rattle.s66_deep.proofs.Begins.{begun-either}
-use Rattle.s66_deep.proofs.walk.Prefix.is_complete.Goals as goal
-
-pub returns-clause-incomplete : goal.returns-clause-incomplete
-returns-clause-incomplete c =
-    begun-either c.self.inside.clock _ _ _ _ c.args.self.now c.self.invariant c.self.view_is c.len.result c.count.result c.len.ensures.value (c.count.ensures.value ∙ ap (λ (x : Block). length (instrs_of x)) c.block.ensures)
