@@ -17,6 +17,7 @@ pub mod RoundTrip
 pub mod WiderDocuments
 pub mod OneReading
 pub mod Sound
+pub mod WholeTrees
 pub mod ReadFronts
 pub mod FirstFault
 pub mod OneFault

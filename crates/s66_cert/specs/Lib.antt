@@ -7,6 +7,7 @@ pub mod Lines
 pub mod NodePlaces
 pub mod Pages
 pub mod DocumentParts
+pub mod Evidence
 pub mod DocumentReader
 pub mod Reading
 pub mod Reads

@@ -8,7 +8,7 @@ use s66_tree::{KeptLines, Tree, TreeLine, TreeLines};
 use std::marker::Model;
 
 /// How many trees follow a line as its children.
-fn sibling_count(line: TreeLine<'_>) -> usize
+pub(crate) fn sibling_count(line: TreeLine<'_>) -> usize
     ensures { result ≡ sibling_count (vertex_of line.entry) }
 {
     match line {

@@ -3,6 +3,7 @@
 
 mod document;
 mod error;
+mod evidence;
 mod examples;
 mod indexed_tree;
 mod instruction;
@@ -13,6 +14,7 @@ mod page;
 mod parse;
 mod place;
 mod printing;
+mod ranges;
 mod reader;
 mod reading;
 mod readings;
@@ -21,6 +23,7 @@ mod text;
 
 pub use document::{Claim, Document};
 pub use error::CertError;
+pub use evidence::Evidence;
 pub use examples::document_examples;
 pub use instruction::InstructionText;
 pub use laws::{old_documents_stay, one_reading_law, reading_law};

@@ -1,0 +1,24 @@
+-- Used by contracts: what is to show a bound, as code stores it.
+use Rattle.std.specs.Prelude.{ℕ, ◌≡◌, ◌≤◌, List, Some}
+use Rattle.s66_isa.specs.declared.limits.TheConstants.{BLOCK_LIMIT}
+use Rattle.s66_model.specs.declared.rule.Rule.TheVariants.{ClampedStanding}
+use Rattle.s66_model.specs.Tree.{Vertex, flat, splits}
+use Rattle.s66_model.specs.DominatedLeaves.{Ending}
+use Rattle.s66_moments.specs.declared.fact_line.FactLine.{FactLine}
+use Rattle.s66_cert.specs.declared.limits.TheConstants.{SPLIT_LIMIT, TIME_LIMIT}
+use Rattle.s66_cert.specs.Document.{AreFacts, HasItsLeaves, TreeFits}
+use Rattle.s66_cert.specs.DocumentParts.{tree_of_lines}
+
+pub record EvidenceOf : Type 0 where
+  pub bound : ℕ
+  pub lines : List FactLine
+  pub vertices : List (Vertex Ending)
+
+-- a document with fact lines may have it
+pub record IsEvidence (e : EvidenceOf) : Type 0 where
+  pub bound : e.bound ≤ TIME_LIMIT
+  pub facts : AreFacts BLOCK_LIMIT ClampedStanding (Some e.lines)
+  pub preorder : flat (tree_of_lines e.vertices) ≡ e.vertices
+  pub tree : TreeFits BLOCK_LIMIT (tree_of_lines e.vertices)
+  pub splits : splits (tree_of_lines e.vertices) ≤ SPLIT_LIMIT
+  pub leaves : HasItsLeaves ClampedStanding (Some e.lines) (tree_of_lines e.vertices)

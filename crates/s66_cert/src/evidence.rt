@@ -1,0 +1,106 @@
+ghost use Rattle.std.specs.Prelude.{◌≡◌, ◌≤◌, IsTrue};
+ghost use Rattle.s66_isa.specs.declared.limits.TheConstants.{BLOCK_LIMIT};
+ghost use Rattle.s66_model.specs.Tree.{flat, splits};
+ghost use Rattle.s66_cert.specs.Document.{TreeFits};
+ghost use Rattle.s66_cert.specs.DocumentParts.{tree_of_lines};
+
+use crate::indexed_tree::sibling_count;
+use crate::limits::{FACT_LIMIT, SPLIT_LIMIT, TIME_LIMIT};
+use crate::ranges::{are_fact_lines, is_vertex};
+use s66_moments::FactLine;
+use s66_tree::Tree;
+use std::marker::Model;
+
+/// Whether lines are those of one whole tree of at most this many splits.
+fn is_whole(tree: &Tree, most: u32) -> bool
+    ensures { IsTrue result → (flat (tree_of_lines tree.now) ≡ tree.now) × TreeFits BLOCK_LIMIT (tree_of_lines tree.now) × (splits (tree_of_lines tree.now) ≤ most) }
+{
+    let mut lines = tree.lines();
+    let mut left = 1usize;
+    let mut splits = 0u32;
+    while let Some(line) = lines.next() {
+        if left == 0 || !is_vertex(line) {
+            return false;
+        }
+        let count = sibling_count(line);
+        if count > 0 {
+            if splits >= most {
+                return false;
+            }
+            splits += 1;
+        }
+        left = left - 1 + count;
+    }
+    left == 0
+}
+
+/// What is to show a bound in a document with fact lines. A document may have it; whether it shows the bound is for a checker to say.
+#[derive(Drop)]
+pub struct Evidence {
+    bound: u32,
+    lines: Vec<FactLine>,
+    tree: Tree,
+}
+
+impl Model for Evidence {
+    ghost use Rattle.s66_cert.specs.Evidence.{EvidenceOf, IsEvidence};
+
+    ghost Value = { EvidenceOf };
+
+    ghost view = { λ e. record { bound = e.bound; lines = e.lines.items; vertices = e.tree } };
+
+    ghost invariant = { λ e. IsEvidence (record { bound = e.bound; lines = e.lines.items; vertices = e.tree }) };
+}
+
+impl Evidence {
+    ghost use Rattle.std.specs.Prelude.{◌≡◌, ◌≤◌, IfSome, length};
+    ghost use Rattle.s66_model.specs.Tree.{splits};
+    ghost use Rattle.s66_cert.specs.DocumentParts.{tree_of_lines};
+    ghost use Rattle.s66_cert.specs.Evidence.{IsEvidence};
+
+    /// Fact lines and a tree that are to show by them that no order takes less than a bound, in minor cycles. None if a document may not
+    /// have them, or the tree has more than this many splits.
+    pub fn new(bound: u32, lines: Vec<FactLine>, tree: Tree, most: u32) -> Option<Evidence>
+        ensures value { IfSome result (λ e. e ≡ record { bound = bound; lines = lines.items; vertices = tree }) }
+        ensures splits { IfSome result (λ e. splits (tree_of_lines e.vertices) ≤ most) }
+    {
+        let are_few = bound <= TIME_LIMIT && lines.len() <= FACT_LIMIT;
+        if !are_few || tree.has_dominated() || !are_fact_lines(lines.as_slice()) {
+            return None;
+        }
+        if !is_whole(&tree, most.min(SPLIT_LIMIT)) {
+            return None;
+        }
+        Some(Evidence { bound, lines, tree })
+    }
+
+    /// What no order is to take less than, in minor cycles.
+    pub fn bound(&self) -> u32
+        ensures { result ≡ self.now.bound }
+    {
+        self.bound
+    }
+
+    /// The fact lines, at most `FACT_LIMIT`.
+    pub fn lines(&self) -> &[FactLine]
+        ensures { result.now ≡ self.now.lines }
+    {
+        self.lines.as_slice()
+    }
+
+    /// The tree.
+    pub fn tree(&self) -> &Tree
+        ensures { result.now ≡ self.now.vertices }
+    {
+        &self.tree
+    }
+
+    /// The fact lines and the tree.
+    pub fn into_parts(self) -> (Vec<FactLine>, Tree)
+        ensures lines { result.0.items ≡ self.lines }
+        ensures tree { result.1 ≡ self.vertices }
+        ensures whole { IsEvidence self }
+    {
+        (self.lines, self.tree)
+    }
+}
