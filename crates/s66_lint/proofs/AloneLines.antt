@@ -1,9 +1,8 @@
 -- Whether `--cut` leaves each line of a text alone, one line after the other.
-use Rattle.std.proofs.Common.{◌≡◌, ◌||◌, ◌<◌, ◌≤◌, ◌+◌, ◌-◌, ℕ, zero, suc, Bool, true, false, Some, List, [], ◌∷◌, ◌++◌, length, map, take, drop, nat_lt, refl, sym, ap, ap₂, ◌∙◌, arith, append_assoc, length-append}
+use Rattle.std.proofs.Common.{◌≡◌, ◌||◌, ◌<◌, ◌≤◌, ◌+◌, ◌-◌, ℕ, zero, suc, Bool, true, false, List, [], ◌∷◌, ◌++◌, length, map, take, nat_lt, refl, ap, ap₂, ◌∙◌, arith, append_assoc, length-append}
 use Rattle.std.proofs.lemmas.List.{append-nil, length-take}
 use Rattle.s66_line.specs.Class.{class_of}
 use Rattle.s66_line.specs.Fields.{body, continues, lines_from}
-use Rattle.s66_line.proofs.LineCuts.{IsFirstNewline, lines_from-found}
 use Rattle.s66_line.specs.declared.limits.TheConstants.{LINE_BYTES_LIMIT}
 use Rattle.s66_source.specs.Counts.{is_covering}
 use Rattle.s66_source.specs.LeftAlone.{after_line, is_alone, is_continued, is_directive, is_off_switch, is_refused}
@@ -16,15 +15,12 @@ continued-front [] = refl
 continued-front ([] ∷ lines) = refl
 continued-front ((b ∷ line) ∷ lines) = refl
 
--- a line of this text comes first, and then those after its newline
-pub alone_from-found : (s : Standing) (bytes : List ℕ) (k : ℕ) → IsFirstNewline bytes (Some k) →
-    alone_from s (lines_from [] bytes)
-    ≡ is_alone true s (front (take k bytes)) (continues (drop (k + 1) bytes)) ∷ alone_from (after_line true s (front (take k bytes))) (lines_from [] (drop (k + 1) bytes))
-alone_from-found s bytes k first =
-    let rest : List (List ℕ) = lines_from [] (drop (k + 1) bytes) in
-    ap (alone_from s) (lines_from-found [] bytes k first)
-    ∙ ap (λ next. is_alone true s (front (take k bytes)) next ∷ alone_from (after_line true s (front (take k bytes))) rest)
-    (continued-front rest ∙ continued-next (drop (k + 1) bytes))
+-- the first line of a text, and then those after it
+pub alone_from-found : (s : Standing) (text line more : List ℕ) → lines_from [] text ≡ line ∷ lines_from [] more →
+    alone_from s (lines_from [] text) ≡ is_alone true s (front line) (continues more) ∷ alone_from (after_line true s (front line)) (lines_from [] more)
+alone_from-found s text line more cut =
+    let rest : List (List ℕ) = lines_from [] more in
+    ap (alone_from s) cut ∙ ap (λ next. is_alone true s (front line) next ∷ alone_from (after_line true s (front line)) rest) (continued-front rest ∙ continued-next more)
 
 -- ONE MORE of a list is taken, up to a limit
 
@@ -48,18 +44,9 @@ take-none : (n : ℕ) → take n nothing ≡ nothing
 take-none zero = refl
 take-none (suc n) = refl
 
--- of a text without a line
-pub none_last : (limit : ℕ) (taken : List Bool) (s : Standing) (line : List ℕ) → length line ≡ 0 → taken ≡ taken ++ take limit (alone_from s (lines_from line []))
-none_last limit taken s [] h = sym (ap (λ more. taken ++ more) (take-none limit) ∙ append-nil taken)
-none_last limit taken s (b ∷ line) h = absurd (omega (arith, h))
-
--- and of one with a line that lacks its newline
-pub one_last : (limit : ℕ) (taken : List Bool) (s : Standing) (line : List ℕ) → length taken < limit → (length line ≡ 0 → ⊥) →
-    taken ++ is_alone true s (front line) false ∷ [] ≡ taken ++ take (limit - length taken) (alone_from s (lines_from line []))
-one_last limit taken s [] few some = absurd (some refl)
-one_last limit taken s (b ∷ line) few some =
-    let next : limit - length taken ≡ suc (limit - suc (length taken)) = omega (arith, few) in
-    rw (next, take-none (limit - suc (length taken))) refl
+-- of no line
+pub none-left : (limit : ℕ) (taken : List Bool) → taken ++ take limit nothing ≡ taken
+none-left limit taken = ap (λ more. taken ++ more) (take-none limit) ∙ append-nil taken
 
 -- A LINE UP TO THE LIMIT of its bytes is no longer than that
 pub length-front : (line : List ℕ) → length (front line) ≤ LINE_BYTES_LIMIT

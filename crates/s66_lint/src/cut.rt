@@ -1,14 +1,12 @@
-ghost use Rattle.std.specs.Prelude.{◌≡◌, ◌≤◌, ◌<◌, ◌-◌, ◌++◌, ◌∷◌, ◌||◌, true, [], length, take, IfOk, OnOk};
+ghost use Rattle.std.specs.Prelude.{◌≡◌, ◌≤◌, ◌<◌, ◌-◌, ◌++◌, ◌∷◌, ◌||◌, true, [], length, IfOk, OnOk};
 ghost use Rattle.s66_line.specs.Class.{class_of};
-ghost use Rattle.s66_line.specs.Fields.{lines_from};
 ghost use Rattle.s66_line.specs.declared.limits.TheConstants.{LINE_BYTES_LIMIT};
 ghost use Rattle.s66_source.specs.LeftAlone.{after_line, is_alone, is_directive, is_off_switch, is_refused};
 ghost use Rattle.s66_source.specs.declared.limits.TheConstants.{SOURCE_LINES_LIMIT};
-ghost use Rattle.s66_lint.specs.Marks.{alone_from, alone_lines, front};
+ghost use Rattle.s66_lint.specs.Marks.{alone_lines, front};
 
-use memchr::memchr;
 use s66_line::{Class, LINE_BYTES_LIMIT, body_of, classify, is_continuation};
-use s66_source::{SOURCE_LINES_LIMIT, Standing, is_directive, is_switch};
+use s66_source::{SOURCE_LINES_LIMIT, Standing, cut_line, is_directive, is_switch};
 use std::alloc::{AllocError, Global};
 
 /// A line up to the limit of its bytes.
@@ -77,22 +75,6 @@ fn push_line(
     Ok(())
 }
 
-/// Passes a last line that lacks its newline, if there is one.
-fn push_last(alone: &mut Vec<bool>, standing: &mut Standing, line: &[u8]) -> Result<(), AllocError>
-    requires few { length alone.old.items ≤ SOURCE_LINES_LIMIT }
-    requires bodies { standing.old.bodies ≤ length alone.old.items }
-    ensures { OnOk result (alone.new.items ≡ alone.old.items ++ take (SOURCE_LINES_LIMIT - length alone.old.items) (alone_from standing.old (lines_from line.now []))) }
-{
-    if line.is_empty() {
-        return Ok(());
-    }
-    if alone.len() >= SOURCE_LINES_LIMIT as usize {
-        return Ok(());
-    }
-    push_line(alone, standing, line, false)?;
-    Ok(())
-}
-
 /// Whether `--cut` leaves each line of a text alone, up to the limit of lines.
 pub(crate) fn alone_lines(alloc: Global, text: &[u8]) -> Result<Vec<bool>, AllocError>
     ensures { IfOk result (λ alone. alone.items ≡ alone_lines text.now) }
@@ -100,14 +82,12 @@ pub(crate) fn alone_lines(alloc: Global, text: &[u8]) -> Result<Vec<bool>, Alloc
     let mut alone = Vec::new(alloc);
     let mut standing = Standing::at_first();
     let mut rest = text;
-    while let Some(end) = memchr(b'\n', rest) {
+    while let Some((line, more)) = cut_line(rest) {
         if alone.len() >= SOURCE_LINES_LIMIT as usize {
             return Ok(alone);
         }
-        let line = &rest[..end];
-        rest = &rest[end + 1..];
-        push_line(&mut alone, &mut standing, line, is_continuation(rest))?;
+        push_line(&mut alone, &mut standing, line, is_continuation(more))?;
+        rest = more;
     }
-    push_last(&mut alone, &mut standing, rest)?;
     Ok(alone)
 }

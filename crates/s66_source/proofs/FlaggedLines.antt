@@ -1,8 +1,7 @@
 -- The lines of a text, each flagged as left alone or not.
-use Rattle.std.proofs.Common.{◌≡◌, ◌+◌, ◌==◌, ℕ, suc, true, false, Bool, if◌then◌else◌, Some, List, [], ◌∷◌, ◌++◌, length, map, take, drop, refl, ap, ◌∙◌}
+use Rattle.std.proofs.Common.{◌≡◌, ◌+◌, ◌==◌, ℕ, suc, true, false, Bool, if◌then◌else◌, List, [], ◌∷◌, ◌++◌, length, map, refl, ap, ◌∙◌}
 use Rattle.std.proofs.lemmas.Bool.{eqb-true, cond_both}
 use Rattle.s66_line.specs.Fields.{continues, lines_from}
-use Rattle.s66_line.proofs.LineCuts.{IsFirstNewline, lines_from-found}
 use Rattle.s66_source.specs.LeftAlone.{Flagged, after_line, is_alone, is_continued, flagged_from}
 use Rattle.s66_source.specs.declared.standing.Standing.{Standing}
 
@@ -31,10 +30,8 @@ continued-next (b ∷ rest) =
     (λ newline. rw (eqb-true b 10 newline) refl)
     (λ later. begun-continues b [] rest)
 
--- a line of this text comes first, and then those after its newline
-pub flagged-found : (cut : Bool) (s : Standing) (bytes : List ℕ) (k : ℕ) → IsFirstNewline bytes (Some k) →
-    flagged_from cut s (lines_from [] bytes)
-    ≡ record { alone = is_alone cut s (take k bytes) (continues (drop (k + 1) bytes)); bytes = take k bytes } ∷ flagged_from cut (after_line cut s (take k bytes)) (lines_from [] (drop (k + 1) bytes))
-flagged-found cut s bytes k first =
-    ap (flagged_from cut s) (lines_from-found [] bytes k first)
-    ∙ ap (λ next. record { alone = is_alone cut s (take k bytes) next; bytes = take k bytes } ∷ flagged_from cut (after_line cut s (take k bytes)) (lines_from [] (drop (k + 1) bytes))) (continued-next (drop (k + 1) bytes))
+-- the first line of a text, and then those after it
+pub flagged-found : (cut : Bool) (s : Standing) (text line more : List ℕ) → lines_from [] text ≡ line ∷ lines_from [] more →
+    flagged_from cut s (lines_from [] text) ≡ record { alone = is_alone cut s line (continues more); bytes = line } ∷ flagged_from cut (after_line cut s line) (lines_from [] more)
+flagged-found cut s text line more is =
+    ap (flagged_from cut s) is ∙ ap (λ next. record { alone = is_alone cut s line next; bytes = line } ∷ flagged_from cut (after_line cut s line) (lines_from [] more)) (continued-next more)

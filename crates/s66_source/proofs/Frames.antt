@@ -1,6 +1,6 @@
 -- The frame of a source, read line by line, is the definition.
-use Rattle.std.proofs.Common.{◌≡◌, ◌≤◌, ◌<◌, ◌+◌, ◌&&◌, ◌||◌, not, ℕ, suc, Bool, true, false, if◌then◌else◌, Option, None, Some, List, [], ◌∷◌, ◌++◌, length, map, take, drop, refl, sym, ap, ap₂, ◌∙◌, inl, inr, arith, append_assoc, eqb, leb, nat_lt}
-use Rattle.std.specs.Prelude.{Ok, nat_le, ◌==◌}
+use Rattle.std.proofs.Common.{◌≡◌, ◌≤◌, ◌+◌, ◌&&◌, ◌||◌, not, ℕ, suc, Bool, true, false, if◌then◌else◌, Option, None, Some, List, [], ◌∷◌, ◌++◌, length, map, refl, sym, ap, ap₂, ◌∙◌, inl, inr, arith, append_assoc, eqb, leb, nat_lt}
+use Rattle.std.specs.Prelude.{Ok, ◌==◌}
 use Rattle.std.proofs.lemmas.Bool.{and_parts, cases_Bool, eq-eqb, le-leb, leb-true, ltb-false}
 use Rattle.s66_isa.specs.Lists.{every}
 use Rattle.s66_line.specs.Block.{Block, line_of}
@@ -8,10 +8,9 @@ use Rattle.s66_line.specs.Class.{is_code}
 use Rattle.s66_line.specs.Fields.{continues, lines_from, lines_of}
 use Rattle.s66_line.specs.declared.class.Class.{Class}
 use Rattle.s66_line.specs.declared.limits.TheConstants.{LINE_BYTES_LIMIT}
-use Rattle.s66_line.proofs.LineCuts.{IsFirstNewline, lines_from-found}
 use Rattle.s66_source.specs.Frame.{FramePart, block_part, frame_of, frame_of_lines, is_beside, line_part, part_beside}
-use Rattle.s66_source.specs.Framer.{Framer, after_framed, begins_block, first_part, flagged_next, frame_from, framed, is_beside_next, is_short, part_at}
-use Rattle.s66_source.specs.LeftAlone.{Flagged, Reading, after_line, at_first, class_at, flagged_from, flagged_lines}
+use Rattle.s66_source.specs.Framer.{Framer, after_framed, begins_block, first_part, flagged_next, frame_from, framed, is_short, part_at}
+use Rattle.s66_source.specs.LeftAlone.{Flagged, Reading, after_line, at_first, class_at, flagged_lines}
 use Rattle.s66_source.specs.Printer.{begins_with, rest}
 use Rattle.s66_source.specs.Roles.{has_block, is_dropped, is_other_class, is_pad_class, lines_that}
 use Rattle.s66_source.specs.Source.{Line, blocks_of, classed_lines, classes_from, label_after, label_at, operand_refusal, place_after, place_at, refusal, run_after, run_at, source_of}
@@ -25,20 +24,18 @@ use Rattle.s66_source.proofs.PrintedLines.{Ordered, accepted-is, dropped-no, dro
 
 -- LINE BY LINE
 
--- a line up to a newline, and then those after it
-pub framed-found : (f : Framer) (out : List FramePart) (bytes : List ℕ) (k : ℕ) → IsFirstNewline bytes (Some k) →
-    (out ++ part_at f (flagged_next f (continues (drop (k + 1) bytes)) (take k bytes))) ++ framed (after_framed f (flagged_next f (continues (drop (k + 1) bytes)) (take k bytes))) (lines_from [] (drop (k + 1) bytes))
-    ≡ out ++ framed f (lines_from [] bytes)
-framed-found f out bytes k first =
-    let line = flagged_next f (continues (drop (k + 1) bytes)) (take k bytes) in
-    append_assoc out (part_at f line) (framed (after_framed f line) (lines_from [] (drop (k + 1) bytes)))
-    ∙ ap (λ lines. out ++ frame_from f lines) (sym (flagged-found f.cut f.standing bytes k first))
+-- the first line, and then those after it
+pub framed-found : (f : Framer) (out : List FramePart) (text line more : List ℕ) → lines_from [] text ≡ line ∷ lines_from [] more →
+    (out ++ part_at f (flagged_next f (continues more) line)) ++ framed (after_framed f (flagged_next f (continues more) line)) (lines_from [] more) ≡ out ++ framed f (lines_from [] text)
+framed-found f out text line more cut =
+    let next = flagged_next f (continues more) line in
+    append_assoc out (part_at f next) (framed (after_framed f next) (lines_from [] more)) ∙ ap (λ lines. out ++ frame_from f lines) (sym (flagged-found f.cut f.standing text line more cut))
 
 -- the first line is short, and so are those after it
-pub short-found : (bytes : List ℕ) (k : ℕ) → IsFirstNewline bytes (Some k) → every is_short (lines_from [] bytes) ≡ true → (length (take k bytes) ≤ LINE_BYTES_LIMIT) × (every is_short (lines_from [] (drop (k + 1) bytes)) ≡ true)
-short-found bytes k first short =
-    let both = and_parts (is_short (take k bytes)) (every is_short (lines_from [] (drop (k + 1) bytes))) (ap (every is_short) (sym (lines_from-found [] bytes k first)) ∙ short) in
-    (leb-true (length (take k bytes)) LINE_BYTES_LIMIT both.0, both.1)
+pub short-found : (text line more : List ℕ) → lines_from [] text ≡ line ∷ lines_from [] more → every is_short (lines_from [] text) ≡ true → (length line ≤ LINE_BYTES_LIMIT) × (every is_short (lines_from [] more) ≡ true)
+short-found text line more cut short =
+    let both = and_parts (is_short line) (every is_short (lines_from [] more)) (ap (every is_short) (sym cut) ∙ short) in
+    (leb-true (length line) LINE_BYTES_LIMIT both.0, both.1)
 
 -- EACH LINE of an accepted source is short
 

@@ -8,7 +8,6 @@ use Rattle.std.proofs.lemmas.List.{length-map, take_all}
 use Rattle.s66_isa.specs.Lists.{Among}
 use Rattle.s66_line.specs.Fields.{lines_from, lines_of}
 use Rattle.s66_line.specs.Block.{Block, Entry, line_of}
-use Rattle.s66_line.proofs.LineCuts.{IsFirstNewline, lines_from-found}
 use Rattle.s66_source.specs.Columns.{bytes_on, indent, indented_lines, indents}
 use Rattle.s66_source.specs.LeftAlone.{Reading, Flagged, at_first, class_at, flagged_lines}
 use Rattle.s66_source.specs.Source.{Line, run_after, place_after, label_after, classes_from, classed_lines, blocks_of, source_of}
@@ -204,11 +203,9 @@ print-keeping quiet columns source blocks before given accepted =
     ∙ kept-lines quiet columns all all (at_start (blocks_of all) before given) [] 0 numbered (theirs all 1 numbered) refl
 
 -- the text of a line up to a newline, and then of those after it
-pub kept-found : (k : Keeper) (out bytes : List ℕ) (n : ℕ) → IsFirstNewline bytes (Some n) →
-    (out ++ kept_text k (take n bytes)) ++ kept_from (after_kept k (take n bytes)) (lines_from [] (drop (n + 1) bytes)) ≡ out ++ kept_from k (lines_from [] bytes)
-kept-found k out bytes n first =
-    append_assoc out (kept_text k (take n bytes)) (kept_from (after_kept k (take n bytes)) (lines_from [] (drop (n + 1) bytes)))
-    ∙ ap (λ lines. out ++ kept_from k lines) (sym (lines_from-found [] bytes n first))
+pub kept-found : (k : Keeper) (out text line more : List ℕ) → lines_from [] text ≡ line ∷ lines_from [] more →
+    (out ++ kept_text k line) ++ kept_from (after_kept k line) (lines_from [] more) ≡ out ++ kept_from k (lines_from [] text)
+kept-found k out text line more cut = append_assoc out (kept_text k line) (kept_from (after_kept k line) (lines_from [] more)) ∙ ap (λ lines. out ++ kept_from k lines) (sym cut)
 
 -- WHAT IS GIVEN after a block
 

@@ -1,11 +1,10 @@
 -- The orders of blocks.
-use Rattle.std.proofs.Common.{ℕ, suc, Bool, true, false, if◌then◌else◌, refl, ◌≡◌, ◌≤◌, ◌+◌, ◌++◌, ◌∙◌, Some, List, [], ◌∷◌, take, drop, append_assoc, length, get_or, ap, subst, sym}
+use Rattle.std.proofs.Common.{ℕ, suc, Bool, true, false, if◌then◌else◌, refl, ◌≡◌, ◌≤◌, ◌+◌, ◌++◌, ◌∙◌, List, [], ◌∷◌, append_assoc, length, get_or, ap, subst, sym}
 use Rattle.s66_isa.specs.Lists.{Among}
 use Rattle.s66_line.specs.Block.{Block}
 use Rattle.s66_source.specs.Printed.{Placed, ArePlaced}
 use Rattle.s66_source.specs.Printer.{Printer, is_passed, is_skipped, is_instruction_next, is_last, rest, line_text, after_printed, printed_from}
 use Rattle.s66_line.specs.Fields.{lines_from}
-use Rattle.s66_line.proofs.LineCuts.{IsFirstNewline, lines_from-found}
 
 -- the numbers of the first order are those of the first block
 pub placed-first : (line passed : ℕ) (blocks : List Block) (ps : List Placed) (block : Block) (p : Placed) → ArePlaced blocks ps → is_passed line passed blocks ≡ true → block ≡ get_or blocks 0 block → p ≡ get_or ps 0 p →
@@ -28,9 +27,7 @@ lines-after p = by_cases (is_skipped p) (is_instruction_next p) (is_last p.passe
     by_cases false true false = refl
     by_cases false false last = refl
 
--- the text of a line up to a newline, and then of those after it
-pub text-found : (p : Printer) (out bytes : List ℕ) (k : ℕ) → IsFirstNewline bytes (Some k) →
-    (out ++ line_text p (take k bytes)) ++ printed_from (after_printed p) (lines_from [] (drop (k + 1) bytes)) ≡ out ++ printed_from p (lines_from [] bytes)
-text-found p out bytes k first =
-    append_assoc out (line_text p (take k bytes)) (printed_from (after_printed p) (lines_from [] (drop (k + 1) bytes)))
-    ∙ ap (λ lines. out ++ printed_from p lines) (sym (lines_from-found [] bytes k first))
+-- the text of the first line, and then of those after it
+pub text-found : (p : Printer) (out text line more : List ℕ) → lines_from [] text ≡ line ∷ lines_from [] more →
+    (out ++ line_text p line) ++ printed_from (after_printed p) (lines_from [] more) ≡ out ++ printed_from p (lines_from [] text)
+text-found p out text line more cut = append_assoc out (line_text p line) (printed_from (after_printed p) (lines_from [] more)) ∙ ap (λ lines. out ++ printed_from p lines) (sym cut)

@@ -4,9 +4,9 @@ ghost use Rattle.s66_source.specs.Frame.{block_part, frame_of};
 ghost use Rattle.s66_source.specs.Roles.{is_other_class, is_pad_class};
 
 use crate::block_text::without_trailing;
+use crate::lines::cut_line;
 use crate::source::Source;
 use crate::standing::Standing;
-use memchr::memchr;
 use s66_line::{Block, Class, is_continuation};
 use std::alloc::{AllocError, Global};
 use std::marker::Model;
@@ -184,19 +184,6 @@ impl<'s, 'a> Framer<'s, 'a> {
         }
     }
 
-    /// Passes a last line that lacks its newline, if there is one.
-    fn put_last(&mut self, parts: &mut Vec<FramePart<'a>>, line: &'a [u8]) -> Result<(), AllocError>
-        requires lines { self.old.lines + length (lines_from line.now []) ≤ SOURCE_LINES_LIMIT }
-        requires short { every is_short (lines_from line.now []) ≡ true }
-        requires bodies { self.old.standing.bodies ≤ self.old.lines }
-        ensures { OnOk result (parts.new.items ≡ parts.old.items ++ framed self.old (lines_from line.now [])) }
-    {
-        if line.is_empty() {
-            return Ok(());
-        }
-        self.put_line(parts, line, false)
-    }
-
     /// Passes the lines of a text.
     fn put_all(&mut self, parts: &mut Vec<FramePart<'a>>, text: &'a [u8]) -> Result<(), AllocError>
         requires lines { self.old.lines + length (lines_from [] text.now) ≤ SOURCE_LINES_LIMIT }
@@ -205,12 +192,11 @@ impl<'s, 'a> Framer<'s, 'a> {
         ensures { OnOk result (parts.new.items ≡ parts.old.items ++ framed self.old (lines_from [] text.now)) }
     {
         let mut rest = text;
-        while let Some(end) = memchr(b'\n', rest) {
-            let line = &rest[..end];
-            rest = &rest[end + 1..];
-            self.put_line(parts, line, is_continuation(rest))?;
+        while let Some((line, more)) = cut_line(rest) {
+            self.put_line(parts, line, is_continuation(more))?;
+            rest = more;
         }
-        self.put_last(parts, rest)
+        Ok(())
     }
 }
 

@@ -6,10 +6,10 @@ ghost use Rattle.s66_source.specs.Source.{blocks_of, classed_lines};
 
 use crate::block_text::{push_copied, push_indented, push_report};
 use crate::columns::Columns;
+use crate::lines::cut_line;
 use crate::placed::Placed;
 use crate::source::Source;
 use arrayvec::ArrayVec;
-use memchr::memchr;
 use s66_isa::BLOCK_LIMIT;
 use s66_line::Block;
 use std::alloc::{AllocError, Global};
@@ -292,18 +292,6 @@ impl<'s, 'a> Keeper<'s, 'a> {
         Ok(())
     }
 
-    /// Passes a last line that lacks its newline, if there is one.
-    fn print_last(&mut self, out: &mut Vec<u8>, line: &[u8]) -> Result<(), AllocError>
-        requires lines { self.old.lines + length (lines_from line.now []) ≤ SOURCE_LINES_LIMIT }
-        requires keeper { IsKeeper self.old }
-        ensures text { OnOk result (out.new.items ≡ out.old.items ++ kept_from self.old (lines_from line.now [])) }
-    {
-        if line.is_empty() {
-            return Ok(());
-        }
-        self.print_line(out, line)
-    }
-
     /// Passes the lines of a text.
     fn print_all(&mut self, out: &mut Vec<u8>, text: &[u8]) -> Result<(), AllocError>
         requires lines { self.old.lines + length (lines_from [] text.now) ≤ SOURCE_LINES_LIMIT }
@@ -311,11 +299,11 @@ impl<'s, 'a> Keeper<'s, 'a> {
         ensures text { OnOk result (out.new.items ≡ out.old.items ++ kept_from self.old (lines_from [] text.now)) }
     {
         let mut rest = text;
-        while let Some(end) = memchr(b'\n', rest) {
-            self.print_line(out, &rest[..end])?;
-            rest = &rest[end + 1..];
+        while let Some((line, more)) = cut_line(rest) {
+            self.print_line(out, line)?;
+            rest = more;
         }
-        self.print_last(out, rest)
+        Ok(())
     }
 }
 

@@ -11,6 +11,7 @@ mod halves;
 mod keeper;
 mod laws;
 mod limits;
+mod lines;
 mod merged_laws;
 mod operation;
 mod pads;
@@ -33,6 +34,7 @@ pub use laws::{
     printed_examples, read_again_examples, read_again_law, spelled_law,
 };
 pub use limits::SOURCE_LINES_LIMIT;
+pub use lines::cut_line;
 pub use merged_laws::{merged_examples, merged_law};
 pub use placed::Placed;
 pub use printer::print_source;

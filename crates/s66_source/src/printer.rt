@@ -5,9 +5,9 @@ ghost use Rattle.s66_source.specs.Printer.{text_in_place};
 ghost use Rattle.s66_source.specs.Source.{blocks_of, classed_lines};
 
 use crate::block_text::{push_copied, push_instructions, push_report};
+use crate::lines::cut_line;
 use crate::placed::Placed;
 use crate::source::Source;
-use memchr::memchr;
 use s66_line::Block;
 use std::alloc::{AllocError, Global};
 use std::marker::Model;
@@ -62,7 +62,7 @@ impl<'s, 'a> Model for Printer<'s, 'a> {
 }
 
 impl<'s, 'a> Printer<'s, 'a> {
-    ghost use Rattle.std.specs.Prelude.{◌≡◌, ◌≤◌, ◌<◌, ◌+◌, ◌++◌, true, suc, [], length, OnOk};
+    ghost use Rattle.std.specs.Prelude.{◌≡◌, ◌≤◌, ◌<◌, ◌+◌, ◌++◌, true, [], length, OnOk};
     ghost use Rattle.s66_line.specs.Fields.{lines_from};
     ghost use Rattle.s66_source.specs.Printer.{IsPrinter, is_skipped, is_instruction_next, text_at, pass_instruction, line_text, after_printed, printed_from};
     ghost use Rattle.s66_source.specs.declared.limits.TheConstants.{SOURCE_LINES_LIMIT};
@@ -137,18 +137,6 @@ impl<'s, 'a> Printer<'s, 'a> {
         push_copied(out, line)
     }
 
-    /// Passes a last line that lacks its newline, if there is one.
-    fn print_last(&mut self, out: &mut Vec<u8>, line: &[u8]) -> Result<(), AllocError>
-        requires lines { self.old.lines + length (lines_from line.now []) ≤ SOURCE_LINES_LIMIT }
-        requires printer { IsPrinter self.old }
-        ensures text { OnOk result (out.new.items ≡ out.old.items ++ printed_from self.old (lines_from line.now [])) }
-    {
-        if line.is_empty() {
-            return Ok(());
-        }
-        self.print_line(out, line)
-    }
-
     /// Passes the lines of a text.
     fn print_all(&mut self, out: &mut Vec<u8>, text: &[u8]) -> Result<(), AllocError>
         requires lines { self.old.lines + length (lines_from [] text.now) ≤ SOURCE_LINES_LIMIT }
@@ -156,11 +144,11 @@ impl<'s, 'a> Printer<'s, 'a> {
         ensures text { OnOk result (out.new.items ≡ out.old.items ++ printed_from self.old (lines_from [] text.now)) }
     {
         let mut rest = text;
-        while let Some(end) = memchr(b'\n', rest) {
-            self.print_line(out, &rest[..end])?;
-            rest = &rest[end + 1..];
+        while let Some((line, more)) = cut_line(rest) {
+            self.print_line(out, line)?;
+            rest = more;
         }
-        self.print_last(out, rest)
+        Ok(())
     }
 }
 

@@ -4,7 +4,7 @@ ghost use Rattle.s66_line.specs.InstructionText.{Spells};
 ghost use Rattle.s66_source.specs.Pads.{settle, pads_by_class, pads_of_lines};
 ghost use Rattle.s66_source.specs.Pads as pads;
 ghost use Rattle.s66_source.specs.Reader.{Steps, end_block, begin_run, with_entry, by_class, line_step, lines_step};
-ghost use Rattle.s66_line.specs.Class.{IsSpelled, class_of, is_code};
+ghost use Rattle.s66_line.specs.Class.{IsSpelled, is_code};
 ghost use Rattle.s66_source.specs.SourceReader.{flagged, state};
 ghost use Rattle.s66_source.specs.LeftAlone.{after_line, class_at, flagged_from};
 ghost use Rattle.s66_isa.specs.declared.limits.TheConstants.{BLOCK_LIMIT};
@@ -13,9 +13,9 @@ ghost use Rattle.s66_line.specs.declared.limits.TheConstants.{TEXT_LIMIT};
 
 use crate::error::SourceError;
 use crate::limits::SOURCE_LINES_LIMIT;
+use crate::lines::cut_line;
 use crate::pads::Pads;
 use crate::standing::Standing;
-use memchr::memchr;
 use s66_isa::{BLOCK_LIMIT, Instr};
 use s66_line::{Block, Class, Classified, Entry, LINE_BYTES_LIMIT, is_continuation};
 use std::alloc::{AllocError, Global};
@@ -181,21 +181,6 @@ impl<'a> Reader<'a> {
         self.take_classified(alloc, classified)
     }
 
-    /// Reads a last line that lacks its newline, if there is one.
-    fn take_last(&mut self, alloc: Global, line: &'a [u8]) -> Result<(), SourceError>
-        requires few { length self.old.entries.items < BLOCK_LIMIT }
-        requires lines { self.old.lines ≤ SOURCE_LINES_LIMIT }
-        requires bodies { self.old.standing.bodies ≤ self.old.lines }
-        ensures step { Steps (state self.new) result (lines_step (state self.old) (flagged_from self.old.cut self.old.standing (lines_from line.now []))) }
-        ensures pads { OnOk result (self.new.pads ≡ pads_of_lines self.old.lines self.old.after_code self.old.pads (flagged_from self.old.cut self.old.standing (lines_from line.now []))) }
-        ensures few { OnOk result (length self.new.entries.items < BLOCK_LIMIT) }
-    {
-        if line.is_empty() {
-            return Ok(());
-        }
-        self.take_line(alloc, line, false)
-    }
-
     /// Reads all lines of a text.
     pub(crate) fn take_all(&mut self, alloc: Global, text: &'a [u8]) -> Result<(), SourceError>
         requires few { length self.old.entries.items < BLOCK_LIMIT }
@@ -206,11 +191,10 @@ impl<'a> Reader<'a> {
         ensures few { OnOk result (length self.new.entries.items < BLOCK_LIMIT) }
     {
         let mut rest = text;
-        while let Some(end) = memchr(b'\n', rest) {
-            let line = &rest[..end];
-            rest = &rest[end + 1..];
-            self.take_line(alloc, line, is_continuation(rest))?;
+        while let Some((line, more)) = cut_line(rest) {
+            self.take_line(alloc, line, is_continuation(more))?;
+            rest = more;
         }
-        self.take_last(alloc, rest)
+        Ok(())
     }
 }

@@ -1,9 +1,9 @@
 use crate::commands::check_output;
 use crate::running::run;
 use s66_program::{Command, Status, command_of};
-use std::process::Abort;
+use table::{COMMANDS, command_by};
 
-mod searches;
+mod table;
 
 /// Words, and the status: 0 of help, 2 of words that are no command.
 const NO_COMMANDS: &[(&[&str], u8)] = &[
@@ -106,169 +106,6 @@ const NO_COMMANDS: &[(&[&str], u8)] = &[
     (&["s66", "json", "--help"], 0),
 ];
 
-/// Words, and the command without a search that they give.
-const COMMANDS: &[(&[&str], Command)] = &[
-    (
-        &["s66", "time"],
-        Command::Time {
-            cut: false,
-            trace: false,
-            block: None,
-            profile: None,
-        },
-    ),
-    (
-        &["s66", "time", "--trace"],
-        Command::Time {
-            cut: false,
-            trace: true,
-            block: None,
-            profile: None,
-        },
-    ),
-    (
-        &["s66", "time", "--profile", "{\"boolean\":5}"],
-        Command::Time {
-            cut: false,
-            trace: false,
-            block: None,
-            profile: Some("{\"boolean\":5}"),
-        },
-    ),
-    (
-        &["s66", "deps"],
-        Command::Deps {
-            cut: false,
-            block: None,
-        },
-    ),
-    (
-        &["s66", "deps", "--cut"],
-        Command::Deps {
-            cut: true,
-            block: None,
-        },
-    ),
-    (
-        &["s66", "time", "--cut"],
-        Command::Time {
-            cut: true,
-            trace: false,
-            block: None,
-            profile: None,
-        },
-    ),
-    (
-        &["s66", "chart", "--profile={}", "--cut"],
-        Command::Chart {
-            cut: true,
-            text: false,
-            block: None,
-            profile: Some("{}"),
-        },
-    ),
-    (
-        &["s66", "why", "--cut", "--profile={}"],
-        Command::Why {
-            cut: true,
-            order: None,
-            text: false,
-            block: None,
-            profile: Some("{}"),
-        },
-    ),
-    (
-        &["s66", "time", "--block", "20000"],
-        Command::Time {
-            cut: false,
-            trace: false,
-            block: Some(20_000),
-            profile: None,
-        },
-    ),
-    (
-        &["s66", "deps", "--block=+7", "--cut"],
-        Command::Deps {
-            cut: true,
-            block: Some(7),
-        },
-    ),
-    (
-        &["s66", "chart", "--block", "1", "--text"],
-        Command::Chart {
-            cut: false,
-            text: true,
-            block: Some(1),
-            profile: None,
-        },
-    ),
-    (
-        &["s66", "why", "--nodes", "9"],
-        Command::Why {
-            cut: false,
-            order: None,
-            text: false,
-            block: None,
-            profile: None,
-        },
-    ),
-    (
-        &["s66", "json", "--cut", "--profile={}"],
-        Command::Json {
-            cut: true,
-            order: None,
-            block: None,
-            profile: Some("{}"),
-        },
-    ),
-    (&["s66", "lint"], Command::Lint { cut: false }),
-    (&["s66", "lint", "--cut"], Command::Lint { cut: true }),
-    (
-        &["s66", "compare"],
-        Command::Compare {
-            cut: false,
-            profile: None,
-        },
-    ),
-    (
-        &["s66", "compare", "--profile", "{}", "--cut"],
-        Command::Compare {
-            cut: true,
-            profile: Some("{}"),
-        },
-    ),
-    (
-        &["s66", "chart"],
-        Command::Chart {
-            cut: false,
-            text: false,
-            block: None,
-            profile: None,
-        },
-    ),
-    (
-        &["s66", "chart", "--profile="],
-        Command::Chart {
-            cut: false,
-            text: false,
-            block: None,
-            profile: Some(""),
-        },
-    ),
-    (&["s66", "check"], Command::Check { text: false }),
-    (&["s66", "check", "--text"], Command::Check { text: true }),
-    (
-        &["s66", "why", "--text", "--block", "2"],
-        Command::Why {
-            cut: false,
-            order: None,
-            text: true,
-            block: Some(2),
-            profile: None,
-        },
-    ),
-];
-
 #[test]
 fn runs_no_commands(rt: HostRuntime) {
     for &(words, status) in NO_COMMANDS {
@@ -279,17 +116,13 @@ fn runs_no_commands(rt: HostRuntime) {
     }
 }
 
-fn check_commands<R: AllocGlobal + Abort>(rt: &R, table: &[(&[&str], Command)]) {
-    for &(words, command) in table {
+#[test]
+fn reads_words(rt: HostRuntime) {
+    for &(words, said) in COMMANDS {
+        let command = command_by(words[1], said);
         let read = command_of(rt.alloc(), words);
         assert!(rt; matches!(read, Ok(read) if read == command), "{words:?}");
     }
-}
-
-#[test]
-fn reads_words(rt: HostRuntime) {
-    check_commands(&rt, COMMANDS);
-    check_commands(&rt, searches::COMMANDS);
 }
 
 #[test]

@@ -168,26 +168,6 @@ fn push_blank_row(
     push_row(out, b"NO", &activity, timed.total() as usize, page)
 }
 
-/// The rows of a position.
-fn push_both_rows(
-    out: &mut Vec<u8>,
-    block: &Block,
-    width: usize,
-    timed: &Timed,
-    position: usize,
-    page: &mut [u8],
-) -> Result<(), AllocError>
-    requires block { timed.now.problem.block ≡ instrs_of block.now }
-    requires width { width ≡ text_width block.now }
-    requires position { position < length timed.now.numbers }
-    requires page { total_of timed.now.problem timed.now.numbers + ROW_FRAME ≤ length page.old }
-    ensures page { length page.new ≡ length page.old }
-    ensures text { OnOk result (out.new.items ≡ out.old.items ++ (text_row block.now timed.now position ++ blank_row block.now timed.now position)) }
-{
-    push_text_row(out, block, width, timed, position, page)?;
-    push_blank_row(out, block, width, timed, position, page)
-}
-
 /// The rows of all positions.
 fn push_rows(
     out: &mut Vec<u8>,
@@ -202,7 +182,8 @@ fn push_rows(
     ensures { OnOk result (out.new.items ≡ out.old.items ++ flat_map (λ position. text_row block.now timed.now position ++ blank_row block.now timed.now position) (range_with_len 0 (length timed.now.numbers))) }
 {
     for position in 0..count(timed) {
-        push_both_rows(out, block, width, timed, position, page)?;
+        push_text_row(out, block, width, timed, position, page)?;
+        push_blank_row(out, block, width, timed, position, page)?;
     }
     Ok(())
 }

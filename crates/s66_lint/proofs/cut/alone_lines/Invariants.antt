@@ -5,13 +5,13 @@ use Rattle.s66_lint.specs.Marks.{alone_from, alone_lines}
 use Rattle.s66_lint.proofs.cut.alone_lines.Given as goal
 
 -- what is known of the lines so far, and then of the rest, is what is known of all
-abbrev pub invariant-loop-end : goal.invariant-loop-end
-invariant-loop-end l = record {
+abbrev pub invariant-loop-line : goal.invariant-loop-line
+invariant-loop-line l = record {
   whole : l.alone.items ++ take (SOURCE_LINES_LIMIT - length l.alone.items) (alone_from l.standing (lines_from [] l.rest)) ≡ alone_lines l.text;
   few : length l.alone.items ≤ SOURCE_LINES_LIMIT;
   bodies : l.standing.bodies ≤ length l.alone.items;
   within : length l.rest ≤ length l.text;
 }
 
-abbrev pub decreases-loop-end : goal.decreases-loop-end
-decreases-loop-end l = length l.rest
+abbrev pub decreases-loop-line : goal.decreases-loop-line
+decreases-loop-line l = length l.rest

@@ -6,8 +6,8 @@ use Rattle.s66_source.specs.Framer.{framed, is_short}
 use Rattle.s66_source.proofs.frame.Framer.put_all.Given as goal
 
 -- the parts so far, and then those of the rest, are those of all
-abbrev pub invariant-loop-end : goal.invariant-loop-end
-invariant-loop-end l = record {
+abbrev pub invariant-loop-line : goal.invariant-loop-line
+invariant-loop-line l = record {
   parts : l.parts.items ++ framed l.self (lines_from [] l.rest) ≡ l.fn.parts.items ++ framed l.fn.self (lines_from [] l.text);
   lines : l.self.lines + length (lines_from [] l.rest) ≤ SOURCE_LINES_LIMIT;
   short : every is_short (lines_from [] l.rest) ≡ true;
@@ -15,5 +15,5 @@ invariant-loop-end l = record {
   within : length l.rest ≤ length l.text;
 }
 
-abbrev pub decreases-loop-end : goal.decreases-loop-end
-decreases-loop-end l = length l.rest
+abbrev pub decreases-loop-line : goal.decreases-loop-line
+decreases-loop-line l = length l.rest

@@ -1,41 +1,28 @@
-use Rattle.std.proofs.Common.{ℕ, List, [], ◌≤◌, ◌+◌, length, subst, ap, ◌∙◌, arith}
-use Rattle.std.proofs.lemmas.List.{take_rest}
+use Rattle.std.proofs.Common.{ℕ, ◌≤◌, ◌+◌, ◌++◌, ◌∙◌, List, length, subst, sym, ap, arith}
+use Rattle.std.proofs.lemmas.List.{append-nil}
 use Rattle.s66_source.specs.declared.limits.TheConstants.{SOURCE_LINES_LIMIT}
-use Rattle.s66_source.specs.Printer.{Printer}
-use Rattle.s66_line.proofs.LineCuts.{IsFirstNewline, lines_from-found, last-none}
+use Rattle.s66_source.specs.Printer.{Printer, printed_from}
 use Rattle.s66_source.proofs.PlacedBlocks.{lines-after, text-found}
 use Rattle.s66_source.proofs.printer.Printer.print_all.Goals as goal
 
 pub print_line-requires-clause-lines : goal.print_line-requires-clause-lines
 print_line-requires-clause-lines c =
-    let rest = c.loop-end.rest.now in
-    let first = subst (IsFirstNewline rest) c.in-Some.is c.memchr.ensures in
-    let few = subst (λ (lines : List (List ℕ)). c.loop-end.self.lines + length lines ≤ SOURCE_LINES_LIMIT) (lines_from-found [] rest c.in-Some.end first) c.loop-end.invariant.lines in
+    let few = subst (λ (lines : List (List ℕ)). c.loop-line.self.lines + length lines ≤ SOURCE_LINES_LIMIT) c.in-Some.ensures.line c.loop-line.invariant.lines in
     omega (arith, few)
 
-pub loop-end-preserved : goal.loop-end-preserved
-loop-end-preserved c =
-    let rest = c.loop-end.rest.now in
-    let first = subst (IsFirstNewline rest) c.in-Some.is c.memchr.ensures in
-    let cut = lines_from-found [] rest c.in-Some.end first in
-    let few = subst (λ (lines : List (List ℕ)). c.loop-end.self.lines + length lines ≤ SOURCE_LINES_LIMIT) cut c.loop-end.invariant.lines in
+pub loop-line-preserved : goal.loop-line-preserved
+loop-line-preserved c =
+    let cut = c.in-Some.ensures.line in
+    let few = subst (λ (lines : List (List ℕ)). c.loop-line.self.lines + length lines ≤ SOURCE_LINES_LIMIT) cut c.loop-line.invariant.lines in
     let printed = c.in_ok-print_line.ensures in
     record {
-      text = rw (take_rest rest (c.in-Some.end + 1), printed.text, printed.rest)
-          (text-found c.loop-end.self c.loop-end.out.items rest c.in-Some.end first ∙ c.loop-end.invariant.text);
-      lines = rw (take_rest rest (c.in-Some.end + 1)) (omega (arith, few, ap (λ (p : Printer). p.lines) printed.rest, lines-after c.loop-end.self));
+      text = rw (printed.text, printed.rest) (text-found c.loop-line.self c.loop-line.out.items c.loop-line.rest.now c.in-Some.line.now c.in-Some.more.now cut ∙ c.loop-line.invariant.text);
+      lines = omega (arith, few, ap (λ (p : Printer). p.lines) printed.rest, lines-after c.loop-line.self);
       printer = printed.printer;
-      within = (let within = c.loop-end.invariant.within in omega (arith, within));
+      within = (let within = c.loop-line.invariant.within in omega (arith, within, c.in-Some.ensures.shorter));
     }
-
-pub print_last-requires-clause-lines : goal.print_last-requires-clause-lines
-print_last-requires-clause-lines c =
-    let rest = c.loop-end.rest.now in
-    let none = subst (IsFirstNewline rest) c.in_default.is c.memchr.ensures in
-    subst (λ (lines : List (List ℕ)). c.loop-end.self.lines + length lines ≤ SOURCE_LINES_LIMIT) (last-none rest none) c.loop-end.invariant.lines
 
 pub returns : goal.returns
 returns c =
-    let rest = c.loop-end.rest.now in
-    let none = subst (IsFirstNewline rest) c.in_default.is c.memchr.ensures in
-    record { text = rw (← c.loop-end.invariant.text, last-none rest none) c.print_last.ensures.text }
+    let out = c.loop-line.out.items in
+    record { text = sym (append-nil out) ∙ ap (λ lines. out ++ printed_from c.loop-line.self lines) (sym c.in_default.ensures.none) ∙ c.loop-line.invariant.text }

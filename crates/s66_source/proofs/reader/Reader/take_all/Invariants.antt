@@ -9,8 +9,8 @@ use Rattle.s66_source.specs.SourceReader.{state}
 use Rattle.s66_source.proofs.reader.Reader.take_all.Given as goal
 
 -- the lines so far, and then those of the rest, are those of all
-abbrev pub invariant-loop-end : goal.invariant-loop-end
-invariant-loop-end l = record {
+abbrev pub invariant-loop-line : goal.invariant-loop-line
+invariant-loop-line l = record {
   rest : lines_step (state l.self) (flagged_from l.self.cut l.self.standing (lines_from [] l.rest)) ≡ lines_step (state l.fn.self) (flagged_from l.fn.self.cut l.fn.self.standing (lines_from [] l.text));
   pads : pads_of_lines l.self.lines l.self.after_code l.self.pads (flagged_from l.self.cut l.self.standing (lines_from [] l.rest))
       ≡ pads_of_lines l.fn.self.lines l.fn.self.after_code l.fn.self.pads (flagged_from l.fn.self.cut l.fn.self.standing (lines_from [] l.text));
@@ -20,5 +20,5 @@ invariant-loop-end l = record {
   within : length l.rest ≤ length l.text;
 }
 
-abbrev pub decreases-loop-end : goal.decreases-loop-end
-decreases-loop-end l = length l.rest
+abbrev pub decreases-loop-line : goal.decreases-loop-line
+decreases-loop-line l = length l.rest
