@@ -1,7 +1,7 @@
 pub mod SetWalks
-pub mod EntryTables
+pub mod CostTables
 pub mod Heads
-pub mod EntryOfNumber
+pub mod CostOfNumber
 pub mod FirstGreatest
 pub mod WorkTables
 pub mod WrittenRegisters

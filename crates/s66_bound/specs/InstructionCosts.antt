@@ -4,9 +4,9 @@ use Rattle.s66_isa.specs.Table.{Reg, Row, has_reg}
 use Rattle.s66_isa.specs.Registers.{registers_in}
 use Rattle.s66_model.specs.Timing.{Problem, row_at}
 use Rattle.s66_model.specs.Leaves.{uses, tail}
-use Rattle.s66_bound.specs.declared.entry.Entry.{Entry}
+use Rattle.s66_bound.specs.declared.cost.Cost.{Cost}
 
-pub record IsCostOf (r : Row) (e : Entry) : Type 0 where
+pub record IsCostOf (r : Row) (e : Cost) : Type 0 where
   pub kind : e.kind ≡ r.kind
   pub parcels : e.parcels ≡ r.parcels
   pub writes : e.writes.items ≡ r.writes
@@ -17,6 +17,6 @@ pub record IsCostOf (r : Row) (e : Entry) : Type 0 where
   pub tail : e.tail ≡ tail r
 
 -- those of a block, in order
-pub record AreCosts (b : Problem) (entries : List Entry) : Type 0 where
-  pub count : length entries ≡ length b.block
-  pub each : (i : ℕ) (d : Entry) → i < length entries → IsCostOf (row_at b (i + 1)) (get_or entries i d)
+pub record AreCosts (b : Problem) (costs : List Cost) : Type 0 where
+  pub count : length costs ≡ length b.block
+  pub each : (i : ℕ) (d : Cost) → i < length costs → IsCostOf (row_at b (i + 1)) (get_or costs i d)

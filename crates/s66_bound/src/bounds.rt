@@ -1,4 +1,4 @@
-use crate::entry::{Entry, entries_of};
+use crate::cost::{Cost, costs_of};
 use crate::floors::floor_of_value;
 use crate::leaf::{ChainLeaf, Leaf};
 use crate::printed::chain_numbers;
@@ -18,7 +18,7 @@ use std::marker::Model;
 pub struct Bounds<'a> {
     block: &'a Block<'a>,
     profile: Profile,
-    entries: ArrayVec<Entry, BLOCK_LIMIT>,
+    costs: ArrayVec<Cost, BLOCK_LIMIT>,
     tables: Tables,
 }
 
@@ -31,7 +31,7 @@ impl<'a> Model for Bounds<'a> {
 
     ghost view = { λ b. timed_by b.block.now b.profile };
 
-    ghost invariant = { λ b. AreCosts (timed_by b.block.now b.profile) b.entries.items × IsTables (timed_by b.block.now b.profile) b.tables };
+    ghost invariant = { λ b. AreCosts (timed_by b.block.now b.profile) b.costs.items × IsTables (timed_by b.block.now b.profile) b.tables };
 }
 
 impl<'a> Bounds<'a> {
@@ -50,12 +50,12 @@ impl<'a> Bounds<'a> {
     pub fn of(block: &'a Block<'a>, profile: &Profile) -> Bounds<'a>
         ensures { result ≡ record { block = instrs_of block.now; profile = profile.now } }
     {
-        let entries = entries_of(block, profile);
-        let tables = Tables::of(entries.as_slice(), profile);
+        let costs = costs_of(block, profile);
+        let tables = Tables::of(costs.as_slice(), profile);
         Bounds {
             block,
             profile: *profile,
-            entries,
+            costs,
             tables,
         }
     }
@@ -140,9 +140,9 @@ impl<'a> Bounds<'a> {
     {
         let rest = remaining_numbers(&self.tables, clock);
         let value = chain_of(&self.tables, clock, &rest);
-        let entries = self.entries.as_slice();
+        let costs = self.costs.as_slice();
         ChainLeaf {
-            numbers: chain_numbers(entries, &self.tables, clock, &rest, value),
+            numbers: chain_numbers(costs, &self.tables, clock, &rest, value),
             value,
         }
     }
@@ -160,6 +160,6 @@ impl<'a> Bounds<'a> {
         if rest.count() == 0 {
             return Leaf::Whole { value };
         }
-        floor_of_value(self.entries.as_slice(), &self.tables, clock, &rest, value)
+        floor_of_value(self.costs.as_slice(), &self.tables, clock, &rest, value)
     }
 }

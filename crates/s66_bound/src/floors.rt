@@ -9,7 +9,7 @@ ghost use Rattle.s66_bound.specs.InstructionCosts.{AreCosts};
 ghost use Rattle.s66_bound.specs.LeafValues.{leaf_of, value_of};
 ghost use Rattle.s66_bound.specs.TableWords.{AreRemaining, IsTables};
 
-use crate::entry::Entry;
+use crate::cost::Cost;
 use crate::leaf::Leaf;
 use crate::printed::chain_numbers;
 use crate::tables::Tables;
@@ -20,13 +20,13 @@ use s66_time::Clock;
 
 /// The floor, if something remains and the floor's value is known: the first of the bounds that has it.
 pub fn floor_of_value(
-    entries: &[Entry],
+    costs: &[Cost],
     tables: &Tables,
     clock: &Clock<'_>,
     rest: &Set,
     value: u32,
 ) -> Leaf
-    requires entries { AreCosts (problem_of clock.now) entries.now }
+    requires costs { AreCosts (problem_of clock.now) costs.now }
     requires tables { IsTables (problem_of clock.now) tables.now }
     requires rest { AreRemaining clock.now rest.now }
     requires some { length clock.now.numbers < length (instrs_of clock.now.block) }
@@ -36,7 +36,7 @@ pub fn floor_of_value(
 {
     if chain_of(tables, clock, rest) == value {
         return Leaf::Chain {
-            numbers: chain_numbers(entries, tables, clock, rest, value),
+            numbers: chain_numbers(costs, tables, clock, rest, value),
             value,
         };
     }

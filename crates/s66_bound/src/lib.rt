@@ -2,7 +2,7 @@
 #![tactic(auto)]
 
 mod bounds;
-mod entry;
+mod cost;
 mod floors;
 mod leaf;
 mod longest;

@@ -5,45 +5,45 @@ ghost use Rattle.s66_isa.specs.declared.limits.TheConstants.{BLOCK_LIMIT};
 ghost use Rattle.s66_bound.specs.InstructionCosts.{AreCosts};
 ghost use Rattle.s66_bound.specs.TableWords.{HasLater};
 
-use crate::entry::{Entry, link};
+use crate::cost::{Cost, link};
 use s66_isa::BLOCK_LIMIT;
 
 /// The longest walk from the instruction at a place that goes on with the one at a later place, 0 if they have no link.
-fn walk_to(entries: &[Entry], longest: &[u32; BLOCK_LIMIT], place: usize, later: usize) -> u32
-    requires few { length entries.now ≤ BLOCK_LIMIT }
-    requires order { (place < later) × (later < length entries.now) }
-    requires known { (b : Problem) × AreCosts b entries.now × HasLater b place longest.now }
-    ensures { (b : Problem) → AreCosts b entries.now → HasLater b place longest.now → result ≡ walk_to b (place + 1) (later + 1) }
+fn walk_to(costs: &[Cost], longest: &[u32; BLOCK_LIMIT], place: usize, later: usize) -> u32
+    requires few { length costs.now ≤ BLOCK_LIMIT }
+    requires order { (place < later) × (later < length costs.now) }
+    requires known { (b : Problem) × AreCosts b costs.now × HasLater b place longest.now }
+    ensures { (b : Problem) → AreCosts b costs.now → HasLater b place longest.now → result ≡ walk_to b (place + 1) (later + 1) }
 {
-    let link = link(&entries[place], &entries[later]);
+    let link = link(&costs[place], &costs[later]);
     if link == 0 { 0 } else { link + longest[later] }
 }
 
 /// The longest walk from the instruction at a place.
-fn longest_from(entries: &[Entry], longest: &[u32; BLOCK_LIMIT], place: usize) -> u32
-    requires few { length entries.now ≤ BLOCK_LIMIT }
-    requires place { place < length entries.now }
-    requires known { (b : Problem) × AreCosts b entries.now × HasLater b place longest.now }
-    ensures { (b : Problem) → AreCosts b entries.now → HasLater b place longest.now → result ≡ longest_tail b (place + 1) }
+fn longest_from(costs: &[Cost], longest: &[u32; BLOCK_LIMIT], place: usize) -> u32
+    requires few { length costs.now ≤ BLOCK_LIMIT }
+    requires place { place < length costs.now }
+    requires known { (b : Problem) × AreCosts b costs.now × HasLater b place longest.now }
+    ensures { (b : Problem) → AreCosts b costs.now → HasLater b place longest.now → result ≡ longest_tail b (place + 1) }
 {
-    let mut last = entries[place].tail;
-    for later in place + 1..entries.len() {
-        last = last.max(walk_to(entries, longest, place, later));
+    let mut last = costs[place].tail;
+    for later in place + 1..costs.len() {
+        last = last.max(walk_to(costs, longest, place, later));
     }
     last
 }
 
 /// The longest walk from each instruction of a block, in minor cycles; each pair is looked at once.
-pub fn longest_tails(entries: &[Entry]) -> [u32; BLOCK_LIMIT]
-    requires few { length entries.now ≤ BLOCK_LIMIT }
-    requires known { (b : Problem) × AreCosts b entries.now }
-    ensures { (b : Problem) → AreCosts b entries.now → HasWords b (longest_tail b) result }
+pub fn longest_tails(costs: &[Cost]) -> [u32; BLOCK_LIMIT]
+    requires few { length costs.now ≤ BLOCK_LIMIT }
+    requires known { (b : Problem) × AreCosts b costs.now }
+    ensures { (b : Problem) → AreCosts b costs.now → HasWords b (longest_tail b) result }
 {
     let mut longest = [0; BLOCK_LIMIT];
-    let mut place = entries.len();
+    let mut place = costs.len();
     while place > 0 {
         place -= 1;
-        longest[place] = longest_from(entries, &longest, place);
+        longest[place] = longest_from(costs, &longest, place);
     }
     longest
 }

@@ -13,7 +13,7 @@ ghost use Rattle.s66_time.specs.Ticking.{problem_of, points};
 ghost use Rattle.s66_bound.specs.InstructionCosts.{AreCosts};
 ghost use Rattle.s66_bound.specs.TableWords.{AreRemaining, IsTables};
 
-use crate::entry::{Entry, link};
+use crate::cost::{Cost, link};
 use crate::tables::Tables;
 use arrayvec::ArrayVec;
 use s66_dep::Set;
@@ -74,36 +74,36 @@ fn first_of_chain(tables: &Tables, clock: &Clock<'_>, rest: &Set, value: u32) ->
 
 /// Whether the longest walk from one number goes on with another. It does if the tail of the one is shorter than the walk, and
 /// the other, to which it has a link, keeps the walk as long.
-fn goes_on(entries: &[Entry], tables: &Tables, number: u8, other: u8) -> bool
-    requires numbers { (1 ≤ number) × (number ≤ length entries.now) × (1 ≤ other) × (other ≤ length entries.now) }
-    requires few { length entries.now ≤ BLOCK_LIMIT }
-    requires known { (b : Problem) × AreCosts b entries.now × IsTables b tables.now }
-    ensures { (b : Problem) → AreCosts b entries.now → IsTables b tables.now → result ≡ (not (tail (row_at b number) == longest_tail b number) && (is_linked b number other && link (row_at b number) (row_at b other) + longest_tail b other == longest_tail b number)) }
+fn goes_on(costs: &[Cost], tables: &Tables, number: u8, other: u8) -> bool
+    requires numbers { (1 ≤ number) × (number ≤ length costs.now) × (1 ≤ other) × (other ≤ length costs.now) }
+    requires few { length costs.now ≤ BLOCK_LIMIT }
+    requires known { (b : Problem) × AreCosts b costs.now × IsTables b tables.now }
+    ensures { (b : Problem) → AreCosts b costs.now → IsTables b tables.now → result ≡ (not (tail (row_at b number) == longest_tail b number) && (is_linked b number other && link (row_at b number) (row_at b other) + longest_tail b other == longest_tail b number)) }
 {
-    let from = &entries[number as usize - 1];
+    let from = &costs[number as usize - 1];
     let longest = tables.longest[number as usize - 1];
     if from.tail == longest || other <= number {
         return false;
     }
-    let link = link(from, &entries[other as usize - 1]);
+    let link = link(from, &costs[other as usize - 1]);
     0 < link && link + tables.longest[other as usize - 1] == longest
 }
 
 /// A number, and those after it on its longest walk: each time the lowest with which the walk goes on. Links lead to later
 /// numbers, so one pass over what remains meets them all.
-fn walk_from(entries: &[Entry], tables: &Tables, rest: &Set, first: u8) -> ArrayVec<u8, BLOCK_LIMIT>
-    requires few { length entries.now ≤ BLOCK_LIMIT }
-    requires rest { (n : ℕ) → Among n (numbers_in rest.now) → (1 ≤ n) × (n ≤ length entries.now) }
-    requires first { (1 ≤ first) × (first ≤ length entries.now) }
-    requires known { (b : Problem) × AreCosts b entries.now × IsTables b tables.now }
-    ensures { (b : Problem) (prefix : List ℕ) → AreCosts b entries.now → IsTables b tables.now → IsBeginning b.block prefix → numbers_in rest.now ≡ remaining b.block prefix → is_remaining b.block prefix first ≡ true → result.items ≡ first ∷ walk_after b (length b.block) first }
+fn walk_from(costs: &[Cost], tables: &Tables, rest: &Set, first: u8) -> ArrayVec<u8, BLOCK_LIMIT>
+    requires few { length costs.now ≤ BLOCK_LIMIT }
+    requires rest { (n : ℕ) → Among n (numbers_in rest.now) → (1 ≤ n) × (n ≤ length costs.now) }
+    requires first { (1 ≤ first) × (first ≤ length costs.now) }
+    requires known { (b : Problem) × AreCosts b costs.now × IsTables b tables.now }
+    ensures { (b : Problem) (prefix : List ℕ) → AreCosts b costs.now → IsTables b tables.now → IsBeginning b.block prefix → numbers_in rest.now ≡ remaining b.block prefix → is_remaining b.block prefix first ≡ true → result.items ≡ first ∷ walk_after b (length b.block) first }
 {
     let mut numbers = ArrayVec::new();
     numbers.push(first);
     let mut last = first;
     let mut others = *rest;
     while let Some(number) = others.pop_first() {
-        if goes_on(entries, tables, last, number) {
+        if goes_on(costs, tables, last, number) {
             numbers.push(number);
             last = number;
         }
@@ -113,13 +113,13 @@ fn walk_from(entries: &[Entry], tables: &Tables, rest: &Set, first: u8) -> Array
 
 /// The numbers of the greatest chain, whose value this is: of equal ones the first in a dictionary.
 pub fn chain_numbers(
-    entries: &[Entry],
+    costs: &[Cost],
     tables: &Tables,
     clock: &Clock<'_>,
     rest: &Set,
     value: u32,
 ) -> ArrayVec<u8, BLOCK_LIMIT>
-    requires entries { AreCosts (problem_of clock.now) entries.now }
+    requires costs { AreCosts (problem_of clock.now) costs.now }
     requires tables { IsTables (problem_of clock.now) tables.now }
     requires rest { AreRemaining clock.now rest.now }
     requires some { length clock.now.numbers < length (instrs_of clock.now.block) }
@@ -127,5 +127,5 @@ pub fn chain_numbers(
     ensures { result.items ≡ longest_chain (problem_of clock.now) clock.now.numbers }
 {
     let first = first_of_chain(tables, clock, rest, value);
-    walk_from(entries, tables, rest, first)
+    walk_from(costs, tables, rest, first)
 }

@@ -8,11 +8,11 @@ ghost use Rattle.s66_model.specs.Timing.{Problem, row_at};
 ghost use Rattle.s66_model.specs.Leaves.{uses};
 ghost use Rattle.s66_model.specs.Tails.{spare, HasWords, HasWritten};
 ghost use Rattle.s66_bound.specs.InstructionCosts.{AreCosts};
-ghost use Rattle.s66_bound.specs.declared.entry.Entry.{Entry as EntryOf};
+ghost use Rattle.s66_bound.specs.declared.cost.Cost.{Cost as CostOf};
 ghost use Rattle.s66_bound.specs.Ranks.{IsRanking};
 ghost use Rattle.s66_bound.specs.TableWords.{AreThose, AreRegisters, HasSingles, HasWorks, HasUsers, IsTables};
 
-use crate::entry::Entry;
+use crate::cost::Cost;
 use crate::longest::longest_tails;
 use crate::numbers::ends_of;
 use arrayvec::ArrayVec;
@@ -47,38 +47,38 @@ pub struct Tables {
 }
 
 impl Tables {
-    /// The tables of a block of these entries under a profile.
-    pub fn of(entries: &[Entry], profile: &Profile) -> Tables
-        requires few { length entries.now ≤ BLOCK_LIMIT }
-        requires known { (b : Problem) × AreCosts b entries.now }
-        ensures { (b : Problem) → b.profile ≡ profile.now → AreCosts b entries.now → IsTables b result }
+    /// The tables of a block of these costs under a profile.
+    pub fn of(costs: &[Cost], profile: &Profile) -> Tables
+        requires few { length costs.now ≤ BLOCK_LIMIT }
+        requires known { (b : Problem) × AreCosts b costs.now }
+        ensures { (b : Problem) → b.profile ≡ profile.now → AreCosts b costs.now → IsTables b result }
     {
-        let longest = longest_tails(entries);
-        let spare = spares(entries);
-        let by_tail = Ranking::of(&longest, entries.len());
+        let longest = longest_tails(costs);
+        let spare = spares(costs);
+        let by_tail = Ranking::of(&longest, costs.len());
         Tables {
-            all: Set::up_to(entries.len()),
-            long: long_numbers(entries),
-            ends: ends_of(&spare, entries.len()),
-            users_by_rank: users_by_rank(entries, &by_tail),
+            all: Set::up_to(costs.len()),
+            long: long_numbers(costs),
+            ends: ends_of(&spare, costs.len()),
+            users_by_rank: users_by_rank(costs, &by_tail),
             longest,
             spare,
             by_tail,
-            works: works_by_kind(entries),
+            works: works_by_kind(costs),
             has_singles: has_singles(profile),
-            written: written_registers(entries),
+            written: written_registers(costs),
         }
     }
 }
 
 /// The numbers of two parcels.
-fn long_numbers(entries: &[Entry]) -> Set
-    requires few { length entries.now ≤ BLOCK_LIMIT }
-    ensures { (b : Problem) → AreCosts b entries.now → AreThose b (λ n. (row_at b n).parcels == 2) result }
+fn long_numbers(costs: &[Cost]) -> Set
+    requires few { length costs.now ≤ BLOCK_LIMIT }
+    ensures { (b : Problem) → AreCosts b costs.now → AreThose b (λ n. (row_at b n).parcels == 2) result }
 {
     let mut long = Set::empty();
-    for place in 0..entries.len() {
-        if entries[place].parcels == 2 {
+    for place in 0..costs.len() {
+        if costs[place].parcels == 2 {
             long = long.with((place + 1) as u8);
         }
     }
@@ -86,27 +86,27 @@ fn long_numbers(entries: &[Entry]) -> Set
 }
 
 /// By how much each tail is longer than the parcels.
-fn spares(entries: &[Entry]) -> [u32; BLOCK_LIMIT]
-    requires few { length entries.now ≤ BLOCK_LIMIT }
-    ensures { (b : Problem) → AreCosts b entries.now → HasWords b (spare b) result }
+fn spares(costs: &[Cost]) -> [u32; BLOCK_LIMIT]
+    requires few { length costs.now ≤ BLOCK_LIMIT }
+    ensures { (b : Problem) → AreCosts b costs.now → HasWords b (spare b) result }
 {
     let mut spares = [0; BLOCK_LIMIT];
-    for place in 0..entries.len() {
-        spares[place] = entries[place].tail.saturating_sub(entries[place].parcels);
+    for place in 0..costs.len() {
+        spares[place] = costs[place].tail.saturating_sub(costs[place].parcels);
     }
     spares
 }
 
 /// Of each kind, by its number, for how long the instructions take a unit, summed.
-fn works_by_kind(entries: &[Entry]) -> [u32; KIND_COUNT]
-    requires few { length entries.now ≤ BLOCK_LIMIT }
-    requires known { (b : Problem) × AreCosts b entries.now }
-    ensures { (b : Problem) → AreCosts b entries.now → HasWorks b result }
+fn works_by_kind(costs: &[Cost]) -> [u32; KIND_COUNT]
+    requires few { length costs.now ≤ BLOCK_LIMIT }
+    requires known { (b : Problem) × AreCosts b costs.now }
+    ensures { (b : Problem) → AreCosts b costs.now → HasWorks b result }
 {
     let mut works = [0; KIND_COUNT];
-    for place in 0..entries.len() {
-        let kind = kind_number(entries[place].kind);
-        works[kind] += entries[place].work;
+    for place in 0..costs.len() {
+        let kind = kind_number(costs[place].kind);
+        works[kind] += costs[place].work;
     }
     works
 }
@@ -123,13 +123,13 @@ fn has_singles(profile: &Profile) -> bool
 }
 
 /// The numbers that read or write a register.
-fn users_of(entries: &[Entry], register: Reg) -> Set
-    requires few { length entries.now ≤ BLOCK_LIMIT }
-    ensures { (b : Problem) → AreCosts b entries.now → AreThose b (λ n. uses (row_at b n) register) result }
+fn users_of(costs: &[Cost], register: Reg) -> Set
+    requires few { length costs.now ≤ BLOCK_LIMIT }
+    ensures { (b : Problem) → AreCosts b costs.now → AreThose b (λ n. uses (row_at b n) register) result }
 {
     let mut users = Set::empty();
-    for place in 0..entries.len() {
-        if entries[place].used.has(register) {
+    for place in 0..costs.len() {
+        if costs[place].used.has(register) {
             users = users.with((place + 1) as u8);
         }
     }
@@ -146,24 +146,24 @@ fn register_at(index: usize) -> Reg
 }
 
 /// The ranks of the numbers that read or write each register, by its index.
-fn users_by_rank(entries: &[Entry], ranking: &Ranking) -> [Set; REGISTER_COUNT]
-    requires few { length entries.now ≤ BLOCK_LIMIT }
-    requires known { (b : Problem) × AreCosts b entries.now × IsRanking b ranking.now }
-    ensures { (b : Problem) → AreCosts b entries.now → IsRanking b ranking.now → HasUsers b result }
+fn users_by_rank(costs: &[Cost], ranking: &Ranking) -> [Set; REGISTER_COUNT]
+    requires few { length costs.now ≤ BLOCK_LIMIT }
+    requires known { (b : Problem) × AreCosts b costs.now × IsRanking b ranking.now }
+    ensures { (b : Problem) → AreCosts b costs.now → IsRanking b ranking.now → HasUsers b result }
 {
     let mut users = [Set::empty(); REGISTER_COUNT];
     for index in 0..REGISTER_COUNT {
-        users[index] = ranking.ranks(&users_of(entries, register_at(index)));
+        users[index] = ranking.ranks(&users_of(costs, register_at(index)));
     }
     users
 }
 
 /// Whether some instruction writes the register.
-fn is_written(entries: &[Entry], register: Reg) -> bool
-    ensures { result ≡ some_of (λ (e : EntryOf). some_of (λ (w : WriteOf). same_reg w.reg register) e.writes.items) entries.now }
+fn is_written(costs: &[Cost], register: Reg) -> bool
+    ensures { result ≡ some_of (λ (e : CostOf). some_of (λ (w : WriteOf). same_reg w.reg register) e.writes.items) costs.now }
 {
-    for entry in entries {
-        if writes_register(entry.writes.as_slice(), register) {
+    for cost in costs {
+        if writes_register(cost.writes.as_slice(), register) {
             return true;
         }
     }
@@ -183,14 +183,14 @@ fn writes_register(writes: &[Write], register: Reg) -> bool
 }
 
 /// The registers that are written, each once.
-fn written_registers(entries: &[Entry]) -> ArrayVec<Reg, REGISTER_COUNT>
-    ensures written { (b : Problem) → AreCosts b entries.now → HasWritten b result.items }
+fn written_registers(costs: &[Cost]) -> ArrayVec<Reg, REGISTER_COUNT>
+    ensures written { (b : Problem) → AreCosts b costs.now → HasWritten b result.items }
     ensures registers { AreRegisters result.items }
 {
     let mut written = ArrayVec::new();
     for index in 0..REGISTER_COUNT {
         let register = register_at(index);
-        if is_written(entries, register) {
+        if is_written(costs, register) {
             written.push(register);
         }
     }

@@ -12,8 +12,8 @@ use Rattle.s66_line.specs.Fields.{with_newlines}
 use Rattle.s66_cert.specs.declared.limits.TheConstants.{SPLIT_LIMIT}
 use Rattle.s66_cert.specs.declared.error.CertError.{CertError}
 use Rattle.s66_cert.specs.declared.error.CertError.TheVariants.{BadLine, Truncated, TooManyNodes, OutOfMemory}
-use Rattle.s66_cert.specs.declared.place.Place.{Place}
-use Rattle.s66_cert.specs.declared.place.Place.TheVariants.{AtHeader, AtProfile, AtBlock, AtInstruction, AtTime, AtBound, AtOrder, AtTree, AtEnd}
+use Rattle.s66_cert.specs.declared.document_place.DocumentPlace.{DocumentPlace}
+use Rattle.s66_cert.specs.declared.document_place.DocumentPlace.TheVariants.{AtHeader, AtProfile, AtBlock, AtInstruction, AtTime, AtBound, AtOrder, AtTree, AtEnd}
 use Rattle.s66_cert.proofs.TextLines.{cut, are-lines, whole-of, whole-all, newlines-append}
 use Rattle.s66_cert.proofs.ReadFronts.{are-append, steps-append, begins, fronts}
 use Rattle.s66_cert.proofs.RoundTrip.{read-again}
@@ -36,7 +36,7 @@ outcome-unless : (s t : DocumentState) (test : Bool) → t.count ≡ suc s.count
 outcome-unless s t true counted = IsBad (λ most. refl)
 outcome-unless s t false counted = IsGood t counted (λ most. refl)
 
-pub outcome-at : (s : DocumentState) (place : Place) (l : DocumentLine) → Outcome s (λ most. step_at most s place l)
+pub outcome-at : (s : DocumentState) (place : DocumentPlace) (l : DocumentLine) → Outcome s (λ most. step_at most s place l)
 outcome-at s AtHeader (Header facts rule) = IsGood _ refl (λ most. refl)
 outcome-at s AtProfile (Profile numbers) = IsGood _ refl (λ most. refl)
 outcome-at s AtBlock (Block count) = IsGood _ refl (λ most. refl)

@@ -19,7 +19,7 @@ use Rattle.s66_cert.specs.DocumentParts.{Parts, tree_of_lines}
 use Rattle.s66_cert.specs.Reading.{nothing, headed, first_facts, DocumentState, place_of_instruction, place_of_tree, is_leaf_of, wants_dominated, step_at, step_if, and_then, steps}
 use Rattle.s66_cert.specs.declared.limits.TheConstants.{FACT_LIMIT}
 use Rattle.s66_cert.specs.declared.error.CertError.{CertError}
-use Rattle.s66_cert.specs.declared.place.Place.TheVariants.{AtHeader, AtProfile, AtBlock, AtInstruction, AtTime, AtBound, AtOrder}
+use Rattle.s66_cert.specs.declared.document_place.DocumentPlace.TheVariants.{AtHeader, AtProfile, AtBlock, AtInstruction, AtTime, AtBound, AtOrder}
 use Rattle.s66_cert.proofs.LineTexts.{line-again}
 use Rattle.s66_cert.proofs.DominatedLines.{AreAllowed, every-parts, leaves-allowed, leaves-wanting, facts-fit, first-some}
 use Rattle.s66_cert.proofs.States.{at, place-instruction, place-tree}

@@ -12,47 +12,47 @@ use Rattle.s66_cert.specs.DocumentParts.{AreWhole}
 use Rattle.s66_cert.specs.Reading.{DocumentState, is_leaf_of, wants_dominated, step_at}
 use Rattle.s66_cert.specs.declared.limits.TheConstants.{SPLIT_LIMIT}
 use Rattle.s66_cert.specs.declared.error.CertError.TheVariants.{BadLine}
-use Rattle.s66_cert.specs.declared.place.Place.{Place}
-use Rattle.s66_cert.specs.declared.place.Place.TheVariants.{AtHeader, AtProfile, AtBlock, AtInstruction, AtTime, AtBound, AtOrder, AtTree, AtEnd}
+use Rattle.s66_cert.specs.declared.document_place.DocumentPlace.{DocumentPlace}
+use Rattle.s66_cert.specs.declared.document_place.DocumentPlace.TheVariants.{AtHeader, AtProfile, AtBlock, AtInstruction, AtTime, AtBound, AtOrder, AtTree, AtEnd}
 use Rattle.s66_cert.proofs.Sound.{whole-tree, whole-document}
 
-pub other_header : (most : ℕ) (s : DocumentState) (place : Place) (facts : Bool) (rule : Rule) → (place ≡ AtHeader → ⊥) → step_at most s place (Header facts rule) ≡ Err (BadLine (suc s.count))
+pub other_header : (most : ℕ) (s : DocumentState) (place : DocumentPlace) (facts : Bool) (rule : Rule) → (place ≡ AtHeader → ⊥) → step_at most s place (Header facts rule) ≡ Err (BadLine (suc s.count))
 other_header most s AtHeader facts rule other = absurd (other refl)
 other_header most s place facts rule other = refl
 
-pub other_profile : (most : ℕ) (s : DocumentState) (place : Place) (numbers : List ℕ) → (place ≡ AtProfile → ⊥) → step_at most s place (Profile numbers) ≡ Err (BadLine (suc s.count))
+pub other_profile : (most : ℕ) (s : DocumentState) (place : DocumentPlace) (numbers : List ℕ) → (place ≡ AtProfile → ⊥) → step_at most s place (Profile numbers) ≡ Err (BadLine (suc s.count))
 other_profile most s AtProfile numbers other = absurd (other refl)
 other_profile most s place numbers other = refl
 
-pub other_block : (most : ℕ) (s : DocumentState) (place : Place) (count : ℕ) → (place ≡ AtBlock → ⊥) → step_at most s place (Block count) ≡ Err (BadLine (suc s.count))
+pub other_block : (most : ℕ) (s : DocumentState) (place : DocumentPlace) (count : ℕ) → (place ≡ AtBlock → ⊥) → step_at most s place (Block count) ≡ Err (BadLine (suc s.count))
 other_block most s AtBlock count other = absurd (other refl)
 other_block most s place count other = refl
 
-pub other_instruction : (most : ℕ) (s : DocumentState) (place : Place) (text : List ℕ) → (place ≡ AtInstruction → ⊥) → step_at most s place (Instruction text) ≡ Err (BadLine (suc s.count))
+pub other_instruction : (most : ℕ) (s : DocumentState) (place : DocumentPlace) (text : List ℕ) → (place ≡ AtInstruction → ⊥) → step_at most s place (Instruction text) ≡ Err (BadLine (suc s.count))
 other_instruction most s AtInstruction text other = absurd (other refl)
 other_instruction most s place text other = refl
 
-pub other_time : (most : ℕ) (s : DocumentState) (place : Place) (time : ℕ) → (place ≡ AtTime → ⊥) → step_at most s place (Time time) ≡ Err (BadLine (suc s.count))
+pub other_time : (most : ℕ) (s : DocumentState) (place : DocumentPlace) (time : ℕ) → (place ≡ AtTime → ⊥) → step_at most s place (Time time) ≡ Err (BadLine (suc s.count))
 other_time most s AtTime time other = absurd (other refl)
 other_time most s place time other = refl
 
-pub other_bound : (most : ℕ) (s : DocumentState) (place : Place) (bound : ℕ) → (place ≡ AtBound → ⊥) → step_at most s place (Bound bound) ≡ Err (BadLine (suc s.count))
+pub other_bound : (most : ℕ) (s : DocumentState) (place : DocumentPlace) (bound : ℕ) → (place ≡ AtBound → ⊥) → step_at most s place (Bound bound) ≡ Err (BadLine (suc s.count))
 other_bound most s AtBound bound other = absurd (other refl)
 other_bound most s place bound other = refl
 
-pub other_order : (most : ℕ) (s : DocumentState) (place : Place) (numbers : List ℕ) → (place ≡ AtOrder → ⊥) → step_at most s place (Order numbers) ≡ Err (BadLine (suc s.count))
+pub other_order : (most : ℕ) (s : DocumentState) (place : DocumentPlace) (numbers : List ℕ) → (place ≡ AtOrder → ⊥) → step_at most s place (Order numbers) ≡ Err (BadLine (suc s.count))
 other_order most s AtOrder numbers other = absurd (other refl)
 other_order most s place numbers other = refl
 
-pub other_fact : (most : ℕ) (s : DocumentState) (place : Place) (line : FactLine) → (place ≡ AtTree → ⊥) → step_at most s place (OfFact line) ≡ Err (BadLine (suc s.count))
+pub other_fact : (most : ℕ) (s : DocumentState) (place : DocumentPlace) (line : FactLine) → (place ≡ AtTree → ⊥) → step_at most s place (OfFact line) ≡ Err (BadLine (suc s.count))
 other_fact most s AtTree line other = absurd (other refl)
 other_fact most s place line other = refl
 
-pub other_vertex : (most : ℕ) (s : DocumentState) (place : Place) (vertex : Vertex Ending) → (place ≡ AtTree → ⊥) → step_at most s place (OfTree vertex) ≡ Err (BadLine (suc s.count))
+pub other_vertex : (most : ℕ) (s : DocumentState) (place : DocumentPlace) (vertex : Vertex Ending) → (place ≡ AtTree → ⊥) → step_at most s place (OfTree vertex) ≡ Err (BadLine (suc s.count))
 other_vertex most s AtTree vertex other = absurd (other refl)
 other_vertex most s place vertex other = refl
 
-pub other_end : (most : ℕ) (s : DocumentState) (place : Place) → (place ≡ AtEnd → ⊥) → step_at most s place End ≡ Err (BadLine (suc s.count))
+pub other_end : (most : ℕ) (s : DocumentState) (place : DocumentPlace) → (place ≡ AtEnd → ⊥) → step_at most s place End ≡ Err (BadLine (suc s.count))
 other_end most s AtEnd other = absurd (other refl)
 other_end most s place other = refl
 
@@ -72,8 +72,8 @@ wanting_end most s h = rw h refl
 
 -- WHERE IT COMES
 
-part-at : (most : ℕ) (s : DocumentState) (place : Place) → s.place ≡ place → IsFine most s → IsPart most place s.part s.left s.splits
-part-at most s place e fine = subst (λ (p : Place). IsPart most p s.part s.left s.splits) e fine.1
+part-at : (most : ℕ) (s : DocumentState) (place : DocumentPlace) → s.place ≡ place → IsFine most s → IsPart most place s.part s.left s.splits
+part-at most s place e fine = subst (λ (p : DocumentPlace). IsPart most p s.part s.left s.splits) e fine.1
 
 pub some_instruction : (most : ℕ) (s : DocumentState) → s.place ≡ AtInstruction → IsFine most s → 1 ≤ s.left
 some_instruction most s e fine = (part-at most s AtInstruction e fine).1

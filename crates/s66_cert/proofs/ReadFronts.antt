@@ -19,8 +19,8 @@ use Rattle.s66_cert.specs.Lines.{DocumentLine, Header, Profile, Block, Instructi
 use Rattle.s66_cert.specs.DocumentParts.{Parts, document_of}
 use Rattle.s66_cert.specs.Reading.{nothing, first_facts, DocumentState, first_state, place_of_instruction, place_of_tree, with_vertex, step_at, step, and_then, steps, whole_lines}
 use Rattle.s66_cert.specs.declared.error.CertError.{CertError}
-use Rattle.s66_cert.specs.declared.place.Place.{Place}
-use Rattle.s66_cert.specs.declared.place.Place.TheVariants.{AtHeader, AtProfile, AtBlock, AtInstruction, AtTime, AtBound, AtOrder, AtTree, AtEnd}
+use Rattle.s66_cert.specs.declared.document_place.DocumentPlace.{DocumentPlace}
+use Rattle.s66_cert.specs.declared.document_place.DocumentPlace.TheVariants.{AtHeader, AtProfile, AtBlock, AtInstruction, AtTime, AtBound, AtOrder, AtTree, AtEnd}
 use Rattle.s66_cert.proofs.DocumentLines.{documents_lines, open_lines}
 use Rattle.s66_cert.proofs.TextLines.{whole-of, whole-all, newlines-append, open-text, documents-text}
 use Rattle.s66_cert.proofs.DominatedLines.{AreAllowed, leaves-allowed, leaves-any, facts-fit}
@@ -106,7 +106,7 @@ module _ (most : ℕ) where
   header-ends count documents part left splits =
       put most (at count documents AtHeader part left splits) (at (suc count) documents AtProfile nothing 0 0) (Header false NoneNamed) (λ facts. absurd (cc)) refl (profile-ends (suc count) documents nothing 0 0)
 
-  ends-at : (count : ℕ) (documents : List Document) (place : Place) (part : Parts) (left splits : ℕ) → Ends most (at count documents place part left splits)
+  ends-at : (count : ℕ) (documents : List Document) (place : DocumentPlace) (part : Parts) (left splits : ℕ) → Ends most (at count documents place part left splits)
   ends-at count documents AtHeader part left splits = header-ends count documents part left splits
   ends-at count documents AtProfile part left splits = profile-ends count documents part left splits
   ends-at count documents AtBlock part left splits = block-ends count documents part left splits
@@ -148,9 +148,9 @@ begins most before s are run =
     let all : steps BLOCK_LIMIT most first_state lines ≡ Ok e.end = steps-append most first_state before e.more ∙ ap (λ (r : Result DocumentState CertError). and_then r (λ t. steps BLOCK_LIMIT most t e.more)) run ∙ e.run in
     let sound = steps-sound most first_state e.end lines (tt, tt) all in
     let d : Document = document_of e.end.part in
-    let has : HasTree most e.end.part 0 e.end.splits = subst (λ (p : Place). IsPart most p e.end.part e.end.left e.end.splits) e.whole sound.0.1 in
+    let has : HasTree most e.end.part 0 e.end.splits = subst (λ (p : DocumentPlace). IsPart most p e.end.part e.end.left e.end.splits) e.whole sound.0.1 in
     let open_part : part_lines e.end.place e.end.part e.end.left ≡ open_lines d =
-    ap (λ (p : Place). part_lines p e.end.part e.end.left) e.whole ∙ open-is e.end.part e.end.left e.end.splits most has in
+    ap (λ (p : DocumentPlace). part_lines p e.end.part e.end.left) e.whole ∙ open-is e.end.part e.end.left e.end.splits most has in
     let read : map line_bytes (documents_lines e.end.documents) ++ map line_bytes (open_lines d) ≡ lines =
     sym (map-append line_bytes (documents_lines e.end.documents) (open_lines d)) ∙ ap (λ (l : List DocumentLine). map line_bytes (documents_lines e.end.documents ++ l)) (sym open_part) ∙ sound.1 in
     let same : with_newlines before ++ with_newlines e.more ≡ documents_text e.end.documents ++ text_before_end d =

@@ -25,8 +25,8 @@ use Rattle.s66_cert.proofs.DocumentLines.{open_lines, document_lines, documents_
 use Rattle.s66_cert.specs.declared.limits.TheConstants.{FACT_LIMIT}
 use Rattle.s66_cert.specs.declared.error.CertError.{CertError}
 use Rattle.s66_cert.specs.declared.error.CertError.TheVariants.{BadLine, Truncated, TooManyNodes}
-use Rattle.s66_cert.specs.declared.place.Place.{Place}
-use Rattle.s66_cert.specs.declared.place.Place.TheVariants.{AtHeader, AtProfile, AtBlock, AtInstruction, AtTime, AtBound, AtOrder, AtTree, AtEnd}
+use Rattle.s66_cert.specs.declared.document_place.DocumentPlace.{DocumentPlace}
+use Rattle.s66_cert.specs.declared.document_place.DocumentPlace.TheVariants.{AtHeader, AtProfile, AtBlock, AtInstruction, AtTime, AtBound, AtOrder, AtTree, AtEnd}
 use Rattle.s66_cert.proofs.LineTexts.{line-is}
 use Rattle.s66_cert.proofs.DominatedLines.{AreAllowed, every-append, leaves-whole, leaves-open, first-some, first-fit, facts-fit}
 use Rattle.s66_model.proofs.Forests.{flat-forest}
@@ -109,7 +109,7 @@ abbrev heading_lines : Parts → ℕ → List DocumentLine → List DocumentLine
 heading_lines o count more = Header (is_some o.facts) o.rule ∷ Profile o.profile ∷ Block count ∷ (instructions_of o.block ++ more)
 
 -- the lines of the open document
-abbrev pub part_lines : Place → Parts → ℕ → List DocumentLine
+abbrev pub part_lines : DocumentPlace → Parts → ℕ → List DocumentLine
 part_lines AtHeader o left = []
 part_lines AtProfile o left = Header (is_some o.facts) o.rule ∷ []
 part_lines AtBlock o left = Header (is_some o.facts) o.rule ∷ Profile o.profile ∷ []
@@ -328,7 +328,7 @@ first-none : (facts : Bool) → facts_of (first_facts facts) ≡ []
 first-none true = refl
 first-none false = refl
 
-step-sound : (most count : ℕ) (documents : List Document) (place : Place) (part : Parts) (left splits : ℕ) (t : DocumentState) (l : DocumentLine) → IsLineInRange BLOCK_LIMIT l → AreDocumentsWithin BLOCK_LIMIT most documents → IsPart most place part left splits →
+step-sound : (most count : ℕ) (documents : List Document) (place : DocumentPlace) (part : Parts) (left splits : ℕ) (t : DocumentState) (l : DocumentLine) → IsLineInRange BLOCK_LIMIT l → AreDocumentsWithin BLOCK_LIMIT most documents → IsPart most place part left splits →
     step_at most (at count documents place part left splits) place l ≡ Ok t → Sounds most (at count documents place part left splits) t l
 step-sound most count documents AtHeader part left splits t (Header facts rule) is are h made =
     let begun : Parts = headed facts rule in
@@ -403,7 +403,7 @@ steps-sound most s t (line ∷ lines) fine run =
     let rest = steps-sound most u t lines first.0 more in
     (rest.0, rest.1 ∙ ap (λ x. x ++ lines) first.1 ∙ append_assoc (map line_bytes (all_lines s)) (line ∷ []) lines)
 
-nothing-open : (place : Place) (o : Parts) (left : ℕ) → is_header place ≡ true → part_lines place o left ≡ []
+nothing-open : (place : DocumentPlace) (o : Parts) (left : ℕ) → is_header place ≡ true → part_lines place o left ≡ []
 nothing-open AtHeader o left h = refl
 nothing-open AtProfile o left h = absurd (cc)
 nothing-open AtBlock o left h = absurd (cc)

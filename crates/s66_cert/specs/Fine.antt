@@ -9,8 +9,8 @@ use Rattle.s66_cert.specs.DocumentParts.{Parts}
 use Rattle.s66_cert.specs.Reading.{DocumentState, is_leaf_of}
 use Rattle.s66_isa.specs.declared.limits.TheConstants.{PROFILE_LENGTH, PROFILE_LIMIT}
 use Rattle.s66_cert.specs.declared.limits.TheConstants.{TIME_LIMIT}
-use Rattle.s66_cert.specs.declared.place.Place.{Place}
-use Rattle.s66_cert.specs.declared.place.Place.TheVariants.{AtHeader, AtProfile, AtBlock, AtInstruction, AtTime, AtBound, AtOrder, AtTree, AtEnd}
+use Rattle.s66_cert.specs.declared.document_place.DocumentPlace.{DocumentPlace}
+use Rattle.s66_cert.specs.declared.document_place.DocumentPlace.TheVariants.{AtHeader, AtProfile, AtBlock, AtInstruction, AtTime, AtBound, AtOrder, AtTree, AtEnd}
 
 -- of n trees these lines leave this many to come
 abbrev pub Leave : ℕ → List (Vertex Ending) → ℕ → Type 0
@@ -43,7 +43,7 @@ HasTree most p left splits =
     HasBlock p × (p.time ≤ TIME_LIMIT) × (p.bound ≤ TIME_LIMIT) × AreNumbers BLOCK_LIMIT p.numbers × Leave 1 p.vertices left × (splits ≡ split_count p.vertices) × (splits ≤ most) × IsAllowed p
 
 -- what its lines said is in range, by which line comes next
-abbrev pub IsPart : ℕ → Place → Parts → ℕ → ℕ → Type 0
+abbrev pub IsPart : ℕ → DocumentPlace → Parts → ℕ → ℕ → Type 0
 IsPart most AtHeader p left splits = Unit {0}
 IsPart most AtProfile p left splits = HasVersion p
 IsPart most AtBlock p left splits = HasProfile p

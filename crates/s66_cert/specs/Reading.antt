@@ -14,8 +14,8 @@ use Rattle.s66_cert.specs.DocumentParts.{Parts, document_of}
 use Rattle.s66_cert.specs.declared.limits.TheConstants.{SPLIT_LIMIT, FACT_LIMIT}
 use Rattle.s66_cert.specs.declared.error.CertError.{CertError}
 use Rattle.s66_cert.specs.declared.error.CertError.TheVariants.{BadLine, Truncated, TooManyNodes}
-use Rattle.s66_cert.specs.declared.place.Place.{Place}
-use Rattle.s66_cert.specs.declared.place.Place.TheVariants.{AtHeader, AtProfile, AtBlock, AtInstruction, AtTime, AtBound, AtOrder, AtTree, AtEnd}
+use Rattle.s66_cert.specs.declared.document_place.DocumentPlace.{DocumentPlace}
+use Rattle.s66_cert.specs.declared.document_place.DocumentPlace.TheVariants.{AtHeader, AtProfile, AtBlock, AtInstruction, AtTime, AtBound, AtOrder, AtTree, AtEnd}
 
 -- WHAT WAS READ
 
@@ -38,7 +38,7 @@ pub record DocumentState : Type 0 where
   -- the whole documents
   pub documents : List Document
   -- which line comes next, and what the lines of this document said
-  pub place : Place
+  pub place : DocumentPlace
   pub part : Parts
   -- how many instructions, or trees, are still to come
   pub left : ℕ
@@ -52,13 +52,13 @@ first_state = record { count = 0; documents = []; place = AtHeader; part = nothi
 abbrev pub bad : DocumentState → Result DocumentState CertError
 bad s = Err (BadLine (suc s.count))
 
-abbrev pub advanced : DocumentState → Place → Parts → ℕ → ℕ → Result DocumentState CertError
+abbrev pub advanced : DocumentState → DocumentPlace → Parts → ℕ → ℕ → Result DocumentState CertError
 advanced s place part left splits = Ok (record { count = suc s.count; documents = s.documents; place = place; part = part; left = left; splits = splits })
 
-abbrev pub place_of_instruction : ℕ → Place
+abbrev pub place_of_instruction : ℕ → DocumentPlace
 place_of_instruction left = if left == 0 then AtTime else AtInstruction
 
-abbrev pub place_of_tree : ℕ → Place
+abbrev pub place_of_tree : ℕ → DocumentPlace
 place_of_tree left = if left == 0 then AtEnd else AtTree
 
 abbrev pub with_vertex : Parts → Vertex Ending → Parts
@@ -113,7 +113,7 @@ end_step s =
     else Ok (record { count = suc s.count; documents = s.documents ++ document_of s.part ∷ []; place = AtHeader; part = nothing; left = 0; splits = 0 })
 
 -- the line that comes at this place, and what it makes; any other is bad
-abbrev pub step_at : ℕ → DocumentState → Place → DocumentLine → Result DocumentState CertError
+abbrev pub step_at : ℕ → DocumentState → DocumentPlace → DocumentLine → Result DocumentState CertError
 step_at most s AtHeader (Header facts rule) = advanced s AtProfile (headed facts rule) 0 0
 step_at most s AtProfile (Profile numbers) = advanced s AtBlock (record s.part { profile = numbers }) 0 0
 step_at most s AtBlock (Block count) = advanced s AtInstruction (record s.part { block = [] }) count 0
@@ -153,7 +153,7 @@ abbrev pub last_bytes : List ℕ → List ℕ → List ℕ
 last_bytes line [] = line
 last_bytes line (b ∷ bytes) = if b == 10 then last_bytes [] bytes else last_bytes (line ++ b ∷ []) bytes
 
-abbrev pub is_header : Place → Bool
+abbrev pub is_header : DocumentPlace → Bool
 is_header AtHeader = true
 is_header AtProfile = false
 is_header AtBlock = false

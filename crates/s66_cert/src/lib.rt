@@ -2,6 +2,7 @@
 #![tactic(auto)]
 
 mod document;
+mod document_place;
 mod error;
 mod evidence;
 mod examples;
@@ -12,7 +13,6 @@ mod limits;
 mod line;
 mod page;
 mod parse;
-mod place;
 mod printing;
 mod ranges;
 mod reader;

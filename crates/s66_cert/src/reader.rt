@@ -11,15 +11,15 @@ ghost use Rattle.s66_cert.specs.Reading.{nothing, headed, first_state, is_allowe
 ghost use Rattle.s66_cert.specs.Said.{said};
 ghost use Rattle.s66_cert.specs.declared.error.CertError.TheVariants.{BadLine};
 ghost use Rattle.s66_cert.specs.declared.limits.TheConstants.{SPLIT_LIMIT};
-ghost use Rattle.s66_cert.specs.declared.place.Place.TheVariants.{AtInstruction, AtTree, AtEnd};
+ghost use Rattle.s66_cert.specs.declared.document_place.DocumentPlace.TheVariants.{AtInstruction, AtTree, AtEnd};
 
 use crate::document::{Claim, Document};
+use crate::document_place::DocumentPlace;
 use crate::error::CertError;
 use crate::instruction::{InstructionText, ReadText};
 use crate::limits::{FACT_LIMIT, SPLIT_LIMIT};
 use crate::line::LineOf;
 use crate::parse::line_of;
-use crate::place::Place;
 use arrayvec::ArrayVec;
 use s66_isa::PROFILE_LENGTH;
 use s66_model::Rule;
@@ -86,7 +86,7 @@ pub(crate) struct Reader {
     /// The whole documents.
     pub documents: Vec<Document>,
     /// Which line comes next.
-    pub place: Place,
+    pub place: DocumentPlace,
     /// What the lines of the open document said.
     pub claim: Claim,
     /// How many instructions, or trees, are still to come.
@@ -103,7 +103,7 @@ impl Reader {
         Reader {
             lines: 0,
             documents: Vec::new(alloc),
-            place: Place::AtHeader,
+            place: DocumentPlace::AtHeader,
             claim: nothing(alloc),
             left: 0,
             splits: 0,
@@ -121,7 +121,7 @@ impl Reader {
     }
 
     /// The next line was read, and another comes.
-    fn go_on(&mut self, place: Place, left: u64, splits: u32)
+    fn go_on(&mut self, place: DocumentPlace, left: u64, splits: u32)
         requires { self.old.lines < 2 ^ 64 - 1 }
         ensures { state self.new ≡ record (state self.old) { count = suc self.old.lines; place = place; left = left; splits = splits } }
     {
@@ -141,9 +141,9 @@ impl Reader {
         self.claim.block.push(copy)?;
         let left = self.left - 1;
         let place = if left == 0 {
-            Place::AtTime
+            DocumentPlace::AtTime
         } else {
-            Place::AtInstruction
+            DocumentPlace::AtInstruction
         };
         self.go_on(place, left, 0);
         Ok(())
@@ -181,7 +181,7 @@ impl Reader {
         if let Some(lines) = &mut self.claim.facts {
             lines.push(line)?;
         }
-        self.go_on(Place::AtTree, self.left, self.splits);
+        self.go_on(DocumentPlace::AtTree, self.left, self.splits);
         Ok(())
     }
 
@@ -208,9 +208,9 @@ impl Reader {
         }
         self.claim.tree.push(vertex)?;
         let place = if left == 0 {
-            Place::AtEnd
+            DocumentPlace::AtEnd
         } else {
-            Place::AtTree
+            DocumentPlace::AtTree
         };
         self.go_on(place, left, splits);
         Ok(())
@@ -232,7 +232,7 @@ impl Reader {
     {
         let claim = mem::replace(&mut self.claim, nothing(alloc));
         self.documents.push(Document::new(claim))?;
-        self.go_on(Place::AtHeader, 0, 0);
+        self.go_on(DocumentPlace::AtHeader, 0, 0);
         Ok(())
     }
 
@@ -242,13 +242,13 @@ impl Reader {
         ensures { Steps (state self.new) result (step_at SPLIT_LIMIT (state self.old) self.old.place (Header facts rule)) }
     {
         match self.place {
-            Place::AtHeader => {
+            DocumentPlace::AtHeader => {
                 self.claim = nothing(alloc);
                 self.claim.rule = rule;
                 if facts {
                     self.claim.facts = Some(Vec::new(alloc));
                 }
-                self.go_on(Place::AtProfile, 0, 0);
+                self.go_on(DocumentPlace::AtProfile, 0, 0);
                 Ok(())
             }
             _ => Err(self.bad_line()),
@@ -261,9 +261,9 @@ impl Reader {
         ensures { Steps (state self.new) result (step_at SPLIT_LIMIT (state self.old) self.old.place (Profile numbers.items)) }
     {
         match self.place {
-            Place::AtProfile => {
+            DocumentPlace::AtProfile => {
                 self.claim.profile = numbers;
-                self.go_on(Place::AtBlock, 0, 0);
+                self.go_on(DocumentPlace::AtBlock, 0, 0);
                 Ok(())
             }
             _ => Err(self.bad_line()),
@@ -276,9 +276,9 @@ impl Reader {
         ensures { Steps (state self.new) result (step_at SPLIT_LIMIT (state self.old) self.old.place (Block count)) }
     {
         match self.place {
-            Place::AtBlock => {
+            DocumentPlace::AtBlock => {
                 self.claim.block = Vec::new(alloc);
-                self.go_on(Place::AtInstruction, count as u64, 0);
+                self.go_on(DocumentPlace::AtInstruction, count as u64, 0);
                 Ok(())
             }
             _ => Err(self.bad_line()),
@@ -292,7 +292,7 @@ impl Reader {
         ensures { Steps (state self.new) result (step_at SPLIT_LIMIT (state self.old) self.old.place (Instruction text.now.bytes.now)) }
     {
         match self.place {
-            Place::AtInstruction => self.take_instruction(alloc, text),
+            DocumentPlace::AtInstruction => self.take_instruction(alloc, text),
             _ => Err(self.bad_line()),
         }
     }
@@ -303,9 +303,9 @@ impl Reader {
         ensures { Steps (state self.new) result (step_at SPLIT_LIMIT (state self.old) self.old.place (Time time)) }
     {
         match self.place {
-            Place::AtTime => {
+            DocumentPlace::AtTime => {
                 self.claim.time = time;
-                self.go_on(Place::AtBound, 0, 0);
+                self.go_on(DocumentPlace::AtBound, 0, 0);
                 Ok(())
             }
             _ => Err(self.bad_line()),
@@ -318,9 +318,9 @@ impl Reader {
         ensures { Steps (state self.new) result (step_at SPLIT_LIMIT (state self.old) self.old.place (Bound bound)) }
     {
         match self.place {
-            Place::AtBound => {
+            DocumentPlace::AtBound => {
                 self.claim.bound = bound;
-                self.go_on(Place::AtOrder, 0, 0);
+                self.go_on(DocumentPlace::AtOrder, 0, 0);
                 Ok(())
             }
             _ => Err(self.bad_line()),
@@ -334,7 +334,7 @@ impl Reader {
         ensures { Steps (state self.new) result (step_at SPLIT_LIMIT (state self.old) self.old.place (Order numbers.now)) }
     {
         match self.place {
-            Place::AtOrder => {
+            DocumentPlace::AtOrder => {
                 self.claim.order.clear();
                 let Ok(()) = self.claim.order.try_extend_from_slice(numbers) else {
                     unreachable!()
@@ -343,7 +343,7 @@ impl Reader {
                     self.claim.facts = Some(Vec::new(alloc));
                 }
                 self.claim.tree = Tree::new(alloc);
-                self.go_on(Place::AtTree, 1, 0);
+                self.go_on(DocumentPlace::AtTree, 1, 0);
                 Ok(())
             }
             _ => Err(self.bad_line()),
@@ -356,7 +356,7 @@ impl Reader {
         ensures { Steps (state self.new) result (step_at SPLIT_LIMIT (state self.old) self.old.place (OfFact line)) }
     {
         match self.place {
-            Place::AtTree => self.take_fact(line),
+            DocumentPlace::AtTree => self.take_fact(line),
             _ => Err(self.bad_line()),
         }
     }
@@ -369,7 +369,7 @@ impl Reader {
         ensures { Steps (state self.new) result (step_at SPLIT_LIMIT (state self.old) self.old.place (OfTree (vertex_of vertex.entry))) }
     {
         match self.place {
-            Place::AtTree => self.take_vertex(vertex),
+            DocumentPlace::AtTree => self.take_vertex(vertex),
             _ => Err(self.bad_line()),
         }
     }
@@ -381,7 +381,7 @@ impl Reader {
         ensures { Steps (state self.new) result (step_at SPLIT_LIMIT (state self.old) self.old.place End) }
     {
         match self.place {
-            Place::AtEnd => {
+            DocumentPlace::AtEnd => {
                 if self.wants_dominated() {
                     return Err(self.bad_line());
                 }

@@ -7,8 +7,8 @@ ghost use Rattle.s66_cert.specs.Reading.{read_of};
 ghost use Rattle.s66_cert.specs.Reads.{RefusesText};
 
 use crate::document::Document;
+use crate::document_place::DocumentPlace;
 use crate::error::CertError;
-use crate::place::Place;
 use crate::reader::Reader;
 use std::alloc::Global;
 
@@ -30,7 +30,7 @@ fn read_lines(alloc: Global, text: &[u8]) -> Result<Vec<Document>, CertError>
         return Err(CertError::Truncated);
     }
     match place {
-        Place::AtHeader => Ok(documents),
+        DocumentPlace::AtHeader => Ok(documents),
         _ => Err(CertError::Truncated),
     }
 }

@@ -7,9 +7,9 @@ use Rattle.std.proofs.lemmas.Nat.Bits.{bit_at-lt, bit_at-zero, bit_at_and, bit_a
 use Rattle.s66_isa.specs.declared.limits.TheConstants.{BLOCK_LIMIT}
 use Rattle.s66_isa.proofs.Lowest.{lowest-bit}
 use Rattle.s66_facts.specs.Marked.{is_marked}
-use Rattle.s66_facts.specs.declared.marks.Marks.{Marks}
+use Rattle.s66_facts.specs.declared.marked_numbers.MarkedNumbers.{MarkedNumbers}
 
-pub marked-with : (old new : Marks) (n m : ℕ) → 1 ≤ n → n ≤ BLOCK_LIMIT → 1 ≤ m → new.bits ≡ bit_or old.bits (1 * 2 ^ (n - 1) % 2 ^ 128) → is_marked new m ≡ (m == n || is_marked old m)
+pub marked-with : (old new : MarkedNumbers) (n m : ℕ) → 1 ≤ n → n ≤ BLOCK_LIMIT → 1 ≤ m → new.bits ≡ bit_or old.bits (1 * 2 ^ (n - 1) % 2 ^ 128) → is_marked new m ≡ (m == n || is_marked old m)
 marked-with old new n m low high first is =
     elim (cases_eq m n) [
       | inl here ↦
@@ -20,7 +20,7 @@ marked-with old new n m low high first is =
           ∙ sym (rw (ne_eqb m n apart) refl)
     ]
 
-pub marked-without : (old new : Marks) (n m : ℕ) → old.bits < 2 ^ 128 → 1 ≤ n → n ≤ BLOCK_LIMIT → 1 ≤ m → m ≤ BLOCK_LIMIT → new.bits ≡ bit_and old.bits (bit_not w128 (1 * 2 ^ (n - 1) % 2 ^ 128)) → is_marked new m ≡ (not (m == n) && is_marked old m)
+pub marked-without : (old new : MarkedNumbers) (n m : ℕ) → old.bits < 2 ^ 128 → 1 ≤ n → n ≤ BLOCK_LIMIT → 1 ≤ m → m ≤ BLOCK_LIMIT → new.bits ≡ bit_and old.bits (bit_not w128 (1 * 2 ^ (n - 1) % 2 ^ 128)) → is_marked new m ≡ (not (m == n) && is_marked old m)
 marked-without old new n m fits low high first last is =
     elim (cases_eq m n) [
       | inl here ↦
@@ -31,7 +31,7 @@ marked-without old new n m fits low high first last is =
           ∙ sym (rw (ne_eqb m n apart) refl)
     ]
 
-pub marks-within : (own other : Marks) → own.bits < 2 ^ 128 → IsTrue (bit_and own.bits other.bits == own.bits) ↔ ((m : ℕ) → 1 ≤ m → m ≤ BLOCK_LIMIT → is_marked own m ≡ true → is_marked other m ≡ true)
+pub marks-within : (own other : MarkedNumbers) → own.bits < 2 ^ 128 → IsTrue (bit_and own.bits other.bits == own.bits) ↔ ((m : ℕ) → 1 ≤ m → m ≤ BLOCK_LIMIT → is_marked own m ≡ true → is_marked other m ≡ true)
 marks-within own other fits =
     let both = bit_and own.bits other.bits in (
       (λ same m low high is.
@@ -56,7 +56,7 @@ marks-within own other fits =
         ]
 
 -- the bits are the same if the marks are
-pub marks-same : (own other : Marks) → own.bits < 2 ^ 128 → other.bits < 2 ^ 128 → IsTrue (own.bits == other.bits) ↔ ((m : ℕ) → 1 ≤ m → m ≤ BLOCK_LIMIT → is_marked own m ≡ is_marked other m)
+pub marks-same : (own other : MarkedNumbers) → own.bits < 2 ^ 128 → other.bits < 2 ^ 128 → IsTrue (own.bits == other.bits) ↔ ((m : ℕ) → 1 ≤ m → m ≤ BLOCK_LIMIT → is_marked own m ≡ is_marked other m)
 marks-same own other fits room = (
   λ same m low high. ap (λ bits. bit_at bits (m - 1) == 1) (eqb-true own.bits other.bits same),
   λ each. eq-eqb own.bits other.bits (same_from_bits own.bits other.bits (bits each)),
@@ -75,20 +75,20 @@ marks-same own other fits room = (
           | inr ge ↦ bit_at_above own.bits BLOCK_LIMIT i fits ge ∙ sym (bit_at_above other.bits BLOCK_LIMIT i room ge)
         ]
 
-pub marked-both : (own other : Marks) (m : ℕ) → is_marked (record { bits = bit_or own.bits other.bits }) m ≡ (is_marked own m || is_marked other m)
+pub marked-both : (own other : MarkedNumbers) (m : ℕ) → is_marked (record { bits = bit_or own.bits other.bits }) m ≡ (is_marked own m || is_marked other m)
 marked-both own other m = grind (arith, bit_at_or own.bits other.bits (m - 1), bit_at-lt own.bits (m - 1), bit_at-lt other.bits (m - 1))
 
-pub marked-but : (own other : Marks) (m : ℕ) → other.bits < 2 ^ 128 → 1 ≤ m → m ≤ BLOCK_LIMIT → is_marked (record { bits = bit_and own.bits (bit_not w128 other.bits) }) m ≡ (is_marked own m && not (is_marked other m))
+pub marked-but : (own other : MarkedNumbers) (m : ℕ) → other.bits < 2 ^ 128 → 1 ≤ m → m ≤ BLOCK_LIMIT → is_marked (record { bits = bit_and own.bits (bit_not w128 other.bits) }) m ≡ (is_marked own m && not (is_marked other m))
 marked-but own other m fits low high =
     let place : m - 1 < 128 = omega (arith, low, high) in
     grind (arith, bit_at_and own.bits (bit_not w128 other.bits) (m - 1), bit_at_not w128 other.bits (m - 1) fits place, bit_at-lt own.bits (m - 1), bit_at-lt other.bits (m - 1))
 
 -- THE LEAST that is marked
 
-pub none-marked : (marks : Marks) (m : ℕ) → marks.bits ≡ 0 → is_marked marks m ≡ false
+pub none-marked : (marks : MarkedNumbers) (m : ℕ) → marks.bits ≡ 0 → is_marked marks m ≡ false
 none-marked marks m none = ne_eqb (bit_at marks.bits (m - 1)) 1 (λ e. omega (arith, e, ap (λ bits. bit_at bits (m - 1)) none, bit_at-zero (m - 1)))
 
-module _ (old new : Marks) (fits : old.bits < 2 ^ 128) (some : 0 < old.bits) (is : new.bits ≡ bit_and old.bits (old.bits - 1)) where
+module _ (old new : MarkedNumbers) (fits : old.bits < 2 ^ 128) (some : 0 < old.bits) (is : new.bits ≡ bit_and old.bits (old.bits - 1)) where
   abbrev t : ℕ
   t = trailing_zeros w128 old.bits
 

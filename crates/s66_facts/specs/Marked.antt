@@ -3,23 +3,23 @@ use Rattle.std.specs.Prelude.{ℕ, ◌-◌, ◌≡◌, ◌≤◌, ◌==◌, ◌&
 use Rattle.std.specs.Int.{bit_at}
 use Rattle.s66_isa.specs.declared.instr.Instr.{Instr}
 use Rattle.s66_moments.specs.Networks.{precedes}
-use Rattle.s66_facts.specs.declared.marks.Marks.{Marks}
+use Rattle.s66_facts.specs.declared.marked_numbers.MarkedNumbers.{MarkedNumbers}
 
-abbrev pub is_marked : Marks → ℕ → Bool
+abbrev pub is_marked : MarkedNumbers → ℕ → Bool
 is_marked marks n = bit_at marks.bits (n - 1) == 1
 
-abbrev pub no_marks : Marks
+abbrev pub no_marks : MarkedNumbers
 no_marks = record { bits = 0 }
 
 -- a number of the block
-abbrev pub is_in : List Marks → ℕ → Bool
+abbrev pub is_in : List MarkedNumbers → ℕ → Bool
 is_in marks n = nat_le 1 n && nat_le n (length marks)
 
 -- those of each number are the numbers that stand before it
-abbrev pub before_in : List Marks → ℕ → ℕ → Bool
+abbrev pub before_in : List MarkedNumbers → ℕ → ℕ → Bool
 before_in marks m n = is_in marks m && is_in marks n && is_marked (get_or marks (n - 1) no_marks) m
 
 -- the marks of the first numbers are those that stand before them by dependence
-abbrev pub IsClosedUpTo : List Instr → List Marks → ℕ → Type 0
+abbrev pub IsClosedUpTo : List Instr → List MarkedNumbers → ℕ → Type 0
 IsClosedUpTo block marks count =
     (k m : ℕ) → 1 ≤ k → k ≤ count → 1 ≤ m → is_marked (get_or marks (k - 1) no_marks) m ≡ precedes block m k

@@ -13,7 +13,7 @@ ghost use Rattle.s66_facts.specs.Settled.{AreAll, IsReady, IsMarkedUpTo, AreSett
 
 use crate::direction::Direction;
 use crate::graph::Graph;
-use crate::marks::Marks;
+use crate::marked_numbers::MarkedNumbers;
 use crate::paths::times_of;
 use crate::times::{Times, is_same_moment, times_at};
 use s66_isa::BLOCK_LIMIT;
@@ -30,13 +30,13 @@ fn keeps(direction: Direction, graph: &Graph, m: u8, n: u8, k: u8) -> bool
 }
 
 /// The numbers than which the same ones come sooner if m comes sooner than n too.
-pub(crate) fn all_kept(direction: Direction, graph: &Graph, m: u8, n: u8) -> Marks
+pub(crate) fn all_kept(direction: Direction, graph: &Graph, m: u8, n: u8) -> MarkedNumbers
     requires m { IsNumber graph.now.problem m }
     requires n { IsNumber graph.now.problem n }
     requires few { length graph.now.problem.block ≤ BLOCK_LIMIT }
     ensures { (k : ℕ) → IsNumber graph.now.problem k → is_marked result k ≡ true → keeps (sooner direction (before_in graph.now.marks)) m n k ≡ true }
 {
-    let mut same = Marks::none();
+    let mut same = MarkedNumbers::none();
     for position in 0..graph.count() {
         if keeps(direction, graph, m, n, position + 1) {
             same = same.with(position + 1);
@@ -54,11 +54,11 @@ fn is_its(moment: &Moment, n: u8) -> bool
 }
 
 /// All numbers but that of a moment, an issue or a start.
-pub(crate) fn all_but(graph: &Graph, moment: &Moment) -> Marks
+pub(crate) fn all_but(graph: &Graph, moment: &Moment) -> MarkedNumbers
     requires { length graph.now.problem.block ≤ BLOCK_LIMIT }
     ensures { (k : ℕ) → IsNumber graph.now.problem k → is_marked result k ≡ true → (same_moment moment.now (At k Issue) || same_moment moment.now (At k Start)) ≡ false }
 {
-    let mut others = Marks::none();
+    let mut others = MarkedNumbers::none();
     for position in 0..graph.count() {
         if !is_its(moment, position + 1) {
             others = others.with(position + 1);
@@ -73,9 +73,9 @@ fn settle(
     graph: &Graph,
     from: &Moment,
     times: &mut [Times; BLOCK_LIMIT],
-    settled: Marks,
+    settled: MarkedNumbers,
     n: u8,
-) -> Marks
+) -> MarkedNumbers
     requires n { IsNumber graph.now.problem n }
     requires few { length graph.now.problem.block ≤ BLOCK_LIMIT }
     requires ordered { IsOrdered graph.now }
@@ -116,8 +116,8 @@ fn settle_each(
     graph: &Graph,
     from: &Moment,
     times: &mut [Times; BLOCK_LIMIT],
-    settled: Marks,
-) -> Marks
+    settled: MarkedNumbers,
+) -> MarkedNumbers
     requires few { length graph.now.problem.block ≤ BLOCK_LIMIT }
     requires ordered { IsOrdered graph.now }
     requires from { can_begin direction from.now ≡ true }
@@ -133,7 +133,7 @@ fn settle_each(
 }
 
 /// Whether all numbers are marked.
-fn are_all(graph: &Graph, done: &Marks) -> bool
+fn are_all(graph: &Graph, done: &MarkedNumbers) -> bool
     requires { length graph.now.problem.block ≤ BLOCK_LIMIT }
     ensures { IsTrue result → (n : ℕ) → IsNumber graph.now.problem n → is_marked done.now n ≡ true }
 {
@@ -152,7 +152,7 @@ pub(crate) fn find_again(
     graph: &Graph,
     from: &Moment,
     times: &mut [Times; BLOCK_LIMIT],
-    settled: Marks,
+    settled: MarkedNumbers,
 )
     requires few { length graph.now.problem.block ≤ BLOCK_LIMIT }
     requires ordered { IsOrdered graph.now }
@@ -177,6 +177,6 @@ pub(crate) fn find_all(direction: Direction, graph: &Graph, from: &Moment) -> [T
     ensures { AreAll direction graph.now from.now result }
 {
     let mut times = [Times::none(); BLOCK_LIMIT];
-    find_again(direction, graph, from, &mut times, Marks::none());
+    find_again(direction, graph, from, &mut times, MarkedNumbers::none());
     times
 }

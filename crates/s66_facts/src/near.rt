@@ -9,7 +9,7 @@ ghost use Rattle.s66_facts.specs.Near.{uses, hands_on, covers, IsCovered, AreNea
 
 use crate::closure::marks_at;
 use crate::graph::Graph;
-use crate::marks::Marks;
+use crate::marked_numbers::MarkedNumbers;
 use crate::times::writes;
 use arrayvec::ArrayVec;
 use s66_isa::{BLOCK_LIMIT, Reg, Row, has_register, is_memory_conflict, is_same_kind};
@@ -50,7 +50,7 @@ fn covers(graph: &Graph, m: u8, k: u8, n: u8) -> bool
 }
 
 /// Whether one that is marked stands between m and n and does so. Of each number, `sooner` has those on m's side of it.
-fn is_covered(graph: &Graph, sooner: &[Marks], near: Marks, m: u8, n: u8) -> bool
+fn is_covered(graph: &Graph, sooner: &[MarkedNumbers], near: MarkedNumbers, m: u8, n: u8) -> bool
     requires m { IsNumber graph.now.problem m }
     requires n { IsNumber graph.now.problem n }
     requires few { length graph.now.problem.block ≤ BLOCK_LIMIT }
@@ -68,7 +68,14 @@ fn is_covered(graph: &Graph, sooner: &[Marks], near: Marks, m: u8, n: u8) -> boo
 }
 
 /// Marks m too, if it is one of these and none that is marked covers it.
-fn with_one(graph: &Graph, sooner: &[Marks], own: Marks, near: Marks, m: u8, n: u8) -> Marks
+fn with_one(
+    graph: &Graph,
+    sooner: &[MarkedNumbers],
+    own: MarkedNumbers,
+    near: MarkedNumbers,
+    m: u8,
+    n: u8,
+) -> MarkedNumbers
     requires n { IsNumber graph.now.problem n }
     requires few { length graph.now.problem.block ≤ BLOCK_LIMIT }
     requires count { length sooner.now ≡ length graph.now.problem.block }
@@ -86,7 +93,13 @@ fn with_one(graph: &Graph, sooner: &[Marks], own: Marks, near: Marks, m: u8, n: 
 }
 
 /// Marks more of these numbers, those next to n in the source first, until what is marked covers all of them.
-fn with_near(graph: &Graph, sooner: &[Marks], own: Marks, near: Marks, n: u8) -> Marks
+fn with_near(
+    graph: &Graph,
+    sooner: &[MarkedNumbers],
+    own: MarkedNumbers,
+    near: MarkedNumbers,
+    n: u8,
+) -> MarkedNumbers
     requires n { IsNumber graph.now.problem n }
     requires few { length graph.now.problem.block ≤ BLOCK_LIMIT }
     requires count { length sooner.now ≡ length graph.now.problem.block }
@@ -113,10 +126,10 @@ fn with_near(graph: &Graph, sooner: &[Marks], own: Marks, near: Marks, n: u8) ->
 /// that is new.
 pub(crate) fn near_each(
     graph: &Graph,
-    sooner: &[Marks],
-    old: &[Marks],
-    near: &[Marks],
-) -> ArrayVec<Marks, BLOCK_LIMIT>
+    sooner: &[MarkedNumbers],
+    old: &[MarkedNumbers],
+    near: &[MarkedNumbers],
+) -> ArrayVec<MarkedNumbers, BLOCK_LIMIT>
     requires few { length graph.now.problem.block ≤ BLOCK_LIMIT }
     requires count { length sooner.now ≡ length graph.now.problem.block }
     requires count_old { length old.now ≡ length graph.now.problem.block }
@@ -125,7 +138,7 @@ pub(crate) fn near_each(
     requires near { AreNear graph.now.problem old.now near.now }
     ensures { AreNear graph.now.problem sooner.now result.items }
 {
-    let mut all: ArrayVec<Marks, BLOCK_LIMIT> = ArrayVec::new();
+    let mut all: ArrayVec<MarkedNumbers, BLOCK_LIMIT> = ArrayVec::new();
     for position in 0..sooner.len() {
         let own = marks_at(sooner, position).without_all(marks_at(old, position));
         let more = with_near(

@@ -6,12 +6,12 @@ ghost use Rattle.s66_moments.specs.Networks.{with_pair};
 ghost use Rattle.s66_facts.specs.Marked.{is_marked, no_marks, before_in};
 
 use crate::closure::marks_at;
-use crate::marks::Marks;
+use crate::marked_numbers::MarkedNumbers;
 use arrayvec::ArrayVec;
 use s66_isa::BLOCK_LIMIT;
 
 /// The numbers that stand before the one at a position, if j stands before k too.
-fn marks_with_pair(before: &[Marks], j: u8, k: u8, position: usize) -> Marks
+fn marks_with_pair(before: &[MarkedNumbers], j: u8, k: u8, position: usize) -> MarkedNumbers
     requires few { length before.now ≤ BLOCK_LIMIT }
     requires j { (1 ≤ j) × (j ≤ length before.now) }
     requires k { (1 ≤ k) × (k ≤ length before.now) }
@@ -28,14 +28,18 @@ fn marks_with_pair(before: &[Marks], j: u8, k: u8, position: usize) -> Marks
 }
 
 /// The numbers that stand before each, if j stands before k too.
-pub(crate) fn with_pair(before: &[Marks], j: u8, k: u8) -> ArrayVec<Marks, BLOCK_LIMIT>
+pub(crate) fn with_pair(
+    before: &[MarkedNumbers],
+    j: u8,
+    k: u8,
+) -> ArrayVec<MarkedNumbers, BLOCK_LIMIT>
     requires few { length before.now ≤ BLOCK_LIMIT }
     requires j { (1 ≤ j) × (j ≤ length before.now) }
     requires k { (1 ≤ k) × (k ≤ length before.now) }
     ensures count { length result.items ≡ length before.now }
     ensures pairs { before_in result.items ≡ with_pair (before_in before.now) j k }
 {
-    let mut all: ArrayVec<Marks, BLOCK_LIMIT> = ArrayVec::new();
+    let mut all: ArrayVec<MarkedNumbers, BLOCK_LIMIT> = ArrayVec::new();
     for position in 0..before.len() {
         let sooner = marks_with_pair(before, j, k, position);
         all.push(sooner);
@@ -44,12 +48,12 @@ pub(crate) fn with_pair(before: &[Marks], j: u8, k: u8) -> ArrayVec<Marks, BLOCK
 }
 
 /// The numbers that have n marked.
-fn turned_at(before: &[Marks], n: u8) -> Marks
+fn turned_at(before: &[MarkedNumbers], n: u8) -> MarkedNumbers
     requires few { length before.now ≤ BLOCK_LIMIT }
     requires n { (1 ≤ n) × (n ≤ length before.now) }
     ensures { (m : ℕ) → 1 ≤ m → is_marked result m ≡ before_in before.now n m }
 {
-    let mut all = Marks::none();
+    let mut all = MarkedNumbers::none();
     for position in 0..before.len() {
         if marks_at(before, position).has(n) {
             all = all.with(position as u8 + 1);
@@ -59,12 +63,12 @@ fn turned_at(before: &[Marks], n: u8) -> Marks
 }
 
 /// The numbers that stand after each. Each two are looked at.
-pub(crate) fn turned(before: &[Marks]) -> ArrayVec<Marks, BLOCK_LIMIT>
+pub(crate) fn turned(before: &[MarkedNumbers]) -> ArrayVec<MarkedNumbers, BLOCK_LIMIT>
     requires { length before.now ≤ BLOCK_LIMIT }
     ensures count { length result.items ≡ length before.now }
     ensures each { (n : ℕ) → 1 ≤ n → n ≤ length before.now → (m : ℕ) → 1 ≤ m → is_marked (get_or result.items (n - 1) no_marks) m ≡ before_in before.now n m }
 {
-    let mut all: ArrayVec<Marks, BLOCK_LIMIT> = ArrayVec::new();
+    let mut all: ArrayVec<MarkedNumbers, BLOCK_LIMIT> = ArrayVec::new();
     for position in 0..before.len() {
         let later = turned_at(before, position as u8 + 1);
         all.push(later);

@@ -12,7 +12,7 @@ ghost use Rattle.s66_facts.specs.Passes.{by_one, by_all, all_moments};
 use crate::direction::Direction;
 use crate::graph::Graph;
 use crate::heads::{after_one, heads_of};
-use crate::marks::Marks;
+use crate::marked_numbers::MarkedNumbers;
 use crate::tails::{before_one, tails_of};
 use crate::times::Times;
 use s66_isa::BLOCK_LIMIT;
@@ -34,7 +34,7 @@ fn by_one(direction: Direction, graph: &Graph, times: &[Times; BLOCK_LIMIT], n: 
 fn by_all(
     direction: Direction,
     graph: &Graph,
-    near: Marks,
+    near: MarkedNumbers,
     times: &[Times; BLOCK_LIMIT],
     n: u8,
 ) -> Times

@@ -18,9 +18,9 @@ use Rattle.s66_node.specs.declared.node.Node.{Node}
 use Rattle.s66_node.specs.declared.node.State.{State}
 use Rattle.s66_node.specs.Nodes.{node_line}
 use Rattle.s66_node.specs.Pieces.{PieceOf, tree_of}
-use Rattle.s66_ledger.specs.declared.entry.Entry.{Entry}
-use Rattle.s66_ledger.specs.declared.entry.Refusal.{Refusal}
-use Rattle.s66_ledger.specs.declared.entry.Refusal.TheVariants as refusal
+use Rattle.s66_ledger.specs.declared.event_record.EventRecord.{EventRecord}
+use Rattle.s66_ledger.specs.declared.event_record.Refusal.{Refusal}
+use Rattle.s66_ledger.specs.declared.event_record.Refusal.TheVariants as refusal
 use Rattle.s66_ledger.specs.declared.reply.Offered.{Offered}
 use Rattle.s66_ledger.specs.declared.reply.Offered.TheVariants as offered
 use Rattle.s66_ledger.specs.Replies.{offered_reply}
@@ -35,7 +35,7 @@ use Rattle.s66_ledger.proofs.Taken.{same-splits}
 use Rattle.s66_ledger.specs.Ledgers.{LedgerOf, IsEvent, IsRecorded, events_of, account_summary, with_history}
 
 -- the next entry comes with its own bytes and lines
-entries-next : (b : Problem) (before : List Entry) (bytes : List ℕ) (lines : List (Vertex Terminal)) (entry : Entry) (own : List ℕ) (own_lines : List (Vertex Terminal)) → weigh byte_count before ≡ length bytes → weigh line_count before ≡ length lines → byte_count entry ≡ length own → line_count entry ≡ length own_lines → entries_of b (before ++ entry ∷ []) (bytes ++ own) (lines ++ own_lines) ≡ entries_of b before bytes lines ++ entry_of b entry own own_lines ∷ []
+entries-next : (b : Problem) (before : List EventRecord) (bytes : List ℕ) (lines : List (Vertex Terminal)) (entry : EventRecord) (own : List ℕ) (own_lines : List (Vertex Terminal)) → weigh byte_count before ≡ length bytes → weigh line_count before ≡ length lines → byte_count entry ≡ length own → line_count entry ≡ length own_lines → entries_of b (before ++ entry ∷ []) (bytes ++ own) (lines ++ own_lines) ≡ entries_of b before bytes lines ++ entry_of b entry own own_lines ∷ []
 entries-next b [] bytes lines entry own own_lines all all_lines counted lines_counted =
     rw (nil_from_length bytes (sym all), nil_from_length lines (sym all_lines))
     (ap (λ k. entry_of b entry (take k own) (take (line_count entry) own_lines) ∷ []) counted
@@ -50,7 +50,7 @@ entries-next b (e ∷ es) bytes lines entry own own_lines all all_lines counted 
     (ap (λ stated. entry_of b e (take (byte_count e) bytes) (take (line_count e) lines) ∷ stated) (entries-next b es (drop (byte_count e) bytes) (drop (line_count e) lines) entry own own_lines rest lines_rest counted lines_counted))
 
 -- room is reserved, and the entry pushed with its own bytes; the machine has its lines
-module _ (m next : MachineOf) (before reserved after : List Entry) (bytes all : List ℕ) (entry : Entry) (own : List ℕ) (own_lines : List (Vertex Terminal)) (event : Event) (reply : Reply) (moved : IsMove m event reply next) (more : next.lines ≡ m.lines ++ own_lines) (is : entry_of m.problem entry own own_lines ≡ (event, reply)) (same : reserved ≡ before) (pushed : after ≡ reserved ++ entry ∷ []) (put : all ≡ bytes ++ own) (counted : byte_count entry ≡ length own) (lines_counted : line_count entry ≡ length own_lines) (kept : IsRecorded (with_history m before bytes)) where
+module _ (m next : MachineOf) (before reserved after : List EventRecord) (bytes all : List ℕ) (entry : EventRecord) (own : List ℕ) (own_lines : List (Vertex Terminal)) (event : Event) (reply : Reply) (moved : IsMove m event reply next) (more : next.lines ≡ m.lines ++ own_lines) (is : entry_of m.problem entry own own_lines ≡ (event, reply)) (same : reserved ≡ before) (pushed : after ≡ reserved ++ entry ∷ []) (put : all ≡ bytes ++ own) (counted : byte_count entry ≡ length own) (lines_counted : line_count entry ≡ length own_lines) (kept : IsRecorded (with_history m before bytes)) where
   events-on : events_of (with_history next after all) ≡ events_of (with_history m before bytes) ++ (event, reply) ∷ []
   events-on =
       let lines : weigh line_count before ≡ length (drop 1 m.lines) = omega (arith, kept.lines, length-drop 1 m.lines) in
@@ -81,7 +81,7 @@ module _ (m next : MachineOf) (before reserved after : List Entry) (bytes all : 
   recorded-event = (moved.0, moved.1, moved.2, moved.3, events-on, moved.4)
 
 -- an entry without lines
-module _ (m next : MachineOf) (before reserved after : List Entry) (bytes all : List ℕ) (entry : Entry) (own : List ℕ) (event : Event) (reply : Reply) (moved : IsMove m event reply next) (still : next.lines ≡ m.lines) (is : entry_of m.problem entry own [] ≡ (event, reply)) (same : reserved ≡ before) (pushed : after ≡ reserved ++ entry ∷ []) (put : all ≡ bytes ++ own) (counted : byte_count entry ≡ length own) (none : line_count entry ≡ 0) (kept : IsRecorded (with_history m before bytes)) where
+module _ (m next : MachineOf) (before reserved after : List EventRecord) (bytes all : List ℕ) (entry : EventRecord) (own : List ℕ) (event : Event) (reply : Reply) (moved : IsMove m event reply next) (still : next.lines ≡ m.lines) (is : entry_of m.problem entry own [] ≡ (event, reply)) (same : reserved ≡ before) (pushed : after ≡ reserved ++ entry ∷ []) (put : all ≡ bytes ++ own) (counted : byte_count entry ≡ length own) (none : line_count entry ≡ 0) (kept : IsRecorded (with_history m before bytes)) where
   pub recorded-lineless : IsRecorded (with_history next after all)
   recorded-lineless = recorded m next before reserved after bytes all entry own [] event reply moved (still ∙ sym (append-nil m.lines)) is same pushed put counted none kept
 
@@ -89,7 +89,7 @@ module _ (m next : MachineOf) (before reserved after : List Entry) (bytes all : 
   event-lineless = recorded-event m next before reserved after bytes all entry own [] event reply moved (still ∙ sym (append-nil m.lines)) is same pushed put counted none kept
 
 -- an entry without bytes
-module _ (m next : MachineOf) (before reserved after : List Entry) (bytes : List ℕ) (entry : Entry) (event : Event) (reply : Reply) (moved : IsMove m event reply next) (still : next.lines ≡ m.lines) (is : entry_of m.problem entry [] [] ≡ (event, reply)) (same : reserved ≡ before) (pushed : after ≡ reserved ++ entry ∷ []) (none : byte_count entry ≡ 0) (lineless : line_count entry ≡ 0) (kept : IsRecorded (with_history m before bytes)) where
+module _ (m next : MachineOf) (before reserved after : List EventRecord) (bytes : List ℕ) (entry : EventRecord) (event : Event) (reply : Reply) (moved : IsMove m event reply next) (still : next.lines ≡ m.lines) (is : entry_of m.problem entry [] [] ≡ (event, reply)) (same : reserved ≡ before) (pushed : after ≡ reserved ++ entry ∷ []) (none : byte_count entry ≡ 0) (lineless : line_count entry ≡ 0) (kept : IsRecorded (with_history m before bytes)) where
   pub recorded-alone : IsRecorded (with_history next after bytes)
   recorded-alone = recorded-lineless m next before reserved after bytes bytes entry [] event reply moved still is same pushed (sym (append-nil bytes)) none lineless kept
 

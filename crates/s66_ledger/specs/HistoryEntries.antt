@@ -7,10 +7,10 @@ use Rattle.s66_model.specs.Piece.{Terminal, Frontier}
 use Rattle.s66_machine.specs.Ledger as model
 use Rattle.s66_machine.specs.Ledger.{Event, Reply, Granted, Claimed, Returned, NotOut, Retired, Taken}
 use Rattle.s66_node.specs.Nodes.{node_line}
-use Rattle.s66_ledger.specs.declared.entry.Entry.{Entry}
-use Rattle.s66_ledger.specs.declared.entry.Entry.TheVariants as entry
-use Rattle.s66_ledger.specs.declared.entry.Refusal.{Refusal}
-use Rattle.s66_ledger.specs.declared.entry.Refusal.TheVariants as refusal
+use Rattle.s66_ledger.specs.declared.event_record.EventRecord.{EventRecord}
+use Rattle.s66_ledger.specs.declared.event_record.EventRecord.TheVariants as entry
+use Rattle.s66_ledger.specs.declared.event_record.Refusal.{Refusal}
+use Rattle.s66_ledger.specs.declared.event_record.Refusal.TheVariants as refusal
 use Rattle.s66_ledger.specs.declared.reply.GraftError.{GraftError}
 use Rattle.s66_ledger.specs.declared.reply.GraftError.TheVariants as error
 use Rattle.s66_ledger.specs.Replies.{offered_reply}
@@ -26,7 +26,7 @@ error_of refusal.OtherPrefix = error.OtherPrefix
 error_of refusal.OverAllowance = error.OverAllowance
 
 -- how many bytes of the history are the entry's own
-abbrev pub byte_count : Entry → ℕ
+abbrev pub byte_count : EventRecord → ℕ
 byte_count (entry.Grant _ _) = 0
 byte_count (entry.Claim _ _) = 0
 byte_count (entry.Taken _ _ depth _ _ _) = depth
@@ -36,7 +36,7 @@ byte_count (entry.Back _ _ _) = 0
 byte_count (entry.Retire _) = 0
 
 -- how many nodes of the ledger the entry made, each by a line of its piece
-abbrev pub line_count : Entry → ℕ
+abbrev pub line_count : EventRecord → ℕ
 line_count (entry.Grant _ _) = 0
 line_count (entry.Claim _ _) = 0
 line_count (entry.Taken _ _ _ _ nodes _) = nodes
@@ -46,7 +46,7 @@ line_count (entry.Back _ _ _) = 0
 line_count (entry.Retire _) = 0
 
 -- of a ledger of this problem, by the entry, its own bytes, and the lines that it made nodes of
-abbrev pub entry_of : Problem → Entry → List ℕ → List (Vertex Terminal) → Event × Reply
+abbrev pub entry_of : Problem → EventRecord → List ℕ → List (Vertex Terminal) → Event × Reply
 entry_of b (entry.Grant w splits) own_bytes own_lines = (model.Grant w, Granted splits)
 entry_of b (entry.Claim w node) own_bytes own_lines = (model.Claim w, Claimed node)
 entry_of b (entry.Taken w node depth root nodes splits) own_bytes own_lines =
@@ -57,7 +57,7 @@ entry_of b (entry.Back w node returned) own_bytes own_lines = (model.Back w node
 entry_of b (entry.Retire w) own_bytes own_lines = (model.Retire w, Retired)
 
 -- of entries: the bytes of one come after those of the entries before it, and so do its lines
-abbrev pub entries_of : Problem → List Entry → List ℕ → List (Vertex Terminal) → List (Event × Reply)
+abbrev pub entries_of : Problem → List EventRecord → List ℕ → List (Vertex Terminal) → List (Event × Reply)
 entries_of b [] bytes lines = []
 entries_of b (e ∷ es) bytes lines =
     entry_of b e (take (byte_count e) bytes) (take (line_count e) lines) ∷ entries_of b es (drop (byte_count e) bytes) (drop (line_count e) lines)

@@ -7,7 +7,7 @@ use Rattle.s66_model.specs.Tree.{Vertex}
 use Rattle.s66_model.specs.Piece.{Terminal}
 use Rattle.s66_machine.specs.Ledger.{Ledger, Event, Reply, Step, Run, opening}
 use Rattle.s66_machine.specs.Accounts.{Summary, summary_of}
-use Rattle.s66_ledger.specs.declared.entry.Entry.{Entry}
+use Rattle.s66_ledger.specs.declared.event_record.EventRecord.{EventRecord}
 use Rattle.s66_ledger.specs.HistoryEntries.{byte_count, line_count, entries_of}
 use Rattle.s66_ledger.specs.LedgerMachine.{MachineOf}
 
@@ -20,7 +20,7 @@ pub record LedgerOf : Type 0 where
   pub workers : ℕ
   pub state : Ledger
   -- an entry for each event, the oldest first
-  pub entries : List Entry
+  pub entries : List EventRecord
   -- the bytes of the entries, one's after another's
   pub bytes : List ℕ
   -- the lines of pieces that made its nodes
@@ -46,6 +46,6 @@ pub record IsRecorded (l : LedgerOf) : Type 0 where
 abbrev pub account_summary : LedgerOf → Summary
 account_summary l = summary_of l.rule l.problem l.budget l.workers (events_of l) l.state
 
-abbrev pub with_history : MachineOf → List Entry → List ℕ → LedgerOf
+abbrev pub with_history : MachineOf → List EventRecord → List ℕ → LedgerOf
 with_history m entries bytes =
     record { rule = m.rule; problem = m.problem; budget = m.budget; workers = m.workers; state = m.state; entries = entries; bytes = bytes; lines = m.lines }

@@ -1,13 +1,13 @@
 ghost use Rattle.std.specs.Prelude.{◌≡◌, []};
 
-use crate::entry::Entry;
+use crate::event_record::EventRecord;
 use std::alloc::Global;
 
 /// What a ledger stores of its events.
 #[derive(Drop)]
 pub struct History {
     /// An entry for each event, the oldest first.
-    pub entries: Vec<Entry>,
+    pub entries: Vec<EventRecord>,
     /// The bytes of the entries that have some, one's after another's.
     pub bytes: Vec<u8>,
 }

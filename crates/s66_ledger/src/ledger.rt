@@ -1,6 +1,6 @@
 use crate::answer::Answer;
 use crate::attaching::opened_state;
-use crate::entry::{Entry, refusal_of};
+use crate::event_record::{EventRecord, refusal_of};
 use crate::history::History;
 use crate::machine::Machine;
 use crate::reply::{BackError, GraftError, Offered};
@@ -10,7 +10,7 @@ use s66_isa::{BLOCK_LIMIT, Profile};
 use s66_line::Block;
 use s66_machine::{Summed, Ticket};
 use s66_model::{BUDGET_LIMIT, Rule};
-use s66_node::{Marks, Piece, State, Walk};
+use s66_node::{MarkTable, Piece, State, Walk};
 use s66_time::Timed;
 use std::alloc::{AllocError, Global};
 use std::marker::Model;
@@ -230,7 +230,7 @@ impl<'a> Ledger<'a> {
         let splits = self.machine.grant(w);
         self.history
             .entries
-            .push_reserved(Entry::Grant { w, splits });
+            .push_reserved(EventRecord::Grant { w, splits });
         Ok(splits)
     }
 
@@ -242,7 +242,9 @@ impl<'a> Ledger<'a> {
     {
         self.history.entries.reserve(1)?;
         self.machine.retire(w);
-        self.history.entries.push_reserved(Entry::Retire { w });
+        self.history
+            .entries
+            .push_reserved(EventRecord::Retire { w });
         Ok(())
     }
 
@@ -258,7 +260,9 @@ impl<'a> Ledger<'a> {
         self.history.entries.reserve(1)?;
         let ticket = self.machine.claim(w);
         let node = node_of(&ticket);
-        self.history.entries.push_reserved(Entry::Claim { w, node });
+        self.history
+            .entries
+            .push_reserved(EventRecord::Claim { w, node });
         Ok(ticket)
     }
 
@@ -290,7 +294,7 @@ impl<'a> Ledger<'a> {
         };
         match self.machine.back(w, node) {
             Ok(()) => {
-                self.history.entries.push_reserved(Entry::Back {
+                self.history.entries.push_reserved(EventRecord::Back {
                     w,
                     node,
                     returned: true,
@@ -298,7 +302,7 @@ impl<'a> Ledger<'a> {
                 Ok(())
             }
             Err(BackError::NotOut) => {
-                self.history.entries.push_reserved(Entry::Back {
+                self.history.entries.push_reserved(EventRecord::Back {
                     w,
                     node,
                     returned: false,
@@ -321,7 +325,7 @@ impl<'a> Ledger<'a> {
         self.history.bytes.extend_from_slice(numbers)?;
         let time = timed.total();
         let offered = self.machine.offer(w, timed);
-        self.history.entries.push_reserved(Entry::Offer {
+        self.history.entries.push_reserved(EventRecord::Offer {
             w,
             own: offered.is_own(),
             count,
@@ -398,7 +402,7 @@ impl<'a> Ledger<'a> {
             Ok(()) => {
                 let root = opened_state(piece.nodes()[0].state);
                 let nodes = self.machine.node_count() - first;
-                self.history.entries.push_reserved(Entry::Taken {
+                self.history.entries.push_reserved(EventRecord::Taken {
                     w,
                     node,
                     depth,
@@ -414,7 +418,7 @@ impl<'a> Ledger<'a> {
             self.history.bytes.truncate(kept);
             return Err(error);
         };
-        self.history.entries.push_reserved(Entry::Refused {
+        self.history.entries.push_reserved(EventRecord::Refused {
             w,
             node,
             own,
@@ -439,7 +443,7 @@ impl<'a> Ledger<'a> {
     {
         let mut walk = Walk::new(self.block(), self.profile());
         self.offer_schedules(&mut walk)?;
-        let mut marks = Marks::new(alloc, self.block(), self.profile());
+        let mut marks = MarkTable::new(alloc, self.block(), self.profile());
         let answer = self.finish_with(alloc, &mut walk, &mut marks)?;
         Ok(answer)
     }
@@ -450,7 +454,7 @@ impl<'a> Ledger<'a> {
         mut self,
         alloc: Global,
         walk: &mut Walk<'_>,
-        marks: &mut Marks<'_>,
+        marks: &mut MarkTable<'_>,
     ) -> Result<Answer, AllocError>
         requires walk { walk.old.problem ≡ self.problem }
         requires marks { marks.old.problem ≡ self.problem }

@@ -4,7 +4,7 @@
 
 mod answer;
 mod attaching;
-mod entry;
+mod event_record;
 mod history;
 mod ledger;
 mod limits;
@@ -21,7 +21,7 @@ mod step;
 mod taking;
 
 pub use answer::Answer;
-pub use entry::{Entry, Refusal};
+pub use event_record::{EventRecord, Refusal};
 pub use history::History;
 pub use ledger::Ledger;
 pub use limits::{DOMINATED_PIECE_LIMIT, GRANT_LIMIT, SCHEDULE_SPLITS};

@@ -7,7 +7,7 @@ use crate::limits::{DOMINATED_PIECE_LIMIT, SCHEDULE_SPLITS};
 use crate::reply::{BackError, GraftError};
 use s66_machine::Ticket;
 use s66_model::Rule;
-use s66_node::{Constant, Marks, Piece, Priority, Walk, schedule_below};
+use s66_node::{Constant, MarkTable, Piece, Priority, Walk, schedule_below};
 use s66_time::Timed;
 use std::alloc::{AllocError, Global};
 
@@ -68,7 +68,7 @@ impl Ledger<'_> {
         &mut self,
         alloc: Global,
         walk: &mut Walk<'_>,
-        marks: &mut Marks<'_>,
+        marks: &mut MarkTable<'_>,
         most: u32,
         goal: u32,
     ) -> Result<(), AllocError>
@@ -95,7 +95,7 @@ impl Ledger<'_> {
         &mut self,
         alloc: Global,
         walk: &mut Walk<'_>,
-        marks: &mut Marks<'_>,
+        marks: &mut MarkTable<'_>,
         stop: Option<Stop>,
     ) -> Result<(), AllocError>
         requires walk { walk.old.problem ≡ self.old.problem }
@@ -117,7 +117,7 @@ impl Ledger<'_> {
         &mut self,
         alloc: Global,
         walk: &mut Walk<'_>,
-        marks: &mut Marks<'_>,
+        marks: &mut MarkTable<'_>,
         stop: Option<Stop>,
     ) -> Result<(), AllocError>
         requires walk { walk.old.problem ≡ self.old.problem }
@@ -156,7 +156,7 @@ impl Ledger<'_> {
         &mut self,
         alloc: Global,
         walk: &mut Walk<'_>,
-        marks: &mut Marks<'_>,
+        marks: &mut MarkTable<'_>,
     ) -> Result<bool, AllocError>
         requires walk { walk.old.problem ≡ self.old.problem }
         requires marks { marks.old.problem ≡ self.old.problem }
@@ -194,7 +194,7 @@ impl Ledger<'_> {
         &self,
         alloc: Global,
         walk: &mut Walk<'_>,
-        marks: &mut Marks<'_>,
+        marks: &mut MarkTable<'_>,
         prefix: &[u8],
     ) -> Result<Piece, AllocError>
         requires workers { 1 ≤ self.now.workers }

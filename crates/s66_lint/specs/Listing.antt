@@ -5,7 +5,7 @@ use Rattle.s66_isa.specs.Lists.{tally}
 use Rattle.s66_source.specs.LeftAlone.{Reading}
 use Rattle.s66_source.specs.declared.limits.TheConstants.{SOURCE_LINES_LIMIT}
 use Rattle.s66_lint.specs.Marks.{alone_lines, is_marked}
-use Rattle.s66_lint.specs.declared.finding.Found.{Found}
+use Rattle.s66_lint.specs.declared.finding.Finding.{Finding}
 use Rattle.s66_lint.specs.declared.finding.Rule.{Rule}
 use Rattle.s66_lint.specs.declared.finding.Rule.TheVariants.{TooLong, BadOperand, NotAnInstruction, InColumn1, InColumn2, Directive, HasABody, Redefines, LoadsCode, StoresIntoCode, JoinsAWord, CountsWords, CountsLines}
 
@@ -30,27 +30,27 @@ after_blank (b ∷ word) = 32 ∷ b ∷ word
 
 -- what was found in the line of a number, with up to two words of it, and marked if `--cut` leaves alone what is meant; alone: whether it
 -- does so with each line
-abbrev pub finding_line : (alone : List Bool) → Found → List ℕ
+abbrev pub finding_line : (alone : List Bool) → Finding → List ℕ
 finding_line alone f =
     codes "LINE " ++ decimal f.number ++ rule_words f.rule ++ after_blank f.first.now ++ after_blank f.second.now
     ++ (if is_marked alone f then codes " (CUT)\n" else codes "\n")
 
 -- it is listed, with `--cut` or without
-abbrev pub is_listed : (cut : Bool) (alone : List Bool) → Found → Bool
+abbrev pub is_listed : (cut : Bool) (alone : List Bool) → Finding → Bool
 is_listed cut alone f = not (cut && is_marked alone f)
 
 -- a line for each that is listed
-abbrev pub listing : (cut : Bool) (alone : List Bool) → List Found → List ℕ
+abbrev pub listing : (cut : Bool) (alone : List Bool) → List Finding → List ℕ
 listing cut alone [] = []
 listing cut alone (f ∷ found) = (if is_listed cut alone f then finding_line alone f else []) ++ listing cut alone found
 
 -- of lines from number first to number last, in their order
-abbrev pub is_in_order : ℕ → ℕ → List Found → Bool
+abbrev pub is_in_order : ℕ → ℕ → List Finding → Bool
 is_in_order first last [] = nat_le first last
 is_in_order first last (f ∷ found) = nat_le first f.number && is_in_order f.number last found
 
 -- FINDINGS of a source: in the order of its lines, of which none after the first one past the limit is read
-abbrev pub AreFindings : List Found → Type 0
+abbrev pub AreFindings : List Finding → Type 0
 AreFindings found = is_in_order 1 (suc SOURCE_LINES_LIMIT) found ≡ true
 
 -- what stands last if the source has too many lines
@@ -61,8 +61,8 @@ past_line true = codes "TOO MANY LINES\n"
 -- the text lists some findings of a source
 abbrev pub IsFindings : (source : Reading) (text : List ℕ) → Type 0
 IsFindings source text =
-    (found : List Found) × AreFindings found × ((has_more : Bool) × (text ≡ listing source.cut (alone_lines source.text) found ++ past_line has_more))
+    (found : List Finding) × AreFindings found × ((has_more : Bool) × (text ≡ listing source.cut (alone_lines source.text) found ++ past_line has_more))
 
 -- so many of some findings of a source are listed
 abbrev pub AreCounted : (source : Reading) (count : ℕ) → Type 0
-AreCounted source count = (found : List Found) × AreFindings found × (count ≡ tally (is_listed source.cut (alone_lines source.text)) found)
+AreCounted source count = (found : List Finding) × AreFindings found × (count ≡ tally (is_listed source.cut (alone_lines source.text)) found)

@@ -5,7 +5,7 @@ use Rattle.s66_line.specs.declared.limits.TheConstants.{LINE_BYTES_LIMIT}
 use Rattle.s66_source.specs.LeftAlone.{Flagged, at_first, flagged_from}
 use Rattle.s66_source.specs.declared.standing.Standing.{Standing}
 use Rattle.s66_source.specs.declared.limits.TheConstants.{SOURCE_LINES_LIMIT}
-use Rattle.s66_lint.specs.declared.finding.Found.{Found}
+use Rattle.s66_lint.specs.declared.finding.Finding.{Finding}
 use Rattle.s66_lint.specs.declared.finding.Rule.{Rule}
 use Rattle.s66_lint.specs.declared.finding.Rule.TheVariants.{BadOperand, CountsLines, Directive, HasABody}
 
@@ -35,5 +35,5 @@ means_alone CountsLines here next = next
 means_alone rule here next = false
 
 -- a finding is marked
-abbrev pub is_marked : List Bool → Found → Bool
+abbrev pub is_marked : List Bool → Finding → Bool
 is_marked alone f = means_alone f.rule (is_alone_at alone (f.number - 1)) (is_alone_at alone f.number)

@@ -34,15 +34,15 @@ pub enum Rule {
 
 /// What was found in a line, with up to two words of it.
 #[derive(Clone, Copy)]
-pub(crate) struct Finding<'a> {
+pub(crate) struct LineFinding<'a> {
     pub(crate) rule: Rule,
     pub(crate) first: &'a [u8],
     pub(crate) second: &'a [u8],
 }
 
-impl<'a> Finding<'a> {
+impl<'a> LineFinding<'a> {
     /// With the words of the line that are shown, as they are written.
-    pub(crate) fn of(rule: Rule, line: &Line<'a>) -> Finding<'a> {
+    pub(crate) fn of(rule: Rule, line: &Line<'a>) -> LineFinding<'a> {
         let written = line.written();
         let (first, second) = match rule {
             Rule::TooLong => (&[][..], &[][..]),
@@ -58,7 +58,7 @@ impl<'a> Finding<'a> {
             | Rule::JoinsAWord
             | Rule::CountsWords => (written.operation, written.operand),
         };
-        Finding {
+        LineFinding {
             rule,
             first,
             second,
@@ -68,7 +68,7 @@ impl<'a> Finding<'a> {
 
 /// What was found in the line of this number, with up to two words of it.
 #[derive(Clone, Copy)]
-pub struct Found<'a> {
+pub struct Finding<'a> {
     pub number: u32,
     pub rule: Rule,
     pub first: &'a [u8],

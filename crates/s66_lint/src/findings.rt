@@ -6,7 +6,7 @@ ghost use Rattle.s66_lint.specs.Marks.{alone_lines};
 
 use crate::cut::alone_lines;
 use crate::deck::{Deck, Lines};
-use crate::finding::{Finding, Found, Rule};
+use crate::finding::{Finding, LineFinding, Rule};
 use crate::line::Line;
 use crate::listing::{count_listed, push_listing};
 use crate::rules::Rules;
@@ -16,14 +16,14 @@ use std::alloc::{AllocError, Global};
 
 /// What was found in the line of this number, after what was found in those before it.
 fn push_findings<'a>(
-    all: &mut Vec<Found<'a>>,
+    all: &mut Vec<Finding<'a>>,
     number: u32,
-    findings: &[Finding<'a>],
+    findings: &[LineFinding<'a>],
 ) -> Result<(), AllocError>
     ensures { (before : ℕ) → before ≤ number → is_in_order 1 before all.old.items ≡ true → OnOk result (is_in_order 1 number all.new.items ≡ true) }
 {
     for finding in findings {
-        all.push(Found {
+        all.push(Finding {
             number,
             rule: finding.rule,
             first: finding.first,
@@ -34,10 +34,10 @@ fn push_findings<'a>(
 }
 
 /// That the first line past the limit is too long, if there is one and it is, by its length.
-fn push_long(all: &mut Vec<Found>, past: Option<usize>) -> Result<(), AllocError>
+fn push_long(all: &mut Vec<Finding>, past: Option<usize>) -> Result<(), AllocError>
     ensures { (before : ℕ) → before ≤ suc SOURCE_LINES_LIMIT → is_in_order 1 before all.old.items ≡ true → OnOk result (AreFindings all.new.items) }
 {
-    let too_long = Finding {
+    let too_long = LineFinding {
         rule: Rule::TooLong,
         first: &[],
         second: &[],
@@ -55,7 +55,7 @@ fn found_in<'a>(
     alloc: Global,
     lines: &'a [Line<'a>],
     past: Option<usize>,
-) -> Result<Vec<Found<'a>>, AllocError>
+) -> Result<Vec<Finding<'a>>, AllocError>
     requires { length lines.now ≤ SOURCE_LINES_LIMIT }
     ensures { IfOk result (λ all. AreFindings all.items) }
 {
@@ -95,7 +95,7 @@ pub fn findings_in(alloc: Global, text: &[u8], cut: bool) -> Result<Vec<u8>, All
 }
 
 /// How many findings are listed, with `--cut` or without. What is left alone matters only with it.
-fn count_in(alloc: Global, text: &[u8], all: &[Found], cut: bool) -> Result<usize, AllocError>
+fn count_in(alloc: Global, text: &[u8], all: &[Finding], cut: bool) -> Result<usize, AllocError>
     ensures { IfOk result (λ count. count ≡ tally (is_listed cut (alone_lines text.now)) all.now) }
 {
     if !cut {

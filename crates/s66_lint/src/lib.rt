@@ -22,6 +22,6 @@ mod run;
 mod spelling;
 mod word;
 
-pub use finding::{Found, Rule};
+pub use finding::{Finding, Rule};
 pub use findings::{count_findings, findings_in};
 pub use laws::{switched_examples, switched_law};

@@ -3,7 +3,7 @@ ghost use Rattle.s66_isa.specs.Lists.{tally};
 ghost use Rattle.s66_lint.specs.Listing.{after_blank, finding_line, is_listed, listing, rule_words};
 ghost use Rattle.s66_lint.specs.Marks.{is_alone_at, is_marked};
 
-use crate::finding::{Found, Rule};
+use crate::finding::{Finding, Rule};
 use s66_device::push_field;
 use std::alloc::AllocError;
 
@@ -35,7 +35,7 @@ fn is_alone_at(alone: &[bool], place: usize) -> bool
 }
 
 /// Whether `--cut` leaves alone what a finding means: a refused line or a directive itself, or the lines after one that covers these.
-fn is_marked(alone: &[bool], found: &Found) -> bool
+fn is_marked(alone: &[bool], found: &Finding) -> bool
     ensures { result ≡ is_marked alone.now found.now }
 {
     match found.rule {
@@ -66,7 +66,7 @@ fn push_word(out: &mut Vec<u8>, word: &[u8]) -> Result<(), AllocError>
 }
 
 /// The line that states what was found. `alone` says of each line whether `--cut` leaves it alone.
-fn push_found(out: &mut Vec<u8>, alone: &[bool], found: &Found) -> Result<(), AllocError>
+fn push_found(out: &mut Vec<u8>, alone: &[bool], found: &Finding) -> Result<(), AllocError>
     ensures { OnOk result (out.new.items ≡ out.old.items ++ finding_line alone.now found.now) }
 {
     push_field(out, b"LINE ", found.number as usize)?;
@@ -77,7 +77,7 @@ fn push_found(out: &mut Vec<u8>, alone: &[bool], found: &Found) -> Result<(), Al
 }
 
 /// Whether a finding is listed, with `--cut` or without.
-fn is_listed(alone: &[bool], found: &Found, cut: bool) -> bool
+fn is_listed(alone: &[bool], found: &Finding, cut: bool) -> bool
     ensures { result ≡ is_listed cut alone.now found.now }
 {
     !(cut && is_marked(alone, found))
@@ -87,7 +87,7 @@ fn is_listed(alone: &[bool], found: &Found, cut: bool) -> bool
 pub(crate) fn push_listing(
     out: &mut Vec<u8>,
     alone: &[bool],
-    all: &[Found],
+    all: &[Finding],
     cut: bool,
 ) -> Result<(), AllocError>
     ensures { OnOk result (out.new.items ≡ out.old.items ++ listing cut alone.now all.now) }
@@ -101,7 +101,7 @@ pub(crate) fn push_listing(
 }
 
 /// How many findings are listed with `--cut`. `alone` says of each line whether that leaves it alone.
-pub(crate) fn count_listed(alone: &[bool], all: &[Found]) -> usize
+pub(crate) fn count_listed(alone: &[bool], all: &[Finding]) -> usize
     ensures { result ≡ tally (is_listed true alone.now) all.now }
 {
     let mut count = 0;

@@ -1,5 +1,5 @@
 use crate::deck::Deck;
-use crate::finding::{Finding, Rule};
+use crate::finding::{LineFinding, Rule};
 use crate::form::{is_in_column, redefines};
 use crate::labels::{Label, Labels};
 use crate::line::{Kind, Line};
@@ -18,13 +18,13 @@ pub(crate) struct Rules<'a> {
 
 /// Adds a finding in a line, if it is there.
 fn push_if<'a>(
-    found: &mut Vec<Finding<'a>>,
+    found: &mut Vec<LineFinding<'a>>,
     there: bool,
     rule: Rule,
     line: &Line<'a>,
 ) -> Result<(), AllocError> {
     if there {
-        found.push(Finding::of(rule, line))?;
+        found.push(LineFinding::of(rule, line))?;
     }
     Ok(())
 }
@@ -75,7 +75,7 @@ impl<'a> Rules<'a> {
         &self,
         at: usize,
         line: &Line<'a>,
-    ) -> Result<Vec<Finding<'a>>, AllocError> {
+    ) -> Result<Vec<LineFinding<'a>>, AllocError> {
         let mut found = Vec::new(self.alloc);
         if line.is_long {
             push_if(&mut found, true, Rule::TooLong, line)?;
@@ -90,7 +90,7 @@ impl<'a> Rules<'a> {
 
     fn push_statement(
         &self,
-        found: &mut Vec<Finding<'a>>,
+        found: &mut Vec<LineFinding<'a>>,
         at: usize,
         line: &Line<'a>,
     ) -> Result<(), AllocError> {
@@ -107,7 +107,7 @@ impl<'a> Rules<'a> {
     /// What a statement is itself that is no instruction.
     fn push_form(
         &self,
-        found: &mut Vec<Finding<'a>>,
+        found: &mut Vec<LineFinding<'a>>,
         at: usize,
         line: &Line<'a>,
     ) -> Result<(), AllocError> {
@@ -131,7 +131,7 @@ impl<'a> Rules<'a> {
     /// What a statement does to words of code, and to the lines after it.
     fn push_words(
         &self,
-        found: &mut Vec<Finding<'a>>,
+        found: &mut Vec<LineFinding<'a>>,
         at: usize,
         line: &Line<'a>,
     ) -> Result<(), AllocError> {
@@ -152,7 +152,7 @@ impl<'a> Rules<'a> {
     /// Whether it loads or stores a word of code.
     fn push_touched(
         &self,
-        found: &mut Vec<Finding<'a>>,
+        found: &mut Vec<LineFinding<'a>>,
         line: &Line<'a>,
     ) -> Result<(), AllocError> {
         if is_load(line.operation()) && self.touches_code(line)? {

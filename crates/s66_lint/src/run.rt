@@ -26,7 +26,7 @@ impl Run {
 
 /// Where a line stands: in which run, and after how many of its instructions.
 #[derive(Clone, Copy)]
-struct Place {
+struct RunPlace {
     run: usize,
     index: usize,
 }
@@ -39,7 +39,7 @@ pub(crate) struct Runs {
     /// That which has not.
     open: Option<Run>,
     /// Where each line stands, if it is a comment or of a run.
-    places: Vec<Option<Place>>,
+    places: Vec<Option<RunPlace>>,
 }
 
 fn begun(is_located: bool) -> Run {
@@ -87,9 +87,9 @@ impl Runs {
         Ok(())
     }
 
-    fn place(&self) -> Option<Place> {
+    fn place(&self) -> Option<RunPlace> {
         let run = self.open?;
-        Some(Place {
+        Some(RunPlace {
             run: self.runs.len(),
             index: run.instructions,
         })

@@ -7,8 +7,8 @@ use Rattle.s66_model.specs.Timing.{Problem}
 use Rattle.s66_time.specs.Marks.{IsMarkOf}
 use Rattle.s66_time.specs.declared.mark.Mark.{Mark}
 use Rattle.s66_dep.specs.declared.set.Set.{Set}
-use Rattle.s66_node.specs.declared.marks.Entry.{Entry}
-use Rattle.s66_node.specs.declared.marks.TheConstants.{TABLE_LIMIT}
+use Rattle.s66_node.specs.declared.mark_table.MarkEntry.{MarkEntry}
+use Rattle.s66_node.specs.declared.mark_table.TheConstants.{TABLE_LIMIT}
 
 pub record MarkTable : Type 0 where
   -- of which the marks are
@@ -16,7 +16,7 @@ pub record MarkTable : Type 0 where
   -- the numbers of the beginnings whose marks these are, and maybe others that were forgotten
   pub names : List (List ℕ)
 
-abbrev pub numbers_of : Entry → List ℕ
+abbrev pub numbers_of : MarkEntry → List ℕ
 numbers_of e = e.numbers.items
 
 -- the mark is that of the numbers, and the set has just these
@@ -24,9 +24,9 @@ pub record IsEntryOf (b : Problem) (set : Set) (kept : Mark) (numbers : List ℕ
   pub mark : IsMarkOf b numbers kept
   pub pushed : (m : ℕ) → has m (numbers_in set) ≡ has m numbers
 
-abbrev pub IsEntry : Problem → Entry → Type 0
+abbrev pub IsEntry : Problem → MarkEntry → Type 0
 IsEntry b e = IsEntryOf b e.pushed e.mark e.numbers.items
 
-pub record AreEntries (b : Problem) (entries : List Entry) : Type 0 where
+pub record AreEntries (b : Problem) (entries : List MarkEntry) : Type 0 where
   pub few : length entries ≤ TABLE_LIMIT
   pub each : All (IsEntry b) entries

@@ -12,7 +12,7 @@ ghost use Rattle.s66_node.specs.Walking.{IsLeast};
 
 use crate::grow::{Grown, grow};
 use crate::least::{Constant, Least};
-use crate::marks::Marks;
+use crate::mark_table::MarkTable;
 use crate::naming::{Naming, NoNames};
 use crate::piece::{Origin, Piece};
 use crate::walk::Walk;
@@ -115,7 +115,7 @@ pub fn expand_dominated(
     ensures expansion { IfOk result (λ p. IsExpansion WrittenEarlier (record { block = instrs_of block.now; profile = profile.now }) best best allowance prefix.now (tree_of p)) }
     ensures timed { IfOk result (λ p. IsBestTimed (record { block = instrs_of block.now; profile = profile.now }) prefix.now (tree_of p) p.timed) }
 {
-    let mut marks = Marks::new(alloc, block, profile);
+    let mut marks = MarkTable::new(alloc, block, profile);
     Walk::new(block, profile).expand_dominated(
         alloc,
         prefix,
@@ -169,7 +169,7 @@ impl Walk<'_> {
         prefix: &[u8],
         incumbent: &mut L,
         allowance: u32,
-        marks: &mut Marks<'_>,
+        marks: &mut MarkTable<'_>,
         rule: Rule,
     ) -> Result<Piece, AllocError>
         requires prefix { IsBeginning self.old.problem.block prefix.now }

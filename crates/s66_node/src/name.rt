@@ -6,20 +6,20 @@ use std::boxed::Box;
 
 /// Where the node of a name may be found: a guess, which whoever follows it has to test.
 #[derive(Clone, Copy, Debug, PartialEq, Eq)]
-pub enum Place {
+pub enum NodePlace {
     /// The node of this place in the same piece; its root's is 0.
     Line(u32),
     /// The node of this number of a ledger.
     Node(u32),
 }
 
-impl Place {
+impl NodePlace {
     /// The number of that node in a ledger in which the piece's root has the number `root`, and its other nodes those from `first` on.
     pub fn number(self, root: u32, first: u32) -> u32 {
         match self {
-            Place::Line(0) => root,
-            Place::Line(line) => first.saturating_add(line - 1),
-            Place::Node(number) => number,
+            NodePlace::Line(0) => root,
+            NodePlace::Line(line) => first.saturating_add(line - 1),
+            NodePlace::Node(number) => number,
         }
     }
 }
@@ -30,7 +30,7 @@ pub struct Name {
     /// Its numbers.
     pub numbers: ArrayVec<u8, BLOCK_LIMIT>,
     /// Where it may be found.
-    pub place: Place,
+    pub place: NodePlace,
 }
 
 impl Name {
@@ -38,7 +38,7 @@ impl Name {
     ghost use Rattle.s66_isa.specs.declared.limits.TheConstants.{BLOCK_LIMIT};
 
     /// The node with these numbers, which may be found there.
-    pub fn new(alloc: Global, numbers: &[u8], place: Place) -> Result<Box<Name>, AllocError>
+    pub fn new(alloc: Global, numbers: &[u8], place: NodePlace) -> Result<Box<Name>, AllocError>
         requires { length numbers.now ≤ BLOCK_LIMIT }
         ensures { IfOk result (λ name. name.value.numbers.items ≡ numbers.now) }
     {

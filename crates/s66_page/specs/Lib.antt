@@ -1,6 +1,6 @@
 pub mod Escape
 pub mod Examples
-pub mod Found
+pub mod FoundOrders
 pub mod Page
 pub mod Rows
 pub mod Still

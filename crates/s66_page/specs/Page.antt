@@ -22,7 +22,7 @@ use Rattle.s66_page.specs.declared.summary.Summary.{Summary}
 use Rattle.s66_page.specs.declared.page.Part.{Part}
 use Rattle.s66_page.specs.declared.page.Part.TheVariants.{Row, Orders}
 use Rattle.s66_page.specs.declared.start.TheConstants.{PAGE_START, PAGE_HEAD}
-use Rattle.s66_page.specs.Found.{Found}
+use Rattle.s66_page.specs.FoundOrders.{FoundOrder}
 use Rattle.s66_page.specs.Escape.{escaped, escaped_lines}
 
 -- Points are in order, the newest first, as in Timing: s are all points before p.
@@ -301,27 +301,27 @@ total_of_all bs =
 abbrev pub as_written : Profile → Block → TimedOrder
 as_written p block = record { problem = record { block = instrs_of block; profile = p }; numbers = numbers (instrs_of block) }
 
-abbrev pub as_found : Profile → Block → Found → TimedOrder
+abbrev pub as_found : Profile → Block → FoundOrder → TimedOrder
 as_found p block f = record { problem = record { block = instrs_of block; profile = p }; numbers = f.order.numbers }
 
 -- of the n-th block
-unfoldable pub index_entry : Profile → ℕ → Block → Found → List ℕ
+unfoldable pub index_entry : Profile → ℕ → Block → FoundOrder → List ℕ
 index_entry p n block f = index_row block.label (summary n block (as_written p block) (as_found p block f) f.bound)
 
-unfoldable pub block_entry : Profile → ℕ → Block → Found → List ℕ
+unfoldable pub block_entry : Profile → ℕ → Block → FoundOrder → List ℕ
 block_entry p n block f = block_text n block (as_written p block) (as_found p block f) f.bound f.reasons
 
-abbrev pub entry : Part → Profile → ℕ → Block → Found → List ℕ
+abbrev pub entry : Part → Profile → ℕ → Block → FoundOrder → List ℕ
 entry Row p n block f = index_entry p n block f
 entry Orders p n block f = block_entry p n block f
 
 -- of these blocks, before which n come
-abbrev pub entries : (ℕ → Block → Found → List ℕ) → ℕ → List Block → List Found → List ℕ
+abbrev pub entries : (ℕ → Block → FoundOrder → List ℕ) → ℕ → List Block → List FoundOrder → List ℕ
 entries entry n (b ∷ bs) (f ∷ fs) = entry (n + 1) b f ++ entries entry (n + 1) bs fs
 entries entry n (b ∷ bs) [] = []
 entries entry n [] fs = []
 
-abbrev pub summaries : Profile → ℕ → List Block → List Found → List Summary
+abbrev pub summaries : Profile → ℕ → List Block → List FoundOrder → List Summary
 summaries p n (b ∷ bs) (f ∷ fs) = summary (n + 1) b (as_written p b) (as_found p b f) f.bound ∷ summaries p (n + 1) bs fs
 summaries p n (b ∷ bs) [] = []
 summaries p n [] fs = []
@@ -335,9 +335,9 @@ abbrev pub page_head : ℕ → List Block → List ℕ
 page_head n blocks = PAGE_START.now ++ page_title n blocks ++ PAGE_HEAD.now
 
 -- the list of these blocks, before which n come, and their total
-abbrev pub index : Profile → ℕ → List Block → List Found → List ℕ
+abbrev pub index : Profile → ℕ → List Block → List FoundOrder → List ℕ
 index p n blocks found = entries (entry Row p) n blocks found ++ total_of_all (summaries p n blocks found) ++ codes "</table>\n"
 
 -- the list, and the blocks
-abbrev pub page_text : Profile → ℕ → List Block → List Found → List ℕ
+abbrev pub page_text : Profile → ℕ → List Block → List FoundOrder → List ℕ
 page_text p n blocks found = page_head n blocks ++ index p n blocks found ++ entries (entry Orders p) n blocks found

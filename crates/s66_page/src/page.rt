@@ -1,13 +1,13 @@
 ghost use Rattle.std.specs.Prelude.{◌≡◌, ◌<◌, ◌^◌, ◌++◌, OnOk, length};
 ghost use Rattle.s66_isa.specs.Lists.{tally, weigh};
 ghost use Rattle.s66_line.specs.Block.{instrs_of};
-ghost use Rattle.s66_page.specs.Found.{AreOf};
+ghost use Rattle.s66_page.specs.FoundOrders.{AreOf};
 ghost use Rattle.s66_page.specs.Page.{as_found, as_written, entries, entry, index, is_best, page_head, page_text, page_title, summaries, summary};
 ghost use Rattle.s66_page.specs.declared.summary.Summary.{Summary as SummaryOf};
 
 use crate::block::{push_block, push_index_row, push_total_row, summary_of};
 use crate::escape::push_escaped;
-use crate::found::Found;
+use crate::found_order::FoundOrder;
 use crate::start::{PAGE_HEAD, PAGE_START};
 use crate::summary::{Summary, Total};
 use crate::text::push_text;
@@ -32,7 +32,7 @@ fn push_entry(
     part: Part,
     number: usize,
     block: &Block,
-    found: &Found,
+    found: &FoundOrder,
 ) -> Result<(), AllocError>
     requires { found.now.order.block ≡ instrs_of block.now }
     ensures profile { timer.new ≡ timer.old }
@@ -56,7 +56,7 @@ fn push_entries(
     part: Part,
     before: usize,
     blocks: &[Block],
-    found: &[Found],
+    found: &[FoundOrder],
 ) -> Result<(), AllocError>
     requires before { before < 2 ^ 32 }
     requires found { AreOf blocks.now found.now }
@@ -79,7 +79,7 @@ fn push_entries(
 }
 
 /// The summary of the n-th block, from 1.
-fn summary_at(timer: &mut Timer, number: usize, block: &Block, found: &Found) -> Summary
+fn summary_at(timer: &mut Timer, number: usize, block: &Block, found: &FoundOrder) -> Summary
     requires { found.now.order.block ≡ instrs_of block.now }
     ensures profile { timer.new ≡ timer.old }
     ensures summary { result ≡ summary number block.now (as_written timer.old block.now) (as_found timer.old block.now found.now) found.now.bound }
@@ -91,7 +91,7 @@ fn summary_at(timer: &mut Timer, number: usize, block: &Block, found: &Found) ->
 }
 
 /// The total of these blocks, before which so many come.
-fn total_of(timer: &mut Timer, before: usize, blocks: &[Block], found: &[Found]) -> Total
+fn total_of(timer: &mut Timer, before: usize, blocks: &[Block], found: &[FoundOrder]) -> Total
     requires before { before < 2 ^ 32 }
     requires few { length blocks.now < 2 ^ 31 }
     requires found { AreOf blocks.now found.now }
@@ -162,7 +162,7 @@ fn push_index(
     timer: &mut Timer,
     before: usize,
     blocks: &[Block],
-    found: &[Found],
+    found: &[FoundOrder],
 ) -> Result<(), AllocError>
     requires before { before < 2 ^ 32 }
     requires few { length blocks.now < 2 ^ 31 }
@@ -185,7 +185,7 @@ pub fn push_page(
     timer: &mut Timer,
     before: usize,
     blocks: &[Block],
-    found: &[Found],
+    found: &[FoundOrder],
 ) -> Result<(), AllocError>
     requires before { before < 2 ^ 32 }
     requires few { length blocks.now < 2 ^ 31 }

@@ -7,19 +7,19 @@ use Rattle.s66_machine.specs.Ledger.{worker}
 use Rattle.s66_machine.specs.Recorded.{spends, spent_by}
 use Rattle.s66_machine.specs.Accounts.{Account, account_at}
 use Rattle.s66_machine.proofs.AccountLaws.{account-at, accounts-count}
-use Rattle.s66_ledger.specs.declared.entry.Entry.{Entry}
-use Rattle.s66_ledger.specs.declared.entry.Entry.TheVariants as entry
-use Rattle.s66_ledger.specs.declared.entry.Refusal.TheVariants as refusal
+use Rattle.s66_ledger.specs.declared.event_record.EventRecord.{EventRecord}
+use Rattle.s66_ledger.specs.declared.event_record.EventRecord.TheVariants as entry
+use Rattle.s66_ledger.specs.declared.event_record.Refusal.TheVariants as refusal
 use Rattle.s66_model.specs.Tree.{Vertex}
 use Rattle.s66_model.specs.Piece.{Terminal}
 use Rattle.s66_ledger.specs.HistoryEntries.{byte_count, line_count, entry_of, entries_of}
 use Rattle.s66_ledger.specs.Ledgers.{LedgerOf, events_of, account_summary}
 use Rattle.s66_pool.proofs.AfterCalls.{account-within}
 
-abbrev pub spent_in : Problem → ℕ → List Entry → ℕ
+abbrev pub spent_in : Problem → ℕ → List EventRecord → ℕ
 spent_in b w entries = spent_by w (map (λ e. entry_of b e [] []) entries)
 
-pub next-spent : (b : Problem) (w : ℕ) (entries : List Entry) (i : ℕ) (d : Entry) (n : ℕ) → i < length entries
+pub next-spent : (b : Problem) (w : ℕ) (entries : List EventRecord) (i : ℕ) (d : EventRecord) (n : ℕ) → i < length entries
     → (let stated = entry_of b (get_or entries i d) [] [] in n ≡ cond (eqb (worker stated.0) w) (spends stated.0 stated.1) 0)
     → n + spent_in b w (drop (i + 1) entries) ≡ spent_in b w (drop i entries)
 next-spent b w entries i d n lt spent =
@@ -28,7 +28,7 @@ next-spent b w entries i d n lt spent =
     omega (arith, cut, rest, spent)
 
 -- what an entry spends doesn't depend on its bytes
-bytes-aside : (b : Problem) (w : ℕ) (e : Entry) (bytes : List ℕ) (lines : List (Vertex Terminal)) → cond (eqb (worker (entry_of b e bytes lines).0) w) (spends (entry_of b e bytes lines).0 (entry_of b e bytes lines).1) 0 ≡ cond (eqb (worker (entry_of b e [] []).0) w) (spends (entry_of b e [] []).0 (entry_of b e [] []).1) 0
+bytes-aside : (b : Problem) (w : ℕ) (e : EventRecord) (bytes : List ℕ) (lines : List (Vertex Terminal)) → cond (eqb (worker (entry_of b e bytes lines).0) w) (spends (entry_of b e bytes lines).0 (entry_of b e bytes lines).1) 0 ≡ cond (eqb (worker (entry_of b e [] []).0) w) (spends (entry_of b e [] []).0 (entry_of b e [] []).1) 0
 bytes-aside b w (entry.Grant _ _) _ _ = refl
 bytes-aside b w (entry.Claim _ _) _ _ = refl
 bytes-aside b w (entry.Taken _ _ _ _ _ _) _ _ = refl
@@ -39,7 +39,7 @@ bytes-aside b w (entry.Offer _ _ _ _ _) _ _ = refl
 bytes-aside b w (entry.Back _ _ _) _ _ = refl
 bytes-aside b w (entry.Retire _) _ _ = refl
 
-entries-spent : (b : Problem) (w : ℕ) (entries : List Entry) (bytes : List ℕ) (lines : List (Vertex Terminal)) → spent_by w (entries_of b entries bytes lines) ≡ spent_in b w entries
+entries-spent : (b : Problem) (w : ℕ) (entries : List EventRecord) (bytes : List ℕ) (lines : List (Vertex Terminal)) → spent_by w (entries_of b entries bytes lines) ≡ spent_in b w entries
 entries-spent b w [] bytes lines = refl
 entries-spent b w (e ∷ es) bytes lines =
     omega (arith, bytes-aside b w e (take (byte_count e) bytes) (take (line_count e) lines), entries-spent b w es (drop (byte_count e) bytes) (drop (line_count e) lines))

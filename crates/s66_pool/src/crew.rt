@@ -14,7 +14,7 @@ use crate::worker::{Site, work_at};
 use s66_isa::Profile;
 use s66_line::Block;
 use s66_model::{Options, Rule, WORKERS_LIMIT};
-use s66_node::Marks;
+use s66_node::MarkTable;
 use s66_share::Hint;
 use std::alloc::AllocError;
 use std::sync::Wait;
@@ -41,7 +41,7 @@ pub fn work<'a, R: AllocGlobal + Threads + Wait + Sync, G: Gate + Sync>(
     ensures here { IfOk result (λ back. All (λ s. s.hub ≡ hub.now.id) back.items) }
     ensures err { IfErr result (λ e. AreSameSeats seats.entry.items e.1.items × All (λ s. s.hub ≡ hub.now.id) e.1.items) }
 {
-    let mut none = Marks::new(rt.alloc(), block, profile);
+    let mut none = MarkTable::new(rt.alloc(), block, profile);
     match work_by_marks(
         rt,
         hub,
@@ -66,7 +66,7 @@ pub(crate) fn work_by_marks<'a, R: AllocGlobal + Threads + Wait + Sync, G: Gate 
     profile: &Profile,
     rule: Rule,
     gate: &G,
-    grafted: &mut Marks<'_>,
+    grafted: &mut MarkTable<'_>,
 ) -> Result<(), AllocError>
     requires here { All (λ s. s.hub ≡ hub.now.id) seats.old.items }
     requires marks { grafted.old.problem ≡ record { block = instrs_of block.now; profile = profile.now } }

@@ -1,4 +1,4 @@
-use crate::known::Known;
+use crate::known_nodes::KnownNodes;
 use crate::shared_marks::SharedMarks;
 use s66_ledger::piece_splits;
 use s66_model::Rule;
@@ -13,7 +13,7 @@ use std::sync::Wait;
 pub(crate) struct Expander<'s, 'b, R> {
     rule: Rule,
     walk: Walk<'b>,
-    known: Known<'s, 'b, R>,
+    known: KnownNodes<'s, 'b, R>,
 }
 
 impl<'s, 'b, R> Model for Expander<'s, 'b, R> {
@@ -42,7 +42,7 @@ impl<'s, 'b, R: Wait> Expander<'s, 'b, R> {
         Expander {
             rule,
             walk: Walk::new(marks.block(), marks.profile()),
-            known: Known::new(alloc, rt, marks),
+            known: KnownNodes::new(alloc, rt, marks),
         }
     }
 

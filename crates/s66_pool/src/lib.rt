@@ -7,7 +7,7 @@ mod expander;
 mod gate;
 mod hub;
 mod incumbent;
-mod known;
+mod known_nodes;
 mod limits;
 mod locals;
 mod lone;

@@ -5,7 +5,7 @@ use s66_isa::Profile;
 use s66_ledger::{Answer, Ledger};
 use s66_line::Block;
 use s66_model::Options;
-use s66_node::{Marks, Walk};
+use s66_node::{MarkTable, Walk};
 use s66_time::Timed;
 use std::alloc::{AllocError, Global};
 use std::marker::Model;
@@ -17,11 +17,11 @@ pub struct LoneSearch<'a> {
     alloc: Global,
     walk: Walk<'a>,
     ledger: Ledger<'a>,
-    marks: Marks<'a>,
+    marks: MarkTable<'a>,
 }
 
 /// `Err` if memory has run out for a mark.
-fn all_kept(marks: &Marks<'_>) -> Result<(), AllocError> {
+fn all_kept(marks: &MarkTable<'_>) -> Result<(), AllocError> {
     if marks.lacks_memory() {
         return Err(AllocError);
     }
@@ -68,7 +68,7 @@ impl<'a> LoneSearch<'a> {
             alloc,
             walk,
             ledger,
-            marks: Marks::new(alloc, block, profile),
+            marks: MarkTable::new(alloc, block, profile),
         })
     }
 

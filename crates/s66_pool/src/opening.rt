@@ -11,15 +11,15 @@ ghost use Rattle.s66_ledger.specs.Ledgers.{account_summary};
 ghost use Rattle.s66_pool.specs.Hubs.{HaveSeats};
 
 use crate::seat::Seat;
-use s66_ledger::{Entry, Ledger};
+use s66_ledger::{EventRecord, Ledger};
 use std::alloc::{AllocError, Global};
 
 /// How many splits an entry spends, if it is the worker's.
-fn splits_in(entry: &Entry, w: u8) -> u32
+fn splits_in(entry: &EventRecord, w: u8) -> u32
     ensures { (b : Problem) → let stated = entry_of b entry.now [] [] in result ≡ (if worker stated.0 == w then spends stated.0 stated.1 else 0) }
 {
     match entry {
-        Entry::Taken { w: by, splits, .. } => { if *by == w { *splits } else { 0 } }
+        EventRecord::Taken { w: by, splits, .. } => { if *by == w { *splits } else { 0 } }
         _ => 0,
     }
 }

@@ -12,7 +12,7 @@ use s66_isa::Profile;
 use s66_ledger::{Answer, Ledger};
 use s66_line::Block;
 use s66_model::{Options, Rule};
-use s66_node::{Marks, Walk};
+use s66_node::{MarkTable, Walk};
 use s66_time::Timed;
 use std::alloc::{AllocError, Global};
 use std::sync::Wait;
@@ -44,7 +44,7 @@ fn search_by_workers<'a, R: AllocGlobal + Threads + Wait + Sync, G: Gate + Sync>
     profile: &Profile,
     rule: Rule,
     gate: &G,
-    marks: &mut Marks<'_>,
+    marks: &mut MarkTable<'_>,
 ) -> Result<Ledger<'a>, AllocError>
     requires workers { 1 ≤ ledger.workers }
     requires marks { marks.old.problem ≡ record { block = instrs_of block.now; profile = profile.now } }
@@ -130,7 +130,7 @@ pub fn run_from<R: AllocGlobal + Threads + Wait + Sync, G: Gate + Sync>(
     let mut ledger = Ledger::of_walk(alloc, &walk, options.rule, options.nodes, options.workers)?;
     ledger.offer_schedules(&mut walk)?;
     offer_first(&mut ledger, first)?;
-    let mut marks = Marks::new(alloc, block, profile);
+    let mut marks = MarkTable::new(alloc, block, profile);
     ledger.search(alloc, &mut walk, &mut marks, FIRST_SPLITS, 0)?;
     let rule = options.rule;
     let ledger = search_by_workers(rt, ledger, block, profile, rule, gate, &mut marks)?;

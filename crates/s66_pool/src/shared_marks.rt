@@ -13,7 +13,7 @@ use s66_dep::Set;
 use s66_isa::Profile;
 use s66_line::Block;
 use s66_model::Rule;
-use s66_node::{Entry, Marks, Name, Place, Walk};
+use s66_node::{MarkEntry, MarkTable, Name, NodePlace, Walk};
 use s66_share::SPINS;
 use s66_time::Mark;
 use std::alloc::{AllocError, Global};
@@ -34,7 +34,7 @@ const MIXER: u64 = 0xD6E8_FEB8_6659_FD93;
 /// A part whose word is 0 is at home, and its marks are of the key's problem, which each seat knows.
 struct Parts;
 
-impl<'b> TableRule<Marks<'b>, Marks<'b>, Marks<'b>> for Parts {
+impl<'b> TableRule<MarkTable<'b>, MarkTable<'b>, MarkTable<'b>> for Parts {
     ghost use Rattle.s66_pool.specs.Parts.{ArePartsOf};
 
     ghost holds = { ArePartsOf };
@@ -43,12 +43,12 @@ impl<'b> TableRule<Marks<'b>, Marks<'b>, Marks<'b>> for Parts {
 }
 
 /// What a worker uses the parts with. It takes no bytes.
-pub(crate) type Token<'b> = Seat<Marks<'b>, Marks<'b>>;
+pub(crate) type Token<'b> = Seat<MarkTable<'b>, MarkTable<'b>>;
 
 /// A new token knows the problem.
 struct Enters;
 
-impl<'b> Play<Marks<'b>, Marks<'b>> for Enters {
+impl<'b> Play<MarkTable<'b>, MarkTable<'b>> for Enters {
     ghost use Rattle.s66_pool.specs.Parts.{Entered};
 
     ghost then = { Entered };
@@ -57,7 +57,7 @@ impl<'b> Play<Marks<'b>, Marks<'b>> for Enters {
 /// The token takes a part, if no other has it.
 struct Takes;
 
-impl<'b> Play<Marks<'b>, Marks<'b>> for Takes {
+impl<'b> Play<MarkTable<'b>, MarkTable<'b>> for Takes {
     ghost use Rattle.s66_pool.specs.Parts.{Took};
 
     ghost then = { Took };
@@ -66,7 +66,7 @@ impl<'b> Play<Marks<'b>, Marks<'b>> for Takes {
 /// The token gives a part back.
 struct Gives;
 
-impl<'b> Play<Marks<'b>, Marks<'b>> for Gives {
+impl<'b> Play<MarkTable<'b>, MarkTable<'b>> for Gives {
     ghost use Rattle.s66_pool.specs.Parts.{Gave};
 
     ghost then = { Gave };
@@ -76,7 +76,7 @@ impl<'b> Play<Marks<'b>, Marks<'b>> for Gives {
 /// and the mark the prefix's.
 pub(crate) fn name_in(
     alloc: Global,
-    marks: &Marks<'_>,
+    marks: &MarkTable<'_>,
     walk: &Walk<'_>,
     pushed: &Set,
     mark: &Mark,
@@ -100,13 +100,13 @@ fn empty_parts<'b>(
     block: &'b Block<'b>,
     profile: &Profile,
     count: usize,
-) -> Result<Vec<Marks<'b>>, AllocError>
+) -> Result<Vec<MarkTable<'b>>, AllocError>
     ensures count { IfOk result (λ parts. length parts.items ≡ count) }
     ensures own { IfOk result (λ parts. All (λ p. p.problem ≡ record { block = instrs_of block.now; profile = profile.now }) parts.items) }
 {
     let mut parts = Vec::with_capacity(alloc, count)?;
     for _ in 0..count {
-        parts.push_reserved(Marks::with_limit(alloc, block, profile, PART_LIMIT));
+        parts.push_reserved(MarkTable::with_limit(alloc, block, profile, PART_LIMIT));
     }
     Ok(parts)
 }
@@ -118,7 +118,7 @@ fn empty_parts<'b>(
 pub(crate) struct SharedMarks<'b> {
     block: &'b Block<'b>,
     profile: Profile,
-    table: Table<Marks<'b>, Marks<'b>, Marks<'b>, Parts, Global>,
+    table: Table<MarkTable<'b>, MarkTable<'b>, MarkTable<'b>, Parts, Global>,
     ghost some: { 0 < table.shared.table_id.slots },
     ghost a_word_each: { table.shared.table_id.words ≡ table.shared.table_id.slots },
     ghost problem: { table.shared.key.problem ≡ record { block = instrs_of block.now; profile = profile } },
@@ -151,7 +151,7 @@ impl<'b> SharedMarks<'b> {
         };
         let words = vec![in alloc; 0; count]?;
         let parts = empty_parts(alloc, block, profile, count)?;
-        let key = Marks::new(alloc, block, profile);
+        let key = MarkTable::new(alloc, block, profile);
         match Table::new(alloc, words.as_slice(), parts, &key) {
             Ok((table, _)) => Ok(SharedMarks {
                 block,
@@ -270,8 +270,8 @@ impl<'b> SharedMarks<'b> {
         &self,
         rt: &R,
         token: &mut Token<'b>,
-        entry: Entry,
-        place: Place,
+        entry: MarkEntry,
+        place: NodePlace,
         rule: Rule,
     )
         requires here { IsAt self.now.table.shared.table_id self.now.table.shared.key token.old }
@@ -286,7 +286,7 @@ impl<'b> SharedMarks<'b> {
     }
 
     /// Takes over what a table knows, which is empty afterwards; by a rule that names nodes of the same piece alone, nothing.
-    pub(crate) fn take_in<R: Wait>(&self, rt: &R, grafted: &mut Marks<'_>, rule: Rule)
+    pub(crate) fn take_in<R: Wait>(&self, rt: &R, grafted: &mut MarkTable<'_>, rule: Rule)
         requires { grafted.old.problem ≡ self.now.table.shared.key.problem }
         ensures { grafted.new.problem ≡ grafted.old.problem }
     {

@@ -6,7 +6,7 @@ use Rattle.s66_source.specs.LeftAlone.{Reading}
 use Rattle.s66_source.specs.Printed.{Placed}
 use Rattle.s66_cert.specs.Document.{document_text}
 use Rattle.s66_command.specs.declared.strategy.Strategy.{Strategy}
-use Rattle.s66_page.specs.Found.{Found}
+use Rattle.s66_page.specs.FoundOrders.{FoundOrder}
 use Rattle.s66_text.specs.Answers.{Answer, AreAnswers, IsAnswer, document_under}
 use Rattle.s66_text.specs.KeptText.{given_by}
 use Rattle.s66_text.specs.OrderText.{placed_by}
@@ -22,7 +22,7 @@ use Rattle.s66_program.specs.declared.kept.Kept.{Kept}
 abbrev pub document_part : Strategy → Profile → ℕ → Block → Answer → List ℕ
 document_part strategy p n block a = document_text (document_under strategy.search.rule p block a)
 
-abbrev pub found_part : Strategy → Profile → ℕ → Block → Answer → List Found
+abbrev pub found_part : Strategy → Profile → ℕ → Block → Answer → List FoundOrder
 found_part strategy p n block a = found_by strategy.search.rule p block a ∷ []
 
 abbrev pub waits_part : (texts : Bool) → Strategy → Profile → ℕ → Block → Answer → List ℕ

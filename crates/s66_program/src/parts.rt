@@ -11,10 +11,10 @@ ghost use Rattle.s66_text.specs.OrderText.{placed_by};
 ghost use Rattle.s66_program.specs.Kept.{document_part, found_part, given_part, placed_part, waits_part};
 ghost use Rattle.s66_program.specs.Stored.{IsFor, answer_in};
 
-use crate::answers;
+use crate::answers::Found;
 use crate::kept::{BlockAnswer, Keep};
 use arrayvec::ArrayVec;
-use s66_page::Found;
+use s66_page::FoundOrder;
 use s66_reasons::push_reasons;
 use s66_source::Placed;
 use s66_text::{keeps_order, push_document, push_json_found, push_waits};
@@ -22,7 +22,7 @@ use s66_time::Timer;
 use std::alloc::{AllocError, Global};
 
 /// How an answer's block is to be printed.
-fn placing(answer: &answers::Found, trace: bool) -> Placed
+fn placing(answer: &Found, trace: bool) -> Placed
     ensures { (strategy : StrategyOf) (p : ProfileOf) (block : BlockOf) → IsFor strategy p block answer.now → result ≡ placed_by p trace block (answer_in answer.now) }
 {
     let Ok(order) = ArrayVec::try_from(answer.order().numbers()) else {
@@ -38,7 +38,7 @@ fn placing(answer: &answers::Found, trace: bool) -> Placed
 }
 
 /// How an answer's block is to be printed, or `None` if it stands.
-fn given(answer: &answers::Found, trace: bool, keep: bool) -> Option<Placed>
+fn given(answer: &Found, trace: bool, keep: bool) -> Option<Placed>
     ensures { (strategy : StrategyOf) (p : ProfileOf) (block : BlockOf) → IsFor strategy p block answer.now → result ≡ given_by p trace keep block (answer_in answer.now) }
 {
     let placed = placing(answer, trace);
@@ -111,19 +111,19 @@ pub(crate) struct Views {
     pub alloc: Global,
 }
 
-impl Keep<Found> for Views {
+impl Keep<FoundOrder> for Views {
     ghost part = { λ _. found_part };
 
     fn prints_documents(&self) -> bool {
         true
     }
 
-    fn keep(&self, parts: &mut Vec<Found>, answer: BlockAnswer) -> Result<(), AllocError> {
+    fn keep(&self, parts: &mut Vec<FoundOrder>, answer: BlockAnswer) -> Result<(), AllocError> {
         let order = answer.found.order().duplicate();
         let bound = answer.found.bound();
         let mut reasons = Vec::new(self.alloc);
         push_best_reasons(self.alloc, &mut reasons, answer)?;
-        parts.push(Found {
+        parts.push(FoundOrder {
             order,
             bound,
             reasons,

@@ -7,7 +7,7 @@ ghost use Rattle.s66_facts.specs.Marked.{is_marked};
 ghost use Rattle.s66_replay.specs.KeptPrefix.{AreNeeds};
 
 use arrayvec::ArrayVec;
-use s66_facts::Marks;
+use s66_facts::MarkedNumbers;
 use s66_isa::{BLOCK_LIMIT, Instr, Memory, Reg, has_register, is_memory_conflict};
 use std::marker::Model;
 
@@ -101,12 +101,12 @@ fn depends(block: &[Effects], earlier: usize, position: usize) -> bool
 }
 
 /// The numbers that the instruction at a position depends on.
-fn needs(block: &[Effects], position: usize) -> Marks
+fn needs(block: &[Effects], position: usize) -> MarkedNumbers
     requires few { length block.now ≤ BLOCK_LIMIT }
     requires within { position < length block.now }
     ensures { (m : ℕ) → 1 ≤ m → m ≤ BLOCK_LIMIT → is_marked result m ≡ depends block.now m (position + 1) }
 {
-    let mut needs = Marks::none();
+    let mut needs = MarkedNumbers::none();
     for earlier in 0..block.len() {
         if depends(block, earlier, position) {
             needs = needs.with((earlier + 1) as u8);
@@ -116,7 +116,7 @@ fn needs(block: &[Effects], position: usize) -> Marks
 }
 
 /// What each instruction of the block depends on.
-pub fn needs_of_all(block: &[Instr]) -> ArrayVec<Marks, BLOCK_LIMIT>
+pub fn needs_of_all(block: &[Instr]) -> ArrayVec<MarkedNumbers, BLOCK_LIMIT>
     requires { length block.now ≤ BLOCK_LIMIT }
     ensures { AreNeeds block.now result.items }
 {

@@ -8,7 +8,7 @@ use crate::past::Past;
 use crate::point::KeptPoint;
 use crate::timing::{next, next_point};
 use arrayvec::ArrayVec;
-use s66_facts::Marks;
+use s66_facts::MarkedNumbers;
 use s66_isa::{BLOCK_LIMIT, Instr, Kind, Profile, Row};
 use s66_model::Rule;
 use std::marker::Model;
@@ -19,8 +19,8 @@ pub struct Prefix {
     block: ArrayVec<Instr, BLOCK_LIMIT>,
     profile: Profile,
     rows: ArrayVec<Row, BLOCK_LIMIT>,
-    needs: ArrayVec<Marks, BLOCK_LIMIT>,
-    placed: Marks,
+    needs: ArrayVec<MarkedNumbers, BLOCK_LIMIT>,
+    placed: MarkedNumbers,
     numbers: Numbers,
     past: Past,
 }
@@ -73,7 +73,7 @@ impl Prefix {
             profile: *profile,
             rows: rows_of(block, profile),
             needs: needs_of_all(block),
-            placed: Marks::none(),
+            placed: MarkedNumbers::none(),
             numbers: ArrayVec::new(),
             past: Past::new(),
         }
@@ -94,7 +94,7 @@ impl Prefix {
             profile: self.profile,
             rows: rows_of(self.block.as_slice(), &self.profile),
             needs,
-            placed: Marks::none(),
+            placed: MarkedNumbers::none(),
             numbers: ArrayVec::new(),
             past: Past::new(),
         }
@@ -166,7 +166,7 @@ impl Prefix {
     }
 
     /// The numbers that the instruction of a number depends on.
-    fn needs(&self, n: u8) -> Marks
+    fn needs(&self, n: u8) -> MarkedNumbers
         requires { (1 ≤ n) × (n ≤ length self.now.problem.block) }
         ensures { (m : ℕ) → 1 ≤ m → m ≤ BLOCK_LIMIT → is_marked result m ≡ depends self.now.problem.block m n }
     {

@@ -8,7 +8,7 @@ use s66_dep::is_beginning;
 use s66_isa::Profile;
 use s66_line::Block;
 use s66_model::Rule;
-use s66_node::{Constant, Marks, Piece, Place, State, Walk, expand_dominated};
+use s66_node::{Constant, MarkTable, NodePlace, Piece, State, Walk, expand_dominated};
 use std::process::Abort;
 
 /// Checks how many splits a piece has, and how many of its nodes are dominated. Each other one is a leaf with this value.
@@ -32,7 +32,7 @@ fn check_piece<R: Abort>(
     leaf: u32,
     counts: (u32, u32),
     numbers: &[u8],
-    place: Place,
+    place: NodePlace,
 ) {
     check_counts(rt, piece, leaf, counts);
     for dominance in piece.dominances() {
@@ -58,7 +58,7 @@ fn check_late_reader<R: AllocGlobal + Abort>(rt: &R, block: &Block) {
     assert!(rt; is_beginning(block, &[1]));
     let profile = Profile::standard();
     let piece = expand_dominated(rt.alloc(), block, &profile, &[1], 40, 64).expect(rt, "memory");
-    check_piece(rt, &piece, 33, (9, 1), &[1, 2, 3], Place::Line(2));
+    check_piece(rt, &piece, 33, (9, 1), &[1, 2, 3], NodePlace::Line(2));
 }
 
 #[test]
@@ -70,7 +70,7 @@ fn expands_by_earlier_nodes(rt: HostRuntime) {
 }
 
 /// A piece over a prefix of one number of three alike, by marks that go on from piece to piece.
-fn piece_after<R: AllocGlobal + Abort>(rt: &R, block: &Block, marks: &mut Marks, n: u8) -> Piece
+fn piece_after<R: AllocGlobal + Abort>(rt: &R, block: &Block, marks: &mut MarkTable, n: u8) -> Piece
     requires { marks.old.problem ≡ record { block = instrs_of block.now; profile = standard } }
     ensures { marks.new.problem ≡ marks.old.problem }
 {
@@ -83,12 +83,12 @@ fn piece_after<R: AllocGlobal + Abort>(rt: &R, block: &Block, marks: &mut Marks,
 
 /// Checks pieces over prefixes of three alike: 2 1 of the second is dominated by a node of the first, which stands by then.
 fn check_standing<R: AllocGlobal + Abort>(rt: &R, block: &Block) {
-    let mut marks = Marks::new(rt.alloc(), block, &Profile::standard());
+    let mut marks = MarkTable::new(rt.alloc(), block, &Profile::standard());
     let first = piece_after(rt, block, &mut marks, 1);
     check_counts(rt, &first, 8, (3, 0));
     marks.settle(4, 20);
     let second = piece_after(rt, block, &mut marks, 2);
-    check_piece(rt, &second, 8, (2, 1), &[1, 2], Place::Node(20));
+    check_piece(rt, &second, 8, (2, 1), &[1, 2], NodePlace::Node(20));
 }
 
 #[test]

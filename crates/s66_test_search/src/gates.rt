@@ -55,7 +55,7 @@ impl Counts {
 
 /// Where a worker is at a gate.
 #[derive(Clone, Copy)]
-enum Place {
+enum GatePoint {
     AfterClaim,
     BeforeGraft,
 }
@@ -76,18 +76,18 @@ pub enum Meeting {
 
 impl Meeting {
     /// Whether a worker may go on from where it is.
-    fn lets_on(self, w: u8, place: Place, own: &Counts, other: &Counts) -> bool {
+    fn lets_on(self, w: u8, place: GatePoint, own: &Counts, other: &Counts) -> bool {
         match (self, place) {
-            (Meeting::OneGraft { held }, Place::BeforeGraft) => {
+            (Meeting::OneGraft { held }, GatePoint::BeforeGraft) => {
                 w != held || count_of(&own.pieces) != 1 || 0 < count_of(&other.claims)
             }
-            (Meeting::Claims, Place::AfterClaim) => {
+            (Meeting::Claims, GatePoint::AfterClaim) => {
                 count_of(&own.claims) != 1 || 0 < count_of(&other.claims)
             }
-            (Meeting::Grafts, Place::AfterClaim) => {
+            (Meeting::Grafts, GatePoint::AfterClaim) => {
                 0 < count_of(&own.nodes) || 2 <= count_of(&other.pieces)
             }
-            (Meeting::Grafts, Place::BeforeGraft) => {
+            (Meeting::Grafts, GatePoint::BeforeGraft) => {
                 count_of(&own.pieces) != 2 || 0 < count_of(&other.pieces)
             }
             _ => true,
@@ -160,7 +160,7 @@ impl<'a, R: Clock> Watch<'a, R> {
     }
 
     /// Waits until the worker may go on; once the limit was met, nobody waits.
-    fn hold(&self, w: u8, place: Place) {
+    fn hold(&self, w: u8, place: GatePoint) {
         let (own, other) = self.sides(w);
         for _ in 0..TURNS {
             if self.meeting.lets_on(w, place, own, other) || self.is_over() {
@@ -176,12 +176,12 @@ impl<'a, R: Clock> Gate for Watch<'a, R> {
     fn before_graft(&self, w: u8) {
         let (own, _) = self.sides(w);
         count(&own.pieces);
-        self.hold(w, Place::BeforeGraft);
+        self.hold(w, GatePoint::BeforeGraft);
     }
 
     fn after_claim(&self, w: u8, got: bool) {
         let (own, _) = self.sides(w);
         own.count_claim(got);
-        self.hold(w, Place::AfterClaim);
+        self.hold(w, GatePoint::AfterClaim);
     }
 }

@@ -5,7 +5,7 @@ use crate::blocks::{MULTIPLIES, as_written};
 use crate::expansion::piece_of;
 use crate::reading::{block_of, source_of};
 use s66_isa::Profile;
-use s66_ledger::{Entry, Event, Ledger, Offered, Reply, Ticket};
+use s66_ledger::{Event, EventRecord, Ledger, Offered, Reply, Ticket};
 use s66_line::Block;
 use s66_node::State;
 use std::process::Abort;
@@ -15,16 +15,16 @@ const BUDGET: u32 = 10;
 
 /// The search of two workers, of whom the first has the whole budget until it retires. Of the root's children, whose floors are
 /// equal, the newest is handed out.
-const HISTORY: &[Entry] = &[
-    Entry::Grant {
+const HISTORY: &[EventRecord] = &[
+    EventRecord::Grant {
         w: 1,
         splits: BUDGET,
     },
-    Entry::Claim {
+    EventRecord::Claim {
         w: 1,
         node: Some(0),
     },
-    Entry::Taken {
+    EventRecord::Taken {
         w: 1,
         node: 0,
         depth: 0,
@@ -32,29 +32,29 @@ const HISTORY: &[Entry] = &[
         nodes: 3,
         splits: 1,
     },
-    Entry::Offer {
+    EventRecord::Offer {
         w: 2,
         own: true,
         count: 3,
         time: 22,
         offered: Offered::NotLower { least: 22 },
     },
-    Entry::Grant { w: 2, splits: 0 },
-    Entry::Claim {
+    EventRecord::Grant { w: 2, splits: 0 },
+    EventRecord::Claim {
         w: 2,
         node: Some(3),
     },
-    Entry::Back {
+    EventRecord::Back {
         w: 2,
         node: 3,
         returned: true,
     },
-    Entry::Claim {
+    EventRecord::Claim {
         w: 2,
         node: Some(3),
     },
-    Entry::Retire { w: 1 },
-    Entry::Grant {
+    EventRecord::Retire { w: 1 },
+    EventRecord::Grant {
         w: 2,
         splits: BUDGET - 1,
     },

@@ -8,7 +8,7 @@ use arrayvec::ArrayVec;
 use s66_isa::Profile;
 use s66_line::Block;
 use s66_model::Rule;
-use s66_node::{Marks, Place, Walk};
+use s66_node::{MarkTable, NodePlace, Walk};
 use std::process::Abort;
 
 /// Each is ready from the first on.
@@ -19,7 +19,7 @@ enum Step {
     /// The mark of these numbers is kept as that of a line.
     Keep(&'static [u8], usize),
     /// What is found for these numbers.
-    Find(&'static [u8], Option<Place>),
+    Find(&'static [u8], Option<NodePlace>),
     /// Lines become nodes: the root this one, the others those from another on.
     Settle(u32, u32),
     /// Lines that didn't become nodes are forgotten.
@@ -31,16 +31,16 @@ enum Step {
 const DOMINATING: &[Step] = &[
     Step::Find(&[1, 3, 2], None),
     Step::Keep(&[1, 3, 2], 7),
-    Step::Find(&[1, 3, 2], Some(Place::Line(7))),
+    Step::Find(&[1, 3, 2], Some(NodePlace::Line(7))),
     Step::Find(&[1, 2, 3], None),
     // it dominates the first, which goes
     Step::Keep(&[1, 2, 3], 8),
-    Step::Find(&[1, 3, 2], Some(Place::Line(8))),
+    Step::Find(&[1, 3, 2], Some(NodePlace::Line(8))),
     // neither of these dominates the other
     Step::Keep(&[1, 2, 4], 9),
     Step::Keep(&[1, 4, 2], 10),
-    Step::Find(&[1, 2, 4], Some(Place::Line(9))),
-    Step::Find(&[1, 4, 2], Some(Place::Line(10))),
+    Step::Find(&[1, 2, 4], Some(NodePlace::Line(9))),
+    Step::Find(&[1, 4, 2], Some(NodePlace::Line(10))),
     Step::Find(&[1, 2], None),
 ];
 
@@ -52,7 +52,7 @@ const CLEARED: &[Step] = &[Step::Clear, Step::Find(&[1, 3, 2], None)];
 /// Earlier numbers alone are found by the rule of these.
 const EARLIER: &[Step] = &[
     Step::Keep(&[1, 2, 3], 1),
-    Step::Find(&[1, 3, 2], Some(Place::Line(1))),
+    Step::Find(&[1, 3, 2], Some(NodePlace::Line(1))),
     Step::Find(&[1, 2, 3], None),
 ];
 
@@ -63,13 +63,13 @@ const SETTLED: &[Step] = &[
     Step::Keep(&[1, 2, 3], 5),
     Step::Settle(9, 40),
     Step::Keep(&[1, 2, 4], 2),
-    Step::Find(&[1], Some(Place::Node(9))),
-    Step::Find(&[1, 2], Some(Place::Node(40))),
-    Step::Find(&[1, 3, 2], Some(Place::Node(44))),
-    Step::Find(&[1, 2, 4], Some(Place::Line(2))),
+    Step::Find(&[1], Some(NodePlace::Node(9))),
+    Step::Find(&[1, 2], Some(NodePlace::Node(40))),
+    Step::Find(&[1, 3, 2], Some(NodePlace::Node(44))),
+    Step::Find(&[1, 2, 4], Some(NodePlace::Line(2))),
     Step::ForgetLines,
     Step::Find(&[1, 2, 4], None),
-    Step::Find(&[1, 3, 2], Some(Place::Node(44))),
+    Step::Find(&[1, 3, 2], Some(NodePlace::Node(44))),
 ];
 
 /// The walk at these numbers of a block, under the standard profile.
@@ -84,11 +84,11 @@ fn walk_at<'a, R: Abort>(rt: &R, block: &'a Block<'a>, numbers: &[u8]) -> Walk<'
 /// The place that is found for these numbers.
 fn found<R: Abort>(
     rt: &R,
-    marks: &Marks,
+    marks: &MarkTable,
     block: &Block,
     rule: Rule,
     numbers: &[u8],
-) -> Option<Place>
+) -> Option<NodePlace>
     requires { marks.now.problem ≡ record { block = instrs_of block.now; profile = standard } }
 {
     match marks.find(&walk_at(rt, block, numbers), rule) {
@@ -98,7 +98,7 @@ fn found<R: Abort>(
 }
 
 /// Does a step by a rule, and checks what is found.
-fn do_step<R: Abort>(rt: &R, marks: &mut Marks, block: &Block, rule: Rule, step: &Step)
+fn do_step<R: Abort>(rt: &R, marks: &mut MarkTable, block: &Block, rule: Rule, step: &Step)
     requires { marks.old.problem ≡ record { block = instrs_of block.now; profile = standard } }
     ensures { marks.new.problem ≡ marks.old.problem }
 {
@@ -117,7 +117,7 @@ fn do_step<R: Abort>(rt: &R, marks: &mut Marks, block: &Block, rule: Rule, step:
 }
 
 /// Does some steps by a rule.
-fn do_steps<R: Abort>(rt: &R, marks: &mut Marks, block: &Block, rule: Rule, steps: &[Step])
+fn do_steps<R: Abort>(rt: &R, marks: &mut MarkTable, block: &Block, rule: Rule, steps: &[Step])
     requires { marks.old.problem ≡ record { block = instrs_of block.now; profile = standard } }
     ensures { marks.new.problem ≡ marks.old.problem }
 {
@@ -129,7 +129,7 @@ fn do_steps<R: Abort>(rt: &R, marks: &mut Marks, block: &Block, rule: Rule, step
 /// Checks which marks of a block of the late reader are found.
 fn check_late_reader<R: AllocGlobal + Abort>(rt: &R, block: &Block) {
     let profile = Profile::standard();
-    let mut marks = Marks::new(rt.alloc(), block, &profile);
+    let mut marks = MarkTable::new(rt.alloc(), block, &profile);
     do_steps(rt, &mut marks, block, Rule::ClampedStanding, DOMINATING);
     do_steps(rt, &mut marks, block, Rule::NoneNamed, UNNAMED);
     do_steps(rt, &mut marks, block, Rule::ClampedStanding, CLEARED);
@@ -149,19 +149,19 @@ const BEFORE_MOVES: &[Step] = &[
 
 /// Entries go with their nodes, the last first, and no more are kept than a table is made for.
 const MOVED_TO: &[Step] = &[
-    Step::Find(&[1, 2, 4], Some(Place::Line(6))),
-    Step::Find(&[1, 3, 2], Some(Place::Line(5))),
+    Step::Find(&[1, 2, 4], Some(NodePlace::Line(6))),
+    Step::Find(&[1, 3, 2], Some(NodePlace::Line(5))),
     Step::Find(&[1], None),
 ];
 
 const MOVED_FROM: &[Step] = &[
     Step::Find(&[1, 2, 4], None),
     Step::Keep(&[1, 2, 4], 7),
-    Step::Find(&[1, 2, 4], Some(Place::Line(7))),
+    Step::Find(&[1, 2, 4], Some(NodePlace::Line(7))),
 ];
 
 /// Moves the entries of a table to another one, the last first.
-fn move_entries(from: &mut Marks, to: &mut Marks, rule: Rule)
+fn move_entries(from: &mut MarkTable, to: &mut MarkTable, rule: Rule)
     requires { to.old.problem ≡ from.old.problem }
     ensures from { from.new.problem ≡ from.old.problem }
     ensures to { to.new.problem ≡ to.old.problem }
@@ -177,8 +177,8 @@ fn move_entries(from: &mut Marks, to: &mut Marks, rule: Rule)
 fn check_moved<R: AllocGlobal + Abort>(rt: &R, block: &Block) {
     let rule = Rule::ClampedStanding;
     let profile = Profile::standard();
-    let mut own = Marks::new(rt.alloc(), block, &profile);
-    let mut two = Marks::with_limit(rt.alloc(), block, &profile, 2);
+    let mut own = MarkTable::new(rt.alloc(), block, &profile);
+    let mut two = MarkTable::with_limit(rt.alloc(), block, &profile, 2);
     do_steps(rt, &mut own, block, rule, BEFORE_MOVES);
     move_entries(&mut own, &mut two, rule);
     do_steps(rt, &mut two, block, rule, MOVED_TO);
@@ -205,7 +205,7 @@ fn numbers_of(bits: u32) -> ArrayVec<u8, 7> {
 }
 
 /// Keeps the mark of each set of seven numbers, as that of the line with the set's number.
-fn keep_sets<R: Abort>(rt: &R, marks: &mut Marks, block: &Block)
+fn keep_sets<R: Abort>(rt: &R, marks: &mut MarkTable, block: &Block)
     requires { marks.old.problem ≡ record { block = instrs_of block.now; profile = standard } }
     ensures { marks.new.problem ≡ marks.old.problem }
 {
@@ -219,12 +219,12 @@ fn keep_sets<R: Abort>(rt: &R, marks: &mut Marks, block: &Block)
 /// Checks that a mark of each set of seven numbers is found.
 fn check_sets<R: AllocGlobal + Abort>(rt: &R, block: &Block) {
     let rule = Rule::ClampedStanding;
-    let mut marks = Marks::new(rt.alloc(), block, &Profile::standard());
+    let mut marks = MarkTable::new(rt.alloc(), block, &Profile::standard());
     keep_sets(rt, &mut marks, block);
     for set in 0..128u32 {
         let numbers = numbers_of(2 * set);
         let place = found(rt, &marks, block, rule, numbers.as_slice());
-        assert!(rt; place == Some(Place::Line(set)), "{set}");
+        assert!(rt; place == Some(NodePlace::Line(set)), "{set}");
     }
 }
 

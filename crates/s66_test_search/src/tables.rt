@@ -11,7 +11,7 @@ use s66_isa::Profile;
 use s66_ledger::{Event, Ledger, Reply, Ticket};
 use s66_line::Block;
 use s66_model::Rule;
-use s66_node::{Constant, Marks, Piece, Walk};
+use s66_node::{Constant, MarkTable, Piece, Walk};
 use std::process::Abort;
 
 /// More splits than the whole tree of three alike has.
@@ -42,7 +42,7 @@ fn piece_of<R: AllocGlobal + Abort>(
     rt: &R,
     block: &Block,
     ticket: &Ticket,
-    marks: &mut Marks,
+    marks: &mut MarkTable,
     allowance: u32,
 ) -> Piece
     requires { marks.old.problem ≡ record { block = instrs_of block.now; profile = standard } }
@@ -68,7 +68,7 @@ enum Habit {
 }
 
 /// Does to a table what its worker does after a piece whose root is this node, and whose other nodes are those from `first` on.
-fn end_piece(marks: &mut Marks, habit: Habit, root: u32, first: u32)
+fn end_piece(marks: &mut MarkTable, habit: Habit, root: u32, first: u32)
     ensures { marks.new.problem ≡ marks.old.problem }
 {
     match habit {
@@ -85,7 +85,7 @@ fn end_piece(marks: &mut Marks, habit: Habit, root: u32, first: u32)
 fn hand_in<R: AllocGlobal + Abort>(
     rt: &R,
     ledger: &mut Ledger,
-    marks: &mut Marks,
+    marks: &mut MarkTable,
     block: &Block,
     habit: Habit,
     allowance: u32,
@@ -119,7 +119,7 @@ fn search_by<'a, R: AllocGlobal + Abort>(
     ensures { result.workers ≡ 1 }
 {
     let mut ledger = open_ledger(rt, block);
-    let mut marks = Marks::with_limit(rt.alloc(), block, &Profile::standard(), limit);
+    let mut marks = MarkTable::with_limit(rt.alloc(), block, &Profile::standard(), limit);
     for _ in 0..pieces {
         hand_in(rt, &mut ledger, &mut marks, block, habit, allowance);
     }

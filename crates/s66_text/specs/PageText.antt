@@ -5,7 +5,7 @@ use Rattle.s66_line.specs.Block.{instrs_of, Block}
 use Rattle.s66_source.specs.LeftAlone.{Reading}
 use Rattle.s66_model.specs.declared.rule.Rule.{Rule}
 use Rattle.s66_command.specs.declared.strategy.Strategy.{Strategy}
-use Rattle.s66_page.specs.Found.{Found}
+use Rattle.s66_page.specs.FoundOrders.{FoundOrder}
 use Rattle.s66_page.specs.Page.{page_text}
 use Rattle.s66_text.specs.Answers.{Answer}
 use Rattle.s66_text.specs.declared.outcome.Status.{Status}
@@ -14,7 +14,7 @@ use Rattle.s66_text.specs.OfAnswers.{IsOfAnswers}
 use Rattle.s66_text.specs.Shown.{before, shown}
 
 -- what a page shows of an answer to a block: its order, its bound, and why no order is faster if it is best
-abbrev pub found_by : Rule → Profile → Block → Answer → Found
+abbrev pub found_by : Rule → Profile → Block → Answer → FoundOrder
 found_by rule p block a =
     record {
       order = record { block = instrs_of block; numbers = a.order };
@@ -22,7 +22,7 @@ found_by rule p block a =
       reasons = best_reasons rule p block a;
     }
 
-abbrev pub all_found : Rule → Profile → List Block → List Answer → List Found
+abbrev pub all_found : Rule → Profile → List Block → List Answer → List FoundOrder
 all_found rule p (block ∷ blocks) (a ∷ answers) = found_by rule p block a ∷ all_found rule p blocks answers
 all_found rule p blocks answers = []
 

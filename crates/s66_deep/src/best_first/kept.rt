@@ -36,7 +36,7 @@ pub struct Key {
 
 /// A prefix that is kept: its key, and the place of the next one in its list.
 #[derive(Clone, Copy)]
-struct Entry {
+struct KeptPrefix {
     key: Key,
     next: u32,
 }
@@ -55,7 +55,7 @@ pub struct Sought {
 /// Nothing is promised of what is in which list: who looks for a set compares it with that of each entry.
 #[derive(Drop)]
 pub struct Kept {
-    entries: Vec<Entry>,
+    entries: Vec<KeptPrefix>,
     waits: Vec<Waits>,
     /// Whether a kind has more than two units, of which the words don't tell all: then marks are kept too.
     has_marks: bool,
@@ -71,7 +71,7 @@ fn list_of(pushed: &Set, lists: usize) -> usize {
 }
 
 /// Puts the entry of a place first in its list.
-fn put(entry: &mut Entry, firsts: &mut [u32], place: u32) {
+fn put(entry: &mut KeptPrefix, firsts: &mut [u32], place: u32) {
     let list = list_of(&entry.key.pushed, firsts.len());
     if list < firsts.len() {
         entry.next = firsts[list];
@@ -80,7 +80,7 @@ fn put(entry: &mut Entry, firsts: &mut [u32], place: u32) {
 }
 
 /// Puts each entry into its list; all lists are empty before.
-fn put_all(entries: &mut [Entry], firsts: &mut [u32])
+fn put_all(entries: &mut [KeptPrefix], firsts: &mut [u32])
     requires { length entries.old ≤ KEPT_LIMIT }
 {
     for place in 0..entries.len() {
@@ -208,7 +208,7 @@ impl Kept {
         if place >= self.firsts.len() {
             self.double_lists()?;
         }
-        let mut entry = Entry {
+        let mut entry = KeptPrefix {
             key: one.key,
             next: NONE,
         };

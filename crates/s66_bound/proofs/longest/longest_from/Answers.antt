@@ -4,16 +4,16 @@ use Rattle.s66_model.specs.Timing.{row_at}
 use Rattle.s66_model.specs.Leaves.{tail}
 use Rattle.s66_model.specs.Tails.{walk_to}
 use Rattle.s66_model.proofs.TailTable.{table-step}
-use Rattle.s66_bound.specs.declared.entry.Entry.{Entry}
-use Rattle.s66_bound.proofs.EntryTables.{entry-at}
+use Rattle.s66_bound.specs.declared.cost.Cost.{Cost}
+use Rattle.s66_bound.proofs.CostTables.{cost-at}
 use Rattle.s66_bound.proofs.LongestWalks.{walks-back, greatest-next}
 use Rattle.s66_bound.proofs.longest.longest_from.Goals as goal
 
 pub loop-later-init : goal.loop-later-init
 loop-later-init c = λ b are known.
     let n = c.args.place + 1 in
-    let first = entry-at b c.args.entries.now c.args.place c.index-entries-place.result are c.requires.place c.index-entries-place.is in
-    omega (arith, ap (λ (e : Entry). e.tail) c.index-entries-place.is, first.tail, walks-back b n n (omega arith))
+    let first = cost-at b c.args.costs.now c.args.place c.index-costs-place.result are c.requires.place c.index-costs-place.is in
+    omega (arith, ap (λ (e : Cost). e.tail) c.index-costs-place.is, first.tail, walks-back b n n (omega arith))
 
 pub loop-later-preserved : goal.loop-later-preserved
 loop-later-preserved c = λ b are known.

@@ -11,6 +11,6 @@ decreases-loop-place l = l.place
 abbrev pub invariant-loop-place : goal.invariant-loop-place
 invariant-loop-place l = record {
   size : length l.longest ≡ BLOCK_LIMIT;
-  within : l.place ≤ length l.entries;
-  known : (b : Problem) → AreCosts b l.entries → (n : ℕ) → l.place < n → n ≤ length b.block → get_or l.longest (n - 1) 0 ≡ longest_tail b n;
+  within : l.place ≤ length l.costs;
+  known : (b : Problem) → AreCosts b l.costs → (n : ℕ) → l.place < n → n ≤ length b.block → get_or l.longest (n - 1) 0 ≡ longest_tail b n;
 }

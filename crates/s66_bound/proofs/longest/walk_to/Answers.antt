@@ -2,7 +2,7 @@ use Rattle.std.proofs.Common.{ℕ, ◌≡◌, ◌+◌, ◌-◌, sym, ap, arith, 
 use Rattle.s66_model.specs.Timing.{row_at}
 use Rattle.s66_model.specs.Leaves.{link}
 use Rattle.s66_model.proofs.TailTable.{walk-none, walk-some, link-small, tail-fits}
-use Rattle.s66_bound.proofs.EntryTables.{entry-at}
+use Rattle.s66_bound.proofs.CostTables.{cost-at}
 use Rattle.s66_bound.proofs.longest.walk_to.Goals as goal
 
 -- the place of the number after a place
@@ -16,8 +16,8 @@ overflow_add-result c =
     let m = c.args.later + 1 in
     let same : c.link-link.result ≡ link (row_at b n) (row_at b m) =
     c.link-link.ensures (row_at b n) (row_at b m)
-    (entry-at b c.args.entries.now c.args.place c.index-entries-place.result are (omega arith) c.index-entries-place.is)
-    (entry-at b c.args.entries.now c.args.later c.index-entries-later.result are (omega arith) c.index-entries-later.is)
+    (cost-at b c.args.costs.now c.args.place c.index-costs-place.result are (omega arith) c.index-costs-place.is)
+    (cost-at b c.args.costs.now c.args.later c.index-costs-later.result are (omega arith) c.index-costs-later.is)
     in
     omega (arith, same, link-small b n m, tail-fits b m (omega (arith, are.count)), known m (omega arith) (omega (arith, are.count)), ap (λ k. get_or c.args.longest.now k 0) (back c.args.later))
 
@@ -27,8 +27,8 @@ returns-then-link-eq0 c = λ b are known.
     let m = c.args.later + 1 in
     let same : c.link-link.result ≡ link (row_at b n) (row_at b m) =
     c.link-link.ensures (row_at b n) (row_at b m)
-    (entry-at b c.args.entries.now c.args.place c.index-entries-place.result are (omega arith) c.index-entries-place.is)
-    (entry-at b c.args.entries.now c.args.later c.index-entries-later.result are (omega arith) c.index-entries-later.is)
+    (cost-at b c.args.costs.now c.args.place c.index-costs-place.result are (omega arith) c.index-costs-place.is)
+    (cost-at b c.args.costs.now c.args.later c.index-costs-later.result are (omega arith) c.index-costs-later.is)
     in
     sym (walk-none b n m (omega (arith, same, c.if-link-eq0.true)))
 
@@ -38,7 +38,7 @@ returns-else-link-eq0 c = λ b are known.
     let m = c.args.later + 1 in
     let same : c.link-link.result ≡ link (row_at b n) (row_at b m) =
     c.link-link.ensures (row_at b n) (row_at b m)
-    (entry-at b c.args.entries.now c.args.place c.index-entries-place.result are (omega arith) c.index-entries-place.is)
-    (entry-at b c.args.entries.now c.args.later c.index-entries-later.result are (omega arith) c.index-entries-later.is)
+    (cost-at b c.args.costs.now c.args.place c.index-costs-place.result are (omega arith) c.index-costs-place.is)
+    (cost-at b c.args.costs.now c.args.later c.index-costs-later.result are (omega arith) c.index-costs-later.is)
     in
     omega (arith, same, known m (omega arith) (omega (arith, are.count)), ap (λ k. get_or c.args.longest.now k 0) (back c.args.later), walk-some b n m (omega arith) (omega (arith, same, c.if-link-eq0.false)))

@@ -5,20 +5,20 @@ use Rattle.s66_model.specs.Leaves.{tail, link, is_linked}
 use Rattle.s66_model.specs.Tails.{longest_tail}
 use Rattle.s66_model.proofs.TailTable.{link-small, tail-fits}
 use Rattle.s66_bound.specs.InstructionCosts.{IsCostOf}
-use Rattle.s66_bound.proofs.EntryOfNumber.{entry-of}
+use Rattle.s66_bound.proofs.CostOfNumber.{cost-of}
 use Rattle.s66_bound.proofs.printed.goes_on.Goals.{then-from-longest-via-then-from-longest, then-from-longest-via-else-from-longest+then-other-number}
 use Rattle.s66_bound.proofs.printed.goes_on.Goals as goal
 
 pub overflow_add-result : goal.overflow_add-result
 overflow_add-result c =
-    let (b, entries, tables) = c.requires.known in
+    let (b, costs, tables) = c.requires.known in
     let (low, high, other_low, other_high) = c.requires.numbers in
     let linked : c.link-link.result ≡ link (row_at b c.args.number) (row_at b c.args.other) =
     c.link-link.ensures (row_at b c.args.number) (row_at b c.args.other)
-    (entry-of b c.args.entries.now c.args.number c.index-entries-number.result entries low high c.index-entries-number.is)
-    (entry-of b c.args.entries.now c.args.other c.index-entries-other.result entries other_low other_high c.index-entries-other.is)
+    (cost-of b c.args.costs.now c.args.number c.index-costs-number.result costs low high c.index-costs-number.is)
+    (cost-of b c.args.costs.now c.args.other c.index-costs-other.result costs other_low other_high c.index-costs-other.is)
     in
-    omega (arith, linked, link-small b c.args.number c.args.other, tables.longest c.args.other other_low (omega (arith, other_high, entries.count)), tail-fits b c.args.other (omega (arith, entries.count, c.requires.few)))
+    omega (arith, linked, link-small b c.args.number c.args.other, tables.longest c.args.other other_low (omega (arith, other_high, costs.count)), tail-fits b c.args.other (omega (arith, costs.count, c.requires.few)))
 
 -- the walk from n ends with its tail
 abbrev ends : Problem → ℕ → Bool
@@ -29,12 +29,12 @@ abbrev keeps : Problem → ℕ → ℕ → Bool
 keeps b n m = eqb (link (row_at b n) (row_at b m) + longest_tail b m) (longest_tail b n)
 
 pub returns-then-from-longest : goal.returns-then-from-longest
-returns-then-from-longest c = λ b entries tables.
+returns-then-from-longest c = λ b costs tables.
     let n : ℕ = c.args.number in
     let m : ℕ = c.args.other in
     let (low, high, other_low, other_high) = c.requires.numbers in
-    let from : IsCostOf (row_at b n) c.index-entries-number.result = entry-of b c.args.entries.now n c.index-entries-number.result entries low high c.index-entries-number.is in
-    let own = tables.longest n low (omega (arith, high, entries.count)) in
+    let from : IsCostOf (row_at b n) c.index-costs-number.result = cost-of b c.args.costs.now n c.index-costs-number.result costs low high c.index-costs-number.is in
+    let own = tables.longest n low (omega (arith, high, costs.count)) in
     elim c.then-from-longest.branch [
       | then-from-longest-via-then-from-longest w ↦
           sym (and_left (not (ends b n)) (is_linked b n m && keeps b n m) (not_from_true (ends b n) (eq-eqb (tail (row_at b n)) (longest_tail b n) (sym from.tail ∙ (w.if-from-longest.true ∙ own)))))
@@ -46,14 +46,14 @@ last-counts : (x y z : Bool) → x ≡ true → y ≡ true → z ≡ (x && (y &&
 last-counts x y z first second = rw (first, second) refl
 
 pub returns-then-link-gt0 : goal.returns-then-link-gt0
-returns-then-link-gt0 c = λ b entries tables.
+returns-then-link-gt0 c = λ b costs tables.
     let n : ℕ = c.args.number in
     let m : ℕ = c.args.other in
     let (low, high, other_low, other_high) = c.requires.numbers in
-    let from : IsCostOf (row_at b n) c.index-entries-number.result = entry-of b c.args.entries.now n c.index-entries-number.result entries low high c.index-entries-number.is in
-    let to : IsCostOf (row_at b m) c.index-entries-other.result = entry-of b c.args.entries.now m c.index-entries-other.result entries other_low other_high c.index-entries-other.is in
-    let own = tables.longest n low (omega (arith, high, entries.count)) in
-    let others = tables.longest m other_low (omega (arith, other_high, entries.count)) in
+    let from : IsCostOf (row_at b n) c.index-costs-number.result = cost-of b c.args.costs.now n c.index-costs-number.result costs low high c.index-costs-number.is in
+    let to : IsCostOf (row_at b m) c.index-costs-other.result = cost-of b c.args.costs.now m c.index-costs-other.result costs other_low other_high c.index-costs-other.is in
+    let own = tables.longest n low (omega (arith, high, costs.count)) in
+    let others = tables.longest m other_low (omega (arith, other_high, costs.count)) in
     let linked = c.link-link.ensures (row_at b n) (row_at b m) from to in
     let same : eqb (c.link-link.result + get_or c.args.tables.now.longest (m - 1) 0) (get_or c.args.tables.now.longest (n - 1) 0) ≡ keeps b n m = rw (linked, others, own) refl in
     same
@@ -62,12 +62,12 @@ returns-then-link-gt0 c = λ b entries tables.
     (and_from (ltb n m) (ltb 0 (link (row_at b n) (row_at b m))) (lt-ltb n m (omega (arith, c.if-other-number.false))) (lt-ltb 0 (link (row_at b n) (row_at b m)) (omega (arith, linked, c.if-link-gt0.true))))
 
 pub returns-else-link-gt0 : goal.returns-else-link-gt0
-returns-else-link-gt0 c = λ b entries tables.
+returns-else-link-gt0 c = λ b costs tables.
     let n : ℕ = c.args.number in
     let m : ℕ = c.args.other in
     let (low, high, other_low, other_high) = c.requires.numbers in
-    let from : IsCostOf (row_at b n) c.index-entries-number.result = entry-of b c.args.entries.now n c.index-entries-number.result entries low high c.index-entries-number.is in
-    let to : IsCostOf (row_at b m) c.index-entries-other.result = entry-of b c.args.entries.now m c.index-entries-other.result entries other_low other_high c.index-entries-other.is in
+    let from : IsCostOf (row_at b n) c.index-costs-number.result = cost-of b c.args.costs.now n c.index-costs-number.result costs low high c.index-costs-number.is in
+    let to : IsCostOf (row_at b m) c.index-costs-other.result = cost-of b c.args.costs.now m c.index-costs-other.result costs other_low other_high c.index-costs-other.is in
     let linked = c.link-link.ensures (row_at b n) (row_at b m) from to in
     le-ltb 0 c.link-link.result (omega (arith, c.if-link-gt0.false))
     ∙ sym (and_right (not (ends b n)) (is_linked b n m && keeps b n m) (and_left (is_linked b n m) (keeps b n m) (and_right (ltb n m) (ltb 0 (link (row_at b n) (row_at b m))) (le-ltb 0 (link (row_at b n) (row_at b m)) (omega (arith, linked, c.if-link-gt0.false))))))

@@ -12,18 +12,18 @@ goes_on-requires-clause-numbers c =
 
 pub push-requires-then-goes_on : goal.push-requires-then-goes_on
 push-requires-then-goes_on c =
-    let (b, entries, tables) = c.requires.known in
+    let (b, costs, tables) = c.requires.known in
     let here = c.loop-number.invariant.within c.in-Some.number (subst (λ ns. Among c.in-Some.number ns) (sym c.in-Some.ensures.some) (inl refl)) in
-    let on : goes_on b c.loop-number.last c.in-Some.number ≡ true = sym (c.if-goes_on.ensures b entries tables) in
+    let on : goes_on b c.loop-number.last c.in-Some.number ≡ true = sym (c.if-goes_on.ensures b costs tables) in
     let (past, keeps_it, lt) = goes-parts b c.loop-number.last c.in-Some.number on in
     (omega arith, omega (arith, c.loop-number.invariant.few, lt, here.1, c.requires.few))
 
 pub loop-number-preserved-then-goes_on : goal.loop-number-preserved-then-goes_on
 loop-number-preserved-then-goes_on c =
-    let (b, entries, tables) = c.requires.known in
+    let (b, costs, tables) = c.requires.known in
     let n : ℕ = c.in-Some.number in
     let here = c.loop-number.invariant.within n (subst (λ ns. Among n ns) (sym c.in-Some.ensures.some) (inl refl)) in
-    let (past, keeps_it, lt) = goes-parts b c.loop-number.last n (sym (c.if-goes_on.ensures b entries tables)) in
+    let (past, keeps_it, lt) = goes-parts b c.loop-number.last n (sym (c.if-goes_on.ensures b costs tables)) in
     let numbers : List ℕ = c.loop-number.numbers.items in
     let left : List ℕ = numbers_in c.pop_first.new.self in
     record {

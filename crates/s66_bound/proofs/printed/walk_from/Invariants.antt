@@ -9,10 +9,10 @@ use Rattle.s66_bound.proofs.printed.walk_from.Given as goal
 
 abbrev pub invariant-loop-number : goal.invariant-loop-number
 invariant-loop-number l = record {
-  range : (1 ≤ l.last) × (l.last ≤ length l.entries);
+  range : (1 ≤ l.last) × (l.last ≤ length l.costs);
   few : length l.numbers.items ≤ l.last;
-  within : (n : ℕ) → Among n (numbers_in l.others) → (1 ≤ n) × (n ≤ length l.entries);
-  walked : (b : Problem) → AreCosts b l.entries → IsTables b l.tables → l.numbers.items ++ walk_over b l.last (numbers_in l.others) ≡ l.first ∷ walk_over b l.first (numbers_in l.fn.rest);
+  within : (n : ℕ) → Among n (numbers_in l.others) → (1 ≤ n) × (n ≤ length l.costs);
+  walked : (b : Problem) → AreCosts b l.costs → IsTables b l.tables → l.numbers.items ++ walk_over b l.last (numbers_in l.others) ≡ l.first ∷ walk_over b l.first (numbers_in l.fn.rest);
 }
 
 abbrev pub decreases-loop-number : goal.decreases-loop-number

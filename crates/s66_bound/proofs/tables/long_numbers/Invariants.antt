@@ -7,4 +7,4 @@ use Rattle.s66_bound.specs.InstructionCosts.{AreCosts}
 use Rattle.s66_bound.proofs.tables.long_numbers.Given as goal
 
 abbrev pub invariant-loop-place : goal.invariant-loop-place
-invariant-loop-place l = (b : Problem) → AreCosts b l.entries → (m : ℕ) → has m (numbers_in l.long) ≡ within (λ n. (row_at b n).parcels == 2) (l.place + 1) m
+invariant-loop-place l = (b : Problem) → AreCosts b l.costs → (m : ℕ) → has m (numbers_in l.long) ≡ within (λ n. (row_at b n).parcels == 2) (l.place + 1) m

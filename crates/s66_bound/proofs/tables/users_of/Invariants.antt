@@ -8,4 +8,4 @@ use Rattle.s66_bound.specs.InstructionCosts.{AreCosts}
 use Rattle.s66_bound.proofs.tables.users_of.Given as goal
 
 abbrev pub invariant-loop-place : goal.invariant-loop-place
-invariant-loop-place l = (b : Problem) → AreCosts b l.entries → (m : ℕ) → has m (numbers_in l.users) ≡ within (λ n. uses (row_at b n) l.register) (l.place + 1) m
+invariant-loop-place l = (b : Problem) → AreCosts b l.costs → (m : ℕ) → has m (numbers_in l.users) ≡ within (λ n. uses (row_at b n) l.register) (l.place + 1) m

@@ -14,9 +14,9 @@ overflow_add-works c =
     let kind = (row_at b (i + 1)).kind in
     omega (
       arith,
-      (are.each i c.index-entries-place-in-loop-place.result c.loop-place-test.true).work,
+      (are.each i c.index-costs-place-in-loop-place.result c.loop-place-test.true).work,
       (good-at b (i + 1)).hold.1,
-      ap (λ k. get_or c.loop-place.works k 0) (c.kind_number-kind.ensures.value ∙ ap kind_number (are.each i c.index-entries-place.result c.loop-place-test.true).kind),
+      ap (λ k. get_or c.loop-place.works k 0) (c.kind_number-kind.ensures.value ∙ ap kind_number (are.each i c.index-costs-place.result c.loop-place-test.true).kind),
       c.loop-place.invariant.known b are kind,
       work-most b kind (rising i 1),
       length-rising i 1,
@@ -28,12 +28,12 @@ loop-place-preserved c =
     let works = c.loop-place.works in
     let i = c.loop-place.place in
     let kind = c.kind_number-kind.result in
-    let e = c.index-entries-place-in-loop-place.result in
+    let e = c.index-costs-place-in-loop-place.result in
     record {
       size = length-set works kind _ ∙ c.loop-place.invariant.size;
       known = λ b are.
-          works-step b i kind (get_or c.args.entries.now i e).work works c.loop-place.invariant.size (c.loop-place.invariant.known b are)
-          (c.kind_number-kind.ensures.value ∙ ap kind_number (are.each i c.index-entries-place.result c.loop-place-test.true).kind) (are.each i e c.loop-place-test.true).work;
+          works-step b i kind (get_or c.args.costs.now i e).work works c.loop-place.invariant.size (c.loop-place.invariant.known b are)
+          (c.kind_number-kind.ensures.value ∙ ap kind_number (are.each i c.index-costs-place.result c.loop-place-test.true).kind) (are.each i e c.loop-place-test.true).work;
     }
 
 pub returns : goal.returns

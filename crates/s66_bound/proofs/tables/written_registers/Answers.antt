@@ -7,7 +7,7 @@ use Rattle.s66_bound.proofs.tables.written_registers.Goals.{then-is_written, els
 
 pub loop-index-preserved : goal.loop-index-preserved
 loop-index-preserved c =
-    let es = c.args.entries.now in
+    let es = c.args.costs.now in
     let i = c.loop-index.index in
     let old = c.loop-index.written.items in
     let r = c.register_at-register.result in
@@ -28,7 +28,7 @@ loop-index-preserved c =
 
 pub returns-clause-written : goal.returns-clause-written
 returns-clause-written c = λ b are n low high w among.
-    let (digit, written) = written-by b c.args.entries.now n w are low high among in
+    let (digit, written) = written-by b c.args.costs.now n w are low high among in
     c.loop-index.invariant.listed w.reg digit (omega (arith, index-few w.reg digit, c.loop-index-test.false, c.loop-index.auto.index-end)) written
 
 pub returns-clause-registers : goal.returns-clause-registers

@@ -7,5 +7,5 @@ abbrev pub invariant-loop-index : goal.invariant-loop-index
 invariant-loop-index l = record {
   few : length l.written.items ≤ l.index;
   registers : AreRegisters l.written.items;
-  listed : AreListed l.entries l.index l.written.items;
+  listed : AreListed l.costs l.index l.written.items;
 }

@@ -2,7 +2,7 @@ use Rattle.std.proofs.Common.{ℕ, ◌+◌, ◌≡◌, ◌≤◌, not, ◌||◌,
 use Rattle.std.proofs.lemmas.Bool.{and_left}
 use Rattle.s66_isa.specs.declared.limits.TheConstants.{BLOCK_LIMIT}
 use Rattle.s66_moments.specs.Facts.{IsNumber}
-use Rattle.s66_facts.specs.declared.marks.Marks.{Marks}
+use Rattle.s66_facts.specs.declared.marked_numbers.MarkedNumbers.{MarkedNumbers}
 use Rattle.s66_facts.specs.Marked.{is_marked, no_marks, before_in}
 use Rattle.s66_facts.specs.Near.{IsNear}
 use Rattle.s66_facts.proofs.Each.{each-push}
@@ -10,12 +10,12 @@ use Rattle.s66_facts.proofs.NearEach.{at, near-numbers, near-now}
 use Rattle.s66_facts.proofs.near.near_each.Goals as goal
 
 -- those at a position are those of its number
-next-at : (marks : List Marks) (position : ℕ) → get_or marks position no_marks ≡ at marks (position + 1)
+next-at : (marks : List MarkedNumbers) (position : ℕ) → get_or marks position no_marks ≡ at marks (position + 1)
 next-at marks position = ap (λ i. get_or marks i no_marks) (omega arith)
 
 pub loop-position-init : goal.loop-position-init
 loop-position-init c = record {
-  count = ap (λ (ms : List Marks). length ms) c.new-all.ensures;
+  count = ap (λ (ms : List MarkedNumbers). length ms) c.new-all.ensures;
   each = λ n low high. absurd (omega (arith, low, high));
 }
 

@@ -1,5 +1,5 @@
 use Rattle.std.proofs.Common.{◌≡◌, ◌+◌, ◌++◌, length}
-use Rattle.s66_page.specs.Found.{AreOf}
+use Rattle.s66_page.specs.FoundOrders.{AreOf}
 use Rattle.s66_page.specs.Page.{entries, entry}
 use Rattle.s66_page.proofs.page.push_entries.Given as goal
 

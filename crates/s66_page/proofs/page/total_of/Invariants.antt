@@ -1,6 +1,6 @@
 use Rattle.std.proofs.Common.{◌≡◌, ◌≤◌, ◌+◌, ◌*◌, ◌^◌, length}
 use Rattle.s66_isa.specs.Lists.{tally, weigh}
-use Rattle.s66_page.specs.Found.{AreOf}
+use Rattle.s66_page.specs.FoundOrders.{AreOf}
 use Rattle.s66_page.specs.Page.{is_best, summaries}
 use Rattle.s66_page.specs.declared.summary.Summary.{Summary}
 use Rattle.s66_page.proofs.page.total_of.Given as goal

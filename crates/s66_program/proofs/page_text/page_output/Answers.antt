@@ -1,7 +1,7 @@
 use Rattle.std.proofs.Common.{ℕ, List, [], ◌∷◌, Option, None, Some, Ok, ◌≡◌, ◌≤◌, ◌<◌, ◌^◌, ◌-◌, ◌++◌, ◌∙◌, ap, ap₂, arith, drop, length, refl, subst, sym, take}
 use Rattle.s66_isa.specs.declared.profile.Profile.{Profile}
 use Rattle.s66_line.specs.Block.{Block}
-use Rattle.s66_page.specs.Found.{AreOf, Found}
+use Rattle.s66_page.specs.FoundOrders.{AreOf, FoundOrder}
 use Rattle.s66_page.specs.Page.{page_text}
 use Rattle.s66_source.specs.LeftAlone.{Reading}
 use Rattle.s66_source.specs.declared.limits.TheConstants.{SOURCE_LINES_LIMIT}
@@ -27,7 +27,7 @@ few-shown None blocks few = omega (arith, few)
 few-shown (Some n) blocks few = omega (arith, few-one (drop (n - 1) blocks))
 
 -- what is found of the blocks that were read
-found : (strategy : Strategy) (p : Profile) (only : Option ℕ) (source : Reading) (status : Status) (blocks : List Block) (fs : List Found) → source_of source ≡ Ok blocks → AreAnswered (found_part strategy p) strategy p only source fs status →
+found : (strategy : Strategy) (p : Profile) (only : Option ℕ) (source : Reading) (status : Status) (blocks : List Block) (fs : List FoundOrder) → source_of source ≡ Ok blocks → AreAnswered (found_part strategy p) strategy p only source fs status →
     (answers : List Answer) × AreAnswers strategy p (shown only blocks) answers × (fs ≡ all_found strategy.search.rule p (shown only blocks) answers) × (status ≡ status_of answers)
 found strategy p only source status blocks fs read kept =
     of-read (λ bs answers. fs ≡ all_found strategy.search.rule p bs answers) strategy p only source status blocks read

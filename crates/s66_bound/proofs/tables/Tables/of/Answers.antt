@@ -9,7 +9,7 @@ use Rattle.s66_bound.specs.Ranks.{IsRanking}
 use Rattle.s66_bound.specs.TableWords.{HasSingles}
 use Rattle.s66_bound.proofs.tables.Tables.of.Goals as goal
 
--- the words of the entries are the longest tails of the block
+-- the words of the costs are the longest tails of the block
 by-tail : (b : Problem) (words : List ℕ) (count : ℕ) (ranking : Ranking) → HasWords b (longest_tail b) words → count ≡ length b.block → by_word.IsRanking (λ n. get_or words (n - 1) 0) count ranking → IsRanking b ranking
 by-tail b words count ranking longest all is =
     subst (λ k. by_word.IsRanking (longest_tail b) k ranking) all

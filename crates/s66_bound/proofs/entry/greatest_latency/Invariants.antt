@@ -1,7 +1,0 @@
-use Rattle.std.proofs.Common.{◌≡◌, take}
-use Rattle.s66_isa.specs.Lists.{greatest}
-use Rattle.s66_isa.specs.Table.{Write}
-use Rattle.s66_bound.proofs.entry.greatest_latency.Given as goal
-
-abbrev pub invariant-loop-write : goal.invariant-loop-write
-invariant-loop-write l = l.last ≡ greatest (λ (w : Write). w.latency) (take l.write-index l.writes)

@@ -1,8 +1,0 @@
-use Rattle.std.proofs.Common.{◌≡◌, if◌then◌else◌, take}
-use Rattle.s66_isa.specs.Lists.{greatest}
-use Rattle.s66_isa.specs.Table.{Write, has_reg}
-use Rattle.s66_isa.specs.Registers.{registers_in}
-use Rattle.s66_bound.proofs.entry.greatest_shared.Given as goal
-
-abbrev pub invariant-loop-write : goal.invariant-loop-write
-invariant-loop-write l = l.last ≡ greatest (λ (w : Write). if has_reg w.reg (registers_in l.used) then w.latency else 0) (take l.write-index l.writes)

@@ -1,8 +1,0 @@
-use Rattle.std.proofs.Common.{◌≡◌, ◌||◌, take}
-use Rattle.s66_isa.specs.Lists.{some_of}
-use Rattle.s66_isa.specs.Table.{Reg, Write, has_reg, same_reg}
-use Rattle.s66_isa.specs.Registers.{registers_in}
-use Rattle.s66_bound.proofs.entry.used_registers.Given as goal
-
-abbrev pub invariant-loop-write : goal.invariant-loop-write
-invariant-loop-write l = (x : Reg) → has_reg x (registers_in l.used) ≡ (has_reg x l.reads || some_of (λ (w : Write). same_reg w.reg x) (take l.write-index l.writes))

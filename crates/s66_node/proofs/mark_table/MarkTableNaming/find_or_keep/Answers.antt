@@ -1,0 +1,13 @@
+use Rattle.std.proofs.Common.{◌≡◌, ◌⊎◌, ◌∙◌, inl, inr, subst}
+use Rattle.s66_isa.specs.Lists.{Among}
+use Rattle.s66_node.specs.MarkTables.{MarkTable}
+use Rattle.s66_node.proofs.mark_table.MarkTableNaming.find_or_keep.Goals as goal
+
+pub returns-clause-kept : goal.returns-clause-kept
+returns-clause-kept c =
+    λ name among.
+    subst (λ (m : MarkTable). (name ≡ c.args.walk.now.numbers) ⊎ Among name m.names) c.self.view_is
+    (elim (c.put_line.ensures.known name among) [
+      | inl is ↦ inl (is ∙ c.of-entry.ensures.numbers)
+      | inr before ↦ inr before
+    ])
