@@ -178,9 +178,6 @@ one-more : (most : ℕ) (before : List (List ℕ)) (line : List ℕ) (s : Docume
 one-more most before line s r run one =
     steps-append most first_state before (line ∷ []) ∙ ap (λ (r : Result DocumentState CertError). and_then r (λ t. steps BLOCK_LIMIT most t (line ∷ []))) run ∙ ap (λ (r : Result DocumentState CertError). and_then r (λ t. Ok t)) one
 
-ok-same : (x y : DocumentState) (r : Result DocumentState CertError) → r ≡ Ok x → r ≡ Ok y → x ≡ y
-ok-same x y r h k = let e = sym h ∙ k in (cc)
-
 module _ (most : ℕ) (text : List ℕ) where
   -- the lines before the fault
   here-is : (e : CertError) (f : Fails most first_state (whole_lines [] text) e) → most ≡ SPLIT_LIMIT → HasLine text f.before f.line

@@ -84,18 +84,12 @@ ends-more place end ends vertices are lt is = record {
     by p le within (inl same) = rw (same, get_or-set_same ends place end 0 (omega (arith, lt, are.count))) is
     by p le within (inr other) = rw (get_or-set_other ends place p end 0 other) (are.each p (omega (arith, le, other)) within)
 
-pub ends-none : (ends : List ℕ) (vertices : List (Vertex Ending)) (past : ℕ) → length ends ≡ length vertices → length vertices ≤ past → AreTreeEnds past ends vertices
-ends-none ends vertices past count le = record { count = count; each = λ place from within. absurd (omega (arith, from, within, le)) }
-
 -- FROM A LINE TO ITS CHILDREN
 
 -- past the children of other numbers: the rest of the numbers, and where the next child is
 abbrev pub IsOnTheWay : List (Vertex Ending) → ℕ → ℕ → List ℕ → ℕ → Type 0
 IsOnTheWay vertices place number numbers sibling =
     (path : List ℕ) → sibling_at numbers (first_siblings numbers (trees_from vertices sibling)) (number ∷ path) ≡ node_named [] (tree_at vertices place) (number ∷ path)
-
-pub way-first : (vertices : List (Vertex Ending)) (place number : ℕ) (numbers : List ℕ) → drop place vertices ≡ AtSplit numbers ∷ drop (place + 1) vertices → IsOnTheWay vertices place number numbers (place + 1)
-way-first vertices place number numbers next = λ path. rw next refl
 
 sibling-found : (m number : ℕ) (ms path : List ℕ) (vertices : List (Vertex Ending)) → 0 < length vertices → m ≡ number → sibling_at (m ∷ ms) (first_siblings (m ∷ ms) (forest vertices)) (number ∷ path) ≡ node_named [] (tree_of_lines vertices) path
 sibling-found m number ms path [] some e = absurd (omega (arith, some))
@@ -124,12 +118,3 @@ module _ (vertices : List (Vertex Ending)) (place number : ℕ) where
 
   pub way-none : (sibling : ℕ) → IsOnTheWay vertices place number [] sibling → IsChildAt vertices place number None
   way-none sibling way = λ path. sym (way path)
-
--- a line that isn't a split has no children
-pub terminal-childless : (vertices : List (Vertex Ending)) (place number : ℕ) (ending : Ending) → drop place vertices ≡ AtTerminal ending ∷ drop (place + 1) vertices → IsChildAt vertices place number None
-terminal-childless vertices place number ending next = λ path. rw next refl
-
--- the node of no numbers is the line itself
-pub node-here : (vertices : List (Vertex Ending)) (place : ℕ) (vertex : Vertex Ending) → drop place vertices ≡ vertex ∷ drop (place + 1) vertices → Some vertex ≡ node_named [] (tree_at vertices place) []
-node-here vertices place (AtTerminal ending) next = rw next refl
-node-here vertices place (AtSplit numbers) next = rw next refl

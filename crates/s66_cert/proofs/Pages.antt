@@ -1,5 +1,5 @@
 -- What is printed part by part, and what of it was written.
-use Rattle.std.proofs.Common.{◌≡◌, ℕ, ◌+◌, min, List, [], ◌++◌, Option, None, Some, Result, Ok, Err, OnOk, length, take, refl, sym, ap, subst, ◌∙◌, arith, append_assoc}
+use Rattle.std.proofs.Common.{◌≡◌, ℕ, ◌+◌, min, List, [], ◌++◌, Option, None, Some, Result, Ok, Err, OnOk, length, take, sym, ap, subst, ◌∙◌, arith, append_assoc}
 use Rattle.std.proofs.Math.Seq.{take-append-add}
 use Rattle.std.proofs.lemmas.List.{append-nil, take-append-le, take_min}
 use Rattle.std.specs.Io.KnownBytes.{Appends}
@@ -74,9 +74,6 @@ pub record IsUnderway (old new : Option (List ℕ)) (before after text rest : Li
   pub printed : IsPrinted old new before after done
   pub left : text ≡ done ++ rest
 
-pub underway-first : (old : Option (List ℕ)) (before text : List ℕ) → IsUnderway old old before before text text
-underway-first old before text = record { done = []; printed = printed-here old before before [] (sym (append-nil before)); left = refl }
-
 pub underway-more : (old mid new : Option (List ℕ)) (before between after text part rest : List ℕ) → IsUnderway old mid before between text (part ++ rest) → IsPrinted mid new between after part →
     IsUnderway old new before after text rest
 underway-more old mid new before between after text part rest way more = record {
@@ -91,9 +88,6 @@ underway-begun old mid new before between text part rest way begun =
     subst (λ t. IsBegun old new (before ++ t)) (sym way.left)
     (begun-more old mid new before between way.done (part ++ rest) way.printed
     (subst (IsBegun mid new) (append_assoc between part rest) (begun-within mid new (between ++ part) rest begun)))
-
-pub underway-all : (old new : Option (List ℕ)) (before after text : List ℕ) → IsUnderway old new before after text [] → IsPrinted old new before after text
-underway-all old new before after text way = subst (IsPrinted old new before after) (sym (append-nil way.done) ∙ sym way.left) way.printed
 
 -- from an empty page on, what is on the page and the rest were written
 pub underway-end : (old mid new : Option (List ℕ)) (page text rest : List ℕ) → IsUnderway old mid [] page text rest → Appends mid new (page ++ rest) → Appends old new text

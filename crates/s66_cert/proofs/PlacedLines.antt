@@ -106,11 +106,6 @@ pub record IsOnTheWay (vertices : List (Vertex Ending)) (here place : ℕ) (numb
   pub before : sibling ≤ place
   pub rest : (prefix : List ℕ) → slice_get (siblings_placed prefix numbers (first_siblings numbers (trees_from vertices sibling))) (place - sibling) ≡ placed_at vertices here place prefix
 
-pub way-first : (vertices : List (Vertex Ending)) (here place : ℕ) (numbers : List ℕ) → here < place → drop here vertices ≡ AtSplit numbers ∷ drop (here + 1) vertices → IsOnTheWay vertices here place numbers (here + 1)
-way-first vertices here place numbers lt next =
-    let less : place - here ≡ suc (place - (here + 1)) = omega (arith, lt) in
-    record { below = omega arith; before = omega (arith, lt); rest = λ prefix. rw (less, next) refl }
-
 module _ (vertices : List (Vertex Ending)) (here place m sibling : ℕ) (ms : List ℕ) (way : IsOnTheWay vertices here place (m ∷ ms) sibling) where
   pub way-past : length vertices ≤ sibling → IsBelow vertices here place None
   way-past past prefix =
@@ -138,15 +133,6 @@ module _ (vertices : List (Vertex Ending)) (here place m sibling : ℕ) (ms : Li
         let sum : place - sibling ≡ length tree + (place - end) = omega (arith, parts.1, is.behind, past) in
         sym (at-rest tree others (place - end) (place - sibling) sum) ∙ ap (λ lines. slice_get lines (place - sibling)) (sym parts.0) ∙ way.rest prefix;
   }
-
-pub way-none : (vertices : List (Vertex Ending)) (here place sibling : ℕ) → IsOnTheWay vertices here place [] sibling → IsBelow vertices here place None
-way-none vertices here place sibling way prefix = sym (way.rest prefix)
-
--- nothing is below a line that isn't split
-pub terminal-below : (vertices : List (Vertex Ending)) (here place : ℕ) (ending : Ending) → here < place → drop here vertices ≡ AtTerminal ending ∷ drop (here + 1) vertices → IsBelow vertices here place None
-terminal-below vertices here place ending lt next prefix =
-    let less : place - here ≡ suc (place - (here + 1)) = omega (arith, lt) in
-    rw (less, next) refl
 
 -- the line itself
 pub line-here : (vertices : List (Vertex Ending)) (here place : ℕ) (prefix : List ℕ) (vertex : Vertex Ending) → here ≡ place → drop here vertices ≡ vertex ∷ drop (here + 1) vertices → placed_at vertices here place prefix ≡ Some (prefix, vertex)

@@ -10,7 +10,6 @@ use Rattle.s66_cert.specs.Reading.{DocumentState, step_at, step, steps, and_then
 use Rattle.s66_cert.specs.DocumentReader.{Steps}
 use Rattle.s66_cert.specs.declared.limits.TheConstants.{SPLIT_LIMIT}
 use Rattle.s66_cert.specs.declared.error.CertError.{CertError}
-use Rattle.s66_cert.specs.declared.error.CertError.TheVariants.{BadLine, Truncated, TooManyNodes, OutOfMemory}
 use Rattle.s66_cert.proofs.FirstFault.{outcome-at, ok-count}
 use Rattle.s66_cert.proofs.Sound.{step-fine}
 
@@ -56,21 +55,3 @@ pub last-newline : (line text : List ℕ) (i : ℕ) (whole : List ℕ) → i < l
 last-newline line text i whole within newline same =
     let none : i + 1 - (i + 1) ≡ 0 = omega arith in
     rw none (sym (cut-newline line text i within newline).1 ∙ same)
-
--- a line's fault is the text's
-Steps-rest : (e : CertError) (s new any : DocumentState) (line : List ℕ) (lines : List (List ℕ)) → Steps new (Err e) (step BLOCK_LIMIT SPLIT_LIMIT s line) → Steps any (Err e) (steps BLOCK_LIMIT SPLIT_LIMIT s (line ∷ lines))
-Steps-rest OutOfMemory s new any line lines h = tt
-Steps-rest (BadLine n) s new any line lines h = ap (λ r. and_then r (λ t. steps BLOCK_LIMIT SPLIT_LIMIT t lines)) h
-Steps-rest Truncated s new any line lines h = ap (λ r. and_then r (λ t. steps BLOCK_LIMIT SPLIT_LIMIT t lines)) h
-Steps-rest TooManyNodes s new any line lines h = ap (λ r. and_then r (λ t. steps BLOCK_LIMIT SPLIT_LIMIT t lines)) h
-
-Steps-same : (e : CertError) (any : DocumentState) (x y : Result DocumentState CertError) → x ≡ y → Steps any (Err e) x → Steps any (Err e) y
-Steps-same OutOfMemory any x y same h = tt
-Steps-same (BadLine n) any x y same h = sym same ∙ h
-Steps-same Truncated any x y same h = sym same ∙ h
-Steps-same TooManyNodes any x y same h = sym same ∙ h
-
-pub Steps-newline : (e : CertError) (s new any : DocumentState) (line text : List ℕ) (i : ℕ) (whole : Result DocumentState CertError) → i < length text → get_or text i 0 ≡ 10 → Steps new (Err e) (step BLOCK_LIMIT SPLIT_LIMIT s line) →
-    steps BLOCK_LIMIT SPLIT_LIMIT s (whole_lines line (drop i text)) ≡ whole → Steps any (Err e) whole
-Steps-newline e s new any line text i whole within newline made same =
-    Steps-same e any (steps BLOCK_LIMIT SPLIT_LIMIT s (line ∷ whole_lines [] (drop (i + 1) text))) whole (ap (steps BLOCK_LIMIT SPLIT_LIMIT s) (sym (cut-newline line text i within newline).0) ∙ same) (Steps-rest e s new any line (whole_lines [] (drop (i + 1) text)) made)

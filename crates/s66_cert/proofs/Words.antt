@@ -21,17 +21,9 @@ pub first-before : (w r : List ℕ) → IsWord w → first_word (w ++ 32 ∷ r) 
 first-before [] r h = refl
 first-before (b ∷ w) r h = let parts = word-parts b w h in rw parts.0 (ap (λ x. b ∷ x) (first-before w r parts.1))
 
-pub first-alone : (w : List ℕ) → IsWord w → first_word w ≡ w
-first-alone [] h = refl
-first-alone (b ∷ w) h = let parts = word-parts b w h in rw parts.0 (ap (λ x. b ∷ x) (first-alone w parts.1))
-
 pub after-before : (w r : List ℕ) → IsWord w → after_first_word (w ++ 32 ∷ r) ≡ Some r
 after-before [] r h = refl
 after-before (b ∷ w) r h = let parts = word-parts b w h in rw parts.0 (after-before w r parts.1)
-
-pub after-alone : (w : List ℕ) → IsWord w → after_first_word w ≡ None
-after-alone [] h = refl
-after-alone (b ∷ w) h = let parts = word-parts b w h in rw parts.0 (after-alone w parts.1)
 
 words-alone : (w : List ℕ) → IsWord w → words_of w ≡ w ∷ []
 words-alone [] h = refl

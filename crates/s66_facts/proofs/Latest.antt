@@ -31,9 +31,6 @@ times-assoc s t u =
 pub times-none : (t : Times) → later_times t no_times ≡ t
 times-none t = rw (later-none t.issue, later-none t.start, later-none t.free, later-none t.first, later-none t.second) refl
 
-none-times : (t : Times) → later_times no_times t ≡ t
-none-times t = refl
-
 later-swap : (o p q : Option ℕ) → later o (later p q) ≡ later p (later o q)
 later-swap o p q =
     height-same (later o (later p q)) (later p (later o q)) (omega (arith, height-later o (later p q), height-later p q, height-later p (later o q), height-later o q))

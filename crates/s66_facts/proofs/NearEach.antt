@@ -84,22 +84,6 @@ all-are b sooner near count is each =
       };
     })
 
--- if nothing is
-pub none-are : (b : Problem) (none : List MarkedNumbers) → length none ≡ length b.block → ((m n : ℕ) → 1 ≤ n → n ≤ length b.block → is_marked (at none n) m ≡ false) → AreNear b none none
-none-are b none count off =
-    record {
-      count = count;
-      each = λ n is_n. record {
-        within = λ m low high marked. absurd (true≢false (sym marked ∙ off m n is_n.0 is_n.1));
-        enough = λ m is_m first. absurd (true≢false (sym first ∙ and_right (is_in none m && is_in none n) (is_marked (at none n) m) (off m n is_n.0 is_n.1)));
-      };
-    }
-
-pub none-more : (b : Problem) (none : List MarkedNumbers) (before : ℕ → ℕ → Bool) → length none ≡ length b.block → ((m n : ℕ) → 1 ≤ n → n ≤ length b.block → is_marked (at none n) m ≡ false) → (m n : ℕ) → before_in none m n ≡ true → before m n ≡ true
-none-more b none before count off m n first =
-    let (low_m, high_m, low, high) = before-range none m n first in
-    absurd (true≢false (sym first ∙ and_right (is_in none m && is_in none n) (is_marked (at none n) m) (off m n low (omega (arith, high, count)))))
-
 -- WHAT STANDS AFTER, by what stands before
 
 module _ (b : Problem) (before after : List MarkedNumbers) (count : length before ≡ length b.block) (count_after : length after ≡ length b.block) where

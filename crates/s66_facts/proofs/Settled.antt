@@ -3,7 +3,6 @@ use Rattle.std.proofs.Common.{ℕ, zero, suc, ◌-◌, ◌≤◌, ◌≡◌, ◌
 use Rattle.std.proofs.lemmas.Bool.{and_from, and_parts, and_left, and_right, or_cases, or_parts, or_left, or_right, not-true, cases_eq, cases_Bool, eqb-true}
 use Rattle.std.proofs.Math.Bool.{and_comm}
 use Rattle.s66_isa.specs.declared.limits.TheConstants.{BLOCK_LIMIT}
-use Rattle.s66_isa.specs.Lists.{Among}
 use Rattle.s66_isa.specs.Table.{Write, numbers}
 use Rattle.s66_model.specs.Timing.{Problem, row_at}
 use Rattle.s66_moments.specs.declared.moment.Stage.{Stage}
@@ -44,11 +43,6 @@ gathered-same test test2 f f2 (m ∷ ms) tests agree =
     one false false same is = refl
     one true false same is = absurd (true≢false same)
     one false true same is = absurd (true≢false (sym same))
-
-latest-same : (f f2 : KnownArc → Option ℕ) (loads : List KnownArc) → ((l : KnownArc) → Among l loads → f l ≡ f2 l) → latest f loads ≡ latest f2 loads
-latest-same f f2 [] each = refl
-latest-same f f2 (l ∷ ls) each =
-    ap (λ o. later o (latest f ls)) (each l (inl refl)) ∙ ap (later (f2 l)) (latest-same f f2 ls (λ k among. each k (inr among)))
 
 latest-more : (f : KnownArc → Option ℕ) (loads : List KnownArc) (last : KnownArc) → f last ≡ None → latest f (loads ++ last ∷ []) ≡ latest f loads
 latest-more f [] last none = later-none (f last) ∙ none

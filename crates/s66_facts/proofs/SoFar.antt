@@ -1,7 +1,6 @@
 -- What stands before a number by dependence, found from the first number on.
-use Rattle.std.proofs.Common.{ℕ, ◌+◌, ◌-◌, ◌≤◌, ◌<◌, ◌≡◌, ◌⊎◌, ◌==◌, ◌||◌, Bool, true, false, true≢false, List, [], ◌∷◌, ◌++◌, length, get_or, refl, sym, ap, arith, inl, inr, ltb, ◌∙◌, subst}
+use Rattle.std.proofs.Common.{ℕ, ◌+◌, ◌-◌, ◌≤◌, ◌<◌, ◌≡◌, ◌⊎◌, ◌==◌, ◌||◌, Bool, true, false, true≢false, List, length, get_or, refl, sym, ap, arith, inl, inr, ltb, ◌∙◌, subst}
 use Rattle.std.proofs.lemmas.Bool.{and_parts, or_cases, or_left, or_right, eqb-true, eq-eqb, ltb-true, cases_lt}
-use Rattle.std.proofs.lemmas.List.{get_or_append_left, get_or_push}
 use Rattle.s66_isa.specs.declared.instr.Instr.{Instr}
 use Rattle.s66_isa.specs.Table.{instr_at}
 use Rattle.s66_model.specs.Dependence.{conflict, depends}
@@ -79,17 +78,6 @@ so_far-all block n count sooner low high all so m one =
           so.whole m m one (omega (arith, less, all)) one dep (inl refl)
       | inr (k, low_k, less, by, dep) ↦ so.whole k m low_k (omega (arith, less, all)) one dep (inr by)
     ])
-
--- one number more
-pub closed-push : (block : List Instr) (marks : List MarkedNumbers) (sooner : MarkedNumbers) (count : ℕ) → length marks ≡ count → IsClosedUpTo block marks count → ((m : ℕ) → 1 ≤ m → is_marked sooner m ≡ precedes block m (count + 1)) → IsClosedUpTo block (marks ++ sooner ∷ []) (count + 1)
-closed-push block marks sooner count is closed own k m low high one =
-    elim (cases_lt k (count + 1)) [
-      | inl less ↦ ap (λ ms. is_marked ms m) (get_or_append_left marks (sooner ∷ []) no_marks (k - 1) (omega (arith, less, is, low))) ∙ closed k m low (omega (arith, less)) one
-      | inr ge ↦
-          let last : length marks ≡ k - 1 = omega (arith, high, ge, is) in
-          let same : count + 1 ≡ k = omega (arith, high, ge) in
-          ap (λ ms. is_marked ms m) (get_or_push marks sooner no_marks (k - 1) last) ∙ (own m one ∙ ap (λ i. precedes block m i) same)
-    ]
 
 -- those of one
 pub closed-at : (block : List Instr) (marks : List MarkedNumbers) (count i : ℕ) (own : MarkedNumbers) → IsClosedUpTo block marks count → i < count → own ≡ get_or marks i no_marks → (m : ℕ) → 1 ≤ m → is_marked own m ≡ precedes block m (i + 1)

@@ -26,11 +26,6 @@ use Rattle.s66_ledger.proofs.Rounds.{taken-leads, claim-within, claim-back, graf
 
 -- A PIECE MAY HAVE no more splits than the worker may spend, and one if that is one or more
 
-pub piece_splits-within : (rule : Rule) (allowance : ℕ) → piece_splits rule allowance ≤ allowance
-piece_splits-within NoneNamed allowance = omega arith
-piece_splits-within WrittenEarlier allowance = omega arith
-piece_splits-within ClampedStanding allowance = omega arith
-
 pub piece_splits-some : (rule : Rule) (allowance : ℕ) → 1 ≤ allowance → 1 ≤ piece_splits rule allowance
 piece_splits-some NoneNamed allowance some = some
 piece_splits-some WrittenEarlier allowance some = some

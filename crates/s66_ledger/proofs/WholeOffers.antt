@@ -1,32 +1,26 @@
 -- A ledger's whole orders are offered, one after the other, until none that is below the best is open or out.
-use Rattle.std.proofs.Common.{ℕ, ◌+◌, ◌≤◌, ◌<◌, ◌≡◌, Bool, true, true≢false, List, [], length, get_or, refl, sym, ap, arith, inl, inr, subst, ◌∙◌}
+use Rattle.std.proofs.Common.{ℕ, ◌+◌, ◌≤◌, ◌<◌, ◌≡◌, true, List, [], length, get_or, refl, sym, ap, arith, inl, inr, subst, ◌∙◌}
 use Rattle.std.proofs.lemmas.Bool.{cases_eq}
 use Rattle.s66_isa.specs.declared.instr.Instr.{Instr}
 use Rattle.s66_isa.proofs.Lists.{cases_le}
-use Rattle.s66_model.specs.declared.rule.Rule.{Rule}
 use Rattle.s66_model.specs.Timing.{Problem, total_of}
 use Rattle.s66_model.specs.LegalOrder.{IsLegal, IsBeginning, IsComplete}
 use Rattle.s66_model.specs.Leaves.{floor_value, value}
 use Rattle.s66_machine.specs.Ledger as model
-use Rattle.s66_machine.specs.Ledger.{Ledger, is_live, best_time, Event, Offer, Moves}
-use Rattle.s66_machine.specs.Recorded.{IsOfferOf}
+use Rattle.s66_machine.specs.Ledger.{Ledger, is_live, best_time}
 use Rattle.s66_model.proofs.Floors.{floor-whole}
 use Rattle.s66_model.proofs.LegalOrders.{order-legal}
-use Rattle.s66_time.specs.TimedOrder.{TimedOrder}
-use Rattle.s66_ledger.specs.declared.reply.Offered.{Offered}
 use Rattle.s66_ledger.specs.declared.reply.Offered.TheVariants as offered
 use Rattle.s66_ledger.specs.Finishing.{WholesAreTimed, IsTimedAt, IsOffering, IsTiming}
-use Rattle.s66_ledger.specs.Ledgers.{LedgerOf, IsEvent}
+use Rattle.s66_ledger.specs.Ledgers.{LedgerOf}
 use Rattle.s66_ledger.specs.LedgerMachine.{MachineOf, Stored, IsKeptMachine, machine_of, ledger_from}
 use Rattle.s66_node.specs.Nodes.{has_floor, is_stored_live}
 use Rattle.s66_ledger.specs.Nodes.{prefixes, name_at, stored_at, nodes_of, seen_state}
 use Rattle.s66_node.specs.declared.node.Node.{Node}
 use Rattle.s66_node.specs.declared.node.State.{State}
 use Rattle.s66_node.specs.declared.node.State.TheVariants as state
-use Rattle.s66_ledger.specs.Replies.{offered_reply}
 use Rattle.s66_ledger.proofs.SeenNodes.{at-nodes, length-nodes}
 use Rattle.s66_ledger.proofs.Leading.{each-among, leads-fall}
-use Rattle.s66_ledger.proofs.Rounds.{nothing-offered}
 
 timed-still : (old new : LedgerOf) (i : ℕ) → IsOffering old new → IsTimedAt old.problem old.state i → IsTimedAt new.problem new.state i
 timed-still old new i offers timed =
@@ -49,20 +43,6 @@ all-timed b l h = each-among (λ (n : model.Node). is_live n ≡ true → IsComp
 pub whole-legal : (block : List Instr) (prefix : List ℕ) → IsBeginning block prefix → IsComplete block prefix → IsLegal block prefix
 whole-legal block prefix begins whole = order-legal block prefix (begins, whole)
 
--- the best order takes no more time than what is offered
-at-most : (rule : Rule) (b : Problem) (old new : Ledger) (w : ℕ) (own : Bool) (order : List ℕ) (time : ℕ) (answer : Offered) → own ≡ true → time ≡ total_of b order → Moves rule b old (Offer w own order time) (offered_reply answer) new → best_time b new ≤ total_of b order
-at-most rule b old new w own order time offered.Lower is same h = omega (arith, ap (best_time b) h.2)
-at-most rule b old new w own order time (offered.NotLower least) is same h = omega (arith, ap (best_time b) h.3, h.1, same)
-at-most rule b old new w own order time offered.OtherBlock is same h = absurd (true≢false (sym is ∙ h.0))
-
--- of an order of the problem that is offered
-pub offered-at-most : (old new : LedgerOf) (w : ℕ) (timed : TimedOrder) (answer : Offered) → ((event : Event) × IsOfferOf old.problem w timed.problem timed.numbers event × IsEvent old event (offered_reply answer) new) → timed.problem ≡ old.problem → best_time new.problem new.state ≤ total_of timed.problem timed.numbers
-offered-at-most old new w timed answer (event, (own, iff, stated), h) problem =
-    let b = old.problem in
-    let step : Moves old.rule b old.state (Offer w own timed.numbers (total_of timed.problem timed.numbers)) (offered_reply answer) new.state = subst (λ (e : Event). Moves old.rule b old.state e (offered_reply answer) new.state) stated h.3.1 in
-    let same = ap (λ p. total_of p timed.numbers) problem in
-    omega (arith, at-most old.rule b old.state new.state w own timed.numbers (total_of timed.problem timed.numbers) answer (iff.1 problem) same step, same, ap (λ (p : Problem). best_time p new.state) h.0)
-
 -- the order of a complete prefix is offered
 pub timed-now : (old new : LedgerOf) (i : ℕ) (order : List ℕ) → order ≡ (model.node_at old.state.nodes i).prefix → IsOffering old new → best_time new.problem new.state ≤ total_of old.problem order → IsTiming old i new
 timed-now old new i order is offers fast =
@@ -77,10 +57,6 @@ timed-now old new i order is offers fast =
           (subst (λ ns. is_live (model.node_at ns i) ≡ true → IsComplete b.block (model.node_at ns i).prefix → best_time b new.state ≤ floor_value b (model.node_at ns i).prefix) (sym (ap (λ (l : Ledger). l.nodes) offers.same))
           (λ live whole. omega (arith, now, ap (value b at) (floor-whole b at whole))));
     }
-
--- a node that is neither open nor out below the best time, or has no whole order, needs no offer
-pub timed-already : (l : LedgerOf) (i : ℕ) → IsTimedAt l.problem l.state i → IsTiming l i l
-timed-already l i timed = record { offers = nothing-offered l l refl; timed = timed }
 
 -- WHAT IS NOT OFFERED
 

@@ -119,9 +119,3 @@ pub instruction : (text : List ℕ) → is_some (instr_of (operation_in text) (o
 instruction text some whole fits = instruction-by text (instr_of (operation_in text) (operand_in text)) refl some whole fits
 
 -- WHICH ARE NONE
-
-pub unread : (text : List ℕ) → is_some (instr_of (operation_in text) (operand_in text)) ≡ false → ¬ IsInstruction text
-unread text none = λ is. true≢false (sym (ap is_some is.is_text.spells) ∙ none)
-
-pub misspelt : (text : List ℕ) → ¬ (text ≡ spelling (operation_in text) (operand_in text)) → ¬ IsInstruction text
-misspelt text other = λ is. other is.is_text.whole

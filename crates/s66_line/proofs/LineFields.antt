@@ -1,5 +1,5 @@
 -- Words and blanks at the front of a line by their lengths, and a line without the end that passes.
-use Rattle.std.proofs.Common.{◌≡◌, ℕ, zero, suc, ◌+◌, ◌-◌, ◌≤◌, ◌<◌, Bool, true, false, not, cond, List, [], ◌∷◌, ◌++◌, length, take, drop, refl, sym, ap, ◌∙◌, arith, length-drop, get_or, append_assoc}
+use Rattle.std.proofs.Common.{◌≡◌, ℕ, zero, suc, ◌+◌, ◌-◌, ◌≤◌, ◌<◌, Bool, true, false, not, cond, List, [], ◌∷◌, ◌++◌, length, take, drop, refl, sym, ap, ◌∙◌, arith, length-drop, get_or}
 use Rattle.std.proofs.lemmas.Bool.{eqb-true}
 use Rattle.std.proofs.Math.Seq.{take-suc}
 use Rattle.std.proofs.Math.Dec.{eqb-zero-suc}
@@ -7,7 +7,7 @@ use Rattle.std.proofs.Math.Bool.{and-true, and-false}
 use Rattle.std.specs.Prelude.{◌&&◌, ◌||◌, ◌==◌, nat_le}
 use Rattle.std.specs.List.{prefix_len}
 use Rattle.s66_isa.specs.Lists.{every}
-use Rattle.s66_line.specs.Fields.{is_blank, blanks, skip_blanks, word, after_word, trim, upper, from_location, label_bytes}
+use Rattle.s66_line.specs.Fields.{is_blank, blanks, skip_blanks, word, after_word, trim, from_location, label_bytes}
 use Rattle.s66_line.specs.InstructionText.{spelling}
 use Rattle.std.proofs.lemmas.List.{take_rest}
 use Rattle.std.proofs.lemmas.List.Sums.{prefix_len-le-length}
@@ -152,14 +152,6 @@ behind-column false b bytes stated = rw (from_location-no b bytes stated) (behin
 pub from_operation_within : (line : List ℕ) → length (skip_blanks (after_word (from_location line))) ≤ length line - 1
 from_operation_within [] = omega arith
 from_operation_within (b ∷ bytes) = let h = behind-column (b == 32) b bytes refl in omega (arith, h)
-
-pub spelling-filled : (operation operand : List ℕ) → 0 < length operand → (operation ++ 32 ∷ []) ++ upper operand ≡ spelling operation (upper operand)
-spelling-filled operation [] h = absurd (omega (arith, h))
-spelling-filled operation (b ∷ operand) h = append_assoc operation (32 ∷ []) (upper (b ∷ operand))
-
-pub spelling-none : (operation operand : List ℕ) → length operand ≡ 0 → operation ≡ spelling operation (upper operand)
-spelling-none operation [] h = refl
-spelling-none operation (b ∷ operand) h = absurd (omega (arith, h))
 
 -- THE END OF A LINE
 

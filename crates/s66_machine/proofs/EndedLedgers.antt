@@ -79,12 +79,6 @@ live-ending b at Out h = refl
 live-ending b at Cut h = refl
 live-ending b at (Closed ending) h = absurd cc
 
-live-or-closed : (state : State) → is_cut_state state ≡ false → (is_live_state state ≡ true) ⊎ ((ending : Ending) × (state ≡ Closed ending))
-live-or-closed Open h = inl refl
-live-or-closed Out h = inl refl
-live-or-closed Cut h = absurd cc
-live-or-closed (Closed ending) h = inr (ending, refl)
-
 -- VALUES OF A TREE
 
 append-each : (low : ℕ) (vs ws : List ℕ) → ((v : ℕ) → Among v vs → low ≤ v) → ((v : ℕ) → Among v ws → low ≤ v) → (v : ℕ) → Among v (vs ++ ws) → low ≤ v

@@ -41,10 +41,6 @@ pub is-same : (ns : List ℕ) → same_numbers ns ns ≡ true
 is-same [] = refl
 is-same (n ∷ ns) = and_from (eqb n n) (same_numbers ns ns) (eq-eqb n n refl) (is-same ns)
 
-begins-longer : (at more : List ℕ) → begins at (at ++ more) ≡ true
-begins-longer [] more = refl
-begins-longer (n ∷ at) more = and_from (eqb n n) (begins at (at ++ more)) (eq-eqb n n refl) (begins-longer at more)
-
 -- what begins with these numbers is these, or goes on with one more, which is once among those that may follow
 one-follows : (x at ns : List ℕ) → ((m : ℕ) (rest : List ℕ) → x ≡ at ++ m ∷ rest → tally (λ n. eqb n m) ns ≡ 1) → cond (begins at x) 1 0 ≡ cond (same_numbers x at) 1 0 + tally (λ n. begins (at ++ n ∷ []) x) ns
 one-follows [] [] ns once = omega (arith, tally-none (λ n. begins (n ∷ []) []) (λ n. refl) ns)

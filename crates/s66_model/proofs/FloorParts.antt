@@ -8,8 +8,8 @@ use Rattle.s66_isa.specs.Table.{numbers}
 use Rattle.s66_model.specs.Timing.{Problem, row_at, points_of, next, done_of}
 use Rattle.s66_model.specs.LegalOrder.{is_remaining, remaining, sum_remaining, IsBeginning, IsIncomplete}
 use Rattle.s66_model.specs.Leaves.{Leaf, Chain, uses, head, chain, longest_chain, if_last, parcels, value, MayStand, first_greatest, after_chain, floor_value}
-use Rattle.s66_model.specs.Tails.{longest_tail, tail_remaining, chain_by, spare, HasWords}
-use Rattle.s66_isa.proofs.Lists.{le-greatest, greatest-le, greatest-same, le-weigh, weigh-same, weigh-filter, least-plus, least-same, among-some, among-rising}
+use Rattle.s66_model.specs.Tails.{longest_tail, chain_by, spare, HasWords}
+use Rattle.s66_isa.proofs.Lists.{le-greatest, greatest-le, le-weigh, weigh-same, weigh-filter, least-plus, among-some, among-rising}
 use Rattle.s66_model.proofs.Growth.{total-le}
 use Rattle.s66_model.proofs.PointTimes.{good-at}
 use Rattle.s66_model.proofs.Remaining.{among-remaining, remaining-among, remaining-parts, legal-parts}
@@ -92,10 +92,6 @@ left-sum b prefix f words known =
 
 -- THE TAILS THAT REMAIN
 
-pub tail_remaining-words : (b : Problem) (prefix words : List ℕ) → HasWords b (longest_tail b) words → greatest (λ n. get_or words (n - 1) 0) (remaining b.block prefix) ≡ tail_remaining b prefix
-tail_remaining-words b prefix words known =
-    greatest-same (λ n. get_or words (n - 1) 0) (longest_tail b) (remaining b.block prefix) (words-remaining b prefix (longest_tail b) words known)
-
 -- THE PARCELS
 
 pub rest-some : (b : Problem) (prefix : List ℕ) → IsBeginning b.block prefix → IsIncomplete b.block prefix → 0 < length (remaining b.block prefix)
@@ -110,13 +106,3 @@ parcels-static b prefix some =
     let sum = sum_remaining b.block prefix (λ n. (row_at b n).parcels) in
     least-plus (next (points_of b prefix) + sum) (if_last b prefix) (spare b) (remaining b.block prefix) some
     (λ n among. omega (arith, sum_remaining-weigh b prefix (λ m. (row_at b m).parcels), le-weigh (λ m. (row_at b m).parcels) n (remaining b.block prefix) among, (good-at b n).parcels.1, (good-at b n).hold.0))
-
-pub parcels-parts : (b : Problem) (prefix spares lengths : List ℕ) → 0 < length (remaining b.block prefix) → HasWords b (spare b) spares → HasWords b (λ n. (row_at b n).parcels) lengths →
-    parcels b prefix ≡ (next (points_of b prefix) + weigh (λ n. get_or lengths (n - 1) 0) (remaining b.block prefix)) + least (λ n. get_or spares (n - 1) 0) (remaining b.block prefix)
-parcels-parts b prefix spares lengths some spares_known lengths_known =
-    omega (
-      arith,
-      parcels-static b prefix some,
-      left-sum b prefix (λ n. (row_at b n).parcels) lengths lengths_known,
-      least-same (λ n. get_or spares (n - 1) 0) (spare b) (remaining b.block prefix) (words-remaining b prefix (spare b) spares spares_known),
-    )

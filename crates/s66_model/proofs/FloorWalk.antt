@@ -8,7 +8,7 @@ use Rattle.s66_isa.specs.Table.{all_kinds}
 use Rattle.s66_isa.proofs.Lists.{greatest-append}
 use Rattle.s66_model.specs.Timing.{Problem}
 use Rattle.s66_model.specs.LegalOrder.{IsBeginning, IsIncomplete}
-use Rattle.s66_model.specs.Leaves.{Leaf, Chain, Load, Parcels, value, load, parcels, chain, longest_chain, first_greatest, after_chain, floor, floor_value}
+use Rattle.s66_model.specs.Leaves.{Leaf, Chain, Load, Parcels, value, load, parcels, chain, longest_chain, first_greatest, floor, floor_value}
 use Rattle.s66_model.proofs.FloorParts.{floor-parts}
 
 -- ONE LEAF FURTHER
@@ -22,9 +22,6 @@ first-kept f leaf other others le = ap (λ x. first_greatest f x others) (cond-f
 -- the leaves after the chain, from the loads of these kinds on
 abbrev pub leaves_from : List Kind → List Leaf
 leaves_from kinds = map (λ (kind : Kind). Load kind) kinds ++ Parcels ∷ []
-
-pub all-leaves : leaves_from all_kinds ≡ after_chain
-all-leaves = refl
 
 pub leaves-step : (kinds : List Kind) (i : ℕ) (d : Kind) → i < length kinds → leaves_from (drop i kinds) ≡ Load (get_or kinds i d) ∷ leaves_from (drop (i + 1) kinds)
 leaves-step kinds i d lt = ap leaves_from (drop_more kinds i d lt)

@@ -1,5 +1,5 @@
 -- The prefix at which a walk over a tree in preorder is determines all that it has still to reach.
-use Rattle.std.proofs.Common.{ℕ, zero, suc, ◌+◌, ◌-◌, ◌≤◌, ◌<◌, ◌≡◌, Bool, true, false, cond, List, [], ◌∷◌, ◌++◌, length, None, Some, refl, sym, ap, arith, inl, append_assoc, ◌∙◌, subst}
+use Rattle.std.proofs.Common.{ℕ, zero, suc, ◌+◌, ◌-◌, ◌<◌, ◌≡◌, Bool, true, false, cond, List, [], ◌∷◌, ◌++◌, length, None, Some, refl, sym, ap, arith, inl, append_assoc, ◌∙◌, subst}
 use Rattle.std.proofs.lemmas.List.{append-nil}
 use Rattle.std.specs.List.{filter}
 use Rattle.s66_isa.specs.declared.instr.Instr.{Instr}
@@ -28,12 +28,6 @@ next-found block prefix m n within is same =
     let passes : is_ready block prefix (suc m) ≡ true = ap (is_ready block prefix) (sym one) ∙ is in
     let step : ready_above block prefix m ≡ suc m ∷ ready_above block prefix (suc m) = ap (filter (is_ready block prefix)) (above-step block m within) ∙ rw passes refl in
     rw one (sym same ∙ step)
-
--- there is no number above m
-pub next-none : (block : List Instr) (prefix : List ℕ) (m n : ℕ) → length block ≤ m → ready_above block prefix m ≡ ready_above block prefix n → IsNextReady block prefix n None
-next-none block prefix m n out same =
-    let e : length block - m ≡ 0 = omega arith in
-    sym same ∙ ap (λ k. filter (is_ready block prefix) (rising k (suc m))) e
 
 pub next-ready : (block : List Instr) (prefix : List ℕ) (n m : ℕ) → IsNextReady block prefix n (Some m) → is_ready block prefix m ≡ true
 next-ready block prefix n m next =

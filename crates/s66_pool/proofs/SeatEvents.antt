@@ -1,5 +1,5 @@
 -- What a call of the ledger makes of its summary, and of the seat record of the worker who called.
-use Rattle.std.proofs.Common.{◌≡◌, ℕ, ◌≤◌, Bool, List, [], ◌∷◌, ◌++◌, Result, Ok, Err, Option, None, IfOk, IfErr, sym, refl, ap, ◌∙◌, subst, arith}
+use Rattle.std.proofs.Common.{◌≡◌, ℕ, ◌≤◌, Bool, List, [], ◌∷◌, ◌++◌, Option, None, sym, refl, ap, ◌∙◌, subst, arith}
 use Rattle.atomic_table.specs.Table.{Me}
 use Rattle.s66_model.specs.Timing.{Problem}
 use Rattle.s66_machine.specs.Ledger.{Event, Reply, Offer, Lower, NotLower, worker, best_time}
@@ -8,11 +8,6 @@ use Rattle.s66_machine.proofs.AccountLaws.{agrees-own, agrees-other, accounts-co
 use Rattle.s66_machine.proofs.LedgerRuns.{step-falls}
 use Rattle.s66_ledger.specs.Ledgers.{LedgerOf, IsEvent, events_of, account_summary}
 use Rattle.s66_share.specs.SeatViews.{View, MayBecome, renewed, idle, holding, first_book, found_at}
-
--- in either case
-pub settled : {T E F : Type 0} (r : Result T E) (P : T → Type 0) (Q : E → Type 0) → ((x : T) → P x → F) → ((e : E) → Q e → F) → IfOk r P → IfErr r Q → F
-settled (Ok x) P Q f g ok err = f x ok
-settled (Err e) P Q f g ok err = g e err
 
 -- a ledger has the worker as it was found
 pub number_within : (l found : LedgerOf) → found ≡ l → (p : SeatRecord) (number : ℕ) → Agrees (account_summary l) p → p.who ≡ number → (1 ≤ number) × (number ≤ found.workers)

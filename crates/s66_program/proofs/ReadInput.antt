@@ -3,9 +3,6 @@ use Rattle.std.proofs.Common.{◌≡◌, ℕ, List, [], ◌++◌, Option, inl, i
 use Rattle.std.proofs.lemmas.List.{append-nil}
 use Rattle.s66_program.specs.KeptInput.{IsFull, IsKeptInput, Puts}
 
-pub kept-none : (most : Option ℕ) → IsKeptInput most [] []
-kept-none most = ([], refl, inl refl)
-
 pub kept-more : (most : Option ℕ) (input bytes old new : List ℕ) → IsKeptInput most input old → Puts most bytes old new → IsKeptInput most (input ++ bytes) new
 kept-more most input bytes old new (rest, is, inl none) (inl (room, more)) =
     let whole : input ≡ old = is ∙ ap (λ r. old ++ r) none ∙ append-nil old in

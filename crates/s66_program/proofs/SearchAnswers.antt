@@ -1,5 +1,5 @@
 -- What a search returns is an answer to the block.
-use Rattle.std.proofs.Common.{ℕ, ◌≡◌, ◌*◌, ◌≤◌, ◌∙◌, true, inl, refl, subst, sym}
+use Rattle.std.proofs.Common.{ℕ, ◌≡◌, ◌*◌, ◌≤◌, ◌∙◌, true, subst, sym}
 use Rattle.std.proofs.lemmas.Bool.{true≢false}
 use Rattle.s66_isa.specs.declared.profile.Profile.{Profile}
 use Rattle.s66_line.specs.Block.{Block}
@@ -9,19 +9,13 @@ use Rattle.s66_model.specs.declared.rule.Rule.{Rule}
 use Rattle.s66_ledger.specs.Answers.{AnswerOf, answer_of}
 use Rattle.s66_command.specs.declared.strategy.Strategy.{Strategy}
 use Rattle.s66_text.specs.Answers.{IsAnswer, problem_of}
-use Rattle.s66_program.specs.Stored.{AreBeside, IsFor, IsFound, answer_in}
-use Rattle.s66_program.specs.declared.answers.BySearch.{BySearch}
-use Rattle.s66_program.specs.declared.answers.Found.TheVariants.{Searched}
+use Rattle.s66_program.specs.Stored.{AreBeside, IsFound}
 
 pub search-answers : (strategy : Strategy) (p : Profile) (block : Block) (found : AnswerOf) → IsFound strategy p block found → search.IsAnswer found.rule found.problem found.budget (answer_of found) →
     search.IsAnswer strategy.search.rule (problem_of p block) strategy.search.nodes (answer_of found)
 search-answers strategy p block found (by, of, for) is =
     subst (λ (b : Problem). search.IsAnswer strategy.search.rule b strategy.search.nodes (answer_of found)) of
     (subst (λ n. search.IsAnswer strategy.search.rule found.problem n (answer_of found)) for (subst (λ (r : Rule). search.IsAnswer r found.problem found.budget (answer_of found)) by is))
-
-pub answers : (strategy : Strategy) (p : Profile) (block : Block) (s : BySearch) → IsFor strategy p block (Searched s) → search.IsAnswer s.answer.rule s.answer.problem s.answer.budget (answer_of s.answer) →
-    IsAnswer strategy p block (answer_in (Searched s))
-answers strategy p block s (for, all) is = inl (answer_of s.answer, search-answers strategy p block s.answer for is, refl, all)
 
 -- with facts other searches may be beside it
 pub beside-deep : (strategy : Strategy) (n : ℕ) → strategy.deep ≡ true → 2 * n ≤ 5 * strategy.search.nodes → AreBeside strategy n

@@ -1,26 +1,20 @@
 -- The arcs by all that is known are those of the table with those of fact lines, and lead from and to instructions of the block.
-use Rattle.std.proofs.Common.{ℕ, Bool, true, ◌≡◌, ◌∙◌, List, [], ◌∷◌, ◌++◌, Option, Some, ap, ap₂, append_assoc, inl, inr, max, refl, sym}
+use Rattle.std.proofs.Common.{ℕ, true, ◌≡◌, ◌∙◌, List, [], ◌∷◌, ◌++◌, Option, Some, ap, ap₂, append_assoc, inl, inr, max, refl, sym}
 use Rattle.std.specs.Prelude.{unwrap_or, ◌&&◌}
 use Rattle.std.proofs.lemmas.Bool.{and_parts, cases_Bool}
 use Rattle.std.proofs.lemmas.List.{append-nil}
-use Rattle.s66_model.specs.Timing.{Problem, row_at}
-use Rattle.s66_model.specs.LegalOrder.{is_remaining}
-use Rattle.s66_model.proofs.Remaining.{remaining-parts}
 use Rattle.s66_moments.specs.declared.moment.Moment.{Moment}
-use Rattle.s66_moments.specs.declared.moment.Moment.TheVariants.{Origin, At, End}
 use Rattle.s66_moments.specs.declared.fact_line.FactLine.{FactLine}
 use Rattle.s66_moments.specs.declared.fact_line.FactLine.TheVariants.{Pair, Load}
 use Rattle.s66_moments.specs.declared.fact_line.KnownArc.{KnownArc}
 use Rattle.s66_moments.specs.declared.fact_line.LoadLine.{LoadLine}
-use Rattle.s66_moments.specs.Moments.{has_stage, is_moment}
 use Rattle.s66_moments.specs.Networks.{Network, network, same_moment, with_arc}
 use Rattle.s66_moments.specs.Known.{Known, known_after, known_first, with_line as known_with, with_loads}
 use Rattle.s66_moments.proofs.MoreArcs.{same_moment-true}
-use Rattle.s66_moments.proofs.Tails.{network-parts}
 use Rattle.s66_cert.specs.Document.{Document}
 use Rattle.s66_checker.specs.Verdict.{facts_of, known_of, problem_of}
 use Rattle.s66_reasons.specs.LongestPaths.{arcs}
-use Rattle.s66_reasons.specs.Within.{IsNumberOf, with_line, with_lines}
+use Rattle.s66_reasons.specs.Within.{with_line, with_lines}
 
 -- THE LOADS OF FACT LINES
 
@@ -59,16 +53,3 @@ arcs-lines d e f =
     ap (λ (loads : List KnownArc). with_loads net loads e f) (loads-after (known_first (problem_of d)) (facts_of d)) ∙ loads-lines net (facts_of d) e f
 
 -- INSTRUCTIONS OF THE BLOCK
-
-pub moment-number : (b : Problem) (e : Moment) → is_moment b e ≡ true → IsNumberOf b e
-moment-number b Origin is = tt
-moment-number b (At n stage) is =
-    let stays = and_parts (is_remaining b.block [] n) (has_stage (row_at b n) stage) is in
-    let (low, high, new) = remaining-parts b.block [] n stays.0 in
-    (low, high)
-moment-number b End is = tt
-
-pub table-numbers : (b : Problem) (before : ℕ → ℕ → Bool) (w : ℕ) (e f : Moment) → network b before e f ≡ Some w → IsNumberOf b e × IsNumberOf b f
-table-numbers b before w e f is =
-    let parts = network-parts b before e f w is in
-    (moment-number b e parts.0, moment-number b f parts.1)

@@ -1,12 +1,11 @@
 -- The first line of a tree, and how many of its lines are splits.
-use Rattle.std.proofs.Common.{◌≡◌, ◌≤◌, ◌∙◌, List, ◌∷◌, refl, ap, sym, arith}
+use Rattle.std.proofs.Common.{◌≡◌, ◌≤◌, ◌∙◌, refl, ap, sym, arith}
 use Rattle.s66_isa.specs.Lists.{tally}
 use Rattle.s66_isa.proofs.Lists.{tally-append}
-use Rattle.s66_model.specs.Tree.{Tree, Alone, Parted, Siblings, NoMore, Unsplit, Split, Vertex, flat, flat_siblings, splits, sibling_splits}
+use Rattle.s66_model.specs.Tree.{Tree, Alone, Parted, Siblings, NoMore, Unsplit, Split, flat, flat_siblings, splits, sibling_splits}
 use Rattle.s66_model.specs.DominatedLeaves.{Ending}
 use Rattle.s66_cert.specs.declared.limits.TheConstants.{SPLIT_LIMIT}
 use Rattle.s66_cert.specs.DocumentParts.{Parts, AreWhole, document_of}
-use Rattle.s66_reasons.specs.Reasons.{top}
 use Rattle.s66_reasons.specs.Within.{is_split}
 
 siblings-splits : (siblings : Siblings Ending) → tally is_split (flat_siblings siblings) ≡ sibling_splits siblings
@@ -19,16 +18,9 @@ pub tree-splits : (tree : Tree Ending) → tally is_split (flat tree) ≡ splits
 tree-splits (Alone ending) = refl
 tree-splits (Parted numbers siblings) = omega (arith, siblings-splits siblings)
 
-first-line : (tree : Tree Ending) (line : Vertex Ending) (lines : List (Vertex Ending)) → flat tree ≡ line ∷ lines → top tree ≡ line
-first-line (Alone ending) line lines is = cc
-first-line (Parted numbers siblings) line lines is = cc
-
 -- as code stores them
 pub stored-splits : (p : Parts) → AreWhole p → tally is_split p.vertices ≡ splits (document_of p).tree
 stored-splits p whole = ap (tally is_split) (sym whole.preorder) ∙ tree-splits (document_of p).tree
 
 pub few-splits : (p : Parts) → AreWhole p → tally is_split p.vertices ≤ SPLIT_LIMIT
 few-splits p whole = omega (arith, stored-splits p whole, whole.document.splits)
-
-pub first-top : (p : Parts) (line : Vertex Ending) (lines : List (Vertex Ending)) → AreWhole p → p.vertices ≡ line ∷ lines → top (document_of p).tree ≡ line
-first-top p line lines whole is = first-line (document_of p).tree line lines (whole.preorder ∙ is)

@@ -1,7 +1,7 @@
 -- What the words of a past are, point by point.
 use Rattle.std.proofs.Common.{ℕ, ◌+◌, ◌-◌, ◌≤◌, ◌<◌, ◌≡◌, ◌≢◌, false, true≢false, ◌||◌, ◌&&◌, cond, max, min, List, [], ◌∷◌, ◌++◌, length, drop, take, replicate, get_or, set, refl, sym, ap, subst, arith, inl, inr, ltb, ◌∙◌}
 use Rattle.std.proofs.lemmas.Bool.{cases_Bool, cases_lt, lt-ltb, le-ltb, eqb-true, eq-eqb}
-use Rattle.std.proofs.lemmas.List.{get_or-set_same, get_or-set_other, get_or-replicate, get_or_append_left, get_or-append_right, at_drop_more, length-append, length-take-le, take-append-le, take-take, take_all}
+use Rattle.std.proofs.lemmas.List.{get_or-set_same, get_or-set_other, get_or-replicate, get_or_append_left, get_or-append_right, at_drop_more, length-append, take-append-le, take_all}
 use Rattle.s66_isa.specs.Lists.{greatest, tally}
 use Rattle.s66_isa.specs.declared.instr.TheConstants.{KIND_COUNT}
 use Rattle.s66_isa.specs.declared.instr.Kind.{Kind}
@@ -208,19 +208,4 @@ past-push xs ys w w2 ws vs p is after e1 e2 =
                 let own : get_or (ws ++ w ∷ []) i d ≡ w = get_or-append_right ws (w ∷ []) (length ws) i d refl (omega (arith, e, is.count)) ∙ ap (λ k. get_or (w ∷ []) k d) first in
                 rw (take-append-le i xs (p ∷ []) (omega (arith, e)) ∙ take_all i xs (omega (arith, e)), own) is.now
           ];
-    })
-
-pub past-pop : (xs ys : List Point) (w v : Words) (ws vs : List Words) → ArePast xs w ws → ws ≡ vs ++ v ∷ [] → ys ≡ take (length xs - 1) xs → ArePast ys v vs
-past-pop xs ys w v ws vs is e1 e2 =
-    let n = length xs - 1 in
-    let many : length vs + 1 ≡ length xs = omega (arith, is.count, ap length e1, length-append vs (v ∷ [])) in
-    let len : length (take n xs) ≡ n = length-take-le n xs (omega (arith, many)) in
-    let first : n - length vs ≡ 0 = omega (arith, many) in
-    let last : get_or ws n v ≡ v = ap (λ us. get_or us n v) e1 ∙ get_or-append_right vs (v ∷ []) (length vs) n v refl (omega (arith, many)) ∙ ap (λ k. get_or (v ∷ []) k v) first in
-    rw e2
-    (record {
-      now = subst (λ u. AreWords (take n xs) u) last (is.each n v (omega (arith, many)));
-      count = omega (arith, many, len);
-      each = λ i d lt.
-          rw (take-take i n xs (omega (arith, lt, len)), sym (get_or_append_left vs (v ∷ []) d i (omega (arith, lt, len, many))) ∙ ap (λ us. get_or us i d) (sym e1)) (is.each i d (omega (arith, lt, len, many)));
     })

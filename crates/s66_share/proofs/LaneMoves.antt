@@ -7,7 +7,7 @@ use Rattle.crossbeam_deque.proofs.Lists.{at_set}
 use Rattle.s66_isa.specs.Lists.{weigh}
 use Rattle.s66_isa.proofs.Lists.{weigh-append}
 use Rattle.s66_machine.specs.Tickets.{TicketOf}
-use Rattle.s66_share.specs.Hands.{Hand, opening_hand, new_hand, spent_hand, one_part_less, joined_hands, HoldsNothing, Balanced, HasPut, HasTaken, HasPartsAtMost, IsSettled}
+use Rattle.s66_share.specs.Hands.{Hand, new_hand, spent_hand, one_part_less, joined_hands, HoldsNothing, Balanced, HasPut, HasTaken, HasPartsAtMost, IsSettled}
 
 weigh-at : {X : Type 0} (f : X → ℕ) (xs : List X) (i : ℕ) (v w : X) → get_elem? xs i ≡ some v → weigh f (set xs i w) + f v ≡ weigh f xs + f w
 weigh-at f [] i v w e = absurd (some-ne-none v (sym e))
@@ -32,13 +32,6 @@ idle-snoc [] w is all zero u e = subst HoldsNothing (some-injective w u e) is
 idle-snoc [] w is all (suc j) u e = absurd (some-ne-none u (sym e))
 idle-snoc (x ∷ xs) w is all zero u e = all 0 u e
 idle-snoc (x ∷ xs) w is all (suc j) u e = idle-snoc xs w is (λ k v. all (suc k) v) j u e
-
-opening-idle : AllIdle (opening_hand ∷ [])
-opening-idle zero v e = subst HoldsNothing (some-injective opening_hand v e) (λ none. (refl, refl))
-opening-idle (suc at) v e = absurd (some-ne-none v (sym e))
-
-pub begins : Balanced [] (opening_hand ∷ [])
-begins = (refl, (λ h. refl), opening-idle)
 
 pub puts : (port : ℕ) (v : Hand) (ts : List TicketOf) → 1 ≤ v.parts → Pushes Balanced port v ts (HasPut v ts)
 puts port v ts some_part items hands b at =

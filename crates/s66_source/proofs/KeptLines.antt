@@ -16,7 +16,7 @@ use Rattle.s66_source.specs.Roles.{is_dropped, is_leading, lines_that}
 use Rattle.s66_source.specs.Printed.{Placed, report}
 use Rattle.s66_source.specs.Printer.{HasMore, begins_with}
 use Rattle.s66_source.specs.Keeping.{Place, AreGiven, after_block, after_line, at_start, copied, ends_block, instruction_text, is_at, next_indents, others, printed_keeping, text_anew, text_at, text_from, text_given}
-use Rattle.s66_source.specs.Keeper.{IsPlace, Keeper, after_kept, kept_from, kept_text}
+use Rattle.s66_source.specs.Keeper.{Keeper, after_kept, kept_from, kept_text}
 use Rattle.s66_source.specs.declared.columns.Columns.{Columns}
 use Rattle.s66_source.proofs.FlaggedLines.{bytes-flagged}
 use Rattle.s66_source.proofs.PrintedLines.{accepted-is, bytes-classed}
@@ -230,9 +230,6 @@ given-after (block ∷ blocks) (suc before) given h =
 pub none-passed : (blocks : List Block) → HasMore 0 blocks
 none-passed [] = tt
 none-passed (block ∷ blocks) = λ some. absurd (omega (arith, some))
-
-pub place-after : (s : Place) → IsPlace s → IsPlace (after_block s)
-place-after s is = record { given = given-after s.blocks s.before s.given is.given; more = none-passed (others s.blocks) }
 
 -- the numbers of an order that is given first are those of the first block
 pub given-first : (line passed before : ℕ) (blocks : List Block) (given : List (Option Placed)) (block : Block) (first : Option Placed) (p : Placed) → AreGiven (drop before blocks) given → before ≡ 0 → is_at line passed blocks ≡ true →

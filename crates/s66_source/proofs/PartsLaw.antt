@@ -174,11 +174,6 @@ Zeroth [] = Unit {0}
 Zeroth ([] ∷ parts) = ⊥
 Zeroth ((m ∷ more) ∷ parts) = m.index % BLOCK_LIMIT ≡ 0
 
-Zeroth-next : (run index : ℕ) (parts : List (List Line)) → Next run index parts → Zeroth parts
-Zeroth-next run index [] h = tt
-Zeroth-next run index ([] ∷ parts) h = h
-Zeroth-next run index ((m ∷ more) ∷ parts) h = h.0
-
 Zeroth-starts : (run : ℕ) (parts : List (List Line)) → Starts run 0 parts → Zeroth parts
 Zeroth-starts run [] h = tt
 Zeroth-starts run ([] ∷ parts) h = h

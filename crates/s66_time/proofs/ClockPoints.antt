@@ -1,9 +1,9 @@
 -- The point of the next instruction by the words of a clock.
-use Rattle.std.proofs.Common.{ℕ, zero, suc, ◌+◌, ◌-◌, ◌≤◌, ◌<◌, ◌≡◌, ◌≢◌, Bool, false, true≢false, cond, ◌||◌, max, min, List, [], ◌∷◌, ◌++◌, length, take, drop, set, get_or, map, refl, sym, ap, arith, inl, inr, leb, ltb, eqb, ◌∙◌, subst, length-take, length-drop, replicate}
-use Rattle.std.proofs.lemmas.List.{take_more, map_push, drop-set-lt, drop-set-add, take-set-le, get_or-drop, get_or-take, length-set, set-set, set-get_or}
+use Rattle.std.proofs.Common.{ℕ, zero, suc, ◌+◌, ◌-◌, ◌≤◌, ◌<◌, ◌≡◌, ◌≢◌, false, true≢false, cond, ◌||◌, max, min, List, [], ◌∷◌, length, take, drop, set, get_or, map, refl, sym, ap, arith, inl, inr, leb, ltb, eqb, ◌∙◌, subst, length-take, length-drop, replicate}
+use Rattle.std.proofs.lemmas.List.{drop-set-lt, drop-set-add, take-set-le, get_or-drop, get_or-take, length-set, set-set, set-get_or}
 use Rattle.std.proofs.Math.Seq.{take-set-lt}
 use Rattle.std.proofs.lemmas.Bool.{cond-true, cond-false, lt-ltb, and_left, cases_Bool, eq-eqb, le-ltb, le-leb, lt-leb}
-use Rattle.s66_isa.specs.Table.{Reg, Write, Row, memory_pair, touches, stores, copies_of, kind_number, same_kind}
+use Rattle.s66_isa.specs.Table.{Write, Row, memory_pair, touches, stores, copies_of, kind_number, same_kind}
 use Rattle.s66_isa.specs.declared.instr.Kind.{Kind}
 use Rattle.s66_isa.specs.declared.instr.Kind.TheVariants.{Boolean, Shift, Add, LongAdd, Multiply, Divide, Increment}
 use Rattle.s66_isa.specs.declared.instr.Memory.{Memory}
@@ -27,19 +27,6 @@ use Rattle.s66_time.specs.declared.step.Saved.{Saved}
 use Rattle.s66_model.proofs.Growth.{AreSmall, none-first, fits_at-ge, start-le, start-ge, free-ge}
 use Rattle.s66_time.proofs.WorkOfKinds.{kinds-few, worked-step}
 use Rattle.s66_time.proofs.FreeUnits.{IsLeast, count-free, count-least, count-push, at-greatest, rest-same}
-
--- a result by what the readers' words are
-abbrev pub result_by : (Reg → ℕ) → ℕ → Write → ResultAt
-result_by f start w = record { reg = w.reg; time = max (start + w.latency) (f w.reg); held = w.held }
-
-pub results-more : (f : Reg → ℕ) (start : ℕ) (ws : List Write) (i : ℕ) (d : Write) (reg : Reg) (latency : ℕ) (held : Bool) (time word : ℕ) (old new : List ResultAt) → i < length ws → d ≡ get_or ws i d →
-    ◌≡◌ {A = Write} (record { reg = reg; latency = latency; held = held }) d → old ≡ map (result_by f start) (take i ws) → word ≡ f reg → time ≡ max (start + latency) word →
-    new ≡ old ++ record { reg = reg; time = time; held = held } ∷ [] → new ≡ map (result_by f start) (take (i + 1) ws)
-results-more f start ws i d reg latency held time word old new lt is view e1 e2 e3 e4 =
-    let made : ◌≡◌ {A = ResultAt} (record { reg = reg; time = time; held = held }) (result_by f start d) =
-    ap (λ t. record { reg = reg; time = t; held = held }) (e3 ∙ ap (λ x. max (start + latency) x) e2) ∙ ap (result_by f start) view in
-    e4 ∙ ap (λ xs. xs ++ record { reg = reg; time = time; held = held } ∷ []) e1 ∙ ap (λ (r : ResultAt). map (result_by f start) (take i ws) ++ r ∷ []) (made ∙ ap (result_by f start) is)
-    ∙ sym (ap (map (result_by f start)) (take_more ws i d lt) ∙ map_push (result_by f start) (take i ws) (get_or ws i d))
 
 -- WHEN IT ISSUES
 

@@ -1,22 +1,12 @@
 -- A loop goes over points with the first first; what it has found is about those so far, the newest first.
-use Rattle.std.proofs.Common.{ℕ, ◌+◌, ◌<◌, ◌≡◌, max, if◌then◌else◌, List, [], ◌∷◌, ◌++◌, ◌∙◌, ap, sym, length, take, get_or, map, refl, reverse}
+use Rattle.std.proofs.Common.{ℕ, ◌+◌, ◌<◌, ◌≡◌, List, [], ◌∷◌, ◌++◌, ◌∙◌, ap, sym, length, take, get_or, map, refl, reverse}
 use Rattle.std.proofs.lemmas.List.{take_more, reverse-append}
-use Rattle.s66_isa.specs.Table.{Reg, Row, has_reg}
-use Rattle.s66_model.specs.Timing.{Problem, Point, ResultAt, row_at, point, point_of, result_at, readers_wait}
-use Rattle.s66_why.specs.declared.cause.Cause.{Cause}
-use Rattle.s66_why.specs.Why.{lets_go, lower, lowest}
+use Rattle.s66_isa.specs.Table.{Row}
+use Rattle.s66_model.specs.Timing.{Problem, Point, ResultAt, row_at, point, point_of, result_at}
 
 pub earlier-more : {X : Type 0} (xs : List X) (i : ℕ) (x : X) → i < length xs → x ≡ get_or xs i x → reverse (take (i + 1) xs) ≡ x ∷ reverse (take i xs)
 earlier-more xs i x lt is =
     ap reverse (take_more xs i x lt ∙ ap (λ y. take i xs ++ y ∷ []) (sym is)) ∙ reverse-append (take i xs) (x ∷ [])
-
-pub lowest-more : (cause : Cause) (t : ℕ) (xs : List Point) (i : ℕ) (q : Point) → i < length xs → q ≡ get_or xs i q →
-    lowest cause t (reverse (take (i + 1) xs)) ≡ (if lets_go cause t q then lower q.number (lowest cause t (reverse (take i xs))) else lowest cause t (reverse (take i xs)))
-lowest-more cause t xs i q lt is = ap (lowest cause t) (earlier-more xs i q lt is)
-
-pub readers_wait-more : (r : Reg) (xs : List Point) (i : ℕ) (q : Point) → i < length xs → q ≡ get_or xs i q →
-    readers_wait (reverse (take (i + 1) xs)) r ≡ max (if has_reg r q.row.reads then q.start + 1 else 0) (readers_wait (reverse (take i xs)) r)
-readers_wait-more r xs i q lt is = ap (λ s. readers_wait s r) (earlier-more xs i q lt is)
 
 -- A POINT BY ITS PARTS
 

@@ -37,11 +37,6 @@ among-split x [] among = absurd among
 among-split x (y ∷ ys) (inl here) = ([], ys, ap (λ z. z ∷ ys) (sym here))
 among-split x (y ∷ ys) (inr past) = let more = among-split x ys past in (y ∷ more.0, more.1, ap (λ zs. y ∷ zs) more.2)
 
-among-map-from : {X Y : Type 0} (f : X → Y) (y : Y) (xs : List X) → Among y (map f xs) → (x : X) × Among x xs × (y ≡ f x)
-among-map-from f y [] among = absurd among
-among-map-from f y (x ∷ xs) (inl here) = (x, inl refl, here)
-among-map-from f y (x ∷ xs) (inr past) = let more = among-map-from f y xs past in (more.0, inr more.1, more.2)
-
 greatest-map : {X Y : Type 0} (f : Y → ℕ) (h : X → Y) (xs : List X) → greatest f (map h xs) ≡ greatest (λ x. f (h x)) xs
 greatest-map f h [] = refl
 greatest-map f h (x ∷ xs) = ap (max (f (h x))) (greatest-map f h xs)
@@ -167,10 +162,6 @@ all-sound b ms (n ∷ ns) sound positive new once from =
     ] in
     subst (λ (l : List Point). AllSound b l → ArePositive l → AreNew ns l → AllSound b (points_after b l ns)) more
     (λ so po ne. all-sound b (ms ++ n ∷ []) ns so po ne once.1 (λ m among. from m (inr among))) (here, sound) above other
-
-sound-from : (b : Problem) (later : List Point) (q : Point) (e : List Point) → AllSound b (later ++ q ∷ e) → AllSound b (q ∷ e)
-sound-from b [] q e sound = sound
-sound-from b (x ∷ later) q e sound = sound-from b later q e sound.1
 
 -- MILESTONES
 
