@@ -23,7 +23,7 @@ use Rattle.s66_command.specs.declared.strategy.Strategy.{Strategy}
 use Rattle.s66_program.specs.declared.answers.ByFacts.{ByFacts}
 use Rattle.s66_program.specs.declared.answers.Candidate.{Candidate}
 use Rattle.s66_program.specs.declared.documents.Shows.{Shows}
-use Rattle.s66_text.specs.Answers.{IsEnough, document_under, problem_of}
+use Rattle.s66_output.specs.Answers.{IsEnough, document_under, problem_of}
 use Rattle.s66_program.specs.Stored.{IsClaimed, IsFit, IsShownBy, claimed, claimed_by, parts_by}
 
 -- a candidate is a legal order with its total, no slower than the source order, which it is if it is as slow

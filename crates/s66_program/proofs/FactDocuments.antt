@@ -8,8 +8,8 @@ use Rattle.s66_line.specs.Block.{instrs_of, Block}
 use Rattle.s66_model.specs.LegalOrder.{IsLegal}
 use Rattle.s66_cert.specs.declared.limits.TheConstants.{TIME_LIMIT}
 use Rattle.s66_cert.specs.DocumentParts.{AreWhole}
-use Rattle.s66_text.specs.ProvedAnswers.{IsSpelled}
-use Rattle.s66_text.proofs.AnswerDocuments.{all-in, length-texts, order-numbers, texts-instructions}
+use Rattle.s66_output.specs.ProvedAnswers.{IsSpelled}
+use Rattle.s66_output.proofs.AnswerDocuments.{all-in, length-texts, order-numbers, texts-instructions}
 use Rattle.s66_program.specs.declared.documents.Shows.{Shows}
 use Rattle.s66_program.specs.Stored.{IsFit, parts_by}
 

@@ -11,11 +11,11 @@ use Rattle.s66_source.specs.declared.error.SourceError.{SourceError}
 use Rattle.s66_command.specs.declared.strategy.Strategy.{Strategy}
 use Rattle.s66_command.specs.declared.command.Command.{Command}
 use Rattle.s66_command.specs.declared.command.Command.TheVariants.{Time, Deps, Chart, Why, Page, Json, Order, Prove, Check, Lint, Sum, Compare}
-use Rattle.s66_text.specs.KeptText.{IsOrderedBy, is_other}
+use Rattle.s66_output.specs.KeptText.{IsOrderedBy, is_other}
 use Rattle.s66_program.specs.declared.limits.TheConstants.{SOURCE_FRONT}
 use Rattle.s66_program.specs.declared.fault.Fault.{Fault}
 use Rattle.s66_program.specs.declared.fault.Fault.TheVariants as fault
-use Rattle.s66_text.specs.declared.outcome.Status.{Status}
+use Rattle.s66_output.specs.declared.outcome.Status.{Status}
 use Rattle.s66_program.specs.declared.remark.Remark.{Remark}
 use Rattle.s66_program.specs.KeptInput.{IsFull, IsKeptInput}
 use Rattle.s66_program.specs.Output.{IsOutput, columns_by, is_cut, reads_documents, reads_source, reads_two, source_in}

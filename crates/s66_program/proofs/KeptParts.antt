@@ -6,11 +6,11 @@ use Rattle.s66_line.specs.Block.{Block}
 use Rattle.s66_source.specs.LeftAlone.{Reading}
 use Rattle.s66_source.specs.Source.{source_of}
 use Rattle.s66_command.specs.declared.strategy.Strategy.{Strategy}
-use Rattle.s66_text.specs.Answers.{Answer, AreAnswers}
-use Rattle.s66_text.specs.declared.outcome.Status.{Status}
-use Rattle.s66_text.specs.declared.outcome.Status.TheVariants.{Done, Bounded}
-use Rattle.s66_text.specs.OfAnswers.{IsOfAnswers, all_parts, status_of}
-use Rattle.s66_text.specs.Shown.{before, shown}
+use Rattle.s66_output.specs.Answers.{Answer, AreAnswers}
+use Rattle.s66_output.specs.declared.outcome.Status.{Status}
+use Rattle.s66_output.specs.declared.outcome.Status.TheVariants.{Done, Bounded}
+use Rattle.s66_output.specs.OfAnswers.{IsOfAnswers, all_parts, status_of}
+use Rattle.s66_output.specs.Shown.{before, shown}
 use Rattle.s66_program.specs.Kept.{AreAnswered, AreKept, IsKept, IsKeptAt, are_best, parts_in}
 use Rattle.s66_program.specs.declared.kept.Kept.{Kept}
 

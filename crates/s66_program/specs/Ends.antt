@@ -12,7 +12,7 @@ use Rattle.s66_command.specs.Usage.{usage_code}
 use Rattle.s66_program.specs.Device.{Tells}
 use Rattle.s66_program.specs.Hints.{hint_of}
 use Rattle.s66_program.specs.Fault.{fault_code, fault_line}
-use Rattle.s66_text.specs.StatusCode.{status_code}
+use Rattle.s66_output.specs.StatusCode.{status_code}
 use Rattle.s66_program.specs.Remarks.{IsTold, remark_text}
 
 -- the line of a fault was printed, and the status is the fault's

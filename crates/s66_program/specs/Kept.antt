@@ -7,14 +7,14 @@ use Rattle.s66_source.specs.Printed.{Placed}
 use Rattle.s66_cert.specs.Document.{document_text}
 use Rattle.s66_command.specs.declared.strategy.Strategy.{Strategy}
 use Rattle.s66_page.specs.FoundOrders.{FoundOrder}
-use Rattle.s66_text.specs.Answers.{Answer, AreAnswers, IsAnswer, document_under}
-use Rattle.s66_text.specs.KeptText.{given_by}
-use Rattle.s66_text.specs.OrderText.{placed_by}
-use Rattle.s66_text.specs.declared.outcome.Status.{Status}
-use Rattle.s66_text.specs.OfAnswers.{IsOfAnswers, all_best, all_parts}
-use Rattle.s66_text.specs.PageText.{found_by}
-use Rattle.s66_text.specs.Shown.{before}
-use Rattle.s66_text.specs.WhyText.{answer_lines}
+use Rattle.s66_output.specs.Answers.{Answer, AreAnswers, IsAnswer, document_under}
+use Rattle.s66_output.specs.KeptText.{given_by}
+use Rattle.s66_output.specs.OrderText.{placed_by}
+use Rattle.s66_output.specs.declared.outcome.Status.{Status}
+use Rattle.s66_output.specs.OfAnswers.{IsOfAnswers, all_best, all_parts}
+use Rattle.s66_output.specs.PageText.{found_by}
+use Rattle.s66_output.specs.Shown.{before}
+use Rattle.s66_output.specs.WhyText.{answer_lines}
 use Rattle.s66_program.specs.declared.kept.Kept.{Kept}
 
 -- PARTS of an answer to the n-th block, from 1

@@ -15,18 +15,18 @@ use Rattle.s66_command.specs.ProfileText.{profile_in_text}
 use Rattle.s66_command.specs.declared.command.Command.{Command}
 use Rattle.s66_command.specs.declared.command.Command.TheVariants.{Time, Deps, Chart, Why, Page, Json, Order, Prove, Check, Lint, Sum, Compare}
 use Rattle.s66_command.specs.Profile.{profile_text}
-use Rattle.s66_text.specs.declared.outcome.Status.{Status}
-use Rattle.s66_text.specs.declared.outcome.Status.TheVariants.{Done, Denied}
-use Rattle.s66_text.specs.declared.listing.Listing.TheVariants as listing
-use Rattle.s66_text.specs.Listing.{IsListing}
-use Rattle.s66_text.specs.JsonText.{IsJsonOutput}
-use Rattle.s66_text.specs.WhyText.{IsWhyOutput}
-use Rattle.s66_text.specs.KeptText.{IsOrdered}
-use Rattle.s66_text.specs.PageText.{IsPageOutput}
-use Rattle.s66_text.specs.ProveText.{IsProveOutput}
-use Rattle.s66_text.specs.CheckText.{IsCheckOutput}
-use Rattle.s66_text.specs.LintText.{IsLintOutput}
-use Rattle.s66_text.specs.SumText.{IsSumOutput}
+use Rattle.s66_output.specs.declared.outcome.Status.{Status}
+use Rattle.s66_output.specs.declared.outcome.Status.TheVariants.{Done, Denied}
+use Rattle.s66_output.specs.declared.listing.Listing.TheVariants as listing
+use Rattle.s66_output.specs.Listing.{IsListing}
+use Rattle.s66_output.specs.JsonText.{IsJsonOutput}
+use Rattle.s66_output.specs.WhyText.{IsWhyOutput}
+use Rattle.s66_output.specs.KeptText.{IsOrdered}
+use Rattle.s66_output.specs.PageText.{IsPageOutput}
+use Rattle.s66_output.specs.ProveText.{IsProveOutput}
+use Rattle.s66_output.specs.CheckText.{IsCheckOutput}
+use Rattle.s66_output.specs.LintText.{IsLintOutput}
+use Rattle.s66_output.specs.SumText.{IsSumOutput}
 
 -- how many workers search, and the most splits of a search
 abbrev pub IsSearchWithin : (workers nodes : ℕ) → Type 0

@@ -21,7 +21,7 @@ use Rattle.s66_program.specs.declared.answers.Found.TheVariants.{Searched, Shown
 use Rattle.s66_program.specs.declared.answers.ByFacts.{ByFacts}
 use Rattle.s66_program.specs.declared.answers.Candidate.{Candidate}
 use Rattle.s66_program.specs.declared.documents.Shows.{Shows}
-use Rattle.s66_text.specs.Answers.{Answer, AreAll, IsAnswer, document_under, problem_of, searched, texts_of}
+use Rattle.s66_output.specs.Answers.{Answer, AreAll, IsAnswer, document_under, problem_of, searched, texts_of}
 
 -- A SEARCH of the block's orders for an answer
 

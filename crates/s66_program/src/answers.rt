@@ -8,7 +8,7 @@ ghost use Rattle.s66_command.specs.declared.strategy.Strategy.{Strategy as Strat
 ghost use Rattle.s66_deep.specs.Orders.{IsGood, IsLooked};
 ghost use Rattle.s66_model.specs.Answer.{source_time};
 ghost use Rattle.s66_model.specs.Timing.{total_of};
-ghost use Rattle.s66_text.specs.Answers.{problem_of};
+ghost use Rattle.s66_output.specs.Answers.{problem_of};
 ghost use Rattle.s66_program.specs.Output.{IsSearchWithin};
 ghost use Rattle.s66_program.specs.Stored.{AreBeside, IsFit, IsFor, IsFound, IsSearchOf, IsShownBy, IsWorth};
 
@@ -74,7 +74,7 @@ impl Found {
     ghost use Rattle.s66_checker.specs.Verdict.{verdict};
     ghost use Rattle.s66_checker.specs.declared.verdict.Verdict.TheVariants.{Yes};
     ghost use Rattle.s66_command.specs.declared.strategy.Strategy.{Strategy as StrategyOf};
-    ghost use Rattle.s66_text.specs.Answers.{IsAnswer, document_under, problem_of};
+    ghost use Rattle.s66_output.specs.Answers.{IsAnswer, document_under, problem_of};
     ghost use Rattle.s66_program.specs.Stored.{IsFor, answer_in};
 
     /// The order.

@@ -1,14 +1,14 @@
 ghost use Rattle.std.specs.Prelude.{◌≡◌, if◌then◌else◌, Bool, IfOk, IfErr};
 ghost use Rattle.s66_compare.specs.Compared.{IsCompared};
-ghost use Rattle.s66_text.specs.declared.outcome.Status.TheVariants.{Denied, Done};
+ghost use Rattle.s66_output.specs.declared.outcome.Status.TheVariants.{Denied, Done};
 ghost use Rattle.s66_program.specs.Comparing.{IsCompareRefusal, IsNewRefusal};
 ghost use Rattle.s66_program.specs.Output.{IsCompareOutput};
 
 use crate::fault::Fault;
 use s66_compare::{Compared, compare};
 use s66_isa::Profile;
+use s66_output::{Output, Status};
 use s66_source::{Source, halves_of, read_source_with};
-use s66_text::{Output, Status};
 use std::alloc::{AllocError, Global};
 
 /// What is written of an old source and a new one. `Err` is out of memory.

@@ -7,7 +7,7 @@ ghost use Rattle.s66_tree.specs.Lines.{has_dominated_line};
 ghost use Rattle.s66_cert.specs.DocumentParts.{document_of};
 ghost use Rattle.s66_checker.specs.Verdict.{verdict};
 ghost use Rattle.s66_checker.specs.declared.verdict.Verdict.TheVariants.{Yes};
-ghost use Rattle.s66_text.specs.Answers.{document_under, searched};
+ghost use Rattle.s66_output.specs.Answers.{document_under, searched};
 ghost use Rattle.s66_program.specs.Stored.{IsAccepted, IsFit, parts_by};
 
 use arrayvec::ArrayVec;
@@ -18,7 +18,7 @@ use s66_isa::{BLOCK_LIMIT, Profile};
 use s66_ledger::Answer;
 use s66_line::Block;
 use s66_model::{BUDGET_LIMIT, Rule};
-use s66_text::texts_of;
+use s66_output::texts_of;
 use std::alloc::{AllocError, Global};
 
 /// The rule of a document with this tree: that of its dominated leaves if it has some, else `NoneNamed`.

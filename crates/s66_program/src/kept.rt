@@ -2,7 +2,7 @@ ghost use Rattle.std.specs.Prelude.{◌≡◌, ◌<◌, ◌^◌, ◌+◌, ◌++�
 ghost use Rattle.s66_isa.specs.declared.profile.Profile.{Profile as ProfileOf};
 ghost use Rattle.s66_line.specs.Block.{Block as BlockOf};
 ghost use Rattle.s66_command.specs.declared.strategy.Strategy.{Strategy as StrategyOf};
-ghost use Rattle.s66_text.specs.Answers.{Answer as AnswerOf};
+ghost use Rattle.s66_output.specs.Answers.{Answer as AnswerOf};
 ghost use Rattle.s66_program.specs.Kept.{AreKept, IsKept, IsKeptAt, are_best, parts_in};
 ghost use Rattle.s66_program.specs.Output.{IsSearchWithin};
 ghost use Rattle.s66_program.specs.Stored.{IsFor, answer_in};
@@ -12,7 +12,7 @@ use crate::turns::{Task, make_each};
 use s66_command::Strategy;
 use s66_isa::Profile;
 use s66_line::Block;
-use s66_text::Observer;
+use s66_output::Observer;
 use std::alloc::{AllocError, Global};
 use std::sync::Wait;
 use std::thread::Threads;

@@ -42,6 +42,6 @@ pub use run::{run_command, run_observed};
 pub use s66_command::{
     Command, NODES_DEFAULT, Strategy, Usage, VERSION, WORKERS_DEFAULT, command_of,
 };
-pub use s66_text::{Observer, Silent, Status};
+pub use s66_output::{Observer, Silent, Status};
 pub use telling::refuse_words;
 pub use turns::{Task, make_each};

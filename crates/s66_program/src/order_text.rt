@@ -1,14 +1,14 @@
 ghost use Rattle.std.specs.Prelude.{IfOk};
-ghost use Rattle.s66_text.specs.KeptText.{IsKeptOutput, IsOrdered};
-ghost use Rattle.s66_text.specs.OrderText.{IsOrderOutput};
+ghost use Rattle.s66_output.specs.KeptText.{IsKeptOutput, IsOrdered};
+ghost use Rattle.s66_output.specs.OrderText.{IsOrderOutput};
 ghost use Rattle.s66_program.specs.Output.{IsSearchWithin};
 
 use crate::answered::keep_answers;
 use crate::parts::{Givings, Placings};
 use s66_command::Strategy;
 use s66_isa::Profile;
+use s66_output::{Observer, Output, blocks_before};
 use s66_source::{Columns, Source, print_keeping, print_source};
-use s66_text::{Observer, Output, blocks_before};
 use std::alloc::AllocError;
 use std::sync::Wait;
 use std::thread::Threads;

@@ -1,5 +1,5 @@
 ghost use Rattle.std.specs.Prelude.{◌≡◌, true, IfOk, IfErr, IfSome};
-ghost use Rattle.s66_text.specs.ProveText.{IsProveOutput};
+ghost use Rattle.s66_output.specs.ProveText.{IsProveOutput};
 ghost use Rattle.s66_program.specs.Output.{IsOutput, IsLinesOutput, IsSearchWithin, IsWaitsOutput, IsWithinLimits, columns_by, is_cut, reads_source};
 ghost use Rattle.s66_program.specs.Remarks.{IsRemark};
 ghost use Rattle.s66_program.specs.Run.{IsRefusal};
@@ -14,8 +14,8 @@ use crate::remark::{Finished, remark_of, untold};
 use crate::sum_text::{Fields, sum_output};
 use s66_command::{Command, Strategy};
 use s66_isa::Profile;
+use s66_output::{Listing, Observer, Output, check_output, lint_output, listing_output};
 use s66_source::{Columns, Source, read_source_with};
-use s66_text::{Listing, Observer, Output, check_output, lint_output, listing_output};
 use std::alloc::AllocError;
 use std::sync::Wait;
 use std::thread::Threads;

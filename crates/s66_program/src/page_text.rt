@@ -1,14 +1,14 @@
 ghost use Rattle.std.specs.Prelude.{IfOk};
 ghost use Rattle.s66_program.specs.Output.{IsSearchWithin};
-ghost use Rattle.s66_text.specs.PageText.{IsPageOutput};
+ghost use Rattle.s66_output.specs.PageText.{IsPageOutput};
 
 use crate::answered::keep_answers;
 use crate::parts::Views;
 use s66_command::Strategy;
 use s66_isa::Profile;
+use s66_output::{Observer, Output, blocks_before, shown};
 use s66_page::push_page;
 use s66_source::Source;
-use s66_text::{Observer, Output, blocks_before, shown};
 use s66_time::Timer;
 use std::alloc::AllocError;
 use std::sync::Wait;

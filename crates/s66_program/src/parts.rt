@@ -4,20 +4,20 @@ ghost use Rattle.std.specs.Prelude.{◌≡◌, ◌++◌, OnOk};
 ghost use Rattle.s66_isa.specs.declared.profile.Profile.{Profile as ProfileOf};
 ghost use Rattle.s66_line.specs.Block.{Block as BlockOf};
 ghost use Rattle.s66_command.specs.declared.strategy.Strategy.{Strategy as StrategyOf};
-ghost use Rattle.s66_text.specs.BestReasons.{best_reasons};
-ghost use Rattle.s66_text.specs.JsonText.{answer_line};
-ghost use Rattle.s66_text.specs.KeptText.{given_by};
-ghost use Rattle.s66_text.specs.OrderText.{placed_by};
+ghost use Rattle.s66_output.specs.BestReasons.{best_reasons};
+ghost use Rattle.s66_output.specs.JsonText.{answer_line};
+ghost use Rattle.s66_output.specs.KeptText.{given_by};
+ghost use Rattle.s66_output.specs.OrderText.{placed_by};
 ghost use Rattle.s66_program.specs.Kept.{document_part, found_part, given_part, placed_part, waits_part};
 ghost use Rattle.s66_program.specs.Stored.{IsFor, answer_in};
 
 use crate::answers::Found;
 use crate::kept::{BlockAnswer, Keep};
 use arrayvec::ArrayVec;
+use s66_output::{keeps_order, push_document, push_json_found, push_waits};
 use s66_page::FoundOrder;
 use s66_reasons::push_reasons;
 use s66_source::Placed;
-use s66_text::{keeps_order, push_document, push_json_found, push_waits};
 use s66_time::Timer;
 use std::alloc::{AllocError, Global};
 

@@ -5,7 +5,7 @@ use crate::run::run_observed;
 use crate::telling::{show_usage, tell_end, tell_failure};
 use s66_command::command_of;
 use s66_device::{Feed, Sink};
-use s66_text::Observer;
+use s66_output::Observer;
 use std::convert::AsStr;
 use std::sync::Wait;
 use std::thread::Threads;

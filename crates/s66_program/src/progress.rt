@@ -1,4 +1,4 @@
-use s66_text::Observer;
+use s66_output::Observer;
 use std::io::Write;
 use std::time::{Clock, Duration, Instant};
 

@@ -9,8 +9,8 @@ use arrayvec::ArrayString;
 use itoa::Buffer;
 use s66_command::Command;
 use s66_lint::count_findings;
+use s66_output::{Output, Status};
 use s66_source::Source;
-use s66_text::{Output, Status};
 use std::alloc::{AllocError, Global};
 
 /// What standard error gets after a success.

@@ -11,7 +11,7 @@ use crate::remark::Ended;
 use s66_command::{Command, read_profile};
 use s66_device::{Feed, Sink, write_all};
 use s66_isa::Profile;
-use s66_text::{Observer, Silent, Status};
+use s66_output::{Observer, Silent, Status};
 use std::alloc::Global;
 use std::sync::Wait;
 use std::thread::Threads;

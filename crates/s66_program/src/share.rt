@@ -1,7 +1,7 @@
 ghost use Rattle.std.specs.Prelude.{ℕ, ◌<◌, All};
 
 use crate::turns::Task;
-use s66_text::Observer;
+use s66_output::Observer;
 use std::alloc::Global;
 use std::sync::atomic::{AtomicUsize, Ordering};
 

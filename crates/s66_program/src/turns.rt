@@ -5,7 +5,7 @@ ghost use Rattle.s66_program.specs.Turns.{AreMade, ArePut};
 ghost use denote.Param.Send.{IsSync, IsSend};
 
 use crate::share::{Made, make_share};
-use s66_text::{Observer, Silent};
+use s66_output::{Observer, Silent};
 use std::alloc::{AllocError, Global};
 use std::sync::atomic::AtomicUsize;
 use std::thread;

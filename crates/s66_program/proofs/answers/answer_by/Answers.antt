@@ -7,7 +7,7 @@ use Rattle.s66_model.specs.Tree.{splits}
 use Rattle.s66_cert.specs.DocumentParts.{Parts, tree_of_lines}
 use Rattle.s66_program.specs.declared.answers.Candidate.{Candidate}
 use Rattle.s66_program.specs.declared.documents.Shows.{Shows}
-use Rattle.s66_text.specs.Answers.{IsEnough, problem_of}
+use Rattle.s66_output.specs.Answers.{IsEnough, problem_of}
 use Rattle.s66_program.specs.Stored.{IsShownBy, claimed}
 use Rattle.s66_program.proofs.SearchAnswers.{beside-deep}
 use Rattle.s66_program.proofs.ByFacts.{IsCandidate, as-good, as-long, looked-fit, shown-claimed}

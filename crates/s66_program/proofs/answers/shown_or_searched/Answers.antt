@@ -12,7 +12,7 @@ use Rattle.s66_cert.specs.DocumentParts.{Parts}
 use Rattle.s66_program.specs.declared.answers.Candidate.{Candidate}
 use Rattle.s66_model.specs.Tree.{splits}
 use Rattle.s66_cert.specs.DocumentParts.{tree_of_lines}
-use Rattle.s66_text.specs.Answers.{IsEnough, problem_of}
+use Rattle.s66_output.specs.Answers.{IsEnough, problem_of}
 use Rattle.s66_program.specs.Stored.{IsShownBy, claimed}
 use Rattle.s66_program.proofs.SearchAnswers.{search-answers}
 use Rattle.s66_program.proofs.ByFacts.{IsCandidate, shown-claimed}

@@ -4,7 +4,7 @@ use Rattle.s66_model.specs.LegalOrder.{IsLegal}
 use Rattle.s66_model.specs.declared.rule.Rule.TheVariants.{ClampedStanding}
 use Rattle.s66_cert.specs.DocumentParts.{Parts, AreWhole}
 use Rattle.s66_program.specs.Stored.{parts_by}
-use Rattle.s66_text.proofs.AnswerDocuments.{same-parts}
+use Rattle.s66_output.proofs.AnswerDocuments.{same-parts}
 use Rattle.s66_program.proofs.FactDocuments.{shown-whole}
 use Rattle.s66_program.proofs.documents.document_by.Goals as goal
 

@@ -10,9 +10,9 @@ use Rattle.s66_cert.specs.DocumentParts.{Parts, AreWhole, document_of}
 use Rattle.s66_model.specs.Answer.{IsAnswer}
 use Rattle.s66_checker.specs.declared.verdict.Verdict.TheVariants.{Yes}
 use Rattle.s66_checker.specs.Verdict.{verdict}
-use Rattle.s66_text.specs.Answers.{document_under, searched}
-use Rattle.s66_text.proofs.AnswerVerdicts.{verdict-of_search}
-use Rattle.s66_text.proofs.AnswerDocuments.{parts_under, parts-document, parts-whole, same-parts}
+use Rattle.s66_output.specs.Answers.{document_under, searched}
+use Rattle.s66_output.proofs.AnswerVerdicts.{verdict-of_search}
+use Rattle.s66_output.proofs.AnswerDocuments.{parts_under, parts-document, parts-whole, same-parts}
 use Rattle.s66_program.proofs.documents.document_of.Goals as goal
 use Rattle.s66_program.proofs.documents.document_of.Goals.{After-bound, After-new}
 

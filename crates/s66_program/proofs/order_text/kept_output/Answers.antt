@@ -1,9 +1,9 @@
 use Rattle.std.proofs.Common.{◌∙◌, ap, drop, refl, subst, sym}
 use Rattle.s66_source.specs.Keeping.{AreGiven, printed_keeping}
 use Rattle.s66_source.specs.Source.{blocks_of, classed_lines}
-use Rattle.s66_text.specs.KeptText.{all_given}
-use Rattle.s66_text.specs.Shown.{before}
-use Rattle.s66_text.proofs.KeptAnswers.{given-within}
+use Rattle.s66_output.specs.KeptText.{all_given}
+use Rattle.s66_output.specs.Shown.{before}
+use Rattle.s66_output.proofs.KeptAnswers.{given-within}
 use Rattle.s66_program.specs.Kept.{given_part}
 use Rattle.s66_program.proofs.KeptParts.{kept-whole}
 use Rattle.s66_program.proofs.order_text.kept_output.Goals as goal

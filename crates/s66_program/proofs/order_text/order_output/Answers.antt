@@ -1,8 +1,8 @@
 use Rattle.std.proofs.Common.{◌∙◌, None, ap, refl, subst, sym}
 use Rattle.s66_source.specs.Printed.{ArePlaced, printed}
 use Rattle.s66_source.specs.Source.{blocks_of, classed_lines}
-use Rattle.s66_text.specs.OrderText.{all_placed}
-use Rattle.s66_text.proofs.PlacedAnswers.{placed-within}
+use Rattle.s66_output.specs.OrderText.{all_placed}
+use Rattle.s66_output.proofs.PlacedAnswers.{placed-within}
 use Rattle.s66_program.specs.Kept.{placed_part}
 use Rattle.s66_program.proofs.KeptParts.{kept-whole}
 use Rattle.s66_program.proofs.order_text.order_output.Goals as goal

@@ -1,6 +1,6 @@
 use Rattle.std.proofs.Common.{refl}
 use Rattle.s66_cert.specs.Document.{documents_text}
-use Rattle.s66_text.specs.ProveText.{all_documents}
+use Rattle.s66_output.specs.ProveText.{all_documents}
 use Rattle.s66_program.specs.Kept.{document_part}
 use Rattle.s66_program.proofs.KeptParts.{kept-whole}
 use Rattle.s66_program.proofs.output.documents_output.Goals as goal

@@ -1,6 +1,6 @@
 use Rattle.std.proofs.Common.{IfOk, Option, subst, sym}
 use Rattle.s66_command.specs.declared.strategy.Strategy.{Strategy}
-use Rattle.s66_text.specs.declared.outcome.Output.{Output}
+use Rattle.s66_output.specs.declared.outcome.Output.{Output}
 use Rattle.s66_program.specs.Output.{IsLinesOutput}
 use Rattle.s66_program.proofs.output.lines_output.Goals as goal
 

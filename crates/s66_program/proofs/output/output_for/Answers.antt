@@ -1,6 +1,6 @@
 use Rattle.std.proofs.Common.{subst, sym}
 use Rattle.s66_command.specs.declared.command.Command.{Command}
-use Rattle.s66_text.specs.declared.outcome.Output.{Output}
+use Rattle.s66_output.specs.declared.outcome.Output.{Output}
 use Rattle.s66_program.specs.Output.{IsCompareOutput, IsOutput}
 use Rattle.s66_program.proofs.output.output_for.Goals as goal
 

@@ -1,9 +1,9 @@
 use Rattle.std.proofs.Common.{◌≡◌, ◌∙◌, Bool, IfOk, ap, subst, sym}
 use Rattle.s66_command.specs.declared.command.Command.{Command}
-use Rattle.s66_text.specs.declared.outcome.Output.{Output}
+use Rattle.s66_output.specs.declared.outcome.Output.{Output}
 use Rattle.s66_source.specs.LeftAlone.{Reading}
-use Rattle.s66_text.specs.PageText.{IsPageOutput}
-use Rattle.s66_text.specs.SumText.{IsSumOutput}
+use Rattle.s66_output.specs.PageText.{IsPageOutput}
+use Rattle.s66_output.specs.SumText.{IsSumOutput}
 use Rattle.s66_program.specs.Output.{IsOutput, is_cut}
 use Rattle.s66_program.proofs.output.output_of.Goals as goal
 

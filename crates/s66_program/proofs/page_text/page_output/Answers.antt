@@ -7,13 +7,13 @@ use Rattle.s66_source.specs.LeftAlone.{Reading}
 use Rattle.s66_source.specs.declared.limits.TheConstants.{SOURCE_LINES_LIMIT}
 use Rattle.s66_source.specs.Source.{source_of}
 use Rattle.s66_command.specs.declared.strategy.Strategy.{Strategy}
-use Rattle.s66_text.specs.declared.outcome.Status.{Status}
-use Rattle.s66_text.specs.Answers.{Answer, AreAnswers}
-use Rattle.s66_text.specs.OfAnswers.{status_of}
-use Rattle.s66_text.specs.PageText.{all_found}
-use Rattle.s66_text.specs.Shown.{before, shown}
-use Rattle.s66_text.proofs.FoundAnswers.{found-of}
-use Rattle.s66_text.proofs.SumRows.{few-blocks}
+use Rattle.s66_output.specs.declared.outcome.Status.{Status}
+use Rattle.s66_output.specs.Answers.{Answer, AreAnswers}
+use Rattle.s66_output.specs.OfAnswers.{status_of}
+use Rattle.s66_output.specs.PageText.{all_found}
+use Rattle.s66_output.specs.Shown.{before, shown}
+use Rattle.s66_output.proofs.FoundAnswers.{found-of}
+use Rattle.s66_output.proofs.SumRows.{few-blocks}
 use Rattle.s66_program.specs.Kept.{AreAnswered, found_part}
 use Rattle.s66_program.proofs.KeptParts.{kept-whole, of-read}
 use Rattle.s66_program.proofs.page_text.page_output.Goals as goal

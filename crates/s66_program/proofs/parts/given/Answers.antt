@@ -1,7 +1,7 @@
 use Rattle.std.proofs.Common.{◌≡◌, ◌&&◌, ◌∙◌, true, false, if◌then◌else◌, None, Some, ap, ap₂, sym}
 use Rattle.s66_source.specs.Printed.{Placed}
-use Rattle.s66_text.specs.KeptText.{rise_from}
-use Rattle.s66_text.specs.OrderText.{placed_by}
+use Rattle.s66_output.specs.KeptText.{rise_from}
+use Rattle.s66_output.specs.OrderText.{placed_by}
 use Rattle.s66_program.specs.Stored.{answer_in}
 use Rattle.s66_program.proofs.parts.given.Goals as goal
 use Rattle.s66_program.proofs.parts.given.Goals.{else-keep-via-then-keep+else-keeps_order, else-keep-via-else-keep}

@@ -1,7 +1,7 @@
 use Rattle.std.proofs.Common.{◌≡◌, ◌∙◌, if◌then◌else◌, None, Some, ap, sym}
 use Rattle.s66_dep.specs.Ordered.{Ordered}
 use Rattle.s66_source.specs.Printed.{Placed}
-use Rattle.s66_text.specs.OrderText.{placed_by}
+use Rattle.s66_output.specs.OrderText.{placed_by}
 use Rattle.s66_program.specs.Stored.{answer_in}
 use Rattle.s66_program.proofs.parts.placing.Goals as goal
 use Rattle.s66_program.proofs.parts.placing.Goals.{then-trace, else-trace}

@@ -2,7 +2,7 @@ use Rattle.std.proofs.Common.{ℕ, ◌≡◌, ◌∙◌, ◌++◌, if◌then◌e
 use Rattle.std.proofs.lemmas.List.{append-nil}
 use Rattle.s66_reasons.specs.Reasons.{reasons_text}
 use Rattle.s66_checker.specs.declared.verdict.Verdict.TheVariants.{Yes}
-use Rattle.s66_text.specs.Answers.{document_under}
+use Rattle.s66_output.specs.Answers.{document_under}
 use Rattle.s66_program.specs.Stored.{answer_in}
 use Rattle.s66_program.proofs.parts.push_best_reasons.Goals as goal
 

@@ -6,16 +6,16 @@ use Rattle.s66_source.specs.declared.limits.TheConstants.{SOURCE_LINES_LIMIT}
 use Rattle.s66_source.specs.Printed.{ArePlaced, Placed}
 use Rattle.s66_source.specs.Source.{source_of}
 use Rattle.s66_command.specs.declared.strategy.Strategy.{Strategy}
-use Rattle.s66_text.specs.declared.outcome.Status.{Status}
-use Rattle.s66_text.specs.declared.sum_rows.Row.{Row}
-use Rattle.s66_text.specs.Answers.{Answer, AreAnswers}
-use Rattle.s66_text.specs.OfAnswers.{status_of}
-use Rattle.s66_text.specs.OrderText.{all_placed}
-use Rattle.s66_text.specs.Shown.{before, shown}
-use Rattle.s66_text.specs.SumRows.{AreNumbered}
-use Rattle.s66_text.specs.SumText.{IsSumText, rows_of}
-use Rattle.s66_text.proofs.PlacedAnswers.{all-within}
-use Rattle.s66_text.proofs.SumRows.{few-rows, length-placed, rows-numbered}
+use Rattle.s66_output.specs.declared.outcome.Status.{Status}
+use Rattle.s66_output.specs.declared.sum_rows.Row.{Row}
+use Rattle.s66_output.specs.Answers.{Answer, AreAnswers}
+use Rattle.s66_output.specs.OfAnswers.{status_of}
+use Rattle.s66_output.specs.OrderText.{all_placed}
+use Rattle.s66_output.specs.Shown.{before, shown}
+use Rattle.s66_output.specs.SumRows.{AreNumbered}
+use Rattle.s66_output.specs.SumText.{IsSumText, rows_of}
+use Rattle.s66_output.proofs.PlacedAnswers.{all-within}
+use Rattle.s66_output.proofs.SumRows.{few-rows, length-placed, rows-numbered}
 use Rattle.s66_program.specs.Kept.{AreAnswered, placed_part}
 use Rattle.s66_program.proofs.KeptParts.{kept-whole, of-read}
 use Rattle.s66_program.proofs.sum_text.sum_output.Goals as goal

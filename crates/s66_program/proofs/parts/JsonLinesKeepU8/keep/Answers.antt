@@ -4,7 +4,7 @@ use Rattle.s66_dep.specs.Ordered.{Ordered}
 use Rattle.s66_line.specs.Block.{instrs_of}
 use Rattle.s66_json.specs.Json.{found_data, json_line}
 use Rattle.s66_program.specs.Stored.{answer_in}
-use Rattle.s66_text.specs.AsWritten.{as_written}
+use Rattle.s66_output.specs.AsWritten.{as_written}
 use Rattle.s66_program.proofs.parts.JsonLinesKeepU8.keep.Goals as goal
 
 pub push_json_found-requires : goal.push_json_found-requires

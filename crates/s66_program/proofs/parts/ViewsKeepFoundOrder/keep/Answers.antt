@@ -2,7 +2,7 @@ use Rattle.std.proofs.Common.{ℕ, ◌≡◌, ◌∙◌, ◌++◌, List, [], ◌
 use Rattle.s66_dep.specs.Ordered.{Ordered}
 use Rattle.s66_line.specs.Block.{instrs_of}
 use Rattle.s66_page.specs.FoundOrders.{FoundOrder}
-use Rattle.s66_text.specs.BestReasons.{best_reasons}
+use Rattle.s66_output.specs.BestReasons.{best_reasons}
 use Rattle.s66_program.specs.Stored.{answer_in}
 use Rattle.s66_program.proofs.parts.ViewsKeepFoundOrder.keep.Goals as goal
 

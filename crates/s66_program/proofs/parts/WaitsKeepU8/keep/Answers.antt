@@ -4,8 +4,8 @@ use Rattle.s66_dep.specs.Ordered.{Ordered}
 use Rattle.s66_time.specs.TimedOrder.{TimedOrder}
 use Rattle.s66_line.specs.Block.{instrs_of}
 use Rattle.s66_program.specs.Stored.{answer_in}
-use Rattle.s66_text.specs.BestReasons.{best_reasons}
-use Rattle.s66_text.specs.WhyText.{waits_lines}
+use Rattle.s66_output.specs.BestReasons.{best_reasons}
+use Rattle.s66_output.specs.WhyText.{waits_lines}
 use Rattle.s66_program.proofs.parts.WaitsKeepU8.keep.Goals as goal
 
 pub time-timed-requires : goal.time-timed-requires

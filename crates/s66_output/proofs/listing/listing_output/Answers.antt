@@ -1,0 +1,13 @@
+use Rattle.std.proofs.Common.{◌∙◌, ap₂, refl}
+use Rattle.s66_output.specs.Listing.{lines_of_blocks}
+use Rattle.s66_output.proofs.listing.listing_output.Goals as goal
+
+pub returns : goal.returns
+returns c = (
+  (
+    c.blocks-2.result.now,
+    c.blocks-2.ensures,
+    c.in_ok-text_of_blocks.ensures ∙ ap₂ (λ n blocks. lines_of_blocks c.args.profile.now c.args.listing.now n blocks) c.blocks_before.ensures.value c.shown-blocks.ensures,
+  ),
+  refl,
+)

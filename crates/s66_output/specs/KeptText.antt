@@ -1,0 +1,45 @@
+-- To be believed: what `order` writes with `--keep`, with `--columns` or without it, `--quiet` or `--block`, and how it ends.
+use Rattle.std.specs.Prelude.{ℕ, suc, ◌≡◌, ◌==◌, ◌&&◌, ◌||◌, if◌then◌else◌, Bool, true, false, List, [], ◌∷◌, Option, Some, None}
+use Rattle.std.specs.Option.{is_some}
+use Rattle.s66_isa.specs.declared.profile.Profile.{Profile}
+use Rattle.s66_line.specs.Block.{Block}
+use Rattle.s66_source.specs.Keeping.{printed_keeping}
+use Rattle.s66_source.specs.LeftAlone.{Reading}
+use Rattle.s66_source.specs.Printed.{Placed}
+use Rattle.s66_source.specs.declared.columns.Columns.{Columns}
+use Rattle.s66_command.specs.declared.strategy.Strategy.{Strategy}
+use Rattle.s66_output.specs.Answers.{Answer}
+use Rattle.s66_output.specs.OrderText.{IsOrderOutput, placed_by}
+use Rattle.s66_output.specs.OfAnswers.{IsOfAnswers}
+use Rattle.s66_output.specs.Shown.{before, shown}
+use Rattle.s66_output.specs.declared.outcome.Status.{Status}
+
+-- the numbers are those from n on, one after the other
+abbrev pub rise_from : ℕ → List ℕ → Bool
+rise_from n [] = true
+rise_from n (m ∷ ms) = m == n && rise_from (suc n) ms
+
+-- how a block is printed by its answer; with `--keep` it stands if its order is the source's
+abbrev pub given_by : Profile → (trace keep : Bool) → Block → Answer → Option Placed
+given_by p trace keep block a = if keep && rise_from 1 a.order then None else Some (placed_by p trace block a)
+
+abbrev pub all_given : Profile → (trace keep : Bool) → List Block → List Answer → List (Option Placed)
+all_given p trace keep (block ∷ blocks) (a ∷ answers) = given_by p trace keep block a ∷ all_given p trace keep blocks answers
+all_given p trace keep blocks answers = []
+
+-- the source printed by answers to the blocks that are shown, all other blocks of which stand
+abbrev pub IsKeptOutput : Strategy → Profile → (trace keep : Bool) → Columns → (quiet : Bool) (only : Option ℕ) (source : Reading) (text : List ℕ) → Status → Type 0
+IsKeptOutput strategy p trace keep columns quiet only source text status =
+    IsOfAnswers (λ blocks answers. text ≡ printed_keeping quiet columns source (before only) (all_given p trace keep blocks answers)) strategy p only source status
+
+-- one of the options is there
+abbrev pub is_other : (keep quiet : Bool) → Option ℕ → Bool
+is_other keep quiet only = keep || (quiet || is_some only)
+
+abbrev pub IsOrderedBy : Bool → Strategy → Profile → (trace keep : Bool) → Columns → (quiet : Bool) (only : Option ℕ) (source : Reading) (text : List ℕ) → Status → Type 0
+IsOrderedBy true strategy p trace keep columns quiet only source text status = IsKeptOutput strategy p trace keep columns quiet only source text status
+IsOrderedBy false strategy p trace keep columns quiet only source text status = IsOrderOutput strategy p trace source text status
+
+-- what `order` writes with these options or without them
+abbrev pub IsOrdered : Strategy → Profile → (trace keep : Bool) → Columns → (quiet : Bool) (only : Option ℕ) (source : Reading) (text : List ℕ) → Status → Type 0
+IsOrdered strategy p trace keep columns quiet only source text status = IsOrderedBy (is_other keep quiet only) strategy p trace keep columns quiet only source text status
