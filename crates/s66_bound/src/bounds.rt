@@ -31,7 +31,8 @@ impl<'a> Model for Bounds<'a> {
 
     ghost view = { λ b. timed_by b.block.now b.profile };
 
-    ghost invariant = { λ b. AreCosts (timed_by b.block.now b.profile) b.costs.items × IsTables (timed_by b.block.now b.profile) b.tables };
+    ghost invariant = { λ b. AreCosts (timed_by b.block.now b.profile) b.costs.items ×
+        IsTables (timed_by b.block.now b.profile) b.tables };
 }
 
 impl<'a> Bounds<'a> {
@@ -89,7 +90,9 @@ impl<'a> Bounds<'a> {
     pub fn load(&self, clock: &Clock<'_>, kind: Kind) -> u32
         requires same { self.now ≡ problem_of clock.now }
         ensures value { result ≡ load self.now clock.now.numbers kind }
-        ensures bound { length clock.now.numbers < length self.now.block → (rest : List ℕ) → IsLegal self.now.block (clock.now.numbers ++ rest) → result ≤ total_of self.now (clock.now.numbers ++ rest) }
+        ensures bound { length clock.now.numbers < length self.now.block → (rest : List ℕ) →
+            IsLegal self.now.block (clock.now.numbers ++ rest) →
+            result ≤ total_of self.now (clock.now.numbers ++ rest) }
     {
         load_of(&self.tables, clock, kind)
     }
@@ -99,7 +102,8 @@ impl<'a> Bounds<'a> {
         requires same { self.now ≡ problem_of clock.now }
         requires some { length clock.now.numbers < length self.now.block }
         ensures value { result ≡ parcels self.now clock.now.numbers }
-        ensures bound { (rest : List ℕ) → IsLegal self.now.block (clock.now.numbers ++ rest) → result ≤ total_of self.now (clock.now.numbers ++ rest) }
+        ensures bound { (rest : List ℕ) → IsLegal self.now.block (clock.now.numbers ++ rest) →
+            result ≤ total_of self.now (clock.now.numbers ++ rest) }
     {
         parcels_of(&self.tables, clock, &remaining_numbers(&self.tables, clock))
     }
@@ -108,7 +112,8 @@ impl<'a> Bounds<'a> {
     pub fn floor_value(&self, clock: &Clock<'_>) -> u32
         requires same { self.now ≡ problem_of clock.now }
         ensures value { result ≡ floor_value self.now clock.now.numbers }
-        ensures bound { (rest : List ℕ) → IsLegal self.now.block (clock.now.numbers ++ rest) → result ≤ total_of self.now (clock.now.numbers ++ rest) }
+        ensures bound { (rest : List ℕ) → IsLegal self.now.block (clock.now.numbers ++ rest) →
+            result ≤ total_of self.now (clock.now.numbers ++ rest) }
     {
         let rest = remaining_numbers(&self.tables, clock);
         let ranks = remaining_ranks(&self.tables, clock, &rest);
@@ -121,7 +126,8 @@ impl<'a> Bounds<'a> {
         requires same { self.now ≡ problem_of clock.now }
         requires ranks { AreRanksLeft self.now clock.now.numbers ranks.now }
         ensures value { result ≡ floor_value self.now clock.now.numbers }
-        ensures bound { (rest : List ℕ) → IsLegal self.now.block (clock.now.numbers ++ rest) → result ≤ total_of self.now (clock.now.numbers ++ rest) }
+        ensures bound { (rest : List ℕ) → IsLegal self.now.block (clock.now.numbers ++ rest) →
+            result ≤ total_of self.now (clock.now.numbers ++ rest) }
     {
         let rest = remaining_numbers(&self.tables, clock);
         if rest.count() == 0 {
@@ -136,7 +142,8 @@ impl<'a> Bounds<'a> {
         requires some { length clock.now.numbers < length self.now.block }
         ensures numbers { result.numbers.items ≡ longest_chain self.now clock.now.numbers }
         ensures value { result.value ≡ chain self.now clock.now.numbers }
-        ensures bound { (rest : List ℕ) → IsLegal self.now.block (clock.now.numbers ++ rest) → result.value ≤ total_of self.now (clock.now.numbers ++ rest) }
+        ensures bound { (rest : List ℕ) → IsLegal self.now.block (clock.now.numbers ++ rest) →
+            result.value ≤ total_of self.now (clock.now.numbers ++ rest) }
     {
         let rest = remaining_numbers(&self.tables, clock);
         let value = chain_of(&self.tables, clock, &rest);
@@ -154,7 +161,8 @@ impl<'a> Bounds<'a> {
         requires value { value ≡ floor_value self.now clock.now.numbers }
         ensures leaf { leaf_of result ≡ floor self.now clock.now.numbers }
         ensures value { value_of result ≡ value }
-        ensures bound { (rest : List ℕ) → IsLegal self.now.block (clock.now.numbers ++ rest) → value_of result ≤ total_of self.now (clock.now.numbers ++ rest) }
+        ensures bound { (rest : List ℕ) → IsLegal self.now.block (clock.now.numbers ++ rest) →
+            value_of result ≤ total_of self.now (clock.now.numbers ++ rest) }
     {
         let rest = remaining_numbers(&self.tables, clock);
         if rest.count() == 0 {

@@ -13,7 +13,8 @@ fn walk_to(costs: &[Cost], longest: &[u32; BLOCK_LIMIT], place: usize, later: us
     requires few { length costs.now ≤ BLOCK_LIMIT }
     requires order { (place < later) × (later < length costs.now) }
     requires known { (b : Problem) × AreCosts b costs.now × HasLater b place longest.now }
-    ensures { (b : Problem) → AreCosts b costs.now → HasLater b place longest.now → result ≡ walk_to b (place + 1) (later + 1) }
+    ensures { (b : Problem) → AreCosts b costs.now → HasLater b place longest.now →
+        result ≡ walk_to b (place + 1) (later + 1) }
 {
     let link = link(&costs[place], &costs[later]);
     if link == 0 { 0 } else { link + longest[later] }
@@ -24,7 +25,8 @@ fn longest_from(costs: &[Cost], longest: &[u32; BLOCK_LIMIT], place: usize) -> u
     requires few { length costs.now ≤ BLOCK_LIMIT }
     requires place { place < length costs.now }
     requires known { (b : Problem) × AreCosts b costs.now × HasLater b place longest.now }
-    ensures { (b : Problem) → AreCosts b costs.now → HasLater b place longest.now → result ≡ longest_tail b (place + 1) }
+    ensures { (b : Problem) → AreCosts b costs.now → HasLater b place longest.now →
+        result ≡ longest_tail b (place + 1) }
 {
     let mut last = costs[place].tail;
     for later in place + 1..costs.len() {

@@ -19,7 +19,8 @@ pub fn chain(clock: &Clock<'_>) -> ChainLeaf
     requires { length clock.now.numbers < length (instrs_of clock.now.block) }
     ensures numbers { result.numbers.items ≡ longest_chain (problem_of clock.now) clock.now.numbers }
     ensures value { result.value ≡ chain (problem_of clock.now) clock.now.numbers }
-    ensures bound { (rest : List ℕ) → IsLegal (instrs_of clock.now.block) (clock.now.numbers ++ rest) → result.value ≤ total_of (problem_of clock.now) (clock.now.numbers ++ rest) }
+    ensures bound { (rest : List ℕ) → IsLegal (instrs_of clock.now.block) (clock.now.numbers ++ rest) →
+        result.value ≤ total_of (problem_of clock.now) (clock.now.numbers ++ rest) }
 {
     Bounds::of(clock.block(), clock.profile()).chain(clock)
 }
@@ -27,7 +28,9 @@ pub fn chain(clock: &Clock<'_>) -> ChainLeaf
 /// The load of a kind of unit.
 pub fn load(clock: &Clock<'_>, kind: Kind) -> u32
     ensures value { result ≡ load (problem_of clock.now) clock.now.numbers kind }
-    ensures bound { length clock.now.numbers < length (instrs_of clock.now.block) → (rest : List ℕ) → IsLegal (instrs_of clock.now.block) (clock.now.numbers ++ rest) → result ≤ total_of (problem_of clock.now) (clock.now.numbers ++ rest) }
+    ensures bound { length clock.now.numbers < length (instrs_of clock.now.block) → (rest : List ℕ) →
+        IsLegal (instrs_of clock.now.block) (clock.now.numbers ++ rest) →
+        result ≤ total_of (problem_of clock.now) (clock.now.numbers ++ rest) }
 {
     Bounds::of(clock.block(), clock.profile()).load(clock, kind)
 }
@@ -36,7 +39,8 @@ pub fn load(clock: &Clock<'_>, kind: Kind) -> u32
 pub fn parcels(clock: &Clock<'_>) -> u32
     requires { length clock.now.numbers < length (instrs_of clock.now.block) }
     ensures value { result ≡ parcels (problem_of clock.now) clock.now.numbers }
-    ensures bound { (rest : List ℕ) → IsLegal (instrs_of clock.now.block) (clock.now.numbers ++ rest) → result ≤ total_of (problem_of clock.now) (clock.now.numbers ++ rest) }
+    ensures bound { (rest : List ℕ) → IsLegal (instrs_of clock.now.block) (clock.now.numbers ++ rest) →
+        result ≤ total_of (problem_of clock.now) (clock.now.numbers ++ rest) }
 {
     Bounds::of(clock.block(), clock.profile()).parcels(clock)
 }
@@ -45,7 +49,8 @@ pub fn parcels(clock: &Clock<'_>) -> u32
 pub fn floor(clock: &Clock<'_>) -> Leaf
     ensures leaf { leaf_of result ≡ floor (problem_of clock.now) clock.now.numbers }
     ensures value { value_of result ≡ floor_value (problem_of clock.now) clock.now.numbers }
-    ensures bound { (rest : List ℕ) → IsLegal (instrs_of clock.now.block) (clock.now.numbers ++ rest) → value_of result ≤ total_of (problem_of clock.now) (clock.now.numbers ++ rest) }
+    ensures bound { (rest : List ℕ) → IsLegal (instrs_of clock.now.block) (clock.now.numbers ++ rest) →
+        value_of result ≤ total_of (problem_of clock.now) (clock.now.numbers ++ rest) }
 {
     let bounds = Bounds::of(clock.block(), clock.profile());
     let value = bounds.floor_value(clock);

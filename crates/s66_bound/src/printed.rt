@@ -78,7 +78,10 @@ fn goes_on(costs: &[Cost], tables: &Tables, number: u8, other: u8) -> bool
     requires numbers { (1 ≤ number) × (number ≤ length costs.now) × (1 ≤ other) × (other ≤ length costs.now) }
     requires few { length costs.now ≤ BLOCK_LIMIT }
     requires known { (b : Problem) × AreCosts b costs.now × IsTables b tables.now }
-    ensures { (b : Problem) → AreCosts b costs.now → IsTables b tables.now → result ≡ (not (tail (row_at b number) == longest_tail b number) && (is_linked b number other && link (row_at b number) (row_at b other) + longest_tail b other == longest_tail b number)) }
+    ensures { (b : Problem) → AreCosts b costs.now → IsTables b tables.now →
+        result ≡ (not (tail (row_at b number) == longest_tail b number) &&
+        (is_linked b number other && link (row_at b number)
+        (row_at b other) + longest_tail b other == longest_tail b number)) }
 {
     let from = &costs[number as usize - 1];
     let longest = tables.longest[number as usize - 1];
@@ -96,7 +99,9 @@ fn walk_from(costs: &[Cost], tables: &Tables, rest: &Set, first: u8) -> ArrayVec
     requires rest { (n : ℕ) → Among n (numbers_in rest.now) → (1 ≤ n) × (n ≤ length costs.now) }
     requires first { (1 ≤ first) × (first ≤ length costs.now) }
     requires known { (b : Problem) × AreCosts b costs.now × IsTables b tables.now }
-    ensures { (b : Problem) (prefix : List ℕ) → AreCosts b costs.now → IsTables b tables.now → IsBeginning b.block prefix → numbers_in rest.now ≡ remaining b.block prefix → is_remaining b.block prefix first ≡ true → result.items ≡ first ∷ walk_after b (length b.block) first }
+    ensures { (b : Problem) (prefix : List ℕ) → AreCosts b costs.now → IsTables b tables.now →
+        IsBeginning b.block prefix → numbers_in rest.now ≡ remaining b.block prefix →
+        is_remaining b.block prefix first ≡ true → result.items ≡ first ∷ walk_after b (length b.block) first }
 {
     let mut numbers = ArrayVec::new();
     numbers.push(first);

@@ -95,7 +95,8 @@ pub fn chain_of(tables: &Tables, clock: &Clock<'_>, rest: &Set) -> u32
 /// The work that remains for a kind of unit.
 fn remaining_work(tables: &Tables, clock: &Clock<'_>, kind: Kind) -> u32
     requires { IsTables (problem_of clock.now) tables.now }
-    ensures value { result ≡ sum_remaining (instrs_of clock.now.block) clock.now.numbers (λ n. work_of kind (row_at (problem_of clock.now) n)) }
+    ensures value { result ≡ sum_remaining (instrs_of clock.now.block) clock.now.numbers
+        (λ n. work_of kind (row_at (problem_of clock.now) n)) }
     ensures at_most { result ≤ TOTAL_LIMIT }
 {
     tables.works[kind_number(kind)] - clock.worked(kind)

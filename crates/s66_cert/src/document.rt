@@ -34,7 +34,8 @@ impl Model for Claim {
 
     ghost Value = { Parts };
 
-    ghost view = { λ c. record { rule = c.rule; facts = facts_in c.facts; profile = c.profile.items; block = c.block.items; time = c.time; bound = c.bound; numbers = c.order.items; vertices = c.tree } };
+    ghost view = { λ c.
+        record { rule = c.rule; facts = facts_in c.facts; profile = c.profile.items; block = c.block.items; time = c.time; bound = c.bound; numbers = c.order.items; vertices = c.tree } };
 }
 
 /// A certificate: what it claims of a block under a profile, and a tree that shows it. It is one whole tree of at most
@@ -56,9 +57,11 @@ impl Model for Document {
 
     ghost Value = { Parts };
 
-    ghost view = { λ d. record { rule = d.rule; facts = facts_in d.facts; profile = d.profile.items; block = d.block.items; time = d.time; bound = d.bound; numbers = d.order.items; vertices = d.tree } };
+    ghost view = { λ d.
+        record { rule = d.rule; facts = facts_in d.facts; profile = d.profile.items; block = d.block.items; time = d.time; bound = d.bound; numbers = d.order.items; vertices = d.tree } };
 
-    ghost invariant = { λ d. AreWhole (record { rule = d.rule; facts = facts_in d.facts; profile = d.profile.items; block = d.block.items; time = d.time; bound = d.bound; numbers = d.order.items; vertices = d.tree }) };
+    ghost invariant = { λ d. AreWhole
+        (record { rule = d.rule; facts = facts_in d.facts; profile = d.profile.items; block = d.block.items; time = d.time; bound = d.bound; numbers = d.order.items; vertices = d.tree }) };
 }
 
 impl Document {

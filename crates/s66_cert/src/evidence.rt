@@ -13,7 +13,8 @@ use std::marker::Model;
 
 /// Whether lines are those of one whole tree of at most this many splits.
 fn is_whole(tree: &Tree, most: u32) -> bool
-    ensures { IsTrue result → (flat (tree_of_lines tree.now) ≡ tree.now) × TreeFits BLOCK_LIMIT (tree_of_lines tree.now) × (splits (tree_of_lines tree.now) ≤ most) }
+    ensures { IsTrue result → (flat (tree_of_lines tree.now) ≡ tree.now) ×
+        TreeFits BLOCK_LIMIT (tree_of_lines tree.now) × (splits (tree_of_lines tree.now) ≤ most) }
 {
     let mut lines = tree.lines();
     let mut left = 1usize;

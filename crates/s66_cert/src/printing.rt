@@ -100,7 +100,8 @@ fn print_facts<S: Sink>(
     writer: &mut S,
 ) -> Result<(), WriteError>
     requires { (S.seen writer.old).failures < 2 ^ 64 - 1 }
-    ensures { Printed (S.seen writer.old) (S.seen writer.new) page.old page.new (facts_text (option_map (λ lines. lines.now) facts.entry)) result }
+    ensures { Printed (S.seen writer.old) (S.seen writer.new) page.old page.new
+        (facts_text (option_map (λ lines. lines.now) facts.entry)) result }
 {
     match facts {
         None => Ok(()),

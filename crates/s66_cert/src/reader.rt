@@ -123,7 +123,8 @@ impl Reader {
     /// The next line was read, and another comes.
     fn go_on(&mut self, place: DocumentPlace, left: u64, splits: u32)
         requires { self.old.lines < 2 ^ 64 - 1 }
-        ensures { state self.new ≡ record (state self.old) { count = suc self.old.lines; place = place; left = left; splits = splits } }
+        ensures { state self.new ≡ record (state
+            self.old) { count = suc self.old.lines; place = place; left = left; splits = splits } }
     {
         self.lines += 1;
         self.place = place;
@@ -135,7 +136,8 @@ impl Reader {
     fn take_instruction(&mut self, alloc: Global, text: &ReadText<'_>) -> Result<(), CertError>
         requires lines { self.old.lines < 2 ^ 64 - 1 }
         requires some { 1 ≤ self.old.left }
-        ensures { Steps (state self.new) result (step_at SPLIT_LIMIT (state self.old) AtInstruction (Instruction text.now.bytes.now)) }
+        ensures { Steps (state self.new) result (step_at SPLIT_LIMIT (state self.old) AtInstruction
+            (Instruction text.now.bytes.now)) }
     {
         let copy = InstructionText::new(alloc, text.bytes, text.instr)?;
         self.claim.block.push(copy)?;
@@ -192,7 +194,8 @@ impl Reader {
         requires some { 1 ≤ self.old.left }
         requires few { self.old.left ≤ 2 ^ 32 }
         requires numbers { IsVertex BLOCK_LIMIT (vertex_of vertex) }
-        ensures { Steps (state self.new) result (step_at SPLIT_LIMIT (state self.old) AtTree (OfTree (vertex_of vertex.entry))) }
+        ensures { Steps (state self.new) result (step_at SPLIT_LIMIT (state self.old) AtTree
+            (OfTree (vertex_of vertex.entry))) }
     {
         if !self.is_leaf(vertex) {
             return Err(self.bad_line());
@@ -239,7 +242,8 @@ impl Reader {
     #[tactic(auto, using(crate::proofs::Places::other_header))]
     fn header(&mut self, alloc: Global, facts: bool, rule: Rule) -> Result<(), CertError>
         requires lines { self.old.lines < 2 ^ 64 - 1 }
-        ensures { Steps (state self.new) result (step_at SPLIT_LIMIT (state self.old) self.old.place (Header facts rule)) }
+        ensures { Steps (state self.new) result (step_at SPLIT_LIMIT (state self.old) self.old.place
+            (Header facts rule)) }
     {
         match self.place {
             DocumentPlace::AtHeader => {
@@ -258,7 +262,8 @@ impl Reader {
     #[tactic(auto, using(crate::proofs::Places::other_profile))]
     fn profile(&mut self, numbers: ArrayVec<u8, PROFILE_LENGTH>) -> Result<(), CertError>
         requires lines { self.old.lines < 2 ^ 64 - 1 }
-        ensures { Steps (state self.new) result (step_at SPLIT_LIMIT (state self.old) self.old.place (Profile numbers.items)) }
+        ensures { Steps (state self.new) result (step_at SPLIT_LIMIT (state self.old) self.old.place
+            (Profile numbers.items)) }
     {
         match self.place {
             DocumentPlace::AtProfile => {
@@ -289,7 +294,8 @@ impl Reader {
     fn instruction(&mut self, alloc: Global, text: &ReadText<'_>) -> Result<(), CertError>
         requires lines { self.old.lines < 2 ^ 64 - 1 }
         requires fine { IsFine SPLIT_LIMIT (state self.old) }
-        ensures { Steps (state self.new) result (step_at SPLIT_LIMIT (state self.old) self.old.place (Instruction text.now.bytes.now)) }
+        ensures { Steps (state self.new) result (step_at SPLIT_LIMIT (state self.old) self.old.place
+            (Instruction text.now.bytes.now)) }
     {
         match self.place {
             DocumentPlace::AtInstruction => self.take_instruction(alloc, text),
@@ -331,7 +337,8 @@ impl Reader {
     fn order(&mut self, alloc: Global, numbers: &[u8]) -> Result<(), CertError>
         requires lines { self.old.lines < 2 ^ 64 - 1 }
         requires few { length numbers.now ≤ BLOCK_LIMIT }
-        ensures { Steps (state self.new) result (step_at SPLIT_LIMIT (state self.old) self.old.place (Order numbers.now)) }
+        ensures { Steps (state self.new) result (step_at SPLIT_LIMIT (state self.old) self.old.place
+            (Order numbers.now)) }
     {
         match self.place {
             DocumentPlace::AtOrder => {
@@ -366,7 +373,8 @@ impl Reader {
         requires lines { self.old.lines < 2 ^ 64 - 1 }
         requires fine { IsFine SPLIT_LIMIT (state self.old) }
         requires numbers { IsVertex BLOCK_LIMIT (vertex_of vertex) }
-        ensures { Steps (state self.new) result (step_at SPLIT_LIMIT (state self.old) self.old.place (OfTree (vertex_of vertex.entry))) }
+        ensures { Steps (state self.new) result (step_at SPLIT_LIMIT (state self.old) self.old.place
+            (OfTree (vertex_of vertex.entry))) }
     {
         match self.place {
             DocumentPlace::AtTree => self.take_vertex(vertex),
@@ -396,7 +404,8 @@ impl Reader {
         requires lines { self.old.lines < 2 ^ 64 - 1 }
         requires fine { IsFine SPLIT_LIMIT (state self.old) }
         requires range { IsLineInRange BLOCK_LIMIT (said line) }
-        ensures { Steps (state self.new) result (step_at SPLIT_LIMIT (state self.old) self.old.place (said line.entry)) }
+        ensures { Steps (state self.new) result (step_at SPLIT_LIMIT (state self.old) self.old.place
+            (said line.entry)) }
     {
         match line {
             LineOf::Header { facts, rule } => self.header(alloc, facts, rule),
@@ -431,7 +440,8 @@ impl Reader {
     pub(crate) fn take_all(&mut self, alloc: Global, text: &[u8]) -> Result<bool, CertError>
         requires lines { self.old.lines ≡ 0 }
         requires fine { IsFine SPLIT_LIMIT (state self.old) }
-        ensures { StepsEnd (state self.new) result (steps BLOCK_LIMIT SPLIT_LIMIT (state self.old) (whole_lines [] text.now)) (last_bytes [] text.now) }
+        ensures { StepsEnd (state self.new) result
+            (steps BLOCK_LIMIT SPLIT_LIMIT (state self.old) (whole_lines [] text.now)) (last_bytes [] text.now) }
     {
         let mut begin = 0;
         for (i, byte) in text.iter().enumerate() {

@@ -26,25 +26,42 @@ pub fn reading_examples()
     ensures two_documents { read_of (three_multiplies_text ++ one_load_text) ≡ Ok (three_multiplies ∷ one_load ∷ []) }
     ensures zero_register_is_read { read_of examples.zero_register_text ≡ Ok (examples.zero_register ∷ []) }
     ensures extremes_are_read { read_of examples.extremes_text ≡ Ok (examples.extremes ∷ []) }
-    ensures other_profile { read_of (with_line 2 (codes "PROFILE 4 3 4 4 3 10 29 8 3 8 1 1 1 1 2 1 2")) ≡ Ok (record three_multiplies { profile = 4 ∷ 3 ∷ 4 ∷ 4 ∷ 3 ∷ 10 ∷ 29 ∷ 8 ∷ 3 ∷ 8 ∷ 1 ∷ 1 ∷ 1 ∷ 1 ∷ 2 ∷ 1 ∷ 2 ∷ [] } ∷ []) }
-    ensures order_of_two { read_of (with_line 9 (codes "ORDER 1 2")) ≡ Ok (record three_multiplies { numbers = 1 ∷ 2 ∷ [] } ∷ []) }
-    ensures load_alone { read_of (replaced 10 16 (codes "U MULTIPLY" ∷ []) three_multiplies_text) ≡ Ok (record three_multiplies { tree = Alone (Bounding (Load Multiply)) } ∷ []) }
-    ensures chain_alone { read_of (replaced 10 16 (codes "C 3" ∷ []) three_multiplies_text) ≡ Ok (record three_multiplies { tree = Alone (Bounding (Chain (3 ∷ []))) } ∷ []) }
-    ensures split_of_128 { read_of (with_split_of 128 128) ≡ Ok (record three_multiplies { tree = Parted (replicate 128 1) (examples.wholes 128) } ∷ []) }
+    ensures other_profile { read_of (with_line 2 (codes "PROFILE 4 3 4 4 3 10 29 8 3 8 1 1 1 1 2 1 2")) ≡
+        Ok (record
+        three_multiplies { profile = 4 ∷ 3 ∷ 4 ∷ 4 ∷ 3 ∷ 10 ∷ 29 ∷ 8 ∷ 3 ∷ 8 ∷ 1 ∷ 1 ∷ 1 ∷ 1 ∷ 2 ∷ 1 ∷ 2 ∷ [] } ∷ []) }
+    ensures order_of_two { read_of (with_line 9 (codes "ORDER 1 2")) ≡
+        Ok (record three_multiplies { numbers = 1 ∷ 2 ∷ [] } ∷ []) }
+    ensures load_alone { read_of (replaced 10 16 (codes "U MULTIPLY" ∷ []) three_multiplies_text) ≡
+        Ok (record three_multiplies { tree = Alone (Bounding (Load Multiply)) } ∷ []) }
+    ensures chain_alone { read_of (replaced 10 16 (codes "C 3" ∷ []) three_multiplies_text) ≡
+        Ok (record three_multiplies { tree = Alone (Bounding (Chain (3 ∷ []))) } ∷ []) }
+    ensures split_of_128 { read_of (with_split_of 128 128) ≡
+        Ok (record three_multiplies { tree = Parted (replicate 128 1) (examples.wholes 128) } ∷ []) }
     ensures version_2 { read_of (late_reader_text (codes "S66 CERTIFICATE 2")) ≡ Ok (late_reader WrittenEarlier ∷ []) }
     ensures version_3 { read_of (late_reader_text (codes "S66 CERTIFICATE 3")) ≡ Ok (late_reader ClampedStanding ∷ []) }
     ensures version_4 { read_of examples.by_facts_text ≡ Ok (examples.by_facts ∷ []) }
-    ensures fact_line_4096 { (lines : List FactLine) → length lines ≡ 4095 → takes_fact (record nothing { facts = Some lines }) ≡ true }
+    ensures fact_line_4096 { (lines : List FactLine) → length lines ≡ 4095 →
+        takes_fact (record nothing { facts = Some lines }) ≡ true }
     ensures no_fact_lines { read_of (replaced 12 3 [] examples.by_facts_text) ≡ Ok (examples.with_facts [] ∷ []) }
-    ensures load_from_the_origin { read_of (with_fact_line (codes "A 0 END 0 100000 3 4")) ≡ Ok (record (examples.with_load Origin End 0 100000 (3 ∷ 4 ∷ [])) { tree = Alone (Bounding Parcels) } ∷ []) }
-    ensures load_between { read_of (with_fact_line (codes "A I12 S128 7 9 3")) ≡ Ok (record (examples.with_load (At 12 Issue) (At 128 Start) 7 9 (3 ∷ [])) { tree = Alone (Bounding Parcels) } ∷ []) }
-    ensures line_that_dominates { read_of (replaced 15 5 (codes "N 200000000" ∷ []) examples.by_facts_text) ≡ Ok (examples.with_leaf (AtLine 200000000) ∷ []) }
-    ensures load_leaf { read_of (replaced 15 5 (codes "L 4 2 3" ∷ []) examples.by_facts_text) ≡ Ok (examples.with_leaf (LoadFrom 4 (2 ∷ 3 ∷ [])) ∷ []) }
-    ensures dominated_alone { read_of (replaced 11 13 (codes "D 4 4 128" ∷ []) (late_reader_text (codes "S66 CERTIFICATE 2"))) ≡ Ok (record (late_reader WrittenEarlier) { tree = Alone (Dominated (4 ∷ 4 ∷ 128 ∷ [])) } ∷ []) }
-    ensures two_versions { read_of (late_reader_text (codes "S66 CERTIFICATE 3") ++ one_load_text) ≡ Ok (late_reader ClampedStanding ∷ one_load ∷ []) }
+    ensures load_from_the_origin { read_of (with_fact_line (codes "A 0 END 0 100000 3 4")) ≡
+        Ok (record (examples.with_load Origin End 0 100000 (3 ∷ 4 ∷ [])) { tree = Alone (Bounding Parcels) } ∷ []) }
+    ensures load_between { read_of (with_fact_line (codes "A I12 S128 7 9 3")) ≡
+        Ok (record (examples.with_load (At 12 Issue) (At 128 Start) 7 9
+        (3 ∷ [])) { tree = Alone (Bounding Parcels) } ∷ []) }
+    ensures line_that_dominates { read_of (replaced 15 5 (codes "N 200000000" ∷ []) examples.by_facts_text) ≡
+        Ok (examples.with_leaf (AtLine 200000000) ∷ []) }
+    ensures load_leaf { read_of (replaced 15 5 (codes "L 4 2 3" ∷ []) examples.by_facts_text) ≡
+        Ok (examples.with_leaf (LoadFrom 4 (2 ∷ 3 ∷ [])) ∷ []) }
+    ensures dominated_alone { read_of (replaced 11 13 (codes "D 4 4 128" ∷ [])
+        (late_reader_text (codes "S66 CERTIFICATE 2"))) ≡
+        Ok (record (late_reader WrittenEarlier) { tree = Alone (Dominated (4 ∷ 4 ∷ 128 ∷ [])) } ∷ []) }
+    ensures two_versions { read_of (late_reader_text (codes "S66 CERTIFICATE 3") ++ one_load_text) ≡
+        Ok (late_reader ClampedStanding ∷ one_load ∷ []) }
     ensures ten_splits { read_within BLOCK_LIMIT 10 three_multiplies_text ≡ Ok (three_multiplies ∷ []) }
-    ensures splits_are_counted_anew { read_within BLOCK_LIMIT 10 (three_multiplies_text ++ three_multiplies_text) ≡ Ok (three_multiplies ∷ three_multiplies ∷ []) }
-    ensures order_with_128 { read_of (with_line 9 (codes "ORDER 128")) ≡ Ok (record three_multiplies { numbers = 128 ∷ [] } ∷ []) }
+    ensures splits_are_counted_anew { read_within BLOCK_LIMIT 10 (three_multiplies_text ++ three_multiplies_text) ≡
+        Ok (three_multiplies ∷ three_multiplies ∷ []) }
+    ensures order_with_128 { read_of (with_line 9 (codes "ORDER 128")) ≡
+        Ok (record three_multiplies { numbers = 128 ∷ [] } ∷ []) }
 {}
 
 /// Texts that have a fault.
@@ -57,24 +74,29 @@ pub fn fault_examples()
     ensures unfinished_bad_bound { read_of (take 100 one_load_text ++ codes "BOUND 012") ≡ Err Truncated }
     ensures unfinished_line_after_the_end { read_of (three_multiplies_text ++ codes "T") ≡ Err Truncated }
     ensures bad_bound { read_of (replaced 8 1 (codes "BOUND 012" ∷ []) one_load_text) ≡ Err (BadLine 8) }
-    ensures bad_bound_in_the_second { read_of (three_multiplies_text ++ replaced 8 1 (codes "BOUND 012" ∷ []) one_load_text) ≡ Err (BadLine 34) }
+    ensures bad_bound_in_the_second { read_of (three_multiplies_text ++
+        replaced 8 1 (codes "BOUND 012" ∷ []) one_load_text) ≡ Err (BadLine 34) }
     ensures version_0 { read_of (with_line 1 (codes "S66 CERTIFICATE 0")) ≡ Err (BadLine 1) }
     ensures version_5 { read_of (with_line 1 (codes "S66 CERTIFICATE 5")) ≡ Err (BadLine 1) }
     ensures version_of_two_digits { read_of (with_line 1 (codes "S66 CERTIFICATE 02")) ≡ Err (BadLine 1) }
     ensures blank_after_version { read_of (with_line 1 (codes "S66 CERTIFICATE 2 ")) ≡ Err (BadLine 1) }
     ensures none_dominated_in_version_2 { read_of (with_line 1 (codes "S66 CERTIFICATE 2")) ≡ Err (BadLine 26) }
     ensures none_dominated_in_version_3 { read_of (with_line 1 (codes "S66 CERTIFICATE 3")) ≡ Err (BadLine 26) }
-    ensures none_dominated_and_no_last_line { read_of (take (length three_multiplies_text - 4) (with_line 1 (codes "S66 CERTIFICATE 2"))) ≡ Err Truncated }
+    ensures none_dominated_and_no_last_line { read_of (take (length three_multiplies_text - 4)
+        (with_line 1 (codes "S66 CERTIFICATE 2"))) ≡ Err Truncated }
     ensures dominated_in_version_1 { read_of (late_reader_text (codes "S66 CERTIFICATE 1")) ≡ Err (BadLine 18) }
-    ensures dominated_in_version_1_behind_version_2 { read_of (late_reader_text (codes "S66 CERTIFICATE 2") ++ late_reader_text (codes "S66 CERTIFICATE 1")) ≡ Err (BadLine 42) }
+    ensures dominated_in_version_1_behind_version_2 { read_of (late_reader_text (codes "S66 CERTIFICATE 2") ++
+        late_reader_text (codes "S66 CERTIFICATE 1")) ≡ Err (BadLine 42) }
     ensures dominated_by_no_numbers { read_of (with_late_line 18 (codes "D")) ≡ Err (BadLine 18) }
     ensures dominated_by_0 { read_of (with_late_line 18 (codes "D 0")) ≡ Err (BadLine 18) }
     ensures dominated_by_129 { read_of (with_late_line 18 (codes "D 1 129")) ≡ Err (BadLine 18) }
     ensures dominated_by_65_at_64 { read_within 64 SPLIT_LIMIT (with_late_line 18 (codes "D 1 65")) ≡ Err (BadLine 18) }
     ensures blank_after_a_name { read_of (with_late_line 18 (codes "D 1 2 3 ")) ≡ Err (BadLine 18) }
-    ensures tree_below_a_dominated_leaf { read_of (replaced 18 1 (codes "D 1 2 3" ∷ codes "T" ∷ []) (late_reader_text (codes "S66 CERTIFICATE 2"))) ≡ Err (BadLine 24) }
+    ensures tree_below_a_dominated_leaf { read_of (replaced 18 1 (codes "D 1 2 3" ∷ codes "T" ∷ [])
+        (late_reader_text (codes "S66 CERTIFICATE 2"))) ≡ Err (BadLine 24) }
     ensures dominated_after_the_tree { read_of (with_late_line 24 (codes "D 1")) ≡ Err (BadLine 24) }
-    ensures fact_line_4097 { (lines : List FactLine) → length lines ≡ 4096 → takes_fact (record nothing { facts = Some lines }) ≡ false }
+    ensures fact_line_4097 { (lines : List FactLine) → length lines ≡ 4096 →
+        takes_fact (record nothing { facts = Some lines }) ≡ false }
     ensures pair_in_version_3 { read_of (with_factual_line 1 (codes "S66 CERTIFICATE 3")) ≡ Err (BadLine 12) }
     ensures pair_after_a_tree_line { read_of (with_factual_line 16 (codes "F 2 1")) ≡ Err (BadLine 16) }
     ensures pair_with_0 { read_of (with_factual_line 13 (codes "F 0 1")) ≡ Err (BadLine 13) }
@@ -102,11 +124,16 @@ pub fn fault_examples()
     ensures turned_in_version_2 { read_of (with_late_line 18 (codes "R 1 2")) ≡ Err (BadLine 18) }
     ensures line_in_version_1 { read_of (with_line 13 (codes "N 12")) ≡ Err (BadLine 13) }
     ensures load_leaf_in_version_1 { read_of (with_line 13 (codes "L 4 2 3")) ≡ Err (BadLine 13) }
-    ensures unfinished_facts { read_of (take (length examples.by_facts_text - 4) examples.by_facts_text) ≡ Err Truncated }
-    ensures profile_of_16 { read_of (with_line 2 (codes "PROFILE 3 3 4 4 3 10 29 8 3 8 1 1 1 1 2 1")) ≡ Err (BadLine 2) }
-    ensures profile_of_18 { read_of (with_line 2 (codes "PROFILE 3 3 4 4 3 10 29 8 3 8 1 1 1 1 2 1 2 2")) ≡ Err (BadLine 2) }
-    ensures profile_with_0 { read_of (with_line 2 (codes "PROFILE 0 3 4 4 3 10 29 8 3 8 1 1 1 1 2 1 2")) ≡ Err (BadLine 2) }
-    ensures profile_with_101 { read_of (with_line 2 (codes "PROFILE 101 3 4 4 3 10 29 8 3 8 1 1 1 1 2 1 2")) ≡ Err (BadLine 2) }
+    ensures unfinished_facts { read_of (take (length examples.by_facts_text - 4) examples.by_facts_text) ≡
+        Err Truncated }
+    ensures profile_of_16 { read_of (with_line 2 (codes "PROFILE 3 3 4 4 3 10 29 8 3 8 1 1 1 1 2 1")) ≡
+        Err (BadLine 2) }
+    ensures profile_of_18 { read_of (with_line 2 (codes "PROFILE 3 3 4 4 3 10 29 8 3 8 1 1 1 1 2 1 2 2")) ≡
+        Err (BadLine 2) }
+    ensures profile_with_0 { read_of (with_line 2 (codes "PROFILE 0 3 4 4 3 10 29 8 3 8 1 1 1 1 2 1 2")) ≡
+        Err (BadLine 2) }
+    ensures profile_with_101 { read_of (with_line 2 (codes "PROFILE 101 3 4 4 3 10 29 8 3 8 1 1 1 1 2 1 2")) ≡
+        Err (BadLine 2) }
     ensures block_of_0 { read_of (with_line 3 (codes "BLOCK 0")) ≡ Err (BadLine 3) }
     ensures block_of_129 { read_of (with_line 3 (codes "BLOCK 129")) ≡ Err (BadLine 3) }
     ensures block_of_65_at_64 { read_within 64 SPLIT_LIMIT (with_line 3 (codes "BLOCK 65")) ≡ Err (BadLine 3) }
@@ -142,12 +169,14 @@ pub fn fault_examples()
     ensures blank_in_front { read_of (with_line 13 (codes " T")) ≡ Err (BadLine 13) }
     ensures return_at_the_end { read_of (with_line 13 (codes "T" ++ 13 ∷ [])) ≡ Err (BadLine 13) }
     ensures empty_line { read_of (with_line 13 []) ≡ Err (BadLine 13) }
-    ensures whole_twice { read_of (replaced 25 1 (codes "T" ∷ codes "T" ∷ []) three_multiplies_text) ≡ Err (BadLine 26) }
+    ensures whole_twice { read_of (replaced 25 1 (codes "T" ∷ codes "T" ∷ []) three_multiplies_text) ≡
+        Err (BadLine 26) }
     ensures split_after_the_tree { read_of (with_line 26 (codes "S 1")) ≡ Err (BadLine 26) }
     ensures end_before_the_tree { read_of (with_line 25 (codes "END")) ≡ Err (BadLine 25) }
     ensures line_after_the_end { read_of (three_multiplies_text ++ codes "T\n") ≡ Err (BadLine 27) }
     ensures tenth_split_too_many { read_within BLOCK_LIMIT 9 three_multiplies_text ≡ Err TooManyNodes }
     ensures bad_line_before_it { read_within BLOCK_LIMIT 9 (with_line 12 (codes "S")) ≡ Err (BadLine 12) }
     ensures bad_split_is_a_bad_line { read_within BLOCK_LIMIT 9 (with_line 23 (codes "S 0")) ≡ Err (BadLine 23) }
-    ensures split_too_many_before_the_end { read_within BLOCK_LIMIT 9 (take (length three_multiplies_text - 1) three_multiplies_text) ≡ Err TooManyNodes }
+    ensures split_too_many_before_the_end { read_within BLOCK_LIMIT 9 (take
+        (length three_multiplies_text - 1) three_multiplies_text) ≡ Err TooManyNodes }
 {}

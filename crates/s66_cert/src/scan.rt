@@ -90,7 +90,8 @@ pub(crate) fn numbers_in<const N: usize>(
     high: u32,
 ) -> Option<ArrayVec<u8, N>>
     requires { high ≤ 255 }
-    ensures { option_map (λ v. v.items) result ≡ if_count 0 N (numbers_in low high (words_in (option_map (λ r. r.now) rest.entry))) }
+    ensures { option_map (λ v. v.items) result ≡
+        if_count 0 N (numbers_in low high (words_in (option_map (λ r. r.now) rest.entry))) }
 {
     let mut numbers = ArrayVec::new();
     let mut left = rest;

@@ -61,22 +61,31 @@ pub fn leaf_examples()
     ensures load_below_the_bound { verdict (with_tree (Alone (Bounding (Load Boolean)))) ≡ No 10 fault.Value }
     ensures parcels_below_the_bound { verdict (with_tree (Alone (Bounding Parcels))) ≡ No 10 fault.Value }
     ensures whole_order_too_soon { verdict (with_tree (Alone (Bounding Whole))) ≡ No 10 fault.Place }
-    ensures child_not_ready { verdict (with_tree (Parted (1 ∷ 2 ∷ 3 ∷ []) (Unsplit (Bounding Parcels) (Unsplit (Bounding Parcels) (Unsplit (Bounding Parcels) NoMore))))) ≡ No 10 fault.Children }
+    ensures child_not_ready { verdict (with_tree (Parted (1 ∷ 2 ∷ 3 ∷ [])
+        (Unsplit (Bounding Parcels) (Unsplit (Bounding Parcels) (Unsplit (Bounding Parcels) NoMore))))) ≡
+        No 10 fault.Children }
 {}
 
 /// Verdicts on documents of three multiplies with another tree.
 pub fn split_examples()
-    ensures child_omitted { verdict (multiplies_split (1 ∷ 2 ∷ []) (after_one 2 3 (after_one 1 3 NoMore))) ≡ No 10 fault.Children }
-    ensures children_not_rising { verdict (multiplies_split (1 ∷ 3 ∷ 2 ∷ []) (after_one 2 3 (after_one 1 3 (after_one 1 2 NoMore)))) ≡ No 10 fault.Children }
-    ensures child_below_omitted { verdict (second_line (Split (2 ∷ []) (Unsplit (Bounding Whole) NoMore))) ≡ No 11 fault.Children }
+    ensures child_omitted { verdict (multiplies_split (1 ∷ 2 ∷ []) (after_one 2 3 (after_one 1 3 NoMore))) ≡
+        No 10 fault.Children }
+    ensures children_not_rising { verdict (multiplies_split (1 ∷ 3 ∷ 2 ∷ [])
+        (after_one 2 3 (after_one 1 3 (after_one 1 2 NoMore)))) ≡ No 10 fault.Children }
+    ensures child_below_omitted { verdict (second_line (Split (2 ∷ []) (Unsplit (Bounding Whole) NoMore))) ≡
+        No 11 fault.Children }
     ensures chain_of_a_placed_number { verdict (third_line (Unsplit (Bounding (Chain (1 ∷ []))))) ≡ No 12 fault.Chain }
     ensures chain_below_the_bound { verdict (third_line (Unsplit (Bounding (Chain (3 ∷ []))))) ≡ No 12 fault.Value }
     ensures load_below_the_bound { verdict (third_line (Unsplit (Bounding (Load Multiply)))) ≡ No 12 fault.Value }
     ensures whole_order_too_soon { verdict (third_line (Unsplit (Bounding Whole))) ≡ No 12 fault.Place }
-    ensures parcels_at_a_whole_order { verdict (third_line (Split (3 ∷ []) (Unsplit (Bounding Parcels) NoMore))) ≡ No 13 fault.Place }
-    ensures load_at_a_whole_order { verdict (third_line (Split (3 ∷ []) (Unsplit (Bounding (Load Multiply)) NoMore))) ≡ No 13 fault.Place }
-    ensures chain_at_a_whole_order { verdict (third_line (Split (3 ∷ []) (Unsplit (Bounding (Chain (3 ∷ []))) NoMore))) ≡ No 13 fault.Place }
-    ensures split_of_a_whole_order { verdict (third_line (Split (3 ∷ []) (Split (1 ∷ []) (Unsplit (Bounding Whole) NoMore) NoMore))) ≡ No 13 fault.Children }
+    ensures parcels_at_a_whole_order { verdict (third_line (Split (3 ∷ []) (Unsplit (Bounding Parcels) NoMore))) ≡
+        No 13 fault.Place }
+    ensures load_at_a_whole_order { verdict (third_line (Split (3 ∷ []) (Unsplit (Bounding (Load Multiply)) NoMore))) ≡
+        No 13 fault.Place }
+    ensures chain_at_a_whole_order { verdict (third_line (Split (3 ∷ [])
+        (Unsplit (Bounding (Chain (3 ∷ []))) NoMore))) ≡ No 13 fault.Place }
+    ensures split_of_a_whole_order { verdict (third_line (Split (3 ∷ [])
+        (Split (1 ∷ []) (Unsplit (Bounding Whole) NoMore) NoMore))) ≡ No 13 fault.Children }
     ensures last_line { verdict (last_leaf Parcels) ≡ No 25 fault.Place }
 {}
 
@@ -88,7 +97,8 @@ pub fn dominated_examples()
     ensures itself { verdict (late_naming WrittenEarlier (1 ∷ 3 ∷ 2 ∷ []) fourth_bounding) ≡ No 18 fault.Name }
     ensures itself_clamped { verdict (late_naming ClampedStanding (1 ∷ 3 ∷ 2 ∷ []) fourth_bounding) ≡ No 18 fault.Name }
     ensures another_set { verdict (late_naming WrittenEarlier (1 ∷ 2 ∷ 4 ∷ []) fourth_bounding) ≡ No 18 fault.Name }
-    ensures another_set_clamped { verdict (late_naming ClampedStanding (1 ∷ 2 ∷ 4 ∷ []) fourth_bounding) ≡ No 18 fault.Name }
+    ensures another_set_clamped { verdict (late_naming ClampedStanding (1 ∷ 2 ∷ 4 ∷ []) fourth_bounding) ≡
+        No 18 fault.Name }
     ensures a_part_of_the_set { verdict (late_naming ClampedStanding (1 ∷ 2 ∷ []) fourth_bounding) ≡ No 18 fault.Name }
     ensures no_node { verdict (late_naming ClampedStanding (2 ∷ 1 ∷ 3 ∷ []) fourth_bounding) ≡ No 18 fault.Name }
     ensures no_number_of_the_block { verdict (with_name ClampedStanding (128 ∷ [])) ≡ No 10 fault.Name }
@@ -96,11 +106,16 @@ pub fn dominated_examples()
     ensures whole_order { verdict (late_order WrittenEarlier) ≡ No 15 fault.Place }
     ensures whole_order_clamped { verdict (late_order ClampedStanding) ≡ No 15 fault.Place }
     ensures not_dominated { verdict (late_naming WrittenEarlier (1 ∷ 2 ∷ 3 ∷ []) fourth_split) ≡ No 22 fault.Dominance }
-    ensures not_dominated_clamped { verdict (late_naming ClampedStanding (1 ∷ 2 ∷ 3 ∷ []) fourth_split) ≡ No 22 fault.Dominance }
-    ensures named_before { verdict (increments WrittenEarlier (increments_tree increments_load (Dominated (1 ∷ 2 ∷ [])))) ≡ Yes 8 7 }
-    ensures named_behind { verdict (increments ClampedStanding (increments_tree (Dominated (2 ∷ 1 ∷ [])) increments_load)) ≡ Yes 8 7 }
-    ensures not_named_behind { verdict (increments WrittenEarlier (increments_tree (Dominated (2 ∷ 1 ∷ [])) increments_load)) ≡ No 12 fault.Name }
-    ensures each_by_the_other { verdict (increments ClampedStanding (increments_tree (Dominated (2 ∷ 1 ∷ [])) (Dominated (1 ∷ 2 ∷ [])))) ≡ No 12 fault.Name }
+    ensures not_dominated_clamped { verdict (late_naming ClampedStanding (1 ∷ 2 ∷ 3 ∷ []) fourth_split) ≡
+        No 22 fault.Dominance }
+    ensures named_before { verdict (increments WrittenEarlier
+        (increments_tree increments_load (Dominated (1 ∷ 2 ∷ [])))) ≡ Yes 8 7 }
+    ensures named_behind { verdict (increments ClampedStanding
+        (increments_tree (Dominated (2 ∷ 1 ∷ [])) increments_load)) ≡ Yes 8 7 }
+    ensures not_named_behind { verdict (increments WrittenEarlier
+        (increments_tree (Dominated (2 ∷ 1 ∷ [])) increments_load)) ≡ No 12 fault.Name }
+    ensures each_by_the_other { verdict (increments ClampedStanding
+        (increments_tree (Dominated (2 ∷ 1 ∷ [])) (Dominated (1 ∷ 2 ∷ [])))) ≡ No 12 fault.Name }
     ensures dominated_is_named { verdict (four_increments WrittenEarlier) ≡ Yes 9 9 }
     ensures dominated_is_not_named { verdict (four_increments ClampedStanding) ≡ No 22 fault.Name }
 {}
@@ -109,11 +124,13 @@ pub fn dominated_examples()
 pub fn fact_examples()
     ensures each_by_those_before_it { verdict (three_sums (Pair 1 3 ∷ Pair 2 3 ∷ []) (Alone (Next 1))) ≡ Yes 15 15 }
     ensures by_a_later_line { verdict (three_sums (Pair 2 3 ∷ Pair 1 3 ∷ []) (Alone (Next 1))) ≡ No 10 fault.Fact }
-    ensures tree_after_two_lines { verdict (three_sums (Pair 1 3 ∷ Pair 2 3 ∷ []) (Alone (Bounding Parcels))) ≡ No 12 fault.Value }
+    ensures tree_after_two_lines { verdict (three_sums (Pair 1 3 ∷ Pair 2 3 ∷ []) (Alone (Bounding Parcels))) ≡
+        No 12 fault.Value }
     ensures bound_below_the_time { verdict (two_sums 11) ≡ Yes 13 11 }
     ensures not_for_the_time { verdict (two_sums 13) ≡ No 10 fault.Fact }
     ensures bound_above_the_time { verdict (two_sums 14) ≡ No 8 fault.Bound }
-    ensures ring { verdict (first_of_two (Pair 1 2 ∷ Pair 2 1 ∷ []) (Unsplit (Next 2) (Unsplit (Turned 1 2) NoMore))) ≡ No 11 fault.Fact }
+    ensures ring { verdict (first_of_two (Pair 1 2 ∷ Pair 2 1 ∷ []) (Unsplit (Next 2) (Unsplit (Turned 1 2) NoMore))) ≡
+        No 11 fault.Fact }
     ensures by_a_load { verdict (booleans_between 4 16) ≡ Yes 16 16 }
     ensures load_too_long { verdict (booleans_between 4 17) ≡ No 11 fault.Fact }
     ensures load_too_late { verdict (booleans_between 5 16) ≡ No 11 fault.Fact }
@@ -128,7 +145,8 @@ pub fn fact_leaf_examples()
     ensures next_without_the_last_line { verdict (three_sums (Pair 1 3 ∷ []) (Alone (Next 1))) ≡ No 11 fault.Event }
     ensures turned_at_the_first { verdict (after_pair (Turned 1 2) (Turned 1 2)) ≡ No 12 fault.Pair }
     ensures turned_the_other_way { verdict (after_pair (Next 2) (Turned 2 1)) ≡ No 13 fault.Pair }
-    ensures turned_without_a_line { verdict (first_of_two [] (Unsplit (Next 2) (Unsplit (Turned 1 2) NoMore))) ≡ No 12 fault.Pair }
+    ensures turned_without_a_line { verdict (first_of_two [] (Unsplit (Next 2) (Unsplit (Turned 1 2) NoMore))) ≡
+        No 12 fault.Pair }
     ensures next_at_a_whole_order { verdict (at_the_end (Next 3)) ≡ No 14 fault.Place }
     ensures turned_at_a_whole_order { verdict (at_the_end (Turned 1 2)) ≡ No 14 fault.Place }
     ensures line_at_a_whole_order { verdict (at_the_end (AtLine 11)) ≡ No 14 fault.Place }
@@ -138,7 +156,8 @@ pub fn fact_leaf_examples()
 /// Verdicts on leaves by what units do for some numbers that remain, from a minor cycle on.
 pub fn load_leaf_examples()
     ensures two_booleans { verdict (booleans_left 16 4 (2 ∷ 3 ∷ [])) ≡ Yes 16 16 }
-    ensures no_more { is_loaded (standard_problem in_use.booleans_between) (known_of in_use.booleans_between []) (1 ∷ []) 17 4 (2 ∷ 3 ∷ []) ≡ false }
+    ensures no_more { is_loaded (standard_problem in_use.booleans_between) (known_of in_use.booleans_between [])
+        (1 ∷ []) 17 4 (2 ∷ 3 ∷ []) ≡ false }
     ensures may_begin_sooner { verdict (booleans_left 16 5 (2 ∷ 3 ∷ [])) ≡ No 12 fault.Loaded }
     ensures from_sooner_on { verdict (booleans_left 16 3 (2 ∷ 3 ∷ [])) ≡ No 12 fault.Loaded }
     ensures below_the_time { verdict (booleans_left 15 3 (2 ∷ 3 ∷ [])) ≡ Yes 16 15 }
@@ -174,36 +193,62 @@ pub fn line_name_examples()
 
 /// Which beginnings dominate which in use, by the test.
 pub fn in_use_examples()
-    ensures after_the_unit { dominates_in_use (standard_problem in_use.waits_for_the_unit) 0 (known_of in_use.waits_for_the_unit []) (2 ∷ 1 ∷ []) (1 ∷ 2 ∷ []) ≡ true }
-    ensures at_once { dominates_in_use (standard_problem in_use.waits_for_x1) 0 (known_of in_use.waits_for_x1 []) (2 ∷ 1 ∷ []) (1 ∷ 2 ∷ []) ≡ false }
-    ensures after_two_parcels { dominates_in_use (standard_problem in_use.waits_for_two_parcels) 0 (known_of in_use.waits_for_two_parcels []) (2 ∷ 1 ∷ []) (1 ∷ 2 ∷ []) ≡ true }
-    ensures after_two_parcels_by_a_pair { dominates_in_use (standard_problem two_parcels_beside) 0 (known_of two_parcels_beside (Pair 4 3 ∷ [])) (2 ∷ 1 ∷ []) (1 ∷ 2 ∷ []) ≡ true }
-    ensures without_the_pair { dominates_in_use (standard_problem two_parcels_beside) 0 (known_of two_parcels_beside []) (2 ∷ 1 ∷ []) (1 ∷ 2 ∷ []) ≡ false }
-    ensures below_the_time { dominates_in_use (standard_problem in_use.product_and_booleans) 13 (known_of in_use.product_and_booleans []) (1 ∷ 2 ∷ []) (2 ∷ 1 ∷ []) ≡ true }
-    ensures not_below_the_time { dominates_in_use (standard_problem in_use.product_and_booleans) 12 (known_of in_use.product_and_booleans []) (1 ∷ 2 ∷ []) (2 ∷ 1 ∷ []) ≡ false }
+    ensures after_the_unit { dominates_in_use (standard_problem in_use.waits_for_the_unit) 0
+        (known_of in_use.waits_for_the_unit []) (2 ∷ 1 ∷ []) (1 ∷ 2 ∷ []) ≡ true }
+    ensures at_once { dominates_in_use (standard_problem in_use.waits_for_x1) 0 (known_of in_use.waits_for_x1 [])
+        (2 ∷ 1 ∷ []) (1 ∷ 2 ∷ []) ≡ false }
+    ensures after_two_parcels { dominates_in_use (standard_problem in_use.waits_for_two_parcels) 0
+        (known_of in_use.waits_for_two_parcels []) (2 ∷ 1 ∷ []) (1 ∷ 2 ∷ []) ≡ true }
+    ensures after_two_parcels_by_a_pair { dominates_in_use (standard_problem two_parcels_beside) 0
+        (known_of two_parcels_beside (Pair 4 3 ∷ [])) (2 ∷ 1 ∷ []) (1 ∷ 2 ∷ []) ≡ true }
+    ensures without_the_pair { dominates_in_use (standard_problem two_parcels_beside) 0 (known_of two_parcels_beside [])
+        (2 ∷ 1 ∷ []) (1 ∷ 2 ∷ []) ≡ false }
+    ensures below_the_time { dominates_in_use (standard_problem in_use.product_and_booleans) 13
+        (known_of in_use.product_and_booleans []) (1 ∷ 2 ∷ []) (2 ∷ 1 ∷ []) ≡ true }
+    ensures not_below_the_time { dominates_in_use (standard_problem in_use.product_and_booleans) 12
+        (known_of in_use.product_and_booleans []) (1 ∷ 2 ∷ []) (2 ∷ 1 ∷ []) ≡ false }
 {}
 
 /// Which beginnings dominate which, by the tests.
 pub fn dominating_examples()
-    ensures waits_in_either_order { dominates_by WrittenEarlier (standard_problem late_reader) (1 ∷ 2 ∷ 3 ∷ []) (1 ∷ 3 ∷ 2 ∷ []) ≡ true }
-    ensures waits_clamped { dominates_by ClampedStanding (standard_problem late_reader) (1 ∷ 2 ∷ 3 ∷ []) (1 ∷ 3 ∷ 2 ∷ []) ≡ true }
-    ensures waits_the_other_way { dominates_by ClampedStanding (standard_problem late_reader) (1 ∷ 3 ∷ 2 ∷ []) (1 ∷ 2 ∷ 3 ∷ []) ≡ false }
-    ensures result_later { dominates_by ClampedStanding (standard_problem late_reader) (1 ∷ 2 ∷ 4 ∷ []) (1 ∷ 4 ∷ 2 ∷ []) ≡ false }
-    ensures another_set { dominates_by ClampedStanding (standard_problem late_reader) (1 ∷ 2 ∷ 3 ∷ []) (1 ∷ 2 ∷ 4 ∷ []) ≡ false }
-    ensures no_beginning { dominates_by ClampedStanding (standard_problem late_reader) (3 ∷ 1 ∷ []) (3 ∷ 1 ∷ []) ≡ false }
+    ensures waits_in_either_order { dominates_by WrittenEarlier (standard_problem late_reader) (1 ∷ 2 ∷ 3 ∷ [])
+        (1 ∷ 3 ∷ 2 ∷ []) ≡ true }
+    ensures waits_clamped { dominates_by ClampedStanding (standard_problem late_reader) (1 ∷ 2 ∷ 3 ∷ [])
+        (1 ∷ 3 ∷ 2 ∷ []) ≡ true }
+    ensures waits_the_other_way { dominates_by ClampedStanding (standard_problem late_reader) (1 ∷ 3 ∷ 2 ∷ [])
+        (1 ∷ 2 ∷ 3 ∷ []) ≡ false }
+    ensures result_later { dominates_by ClampedStanding (standard_problem late_reader) (1 ∷ 2 ∷ 4 ∷ [])
+        (1 ∷ 4 ∷ 2 ∷ []) ≡ false }
+    ensures another_set { dominates_by ClampedStanding (standard_problem late_reader) (1 ∷ 2 ∷ 3 ∷ [])
+        (1 ∷ 2 ∷ 4 ∷ []) ≡ false }
+    ensures no_beginning { dominates_by ClampedStanding (standard_problem late_reader) (3 ∷ 1 ∷ []) (3 ∷ 1 ∷ []) ≡
+        false }
     ensures itself { dominates_by WrittenEarlier (standard_problem late_reader) (1 ∷ 2 ∷ []) (1 ∷ 2 ∷ []) ≡ true }
     ensures none_named { dominates_by NoneNamed (standard_problem late_reader) (1 ∷ 2 ∷ []) (1 ∷ 2 ∷ []) ≡ false }
-    ensures one_for_another { dominates_by WrittenEarlier (standard_problem three_increments) (1 ∷ 2 ∷ []) (2 ∷ 1 ∷ []) ≡ true }
-    ensures and_back { dominates_by WrittenEarlier (standard_problem three_increments) (2 ∷ 1 ∷ []) (1 ∷ 2 ∷ []) ≡ true }
-    ensures one_of_another_number { dominates_by ClampedStanding (standard_problem three_increments) (1 ∷ []) (2 ∷ []) ≡ false }
-    ensures free_by_the_slot { dominates_by ClampedStanding (standard_problem packing_gap) (1 ∷ 3 ∷ 2 ∷ 4 ∷ []) (1 ∷ 2 ∷ 3 ∷ 4 ∷ []) ≡ true }
-    ensures free_later_as_written { dominates_by WrittenEarlier (standard_problem packing_gap) (1 ∷ 3 ∷ 2 ∷ 4 ∷ []) (1 ∷ 2 ∷ 3 ∷ 4 ∷ []) ≡ false }
-    ensures done_by_the_slot { dominates_by ClampedStanding (standard_problem booleans_and_sets) (2 ∷ 1 ∷ 3 ∷ []) (1 ∷ 2 ∷ 3 ∷ []) ≡ true }
-    ensures done_later_as_written { dominates_by WrittenEarlier (standard_problem booleans_and_sets) (2 ∷ 1 ∷ 3 ∷ []) (1 ∷ 2 ∷ 3 ∷ []) ≡ false }
-    ensures done_after_the_slot { dominates_by ClampedStanding (standard_problem late_result) (2 ∷ 1 ∷ []) (1 ∷ 2 ∷ []) ≡ false }
-    ensures half_a_word_apart { dominates_by ClampedStanding (standard_problem two_gaps) (1 ∷ 2 ∷ 4 ∷ 3 ∷ 5 ∷ 6 ∷ []) (1 ∷ 2 ∷ 3 ∷ 4 ∷ 5 ∷ 6 ∷ []) ≡ false }
-    ensures a_parcel_apart { dominates_by ClampedStanding (standard_problem later_gap) (1 ∷ 3 ∷ 2 ∷ 4 ∷ []) (1 ∷ 2 ∷ 3 ∷ 4 ∷ []) ≡ false }
-    ensures three_units_by_the_slot { dominates_by ClampedStanding load_and_multiplies (2 ∷ 3 ∷ 1 ∷ 4 ∷ []) (3 ∷ 2 ∷ 1 ∷ 4 ∷ []) ≡ true }
-    ensures three_units_as_written { dominates_by WrittenEarlier load_and_multiplies (2 ∷ 3 ∷ 1 ∷ 4 ∷ []) (3 ∷ 2 ∷ 1 ∷ 4 ∷ []) ≡ false }
-    ensures third_unit_later { dominates_by ClampedStanding load_and_multiplies (1 ∷ 2 ∷ 3 ∷ 4 ∷ []) (2 ∷ 1 ∷ 4 ∷ 3 ∷ []) ≡ false }
+    ensures one_for_another { dominates_by WrittenEarlier (standard_problem three_increments) (1 ∷ 2 ∷ [])
+        (2 ∷ 1 ∷ []) ≡ true }
+    ensures and_back { dominates_by WrittenEarlier (standard_problem three_increments) (2 ∷ 1 ∷ []) (1 ∷ 2 ∷ []) ≡
+        true }
+    ensures one_of_another_number { dominates_by ClampedStanding (standard_problem three_increments) (1 ∷ []) (2 ∷ []) ≡
+        false }
+    ensures free_by_the_slot { dominates_by ClampedStanding (standard_problem packing_gap) (1 ∷ 3 ∷ 2 ∷ 4 ∷ [])
+        (1 ∷ 2 ∷ 3 ∷ 4 ∷ []) ≡ true }
+    ensures free_later_as_written { dominates_by WrittenEarlier (standard_problem packing_gap) (1 ∷ 3 ∷ 2 ∷ 4 ∷ [])
+        (1 ∷ 2 ∷ 3 ∷ 4 ∷ []) ≡ false }
+    ensures done_by_the_slot { dominates_by ClampedStanding (standard_problem booleans_and_sets) (2 ∷ 1 ∷ 3 ∷ [])
+        (1 ∷ 2 ∷ 3 ∷ []) ≡ true }
+    ensures done_later_as_written { dominates_by WrittenEarlier (standard_problem booleans_and_sets) (2 ∷ 1 ∷ 3 ∷ [])
+        (1 ∷ 2 ∷ 3 ∷ []) ≡ false }
+    ensures done_after_the_slot { dominates_by ClampedStanding (standard_problem late_result) (2 ∷ 1 ∷ [])
+        (1 ∷ 2 ∷ []) ≡ false }
+    ensures half_a_word_apart { dominates_by ClampedStanding (standard_problem two_gaps) (1 ∷ 2 ∷ 4 ∷ 3 ∷ 5 ∷ 6 ∷ [])
+        (1 ∷ 2 ∷ 3 ∷ 4 ∷ 5 ∷ 6 ∷ []) ≡ false }
+    ensures a_parcel_apart { dominates_by ClampedStanding (standard_problem later_gap) (1 ∷ 3 ∷ 2 ∷ 4 ∷ [])
+        (1 ∷ 2 ∷ 3 ∷ 4 ∷ []) ≡ false }
+    ensures three_units_by_the_slot { dominates_by ClampedStanding load_and_multiplies (2 ∷ 3 ∷ 1 ∷ 4 ∷ [])
+        (3 ∷ 2 ∷ 1 ∷ 4 ∷ []) ≡ true }
+    ensures three_units_as_written { dominates_by WrittenEarlier load_and_multiplies (2 ∷ 3 ∷ 1 ∷ 4 ∷ [])
+        (3 ∷ 2 ∷ 1 ∷ 4 ∷ []) ≡ false }
+    ensures third_unit_later { dominates_by ClampedStanding load_and_multiplies (1 ∷ 2 ∷ 3 ∷ 4 ∷ [])
+        (2 ∷ 1 ∷ 4 ∷ 3 ∷ []) ≡ false }
 {}

@@ -30,7 +30,8 @@ fn parcels_if_before(prefix: &Prefix, known: &Known, m: u8, n: u8) -> u32
 fn parcels_before(prefix: &Prefix, known: &Known, n: u8) -> u32
     requires same { prefix.now.problem ≡ known.now.problem }
     requires number { (1 ≤ n) × (n ≤ length prefix.now.problem.block) }
-    ensures value { result ≡ sum_remaining prefix.now.problem.block prefix.now.numbers (λ m. if (known_in known.now).before m n then (row_at prefix.now.problem m).parcels else 0) }
+    ensures value { result ≡ sum_remaining prefix.now.problem.block prefix.now.numbers
+        (λ m. if (known_in known.now).before m n then (row_at prefix.now.problem m).parcels else 0) }
     ensures at_most { result ≤ 2 * BLOCK_LIMIT }
 {
     let mut parcels = 0;
@@ -70,7 +71,8 @@ fn number_finds_no_later(own: &Prefix, at: &Prefix, known: &Known, n: u8) -> boo
 fn all_find_no_later(own: &Prefix, at: &Prefix, known: &Known) -> bool
     requires same { own.now.problem ≡ at.now.problem }
     requires known { at.now.problem ≡ known.now.problem }
-    ensures { IsTrue result ↔ ((n : ℕ) → is_remaining at.now.problem.block at.now.numbers n ≡ true → number_finds_no_later at.now.problem (known_in known.now) own.now.numbers at.now.numbers n ≡ true) }
+    ensures { IsTrue result ↔ ((n : ℕ) → is_remaining at.now.problem.block at.now.numbers n ≡ true →
+        number_finds_no_later at.now.problem (known_in known.now) own.now.numbers at.now.numbers n ≡ true) }
 {
     for position in 0..at.count() {
         let n = position + 1;

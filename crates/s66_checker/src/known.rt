@@ -150,8 +150,10 @@ impl Known {
     /// The longest paths from the moments of an instruction to the end.
     pub(crate) fn tails(&self, n: u8) -> Times
         requires { (1 ≤ n) × (n ≤ length self.now.problem.block) }
-        ensures issue { result.issue ≡ Some (tail self.now.problem (arcs_of self.now.problem (known_in self.now)) (At n Issue)) }
-        ensures start { result.start ≡ Some (tail self.now.problem (arcs_of self.now.problem (known_in self.now)) (At n Start)) }
+        ensures issue { result.issue ≡ Some (tail self.now.problem (arcs_of self.now.problem (known_in self.now))
+            (At n Issue)) }
+        ensures start { result.start ≡ Some (tail self.now.problem (arcs_of self.now.problem (known_in self.now))
+            (At n Start)) }
     {
         times_at(&self.tails, n)
     }
@@ -171,7 +173,8 @@ impl Known {
     /// Whether an instruction remains after a prefix, and takes a bound at least if it comes next.
     pub(crate) fn is_too_late(&self, prefix: &Prefix, bound: u32, n: u8) -> bool
         requires { prefix.now.problem ≡ self.now.problem }
-        ensures { result ≡ (is_remaining prefix.now.problem.block prefix.now.numbers n && nat_le bound (next_value self.now.problem (known_in self.now) prefix.now.numbers n)) }
+        ensures { result ≡ (is_remaining prefix.now.problem.block prefix.now.numbers n &&
+            nat_le bound (next_value self.now.problem (known_in self.now) prefix.now.numbers n)) }
     {
         prefix.is_remaining(n) && self.is_late(prefix, bound, n)
     }

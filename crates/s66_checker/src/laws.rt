@@ -19,8 +19,10 @@ ghost use Rattle.s66_checker.specs.TrueClaims.{IsTrueClaim};
 /// If the verdict on a document is yes, with its time and its bound, what it claims is true; without fact lines it is yes exactly
 /// then. No legal order then takes less than the bound.
 pub fn yes_law()
-    ensures stated { (limit : ℕ) (d : Document) (time bound : ℕ) → IsDocument limit d → verdict d ≡ Yes time bound → (time ≡ d.time) × (bound ≡ d.bound) × IsTrueClaim d }
-    ensures yes { (limit : ℕ) (d : Document) → IsDocument limit d → d.facts ≡ None → IsTrueClaim d → verdict d ≡ Yes d.time d.bound }
+    ensures stated { (limit : ℕ) (d : Document) (time bound : ℕ) → IsDocument limit d → verdict d ≡ Yes time bound →
+        (time ≡ d.time) × (bound ≡ d.bound) × IsTrueClaim d }
+    ensures yes { (limit : ℕ) (d : Document) → IsDocument limit d → d.facts ≡ None → IsTrueClaim d →
+        verdict d ≡ Yes d.time d.bound }
     ensures bound { (d : Document) → IsTrueClaim d → IsBound (problem_of d) d.bound }
 {}
 
@@ -28,8 +30,10 @@ pub fn yes_law()
 /// instructions are 0 to 7. Those of each document's block are. That of dominance in use says yes only when there is, by fact lines that
 /// are taken, and of all that dominates clamped.
 pub fn dominating_law()
-    ensures written { (b : Problem) (name at : List ℕ) → HaveDigits b.block → (dominates_by WrittenEarlier b name at ≡ true) ↔ Dominates b name at }
-    ensures clamped { (b : Problem) (name at : List ℕ) → HaveDigits b.block → (dominates_by ClampedStanding b name at ≡ true) ↔ DominatesClamped b name at }
+    ensures written { (b : Problem) (name at : List ℕ) → HaveDigits b.block →
+        (dominates_by WrittenEarlier b name at ≡ true) ↔ Dominates b name at }
+    ensures clamped { (b : Problem) (name at : List ℕ) → HaveDigits b.block →
+        (dominates_by ClampedStanding b name at ≡ true) ↔ DominatesClamped b name at }
     ensures in_use { (b : Problem) (bound : ℕ) (lines : List FactLine) (name at : List ℕ) → are_taken b bound (known_first b) lines ≡ true →
         dominates_in_use b bound (known_after (known_first b) lines) name at ≡ true →
         DominatesInUse b bound (facts_after [] (map (line_of b) lines)) name at }

@@ -31,7 +31,8 @@ fn next_ready(prefix: &Prefix, n: u8) -> Option<u8>
 /// Goes on to the prefix after a leaf, and returns whether there is one. The last number gives way to the next one that is ready
 /// in its place; if there is none, the number before it does. Each number that gives way was pushed once.
 fn advance(prefix: &mut Prefix) -> bool
-    ensures next { coming prefix.old.problem.block result prefix.new.numbers ≡ later prefix.old.problem.block [] prefix.old.numbers }
+    ensures next { coming prefix.old.problem.block result prefix.new.numbers ≡
+        later prefix.old.problem.block [] prefix.old.numbers }
     ensures problem { prefix.new.problem ≡ prefix.old.problem }
 {
     while let Some(last) = prefix.pop() {
@@ -46,7 +47,8 @@ fn advance(prefix: &mut Prefix) -> bool
 /// Goes on to the prefix after a line, and returns whether there is one.
 fn go_on(prefix: &mut Prefix, line: TreeLine<'_>) -> bool
     requires { HasReady prefix.old.problem.block prefix.old.numbers (vertex_of line) }
-    ensures next { coming prefix.old.problem.block result prefix.new.numbers ≡ coming_after prefix.old.problem.block prefix.old.numbers (vertex_of line.entry) }
+    ensures next { coming prefix.old.problem.block result prefix.new.numbers ≡
+        coming_after prefix.old.problem.block prefix.old.numbers (vertex_of line.entry) }
     ensures problem { prefix.new.problem ≡ prefix.old.problem }
 {
     if let TreeLine::Split(numbers) = line {
@@ -69,7 +71,8 @@ pub(crate) fn tree_verdict(
     requires start { prefix ≡ record { problem = problem_of (document_of document.now); numbers = [] } }
     requires same { named.problem ≡ problem_of (document_of document.now) }
     requires known { KnowsAll (document_of document.now) known.now }
-    ensures { result ≡ lines_verdict (document_of document.now) (tree_line_number (document_of document.now)) (tree_placed [] (document_of document.now).tree) }
+    ensures { result ≡ lines_verdict (document_of document.now) (tree_line_number (document_of document.now))
+        (tree_placed [] (document_of document.now).tree) }
 {
     let mut lines = document.tree();
     let mut number = u32::from(prefix.count()) + 7 + fact_lines(document).len() as u32;

@@ -9,7 +9,8 @@ ghost use Rattle.s66_command.specs.ProfileText.{profile_numbers_in_text};
 /// Texts that give a profile.
 #[tactic(auto, unfolding(serde_json::proofs::OnLiterals::serde_json_on_literals))]
 pub fn profile_examples()
-    ensures no_key { profile_numbers_in_text (codes "{}") ≡ Some (3 ∷ 3 ∷ 4 ∷ 4 ∷ 3 ∷ 10 ∷ 29 ∷ 8 ∷ 3 ∷ 8 ∷ 1 ∷ 1 ∷ 1 ∷ 1 ∷ 2 ∷ 1 ∷ 2 ∷ []) }
+    ensures no_key { profile_numbers_in_text (codes "{}") ≡
+        Some (3 ∷ 3 ∷ 4 ∷ 4 ∷ 3 ∷ 10 ∷ 29 ∷ 8 ∷ 3 ∷ 8 ∷ 1 ∷ 1 ∷ 1 ∷ 1 ∷ 2 ∷ 1 ∷ 2 ∷ []) }
     ensures a_time { profile_numbers_in_text (codes "{\"boolean\":5}") ≡ standard_but 0 5 }
     ensures copies { profile_numbers_in_text (codes "{\"units_multiply\":3}") ≡ standard_but 14 3 }
     ensures least { profile_numbers_in_text (codes "{\"boolean\":1}") ≡ standard_but 0 1 }
@@ -17,7 +18,8 @@ pub fn profile_examples()
     ensures blanks { profile_numbers_in_text (codes " \t\r\n{ \"load\"\n:\t2 } \r\n") ≡ standard_but 9 2 }
     ensures escaped_key { profile_numbers_in_text (codes "{\"\\u0062oolean\":5}") ≡ standard_but 0 5 }
     ensures last_of_equal_keys { profile_numbers_in_text (codes "{\"boolean\":5,\"boolean\":7}") ≡ standard_but 0 7 }
-    ensures only_the_last_counts { profile_numbers_in_text (codes "{\"boolean\":\"x\",\"boolean\":7}") ≡ standard_but 0 7 }
+    ensures only_the_last_counts { profile_numbers_in_text (codes "{\"boolean\":\"x\",\"boolean\":7}") ≡
+        standard_but 0 7 }
     ensures each_key { profile_numbers_in_text (
         codes "{\"units_increment\":27,\"units_divide\":26,\"units_multiply\":25,\"units_longadd\":24,\"units_add\":23,\"units_shift\":22,\"units_boolean\":21," ++
         codes "\"load\":20,\"increment\":19,\"population\":18,\"divide\":17,\"multiply\":16,\"longadd\":15,\"add\":14,\"normalise\":13,\"shift\":12,\"boolean\":11}") ≡
@@ -59,16 +61,22 @@ pub fn hint_examples()
     ensures file_name { hint_in_text (codes "slow.json") ≡ codes "no JSON object; --profile takes a text, not a file" }
     ensures nothing { hint_in_text [] ≡ codes "no JSON object; --profile takes a text, not a file" }
     ensures array { hint_in_text (codes "[]") ≡ codes "no JSON object; --profile takes a text, not a file" }
-    ensures other_key { hint_in_text (codes "{\"units_mult\":1}") ≡ codes "no number of a profile is called \"units_mult\"" }
+    ensures other_key { hint_in_text (codes "{\"units_mult\":1}") ≡
+        codes "no number of a profile is called \"units_mult\"" }
     ensures zero { hint_in_text (codes "{\"multiply\":0}") ≡ codes "\"multiply\" is no whole number 1 to 100" }
     ensures above { hint_in_text (codes "{\"multiply\":101}") ≡ codes "\"multiply\" is no whole number 1 to 100" }
     ensures text { hint_in_text (codes "{\"multiply\":\"5\"}") ≡ codes "\"multiply\" is no whole number 1 to 100" }
-    ensures key_before_value { hint_in_text (codes "{\"branch\":0}") ≡ codes "no number of a profile is called \"branch\"" }
-    ensures first_in_order_of_keys { hint_in_text (codes "{\"units_mult\":1,\"multiply\":0}") ≡ codes "\"multiply\" is no whole number 1 to 100" }
-    ensures after_good_keys { hint_in_text (codes "{\"add\":5,\"multiply\":0,\"load\":2}") ≡ codes "\"multiply\" is no whole number 1 to 100" }
-    ensures last_of_equal_keys { hint_in_text (codes "{\"multiply\":5,\"multiply\":0}") ≡ codes "\"multiply\" is no whole number 1 to 100" }
+    ensures key_before_value { hint_in_text (codes "{\"branch\":0}") ≡
+        codes "no number of a profile is called \"branch\"" }
+    ensures first_in_order_of_keys { hint_in_text (codes "{\"units_mult\":1,\"multiply\":0}") ≡
+        codes "\"multiply\" is no whole number 1 to 100" }
+    ensures after_good_keys { hint_in_text (codes "{\"add\":5,\"multiply\":0,\"load\":2}") ≡
+        codes "\"multiply\" is no whole number 1 to 100" }
+    ensures last_of_equal_keys { hint_in_text (codes "{\"multiply\":5,\"multiply\":0}") ≡
+        codes "\"multiply\" is no whole number 1 to 100" }
     ensures newline { hint_in_text (codes "{\"add\\n\":5}") ≡ codes "no number of a profile is called \"add\\n\"" }
-    ensures escape { hint_in_text (codes "{\"\\u001b[2J\":5}") ≡ codes "no number of a profile is called \"\\u001b[2J\"" }
+    ensures escape { hint_in_text (codes "{\"\\u001b[2J\":5}") ≡
+        codes "no number of a profile is called \"\\u001b[2J\"" }
     ensures quote { hint_in_text (codes "{\"\\\"\":5}") ≡ codes "no number of a profile is called \"\\\"\"" }
     ensures profile { hint_in_text (codes "{\"multiply\":5}") ≡ [] }
 {}

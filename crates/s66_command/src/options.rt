@@ -14,7 +14,8 @@ use s66_model::{Options, Rule};
 
 /// Whether a flag is given.
 pub(crate) fn flag_in(matches: &ArgMatches, flag: OptionName) -> bool
-    ensures { IsFlag flag → (words : List Text) → IsFoundBy (found_of matches.now) words → GivesFlag (rule_of_option flag).id words result }
+    ensures { IsFlag flag → (words : List Text) → IsFoundBy (found_of matches.now) words →
+        GivesFlag (rule_of_option flag).id words result }
 {
     matches.get_flag(flag.name())
 }
@@ -119,7 +120,8 @@ fn conflict_of(
 /// What is wrong with the options of a subcommand together, if anything is: the kind of the mistake, and its text.
 pub(crate) fn conflict_in(matches: &ArgMatches) -> Option<(ErrorKind, &'static str)>
     ensures kind { IfSome result (λ conflict. IsMistake conflict.0) }
-    ensures given { (words : List Text) → IsFoundBy (found_of matches.now) words → is_some result ≡ gives_conflict words }
+    ensures given { (words : List Text) → IsFoundBy (found_of matches.now) words →
+        is_some result ≡ gives_conflict words }
 {
     let dominate = flag_in(matches, OptionName::Dominate);
     let dominate_tree = flag_in(matches, OptionName::DominateTree);

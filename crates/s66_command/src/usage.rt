@@ -92,7 +92,8 @@ fn mistake(alloc: Global, subcommand: Subcommand, kind: ErrorKind, message: &str
 
 /// The command of a subcommand, by what clap found of its options.
 fn command_by<'a>(subcommand: Subcommand, given: &ArgMatches<'a>) -> Asked<'a>
-    ensures { (words : List Text) → IsFoundBy (found_of given.now) words → AsksFor words (name_of subcommand) → Asks words result }
+    ensures { (words : List Text) → IsFoundBy (found_of given.now) words → AsksFor words (name_of subcommand) →
+        Asks words result }
 {
     let cut = flag_in(given, OptionName::Cut);
     let text = flag_in(given, OptionName::Text);

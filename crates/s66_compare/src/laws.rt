@@ -22,19 +22,32 @@ pub fn same_meaning_law()
 /// The first difference of two frames is none if these are the same but for their lines, and else the first place at which they aren't.
 pub fn difference_law()
     ensures none { (old new : List FramePart) → first_difference old new ≡ None → shapes new ≡ shapes old }
-    ensures some { (old new : List FramePart) (d : Difference) → first_difference old new ≡ Some d → DifferFirst old new d }
+    ensures some { (old new : List FramePart) (d : Difference) → first_difference old new ≡ Some d →
+        DifferFirst old new d }
 {}
 
 /// What is said of blocks of three instructions, of which the second reads what the first loads; and of equal instructions, of which
 /// each depends on the one before it.
 #[tactic(auto, unfolding(s66_model::specs::Dependence::conflict))]
 pub fn verdict_examples()
-    ensures same { judged (block_of_texts (codes "SA1 A1+B1" ∷ codes "BX6 X1" ∷ codes "BX7 X2" ∷ [])) (block_of_texts (codes "SA1 A1+B1" ∷ codes "BX6 X1" ∷ codes "BX7 X2" ∷ [])) ≡ record { verdict = Same; order = 1 ∷ 2 ∷ 3 ∷ [] } }
-    ensures legal { judged (block_of_texts (codes "SA1 A1+B1" ∷ codes "BX6 X1" ∷ codes "BX7 X2" ∷ [])) (block_of_texts (codes "SA1 A1+B1" ∷ codes "BX7 X2" ∷ codes "BX6 X1" ∷ [])) ≡ record { verdict = Reordered; order = 1 ∷ 3 ∷ 2 ∷ [] } }
-    ensures not_legal { judged (block_of_texts (codes "SA1 A1+B1" ∷ codes "BX6 X1" ∷ codes "BX7 X2" ∷ [])) (block_of_texts (codes "BX6 X1" ∷ codes "SA1 A1+B1" ∷ codes "BX7 X2" ∷ [])) ≡ record { verdict = NotLegal 2 1; order = 2 ∷ 1 ∷ 3 ∷ [] } }
-    ensures other_operand { judged (block_of_texts (codes "SA1 A1+B1" ∷ codes "BX6 X1" ∷ codes "BX7 X2" ∷ [])) (block_of_texts (codes "SA1 A1+B1" ∷ codes "BX7 X3" ∷ codes "BX6 X1" ∷ [])) ≡ record { verdict = OtherNew 2; order = 1 ∷ [] } }
-    ensures lost { judged (block_of_texts (codes "SA1 A1+B1" ∷ codes "BX6 X1" ∷ codes "BX7 X2" ∷ [])) (block_of_texts (codes "SA1 A1+B1" ∷ codes "BX7 X2" ∷ [])) ≡ record { verdict = OtherOld 2; order = 1 ∷ 3 ∷ [] } }
-    ensures equal_texts { judged (block_of_texts (codes "LX1 1" ∷ codes "LX1 1" ∷ codes "BX2 X1" ∷ [])) (block_of_texts (codes "LX1 1" ∷ codes "BX2 X1" ∷ codes "LX1 1" ∷ [])) ≡ record { verdict = NotLegal 3 2; order = 1 ∷ 3 ∷ 2 ∷ [] } }
+    ensures same { judged (block_of_texts (codes "SA1 A1+B1" ∷ codes "BX6 X1" ∷ codes "BX7 X2" ∷ []))
+        (block_of_texts (codes "SA1 A1+B1" ∷ codes "BX6 X1" ∷ codes "BX7 X2" ∷ [])) ≡
+        record { verdict = Same; order = 1 ∷ 2 ∷ 3 ∷ [] } }
+    ensures legal { judged (block_of_texts (codes "SA1 A1+B1" ∷ codes "BX6 X1" ∷ codes "BX7 X2" ∷ []))
+        (block_of_texts (codes "SA1 A1+B1" ∷ codes "BX7 X2" ∷ codes "BX6 X1" ∷ [])) ≡
+        record { verdict = Reordered; order = 1 ∷ 3 ∷ 2 ∷ [] } }
+    ensures not_legal { judged (block_of_texts (codes "SA1 A1+B1" ∷ codes "BX6 X1" ∷ codes "BX7 X2" ∷ []))
+        (block_of_texts (codes "BX6 X1" ∷ codes "SA1 A1+B1" ∷ codes "BX7 X2" ∷ [])) ≡
+        record { verdict = NotLegal 2 1; order = 2 ∷ 1 ∷ 3 ∷ [] } }
+    ensures other_operand { judged (block_of_texts (codes "SA1 A1+B1" ∷ codes "BX6 X1" ∷ codes "BX7 X2" ∷ []))
+        (block_of_texts (codes "SA1 A1+B1" ∷ codes "BX7 X3" ∷ codes "BX6 X1" ∷ [])) ≡
+        record { verdict = OtherNew 2; order = 1 ∷ [] } }
+    ensures lost { judged (block_of_texts (codes "SA1 A1+B1" ∷ codes "BX6 X1" ∷ codes "BX7 X2" ∷ []))
+        (block_of_texts (codes "SA1 A1+B1" ∷ codes "BX7 X2" ∷ [])) ≡
+        record { verdict = OtherOld 2; order = 1 ∷ 3 ∷ [] } }
+    ensures equal_texts { judged (block_of_texts (codes "LX1 1" ∷ codes "LX1 1" ∷ codes "BX2 X1" ∷ []))
+        (block_of_texts (codes "LX1 1" ∷ codes "BX2 X1" ∷ codes "LX1 1" ∷ [])) ≡
+        record { verdict = NotLegal 3 2; order = 1 ∷ 3 ∷ 2 ∷ [] } }
 {}
 
 /// What stands beside the blocks of a small source: a label on a `NO`, a comment, a branch, a `NO` that stands alone, and a switch; and

@@ -55,7 +55,8 @@ fn side_of(timer: &mut Timer, block: &Block) -> Side
 #[tactic(auto, using(crate::proofs::RowSteps::old_row, crate::proofs::RowSteps::both_row))]
 fn row_at(timer: &mut Timer, old: &Block, new: &[Block], place: usize) -> Row
     ensures profile { timer.new ≡ timer.old }
-    ensures row { (os : List BlockOf) → rows_of timer.old (old.now ∷ os) (drop place new.now) ≡ result ∷ rows_of timer.old os (drop (place + 1) new.now) }
+    ensures row { (os : List BlockOf) → rows_of timer.old (old.now ∷ os) (drop place new.now) ≡ result ∷
+        rows_of timer.old os (drop (place + 1) new.now) }
 {
     if place >= new.len() {
         return Row::OldAlone {
@@ -79,7 +80,8 @@ fn push_old(
     new: &[Block],
 ) -> Result<(), AllocError>
     ensures profile { timer.new ≡ timer.old }
-    ensures rows { OnOk result (rows.new.items ++ rows_of timer.old [] (drop (length old.now) new.now) ≡ rows.old.items ++ rows_of timer.old old.now new.now) }
+    ensures rows { OnOk result (rows.new.items ++ rows_of timer.old [] (drop (length old.now) new.now) ≡
+        rows.old.items ++ rows_of timer.old old.now new.now) }
 {
     for (place, block) in old.iter().enumerate() {
         rows.push(row_at(timer, block, new, place))?;

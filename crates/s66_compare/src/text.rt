@@ -213,7 +213,8 @@ fn push_sums(out: &mut Vec<u8>, name: &[u8], blocks: usize, time: usize) -> Resu
 }
 
 fn push_total(out: &mut Vec<u8>, total: &Total) -> Result<(), AllocError>
-    ensures { OnOk result (out.new.items ≡ out.old.items ++ total_text total.now.blocks total.now.time total.now.new_blocks total.now.new_time total.now.legal) }
+    ensures { OnOk result (out.new.items ≡ out.old.items ++
+        total_text total.now.blocks total.now.time total.now.new_blocks total.now.new_time total.now.legal) }
 {
     push_sums(out, b"TOTAL BLOCKS ", total.blocks, total.time)?;
     push_sums(out, b" NEW BLOCKS ", total.new_blocks, total.new_time)?;

@@ -75,7 +75,8 @@ pub fn look_at(
     is_printed: bool,
 ) -> Result<Look, AllocError>
     requires { first.now.problem ≡ record { block = instrs_of block.now; profile = profile.now } }
-    ensures found { IfOk result (λ look. IfSome look.found (IsLooked (record { block = instrs_of block.now; profile = profile.now }) most)) }
+    ensures found { IfOk result (λ look. IfSome look.found
+        (IsLooked (record { block = instrs_of block.now; profile = profile.now }) most)) }
     ensures splits { IfOk result (λ look. look.splits ≤ most + most / 2) }
 {
     let written = source_order(block, profile);

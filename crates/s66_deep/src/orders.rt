@@ -36,7 +36,8 @@ pub(crate) fn timed_below(
     numbers: &[u8],
     best: u32,
 ) -> Option<Timed>
-    ensures problem { IfSome result (λ timed. timed.problem ≡ record { block = instrs_of block.now; profile = profile.now }) }
+    ensures problem { IfSome result (λ timed. timed.problem ≡
+        record { block = instrs_of block.now; profile = profile.now }) }
     ensures below { IfSome result (λ timed. total_of timed.problem timed.numbers < best) }
 {
     let Ok(order) = Order::new(block, numbers) else {

@@ -14,7 +14,8 @@ use s66_cert::{LINE_LIMIT, SPLIT_LIMIT, TIME_LIMIT, Tree, TreeLine};
 /// How many trees follow a line as its children, if it may stand in the tree of a certificate with fact lines: it splits, or is a leaf
 /// of a kind that has no name.
 fn children_of(line: TreeLine<'_>) -> Option<usize>
-    ensures allowed { IfSome result (λ count. IsAllowed (vertex_of line.entry) × (count ≡ sibling_count (vertex_of line.entry))) }
+    ensures allowed { IfSome result (λ count. IsAllowed (vertex_of line.entry) ×
+        (count ≡ sibling_count (vertex_of line.entry))) }
     ensures few { IfSome result (λ count. count ≤ BLOCK_LIMIT) }
 {
     match line {

@@ -38,7 +38,8 @@ impl<'a> Prefix<'a> {
 
     /// The empty one, with what follows the stages of each number, n at place n - 1: in time quadratic in the block's length.
     pub fn new(block: &'a Block<'a>, profile: &Profile, tails: &[Tails; BLOCK_LIMIT]) -> Prefix<'a>
-        ensures { result ≡ record { problem = record { block = instrs_of block.now; profile = profile.now }; numbers = [] } }
+        ensures { result ≡
+            record { problem = record { block = instrs_of block.now; profile = profile.now }; numbers = [] } }
     {
         let paths = PathBounds::new(block, profile, tails);
         let left = paths.left_after(&Set::empty());

@@ -50,7 +50,8 @@ fn direct_needs(dependences: &Dependences, n: u8) -> Set
 /// The numbers that depend on n directly. Of each number, `direct` has those on which it does.
 fn opened_by(direct: &[Set], n: u8) -> Set
     requires { length direct.now ≤ BLOCK_LIMIT }
-    ensures { numbers_in result ≡ filter (λ m. has n (numbers_in (get_or direct.now (m - 1) no_set))) (rising (length direct.now) 1) }
+    ensures { numbers_in result ≡ filter (λ m. has n (numbers_in (get_or direct.now (m - 1) no_set)))
+        (rising (length direct.now) 1) }
 {
     let mut opened = Set::empty();
     for position in 0..direct.len() {
@@ -114,7 +115,10 @@ impl Openings {
     #[inline]
     pub fn ready_after(&self, before: &Set, n: u8, placed: &Set) -> Set
         requires { (1 ≤ n) × (n ≤ length self.now) }
-        ensures { (block : List Instr) (prefix : List ℕ) → self.now ≡ all_needs block → IsBeginning block prefix → is_ready block prefix n ≡ true → numbers_in before.now ≡ ready block prefix → ((m : ℕ) → has m (numbers_in placed.now) ≡ has m (prefix ++ n ∷ [])) → numbers_in result ≡ ready block (prefix ++ n ∷ []) }
+        ensures { (block : List Instr) (prefix : List ℕ) → self.now ≡ all_needs block → IsBeginning block prefix →
+            is_ready block prefix n ≡ true → numbers_in before.now ≡ ready block prefix →
+            ((m : ℕ) → has m (numbers_in placed.now) ≡ has m (prefix ++ n ∷ [])) →
+            numbers_in result ≡ ready block (prefix ++ n ∷ []) }
     {
         let mut after = before.without(placed);
         let mut rest = self.opened(n);
@@ -130,7 +134,9 @@ impl Openings {
     #[inline]
     pub fn ready_before(&self, after: &Set, n: u8) -> Set
         requires { (1 ≤ n) × (n ≤ length self.now) }
-        ensures { (block : List Instr) (prefix : List ℕ) → self.now ≡ all_needs block → IsBeginning block prefix → is_ready block prefix n ≡ true → numbers_in after.now ≡ ready block (prefix ++ n ∷ []) → numbers_in result ≡ ready block prefix }
+        ensures { (block : List Instr) (prefix : List ℕ) → self.now ≡ all_needs block → IsBeginning block prefix →
+            is_ready block prefix n ≡ true → numbers_in after.now ≡ ready block (prefix ++ n ∷ []) →
+            numbers_in result ≡ ready block prefix }
     {
         after.without(&self.opened(n)).with(n)
     }

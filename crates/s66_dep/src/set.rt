@@ -77,7 +77,8 @@ impl Set {
 
     /// The numbers of this set that aren't in the other.
     pub fn without(&self, other: &Set) -> Set
-        ensures { (m : ℕ) → has m (numbers_in result) ≡ (has m (numbers_in self.now) && not (has m (numbers_in other.now))) }
+        ensures { (m : ℕ) → has m (numbers_in result) ≡
+            (has m (numbers_in self.now) && not (has m (numbers_in other.now))) }
     {
         Set {
             low: self.low & !other.low,

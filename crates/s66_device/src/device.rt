@@ -57,7 +57,8 @@ pub struct OverRead<R> {
 
 impl<R: Read> OverRead<R> {
     pub fn new(inner: R) -> OverRead<R>
-        ensures { result ≡ record { inner = inner; reads = 0; ends = 0; failed = 0; least_room = 2 ^ 64 - 1; most_room = 0 } }
+        ensures { result ≡
+            record { inner = inner; reads = 0; ends = 0; failed = 0; least_room = 2 ^ 64 - 1; most_room = 0 } }
     {
         OverRead {
             inner,

@@ -34,7 +34,8 @@ pub(crate) fn all_kept(direction: Direction, graph: &Graph, m: u8, n: u8) -> Mar
     requires m { IsNumber graph.now.problem m }
     requires n { IsNumber graph.now.problem n }
     requires few { length graph.now.problem.block ≤ BLOCK_LIMIT }
-    ensures { (k : ℕ) → IsNumber graph.now.problem k → is_marked result k ≡ true → keeps (sooner direction (before_in graph.now.marks)) m n k ≡ true }
+    ensures { (k : ℕ) → IsNumber graph.now.problem k → is_marked result k ≡ true →
+        keeps (sooner direction (before_in graph.now.marks)) m n k ≡ true }
 {
     let mut same = MarkedNumbers::none();
     for position in 0..graph.count() {
@@ -56,7 +57,8 @@ fn is_its(moment: &Moment, n: u8) -> bool
 /// All numbers but that of a moment, an issue or a start.
 pub(crate) fn all_but(graph: &Graph, moment: &Moment) -> MarkedNumbers
     requires { length graph.now.problem.block ≤ BLOCK_LIMIT }
-    ensures { (k : ℕ) → IsNumber graph.now.problem k → is_marked result k ≡ true → (same_moment moment.now (At k Issue) || same_moment moment.now (At k Start)) ≡ false }
+    ensures { (k : ℕ) → IsNumber graph.now.problem k → is_marked result k ≡ true →
+        (same_moment moment.now (At k Issue) || same_moment moment.now (At k Start)) ≡ false }
 {
     let mut others = MarkedNumbers::none();
     for position in 0..graph.count() {
@@ -80,8 +82,11 @@ fn settle(
     requires few { length graph.now.problem.block ≤ BLOCK_LIMIT }
     requires ordered { IsOrdered graph.now }
     requires from { can_begin direction from.now ≡ true }
-    ensures right { AreSettled direction graph.now from.now times.old settled → AreSettled direction graph.now from.now times.new result }
-    ensures kept { (k : ℕ) → IsNumber graph.now.problem k → is_marked settled k ≡ true → (sooner direction (before_in graph.now.marks) n k ≡ true → is_marked settled n ≡ true) → is_marked result k ≡ true }
+    ensures right { AreSettled direction graph.now from.now times.old settled →
+        AreSettled direction graph.now from.now times.new result }
+    ensures kept { (k : ℕ) → IsNumber graph.now.problem k → is_marked settled k ≡ true →
+        (sooner direction (before_in graph.now.marks) n k ≡ true → is_marked settled n ≡ true) →
+        is_marked result k ≡ true }
     ensures ready { IsReady direction graph.now settled n → is_marked result n ≡ true }
 {
     if settled.has(n) {
@@ -121,8 +126,10 @@ fn settle_each(
     requires few { length graph.now.problem.block ≤ BLOCK_LIMIT }
     requires ordered { IsOrdered graph.now }
     requires from { can_begin direction from.now ≡ true }
-    ensures right { AreSettled direction graph.now from.now times.old settled → AreSettled direction graph.now from.now times.new result }
-    ensures more { (h : ℕ) → IsMarkedUpTo direction graph.now h settled → IsMarkedUpTo direction graph.now (h + 1) result }
+    ensures right { AreSettled direction graph.now from.now times.old settled →
+        AreSettled direction graph.now from.now times.new result }
+    ensures more { (h : ℕ) → IsMarkedUpTo direction graph.now h settled →
+        IsMarkedUpTo direction graph.now (h + 1) result }
 {
     let mut done = settled;
     for position in 0..graph.count() {

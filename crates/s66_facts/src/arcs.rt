@@ -103,7 +103,8 @@ fn latest_along(
 ) -> Option<u64>
     requires falling { IsFalling arcs.now before.now }
     requires fits { last ≤ length arcs.now }
-    ensures { result ≡ along (by_arc direction (time_along direction times.now first) to.now) arcs.now before.now last last }
+    ensures { result ≡ along (by_arc direction (time_along direction times.now first) to.now) arcs.now before.now last
+        last }
 {
     let mut latest = None;
     let mut place = last;
@@ -148,7 +149,8 @@ impl Chains {
     fn has(&self, arcs: &[KnownArc], arc: &KnownArc, n: u8) -> bool
         requires falling { IsFalling arcs.now self.now.before.items }
         requires fits { (k : ℕ) → 1 ≤ k → k ≤ BLOCK_LIMIT → get_or self.now.last (k - 1) 0 ≤ length arcs.now }
-        ensures known { IsTrue result → 1 ≤ n → n ≤ BLOCK_LIMIT → HasAsLong arcs.now self.now.before.items (get_or self.now.last (n - 1) 0) arc.now }
+        ensures known { IsTrue result → 1 ≤ n → n ≤ BLOCK_LIMIT →
+            HasAsLong arcs.now self.now.before.items (get_or self.now.last (n - 1) 0) arc.now }
         ensures new { result ≡ false → (1 ≤ n) × (n ≤ BLOCK_LIMIT) }
     {
         n == 0
@@ -161,7 +163,8 @@ impl Chains {
         requires room { length arcs.now < FACT_LIMIT }
         requires falling { IsFalling arcs.now self.old.before.items }
         requires fits { (k : ℕ) → 1 ≤ k → k ≤ BLOCK_LIMIT → get_or self.old.last (k - 1) 0 ≤ length arcs.now }
-        ensures { IsPushed BLOCK_LIMIT arcs.now arc.now n self.old.last self.old.before.items self.new.last self.new.before.items }
+        ensures { IsPushed BLOCK_LIMIT arcs.now arc.now n self.old.last self.old.before.items self.new.last
+            self.new.before.items }
     {
         if self.has(arcs, arc, n) {
             self.before.push(0);
@@ -191,7 +194,8 @@ impl Model for Arcs {
 
     ghost view = { λ a. a.all.items };
 
-    ghost invariant = { λ a. IsChained BLOCK_LIMIT Forward a.all.items a.to.last a.to.before.items × IsChained BLOCK_LIMIT Backward a.all.items a.from.last a.from.before.items };
+    ghost invariant = { λ a. IsChained BLOCK_LIMIT Forward a.all.items a.to.last a.to.before.items ×
+        IsChained BLOCK_LIMIT Backward a.all.items a.from.last a.from.before.items };
 }
 
 impl Arcs {

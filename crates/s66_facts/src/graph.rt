@@ -39,9 +39,11 @@ impl Model for Graph {
 
     ghost Value = { Ground };
 
-    ghost view = { λ g. record { problem = record { block = g.block.items; profile = g.profile }; marks = g.before.items; loads = g.loads } };
+    ghost view = { λ g.
+        record { problem = record { block = g.block.items; profile = g.profile }; marks = g.before.items; loads = g.loads } };
 
-    ghost invariant = { λ g. IsKept g.block.items g.profile g.rows.items g.before.items g.after.items g.near_before.items g.near_after.items g.loads };
+    ghost invariant = { λ g. IsKept g.block.items g.profile g.rows.items g.before.items g.after.items
+        g.near_before.items g.near_after.items g.loads };
 }
 
 /// The rows of a block's instructions under a profile.
@@ -195,7 +197,8 @@ impl Graph {
     /// The numbers that come later than n.
     pub(crate) fn later(&self, direction: Direction, n: u8) -> MarkedNumbers
         requires { IsNumber self.now.problem n }
-        ensures { (m : ℕ) → IsNumber self.now.problem m → is_marked result m ≡ sooner direction (before_in self.now.marks) n m }
+        ensures { (m : ℕ) → IsNumber self.now.problem m →
+            is_marked result m ≡ sooner direction (before_in self.now.marks) n m }
     {
         match direction {
             Direction::Forward => self.after[n as usize - 1],

@@ -187,7 +187,8 @@ fn is_used_from(
 ) -> bool
     requires amount { amount ≤ 2 ^ 32 }
     requires time { time ≤ 2 ^ 40 }
-    ensures { result ≡ (reaches line.now.after head && reaches (amount + line.now.wait) (plus (Some (line.now.after + time)) tail)) }
+    ensures { result ≡ (reaches line.now.after head &&
+        reaches (amount + line.now.wait) (plus (Some (line.now.after + time)) tail)) }
 {
     reaches(line.after as u64, head)
         && reaches_after(amount + line.wait as u64, line.after as u64 + time, tail)
@@ -205,8 +206,10 @@ fn is_used(
 ) -> bool
     requires number { IsNumber graph.now.problem n }
     requires time { time ≤ 2 ^ 40 }
-    requires head { AreTimes graph.now.problem (λ m. span graph.now.problem (ground_arcs graph.now) line.now.from m) n head.now }
-    requires tail { AreTimes graph.now.problem (λ m. span graph.now.problem (ground_arcs graph.now) m line.now.to) n tail.now }
+    requires head { AreTimes graph.now.problem (λ m. span graph.now.problem (ground_arcs graph.now) line.now.from m) n
+        head.now }
+    requires tail { AreTimes graph.now.problem (λ m. span graph.now.problem (ground_arcs graph.now) m line.now.to) n
+        tail.now }
     ensures { result ≡ is_used graph.now.problem (ground_arcs graph.now) line.now kind time n }
 {
     let amount = amount(graph, n);
@@ -225,7 +228,8 @@ pub(crate) fn are_used(
     requires some { 0 < length line.now.numbers.items }
     requires heads { AreAll Forward graph.now line.now.from heads.now }
     requires tails { AreAll Backward graph.now line.now.to tails.now }
-    ensures { result ≡ are_used graph.now.problem (ground_arcs graph.now) line.now (kind_of_load graph.now.problem line.now.numbers.items) }
+    ensures { result ≡ are_used graph.now.problem (ground_arcs graph.now) line.now
+        (kind_of_load graph.now.problem line.now.numbers.items) }
 {
     // its clauses say that the block is short
     let _count = graph.count();
@@ -247,7 +251,8 @@ pub(crate) fn are_used(
 
 /// Whether a load line leads up between moments that it may have, and has some numbers, each once.
 pub(crate) fn is_load_line(graph: &Graph, line: &LoadLine) -> bool
-    ensures { result ≡ (is_arc_up graph.now.problem (before_in graph.now.marks) line.now.from line.now.to && nat_lt 0 (length line.now.numbers.items) && are_rising line.now.numbers.items) }
+    ensures { result ≡ (is_arc_up graph.now.problem (before_in graph.now.marks) line.now.from line.now.to &&
+        nat_lt 0 (length line.now.numbers.items) && are_rising line.now.numbers.items) }
 {
     is_arc_up(graph, &line.from, &line.to)
         && !line.numbers.is_empty()

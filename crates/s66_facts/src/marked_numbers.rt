@@ -54,7 +54,8 @@ impl MarkedNumbers {
 
     /// The same, without all that are marked there.
     pub fn without_all(self, other: MarkedNumbers) -> MarkedNumbers
-        ensures { (m : ℕ) → 1 ≤ m → m ≤ BLOCK_LIMIT → is_marked result m ≡ (is_marked self m && not (is_marked other m)) }
+        ensures { (m : ℕ) → 1 ≤ m → m ≤ BLOCK_LIMIT →
+            is_marked result m ≡ (is_marked self m && not (is_marked other m)) }
     {
         MarkedNumbers {
             bits: self.bits & !other.bits,
@@ -71,7 +72,8 @@ impl MarkedNumbers {
 
     /// Whether each number that is marked here is marked there.
     pub fn are_within(&self, other: &MarkedNumbers) -> bool
-        ensures { IsTrue result ↔ ((m : ℕ) → 1 ≤ m → m ≤ BLOCK_LIMIT → is_marked self.now m ≡ true → is_marked other.now m ≡ true) }
+        ensures { IsTrue result ↔ ((m : ℕ) → 1 ≤ m → m ≤ BLOCK_LIMIT → is_marked self.now m ≡ true →
+            is_marked other.now m ≡ true) }
     {
         self.bits & other.bits == self.bits
     }
@@ -87,7 +89,8 @@ impl MarkedNumbers {
     pub fn pop_first(&mut self) -> Option<u8>
         ensures range { IfSome result (λ n. (1 ≤ n) × (n ≤ BLOCK_LIMIT)) }
         ensures marked { IfSome result (λ n. is_marked self.old n ≡ true) }
-        ensures others { IfSome result (λ n. (m : ℕ) → 1 ≤ m → m ≤ BLOCK_LIMIT → is_marked self.new m ≡ (not (m == n) && is_marked self.old m)) }
+        ensures others { IfSome result (λ n. (m : ℕ) → 1 ≤ m → m ≤ BLOCK_LIMIT →
+            is_marked self.new m ≡ (not (m == n) && is_marked self.old m)) }
         ensures fewer { IfSome result (λ n. self.new.bits < self.old.bits) }
         ensures none { IfNone result ((m : ℕ) → is_marked self.old m ≡ false) }
     {

@@ -81,9 +81,11 @@ fn with_one(
     requires count { length sooner.now ≡ length graph.now.problem.block }
     requires near { (k : ℕ) → 1 ≤ k → k ≤ BLOCK_LIMIT → is_marked near k ≡ true → IsNumber graph.now.problem k }
     ensures old { (k : ℕ) → 1 ≤ k → k ≤ BLOCK_LIMIT → is_marked near k ≡ true → is_marked result k ≡ true }
-    ensures new { (k : ℕ) → 1 ≤ k → k ≤ BLOCK_LIMIT → is_marked result k ≡ true → (is_marked near k || is_marked own k) ≡ true }
+    ensures new { (k : ℕ) → 1 ≤ k → k ≤ BLOCK_LIMIT → is_marked result k ≡ true →
+        (is_marked near k || is_marked own k) ≡ true }
     ensures numbers { (k : ℕ) → 1 ≤ k → k ≤ BLOCK_LIMIT → is_marked result k ≡ true → IsNumber graph.now.problem k }
-    ensures covered { IsNumber graph.now.problem m → is_marked own m ≡ true → (is_marked result m ≡ true) ⊎ IsCovered graph.now.problem (before_in sooner.now) near m n }
+    ensures covered { IsNumber graph.now.problem m → is_marked own m ≡ true →
+        (is_marked result m ≡ true) ⊎ IsCovered graph.now.problem (before_in sooner.now) near m n }
 {
     if !graph.is_number(m) || !own.has(m) || is_covered(graph, sooner, near, m, n) {
         near
@@ -106,9 +108,11 @@ fn with_near(
     requires near { (k : ℕ) → 1 ≤ k → k ≤ BLOCK_LIMIT → is_marked near k ≡ true → IsNumber graph.now.problem k }
     requires other { is_marked own n ≡ false }
     ensures old { (k : ℕ) → 1 ≤ k → k ≤ BLOCK_LIMIT → is_marked near k ≡ true → is_marked result k ≡ true }
-    ensures new { (k : ℕ) → 1 ≤ k → k ≤ BLOCK_LIMIT → is_marked result k ≡ true → (is_marked near k || is_marked own k) ≡ true }
+    ensures new { (k : ℕ) → 1 ≤ k → k ≤ BLOCK_LIMIT → is_marked result k ≡ true →
+        (is_marked near k || is_marked own k) ≡ true }
     ensures numbers { (k : ℕ) → 1 ≤ k → k ≤ BLOCK_LIMIT → is_marked result k ≡ true → IsNumber graph.now.problem k }
-    ensures covered { (m : ℕ) → IsNumber graph.now.problem m → is_marked own m ≡ true → (is_marked result m ≡ true) ⊎ IsCovered graph.now.problem (before_in sooner.now) result m n }
+    ensures covered { (m : ℕ) → IsNumber graph.now.problem m → is_marked own m ≡ true →
+        (is_marked result m ≡ true) ⊎ IsCovered graph.now.problem (before_in sooner.now) result m n }
 {
     let count = graph.count();
     let mut all = near;

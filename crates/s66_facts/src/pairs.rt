@@ -16,7 +16,10 @@ fn marks_with_pair(before: &[MarkedNumbers], j: u8, k: u8, position: usize) -> M
     requires j { (1 ≤ j) × (j ≤ length before.now) }
     requires k { (1 ≤ k) × (k ≤ length before.now) }
     requires place { position < length before.now }
-    ensures { (m : ℕ) → 1 ≤ m → is_marked result m ≡ (is_marked (get_or before.now position no_marks) m || (m == j || is_marked (get_or before.now (j - 1) no_marks) m) && (position + 1 == k || is_marked (get_or before.now position no_marks) k)) }
+    ensures { (m : ℕ) → 1 ≤ m → is_marked result m ≡
+        (is_marked (get_or before.now position no_marks)
+        m || (m == j || is_marked (get_or before.now (j - 1) no_marks) m) &&
+        (position + 1 == k || is_marked (get_or before.now position no_marks) k)) }
 {
     let own = marks_at(before, position);
     if position + 1 == k as usize || own.has(k) {
@@ -66,7 +69,8 @@ fn turned_at(before: &[MarkedNumbers], n: u8) -> MarkedNumbers
 pub(crate) fn turned(before: &[MarkedNumbers]) -> ArrayVec<MarkedNumbers, BLOCK_LIMIT>
     requires { length before.now ≤ BLOCK_LIMIT }
     ensures count { length result.items ≡ length before.now }
-    ensures each { (n : ℕ) → 1 ≤ n → n ≤ length before.now → (m : ℕ) → 1 ≤ m → is_marked (get_or result.items (n - 1) no_marks) m ≡ before_in before.now n m }
+    ensures each { (n : ℕ) → 1 ≤ n → n ≤ length before.now → (m : ℕ) → 1 ≤ m →
+        is_marked (get_or result.items (n - 1) no_marks) m ≡ before_in before.now n m }
 {
     let mut all: ArrayVec<MarkedNumbers, BLOCK_LIMIT> = ArrayVec::new();
     for position in 0..before.len() {

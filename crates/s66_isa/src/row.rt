@@ -27,9 +27,11 @@ impl Model for Row {
 
     ghost Value = { Row };
 
-    ghost view = { λ r. record { kind = r.kind; parcels = r.parcels; reads = r.reads.items; writes = r.writes.items; hold = r.hold; memory = r.memory } };
+    ghost view = { λ r.
+        record { kind = r.kind; parcels = r.parcels; reads = r.reads.items; writes = r.writes.items; hold = r.hold; memory = r.memory } };
 
-    ghost invariant = { λ r. IsInRange (record { kind = r.kind; parcels = r.parcels; reads = r.reads.items; writes = r.writes.items; hold = r.hold; memory = r.memory }) };
+    ghost invariant = { λ r. IsInRange
+        (record { kind = r.kind; parcels = r.parcels; reads = r.reads.items; writes = r.writes.items; hold = r.hold; memory = r.memory }) };
 }
 
 impl Default for Row {

@@ -18,7 +18,8 @@ pub fn label_example()
 /// A load.
 #[tactic(auto, unfolding(s66_isa::specs::Table::row, s66_model::specs::Timing::issue_of, s66_model::specs::Timing::start_of, s66_model::specs::Timing::point, s66_why::specs::Why::digits, json::specs::Print::escape_byte))]
 pub fn instruction_example()
-    ensures { compact_text (instruction_data standard loads_and_two 1) ≡ codes "{\"n\":1,\"line\":1,\"text\":\"SA1 A1+B1\",\"unit\":\"increment\",\"parcels\":1,\"works\":3,\"reads\":[\"A1\",\"B1\"],\"writes\":[\"A1\",\"X1\"],\"memory\":\"load\",\"after\":[]}" }
+    ensures { compact_text (instruction_data standard loads_and_two 1) ≡
+        codes "{\"n\":1,\"line\":1,\"text\":\"SA1 A1+B1\",\"unit\":\"increment\",\"parcels\":1,\"works\":3,\"reads\":[\"A1\",\"B1\"],\"writes\":[\"A1\",\"X1\"],\"memory\":\"load\",\"after\":[]}" }
 {}
 
 /// Three instructions as they are written.

@@ -41,7 +41,8 @@ pub fn push_found_line(
 ) -> Result<(), AllocError>
     requires written { written.now.problem.block ≡ instrs_of block.now }
     requires found { found.now.problem.block ≡ instrs_of block.now }
-    ensures { OnOk result (out.new.items ≡ out.old.items ++ json_line number block.now written.now (found_data found.now bound splits)) }
+    ensures { OnOk result (out.new.items ≡ out.old.items ++
+        json_line number block.now written.now (found_data found.now bound splits)) }
 {
     push_start(out, number, block, written)?;
     push_timed(out, block, found)?;

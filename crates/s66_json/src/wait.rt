@@ -21,7 +21,8 @@ fn push_wait_start(out: &mut Vec<u8>, stretch: &Stretch) -> Result<(), AllocErro
 
 /// A register that is waited for.
 fn push_for_register(out: &mut Vec<u8>, register: Reg) -> Result<(), AllocError>
-    ensures { OnOk result (out.new.items ≡ out.old.items ++ (codes ",\"for\":\"register\",\"name\":" ++ register_text register)) }
+    ensures { OnOk result (out.new.items ≡ out.old.items ++
+        (codes ",\"for\":\"register\",\"name\":" ++ register_text register)) }
 {
     push_text(out, b",\"for\":\"register\",\"name\":")?;
     push_register(out, register)

@@ -29,7 +29,8 @@ impl Model for Answer {
 
     ghost view = { λ a. ended_of a.rule a.best.problem a.budget a.nodes.items a.best.numbers a.splits };
 
-    ghost invariant = { λ a. IsKeptAnswer (ended_of a.rule a.best.problem a.budget a.nodes.items a.best.numbers a.splits) a.nodes.items a.bound a.source };
+    ghost invariant = { λ a. IsKeptAnswer (ended_of a.rule a.best.problem a.budget a.nodes.items a.best.numbers
+        a.splits) a.nodes.items a.bound a.source };
 }
 
 impl Answer {

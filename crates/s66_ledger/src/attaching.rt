@@ -123,8 +123,10 @@ pub fn append(
     requires names { HaveNames (length dominances.now) below.now }
     ensures heap { IsHeap compare_ranked (heap_items heap.new) }
     ensures open_nodes { AreOpenNodes nodes.new.items (heap_items heap.new) }
-    ensures ok { OnOk result (IsGrafting best root (map named dominances.now) nodes.old.items below.now nodes.new.items) }
-    ensures counted { IfOk result (λ d. (out : ℕ) → AreCounted nodes.old.items out deepest → AreCounted nodes.new.items out d) }
+    ensures ok { OnOk result (IsGrafting best root
+        (map named dominances.now) nodes.old.items below.now nodes.new.items) }
+    ensures counted { IfOk result (λ d. (out : ℕ) → AreCounted nodes.old.items out deepest →
+        AreCounted nodes.new.items out d) }
     ensures err { OnErr result (nodes.new.items ≡ nodes.old.items) }
 {
     heap.reserve(below.len())?;

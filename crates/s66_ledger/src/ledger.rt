@@ -149,7 +149,8 @@ impl<'a> Ledger<'a> {
     pub fn history(&self) -> &History
         ensures entries { result.now.entries.items ≡ self.now.entries }
         ensures bytes { result.now.bytes.items ≡ self.now.bytes }
-        ensures run { Run self.now.rule self.now.problem (opening self.now.problem self.now.budget self.now.workers) (events_of self.now) self.now.state }
+        ensures run { Run self.now.rule self.now.problem (opening self.now.problem self.now.budget self.now.workers)
+            (events_of self.now) self.now.state }
     {
         &self.history
     }
@@ -165,8 +166,10 @@ impl<'a> Ledger<'a> {
     /// The name of a node that is dominated: the prefix of the node that dominates it, by the line that made it. None of any
     /// other node, and if there is no such node. In time linear in the name's length.
     pub fn name_of(&self, node: u32) -> Option<ArrayVec<u8, BLOCK_LIMIT>>
-        ensures some { IfSome result (λ name. (node_at self.now.state.nodes node).state ≡ Closed (Dominated name.items)) }
-        ensures none { IfNone result ((name : List ℕ) → (node_at self.now.state.nodes node).state ≢ Closed (Dominated name)) }
+        ensures some { IfSome result (λ name. (node_at self.now.state.nodes node).state ≡
+            Closed (Dominated name.items)) }
+        ensures none { IfNone result ((name : List ℕ) →
+            (node_at self.now.state.nodes node).state ≢ Closed (Dominated name)) }
     {
         self.machine.name_of(node)
     }
@@ -175,7 +178,8 @@ impl<'a> Ledger<'a> {
     pub fn splits(&self) -> u32
         ensures value { result ≡ self.now.state.spent }
         ensures within { result ≤ self.now.budget }
-        ensures accounts { weigh (λ (a : Account). a.splits) (account_summary self.now).accounts ≡ self.now.state.spent }
+        ensures accounts { weigh (λ (a : Account). a.splits) (account_summary self.now).accounts ≡
+            self.now.state.spent }
     {
         self.machine.spent
     }
@@ -270,7 +274,8 @@ impl<'a> Ledger<'a> {
     pub fn back(&mut self, w: u8, ticket: Ticket) -> Result<(), (BackError, Ticket)>
         requires { (1 ≤ w) × (w ≤ self.old.workers) }
         ensures ok { OnOk result (IsEvent self.old (Back w ticket.node) Returned self.new) }
-        ensures not_out { IfErr result (λ e. e.0 ≡ refused.NotOut → IsEvent self.old (Back w ticket.node) NotOut self.new) }
+        ensures not_out { IfErr result (λ e. e.0 ≡ refused.NotOut →
+            IsEvent self.old (Back w ticket.node) NotOut self.new) }
         ensures no_memory { IfErr result (λ e. e.0 ≡ refused.OutOfMemory → self.new ≡ self.old) }
         ensures err { OnErr result (self.new.state ≡ self.old.state) }
         ensures handed_back { IfErr result (λ e. e.1 ≡ ticket) }
@@ -316,7 +321,9 @@ impl<'a> Ledger<'a> {
     /// Makes an order the best if it is faster.
     pub fn offer(&mut self, w: u8, timed: Timed) -> Result<Offered, AllocError>
         requires { (1 ≤ w) × (w ≤ self.old.workers) }
-        ensures ok { IfOk result (λ offered. (event : Event) × IsOfferOf self.old.problem w timed.problem timed.numbers event × IsEvent self.old event (offered_reply offered) self.new) }
+        ensures ok { IfOk result (λ offered. (event : Event) ×
+            IsOfferOf self.old.problem w timed.problem timed.numbers event ×
+            IsEvent self.old event (offered_reply offered) self.new) }
         ensures err { OnErr result (self.new ≡ self.old) }
     {
         let numbers = timed.order().numbers();
@@ -439,7 +446,8 @@ impl<'a> Ledger<'a> {
         ensures rule { IfOk result (λ a. a.rule ≡ self.entry.rule) }
         ensures problem { IfOk result (λ a. a.problem ≡ self.entry.problem) }
         ensures budget { IfOk result (λ a. a.budget ≡ self.entry.budget) }
-        ensures finished { IfOk result (λ a. IsFinished self.entry.rule self.entry.problem self.entry.budget self.entry.state (answer_of a)) }
+        ensures finished { IfOk result (λ a. IsFinished self.entry.rule self.entry.problem self.entry.budget
+            self.entry.state (answer_of a)) }
     {
         let mut walk = Walk::new(self.block(), self.profile());
         self.offer_schedules(&mut walk)?;
@@ -462,7 +470,8 @@ impl<'a> Ledger<'a> {
         ensures rule { IfOk result (λ a. a.rule ≡ self.entry.rule) }
         ensures problem { IfOk result (λ a. a.problem ≡ self.entry.problem) }
         ensures budget { IfOk result (λ a. a.budget ≡ self.entry.budget) }
-        ensures finished { IfOk result (λ a. IsFinished self.entry.rule self.entry.problem self.entry.budget self.entry.state (answer_of a)) }
+        ensures finished { IfOk result (λ a. IsFinished self.entry.rule self.entry.problem self.entry.budget
+            self.entry.state (answer_of a)) }
     {
         // proof only: it leads to the ledger as it is
         let _history = self.history();

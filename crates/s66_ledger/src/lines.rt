@@ -42,7 +42,8 @@ fn push_terminal(
     requires floors { HaveFloors walk.now.problem nodes.now }
     requires stands { StandsAt nodes.now node walk.now.numbers }
     requires unsplit { (stored_at nodes.now node).state ≢ state.Split }
-    ensures { OnOk result (tree.new ≡ tree.old ++ AtTerminal (ending_at walk.now.problem (nodes_of walk.now.problem nodes.now) walk.now.numbers) ∷ []) }
+    ensures { OnOk result (tree.new ≡ tree.old ++
+        AtTerminal (ending_at walk.now.problem (nodes_of walk.now.problem nodes.now) walk.now.numbers) ∷ []) }
 {
     if let State::Dominated = nodes[node].state {
         // proof only: so a name fits
@@ -68,7 +69,8 @@ pub fn push_line(
     requires stands { StandsAt nodes.now node.old walk.old.numbers }
     ensures problem { walk.new.problem ≡ walk.old.problem }
     ensures one { OnOk result (length tree.new ≡ length tree.old + 1) }
-    ensures rest { IfOk result (λ more. tree.new ++ lines_left walk.old.problem nodes.now more walk.new.numbers ≡ tree.old ++ lines_left walk.old.problem nodes.now true walk.old.numbers) }
+    ensures rest { IfOk result (λ more. tree.new ++ lines_left walk.old.problem nodes.now more walk.new.numbers ≡
+        tree.old ++ lines_left walk.old.problem nodes.now true walk.old.numbers) }
     ensures stands { IfOk result (λ more. more ≡ true → StandsAt nodes.now node.new walk.new.numbers) }
 {
     if let State::Split = nodes[*node].state {
@@ -100,7 +102,8 @@ fn go_on(nodes: &[Node], links: &Links, walk: &mut Walk<'_>, node: &mut usize) -
     requires links { AreLinks nodes.now links.now.last.items links.now.before.items (length nodes.now) }
     requires stands { StandsAt nodes.now node.old walk.old.numbers }
     ensures problem { walk.new.problem ≡ walk.old.problem }
-    ensures next { to_come walk.old.problem.block result walk.new.numbers ≡ later walk.old.problem.block [] walk.old.numbers }
+    ensures next { to_come walk.old.problem.block result walk.new.numbers ≡
+        later walk.old.problem.block [] walk.old.numbers }
     ensures stands { result ≡ true → StandsAt nodes.now node.new walk.new.numbers }
 {
     while 0 < *node {
@@ -129,7 +132,8 @@ fn go_below(
     requires split { is_split_at (nodes_of walk.old.problem nodes.now) walk.old.numbers ≡ true }
     requires numbers { numbers_in numbers ≡ ready walk.old.problem.block walk.old.numbers }
     ensures problem { walk.new.problem ≡ walk.old.problem }
-    ensures next { to_come walk.old.problem.block result walk.new.numbers ≡ children walk.old.numbers (numbers_in numbers) ++ later walk.old.problem.block [] walk.old.numbers }
+    ensures next { to_come walk.old.problem.block result walk.new.numbers ≡
+        children walk.old.numbers (numbers_in numbers) ++ later walk.old.problem.block [] walk.old.numbers }
     ensures stands { result ≡ true → StandsAt nodes.now node.new walk.new.numbers }
 {
     let mut rest = numbers;

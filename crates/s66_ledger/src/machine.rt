@@ -36,9 +36,11 @@ impl<'a> Model for Machine<'a> {
 
     ghost Value = { MachineOf };
 
-    ghost view = { λ l. machine_of (record { rule = l.rule; problem = record { block = instrs_of l.block.now; profile = l.profile }; budget = l.budget; nodes = l.table; source = l.source; best = l.best; left = l.left; allowances = l.allowances.items; spent = l.spent }) };
+    ghost view = { λ l. machine_of
+        (record { rule = l.rule; problem = record { block = instrs_of l.block.now; profile = l.profile }; budget = l.budget; nodes = l.table; source = l.source; best = l.best; left = l.left; allowances = l.allowances.items; spent = l.spent }) };
 
-    ghost invariant = { λ l. IsKeptMachine (record { rule = l.rule; problem = record { block = instrs_of l.block.now; profile = l.profile }; budget = l.budget; nodes = l.table; source = l.source; best = l.best; left = l.left; allowances = l.allowances.items; spent = l.spent }) };
+    ghost invariant = { λ l. IsKeptMachine
+        (record { rule = l.rule; problem = record { block = instrs_of l.block.now; profile = l.profile }; budget = l.budget; nodes = l.table; source = l.source; best = l.best; left = l.left; allowances = l.allowances.items; spent = l.spent }) };
 }
 
 impl<'a> Machine<'a> {
@@ -253,8 +255,10 @@ impl<'a> Machine<'a> {
     }
 
     pub fn name_of(&self, node: u32) -> Option<ArrayVec<u8, BLOCK_LIMIT>>
-        ensures some { IfSome result (λ name. (node_at self.now.state.nodes node).state ≡ Closed (Dominated name.items)) }
-        ensures none { IfNone result ((name : List ℕ) → (node_at self.now.state.nodes node).state ≢ Closed (Dominated name)) }
+        ensures some { IfSome result (λ name. (node_at self.now.state.nodes node).state ≡
+            Closed (Dominated name.items)) }
+        ensures none { IfNone result ((name : List ℕ) →
+            (node_at self.now.state.nodes node).state ≢ Closed (Dominated name)) }
     {
         // so a name fits
         prove!(self.block.count() <= BLOCK_LIMIT);
@@ -267,7 +271,10 @@ impl<'a> Machine<'a> {
         ensures prefix { IfSome result (λ order. order.items ≡ (node_at self.now.state.nodes node).prefix) }
         ensures begins { IfSome result (λ order. IsBeginning self.now.problem.block order.items) }
         ensures whole { IfSome result (λ order. length order.items ≡ length self.now.problem.block) }
-        ensures none { IfNone result (is_live (node_at self.now.state.nodes node) ≡ true → (length (node_at self.now.state.nodes node).prefix < length self.now.problem.block) ⊎ (best_time self.now.problem self.now.state ≤ floor_value self.now.problem (node_at self.now.state.nodes node).prefix)) }
+        ensures none { IfNone result (is_live (node_at self.now.state.nodes node) ≡ true →
+            (length (node_at self.now.state.nodes node).prefix < length self.now.problem.block) ⊎
+            (best_time self.now.problem self.now.state ≤ floor_value self.now.problem
+            (node_at self.now.state.nodes node).prefix)) }
     {
         // so the order fits
         prove!(self.block.count() <= BLOCK_LIMIT);
@@ -282,7 +289,8 @@ impl<'a> Machine<'a> {
 
     pub fn offer(&mut self, w: u8, timed: Timed) -> Offered
         requires { (1 ≤ w) × (w ≤ self.old.workers) }
-        ensures offered { (event : Event) × IsOfferOf self.old.problem w timed.problem timed.numbers event × IsMove self.old event (offered_reply result) self.new }
+        ensures offered { (event : Event) × IsOfferOf self.old.problem w timed.problem timed.numbers event ×
+            IsMove self.old event (offered_reply result) self.new }
         ensures lines { self.new.lines ≡ self.old.lines }
     {
         if !timed.is_of(self.block, &self.profile) {

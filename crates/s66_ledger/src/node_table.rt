@@ -32,7 +32,9 @@ impl Model for NodeTable {
 
     ghost view = { λ t. t.nodes.items };
 
-    ghost invariant = { λ t. IsHeap compare_ranked (heap_items t.open) × AreOpenNodes t.nodes.items (heap_items t.open) × HaveDepths t.nodes.items × AreCounted t.nodes.items t.out t.deepest };
+    ghost invariant = { λ t. IsHeap compare_ranked (heap_items t.open) ×
+        AreOpenNodes t.nodes.items (heap_items t.open) × HaveDepths t.nodes.items ×
+        AreCounted t.nodes.items t.out t.deepest };
 }
 
 impl NodeTable {
@@ -50,7 +52,8 @@ impl NodeTable {
 
     /// One node, the empty prefix with its floor, open.
     pub fn new(alloc: Global, floor: u32) -> Result<NodeTable, AllocError>
-        ensures { IfOk result (λ t. t ≡ (record { parent = 0; value = floor; number = 0; depth = 0; made = State.Open; state = State.Open }) ∷ []) }
+        ensures { IfOk result (λ t. t ≡
+            (record { parent = 0; value = floor; number = 0; depth = 0; made = State.Open; state = State.Open }) ∷ []) }
     {
         let mut nodes = Vec::new(alloc);
         nodes.push(Node::new(0, 0, 0, floor, State::Open))?;
@@ -102,7 +105,8 @@ impl NodeTable {
     /// Whether some prefix of `count` numbers may be open or out.
     pub fn may_reach(&self, count: usize) -> bool
         requires { count ≤ BLOCK_LIMIT }
-        ensures { result ≡ false → (i : ℕ) → i < length self.now → is_stored_live (stored_at self.now i).state ≡ true → length (get_or (prefixes self.now) i []) < count }
+        ensures { result ≡ false → (i : ℕ) → i < length self.now → is_stored_live (stored_at self.now i).state ≡ true →
+            length (get_or (prefixes self.now) i []) < count }
     {
         count <= self.deepest as usize
     }
@@ -118,7 +122,8 @@ impl NodeTable {
     /// Whether a node is open or out, with a floor below this value.
     pub fn is_live_below(&self, node: u32, value: u32) -> bool
         requires { node < length self.now }
-        ensures { IsTrue result ↔ (IsTrue (is_stored_live (stored_at self.now node).state) × ((stored_at self.now node).value < value)) }
+        ensures { IsTrue result ↔ (IsTrue (is_stored_live (stored_at self.now node).state) ×
+            ((stored_at self.now node).value < value)) }
     {
         let node = &self.nodes[node as usize];
         node.state.is_live() && node.value < value
@@ -169,7 +174,8 @@ impl NodeTable {
     /// The name of a node, if there is one of this number and it is dominated, in time linear in its length.
     pub fn name_of(&self, node: u32) -> Option<ArrayVec<u8, BLOCK_LIMIT>>
         requires { (node < length self.now) → length (name_at self.now node) ≤ BLOCK_LIMIT }
-        ensures some { IfSome result (λ name. (node < length self.now) × ((stored_at self.now node).state ≡ State.Dominated) × (name.items ≡ name_at self.now node)) }
+        ensures some { IfSome result (λ name. (node < length self.now) ×
+            ((stored_at self.now node).state ≡ State.Dominated) × (name.items ≡ name_at self.now node)) }
         ensures none { IfNone result ((stored_at self.now node).state ≢ State.Dominated) }
     {
         let node = node as usize;
@@ -186,7 +192,8 @@ impl NodeTable {
         ensures within { IfSome result (λ i. i < length self.old) }
         ensures was { IfSome result (λ i. (stored_at self.old i).state ≡ State.Open) }
         ensures moved { IfSome result (λ i. self.new ≡ put_state self.old i State.Out) }
-        ensures least { IfSome result (λ i. (j : ℕ) → stores_open (stored_at self.old j) ≡ true → ranked (stored_at self.old i).value ≤ ranked (stored_at self.old j).value) }
+        ensures least { IfSome result (λ i. (j : ℕ) → stores_open (stored_at self.old j) ≡ true →
+            ranked (stored_at self.old i).value ≤ ranked (stored_at self.old j).value) }
         ensures none { IfNone result (tally stores_open self.old ≡ 0) }
         ensures same { IfNone result (self.new ≡ self.old) }
     {
@@ -252,7 +259,8 @@ impl NodeTable {
         requires out { StoresOut self.old root }
         requires room { length self.old + length below.now < 2 ^ 32 }
         requires names { HaveNames (length dominances.now) below.now }
-        requires depths { (all : List Node) → IsGrafting best root (map named dominances.now) self.old below.now all → HaveDepths all }
+        requires depths { (all : List Node) → IsGrafting best root (map named dominances.now) self.old below.now all →
+            HaveDepths all }
         ensures err { OnErr result (self.new ≡ self.old) }
         ensures ok { OnOk result (IsSplitUnder best root (map named dominances.now) self.old below.now self.new) }
     {

@@ -61,7 +61,8 @@ pub fn up(nodes: &[Node], i: usize) -> usize
     requires within { i < length nodes.now }
     ensures before { result < i }
     ensures parent { result ≡ parent_of nodes.now i }
-    ensures prefix { get_or (prefixes nodes.now) i [] ≡ get_or (prefixes nodes.now) result [] ++ (stored_at nodes.now i).number ∷ [] }
+    ensures prefix { get_or (prefixes nodes.now) i [] ≡ get_or (prefixes nodes.now) result [] ++
+        (stored_at nodes.now i).number ∷ [] }
 {
     let parent = nodes[i].parent as usize;
     if parent < i { parent } else { 0 }

@@ -165,7 +165,8 @@ impl Ledger<'_> {
         ensures same { walk.new.problem ≡ walk.old.problem }
         ensures marks { marks.new.problem ≡ marks.old.problem }
         ensures leads { Leads self.old self.new }
-        ensures goes_on { IfOk result (λ on. on ≡ true → IsBetweenRounds self.new.problem self.new.state × (still_to_go self.new < still_to_go self.old)) }
+        ensures goes_on { IfOk result (λ on. on ≡ true →
+            IsBetweenRounds self.new.problem self.new.state × (still_to_go self.new < still_to_go self.old)) }
         ensures ends { IfOk result (λ on. on ≡ false → IsSearched self.new.problem self.new.budget self.new.state) }
     {
         let allowance = self.allowance_or_grant()?;
@@ -207,7 +208,9 @@ impl Ledger<'_> {
         ensures rule { IfOk result (λ p. p.rule ≡ self.now.rule) }
         ensures problem { IfOk result (λ p. p.problem ≡ self.now.problem) }
         ensures prefix { IfOk result (λ p. p.prefix ≡ prefix.now) }
-        ensures expansion { IfOk result (λ p. IsExpansion self.now.rule self.now.problem (best_time self.now.problem self.now.state) (best_time self.now.problem self.now.state) (piece_splits self.now.rule (allowance self.now.state 1)) prefix.now (tree_of p)) }
+        ensures expansion { IfOk result (λ p. IsExpansion self.now.rule self.now.problem
+            (best_time self.now.problem self.now.state) (best_time self.now.problem self.now.state)
+            (piece_splits self.now.rule (allowance self.now.state 1)) prefix.now (tree_of p)) }
         ensures timed { IfOk result (λ p. IsBestTimed self.now.problem prefix.now (tree_of p) p.timed) }
     {
         let best = self.best();
@@ -297,7 +300,8 @@ impl Ledger<'_> {
         requires { 1 ≤ self.old.workers }
         ensures offers { IsOffering self.old self.new }
         ensures best { best_time self.new.problem self.new.state ≤ best_time self.old.problem self.old.state }
-        ensures at_most { OnOk result (timed.problem ≡ self.old.problem → best_time self.new.problem self.new.state ≤ total_of timed.problem timed.numbers) }
+        ensures at_most { OnOk result (timed.problem ≡ self.old.problem →
+            best_time self.new.problem self.new.state ≤ total_of timed.problem timed.numbers) }
     {
         self.offer(1, timed)?;
         Ok(())
@@ -311,7 +315,9 @@ impl Ledger<'_> {
         requires rule { piece.rule ≡ self.old.rule }
         requires problem { piece.problem ≡ self.old.problem }
         requires prefix { piece.prefix ≡ ticket.prefix }
-        requires expansion { IsExpansion self.old.rule self.old.problem (best_time self.old.problem self.old.state) (best_time self.old.problem self.old.state) (piece_splits self.old.rule (allowance self.old.state 1)) piece.prefix (tree_of piece) }
+        requires expansion { IsExpansion self.old.rule self.old.problem (best_time self.old.problem self.old.state)
+            (best_time self.old.problem self.old.state)
+            (piece_splits self.old.rule (allowance self.old.state 1)) piece.prefix (tree_of piece) }
         requires timed { IsBestTimed self.old.problem piece.prefix (tree_of piece) piece.timed }
         requires some { 1 ≤ allowance self.old.state 1 }
         requires below { floor_value self.old.problem piece.prefix < best_time self.old.problem self.old.state }
@@ -330,7 +336,8 @@ impl Ledger<'_> {
         requires workers { 1 ≤ self.old.workers }
         requires problem { piece.now.problem ≡ self.old.problem }
         ensures offers { IsOffering self.old self.new }
-        ensures at_most { OnOk result ((timed : TimedOrder) → piece.now.timed ≡ Some timed → best_time self.new.problem self.new.state ≤ total_of self.new.problem timed.numbers) }
+        ensures at_most { OnOk result ((timed : TimedOrder) → piece.now.timed ≡ Some timed →
+            best_time self.new.problem self.new.state ≤ total_of self.new.problem timed.numbers) }
     {
         let Some(timed) = piece.timed() else {
             return Ok(());

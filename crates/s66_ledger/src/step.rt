@@ -64,7 +64,9 @@ impl Ledger<'_> {
     /// Does what the event says, as the call of its name does; a refusal is a reply. `Err` is out of memory, and changes nothing.
     pub fn step(&mut self, event: Event) -> Result<Reply, AllocError>
         requires { (1 ≤ worker_of event) × (worker_of event ≤ self.old.workers) }
-        ensures ok { IfOk result (λ reply. (e : model.Event) × IsEventOf self.old.rule self.old.problem event (reply_of reply) e × IsEvent self.old e (reply_of reply) self.new) }
+        ensures ok { IfOk result (λ reply. (e : model.Event) ×
+            IsEventOf self.old.rule self.old.problem event (reply_of reply) e ×
+            IsEvent self.old e (reply_of reply) self.new) }
         ensures err { OnErr result (self.new ≡ self.old) }
     {
         match event {

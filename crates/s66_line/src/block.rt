@@ -70,7 +70,8 @@ impl<'a> Block<'a> {
     pub fn of(alloc: Global, texts: &'a [Vec<u8>]) -> Result<Block<'a>, AllocError>
         requires some { 1 ≤ length texts.now }
         requires few { length texts.now ≤ BLOCK_LIMIT }
-        requires texts { (text : List ℕ) → Among text (map (λ (t : Vec ℕ Global). t.items) texts.now) → IsInstruction text }
+        requires texts { (text : List ℕ) → Among text (map (λ (t : Vec ℕ Global). t.items) texts.now) →
+            IsInstruction text }
         ensures { IfOk result (λ block. block ≡ block_of_texts (map (λ (t : Vec ℕ Global). t.items) texts.now)) }
     {
         let mut entries = Vec::new(alloc);

@@ -30,7 +30,9 @@ pub fn operation_law()
 /// Each of the 55 codes is spelled, with all digits that it has.
 pub fn code_law()
     ensures codes { (i j k : ℕ) → map (λ spelling. spelling.2.op.code) (spellings i j k) ≡ all_codes }
-    ensures read { (i j k : ℕ) → i ≤ 7 → j ≤ 7 → k ≤ 7 → map (λ spelling. instr_of spelling.0 spelling.1) (spellings i j k) ≡ map (λ spelling. Some spelling.2) (spellings i j k) }
+    ensures read { (i j k : ℕ) → i ≤ 7 → j ≤ 7 → k ≤ 7 →
+        map (λ spelling. instr_of spelling.0 spelling.1) (spellings i j k) ≡
+        map (λ spelling. Some spelling.2) (spellings i j k) }
 {}
 
 /// The forms of a set instruction are 0 to 7.
@@ -41,7 +43,8 @@ pub fn set_form_law()
 /// No register is a constant, and nothing is that begins with `A.`, `B.` or `X.`.
 pub fn term_law()
     ensures register { (term : List ℕ) (r : Bank × ℕ) → register_of term ≡ Some r → is_constant term ≡ false }
-    ensures symbol { (letter : ℕ) (rest : List ℕ) → Among letter (codes "ABX") → is_constant (letter ∷ codes "." ++ rest) ≡ false }
+    ensures symbol { (letter : ℕ) (rest : List ℕ) → Among letter (codes "ABX") →
+        is_constant (letter ∷ codes "." ++ rest) ≡ false }
 {}
 
 /// The texts of constants, by octal code and operand.

@@ -65,7 +65,8 @@ fn push_line(
 ) -> Result<(), AllocError>
     requires few { length alone.old.items < SOURCE_LINES_LIMIT }
     requires bodies { standing.old.bodies ≤ length alone.old.items }
-    ensures alone { OnOk result (alone.new.items ≡ alone.old.items ++ is_alone true standing.old (front line.now) continued ∷ []) }
+    ensures alone { OnOk result (alone.new.items ≡ alone.old.items ++
+        is_alone true standing.old (front line.now) continued ∷ []) }
     ensures standing { OnOk result (standing.new ≡ after_line true standing.old (front line.now)) }
     ensures bodies { OnOk result (standing.new.bodies ≤ length alone.new.items) }
 {

@@ -20,7 +20,8 @@ fn push_findings<'a>(
     number: u32,
     findings: &[LineFinding<'a>],
 ) -> Result<(), AllocError>
-    ensures { (before : ℕ) → before ≤ number → is_in_order 1 before all.old.items ≡ true → OnOk result (is_in_order 1 number all.new.items ≡ true) }
+    ensures { (before : ℕ) → before ≤ number → is_in_order 1 before all.old.items ≡ true →
+        OnOk result (is_in_order 1 number all.new.items ≡ true) }
 {
     for finding in findings {
         all.push(Finding {
@@ -35,7 +36,8 @@ fn push_findings<'a>(
 
 /// That the first line past the limit is too long, if there is one and it is, by its length.
 fn push_long(all: &mut Vec<Finding>, past: Option<usize>) -> Result<(), AllocError>
-    ensures { (before : ℕ) → before ≤ suc SOURCE_LINES_LIMIT → is_in_order 1 before all.old.items ≡ true → OnOk result (AreFindings all.new.items) }
+    ensures { (before : ℕ) → before ≤ suc SOURCE_LINES_LIMIT → is_in_order 1 before all.old.items ≡ true →
+        OnOk result (AreFindings all.new.items) }
 {
     let too_long = LineFinding {
         rule: Rule::TooLong,

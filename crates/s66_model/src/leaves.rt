@@ -11,12 +11,14 @@ ghost use Rattle.s66_model.specs.Examples as examples;
 
 /// A leaf that may stand at a beginning is at most the total of every legal order that begins so.
 pub fn leaf_law()
-    ensures { (b : Problem) (prefix rest : List ℕ) (leaf : Leaf) → IsLegal b.block (prefix ++ rest) → MayStand b prefix leaf → value b prefix leaf ≤ total_of b (prefix ++ rest) }
+    ensures { (b : Problem) (prefix rest : List ℕ) (leaf : Leaf) → IsLegal b.block (prefix ++ rest) →
+        MayStand b prefix leaf → value b prefix leaf ≤ total_of b (prefix ++ rest) }
 {}
 
 /// The floor of a beginning may stand there, is the greatest leaf that may, and of equal ones goes first: no other leaf is so.
 pub fn floor_law()
-    ensures { (b : Problem) (prefix : List ℕ) (leaf : Leaf) → IsBeginning b.block prefix → IsFloor b prefix leaf ↔ (leaf ≡ floor b prefix) }
+    ensures { (b : Problem) (prefix : List ℕ) (leaf : Leaf) → IsBeginning b.block prefix →
+        IsFloor b prefix leaf ↔ (leaf ≡ floor b prefix) }
 {}
 
 /// What chains, loads, parcels and links give.

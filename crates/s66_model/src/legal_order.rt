@@ -24,9 +24,12 @@ pub fn source_law()
 
 /// What is ready, what remains and sums over it depend on which numbers are placed, and not on their order.
 pub fn same_set_law()
-    ensures ready { (block : List Instr) (placed others : List ℕ) → ((m : ℕ) → has m placed ≡ has m others) → ready block placed ≡ ready block others }
-    ensures remaining { (block : List Instr) (placed others : List ℕ) → ((m : ℕ) → has m placed ≡ has m others) → remaining block placed ≡ remaining block others }
-    ensures sum { (block : List Instr) (placed others : List ℕ) (w : ℕ → ℕ) → ((m : ℕ) → has m placed ≡ has m others) → sum_remaining block placed w ≡ sum_remaining block others w }
+    ensures ready { (block : List Instr) (placed others : List ℕ) → ((m : ℕ) → has m placed ≡ has m others) →
+        ready block placed ≡ ready block others }
+    ensures remaining { (block : List Instr) (placed others : List ℕ) → ((m : ℕ) → has m placed ≡ has m others) →
+        remaining block placed ≡ remaining block others }
+    ensures sum { (block : List Instr) (placed others : List ℕ) (w : ℕ → ℕ) → ((m : ℕ) → has m placed ≡ has m others) →
+        sum_remaining block placed w ≡ sum_remaining block others w }
 {}
 
 /// Which orders of a block are legal, and what is ready after a beginning.

@@ -33,14 +33,22 @@ pub fn needed_law()
 /// What registers and memory hold at the end of an order, as terms over what they held at first.
 pub fn meaning_examples()
     ensures one_load_a1 { register_at_end examples.one_load (1 ∷ 2 ∷ 3 ∷ []) (a_reg 1) ≡ a_plus_b 1 1 }
-    ensures one_load_x1 { register_at_end examples.one_load (1 ∷ 2 ∷ 3 ∷ []) (x_reg 1) ≡ Loaded InitialStorage (a_plus_b 1 1) }
-    ensures one_load_x6 { register_at_end examples.one_load (1 ∷ 2 ∷ 3 ∷ []) (x_reg 6) ≡ first_result 0o10 (Loaded InitialStorage (a_plus_b 1 1) ∷ []) }
+    ensures one_load_x1 { register_at_end examples.one_load (1 ∷ 2 ∷ 3 ∷ []) (x_reg 1) ≡
+        Loaded InitialStorage (a_plus_b 1 1) }
+    ensures one_load_x6 { register_at_end examples.one_load (1 ∷ 2 ∷ 3 ∷ []) (x_reg 6) ≡
+        first_result 0o10 (Loaded InitialStorage (a_plus_b 1 1) ∷ []) }
     ensures one_load_b0 { register_at_end examples.one_load (1 ∷ 2 ∷ 3 ∷ []) (b_reg 0) ≡ Zero }
-    ensures one_load_3_1_2 { meaning examples.one_load no_constants (3 ∷ 1 ∷ 2 ∷ []) ≡ meaning examples.one_load no_constants (1 ∷ 2 ∷ 3 ∷ []) }
-    ensures one_load_2_1_3 { register_at_end examples.one_load (2 ∷ 1 ∷ 3 ∷ []) (x_reg 6) ≢ register_at_end examples.one_load (1 ∷ 2 ∷ 3 ∷ []) (x_reg 6) }
-    ensures one_unpack_x1 { register_at_end examples.one_unpack (1 ∷ []) (x_reg 1) ≡ first_result 0o26 (Initial (x_reg 1) ∷ []) }
-    ensures one_unpack_b2 { register_at_end examples.one_unpack (1 ∷ []) (b_reg 2) ≡ second_result 0o26 (Initial (x_reg 1) ∷ []) }
-    ensures one_store { storage_at_end examples.one_store (1 ∷ []) ≡ Stored InitialStorage (a_plus_b 6 1) (Initial (x_reg 6)) }
-    ensures zero_register_x3 { register_at_end examples.zero_register (1 ∷ 2 ∷ 3 ∷ []) (x_reg 3) ≡ first_result 0o76 (Zero ∷ Zero ∷ []) }
+    ensures one_load_3_1_2 { meaning examples.one_load no_constants (3 ∷ 1 ∷ 2 ∷ []) ≡
+        meaning examples.one_load no_constants (1 ∷ 2 ∷ 3 ∷ []) }
+    ensures one_load_2_1_3 { register_at_end examples.one_load (2 ∷ 1 ∷ 3 ∷ []) (x_reg 6) ≢
+        register_at_end examples.one_load (1 ∷ 2 ∷ 3 ∷ []) (x_reg 6) }
+    ensures one_unpack_x1 { register_at_end examples.one_unpack (1 ∷ []) (x_reg 1) ≡
+        first_result 0o26 (Initial (x_reg 1) ∷ []) }
+    ensures one_unpack_b2 { register_at_end examples.one_unpack (1 ∷ []) (b_reg 2) ≡
+        second_result 0o26 (Initial (x_reg 1) ∷ []) }
+    ensures one_store { storage_at_end examples.one_store (1 ∷ []) ≡
+        Stored InitialStorage (a_plus_b 6 1) (Initial (x_reg 6)) }
+    ensures zero_register_x3 { register_at_end examples.zero_register (1 ∷ 2 ∷ 3 ∷ []) (x_reg 3) ≡
+        first_result 0o76 (Zero ∷ Zero ∷ []) }
     ensures zero_register_b0 { register_at_end examples.zero_register (1 ∷ 2 ∷ 3 ∷ []) (b_reg 0) ≡ Zero }
 {}

@@ -7,14 +7,16 @@ ghost use Rattle.s66_model.specs.Examples.{standard_problem, times_of, parcels_i
 
 /// The parcels of an order's points are those of its packing.
 pub fn packing_law()
-    ensures { (b : Problem) (order : List ℕ) → map (λ (p : Point). p.parcel) (reverse (points_of b order)) ≡ parcels_from 0 (map (len_at b.block) order) }
+    ensures { (b : Problem) (order : List ℕ) →
+        map (λ (p : Point). p.parcel) (reverse (points_of b order)) ≡ parcels_from 0 (map (len_at b.block) order) }
 {}
 
 /// In which parcel each instruction of an order begins, which parcels a NO fills, and what that costs.
 pub fn packing_examples()
     ensures packing_gap_parcels { parcels_in packing_gap (1 ∷ 2 ∷ 3 ∷ 4 ∷ []) ≡ 0 ∷ 1 ∷ 2 ∷ 4 ∷ [] }
     ensures packing_gap_fillers { fillers_in packing_gap (1 ∷ 2 ∷ 3 ∷ 4 ∷ []) ≡ 3 ∷ [] }
-    ensures packing_gap_times { times_of packing_gap (1 ∷ 2 ∷ 3 ∷ 4 ∷ []) ≡ (0, 0, 3, 4) ∷ (1, 1, 4, 5) ∷ (2, 2, 5, 6) ∷ (4, 4, 12, 8) ∷ [] }
+    ensures packing_gap_times { times_of packing_gap (1 ∷ 2 ∷ 3 ∷ 4 ∷ []) ≡ (0, 0, 3, 4) ∷ (1, 1, 4, 5) ∷ (2, 2, 5, 6) ∷
+        (4, 4, 12, 8) ∷ [] }
     ensures packing_gap_total_1_2_3_4 { total_of (standard_problem packing_gap) (1 ∷ 2 ∷ 3 ∷ 4 ∷ []) ≡ 12 }
     ensures packing_gap_next { next (points_of (standard_problem packing_gap) (1 ∷ 2 ∷ 3 ∷ 4 ∷ [])) ≡ 6 }
     ensures packing_gap_closed { fillers_in packing_gap (4 ∷ 1 ∷ 2 ∷ 3 ∷ []) ≡ [] }

@@ -15,5 +15,6 @@ pub fn piece_examples()
     ensures piece_of_a_floor { IsPiece NoneNamed multiply_problem [] (Alone (Carries (Load Multiply))) }
     ensures no_piece_of_another_leaf { ¬ IsPiece NoneNamed multiply_problem [] (Alone (Carries Parcels)) }
     ensures no_piece_without_a_child { ¬ IsPiece NoneNamed multiply_problem [] (child_omitted Frontier) }
-    ensures no_piece_with_a_whole_order_to_go_on { ¬ IsPiece NoneNamed multiply_problem (1 ∷ 2 ∷ 3 ∷ []) (Alone Frontier) }
+    ensures no_piece_with_a_whole_order_to_go_on { ¬ IsPiece NoneNamed multiply_problem (1 ∷ 2 ∷ 3 ∷ [])
+        (Alone Frontier) }
 {}

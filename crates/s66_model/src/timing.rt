@@ -31,38 +31,56 @@ pub fn timing_examples()
     ensures two_booleans_times { times_of examples.two_booleans (1 ∷ 2 ∷ []) ≡ (0, 0, 3, 4) ∷ (4, 4, 7, 8) ∷ [] }
     ensures one_load_total_1_2_3 { total_of (standard_problem examples.one_load) (1 ∷ 2 ∷ 3 ∷ []) ≡ 16 }
     ensures one_load_total_1_3_2 { total_of (standard_problem examples.one_load) (1 ∷ 3 ∷ 2 ∷ []) ≡ 12 }
-    ensures one_load_written_1_3_2 { (written_in (1 ∷ 3 ∷ 2 ∷ []) (standard_problem examples.one_load)).block ≡ instr 0o54 1 1 1 ∷ instr 0o10 7 2 0 ∷ instr 0o10 6 1 0 ∷ [] }
-    ensures one_load_source_1_3_2 { source_time (written_in (1 ∷ 3 ∷ 2 ∷ []) (standard_problem examples.one_load)) ≡ 12 }
+    ensures one_load_written_1_3_2 { (written_in (1 ∷ 3 ∷ 2 ∷ []) (standard_problem examples.one_load)).block ≡
+        instr 0o54 1 1 1 ∷ instr 0o10 7 2 0 ∷ instr 0o10 6 1 0 ∷ [] }
+    ensures one_load_source_1_3_2 { source_time (written_in (1 ∷ 3 ∷ 2 ∷ []) (standard_problem examples.one_load)) ≡
+        12 }
     ensures one_load_total_3_1_2 { total_of (standard_problem examples.one_load) (3 ∷ 1 ∷ 2 ∷ []) ≡ 13 }
-    ensures one_load_times { times_of examples.one_load (1 ∷ 2 ∷ 3 ∷ []) ≡ (0, 0, 8, 4) ∷ (1, 8, 11, 12) ∷ (12, 12, 15, 16) ∷ [] }
+    ensures one_load_times { times_of examples.one_load (1 ∷ 2 ∷ 3 ∷ []) ≡ (0, 0, 8, 4) ∷ (1, 8, 11, 12) ∷
+        (12, 12, 15, 16) ∷ [] }
     ensures one_load_next { next (points_of (standard_problem examples.one_load) (1 ∷ 2 ∷ [])) ≡ 2 }
     ensures three_multiplies_total_1_2_3 { total_of (standard_problem examples.three_multiplies) (1 ∷ 2 ∷ 3 ∷ []) ≡ 22 }
     ensures three_multiplies_total_3_1_2 { total_of (standard_problem examples.three_multiplies) (3 ∷ 1 ∷ 2 ∷ []) ≡ 22 }
-    ensures three_multiplies_times { times_of examples.three_multiplies (1 ∷ 2 ∷ 3 ∷ []) ≡ (0, 0, 10, 11) ∷ (1, 1, 11, 12) ∷ (11, 11, 21, 22) ∷ [] }
+    ensures three_multiplies_times { times_of examples.three_multiplies (1 ∷ 2 ∷ 3 ∷ []) ≡ (0, 0, 10, 11) ∷
+        (1, 1, 11, 12) ∷ (11, 11, 21, 22) ∷ [] }
     ensures first_order_total { total_of (standard_problem examples.first_order) (1 ∷ 2 ∷ []) ≡ 14 }
     ensures first_order_times { times_of examples.first_order (1 ∷ 2 ∷ []) ≡ (0, 0, 10, 11) ∷ (10, 10, 13, 14) ∷ [] }
     ensures third_order_total { total_of (standard_problem examples.third_order) (1 ∷ 2 ∷ 3 ∷ []) ≡ 33 }
-    ensures third_order_times { times_of examples.third_order (1 ∷ 2 ∷ 3 ∷ []) ≡ (0, 0, 29, 30) ∷ (1, 29, 32, 33) ∷ (2, 2, 30, 31) ∷ [] }
+    ensures third_order_times { times_of examples.third_order (1 ∷ 2 ∷ 3 ∷ []) ≡ (0, 0, 29, 30) ∷ (1, 29, 32, 33) ∷
+        (2, 2, 30, 31) ∷ [] }
     ensures held_result_total { total_of (standard_problem examples.held_result) (1 ∷ 2 ∷ 3 ∷ []) ≡ 33 }
-    ensures held_result_times { times_of examples.held_result (1 ∷ 2 ∷ 3 ∷ []) ≡ (0, 0, 29, 30) ∷ (1, 29, 32, 33) ∷ (2, 2, 30, 31) ∷ [] }
-    ensures two_readers_times { times_of examples.two_readers (1 ∷ 2 ∷ 3 ∷ 4 ∷ []) ≡ (0, 0, 29, 30) ∷ (1, 29, 32, 33) ∷ (2, 2, 5, 6) ∷ (3, 3, 30, 31) ∷ [] }
-    ensures held_load_times { times_of examples.held_load (1 ∷ 2 ∷ 3 ∷ []) ≡ (0, 0, 29, 30) ∷ (1, 29, 32, 33) ∷ (2, 2, 30, 6) ∷ [] }
-    ensures held_x_times { times_of examples.held_x (1 ∷ 2 ∷ 3 ∷ []) ≡ (0, 0, 29, 30) ∷ (1, 29, 32, 33) ∷ (2, 2, 30, 31) ∷ [] }
-    ensures held_b_times { times_of examples.held_b (1 ∷ 2 ∷ 3 ∷ []) ≡ (0, 0, 29, 30) ∷ (1, 29, 32, 33) ∷ (2, 2, 30, 31) ∷ [] }
-    ensures latest_writer_times { times_of examples.latest_writer (1 ∷ 2 ∷ 3 ∷ 4 ∷ []) ≡ (0, 0, 3, 4) ∷ (3, 3, 13, 14) ∷ (4, 13, 16, 17) ∷ (13, 13, 16, 17) ∷ [] }
+    ensures held_result_times { times_of examples.held_result (1 ∷ 2 ∷ 3 ∷ []) ≡ (0, 0, 29, 30) ∷ (1, 29, 32, 33) ∷
+        (2, 2, 30, 31) ∷ [] }
+    ensures two_readers_times { times_of examples.two_readers (1 ∷ 2 ∷ 3 ∷ 4 ∷ []) ≡ (0, 0, 29, 30) ∷ (1, 29, 32, 33) ∷
+        (2, 2, 5, 6) ∷ (3, 3, 30, 31) ∷ [] }
+    ensures held_load_times { times_of examples.held_load (1 ∷ 2 ∷ 3 ∷ []) ≡ (0, 0, 29, 30) ∷ (1, 29, 32, 33) ∷
+        (2, 2, 30, 6) ∷ [] }
+    ensures held_x_times { times_of examples.held_x (1 ∷ 2 ∷ 3 ∷ []) ≡ (0, 0, 29, 30) ∷ (1, 29, 32, 33) ∷
+        (2, 2, 30, 31) ∷ [] }
+    ensures held_b_times { times_of examples.held_b (1 ∷ 2 ∷ 3 ∷ []) ≡ (0, 0, 29, 30) ∷ (1, 29, 32, 33) ∷
+        (2, 2, 30, 31) ∷ [] }
+    ensures latest_writer_times { times_of examples.latest_writer (1 ∷ 2 ∷ 3 ∷ 4 ∷ []) ≡ (0, 0, 3, 4) ∷ (3, 3, 13, 14) ∷
+        (4, 13, 16, 17) ∷ (13, 13, 16, 17) ∷ [] }
     ensures store_then_load_total { total_of (standard_problem examples.store_then_load) (1 ∷ 2 ∷ []) ≡ 9 }
-    ensures late_store_times { times_of examples.late_store (1 ∷ 2 ∷ 3 ∷ []) ≡ (0, 0, 10, 11) ∷ (1, 10, 13, 14) ∷ (2, 11, 19, 15) ∷ [] }
-    ensures late_load_times { times_of examples.late_load (1 ∷ 2 ∷ 3 ∷ []) ≡ (0, 0, 3, 4) ∷ (1, 3, 11, 7) ∷ (2, 4, 7, 8) ∷ [] }
-    ensures loads_then_store_times { times_of examples.loads_then_store (1 ∷ 2 ∷ 3 ∷ 4 ∷ []) ≡ (0, 0, 29, 30) ∷ (1, 29, 37, 33) ∷ (2, 2, 10, 6) ∷ (6, 30, 33, 34) ∷ [] }
-    ensures two_loads_times { times_of examples.two_loads (1 ∷ 2 ∷ 3 ∷ []) ≡ (0, 0, 3, 4) ∷ (1, 3, 11, 7) ∷ (2, 2, 10, 6) ∷ [] }
+    ensures late_store_times { times_of examples.late_store (1 ∷ 2 ∷ 3 ∷ []) ≡ (0, 0, 10, 11) ∷ (1, 10, 13, 14) ∷
+        (2, 11, 19, 15) ∷ [] }
+    ensures late_load_times { times_of examples.late_load (1 ∷ 2 ∷ 3 ∷ []) ≡ (0, 0, 3, 4) ∷ (1, 3, 11, 7) ∷
+        (2, 4, 7, 8) ∷ [] }
+    ensures loads_then_store_times { times_of examples.loads_then_store (1 ∷ 2 ∷ 3 ∷ 4 ∷ []) ≡ (0, 0, 29, 30) ∷
+        (1, 29, 37, 33) ∷ (2, 2, 10, 6) ∷ (6, 30, 33, 34) ∷ [] }
+    ensures two_loads_times { times_of examples.two_loads (1 ∷ 2 ∷ 3 ∷ []) ≡ (0, 0, 3, 4) ∷ (1, 3, 11, 7) ∷
+        (2, 2, 10, 6) ∷ [] }
     ensures zero_register_total_1_2_3 { total_of (standard_problem examples.zero_register) (1 ∷ 2 ∷ 3 ∷ []) ≡ 7 }
     ensures zero_register_total_1_3_2 { total_of (standard_problem examples.zero_register) (1 ∷ 3 ∷ 2 ∷ []) ≡ 6 }
-    ensures zero_register_times { times_of examples.zero_register (1 ∷ 2 ∷ 3 ∷ []) ≡ (0, 0, 4, 5) ∷ (1, 1, 4, 5) ∷ (3, 3, 6, 7) ∷ [] }
+    ensures zero_register_times { times_of examples.zero_register (1 ∷ 2 ∷ 3 ∷ []) ≡ (0, 0, 4, 5) ∷ (1, 1, 4, 5) ∷
+        (3, 3, 6, 7) ∷ [] }
     ensures load_twice_total { total_of (standard_problem examples.load_twice) (1 ∷ 2 ∷ []) ≡ 16 }
     ensures load_twice_times { times_of examples.load_twice (1 ∷ 2 ∷ []) ≡ (0, 0, 8, 4) ∷ (8, 8, 16, 12) ∷ [] }
     ensures unpack_then_shift_total { total_of (standard_problem examples.unpack_then_shift) (1 ∷ 2 ∷ []) ≡ 8 }
     ensures one_divide_unit_total_1_2 { total_of (standard_problem examples.one_divide_unit) (1 ∷ 2 ∷ []) ≡ 39 }
     ensures one_divide_unit_total_2_1 { total_of (standard_problem examples.one_divide_unit) (2 ∷ 1 ∷ []) ≡ 39 }
-    ensures uneven_total_1_2_3 { total_of (record { block = examples.one_load; profile = examples.uneven_profile }) (1 ∷ 2 ∷ 3 ∷ []) ≡ 43 }
-    ensures uneven_total_1_3_2 { total_of (record { block = examples.one_load; profile = examples.uneven_profile }) (1 ∷ 3 ∷ 2 ∷ []) ≡ 31 }
+    ensures uneven_total_1_2_3 { total_of (record { block = examples.one_load; profile = examples.uneven_profile })
+        (1 ∷ 2 ∷ 3 ∷ []) ≡ 43 }
+    ensures uneven_total_1_3_2 { total_of (record { block = examples.one_load; profile = examples.uneven_profile })
+        (1 ∷ 3 ∷ 2 ∷ []) ≡ 31 }
 {}

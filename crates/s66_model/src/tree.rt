@@ -12,7 +12,8 @@ ghost use Rattle.s66_model.specs.Examples.{load_problem, multiply_problem, both_
 /// What a tree shows over a prefix is at most the total of every legal order that begins with it; over the empty prefix it is
 /// a bound.
 pub fn tree_law()
-    ensures below { (b : Problem) (low : ℕ) (prefix rest : List ℕ) (tree : Tree Leaf) → Shows b low prefix tree → IsLegal b.block (prefix ++ rest) → low ≤ total_of b (prefix ++ rest) }
+    ensures below { (b : Problem) (low : ℕ) (prefix rest : List ℕ) (tree : Tree Leaf) → Shows b low prefix tree →
+        IsLegal b.block (prefix ++ rest) → low ≤ total_of b (prefix ++ rest) }
     ensures bound { (b : Problem) (low : ℕ) (tree : Tree Leaf) → Shows b low [] tree → IsBound b low }
 {}
 
@@ -40,11 +41,14 @@ pub fn tree_examples()
     ensures child_not_named { ¬ Shows multiply_problem 0 [] (child_omitted (Load Multiply)) }
     ensures child_not_there { ¬ Shows multiply_problem 0 [] (Parted (1 ∷ 2 ∷ 3 ∷ []) (children 2 (Load Multiply))) }
     ensures child_too_many { ¬ Shows multiply_problem 0 [] (Parted (1 ∷ 2 ∷ 3 ∷ []) (children 4 (Load Multiply))) }
-    ensures split_too_many { ¬ Shows load_problem 0 (1 ∷ 3 ∷ []) (Parted (2 ∷ []) (Unsplit Whole (Split [] NoMore NoMore))) }
+    ensures split_too_many { ¬ Shows load_problem 0 (1 ∷ 3 ∷ [])
+        (Parted (2 ∷ []) (Unsplit Whole (Split [] NoMore NoMore))) }
     ensures children_not_rising { ¬ Shows multiply_problem 0 [] (Parted (2 ∷ 1 ∷ 3 ∷ []) (children 3 (Load Multiply))) }
     ensures child_below_not_named { ¬ Shows multiply_problem 0 [] one_omitted }
-    ensures lines_below_a_split { flat_siblings (both_orders Whole 2 3) ≡ AtSplit (3 ∷ []) ∷ AtTerminal Whole ∷ AtSplit (2 ∷ []) ∷ AtTerminal Whole ∷ [] }
-    ensures lines_of_a_tree { flat load_tree ≡ AtSplit (1 ∷ 3 ∷ []) ∷ AtSplit (2 ∷ 3 ∷ []) ∷ AtTerminal (Load Boolean) ∷ AtSplit (2 ∷ []) ∷ AtTerminal Whole ∷ AtTerminal (Chain (1 ∷ 2 ∷ [])) ∷ [] }
+    ensures lines_below_a_split { flat_siblings (both_orders Whole 2 3) ≡ AtSplit (3 ∷ []) ∷ AtTerminal Whole ∷
+        AtSplit (2 ∷ []) ∷ AtTerminal Whole ∷ [] }
+    ensures lines_of_a_tree { flat load_tree ≡ AtSplit (1 ∷ 3 ∷ []) ∷ AtSplit (2 ∷ 3 ∷ []) ∷ AtTerminal (Load Boolean) ∷
+        AtSplit (2 ∷ []) ∷ AtTerminal Whole ∷ AtTerminal (Chain (1 ∷ 2 ∷ [])) ∷ [] }
     ensures ten_splits { splits (every_order Whole) ≡ 10 }
     ensures no_splits { splits (Alone Whole) ≡ 0 }
     ensures prefixes_that_are_split { split_at [] load_tree ≡ [] ∷ (1 ∷ []) ∷ (1 ∷ 3 ∷ []) ∷ [] }

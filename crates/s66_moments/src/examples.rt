@@ -137,16 +137,21 @@ pub fn line_examples()
 
 /// What lines show of blocks with no split, and what their floors are; what a tree shows whose children's moments come too late.
 pub fn line_tree_examples()
-    ensures one_load_line { ShowsByLines NoneNamed (standard_problem booleans_between) 16 (load_line ∷ []) [] (Alone (AtLines [])) }
-    ensures one_inner_line { ShowsByLines NoneNamed (standard_problem booleans_between) 16 (inner_line ∷ []) [] (Alone (AtLines [])) }
+    ensures one_load_line { ShowsByLines NoneNamed (standard_problem booleans_between) 16
+        (load_line ∷ []) [] (Alone (AtLines [])) }
+    ensures one_inner_line { ShowsByLines NoneNamed (standard_problem booleans_between) 16
+        (inner_line ∷ []) [] (Alone (AtLines [])) }
     ensures bound_16 { IsBound (standard_problem booleans_between) 16 }
     ensures its_floor { floor_in booleans_between [] ≡ (Load Boolean, 12) }
     ensures it_takes_16 { total_of (standard_problem booleans_between) (1 ∷ 2 ∷ 3 ∷ 4 ∷ []) ≡ 16 }
-    ensures one_pair { ShowsByLines NoneNamed (standard_problem first_of_two) 15 (ForcedPair 1 2 ∷ []) [] (Alone (AtLines [])) }
+    ensures one_pair { ShowsByLines NoneNamed (standard_problem first_of_two) 15
+        (ForcedPair 1 2 ∷ []) [] (Alone (AtLines [])) }
     ensures it_takes_15 { total_of (standard_problem first_of_two) (1 ∷ 2 ∷ 3 ∷ []) ≡ 15 }
-    ensures ring_of_pairs { ShowsByLines NoneNamed (standard_problem two_sums) 11 (ForcedPair 3 2 ∷ ForcedPair 2 3 ∷ []) [] (Alone (AtLines [])) }
+    ensures ring_of_pairs { ShowsByLines NoneNamed (standard_problem two_sums) 11
+        (ForcedPair 3 2 ∷ ForcedPair 2 3 ∷ []) [] (Alone (AtLines [])) }
     ensures it_takes_11 { total_of (standard_problem two_sums) (1 ∷ 2 ∷ 3 ∷ []) ≡ 11 }
-    ensures by_what_comes_next { ShowsByLines NoneNamed (standard_problem two_free_adds) 10 [] [] (split_once (AtLines []) (AtLines [])) }
+    ensures by_what_comes_next { ShowsByLines NoneNamed (standard_problem two_free_adds)
+        10 [] [] (split_once (AtLines []) (AtLines [])) }
     ensures dominated_earlier { ShowsByLines WrittenEarlier (standard_problem three_increments) 7 [] []
         (increments_tree increments_load (DominatedBy (1 ∷ 2 ∷ []))) }
     ensures dominated_standing { ShowsByLines ClampedStanding (standard_problem three_increments) 7 [] []
@@ -157,18 +162,24 @@ pub fn line_tree_examples()
 /// result only after its unit is free, or after the parcels of what stands before it, or sooner. A total that is greater has to be below
 /// the time.
 pub fn in_use_examples()
-    ensures read_after_the_unit { (low : ℕ) → DominatesInUse (standard_problem waits_for_the_unit) low [] (2 ∷ 1 ∷ []) (1 ∷ 2 ∷ []) }
+    ensures read_after_the_unit { (low : ℕ) → DominatesInUse (standard_problem waits_for_the_unit) low [] (2 ∷ 1 ∷ [])
+        (1 ∷ 2 ∷ []) }
     ensures not_clamped { ¬ DominatesClamped (standard_problem waits_for_the_unit) (2 ∷ 1 ∷ []) (1 ∷ 2 ∷ []) }
     ensures it_takes_12 { total_of (standard_problem waits_for_the_unit) (2 ∷ 1 ∷ 3 ∷ []) ≡ 12 }
     ensures the_other_takes_12 { total_of (standard_problem waits_for_the_unit) (1 ∷ 2 ∷ 3 ∷ []) ≡ 12 }
-    ensures read_after_two_parcels { (low : ℕ) → DominatesInUse (standard_problem waits_for_two_parcels) low [] (2 ∷ 1 ∷ []) (1 ∷ 2 ∷ []) }
-    ensures after_two_parcels_it_takes_12 { total_of (standard_problem waits_for_two_parcels) (2 ∷ 1 ∷ 3 ∷ 4 ∷ []) ≡ 12 }
-    ensures after_two_parcels_the_other_takes_12 { total_of (standard_problem waits_for_two_parcels) (1 ∷ 2 ∷ 3 ∷ 4 ∷ []) ≡ 12 }
-    ensures read_at_once { (low : ℕ) → 10 ≤ low → ¬ DominatesInUse (standard_problem waits_for_x1) low [] (2 ∷ 1 ∷ []) (1 ∷ 2 ∷ []) }
+    ensures read_after_two_parcels { (low : ℕ) → DominatesInUse (standard_problem waits_for_two_parcels)
+        low [] (2 ∷ 1 ∷ []) (1 ∷ 2 ∷ []) }
+    ensures after_two_parcels_it_takes_12 { total_of (standard_problem waits_for_two_parcels) (2 ∷ 1 ∷ 3 ∷ 4 ∷ []) ≡
+        12 }
+    ensures after_two_parcels_the_other_takes_12 { total_of (standard_problem waits_for_two_parcels)
+        (1 ∷ 2 ∷ 3 ∷ 4 ∷ []) ≡ 12 }
+    ensures read_at_once { (low : ℕ) → 10 ≤ low → ¬ DominatesInUse (standard_problem waits_for_x1) low [] (2 ∷ 1 ∷ [])
+        (1 ∷ 2 ∷ []) }
     ensures it_takes_11 { total_of (standard_problem waits_for_x1) (2 ∷ 1 ∷ 3 ∷ []) ≡ 11 }
     ensures the_other_takes_9 { total_of (standard_problem waits_for_x1) (1 ∷ 2 ∷ 3 ∷ []) ≡ 9 }
     ensures by_its_total { DominatesInUse (standard_problem product_and_booleans) 13 [] (1 ∷ 2 ∷ []) (2 ∷ 1 ∷ []) }
-    ensures not_below_its_total { ¬ DominatesInUse (standard_problem product_and_booleans) 12 [] (1 ∷ 2 ∷ []) (2 ∷ 1 ∷ []) }
+    ensures not_below_its_total { ¬ DominatesInUse (standard_problem product_and_booleans) 12 [] (1 ∷ 2 ∷ [])
+        (2 ∷ 1 ∷ []) }
     ensures its_total { total_of (standard_problem product_and_booleans) (1 ∷ 2 ∷ 3 ∷ []) ≡ 12 }
     ensures total_of_the_other { total_of (standard_problem product_and_booleans) (2 ∷ 1 ∷ 3 ∷ []) ≡ 11 }
 {}

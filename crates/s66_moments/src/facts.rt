@@ -16,7 +16,8 @@ ghost use Rattle.s66_moments.specs.Paths.{Precedes, IsPlacedFirst};
 /// What is known follows, and so does all that follows from it. Arcs compose, and may be shortened; what follows of a time follows of
 /// each that is less, and if the end comes at the time or later, no order takes less.
 pub fn fact_law()
-    ensures known { (b : Problem) (low : ℕ) (known : List Fact) (fact : Fact) → Among fact known → Follows b low known fact }
+    ensures known { (b : Problem) (low : ℕ) (known : List Fact) (fact : Fact) → Among fact known →
+        Follows b low known fact }
     ensures cut { (b : Problem) (low : ℕ) (known : List Fact) (fact other : Fact) →
         Follows b low known fact → Follows b low (fact ∷ known) other → Follows b low known other }
     ensures composed { (b : Problem) (low : ℕ) (known : List Fact) (e f g : Moment) (w v x y : ℕ) →
@@ -25,16 +26,19 @@ pub fn fact_law()
         Follows b low known (Arc e w f v) → x + v ≤ w + y → Follows b low known (Arc e x f y) }
     ensures lower { (b : Problem) (low other : ℕ) (known : List Fact) (fact : Fact) →
         other ≤ low → Follows b low known fact → Follows b other known fact }
-    ensures too_late { (b : Problem) (low : ℕ) (known : List Fact) → Follows b low known (Arc Origin low End 0) → NoOrder b low known }
+    ensures too_late { (b : Problem) (low : ℕ) (known : List Fact) → Follows b low known (Arc Origin low End 0) →
+        NoOrder b low known }
 {}
 
 /// Which of two numbers stands first: by dependence, by a known pair or prefix, by others between, and because no order takes less
 /// than low in which the other does. A number stands before itself in no order.
 pub fn pair_law()
-    ensures precedes { (b : Problem) (low : ℕ) (known : List Fact) (m n : ℕ) → Precedes b known m n → Follows b low known (Before m n) }
+    ensures precedes { (b : Problem) (low : ℕ) (known : List Fact) (m n : ℕ) → Precedes b known m n →
+        Follows b low known (Before m n) }
     ensures transitive { (b : Problem) (low : ℕ) (known : List Fact) (m k n : ℕ) →
         Follows b low known (Before m k) → Follows b low known (Before k n) → Follows b low known (Before m n) }
-    ensures ring { (b : Problem) (low : ℕ) (known : List Fact) (n : ℕ) → Follows b low known (Before n n) → NoOrder b low known }
+    ensures ring { (b : Problem) (low : ℕ) (known : List Fact) (n : ℕ) → Follows b low known (Before n n) →
+        NoOrder b low known }
     ensures forced { (b : Problem) (low : ℕ) (known : List Fact) (m n : ℕ) → m ≢ n → IsNumber b m → IsNumber b n →
         NoOrder b low (Before n m ∷ known) → Follows b low known (Before m n) }
     ensures forced_by_parcels { (b : Problem) (low : ℕ) (known : List Fact) (m n h t : ℕ) → m ≢ n → IsNumber b m → IsNumber b n →

@@ -44,15 +44,18 @@ pub fn network_law()
 /// A network with an arc more has it, and no arc or tail that is shorter. What follows still follows if the arc does, and no arcs form a
 /// ring still if it leads up.
 pub fn more_arcs_law()
-    ensures there { (arcs : Network) (e f : Moment) (w : ℕ) → with_arc arcs e w f e f ≡ Some (max w (unwrap_or (arcs e f) 0)) }
+    ensures there { (arcs : Network) (e f : Moment) (w : ℕ) →
+        with_arc arcs e w f e f ≡ Some (max w (unwrap_or (arcs e f) 0)) }
     ensures steps { (b : Problem) (known : List Fact) (arcs : Network) (e f : Moment) (w : ℕ) →
         AreSteps b known arcs → Among (Arc e w f 0) known → AreSteps b known (with_arc arcs e w f) }
     ensures arcs { (b : Problem) (low : ℕ) (known : List Fact) (arcs : Network) (e f : Moment) (w : ℕ) →
         AreArcs b low known arcs → Follows b low known (Arc e w f 0) → AreArcs b low known (with_arc arcs e w f) }
     ensures rising { (b : Problem) (arcs : Network) (e f : Moment) (w : ℕ) (rank : Moment → ℕ) → RisesBy b arcs rank →
         Among f (targets b) → rank e < rank f → rank f ≤ most_arcs b → RisesBy b (with_arc arcs e w f) rank }
-    ensures own { (b : Problem) (arcs : Network) (e f : Moment) (w : ℕ) → HasOwnArcs b arcs → HasOwnArcs b (with_arc arcs e w f) }
-    ensures longer { (b : Problem) (arcs : Network) (e f m : Moment) (w : ℕ) → tail b arcs m ≤ tail b (with_arc arcs e w f) m }
+    ensures own { (b : Problem) (arcs : Network) (e f : Moment) (w : ℕ) → HasOwnArcs b arcs →
+        HasOwnArcs b (with_arc arcs e w f) }
+    ensures longer { (b : Problem) (arcs : Network) (e f m : Moment) (w : ℕ) →
+        tail b arcs m ≤ tail b (with_arc arcs e w f) m }
 {}
 
 /// A test with a known pair more, closed again, is still known and transitive. It has no ring if the pair wasn't known the other way

@@ -32,7 +32,9 @@ fn timed_of(
     profile: &Profile,
     least: Option<WholeOrder>,
 ) -> Result<Option<Box<Timed>>, AllocError>
-    ensures { let b : Problem = record { block = instrs_of block.now; profile = profile.now } in (prefix : List ℕ) (tree : Tree Terminal) → IsLeast b (whole_orders prefix tree) least → IfOk result (λ timed. IsBestTimed b prefix tree (option_map (λ t. t.value) timed)) }
+    ensures { let b : Problem = record { block = instrs_of block.now; profile = profile.now } in (prefix : List ℕ)
+        (tree : Tree Terminal) → IsLeast b (whole_orders prefix tree) least →
+        IfOk result (λ timed. IsBestTimed b prefix tree (option_map (λ t. t.value) timed)) }
 {
     let Some(least) = least else {
         return Ok(None);
@@ -65,8 +67,10 @@ pub fn expand(
     ensures problem { IfOk result (λ p. p.problem ≡ record { block = instrs_of block.now; profile = profile.now }) }
     ensures rule { IfOk result (λ p. p.rule ≡ NoneNamed) }
     ensures prefix { IfOk result (λ p. p.prefix ≡ prefix.now) }
-    ensures expansion { IfOk result (λ p. IsExpansion NoneNamed (record { block = instrs_of block.now; profile = profile.now }) best best allowance prefix.now (tree_of p)) }
-    ensures timed { IfOk result (λ p. IsBestTimed (record { block = instrs_of block.now; profile = profile.now }) prefix.now (tree_of p) p.timed) }
+    ensures expansion { IfOk result (λ p. IsExpansion NoneNamed
+        (record { block = instrs_of block.now; profile = profile.now }) best best allowance prefix.now (tree_of p)) }
+    ensures timed { IfOk result (λ p. IsBestTimed (record { block = instrs_of block.now; profile = profile.now })
+        prefix.now (tree_of p) p.timed) }
 {
     let incumbent = &mut Constant(best);
     expand_with(alloc, block, profile, prefix, incumbent, allowance)
@@ -88,12 +92,16 @@ pub fn expand_with<L: Least>(
 ) -> Result<Piece, AllocError>
     requires { IsBeginning (instrs_of block.now) prefix.now }
     ensures falls { L.kept incumbent.new ≤ L.kept incumbent.old }
-    ensures lowest { (L.lowest incumbent.new ≡ L.lowest incumbent.old) × (L.lowest incumbent.old ≤ L.kept incumbent.new) }
+    ensures lowest { (L.lowest incumbent.new ≡ L.lowest incumbent.old) ×
+        (L.lowest incumbent.old ≤ L.kept incumbent.new) }
     ensures problem { IfOk result (λ p. p.problem ≡ record { block = instrs_of block.now; profile = profile.now }) }
     ensures rule { IfOk result (λ p. p.rule ≡ NoneNamed) }
     ensures prefix { IfOk result (λ p. p.prefix ≡ prefix.now) }
-    ensures expansion { IfOk result (λ p. IsExpansion NoneNamed (record { block = instrs_of block.now; profile = profile.now }) (L.kept incumbent.old) (L.kept incumbent.new) allowance prefix.now (tree_of p)) }
-    ensures timed { IfOk result (λ p. IsBestTimed (record { block = instrs_of block.now; profile = profile.now }) prefix.now (tree_of p) p.timed) }
+    ensures expansion { IfOk result (λ p. IsExpansion NoneNamed
+        (record { block = instrs_of block.now; profile = profile.now }) (L.kept incumbent.old)
+        (L.kept incumbent.new) allowance prefix.now (tree_of p)) }
+    ensures timed { IfOk result (λ p. IsBestTimed (record { block = instrs_of block.now; profile = profile.now })
+        prefix.now (tree_of p) p.timed) }
 {
     Walk::new(block, profile).expand_with(alloc, prefix, incumbent, allowance)
 }
@@ -112,8 +120,10 @@ pub fn expand_dominated(
     ensures problem { IfOk result (λ p. p.problem ≡ record { block = instrs_of block.now; profile = profile.now }) }
     ensures rule { IfOk result (λ p. p.rule ≡ WrittenEarlier) }
     ensures prefix { IfOk result (λ p. p.prefix ≡ prefix.now) }
-    ensures expansion { IfOk result (λ p. IsExpansion WrittenEarlier (record { block = instrs_of block.now; profile = profile.now }) best best allowance prefix.now (tree_of p)) }
-    ensures timed { IfOk result (λ p. IsBestTimed (record { block = instrs_of block.now; profile = profile.now }) prefix.now (tree_of p) p.timed) }
+    ensures expansion { IfOk result (λ p. IsExpansion WrittenEarlier
+        (record { block = instrs_of block.now; profile = profile.now }) best best allowance prefix.now (tree_of p)) }
+    ensures timed { IfOk result (λ p. IsBestTimed (record { block = instrs_of block.now; profile = profile.now })
+        prefix.now (tree_of p) p.timed) }
 {
     let mut marks = MarkTable::new(alloc, block, profile);
     Walk::new(block, profile).expand_dominated(
@@ -145,11 +155,13 @@ impl Walk<'_> {
         requires { IsBeginning self.old.problem.block prefix.now }
         ensures same { self.new.problem ≡ self.old.problem }
         ensures falls { L.kept incumbent.new ≤ L.kept incumbent.old }
-        ensures lowest { (L.lowest incumbent.new ≡ L.lowest incumbent.old) × (L.lowest incumbent.old ≤ L.kept incumbent.new) }
+        ensures lowest { (L.lowest incumbent.new ≡ L.lowest incumbent.old) ×
+            (L.lowest incumbent.old ≤ L.kept incumbent.new) }
         ensures problem { IfOk result (λ p. p.problem ≡ self.old.problem) }
         ensures rule { IfOk result (λ p. p.rule ≡ NoneNamed) }
         ensures prefix { IfOk result (λ p. p.prefix ≡ prefix.now) }
-        ensures expansion { IfOk result (λ p. IsExpansion NoneNamed self.old.problem (L.kept incumbent.old) (L.kept incumbent.new) allowance prefix.now (tree_of p)) }
+        ensures expansion { IfOk result (λ p. IsExpansion NoneNamed self.old.problem (L.kept incumbent.old)
+            (L.kept incumbent.new) allowance prefix.now (tree_of p)) }
         ensures timed { IfOk result (λ p. IsBestTimed self.old.problem prefix.now (tree_of p) p.timed) }
     {
         let rule = Rule::NoneNamed;
@@ -177,11 +189,13 @@ impl Walk<'_> {
         ensures marks { marks.new.problem ≡ marks.old.problem }
         ensures same { self.new.problem ≡ self.old.problem }
         ensures falls { L.kept incumbent.new ≤ L.kept incumbent.old }
-        ensures lowest { (L.lowest incumbent.new ≡ L.lowest incumbent.old) × (L.lowest incumbent.old ≤ L.kept incumbent.new) }
+        ensures lowest { (L.lowest incumbent.new ≡ L.lowest incumbent.old) ×
+            (L.lowest incumbent.old ≤ L.kept incumbent.new) }
         ensures problem { IfOk result (λ p. p.problem ≡ self.old.problem) }
         ensures rule { IfOk result (λ p. p.rule ≡ rule) }
         ensures prefix { IfOk result (λ p. p.prefix ≡ prefix.now) }
-        ensures expansion { IfOk result (λ p. IsExpansion rule self.old.problem (L.kept incumbent.old) (L.kept incumbent.new) allowance prefix.now (tree_of p)) }
+        ensures expansion { IfOk result (λ p. IsExpansion rule self.old.problem (L.kept incumbent.old)
+            (L.kept incumbent.new) allowance prefix.now (tree_of p)) }
         ensures timed { IfOk result (λ p. IsBestTimed self.old.problem prefix.now (tree_of p) p.timed) }
     {
         match rule {
@@ -209,11 +223,13 @@ impl Walk<'_> {
         ensures suits { N.suits names.new self.old.problem }
         ensures same { self.new.problem ≡ self.old.problem }
         ensures falls { L.kept incumbent.new ≤ L.kept incumbent.old }
-        ensures lowest { (L.lowest incumbent.new ≡ L.lowest incumbent.old) × (L.lowest incumbent.old ≤ L.kept incumbent.new) }
+        ensures lowest { (L.lowest incumbent.new ≡ L.lowest incumbent.old) ×
+            (L.lowest incumbent.old ≤ L.kept incumbent.new) }
         ensures problem { IfOk result (λ p. p.problem ≡ self.old.problem) }
         ensures rule { IfOk result (λ p. p.rule ≡ rule) }
         ensures prefix { IfOk result (λ p. p.prefix ≡ prefix.now) }
-        ensures expansion { IfOk result (λ p. IsExpansion rule self.old.problem (L.kept incumbent.old) (L.kept incumbent.new) allowance prefix.now (tree_of p)) }
+        ensures expansion { IfOk result (λ p. IsExpansion rule self.old.problem (L.kept incumbent.old)
+            (L.kept incumbent.new) allowance prefix.now (tree_of p)) }
         ensures timed { IfOk result (λ p. IsBestTimed self.old.problem prefix.now (tree_of p) p.timed) }
     {
         self.go_to(prefix);

@@ -125,9 +125,13 @@ fn unsplit_by_name<N: Naming>(
     requires value { value ≡ floor_value walk.now.problem walk.now.numbers }
     requires suits { N.suits names.old walk.now.problem }
     ensures suits { N.suits names.new walk.now.problem }
-    ensures known { (name : List ℕ) → Among name (N.names names.new) → (name ≡ walk.now.numbers) ⊎ Among name (N.names names.old) }
-    ensures same { rule ≡ WrittenEarlier → IfOk result (λ unsplit. IfSome unsplit (λ u. N.names names.new ≡ N.names names.old)) }
-    ensures found { (best : Span) → IsDue walk.now.problem best.high walk.now.numbers → IfOk result (λ unsplit. IfSome unsplit (IsFound rule walk.now.problem best walk.now.numbers (N.names names.old))) }
+    ensures known { (name : List ℕ) → Among name (N.names names.new) →
+        (name ≡ walk.now.numbers) ⊎ Among name (N.names names.old) }
+    ensures same { rule ≡ WrittenEarlier → IfOk result
+        (λ unsplit. IfSome unsplit (λ u. N.names names.new ≡ N.names names.old)) }
+    ensures found { (best : Span) → IsDue walk.now.problem best.high walk.now.numbers →
+        IfOk result (λ unsplit. IfSome unsplit
+        (IsFound rule walk.now.problem best walk.now.numbers (N.names names.old))) }
     ensures left_open { IfOk result (λ unsplit. IfSome unsplit (λ u. IsOpen u → ¬ IsTrue may_split)) }
     ensures may { IfOk result (λ unsplit. IfNone unsplit (IsTrue may_split)) }
 {
@@ -157,12 +161,16 @@ fn unsplit_child<L: Least, N: Naming>(
     requires kept { L.kept incumbent.old ≡ best.old }
     requires suits { N.suits names.old walk.now.problem }
     ensures suits { N.suits names.new walk.now.problem }
-    ensures known { (name : List ℕ) → Among name (N.names names.new) → (name ≡ walk.now.numbers) ⊎ Among name (N.names names.old) }
-    ensures same { rule ≡ WrittenEarlier → IfOk result (λ unsplit. IfSome unsplit (λ u. N.names names.new ≡ N.names names.old)) }
+    ensures known { (name : List ℕ) → Among name (N.names names.new) →
+        (name ≡ walk.now.numbers) ⊎ Among name (N.names names.old) }
+    ensures same { rule ≡ WrittenEarlier → IfOk result
+        (λ unsplit. IfSome unsplit (λ u. N.names names.new ≡ N.names names.old)) }
     ensures kept { L.kept incumbent.new ≡ best.new }
     ensures falls { best.new ≤ best.old }
-    ensures lowest { (L.lowest incumbent.new ≡ L.lowest incumbent.old) × (L.lowest incumbent.old ≤ best.old → L.lowest incumbent.old ≤ best.new) }
-    ensures found { IfOk result (λ unsplit. IfSome unsplit (IsFound rule walk.now.problem (span best.old best.new) walk.now.numbers (N.names names.old))) }
+    ensures lowest { (L.lowest incumbent.new ≡ L.lowest incumbent.old) ×
+        (L.lowest incumbent.old ≤ best.old → L.lowest incumbent.old ≤ best.new) }
+    ensures found { IfOk result (λ unsplit. IfSome unsplit
+        (IsFound rule walk.now.problem (span best.old best.new) walk.now.numbers (N.names names.old))) }
     ensures due { IfOk result (λ unsplit. IfNone unsplit (IsDue walk.now.problem best.new walk.now.numbers)) }
     ensures left_open { IfOk result (λ unsplit. IfSome unsplit (λ u. IsOpen u → ¬ IsTrue may_split)) }
     ensures may { IfOk result (λ unsplit. IfNone unsplit (IsTrue may_split)) }
@@ -182,7 +190,11 @@ fn unsplit_child<L: Least, N: Naming>(
 
 /// Keeps the lesser of the least whole order so far and that of the walk's prefix, if this is its leaf.
 fn keep_whole(least: &mut Option<WholeOrder>, walk: &Walk<'_>, unsplit: &Unsplit)
-    ensures { (rule : Rule) (best : Span) (known found : List (List ℕ)) → IsFound rule walk.now.problem best walk.now.numbers known unsplit.now → IsLeast walk.now.problem found least.old → IsLeast walk.now.problem (found ++ whole_at walk.now.numbers (terminal_by walk.now.problem walk.now.numbers unsplit.now)) least.new }
+    ensures { (rule : Rule) (best : Span) (known found : List (List ℕ)) →
+        IsFound rule walk.now.problem best walk.now.numbers known unsplit.now →
+        IsLeast walk.now.problem found least.old →
+        IsLeast walk.now.problem (found ++
+        whole_at walk.now.numbers (terminal_by walk.now.problem walk.now.numbers unsplit.now)) least.new }
 {
     if let Unsplit::Leaf { value } = unsplit {
         if walk.is_complete() {
@@ -235,7 +247,8 @@ impl Grown {
     ) -> Result<OpenSplit, AllocError>
         requires { self.old.splits + 1 < 2 ^ 32 }
         ensures same { walk.new ≡ walk.old }
-        ensures put { IfOk result (λ frame. IsSplitPut walk.old.problem walk.old.numbers self.old parent number self.new frame) }
+        ensures put { IfOk result (λ frame. IsSplitPut walk.old.problem walk.old.numbers self.old parent number self.new
+            frame) }
     {
         let node = place_of(self.nodes.len())?;
         self.nodes
@@ -272,8 +285,11 @@ pub(crate) fn grow<L: Least, N: Naming>(
     ensures suits { N.suits names.new walk.old.problem }
     ensures same { walk.new.problem ≡ walk.old.problem }
     ensures falls { L.kept incumbent.new ≤ L.kept incumbent.old }
-    ensures lowest { (L.lowest incumbent.new ≡ L.lowest incumbent.old) × (L.lowest incumbent.old ≤ L.kept incumbent.new) }
-    ensures grown { OnOk result ((tree : Tree Terminal) × IsGrown rule walk.old.problem (span (L.kept incumbent.old) (L.kept incumbent.new)) allowance walk.old.numbers grown.new tree) }
+    ensures lowest { (L.lowest incumbent.new ≡ L.lowest incumbent.old) ×
+        (L.lowest incumbent.old ≤ L.kept incumbent.new) }
+    ensures grown { OnOk result ((tree : Tree Terminal) ×
+        IsGrown rule walk.old.problem (span (L.kept incumbent.old) (L.kept incumbent.new)) allowance walk.old.numbers
+        grown.new tree) }
 {
     // so each prefix has a frame
     prove!(walk.numbers().len() <= BLOCK_LIMIT);

@@ -71,9 +71,11 @@ impl<'a> Model for MarkTable<'a> {
 
     ghost Value = { MarkTable };
 
-    ghost view = { λ m. record { problem = record { block = instrs_of m.block.now; profile = m.profile }; names = map numbers_of m.entries.items } };
+    ghost view = { λ m.
+        record { problem = record { block = instrs_of m.block.now; profile = m.profile }; names = map numbers_of m.entries.items } };
 
-    ghost invariant = { λ m. AreEntries (record { block = instrs_of m.block.now; profile = m.profile }) m.entries.items };
+    ghost invariant = { λ m. AreEntries (record { block = instrs_of m.block.now; profile = m.profile })
+        m.entries.items };
 }
 
 /// Whether the left numbers are smaller at the first place where both differ.
@@ -89,7 +91,8 @@ fn is_dominating(rule: Rule, numbers: &[u8], left: &Mark, walk: &Walk<'_>, right
     requires left { IsMarkOf walk.now.problem numbers.now left.now }
     requires right { IsMarkOf walk.now.problem walk.now.numbers right.now }
     requires same { IsSameSet numbers.now walk.now.numbers }
-    ensures { IsTrue result → IsIncomplete walk.now.problem.block walk.now.numbers → DominatesByRule rule walk.now.problem numbers.now walk.now.numbers }
+    ensures { IsTrue result → IsIncomplete walk.now.problem.block walk.now.numbers →
+        DominatesByRule rule walk.now.problem numbers.now walk.now.numbers }
 {
     match rule {
         Rule::NoneNamed => false,
@@ -192,8 +195,10 @@ fn make_place(
 /// Puts an entry in the place of that of an index, or after all.
 fn put_entry(entries: &mut Vec<MarkEntry>, index: usize, entry: MarkEntry) -> Result<(), AllocError>
     requires within { index < TABLE_LIMIT }
-    ensures entries { (b : Problem) → IsEntry b entry → AreEntries b entries.old.items → AreEntries b entries.new.items }
-    ensures known { (name : List ℕ) → Among name (map numbers_of entries.new.items) → (name ≡ numbers_of entry) ⊎ Among name (map numbers_of entries.old.items) }
+    ensures entries { (b : Problem) → IsEntry b entry → AreEntries b entries.old.items →
+        AreEntries b entries.new.items }
+    ensures known { (name : List ℕ) → Among name (map numbers_of entries.new.items) →
+        (name ≡ numbers_of entry) ⊎ Among name (map numbers_of entries.old.items) }
 {
     if index < entries.len() {
         entries[index] = entry;
@@ -280,7 +285,8 @@ impl<'a> MarkTable<'a> {
 
     /// No mark.
     pub fn new(alloc: Global, block: &'a Block<'a>, profile: &Profile) -> MarkTable<'a>
-        ensures { result ≡ record { problem = record { block = instrs_of block.now; profile = profile.now }; names = [] } }
+        ensures { result ≡
+            record { problem = record { block = instrs_of block.now; profile = profile.now }; names = [] } }
     {
         MarkTable::with_limit(alloc, block, profile, TABLE_LIMIT)
     }
@@ -292,7 +298,8 @@ impl<'a> MarkTable<'a> {
         profile: &Profile,
         limit: usize,
     ) -> MarkTable<'a>
-        ensures { result ≡ record { problem = record { block = instrs_of block.now; profile = profile.now }; names = [] } }
+        ensures { result ≡
+            record { problem = record { block = instrs_of block.now; profile = profile.now }; names = [] } }
     {
         MarkTable {
             block,
@@ -326,7 +333,8 @@ impl<'a> MarkTable<'a> {
     /// Clamped, it may be that beginning itself.
     pub fn find(&self, walk: &Walk<'_>, rule: Rule) -> Option<(&[u8], NodePlace)>
         requires { self.now.problem ≡ walk.now.problem }
-        ensures dominates { IfSome result (λ found. IsIncomplete walk.now.problem.block walk.now.numbers → DominatesByRule rule walk.now.problem found.0.now walk.now.numbers) }
+        ensures dominates { IfSome result (λ found. IsIncomplete walk.now.problem.block walk.now.numbers →
+            DominatesByRule rule walk.now.problem found.0.now walk.now.numbers) }
         ensures known { IfSome result (λ found. Among found.0.now self.now.names) }
         ensures few { IfSome result (λ found. length found.0.now ≤ BLOCK_LIMIT) }
     {
@@ -344,7 +352,8 @@ impl<'a> MarkTable<'a> {
         requires here { self.now.problem ≡ walk.now.problem }
         requires pushed { (m : ℕ) → has m (numbers_in pushed.now) ≡ has m walk.now.numbers }
         requires mark { IsMarkOf walk.now.problem walk.now.numbers mark.now }
-        ensures dominates { IfSome result (λ found. IsIncomplete walk.now.problem.block walk.now.numbers → DominatesByRule rule walk.now.problem found.0.now walk.now.numbers) }
+        ensures dominates { IfSome result (λ found. IsIncomplete walk.now.problem.block walk.now.numbers →
+            DominatesByRule rule walk.now.problem found.0.now walk.now.numbers) }
         ensures known { IfSome result (λ found. Among found.0.now self.now.names) }
         ensures few { IfSome result (λ found. length found.0.now ≤ BLOCK_LIMIT) }
     {
@@ -369,7 +378,8 @@ impl<'a> MarkTable<'a> {
     fn keep(&mut self, entry: MarkEntry, place: NodePlace) -> Result<(), AllocError>
         requires { IsEntry self.old.problem entry }
         ensures same { self.new.problem ≡ self.old.problem }
-        ensures known { (name : List ℕ) → Among name self.new.names → (name ≡ numbers_of entry) ⊎ Among name self.old.names }
+        ensures known { (name : List ℕ) → Among name self.new.names →
+            (name ≡ numbers_of entry) ⊎ Among name self.old.names }
     {
         let index = match self.chains.reuse() {
             Some(index) => index as usize,
@@ -397,7 +407,8 @@ impl<'a> MarkTable<'a> {
     pub fn insert(&mut self, walk: &Walk<'_>, rule: Rule, line: usize)
         requires { self.old.problem ≡ walk.now.problem }
         ensures same { self.new.problem ≡ self.old.problem }
-        ensures known { (name : List ℕ) → Among name self.new.names → (name ≡ walk.now.numbers) ⊎ Among name self.old.names }
+        ensures known { (name : List ℕ) → Among name self.new.names →
+            (name ≡ walk.now.numbers) ⊎ Among name self.old.names }
     {
         walk.set_mark(&mut self.room);
         let entry = MarkEntry::of(walk, &walk.pushed(), &self.room);
@@ -409,7 +420,8 @@ impl<'a> MarkTable<'a> {
     pub fn put_line(&mut self, entry: MarkEntry, line: usize, is_split: bool, rule: Rule)
         requires { IsEntry self.old.problem entry }
         ensures same { self.new.problem ≡ self.old.problem }
-        ensures known { (name : List ℕ) → Among name self.new.names → (name ≡ entry.numbers.items) ⊎ Among name self.old.names }
+        ensures known { (name : List ℕ) → Among name self.new.names →
+            (name ≡ entry.numbers.items) ⊎ Among name self.old.names }
         ensures open { rule ≡ WrittenEarlier → ¬ IsTrue is_split → self.new.names ≡ self.old.names }
     {
         if is_split || rule == Rule::ClampedStanding {
@@ -422,7 +434,8 @@ impl<'a> MarkTable<'a> {
     pub fn put(&mut self, entry: MarkEntry, place: NodePlace, rule: Rule)
         requires { IsEntry self.old.problem entry }
         ensures same { self.new.problem ≡ self.old.problem }
-        ensures known { (name : List ℕ) → Among name self.new.names → (name ≡ entry.numbers.items) ⊎ Among name self.old.names }
+        ensures known { (name : List ℕ) → Among name self.new.names →
+            (name ≡ entry.numbers.items) ⊎ Among name self.old.names }
     {
         let stay = remove_dominated(
             &mut self.chains,
@@ -441,7 +454,8 @@ impl<'a> MarkTable<'a> {
     /// Takes the last entry out, with the node that it is. Before the table is empty, `find` may miss entries that are left.
     pub fn pop(&mut self) -> Option<(MarkEntry, NodePlace)>
         ensures same { self.new.problem ≡ self.old.problem }
-        ensures some { IfSome result (λ taken. IsEntry self.old.problem taken.0 × (self.old.names ≡ self.new.names ++ numbers_of taken.0 ∷ [])) }
+        ensures some { IfSome result (λ taken. IsEntry self.old.problem taken.0 ×
+            (self.old.names ≡ self.new.names ++ numbers_of taken.0 ∷ [])) }
         ensures none { IfNone result (self.old.names ≡ []) }
     {
         let entry = self.entries.pop()?;

@@ -53,7 +53,8 @@ impl Node {
 
     /// A node in the state in which it is made.
     pub fn new(parent: u32, number: u8, depth: u8, value: u32, state: State) -> Node
-        ensures { result ≡ record { parent = parent; value = value; number = number; depth = depth; made = state; state = state } }
+        ensures { result ≡
+            record { parent = parent; value = value; number = number; depth = depth; made = state; state = state } }
     {
         Node {
             parent,

@@ -39,9 +39,12 @@ impl Model for Piece {
 
     ghost Value = { PieceOf };
 
-    ghost view = { λ p. record { rule = p.rule; problem = record { block = p.origin.value.source.block; profile = p.origin.value.profile }; prefix = p.origin.value.prefix.items; nodes = p.nodes.items; names = map named p.dominances.items; timed = option_map (λ t. t.value) p.timed } };
+    ghost view = { λ p.
+        record { rule = p.rule; problem = record { block = p.origin.value.source.block; profile = p.origin.value.profile }; prefix = p.origin.value.prefix.items; nodes = p.nodes.items; names = map named p.dominances.items; timed = option_map (λ t. t.value) p.timed } };
 
-    ghost invariant = { λ p. IsKeptPiece (record { rule = p.rule; problem = record { block = p.origin.value.source.block; profile = p.origin.value.profile }; prefix = p.origin.value.prefix.items; nodes = p.nodes.items; names = map named p.dominances.items; timed = option_map (λ t. t.value) p.timed }) p.splits };
+    ghost invariant = { λ p. IsKeptPiece
+        (record { rule = p.rule; problem = record { block = p.origin.value.source.block; profile = p.origin.value.profile }; prefix = p.origin.value.prefix.items; nodes = p.nodes.items; names = map named p.dominances.items; timed = option_map (λ t. t.value) p.timed })
+        p.splits };
 }
 
 impl Piece {

@@ -12,7 +12,8 @@ use std::marker::Model;
 pub(crate) fn common_length(left: &[u8], right: &[u8]) -> usize
     ensures few { (result ≤ length left.now) × (result ≤ length right.now) }
     ensures common { take result left.now ≡ take result right.now }
-    ensures longest { (d : ℕ) → result < length left.now → result < length right.now → get_or left.now result d ≢ get_or right.now result d }
+    ensures longest { (d : ℕ) → result < length left.now → result < length right.now →
+        get_or left.now result d ≢ get_or right.now result d }
 {
     let shorter = left.len().min(right.len());
     for position in 0..shorter {
@@ -77,7 +78,8 @@ impl<'a> Walk<'a> {
 
     /// At the empty prefix, in time quadratic in the block's length.
     pub fn new(block: &'a Block<'a>, profile: &Profile) -> Walk<'a>
-        ensures { result ≡ record { problem = record { block = instrs_of block.now; profile = profile.now }; numbers = [] } }
+        ensures { result ≡
+            record { problem = record { block = instrs_of block.now; profile = profile.now }; numbers = [] } }
     {
         prove!(block.count() <= BLOCK_LIMIT);
         let openings = Openings::of(block);

@@ -28,7 +28,8 @@ pub fn copy_of(numbers: &[u8]) -> ArrayVec<u8, BLOCK_LIMIT>
 /// Keeps the lesser of the least order so far and this one; of equal ones the first stays.
 pub(crate) fn keep_lesser(least: &mut Option<WholeOrder>, numbers: &[u8], total: u32)
     requires { length numbers.now ≤ BLOCK_LIMIT }
-    ensures { (b : Problem) (orders : List (List ℕ)) → IsLegal b.block numbers.now → total ≡ total_of b numbers.now → IsLeast b orders least.old → IsLeast b (orders ++ numbers.now ∷ []) least.new }
+    ensures { (b : Problem) (orders : List (List ℕ)) → IsLegal b.block numbers.now → total ≡ total_of b numbers.now →
+        IsLeast b orders least.old → IsLeast b (orders ++ numbers.now ∷ []) least.new }
 {
     if let Some(found) = least {
         if found.total <= total {

@@ -70,7 +70,8 @@ fn check_all<O: Observer>(
     documents: &[Document],
     observer: &mut O,
 ) -> Result<Output, AllocError>
-    ensures text { IfOk result (λ output. output.text.items ≡ verdict_lines with_text 0 (map document_of documents.now)) }
+    ensures text { IfOk result (λ output. output.text.items ≡
+        verdict_lines with_text 0 (map document_of documents.now)) }
     ensures status { IfOk result (λ output. output.status ≡ verdicts_status (map document_of documents.now)) }
 {
     let mut text = Vec::new(alloc);

@@ -74,7 +74,8 @@ fn push_needs_lines(
     dependences: &Dependences,
 ) -> Result<(), AllocError>
     requires { dependences.now ≡ all_needs (instrs_of block.now) }
-    ensures { OnOk result (out.new.items ≡ out.old.items ++ needs_lines (instrs_of block.now) (numbers (instrs_of block.now))) }
+    ensures { OnOk result (out.new.items ≡ out.old.items ++
+        needs_lines (instrs_of block.now) (numbers (instrs_of block.now))) }
 {
     for position in 0..block.count() {
         let needs = dependences.needs((position + 1) as u8);

@@ -36,7 +36,11 @@ pub fn push_json_found(
 ) -> Result<(), AllocError>
     requires { order.now.block ≡ instrs_of block.now }
     ensures profile { timer.new ≡ timer.old }
-    ensures line { OnOk result (out.new.items ≡ out.old.items ++ json_line number block.now (as_written timer.old (instrs_of block.now)) (found_data (record { problem = record { block = instrs_of block.now; profile = timer.old }; numbers = order.now.numbers }) bound splits)) }
+    ensures line { OnOk result (out.new.items ≡ out.old.items ++
+        json_line number block.now (as_written timer.old (instrs_of block.now))
+        (found_data
+        (record { problem = record { block = instrs_of block.now; profile = timer.old }; numbers = order.now.numbers })
+        bound splits)) }
 {
     let written = timer.time(block, &Order::source(block));
     let found = timer.time(block, order);

@@ -33,7 +33,8 @@ fn is_refused(alloc: Global, input: &[u8], cut: bool) -> Result<bool, AllocError
 
 /// What is stated of the lines of a source, which may be any text; with `cut`, of those alone that `--cut` doesn't leave alone.
 pub fn lint_output(alloc: Global, input: &[u8], cut: bool) -> Result<Output, AllocError>
-    ensures { IfOk result (λ output. IsLintOutput (record { cut = cut; text = input.now }) output.text.items output.status) }
+    ensures { IfOk result (λ output. IsLintOutput
+        (record { cut = cut; text = input.now }) output.text.items output.status) }
 {
     let text = findings_in(alloc, input, cut)?;
     let status = lint_status(is_refused(alloc, input, cut)?, text.as_slice());

@@ -83,7 +83,8 @@ pub fn listing_output(
     only: Option<u32>,
     source: &Source,
 ) -> Result<Output, AllocError>
-    ensures { IfOk result (λ output. IsListing profile.now listing.now only source.now output.text.items × (output.status ≡ Done)) }
+    ensures { IfOk result (λ output. IsListing profile.now listing.now only source.now output.text.items ×
+        (output.status ≡ Done)) }
 {
     let blocks = shown(source.blocks(), only);
     Ok(Output {

@@ -243,7 +243,8 @@ fn push_rows(out: &mut Vec<u8>, words: bool, rows: &[Row]) -> Result<(), AllocEr
 
 /// How many blocks there are, and what they take.
 fn push_total_times(out: &mut Vec<u8>, total: &Total) -> Result<(), AllocError>
-    ensures { OnOk result (out.new.items ≡ out.old.items ++ total_times total.now.blocks total.now.source total.now.time) }
+    ensures { OnOk result (out.new.items ≡ out.old.items ++
+        total_times total.now.blocks total.now.source total.now.time) }
 {
     push_field(out, b"TOTAL BLOCKS ", total.blocks)?;
     push_field(out, b" SOURCE ", total.source)?;
@@ -251,7 +252,9 @@ fn push_total_times(out: &mut Vec<u8>, total: &Total) -> Result<(), AllocError>
 }
 
 fn push_total(out: &mut Vec<u8>, words: bool, total: &Total) -> Result<(), AllocError>
-    ensures { OnOk result (out.new.items ≡ out.old.items ++ total_text total.now.blocks total.now.source total.now.time total.now.best (line_end words total.now.moved total.now.source_words total.now.words total.now.splits)) }
+    ensures { OnOk result (out.new.items ≡ out.old.items ++
+        total_text total.now.blocks total.now.source total.now.time total.now.best
+        (line_end words total.now.moved total.now.source_words total.now.words total.now.splits)) }
 {
     push_total_times(out, total)?;
     push_field(out, b" BEST ", total.best)?;

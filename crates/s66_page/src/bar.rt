@@ -48,7 +48,8 @@ pub fn push_bar_start(
 
 /// A register and words after it.
 fn push_register(out: &mut Vec<u8>, register: Reg, words: &[u8]) -> Result<(), AllocError>
-    ensures { OnOk result (out.new.items ≡ out.old.items ++ (bank_name register.bank ++ decimal register.digit ++ words.now)) }
+    ensures { OnOk result (out.new.items ≡ out.old.items ++
+        (bank_name register.bank ++ decimal register.digit ++ words.now)) }
 {
     push_text(out, bank_name(register.bank()))?;
     push_number(out, register.digit())?;
@@ -132,7 +133,8 @@ fn push_work_title(out: &mut Vec<u8>, work: &Work) -> Result<(), AllocError>
 
 /// A bar of this class while a unit works on an instruction.
 fn push_worked(out: &mut Vec<u8>, class: &[u8], work: &Work) -> Result<(), AllocError>
-    ensures { OnOk result (out.new.items ≡ out.old.items ++ bar class.now work.now.start work.now.latency (work_title work.now)) }
+    ensures { OnOk result (out.new.items ≡ out.old.items ++
+        bar class.now work.now.start work.now.latency (work_title work.now)) }
 {
     push_bar_start(out, class, work.start, work.latency)?;
     push_work_title(out, work)?;

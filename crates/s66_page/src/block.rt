@@ -160,7 +160,8 @@ pub fn push_block(
 ) -> Result<(), AllocError>
     requires source { source.now.problem.block ≡ instrs_of block.now }
     requires best { best.now.problem.block ≡ instrs_of block.now }
-    ensures { OnOk result (out.new.items ≡ out.old.items ++ block_text number block.now source.now best.now bound reasons.now) }
+    ensures { OnOk result (out.new.items ≡ out.old.items ++
+        block_text number block.now source.now best.now bound reasons.now) }
 {
     let summary = summary_of(number, block, source, best, bound);
     push_block_head(out, block.label(), &summary)?;
@@ -238,7 +239,8 @@ fn push_best_cell(out: &mut Vec<u8>, best: usize) -> Result<(), AllocError>
 /// Appends the row of all blocks, below theirs. `Err` is out of memory.
 #[tactic(auto, unfolding(crate::specs::Page::total_row))]
 pub fn push_total_row(out: &mut Vec<u8>, total: &Total) -> Result<(), AllocError>
-    ensures { OnOk result (out.new.items ≡ out.old.items ++ total_row total.now.count total.now.source total.now.time total.now.best) }
+    ensures { OnOk result (out.new.items ≡ out.old.items ++
+        total_row total.now.count total.now.source total.now.time total.now.best) }
 {
     push_text(out, b"<tr><td>TOTAL<td><td>")?;
     push_cell(out, total.count)?;
@@ -255,7 +257,8 @@ pub fn push_index_row(
     best: &Timed,
     bound: u32,
 ) -> Result<(), AllocError>
-    ensures { OnOk result (out.new.items ≡ out.old.items ++ index_row block.now.label (summary number block.now source.now best.now bound)) }
+    ensures { OnOk result (out.new.items ≡ out.old.items ++
+        index_row block.now.label (summary number block.now source.now best.now bound)) }
 {
     push_summary(
         out,

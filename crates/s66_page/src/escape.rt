@@ -13,7 +13,8 @@ fn is_printed(byte: u8) -> bool
 
 /// What stands for a byte that isn't printed: a character of Latin 1, or a replacement character.
 fn push_unprinted(out: &mut Vec<u8>, byte: u8) -> Result<(), AllocError>
-    ensures { OnOk result (out.new.items ≡ out.old.items ++ (if nat_le 160 byte then codes "&#" ++ decimal byte ++ codes ";" else codes "&#65533;")) }
+    ensures { OnOk result (out.new.items ≡ out.old.items ++
+        (if nat_le 160 byte then codes "&#" ++ decimal byte ++ codes ";" else codes "&#65533;")) }
 {
     if 160 <= byte {
         push_field(out, b"&#", byte as usize)?;

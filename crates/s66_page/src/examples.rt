@@ -47,8 +47,12 @@ pub fn unit_example()
 /// A block with a label and with a bound that isn't its time, and the total of two such rows, one of them best.
 #[tactic(auto, unfolding(crate::specs::Escape::digits, crate::specs::Page::index_link, crate::specs::Page::label_cell, crate::specs::Page::cell, crate::specs::Page::time_cells, crate::specs::Page::bound_cell, crate::specs::Page::index_row, crate::specs::Page::bound_text, crate::specs::Page::best_cell, crate::specs::Page::total_row))]
 pub fn index_example()
-    ensures row { index_row (codes "A&B") (record { number = 12; line = 34; count = 5; source = 60; time = 50; bound = 48 }) ≡ codes "<tr><td><a href='#b12'>12</a><td>A&amp;B<td>34<td>5<td>60<td>50<td>10<td>AT LEAST 48\n" }
-    ensures total { total_of_all (record { number = 12; line = 34; count = 5; source = 60; time = 50; bound = 48 } ∷ record { number = 13; line = 40; count = 2; source = 7; time = 7; bound = 7 } ∷ []) ≡ codes "<tr><td>TOTAL<td><td><td>7<td>67<td>57<td>10<td>BEST 1\n" }
+    ensures row { index_row (codes "A&B")
+        (record { number = 12; line = 34; count = 5; source = 60; time = 50; bound = 48 }) ≡
+        codes "<tr><td><a href='#b12'>12</a><td>A&amp;B<td>34<td>5<td>60<td>50<td>10<td>AT LEAST 48\n" }
+    ensures total { total_of_all (record { number = 12; line = 34; count = 5; source = 60; time = 50; bound = 48 } ∷
+        record { number = 13; line = 40; count = 2; source = 7; time = 7; bound = 7 } ∷ []) ≡
+        codes "<tr><td>TOTAL<td><td><td>7<td>67<td>57<td>10<td>BEST 1\n" }
 {}
 
 /// The title names the first block, by its label too if it has one; a page without a block has the program's name.

@@ -15,8 +15,10 @@ ghost use Rattle.s66_why.specs.declared.stretch.Stretch.{Stretch as StretchOf};
 /// A source can't break out of its text. Whatever its bytes are, an escaped text has printed bytes of ASCII and tabs alone, and no
 /// bracket or quote, so that no element or attribute begins or ends in it; of several lines, newlines too. Each byte is itself, or a reference to one character.
 pub fn escape_law()
-    ensures harmless { (text : List ℕ) → ((b : ℕ) → Among b text → b < 2 ^ 8) → every is_harmless (escaped text) ≡ true }
-    ensures lines { (text : List ℕ) → ((b : ℕ) → Among b text → b < 2 ^ 8) → every is_harmless_or_newline (escaped_lines text) ≡ true }
+    ensures harmless { (text : List ℕ) → ((b : ℕ) → Among b text → b < 2 ^ 8) →
+        every is_harmless (escaped text) ≡ true }
+    ensures lines { (text : List ℕ) → ((b : ℕ) → Among b text → b < 2 ^ 8) →
+        every is_harmless_or_newline (escaped_lines text) ≡ true }
     ensures references { (b : ℕ) → b < 2 ^ 8 → is_reference_or b (escaped_byte b) ≡ true }
 {}
 
@@ -29,10 +31,15 @@ pub fn head_law()
 /// What is shown of an order holds a row for each instruction. The row tells the times that `time --trace` prints, and has a bar
 /// from the start for the latency of the last result, and one for each stretch in which the instruction is kept back.
 pub fn row_law()
-    ensures rows { (block : BlockOf) (title : List ℕ) (t : TimedOrder) (i : ℕ) → i < length t.numbers → Holds (order_text block title t) (instruction_row block (on_path t) (points_of t.problem (take i t.numbers)) (point_at t i)) }
-    ensures times { (block : BlockOf) (on_path : List ℕ) (s : List PointOf) (p : PointOf) → Holds (instruction_row block on_path s p) (title_of_times p) }
-    ensures work { (block : BlockOf) (on_path : List ℕ) (s : List PointOf) (p : PointOf) → Holds (instruction_row block on_path s p) (place_of_bar p.start (latency_of p.row)) }
-    ensures waits { (block : BlockOf) (on_path : List ℕ) (s : List PointOf) (p : PointOf) (x : StretchOf) → Among x (stretches_at s p) → Holds (instruction_row block on_path s p) (place_of_bar x.from (x.to - x.from)) }
+    ensures rows { (block : BlockOf) (title : List ℕ) (t : TimedOrder) (i : ℕ) → i < length t.numbers →
+        Holds (order_text block title t)
+        (instruction_row block (on_path t) (points_of t.problem (take i t.numbers)) (point_at t i)) }
+    ensures times { (block : BlockOf) (on_path : List ℕ) (s : List PointOf) (p : PointOf) →
+        Holds (instruction_row block on_path s p) (title_of_times p) }
+    ensures work { (block : BlockOf) (on_path : List ℕ) (s : List PointOf) (p : PointOf) →
+        Holds (instruction_row block on_path s p) (place_of_bar p.start (latency_of p.row)) }
+    ensures waits { (block : BlockOf) (on_path : List ℕ) (s : List PointOf) (p : PointOf) (x : StretchOf) →
+        Among x (stretches_at s p) → Holds (instruction_row block on_path s p) (place_of_bar x.from (x.to - x.from)) }
 {}
 
 /// Texts that are not still, each for another word.

@@ -86,7 +86,9 @@ fn push_order_head(out: &mut Vec<u8>, title: &[u8], total: u32) -> Result<(), Al
 /// The rows of the instructions of an order, and those of its units.
 fn push_all_rows(out: &mut Vec<u8>, block: &Block, timed: &Timed) -> Result<(), AllocError>
     requires { timed.now.problem.block ≡ instrs_of block.now }
-    ensures { OnOk result (out.new.items ≡ out.old.items ++ (instruction_rows block.now (on_path timed.now) (points_of timed.now.problem timed.now.numbers) ++ all_kind_rows (cycles_of timed.now) (works timed.now))) }
+    ensures { OnOk result (out.new.items ≡ out.old.items ++
+        (instruction_rows block.now (on_path timed.now) (points_of timed.now.problem timed.now.numbers) ++
+        all_kind_rows (cycles_of timed.now) (works timed.now))) }
 {
     let points = points_of(timed);
     let points = points.as_slice();

@@ -61,7 +61,8 @@ fn push_entries(
     requires before { before < 2 ^ 32 }
     requires found { AreOf blocks.now found.now }
     ensures profile { timer.new ≡ timer.old }
-    ensures text { OnOk result (out.new.items ≡ out.old.items ++ entries (entry part timer.old) before blocks.now found.now) }
+    ensures text { OnOk result (out.new.items ≡ out.old.items ++
+        entries (entry part timer.old) before blocks.now found.now) }
 {
     let mut blocks = blocks;
     let mut found = found;
@@ -82,7 +83,8 @@ fn push_entries(
 fn summary_at(timer: &mut Timer, number: usize, block: &Block, found: &FoundOrder) -> Summary
     requires { found.now.order.block ≡ instrs_of block.now }
     ensures profile { timer.new ≡ timer.old }
-    ensures summary { result ≡ summary number block.now (as_written timer.old block.now) (as_found timer.old block.now found.now) found.now.bound }
+    ensures summary { result ≡ summary number block.now (as_written timer.old block.now)
+        (as_found timer.old block.now found.now) found.now.bound }
     ensures few { result.count < 2 ^ 32 }
 {
     let source = timer.time(block, &Order::source(block));
@@ -96,8 +98,10 @@ fn total_of(timer: &mut Timer, before: usize, blocks: &[Block], found: &[FoundOr
     requires few { length blocks.now < 2 ^ 31 }
     requires found { AreOf blocks.now found.now }
     ensures profile { timer.new ≡ timer.old }
-    ensures count { result.count ≡ weigh (λ (b : SummaryOf). b.count) (summaries timer.old before blocks.now found.now) }
-    ensures source { result.source ≡ weigh (λ (b : SummaryOf). b.source) (summaries timer.old before blocks.now found.now) }
+    ensures count { result.count ≡ weigh (λ (b : SummaryOf). b.count)
+        (summaries timer.old before blocks.now found.now) }
+    ensures source { result.source ≡ weigh (λ (b : SummaryOf). b.source)
+        (summaries timer.old before blocks.now found.now) }
     ensures time { result.time ≡ weigh (λ (b : SummaryOf). b.time) (summaries timer.old before blocks.now found.now) }
     ensures best { result.best ≡ tally is_best (summaries timer.old before blocks.now found.now) }
 {

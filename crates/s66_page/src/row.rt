@@ -114,7 +114,9 @@ fn push_row(
     point: &PlacedInstr,
     work: &Work,
 ) -> Result<(), AllocError>
-    ensures { OnOk result (out.new.items ≡ out.old.items ++ (row_head text.now on_path.now point.now.number (length earlier.now + 1) ++ row_marks (stretches_at (reverse earlier.now) point.now) work.now)) }
+    ensures { OnOk result (out.new.items ≡ out.old.items ++
+        (row_head text.now on_path.now point.now.number (length earlier.now + 1) ++
+        row_marks (stretches_at (reverse earlier.now) point.now) work.now)) }
 {
     let waits = waits_of(earlier, point);
     push_row_head(out, text, on_path, point.number, earlier.len() + 1)?;
@@ -143,7 +145,8 @@ pub fn push_rows(
     requires block { timed.now.problem.block ≡ instrs_of block.now }
     requires points { points.now ≡ reverse (points_of timed.now.problem timed.now.numbers) }
     requires works { works.now ≡ map work points.now }
-    ensures { OnOk result (out.new.items ≡ out.old.items ++ instruction_rows block.now on_path.now (points_of timed.now.problem timed.now.numbers)) }
+    ensures { OnOk result (out.new.items ≡ out.old.items ++
+        instruction_rows block.now on_path.now (points_of timed.now.problem timed.now.numbers)) }
 {
     for position in 0..timed.order().numbers().len() {
         let text = text_at(block, timed, position);

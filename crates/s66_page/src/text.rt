@@ -39,7 +39,8 @@ pub fn push_two(
     second: usize,
     after: &[u8],
 ) -> Result<(), AllocError>
-    ensures { OnOk result (out.new.items ≡ out.old.items ++ (before.now ++ decimal first ++ between.now ++ decimal second ++ after.now)) }
+    ensures { OnOk result (out.new.items ≡ out.old.items ++
+        (before.now ++ decimal first ++ between.now ++ decimal second ++ after.now)) }
 {
     push_field(out, before, first)?;
     push_field(out, between, second)?;

@@ -23,7 +23,8 @@ impl<'a> Hub<'a> {
     pub fn grant<R: Wait>(&self, rt: &R, seat: &mut Seat<'a>) -> Result<u32, AllocError>
         requires { seat.old.hub ≡ self.now.id }
         ensures here { seat.new.hub ≡ seat.old.hub }
-        ensures ok { IfOk result (λ n. seat.new.book ≡ after_event seat.old.book (Grant seat.old.book.who) (Granted n)) }
+        ensures ok { IfOk result (λ n. seat.new.book ≡
+            after_event seat.old.book (Grant seat.old.book.who) (Granted n)) }
         ensures err { OnErr result (seat.new ≡ seat.old) }
     {
         let mut ledger = self.lock.take(rt, &mut seat.token);
@@ -49,7 +50,8 @@ impl<'a> Hub<'a> {
     pub fn claim<R: Wait>(&self, rt: &R, seat: &mut Seat<'a>) -> Result<Option<Ticket>, AllocError>
         requires { seat.old.hub ≡ self.now.id }
         ensures here { seat.new.hub ≡ seat.old.hub }
-        ensures ok { IfOk result (λ ticket. seat.new.book ≡ after_event seat.old.book (Claim seat.old.book.who) (Claimed (claimed_node ticket))) }
+        ensures ok { IfOk result (λ ticket. seat.new.book ≡
+            after_event seat.old.book (Claim seat.old.book.who) (Claimed (claimed_node ticket))) }
         ensures err { OnErr result (seat.new ≡ seat.old) }
     {
         let mut ledger = self.lock.take(rt, &mut seat.token);
@@ -95,7 +97,8 @@ impl<'a> Hub<'a> {
         requires here { seat.old.hub ≡ self.now.id }
         requires empty { tickets.old.items ≡ [] }
         ensures here { seat.new.hub ≡ seat.old.hub }
-        ensures ok { IfOk result (λ supply. HasGraftedAndSupply seat.old node piece.now supply tickets.new.items seat.new) }
+        ensures ok { IfOk result (λ supply. HasGraftedAndSupply seat.old node piece.now supply tickets.new.items
+            seat.new) }
         ensures needed { IfOk result (λ supply. IsSupplyFor needs supply tickets.new.items) }
         ensures refused { IfErr result (λ why. HasBeenRefused seat.old node piece.now why seat.new) }
         ensures unclaimed { OnErr result (tickets.new.items ≡ []) }
@@ -150,8 +153,10 @@ impl<'a> Hub<'a> {
     ) -> Result<(), (BackError, Ticket)>
         requires { seat.old.hub ≡ self.now.id }
         ensures here { seat.new.hub ≡ seat.old.hub }
-        ensures ok { OnOk result (seat.new.book ≡ after_event seat.old.book (Back seat.old.book.who ticket.node) Returned) }
-        ensures not_out { IfErr result (λ e. e.0 ≡ refused.NotOut → seat.new.book ≡ after_event seat.old.book (Back seat.old.book.who ticket.node) NotOut) }
+        ensures ok { OnOk result (seat.new.book ≡ after_event seat.old.book
+            (Back seat.old.book.who ticket.node) Returned) }
+        ensures not_out { IfErr result (λ e. e.0 ≡ refused.NotOut →
+            seat.new.book ≡ after_event seat.old.book (Back seat.old.book.who ticket.node) NotOut) }
         ensures no_memory { IfErr result (λ e. e.0 ≡ refused.OutOfMemory → seat.new ≡ seat.old) }
         ensures handed_back { IfErr result (λ e. e.1 ≡ ticket) }
     {
@@ -190,7 +195,8 @@ impl<'a> Hub<'a> {
     /// The best time, in minor cycles, which the seat then knows. It isn't above what the seat knew.
     pub fn best<R: Wait>(&self, rt: &R, seat: &mut Seat<'a>) -> u32
         requires { seat.old.hub ≡ self.now.id }
-        ensures read { (result ≤ seat.old.book.least) × (seat.new ≡ record seat.old { book = after_reading seat.old.book result }) }
+        ensures read { (result ≤ seat.old.book.least) ×
+            (seat.new ≡ record seat.old { book = after_reading seat.old.book result }) }
     {
         let ledger = self.lock.take(rt, &mut seat.token);
         let best = ledger.best();

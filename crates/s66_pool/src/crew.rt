@@ -39,7 +39,8 @@ pub fn work<'a, R: AllocGlobal + Threads + Wait + Sync, G: Gate + Sync>(
     requires { All (λ s. s.hub ≡ hub.now.id) seats.items }
     ensures ok { IfOk result (λ back. AreSameSeats seats.entry.items back.items) }
     ensures here { IfOk result (λ back. All (λ s. s.hub ≡ hub.now.id) back.items) }
-    ensures err { IfErr result (λ e. AreSameSeats seats.entry.items e.1.items × All (λ s. s.hub ≡ hub.now.id) e.1.items) }
+    ensures err { IfErr result (λ e. AreSameSeats seats.entry.items e.1.items ×
+        All (λ s. s.hub ≡ hub.now.id) e.1.items) }
 {
     let mut none = MarkTable::new(rt.alloc(), block, profile);
     match work_by_marks(
@@ -270,7 +271,8 @@ impl<'s, 't, 'a, 'b, R: AllocGlobal + Wait, G: Gate> Task<Member<'t, 'a>>
 fn run_at_each<R: Threads + Sync, T: Send, W: Task<T> + Sync>(rt: &R, task: &W, places: &mut [T])
     requires { All (λ p. W.accepts task.now p) places.old }
     ensures len { length places.new ≡ length places.old }
-    ensures each { (i : ℕ) (d : T) → i < length places.old → W.changes task.now (slice_index_or places.old i d) (slice_index_or places.new i d) }
+    ensures each { (i : ℕ) (d : T) → i < length places.old →
+        W.changes task.now (slice_index_or places.old i d) (slice_index_or places.new i d) }
 {
     thread::for_each_mut(
         rt,

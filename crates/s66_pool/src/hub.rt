@@ -23,9 +23,11 @@ impl<'a> Model for Hub<'a> {
 
     ghost Value = { HubOf };
 
-    ghost view = { λ h. record { id = h.lock.table.shared.table_id; summary = account_summary h.lock.table.shared.key.value } };
+    ghost view = { λ h.
+        record { id = h.lock.table.shared.table_id; summary = account_summary h.lock.table.shared.key.value } };
 
-    ghost invariant = { λ h. (1 ≤ h.workers) × (length (account_summary h.lock.table.shared.key.value).accounts ≡ h.workers) };
+    ghost invariant = { λ h. (1 ≤ h.workers) × (length (account_summary h.lock.table.shared.key.value).accounts ≡
+        h.workers) };
 }
 
 /// Some worker's seat is missing.
@@ -47,7 +49,8 @@ impl<'a> Hub<'a> {
     pub fn new(alloc: Global, ledger: Ledger<'a>) -> Result<(Hub<'a>, Vec<Seat<'a>>), AllocError>
         requires { 1 ≤ ledger.workers }
         ensures summary { IfOk result (λ r. r.0.summary ≡ account_summary ledger.entry) }
-        ensures seats { IfOk result (λ r. r.1.items ≡ map (λ w. record { hub = r.0.id; book = opened r.0.summary w }) (rising ledger.entry.workers 1)) }
+        ensures seats { IfOk result (λ r. r.1.items ≡ map (λ w. record { hub = r.0.id; book = opened r.0.summary w })
+            (rising ledger.entry.workers 1)) }
         ensures here { IfOk result (λ r. All (λ s. s.hub ≡ r.0.id) r.1.items) }
     {
         let workers = ledger.workers();
@@ -86,7 +89,8 @@ impl<'a> Hub<'a> {
         ensures best { IfOk result (λ l. best_time l.problem l.state ≤ self.entry.summary.best) }
         ensures agrees { IfOk result (λ l. All (λ s. Agrees (account_summary l) s.book) seats.entry.items) }
         ensures splits { IfOk result (λ l. weigh (λ s. s.book.account.splits) seats.entry.items ≡ l.state.spent) }
-        ensures missing { IfErr result (λ e. (e.1 ≡ self.entry) × (e.2.items ≡ seats.entry.items) × ¬ HaveSeats (length self.entry.summary.accounts) seats.entry.items) }
+        ensures missing { IfErr result (λ e. (e.1 ≡ self.entry) × (e.2.items ≡ seats.entry.items) ×
+            ¬ HaveSeats (length self.entry.summary.accounts) seats.entry.items) }
     {
         let Hub {
             lock,

@@ -27,7 +27,8 @@ impl<'s, 'b, R> Model for KnownNodes<'s, 'b, R> {
 
     ghost view = { λ k. k.own };
 
-    ghost invariant = { λ k. IsAt k.settled.now.table.shared.table_id k.settled.now.table.shared.key k.token × (k.settled.now.table.shared.key.problem ≡ k.own.problem) };
+    ghost invariant = { λ k. IsAt k.settled.now.table.shared.table_id k.settled.now.table.shared.key k.token ×
+        (k.settled.now.table.shared.key.problem ≡ k.own.problem) };
 }
 
 impl<'s, 'b, R: Wait> KnownNodes<'s, 'b, R> {

@@ -16,7 +16,8 @@ use std::alloc::{AllocError, Global};
 
 /// How many splits an entry spends, if it is the worker's.
 fn splits_in(entry: &EventRecord, w: u8) -> u32
-    ensures { (b : Problem) → let stated = entry_of b entry.now [] [] in result ≡ (if worker stated.0 == w then spends stated.0 stated.1 else 0) }
+    ensures { (b : Problem) → let stated = entry_of b entry.now [] [] in result ≡
+        (if worker stated.0 == w then spends stated.0 stated.1 else 0) }
 {
     match entry {
         EventRecord::Taken { w: by, splits, .. } => { if *by == w { *splits } else { 0 } }
@@ -40,7 +41,9 @@ fn splits_by(ledger: &Ledger<'_>, w: u8) -> u32
 
 /// The same of each worker.
 pub(crate) fn splits_of_workers(alloc: Global, ledger: &Ledger<'_>) -> Result<Vec<u32>, AllocError>
-    ensures { IfOk result (λ splits. (length splits.items ≡ ledger.now.workers) × ((w : ℕ) → 1 ≤ w → w ≤ ledger.now.workers → slice_index_or splits.items (w - 1) 0 ≡ (account_at (account_summary ledger.now) w).splits)) }
+    ensures { IfOk result (λ splits. (length splits.items ≡ ledger.now.workers) ×
+        ((w : ℕ) → 1 ≤ w → w ≤ ledger.now.workers →
+        slice_index_or splits.items (w - 1) 0 ≡ (account_at (account_summary ledger.now) w).splits)) }
 {
     let mut splits = Vec::new(alloc);
     for i in 0..ledger.workers() {

@@ -22,7 +22,8 @@ impl<'a> Model for Seat<'a> {
 
     ghost view = { λ s. record { hub = s.token.table_id; book = book s.token } };
 
-    ghost invariant = { λ s. IsResting s.token × ((book s.token).who ≡ s.number) × ((book s.token).account.splits ≡ s.splits) };
+    ghost invariant = { λ s. IsResting s.token × ((book s.token).who ≡ s.number) ×
+        ((book s.token).account.splits ≡ s.splits) };
 }
 
 impl<'a> Seat<'a> {

@@ -85,7 +85,9 @@ pub(crate) fn name_in(
     requires here { marks.now.problem ≡ walk.now.problem }
     requires pushed { (m : ℕ) → has m (numbers_in pushed.now) ≡ has m walk.now.numbers }
     requires mark { IsMarkOf walk.now.problem walk.now.numbers mark.now }
-    ensures dominates { IfOk result (λ found. IfSome found (λ name. IsIncomplete walk.now.problem.block walk.now.numbers → DominatesByRule rule walk.now.problem name.value.numbers.items walk.now.numbers)) }
+    ensures dominates { IfOk result (λ found. IfSome found
+        (λ name. IsIncomplete walk.now.problem.block walk.now.numbers →
+        DominatesByRule rule walk.now.problem name.value.numbers.items walk.now.numbers)) }
     ensures known { IfOk result (λ found. IfSome found (λ name. Among name.value.numbers.items marks.now.names)) }
 {
     match marks.find_by(walk, pushed, mark, rule) {
@@ -102,7 +104,8 @@ fn empty_parts<'b>(
     count: usize,
 ) -> Result<Vec<MarkTable<'b>>, AllocError>
     ensures count { IfOk result (λ parts. length parts.items ≡ count) }
-    ensures own { IfOk result (λ parts. All (λ p. p.problem ≡ record { block = instrs_of block.now; profile = profile.now }) parts.items) }
+    ensures own { IfOk result (λ parts. All (λ p. p.problem ≡
+        record { block = instrs_of block.now; profile = profile.now }) parts.items) }
 {
     let mut parts = Vec::with_capacity(alloc, count)?;
     for _ in 0..count {
@@ -143,7 +146,8 @@ impl<'b> SharedMarks<'b> {
         profile: &Profile,
         rule: Rule,
     ) -> Result<SharedMarks<'b>, AllocError>
-        ensures { IfOk result (λ marks. marks.table.shared.key.problem ≡ record { block = instrs_of block.now; profile = profile.now }) }
+        ensures { IfOk result (λ marks. marks.table.shared.key.problem ≡
+            record { block = instrs_of block.now; profile = profile.now }) }
     {
         let count = match rule {
             Rule::ClampedStanding => PARTS,
@@ -251,7 +255,9 @@ impl<'b> SharedMarks<'b> {
         requires pushed { (m : ℕ) → has m (numbers_in pushed.now) ≡ has m walk.now.numbers }
         requires mark { IsMarkOf walk.now.problem walk.now.numbers mark.now }
         ensures here { IsAt self.now.table.shared.table_id self.now.table.shared.key token.new }
-        ensures dominates { IfOk result (λ found. IfSome found (λ name. IsIncomplete walk.now.problem.block walk.now.numbers → DominatesByRule rule walk.now.problem name.value.numbers.items walk.now.numbers)) }
+        ensures dominates { IfOk result (λ found. IfSome found
+            (λ name. IsIncomplete walk.now.problem.block walk.now.numbers →
+            DominatesByRule rule walk.now.problem name.value.numbers.items walk.now.numbers)) }
         ensures clamped { IfOk result (λ found. IfSome found (λ name. rule ≡ ClampedStanding)) }
     {
         if rule != Rule::ClampedStanding {

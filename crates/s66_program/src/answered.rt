@@ -37,7 +37,8 @@ pub(crate) fn keep_answers<
     observer: &mut O,
 ) -> Result<Answered<X>, AllocError>
     requires { IsSearchWithin strategy.search.workers strategy.search.nodes }
-    ensures { IfOk result (λ all. AreAnswered (K.part what.now strategy profile.now) strategy profile.now only source.now all.parts.items all.status) }
+    ensures { IfOk result (λ all. AreAnswered
+        (K.part what.now strategy profile.now) strategy profile.now only source.now all.parts.items all.status) }
 {
     let blocks = shown(source.blocks(), only);
     let searches = Searches {
@@ -70,7 +71,8 @@ pub(crate) fn text_of_answers<
     observer: &mut O,
 ) -> Result<Output, AllocError>
     requires { IsSearchWithin strategy.search.workers strategy.search.nodes }
-    ensures { IfOk result (λ output. AreAnswered (K.part what.now strategy profile.now) strategy profile.now only source.now output.text.items output.status) }
+    ensures { IfOk result (λ output. AreAnswered
+        (K.part what.now strategy profile.now) strategy profile.now only source.now output.text.items output.status) }
 {
     let all = keep_answers(rt, what, source, only, profile, strategy, observer)?;
     Ok(Output {

@@ -79,7 +79,8 @@ impl Found {
 
     /// The order.
     pub fn order(&self) -> &Order
-        ensures { (strategy : StrategyOf) (p : ProfileOf) (block : BlockOf) → IsFor strategy p block self.now → result.now ≡ record { block = instrs_of block; numbers = (answer_in self.now).order } }
+        ensures { (strategy : StrategyOf) (p : ProfileOf) (block : BlockOf) → IsFor strategy p block self.now →
+            result.now ≡ record { block = instrs_of block; numbers = (answer_in self.now).order } }
     {
         match self {
             Found::Searched(found) => found.answer.order(),
@@ -90,7 +91,8 @@ impl Found {
     /// The total of the order, in minor cycles.
     pub fn time(&self) -> u32
         ensures value { result ≡ (answer_in self.now).time }
-        ensures answer { (strategy : StrategyOf) (p : ProfileOf) (block : BlockOf) → IsFor strategy p block self.now → IsAnswer strategy p block (answer_in self.now) }
+        ensures answer { (strategy : StrategyOf) (p : ProfileOf) (block : BlockOf) → IsFor strategy p block self.now →
+            IsAnswer strategy p block (answer_in self.now) }
     {
         match self {
             Found::Searched(found) => found.answer.time(),
@@ -100,7 +102,8 @@ impl Found {
 
     /// The total of the source order, in minor cycles.
     pub fn source(&self) -> u32
-        ensures { (strategy : StrategyOf) (p : ProfileOf) (block : BlockOf) → IsFor strategy p block self.now → result ≡ source_time (problem_of p block) }
+        ensures { (strategy : StrategyOf) (p : ProfileOf) (block : BlockOf) → IsFor strategy p block self.now →
+            result ≡ source_time (problem_of p block) }
     {
         match self {
             Found::Searched(found) => found.answer.source(),
@@ -131,7 +134,8 @@ impl Found {
     /// Whether no legal order takes less.
     pub fn is_best(&self) -> bool
         ensures value { result ≡ ((answer_in self.now).bound == (answer_in self.now).time) }
-        ensures answer { (strategy : StrategyOf) (p : ProfileOf) (block : BlockOf) → IsFor strategy p block self.now → IsAnswer strategy p block (answer_in self.now) }
+        ensures answer { (strategy : StrategyOf) (p : ProfileOf) (block : BlockOf) → IsFor strategy p block self.now →
+            IsAnswer strategy p block (answer_in self.now) }
     {
         self.bound() == self.time()
     }
@@ -145,8 +149,10 @@ impl Found {
         strategy: Strategy,
     ) -> Result<Document, AllocError>
         requires { IsFor strategy profile.now block.now self }
-        ensures document { IfOk result (λ document. document_of document ≡ document_under strategy.search.rule profile.now block.now (answer_in self)) }
-        ensures yes { IfOk result (λ document. verdict (document_of document) ≡ Yes (answer_in self).time (answer_in self).bound) }
+        ensures document { IfOk result (λ document. document_of document ≡
+            document_under strategy.search.rule profile.now block.now (answer_in self)) }
+        ensures yes { IfOk result (λ document. verdict (document_of document) ≡
+            Yes (answer_in self).time (answer_in self).bound) }
     {
         match self {
             Found::Searched(found) => document_of(alloc, block, profile, &found.answer),
@@ -211,7 +217,8 @@ fn nearest(block: &Block, answer: Answer) -> Answer
 
 /// An answer of a search beside which others made so many splits.
 fn by_search(answer: Answer, beside: u32) -> Found
-    ensures { (strategy : StrategyOf) (p : ProfileOf) (block : BlockOf) → IsFound strategy p block answer → AreBeside strategy beside → IsFor strategy p block result }
+    ensures { (strategy : StrategyOf) (p : ProfileOf) (block : BlockOf) → IsFound strategy p block answer →
+        AreBeside strategy beside → IsFor strategy p block result }
 {
     let splits = answer.splits().saturating_add(beside);
     Found::Searched(BySearch { answer, splits })
@@ -220,7 +227,8 @@ fn by_search(answer: Answer, beside: u32) -> Found
 /// What a search finds that is brought to its end, beside which others made so many splits.
 fn found_by_search(block: &Block, search: LoneSearch<'_>, beside: u32) -> Result<Found, AllocError>
     requires { search.problem.block ≡ instrs_of block.now }
-    ensures { (strategy : StrategyOf) (p : ProfileOf) → IsSearchOf strategy p block.now search.entry → AreBeside strategy beside → IfOk result (IsFor strategy p block.now) }
+    ensures { (strategy : StrategyOf) (p : ProfileOf) → IsSearchOf strategy p block.now search.entry →
+        AreBeside strategy beside → IfOk result (IsFor strategy p block.now) }
 {
     let answer = search.finish()?;
     Ok(by_search(nearest(block, answer), beside))
@@ -251,7 +259,9 @@ fn shown_or_searched(
 ) -> Result<Found, AllocError>
     requires problem { answer.problem ≡ problem_of profile.now block.now }
     requires fit { IsFit shows }
-    ensures { (strategy : StrategyOf) → strategy.deep ≡ true → IsFound strategy profile.now block.now answer → AreBeside strategy beside → IsWorth strategy.search.nodes answer shows → IfOk result (IsFor strategy profile.now block.now) }
+    ensures { (strategy : StrategyOf) → strategy.deep ≡ true → IsFound strategy profile.now block.now answer →
+        AreBeside strategy beside → IsWorth strategy.search.nodes answer shows →
+        IfOk result (IsFor strategy profile.now block.now) }
 {
     // so its time is one that a document may claim
     prove!(block.count() <= BLOCK_LIMIT);
@@ -279,7 +289,8 @@ fn found_or_shown(
 ) -> Result<Found, AllocError>
     requires search { search.problem ≡ problem_of profile.now block.now }
     requires fit { IsFit shows }
-    ensures { (strategy : StrategyOf) → strategy.deep ≡ true → IsSearchOf strategy profile.now block.now search.entry → AreBeside strategy beside → IfOk result (IsFor strategy profile.now block.now) }
+    ensures { (strategy : StrategyOf) → strategy.deep ≡ true → IsSearchOf strategy profile.now block.now search.entry →
+        AreBeside strategy beside → IfOk result (IsFor strategy profile.now block.now) }
 {
     let found = search.finish()?;
     let answer = nearest(block, found);
@@ -425,7 +436,8 @@ fn in_fewer_lines(
     requires problem { answer.problem ≡ problem_of profile.now block.now }
     requires looked { IsLooked (problem_of profile.now block.now) most looked }
     requires most { most ≤ answer.budget }
-    ensures { (strategy : StrategyOf) → strategy.deep ≡ true → IsFound strategy profile.now block.now answer → AreBeside strategy beside → IfOk result (IsFor strategy profile.now block.now) }
+    ensures { (strategy : StrategyOf) → strategy.deep ≡ true → IsFound strategy profile.now block.now answer →
+        AreBeside strategy beside → IfOk result (IsFor strategy profile.now block.now) }
 {
     let Looked {
         bound,
@@ -456,7 +468,8 @@ fn found_best(
 ) -> Result<Found, AllocError>
     requires problem { search.problem ≡ problem_of profile.now block.now }
     requires most { most ≤ search.budget }
-    ensures { (strategy : StrategyOf) → strategy.deep ≡ true → IsSearchOf strategy profile.now block.now search.entry → IfOk result (IsFor strategy profile.now block.now) }
+    ensures { (strategy : StrategyOf) → strategy.deep ≡ true → IsSearchOf strategy profile.now block.now search.entry →
+        IfOk result (IsFor strategy profile.now block.now) }
 {
     let found = search.finish()?;
     let answer = nearest(block, found);

@@ -18,7 +18,9 @@ fn compared_output(
     old: &Source,
     new: &Source,
 ) -> Result<Output, AllocError>
-    ensures { IfOk result (λ output. (accepted : Bool) × IsCompared profile.now old.now new.now output.text.items accepted × (output.status ≡ (if accepted then Done else Denied))) }
+    ensures { IfOk result (λ output. (accepted : Bool) ×
+        IsCompared profile.now old.now new.now output.text.items accepted ×
+        (output.status ≡ (if accepted then Done else Denied))) }
 {
     let Compared { text, is_accepted } = compare(alloc, profile, old, new)?;
     let status = if is_accepted {

@@ -41,8 +41,10 @@ pub fn document_of(
     answer: &Answer,
 ) -> Result<Document, AllocError>
     requires { answer.now.problem ≡ record { block = instrs_of block.now; profile = profile.now } }
-    ensures document { IfOk result (λ document. document_of document ≡ document_under answer.now.rule profile.now block.now (searched (answer_of answer.now))) }
-    ensures yes { IfOk result (λ document. verdict (document_of document) ≡ Yes (answer_of answer.now).time (answer_of answer.now).bound) }
+    ensures document { IfOk result (λ document. document_of document ≡
+        document_under answer.now.rule profile.now block.now (searched (answer_of answer.now))) }
+    ensures yes { IfOk result (λ document. verdict (document_of document) ≡
+        Yes (answer_of answer.now).time (answer_of answer.now).bound) }
 {
     let Ok(order) = ArrayVec::try_from(answer.order().numbers()) else {
         unreachable!()

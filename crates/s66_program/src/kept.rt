@@ -39,7 +39,9 @@ pub(crate) trait Keep<X> {
     /// Appends what is kept of an answer.
     fn keep(&self, parts: &mut Vec<X>, answer: BlockAnswer) -> Result<(), AllocError>
         requires { IsFor answer.strategy answer.profile.now answer.block.now answer.found }
-        ensures { OnOk result (parts.new.items ≡ parts.old.items ++ part self.now answer.entry.strategy answer.entry.profile.now answer.entry.number answer.entry.block.now (answer_in answer.entry.found)) };
+        ensures { OnOk result (parts.new.items ≡ parts.old.items ++
+            part self.now answer.entry.strategy answer.entry.profile.now answer.entry.number answer.entry.block.now
+            (answer_in answer.entry.found)) };
 }
 
 /// What is kept of answers to blocks, one after the other, and whether all are best.
@@ -71,7 +73,9 @@ fn keep_found<X: Drop, K: Keep<X>>(
     requires before { searches.now.before < 2 ^ 32 }
     requires within { place < length searches.now.blocks.now }
     requires found { IsFor searches.now.strategy searches.now.profile.now block.now found }
-    ensures { let s = searches.now in IfOk result (λ best. IsKept (K.part s.what.now s.strategy s.profile.now) s.strategy s.profile.now (s.before + place + 1) block.now parts.old.items parts.new.items best) }
+    ensures { let s = searches.now in IfOk result
+        (λ best. IsKept (K.part s.what.now s.strategy s.profile.now) s.strategy s.profile.now
+        (s.before + place + 1) block.now parts.old.items parts.new.items best) }
 {
     let best = found.is_best();
     let answer = BlockAnswer {
@@ -94,7 +98,8 @@ fn kept_at<X: Drop, K: Keep<X>>(
     requires deep { searches.now.strategy.deep ≡ true }
     requires before { searches.now.before < 2 ^ 32 }
     requires within { place < length searches.now.blocks.now }
-    ensures { let s = searches.now in IfOk result (IsKeptAt (K.part s.what.now s.strategy s.profile.now) s.strategy s.profile.now s.before s.blocks.now place) }
+    ensures { let s = searches.now in IfOk result
+        (IsKeptAt (K.part s.what.now s.strategy s.profile.now) s.strategy s.profile.now s.before s.blocks.now place) }
 {
     let block = &searches.blocks[place];
     let prints = searches.what.prints_documents();
@@ -111,9 +116,11 @@ fn kept_at<X: Drop, K: Keep<X>>(
 }
 
 impl<'s, 'b, X: Drop, K: Keep<X>> Task<Kept<X>> for Searches<'s, 'b, K> {
-    ghost accepts = { λ t i. (i < length t.blocks.now) × (t.before < 2 ^ 32) × IsSearchWithin t.strategy.search.workers t.strategy.search.nodes × (t.strategy.deep ≡ true) };
+    ghost accepts = { λ t i. (i < length t.blocks.now) × (t.before < 2 ^ 32) ×
+        IsSearchWithin t.strategy.search.workers t.strategy.search.nodes × (t.strategy.deep ≡ true) };
 
-    ghost gives = { λ t i kept. IsKeptAt (K.part t.what.now t.strategy t.profile.now) t.strategy t.profile.now t.before t.blocks.now i kept };
+    ghost gives = { λ t i kept. IsKeptAt (K.part t.what.now t.strategy t.profile.now) t.strategy t.profile.now t.before
+        t.blocks.now i kept };
 
     fn make(&self, number: usize) -> Result<Kept<X>, AllocError> {
         kept_at(self, number)
@@ -148,7 +155,9 @@ fn keep_side_by_side<
     requires search { IsSearchWithin searches.now.strategy.search.workers searches.now.strategy.search.nodes }
     requires deep { searches.now.strategy.deep ≡ true }
     requires before { searches.now.before < 2 ^ 32 }
-    ensures { let s = searches.now in IfOk result (λ all. AreKept (K.part s.what.now s.strategy s.profile.now) s.strategy s.profile.now s.before s.blocks.now all.parts.items all.all_best) }
+    ensures { let s = searches.now in IfOk result
+        (λ all. AreKept (K.part s.what.now s.strategy s.profile.now) s.strategy s.profile.now s.before s.blocks.now
+        all.parts.items all.all_best) }
 {
     let alloc = searches.alloc;
     let count = searches.blocks.len();
@@ -166,7 +175,9 @@ fn keep_in_turn<R: AllocGlobal + Threads + Wait + Sync, X: Drop, K: Keep<X>, O: 
 ) -> Result<Kept<X>, AllocError>
     requires search { IsSearchWithin searches.now.strategy.search.workers searches.now.strategy.search.nodes }
     requires before { searches.now.before < 2 ^ 32 }
-    ensures { let s = searches.now in IfOk result (λ all. AreKept (K.part s.what.now s.strategy s.profile.now) s.strategy s.profile.now s.before s.blocks.now all.parts.items all.all_best) }
+    ensures { let s = searches.now in IfOk result
+        (λ all. AreKept (K.part s.what.now s.strategy s.profile.now) s.strategy s.profile.now s.before s.blocks.now
+        all.parts.items all.all_best) }
 {
     let blocks = searches.blocks;
     let mut parts = Vec::new(searches.alloc);
@@ -190,7 +201,9 @@ pub(crate) fn keep_each<
 >(rt: &R, searches: &Searches<'_, '_, K>, observer: &mut O) -> Result<Kept<X>, AllocError>
     requires search { IsSearchWithin searches.now.strategy.search.workers searches.now.strategy.search.nodes }
     requires before { searches.now.before < 2 ^ 32 }
-    ensures { let s = searches.now in IfOk result (λ all. AreKept (K.part s.what.now s.strategy s.profile.now) s.strategy s.profile.now s.before s.blocks.now all.parts.items all.all_best) }
+    ensures { let s = searches.now in IfOk result
+        (λ all. AreKept (K.part s.what.now s.strategy s.profile.now) s.strategy s.profile.now s.before s.blocks.now
+        all.parts.items all.all_best) }
 {
     if searches.strategy.deep {
         keep_side_by_side(rt, searches, observer)

@@ -36,7 +36,9 @@ ghost use Rattle.s66_output.specs.ProveText.{IsProveOutput, all_documents};
 
 /// A text of at least `SOURCE_FRONT` bytes is refused as a source, for the same whatever follows.
 pub fn front_law()
-    ensures { (cut : Bool) (front rest : List ℕ) → SOURCE_FRONT ≤ length front → (e : SourceError) × (source_of (record { cut = cut; text = front ++ rest }) ≡ Err e) × (source_of (record { cut = cut; text = front }) ≡ Err e) }
+    ensures { (cut : Bool) (front rest : List ℕ) → SOURCE_FRONT ≤ length front →
+        (e : SourceError) × (source_of (record { cut = cut; text = front ++ rest }) ≡ Err e) ×
+        (source_of (record { cut = cut; text = front }) ≡ Err e) }
 {}
 
 /// No order of a block takes more minor cycles than a certificate may claim, whatever the profile.
@@ -47,50 +49,77 @@ pub fn total_limit_law()
 /// If what `order` wrote for a source is accepted again, each of its blocks takes as written, under the same profile, the time
 /// that was printed of it.
 pub fn ordered_again_law()
-    ensures { (strategy : Strategy) (p : Profile) (trace : Bool) (source : Reading) (text : List ℕ) (status : Status) (again : List Block) → IsOrderOutput strategy p trace source text status → source_of (record { cut = source.cut; text = text }) ≡ Ok again → TakePrintedTimes strategy p trace source text again }
+    ensures { (strategy : Strategy) (p : Profile) (trace : Bool) (source : Reading) (text : List ℕ) (status : Status)
+        (again : List Block) → IsOrderOutput strategy p trace source text status →
+        source_of (record { cut = source.cut; text = text }) ≡ Ok again →
+        TakePrintedTimes strategy p trace source text again }
 {}
 
 /// What is answered for a block of an accepted source, under any profile: a legal order with its exact total, and a bound of the totals of
 /// all legal orders. All searches for it make at most three and a half times as many splits as one may make, and without `--deep` no more than one. If
 /// the bound is below the total, a search spent all its splits.
 pub fn answered_law()
-    ensures legal { (strategy : Strategy) (p : Profile) (block : Block) (a : Answer) → IsAnswer strategy p block a → IsLegal (instrs_of block) a.order }
-    ensures time { (strategy : Strategy) (p : Profile) (block : Block) (a : Answer) → IsAnswer strategy p block a → a.time ≡ total_of (problem_of p block) a.order }
-    ensures bound { (strategy : Strategy) (p : Profile) (source : Reading) (blocks : List Block) (block : Block) (a : Answer) → source_of source ≡ Ok blocks → Among block blocks → strategy.search.nodes ≤ BUDGET_LIMIT → IsAnswer strategy p block a → IsBound (problem_of p block) a.bound }
-    ensures spent { (strategy : Strategy) (p : Profile) (block : Block) (a : Answer) → IsAnswer strategy p block a → a.bound < a.time → strategy.search.nodes ≤ a.splits }
-    ensures few { (strategy : Strategy) (p : Profile) (block : Block) (a : Answer) → IsAnswer strategy p block a → 2 * a.splits ≤ 7 * strategy.search.nodes }
-    ensures alone { (strategy : Strategy) (p : Profile) (block : Block) (a : Answer) → strategy.deep ≡ false → IsAnswer strategy p block a → a.splits ≤ strategy.search.nodes }
+    ensures legal { (strategy : Strategy) (p : Profile) (block : Block) (a : Answer) → IsAnswer strategy p block a →
+        IsLegal (instrs_of block) a.order }
+    ensures time { (strategy : Strategy) (p : Profile) (block : Block) (a : Answer) → IsAnswer strategy p block a →
+        a.time ≡ total_of (problem_of p block) a.order }
+    ensures bound { (strategy : Strategy) (p : Profile) (source : Reading) (blocks : List Block) (block : Block)
+        (a : Answer) → source_of source ≡ Ok blocks → Among block blocks → strategy.search.nodes ≤ BUDGET_LIMIT →
+        IsAnswer strategy p block a → IsBound (problem_of p block) a.bound }
+    ensures spent { (strategy : Strategy) (p : Profile) (block : Block) (a : Answer) → IsAnswer strategy p block a →
+        a.bound < a.time → strategy.search.nodes ≤ a.splits }
+    ensures few { (strategy : Strategy) (p : Profile) (block : Block) (a : Answer) → IsAnswer strategy p block a →
+        2 * a.splits ≤ 7 * strategy.search.nodes }
+    ensures alone { (strategy : Strategy) (p : Profile) (block : Block) (a : Answer) → strategy.deep ≡ false →
+        IsAnswer strategy p block a → a.splits ≤ strategy.search.nodes }
 {}
 
 /// What is answered for a block of an accepted source, under any profile, makes a document of the block's own problem. The verdict on
 /// it is yes, with the answer's time and bound.
 pub fn proved_law()
-    ensures same { (strategy : Strategy) (p : Profile) (source : Reading) (blocks : List Block) (block : Block) (a : Answer) → source_of source ≡ Ok blocks → Among block blocks → checker.problem_of (document_under strategy.search.rule p block a) ≡ problem_of p block }
-    ensures document { (strategy : Strategy) (p : Profile) (source : Reading) (blocks : List Block) (block : Block) (a : Answer) → source_of source ≡ Ok blocks → Among block blocks → strategy.search.nodes ≤ BUDGET_LIMIT → IsAnswer strategy p block a → IsDocument BLOCK_LIMIT (document_under strategy.search.rule p block a) }
-    ensures yes { (strategy : Strategy) (p : Profile) (source : Reading) (blocks : List Block) (block : Block) (a : Answer) → source_of source ≡ Ok blocks → Among block blocks → strategy.search.nodes ≤ BUDGET_LIMIT → IsAnswer strategy p block a → verdict (document_under strategy.search.rule p block a) ≡ Yes a.time a.bound }
+    ensures same { (strategy : Strategy) (p : Profile) (source : Reading) (blocks : List Block) (block : Block)
+        (a : Answer) → source_of source ≡ Ok blocks → Among block blocks →
+        checker.problem_of (document_under strategy.search.rule p block a) ≡ problem_of p block }
+    ensures document { (strategy : Strategy) (p : Profile) (source : Reading) (blocks : List Block) (block : Block)
+        (a : Answer) → source_of source ≡ Ok blocks → Among block blocks → strategy.search.nodes ≤ BUDGET_LIMIT →
+        IsAnswer strategy p block a → IsDocument BLOCK_LIMIT (document_under strategy.search.rule p block a) }
+    ensures yes { (strategy : Strategy) (p : Profile) (source : Reading) (blocks : List Block) (block : Block)
+        (a : Answer) → source_of source ≡ Ok blocks → Among block blocks → strategy.search.nodes ≤ BUDGET_LIMIT →
+        IsAnswer strategy p block a → verdict (document_under strategy.search.rule p block a) ≡ Yes a.time a.bound }
 {}
 
 /// What `prove` wrote for a source, under any profile, is a text of documents. For each of them `check` writes YES, with the
 /// answer's time and bound; it writes nothing else, and is done.
 pub fn checked_law()
-    ensures yes { (strategy : Strategy) (p : Profile) (only : Option ℕ) (source : Reading) (text : List ℕ) (status : Status) → strategy.search.nodes ≤ BUDGET_LIMIT → IsProveOutput strategy p only source text status → (lines : List ℕ) × AreYesLines strategy p only source text lines × IsCheckOutput false text lines Done }
-    ensures alone { (strategy : Strategy) (p : Profile) (only : Option ℕ) (source : Reading) (text lines : List ℕ) (status checked : Status) → strategy.search.nodes ≤ BUDGET_LIMIT → IsProveOutput strategy p only source text status → IsCheckOutput false text lines checked → AreYesLines strategy p only source text lines × (checked ≡ Done) }
+    ensures yes { (strategy : Strategy) (p : Profile) (only : Option ℕ) (source : Reading) (text : List ℕ)
+        (status : Status) → strategy.search.nodes ≤ BUDGET_LIMIT → IsProveOutput strategy p only source text status →
+        (lines : List ℕ) × AreYesLines strategy p only source text lines × IsCheckOutput false text lines Done }
+    ensures alone { (strategy : Strategy) (p : Profile) (only : Option ℕ) (source : Reading) (text lines : List ℕ)
+        (status checked : Status) → strategy.search.nodes ≤ BUDGET_LIMIT →
+        IsProveOutput strategy p only source text status → IsCheckOutput false text lines checked →
+        AreYesLines strategy p only source text lines × (checked ≡ Done) }
 {}
 
 /// If `check` is done, each document of its input claims what is true: under its own profile its order is legal and takes its
 /// time, and no legal order takes less than its bound.
 pub fn done_law()
-    ensures { (texts : Bool) (input text : List ℕ) → IsCheckOutput texts input text Done → (ds : List Document) × IsText BLOCK_LIMIT input ds × ((d : Document) → Among d ds → IsTrueClaim d × IsBound (checker.problem_of d) d.bound) }
+    ensures { (texts : Bool) (input text : List ℕ) → IsCheckOutput texts input text Done →
+        (ds : List Document) × IsText BLOCK_LIMIT input ds ×
+        ((d : Document) → Among d ds → IsTrueClaim d × IsBound (checker.problem_of d) d.bound) }
 {}
 
 /// The worked block of one load, as `order` and `prove` write it, and what `time` and `check` then write; and other documents of it.
 #[tactic(auto, unfolding(s66_isa::specs::Profiles::profile_of, s66_isa::specs::Table::row, s66_model::specs::Dependence::conflict, s66_model::specs::Timing::issue_of, s66_model::specs::Timing::start_of, s66_model::specs::Timing::point, crate::specs::Examples::digits))]
 pub fn again_examples()
-    ensures ordered { printed (plain one_load_source) (all_placed standard false (blocks_in one_load_source) (one_load_answer ∷ [])) ≡ one_load_ordered }
+    ensures ordered { printed (plain one_load_source)
+        (all_placed standard false (blocks_in one_load_source) (one_load_answer ∷ [])) ≡ one_load_ordered }
     ensures time_again { map (written_time standard) (blocks_in one_load_ordered) ≡ 12 ∷ [] }
-    ensures proved { all_documents NoneNamed standard (blocks_in one_load_source) (one_load_answer ∷ []) ≡ one_load ∷ [] }
+    ensures proved { all_documents NoneNamed standard (blocks_in one_load_source) (one_load_answer ∷ []) ≡ one_load ∷
+        [] }
     ensures yes { yes_lines 0 (one_load_answer ∷ []) ≡ codes "DOCUMENT 1 YES TIME 12 BOUND 12\n" }
-    ensures checked { verdict_lines false 0 (one_load ∷ with_times 12 11 ∷ with_times 12 13 ∷ []) ≡ codes "DOCUMENT 1 YES TIME 12 BOUND 12\n" ++ codes "DOCUMENT 2 YES TIME 12 BOUND 11\n" ++ codes "DOCUMENT 3 NO LINE 8 REASON 8\n" }
+    ensures checked { verdict_lines false 0 (one_load ∷ with_times 12 11 ∷ with_times 12 13 ∷ []) ≡
+        codes "DOCUMENT 1 YES TIME 12 BOUND 12\n" ++ codes "DOCUMENT 2 YES TIME 12 BOUND 11\n" ++
+        codes "DOCUMENT 3 NO LINE 8 REASON 8\n" }
     ensures done { verdicts_status (one_load ∷ with_times 12 11 ∷ []) ≡ Done }
     ensures denied { verdicts_status (one_load ∷ with_times 12 13 ∷ []) ≡ Denied }
 {}

@@ -18,13 +18,23 @@ ghost use Rattle.s66_output.specs.Reports.{ReportsBlocks};
 /// What `order` wrote for a source has in the place of each block its instructions in a legal order, after a line that tells what this
 /// order takes. If the line ends in BEST, no legal order of the block takes less; if in AT LEAST and a number, none takes less than that.
 pub fn reported_law()
-    ensures { (strategy : Strategy) (p : Profile) (trace : Bool) (source : Reading) (text : List ℕ) (status : Status) → strategy.search.nodes ≤ BUDGET_LIMIT → IsOrderOutput strategy p trace source text status → ReportsBlocks p trace source text }
+    ensures { (strategy : Strategy) (p : Profile) (trace : Bool) (source : Reading) (text : List ℕ) (status : Status) →
+        strategy.search.nodes ≤ BUDGET_LIMIT → IsOrderOutput strategy p trace source text status →
+        ReportsBlocks p trace source text }
 {}
 
 /// If what `order` wrote for a source is accepted again, `compare` accepts it: each block is the source's in a legal order, and nothing that
 /// stands beside the blocks differs. So `compare` of the two ends with status 0.
 pub fn compared_law()
-    ensures compared { (strategy : Strategy) (p q : Profile) (trace : Bool) (source : Reading) (text : List ℕ) (status : Status) (again : List Block) → IsOrderOutput strategy p trace source text status → source_of (record { cut = source.cut; text = text }) ≡ Ok again → (compared : List ℕ) × IsCompared q source (record { cut = source.cut; text = text }) compared true }
-    ensures accepted { (strategy : Strategy) (p q : Profile) (trace : Bool) (source : Reading) (text compared : List ℕ) (status : Status) (accepted : Bool) → IsOrderOutput strategy p trace source text status → IsCompared q source (record { cut = source.cut; text = text }) compared accepted → accepted ≡ true }
-    ensures done { (strategy : Strategy) (p q : Profile) (trace cut : Bool) (halves : Halves) (input compared : List ℕ) (status ended : Status) → halves_of input ≡ Some halves → IsOrderOutput strategy p trace (record { cut = cut; text = halves.old }) halves.new status → IsCompareOutput q cut input compared ended → ended ≡ Done }
+    ensures compared { (strategy : Strategy) (p q : Profile) (trace : Bool) (source : Reading) (text : List ℕ)
+        (status : Status) (again : List Block) → IsOrderOutput strategy p trace source text status →
+        source_of (record { cut = source.cut; text = text }) ≡ Ok again →
+        (compared : List ℕ) × IsCompared q source (record { cut = source.cut; text = text }) compared true }
+    ensures accepted { (strategy : Strategy) (p q : Profile) (trace : Bool) (source : Reading) (text compared : List ℕ)
+        (status : Status) (accepted : Bool) → IsOrderOutput strategy p trace source text status →
+        IsCompared q source (record { cut = source.cut; text = text }) compared accepted → accepted ≡ true }
+    ensures done { (strategy : Strategy) (p q : Profile) (trace cut : Bool) (halves : Halves) (input compared : List ℕ)
+        (status ended : Status) → halves_of input ≡ Some halves →
+        IsOrderOutput strategy p trace (record { cut = cut; text = halves.old }) halves.new status →
+        IsCompareOutput q cut input compared ended → ended ≡ Done }
 {}

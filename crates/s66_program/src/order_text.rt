@@ -38,7 +38,8 @@ fn order_output<R: AllocGlobal + Threads + Wait + Sync, O: Observer>(
     observer: &mut O,
 ) -> Result<Output, AllocError>
     requires { IsSearchWithin strategy.search.workers strategy.search.nodes }
-    ensures { IfOk result (λ output. IsOrderOutput strategy profile.now trace source.now output.text.items output.status) }
+    ensures { IfOk result (λ output. IsOrderOutput strategy profile.now trace source.now output.text.items
+        output.status) }
 {
     let placings = Placings { trace };
     let all = keep_answers(rt, &placings, source, None, profile, strategy, observer)?;
@@ -59,7 +60,8 @@ fn kept_output<R: AllocGlobal + Threads + Wait + Sync, O: Observer>(
     observer: &mut O,
 ) -> Result<Output, AllocError>
     requires { IsSearchWithin strategy.search.workers strategy.search.nodes }
-    ensures { IfOk result (λ output. IsKeptOutput strategy profile.now style.trace style.keep style.columns style.quiet style.only source.now output.text.items output.status) }
+    ensures { IfOk result (λ output. IsKeptOutput strategy profile.now style.trace style.keep style.columns style.quiet
+        style.only source.now output.text.items output.status) }
 {
     let givings = Givings {
         trace: style.trace,
@@ -90,7 +92,8 @@ pub fn ordered_output<R: AllocGlobal + Threads + Wait + Sync, O: Observer>(
     observer: &mut O,
 ) -> Result<Output, AllocError>
     requires { IsSearchWithin strategy.search.workers strategy.search.nodes }
-    ensures { IfOk result (λ output. IsOrdered strategy profile.now style.trace style.keep style.columns style.quiet style.only source.now output.text.items output.status) }
+    ensures { IfOk result (λ output. IsOrdered strategy profile.now style.trace style.keep style.columns style.quiet
+        style.only source.now output.text.items output.status) }
 {
     if style.keep || style.quiet || style.only.is_some() {
         kept_output(rt, source, profile, strategy, style, observer)

@@ -59,7 +59,8 @@ fn waits_output<R: AllocGlobal + Threads + Wait + Sync, O: Observer>(
     observer: &mut O,
 ) -> Result<Output, AllocError>
     requires { IfSome order (λ strategy. IsSearchWithin strategy.search.workers strategy.search.nodes) }
-    ensures { IfOk result (λ output. IsWaitsOutput profile.now order text only source.now output.text.items output.status) }
+    ensures { IfOk result (λ output. IsWaitsOutput profile.now order text only source.now output.text.items
+        output.status) }
 {
     match order {
         None => listing_output(rt.alloc(), profile, &Listing::Why { text }, only, source),
@@ -104,7 +105,8 @@ fn documents_output<R: AllocGlobal + Threads + Wait + Sync, O: Observer>(
     observer: &mut O,
 ) -> Result<Output, AllocError>
     requires { IsSearchWithin strategy.search.workers strategy.search.nodes }
-    ensures { IfOk result (λ output. IsProveOutput strategy profile.now only source.now output.text.items output.status) }
+    ensures { IfOk result (λ output. IsProveOutput strategy profile.now only source.now output.text.items
+        output.status) }
 {
     let documents = Documents { alloc: rt.alloc() };
     let output = text_of_answers(rt, &documents, source, only, profile, strategy, observer)?;
@@ -122,7 +124,8 @@ fn output_of<R: AllocGlobal + Threads + Wait + Sync, O: Observer>(
     requires within { IsWithinLimits command }
     requires reads { reads_source command ≡ true }
     requires cut { source.now.cut ≡ is_cut command }
-    ensures { IfOk result (λ output. IsOutput profile.now command.entry source.now.text output.text.items output.status) }
+    ensures { IfOk result (λ output. IsOutput profile.now command.entry source.now.text output.text.items
+        output.status) }
 {
     let alloc = rt.alloc();
     match command {
@@ -196,7 +199,8 @@ fn source_output<R: AllocGlobal + Threads + Wait + Sync, O: Observer>(
 ) -> Result<Finished, Fault>
     requires within { IsWithinLimits command }
     requires reads { reads_source command ≡ true }
-    ensures ok { IfOk result (λ finished. IsOutput profile.now command.entry input.now finished.output.text.items finished.output.status) }
+    ensures ok { IfOk result (λ finished. IsOutput profile.now command.entry input.now finished.output.text.items
+        finished.output.status) }
     ensures remark { IfOk result (λ finished. IsRemark command.entry input.now finished.remark) }
     ensures err { IfErr result (IsRefusal command.entry input.now) }
 {
@@ -216,7 +220,8 @@ pub(crate) fn output_for<R: AllocGlobal + Threads + Wait + Sync, O: Observer>(
     observer: &mut O,
 ) -> Result<Finished, Fault>
     requires { IsWithinLimits command }
-    ensures ok { IfOk result (λ finished. IsOutput profile.now command.entry input.now finished.output.text.items finished.output.status) }
+    ensures ok { IfOk result (λ finished. IsOutput profile.now command.entry input.now finished.output.text.items
+        finished.output.status) }
     ensures remark { IfOk result (λ finished. IsRemark command.entry input.now finished.remark) }
     ensures err { IfErr result (IsRefusal command.entry input.now) }
 {

@@ -23,7 +23,8 @@ use std::alloc::{AllocError, Global};
 
 /// How an answer's block is to be printed.
 fn placing(answer: &Found, trace: bool) -> Placed
-    ensures { (strategy : StrategyOf) (p : ProfileOf) (block : BlockOf) → IsFor strategy p block answer.now → result ≡ placed_by p trace block (answer_in answer.now) }
+    ensures { (strategy : StrategyOf) (p : ProfileOf) (block : BlockOf) → IsFor strategy p block answer.now →
+        result ≡ placed_by p trace block (answer_in answer.now) }
 {
     let Ok(order) = ArrayVec::try_from(answer.order().numbers()) else {
         unreachable!()
@@ -39,7 +40,8 @@ fn placing(answer: &Found, trace: bool) -> Placed
 
 /// How an answer's block is to be printed, or `None` if it stands.
 fn given(answer: &Found, trace: bool, keep: bool) -> Option<Placed>
-    ensures { (strategy : StrategyOf) (p : ProfileOf) (block : BlockOf) → IsFor strategy p block answer.now → result ≡ given_by p trace keep block (answer_in answer.now) }
+    ensures { (strategy : StrategyOf) (p : ProfileOf) (block : BlockOf) → IsFor strategy p block answer.now →
+        result ≡ given_by p trace keep block (answer_in answer.now) }
 {
     let placed = placing(answer, trace);
     if keep && keeps_order(placed.order.as_slice()) {
@@ -56,7 +58,9 @@ fn push_best_reasons(
     answer: BlockAnswer,
 ) -> Result<(), AllocError>
     requires { IsFor answer.strategy answer.profile.now answer.block.now answer.found }
-    ensures { OnOk result (out.new.items ≡ out.old.items ++ best_reasons answer.entry.strategy.search.rule answer.entry.profile.now answer.entry.block.now (answer_in answer.entry.found)) }
+    ensures { OnOk result (out.new.items ≡ out.old.items ++
+        best_reasons answer.entry.strategy.search.rule answer.entry.profile.now answer.entry.block.now
+        (answer_in answer.entry.found)) }
 {
     let BlockAnswer {
         block,

@@ -25,7 +25,8 @@ pub fn run_program<
     requires reads { (F.seen reader.old).failures < 2 ^ 64 - 1 }
     requires writes { (S.seen writer.old).failures < 2 ^ 64 - 1 }
     requires tells { (E.seen errors.old).failures < 2 ^ 64 - 1 }
-    ensures { IsRun (map W.text words.entry.now) (F.seen reader.old) (F.seen reader.new) (S.seen writer.old) (S.seen writer.new) (E.seen errors.old) (E.seen errors.new) result }
+    ensures { IsRun (map W.text words.entry.now) (F.seen reader.old) (F.seen reader.new) (S.seen writer.old)
+        (S.seen writer.new) (E.seen errors.old) (E.seen errors.new) result }
 {
     let command = match command_of(rt.alloc(), words) {
         Ok(command) => command,

@@ -45,7 +45,8 @@ fn read_through<F: Feed>(
 ) -> Result<Vec<u8>, Fault>
     requires calls { (F.seen reader.old).failures < 2 ^ 64 - 1 }
     requires room { length buffer.old ≡ FEED_ROOM }
-    ensures ok { IfOk result (λ held. (input : List ℕ) × ReadsAll (F.seen reader.old) (F.seen reader.new) input × IsKeptInput most input held.items) }
+    ensures ok { IfOk result (λ held. (input : List ℕ) × ReadsAll (F.seen reader.old) (F.seen reader.new) input ×
+        IsKeptInput most input held.items) }
     ensures err { IfErr result (IsReadFault (F.seen reader.old) (F.seen reader.new)) }
 {
     let mut held = Vec::new(alloc);
@@ -72,7 +73,8 @@ pub fn read_all<F: Feed>(
     most: Option<usize>,
 ) -> Result<Vec<u8>, Fault>
     requires { (F.seen reader.old).failures < 2 ^ 64 - 1 }
-    ensures ok { IfOk result (λ held. (input : List ℕ) × ReadsAll (F.seen reader.old) (F.seen reader.new) input × IsKeptInput most input held.items) }
+    ensures ok { IfOk result (λ held. (input : List ℕ) × ReadsAll (F.seen reader.old) (F.seen reader.new) input ×
+        IsKeptInput most input held.items) }
     ensures err { IfErr result (IsReadFault (F.seen reader.old) (F.seen reader.new)) }
 {
     let mut buffer = room(alloc)?;

@@ -58,7 +58,8 @@ fn run_under<R: AllocGlobal + Threads + Wait + Sync, F: Feed, S: Sink, O: Observ
     requires within { IsWithinLimits command }
     requires reads { (F.seen reader.old).failures < 2 ^ 64 - 1 }
     requires writes { (S.seen writer.old).failures < 2 ^ 64 - 1 }
-    ensures { IsOutcomeUnder profile.now command.entry (F.seen reader.old) (F.seen reader.new) (S.seen writer.old) (S.seen writer.new) result }
+    ensures { IsOutcomeUnder profile.now command.entry (F.seen reader.old) (F.seen reader.new) (S.seen writer.old)
+        (S.seen writer.new) result }
 {
     let held = read_all(rt.alloc(), reader, most_kept(command))?;
     let finished = output_for(rt, command, profile, held.as_slice(), observer);
@@ -89,7 +90,8 @@ pub fn run_command<R: AllocGlobal + Threads + Wait + Sync, F: Feed, S: Sink>(
     requires within { IsWithinLimits command }
     requires reads { (F.seen reader.old).failures < 2 ^ 64 - 1 }
     requires writes { (S.seen writer.old).failures < 2 ^ 64 - 1 }
-    ensures { IsOutcomeUntold command.entry (F.seen reader.old) (F.seen reader.new) (S.seen writer.old) (S.seen writer.new) result }
+    ensures { IsOutcomeUntold command.entry (F.seen reader.old) (F.seen reader.new) (S.seen writer.old)
+        (S.seen writer.new) result }
 {
     let ended = run_observed(rt, command, reader, writer, &mut Silent)?;
     Ok(ended.status)
@@ -107,7 +109,8 @@ pub fn run_observed<R: AllocGlobal + Threads + Wait + Sync, F: Feed, S: Sink, O:
     requires within { IsWithinLimits command }
     requires reads { (F.seen reader.old).failures < 2 ^ 64 - 1 }
     requires writes { (S.seen writer.old).failures < 2 ^ 64 - 1 }
-    ensures { IsOutcome command.entry (F.seen reader.old) (F.seen reader.new) (S.seen writer.old) (S.seen writer.new) result }
+    ensures { IsOutcome command.entry (F.seen reader.old) (F.seen reader.new) (S.seen writer.old)
+        (S.seen writer.new) result }
 {
     let profile = profile_of(rt.alloc(), command)?;
     run_under(rt, command, &profile, reader, writer, observer)

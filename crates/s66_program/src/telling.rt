@@ -61,7 +61,8 @@ pub fn tell_failure<S: Sink>(
     fault: Fault,
 ) -> u8
     requires { (S.seen errors.old).failures < 2 ^ 64 - 1 }
-    ensures { EndsBy (option_map (λ text. text.now) profile.entry) (Err fault) (S.seen errors.old) (S.seen errors.new) result }
+    ensures { EndsBy (option_map (λ text. text.now) profile.entry) (Err fault) (S.seen errors.old)
+        (S.seen errors.new) result }
 {
     match (fault, profile) {
         (Fault::Profile, Some(text)) => match hint_line(alloc, text) {
@@ -108,7 +109,8 @@ fn tell_fault<S: Sink>(errors: &mut S, fault: Fault) -> u8
 pub fn show_usage<S: Sink, E: Sink>(usage: &Usage, writer: &mut S, errors: &mut E) -> u8
     requires writes { (S.seen writer.old).failures < 2 ^ 64 - 1 }
     requires tells { (E.seen errors.old).failures < 2 ^ 64 - 1 }
-    ensures { ShowsUsage usage.now (S.seen writer.old) (S.seen writer.new) (E.seen errors.old) (E.seen errors.new) result }
+    ensures { ShowsUsage usage.now (S.seen writer.old) (S.seen writer.new) (E.seen errors.old)
+        (E.seen errors.new) result }
 {
     match usage {
         Usage::Help(text) => {

@@ -33,7 +33,8 @@ fn make_shares<R: Threads + Sync, T: Send + Drop, W: Task<T> + Sync>(
     next: &AtomicUsize,
 ) -> Result<Vec<Vec<Made<T>>>, AllocError>
     requires { (i : ℕ) → i < count → W.accepts task.now i }
-    ensures { IfOk result (λ all. All (λ s. All (λ m. (m.number < count) × W.gives task.now m.number m.value) s.items) all.items) }
+    ensures { IfOk result (λ all. All (λ s. All (λ m. (m.number < count) × W.gives task.now m.number m.value) s.items)
+        all.items) }
 {
     thread::map_indices(
         rt,
@@ -57,7 +58,8 @@ fn share_out<R: Threads + Sync, T: Send + Drop, W: Task<T> + Sync, O: Observer>(
     observer: &mut O,
 ) -> (Vec<Vec<Made<T>>>, Vec<Made<T>>)
     requires { (i : ℕ) → i < count → W.accepts task.now i }
-    ensures others { All (λ s. All (λ m. (m.number < count) × W.gives task.now m.number m.value) s.items) result.0.items }
+    ensures others { All (λ s. All (λ m. (m.number < count) × W.gives task.now m.number m.value) s.items)
+        result.0.items }
     ensures own { All (λ m. (m.number < count) × W.gives task.now m.number m.value) result.1.items }
 {
     let counter = AtomicUsize::new(0);
@@ -72,7 +74,8 @@ fn share_out<R: Threads + Sync, T: Send + Drop, W: Task<T> + Sync, O: Observer>(
         rt,
         || -> Result<Vec<Vec<Made<T>>>, AllocError>
             requires { IsSync R.row × IsSync W.row × IsSend T.row × ((i : ℕ) → i < count → W.accepts task.now i) }
-            ensures { IfOk result (λ all. All (λ s. All (λ m. (m.number < count) × W.gives task.entry.now m.number m.value) s.items) all.items) }
+            ensures { IfOk result (λ all. All (λ s. All
+                (λ m. (m.number < count) × W.gives task.entry.now m.number m.value) s.items) all.items) }
         { make_shares(rt, alloc, task, count, others, next) },
         || -> Vec<Made<T>>
             requires { (i : ℕ) → i < count → W.accepts task.now i }
@@ -115,7 +118,8 @@ fn put_shares<T: Drop, W: Task<T>>(
     places: &mut [Option<T>],
     mut shares: Vec<Vec<Made<T>>>,
 )
-    requires within { All (λ s. All (λ m. (m.number < length places.old) × W.gives task.now m.number m.value) s.items) shares.items }
+    requires within { All (λ s. All (λ m. (m.number < length places.old) × W.gives task.now m.number m.value) s.items)
+        shares.items }
     requires put { ArePut (W.gives task.now) places.old }
     ensures count { length places.new ≡ length places.old }
     ensures put { ArePut (W.gives task.now) places.new }

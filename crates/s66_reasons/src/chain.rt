@@ -185,7 +185,8 @@ fn push_walk(
     requires few { length later.now ≤ BLOCK_LIMIT }
     requires first { (1 ≤ first) × (first ≤ length prefix.now.problem.block) }
     requires within { AreWithin (length prefix.now.problem.block) later.now }
-    ensures { OnOk result (out.new.items ≡ out.old.items ++ rows_text (walk_rows (document_of document.now) 0 first later.now)) }
+    ensures { OnOk result (out.new.items ≡ out.old.items ++
+        rows_text (walk_rows (document_of document.now) 0 first later.now)) }
 {
     let mut last = first;
     let mut start = 0;
@@ -209,7 +210,8 @@ pub(crate) fn push_chain(
     requires some { 1 ≤ length numbers.now }
     requires few { length numbers.now ≤ BLOCK_LIMIT }
     requires within { AreWithin (length prefix.now.problem.block) numbers.now }
-    ensures { OnOk result (out.new.items ≡ out.old.items ++ rows_text (chain_rows (document_of document.now) numbers.now)) }
+    ensures { OnOk result (out.new.items ≡ out.old.items ++
+        rows_text (chain_rows (document_of document.now) numbers.now)) }
 {
     push_walk(out, document, prefix, numbers[0], &numbers[1..])
 }

@@ -73,7 +73,8 @@ struct UnitLoad {
 
 /// A load of one instruction.
 fn push_one(out: &mut Vec<u8>, load: &UnitLoad, n: u8) -> Result<(), AllocError>
-    ensures { OnOk result (out.new.items ≡ out.old.items ++ one_words load.now.work load.now.to load.now.after load.now.wait n) }
+    ensures { OnOk result (out.new.items ≡ out.old.items ++
+        one_words load.now.work load.now.to load.now.after load.now.wait n) }
 {
     push_between(out, b"", n as usize, b" has its ")?;
     out.extend_from_slice(unit_name(load.work.kind))?;
@@ -141,7 +142,8 @@ fn push_mixed(out: &mut Vec<u8>, to: &Moment, wait: u32) -> Result<(), AllocErro
 /// What follows of what so many instructions need.
 fn push_so(out: &mut Vec<u8>, load: &UnitLoad, count: usize) -> Result<(), AllocError>
     requires { count ≤ BLOCK_LIMIT }
-    ensures { OnOk result (out.new.items ≡ out.old.items ++ so_words load.now.work load.now.to load.now.after load.now.wait count) }
+    ensures { OnOk result (out.new.items ≡ out.old.items ++
+        so_words load.now.work load.now.to load.now.after load.now.wait count) }
 {
     let work = &load.work;
     if work.total as usize == count * work.most as usize {
@@ -189,7 +191,8 @@ fn push_need(out: &mut Vec<u8>, work: &Work, count: usize) -> Result<(), AllocEr
 /// A load of several instructions.
 fn push_many(out: &mut Vec<u8>, load: &UnitLoad, numbers: &[u8]) -> Result<(), AllocError>
     requires { length numbers.now ≤ BLOCK_LIMIT }
-    ensures { OnOk result (out.new.items ≡ out.old.items ++ many_words load.now.work load.now.to load.now.after load.now.wait numbers.now) }
+    ensures { OnOk result (out.new.items ≡ out.old.items ++
+        many_words load.now.work load.now.to load.now.after load.now.wait numbers.now) }
 {
     push_which(out, &load.work, numbers)?;
     push_need(out, &load.work, numbers.len())?;
@@ -199,7 +202,8 @@ fn push_many(out: &mut Vec<u8>, load: &UnitLoad, numbers: &[u8]) -> Result<(), A
 /// A load up to where its first use begins, and from there on.
 fn push_until(out: &mut Vec<u8>, load: &UnitLoad, numbers: &[u8]) -> Result<(), AllocError>
     requires { length numbers.now ≤ BLOCK_LIMIT }
-    ensures { OnOk result (out.new.items ≡ out.old.items ++ until_words load.now.work load.now.to load.now.after load.now.wait numbers.now) }
+    ensures { OnOk result (out.new.items ≡ out.old.items ++
+        until_words load.now.work load.now.to load.now.after load.now.wait numbers.now) }
 {
     if numbers.len() == 1 {
         push_one(out, load, numbers[0])
@@ -222,7 +226,8 @@ pub(crate) fn push_load_sentence(
     requires few { length numbers.now ≤ BLOCK_LIMIT }
     requires start { prefix.now.numbers ≡ [] }
     requires remain { every (is_remaining prefix.now.problem.block []) numbers.now ≡ true }
-    ensures { OnOk result (out.new.items ≡ out.old.items ++ load_sentence prefix.now.problem from.now to.now after wait numbers.now) }
+    ensures { OnOk result (out.new.items ≡ out.old.items ++
+        load_sentence prefix.now.problem from.now to.now after wait numbers.now) }
 {
     let load = UnitLoad {
         work: Work::of(prefix, numbers),
@@ -357,7 +362,8 @@ fn push_late(
     requires same { prefix.now.problem ≡ facts.now.problem }
     requires m { IsNumber facts.now.problem m }
     requires n { IsNumber facts.now.problem n }
-    ensures { OnOk result (out.new.items ≡ out.old.items ++ late_words facts.now.problem bound (arcs_of facts.now.problem (known_in facts.now)) m n) }
+    ensures { OnOk result (out.new.items ≡ out.old.items ++
+        late_words facts.now.problem bound (arcs_of facts.now.problem (known_in facts.now)) m n) }
 {
     let head = facts.head(n);
     let parcels = parcels_of(prefix, n);
@@ -381,7 +387,9 @@ fn push_pair(
     requires problem { facts.now.problem ≡ problem_of (document_of document.now) }
     requires m { IsNumber facts.now.problem m }
     requires n { IsNumber facts.now.problem n }
-    ensures { OnOk result (out.new.items ≡ out.old.items ++ pair_sentence (document_of document.now) (arcs_of (problem_of (document_of document.now)) (known_in facts.now)) m n) }
+    ensures { OnOk result (out.new.items ≡ out.old.items ++
+        pair_sentence (document_of document.now)
+        (arcs_of (problem_of (document_of document.now)) (known_in facts.now)) m n) }
 {
     push_pair_words(out, document, m, n)?;
     push_late(out, document.bound(), prefix, facts, m, n)
@@ -398,7 +406,9 @@ fn push_load_fact(
     requires same { prefix.now.problem ≡ facts.now.problem }
     requires start { prefix.now.numbers ≡ [] }
     requires taken { is_taken facts.now.problem bound (known_in facts.now) (Load load.now) ≡ true }
-    ensures { OnOk result (out.new.items ≡ out.old.items ++ load_sentence prefix.now.problem load.now.from load.now.to load.now.after load.now.wait load.now.numbers.items) }
+    ensures { OnOk result (out.new.items ≡ out.old.items ++
+        load_sentence prefix.now.problem load.now.from load.now.to load.now.after load.now.wait
+        load.now.numbers.items) }
 {
     let numbers = load.numbers.as_slice();
     push_load_sentence(
@@ -418,7 +428,8 @@ fn push_fact(
     requires start { prefix.now.numbers ≡ [] }
     requires problem { facts.now.problem ≡ problem_of (document_of document.now) }
     requires taken { is_taken facts.now.problem (document_of document.now).bound (known_in facts.now) line.now ≡ true }
-    ensures { OnOk result (out.new.items ≡ out.old.items ++ fact_sentence (document_of document.now) (known_in facts.now) line.now) }
+    ensures { OnOk result (out.new.items ≡ out.old.items ++
+        fact_sentence (document_of document.now) (known_in facts.now) line.now) }
 {
     match line {
         FactLine::Pair(first, second) => push_pair(out, document, prefix, facts, *first, *second),
@@ -439,7 +450,8 @@ fn push_numbered(
     requires start { prefix.now.numbers ≡ [] }
     requires problem { facts.now.problem ≡ problem_of (document_of document.now) }
     requires taken { is_taken facts.now.problem (document_of document.now).bound (known_in facts.now) line.now ≡ true }
-    ensures { OnOk result (out.new.items ≡ out.old.items ++ numbered_fact (document_of document.now) (known_in facts.now) number line.now) }
+    ensures { OnOk result (out.new.items ≡ out.old.items ++
+        numbered_fact (document_of document.now) (known_in facts.now) number line.now) }
 {
     push_between(out, b"  ", number, b". ")?;
     push_fact(out, document, prefix, facts, line)?;
@@ -469,7 +481,9 @@ pub(crate) fn push_facts(
     requires problem { facts.problem ≡ problem_of (document_of document.now) }
     requires known { known_in facts ≡ known_first (problem_of (document_of document.now)) }
     requires taken { AreTaken (document_of document.now) }
-    ensures text { OnOk result (out.new.items ≡ out.old.items ++ facts_from (document_of document.now) (known_first (problem_of (document_of document.now))) 1 (facts_of (document_of document.now))) }
+    ensures text { OnOk result (out.new.items ≡ out.old.items ++
+        facts_from (document_of document.now) (known_first (problem_of (document_of document.now))) 1
+        (facts_of (document_of document.now))) }
     ensures knows { IfOk result (KnowsAll (document_of document.now)) }
 {
     let bound = document.bound();

@@ -116,7 +116,8 @@ impl<'a> KnownPaths<'a> {
     /// The same to the first result of n to which there is one.
     fn hop_to_result(&self, left: u64, from: &Moment, n: u8) -> Option<Hop>
         requires { IsNumber (problem_of (document_of self.now)) n }
-        ensures { result ≡ first_hop (document_of self.now) left from.now (map (λ (w : WriteOf). At n (Done w.reg)) (row_at (problem_of (document_of self.now)) n).writes) }
+        ensures { result ≡ first_hop (document_of self.now) left from.now
+            (map (λ (w : WriteOf). At n (Done w.reg)) (row_at (problem_of (document_of self.now)) n).writes) }
     {
         let times = self.by_lines.tail(n);
         match self.prefix.row(n).writes.as_slice() {
@@ -137,7 +138,8 @@ impl<'a> KnownPaths<'a> {
     /// To the first moment of n.
     fn hop_to_moment_of(&self, left: u64, from: &Moment, n: u8) -> Option<Hop>
         requires { IsNumber (problem_of (document_of self.now)) n }
-        ensures { result ≡ first_hop (document_of self.now) left from.now (moments_of (problem_of (document_of self.now)) n) }
+        ensures { result ≡ first_hop (document_of self.now) left from.now
+            (moments_of (problem_of (document_of self.now)) n) }
     {
         let times = self.by_lines.tail(n);
         self.hop_to(left, from, Moment::At(n, Stage::Issue), times.issue)
@@ -148,7 +150,8 @@ impl<'a> KnownPaths<'a> {
 
     /// To a moment of the first number.
     fn hop_among(&self, left: u64, from: &Moment) -> Option<Hop>
-        ensures { result ≡ first_hop (document_of self.now) left from.now (moments_among (problem_of (document_of self.now)) (numbers (problem_of (document_of self.now)).block)) }
+        ensures { result ≡ first_hop (document_of self.now) left from.now
+            (moments_among (problem_of (document_of self.now)) (numbers (problem_of (document_of self.now)).block)) }
     {
         for position in 0..self.prefix.count() {
             let hop = self.hop_to_moment_of(left, from, position + 1);
@@ -172,7 +175,8 @@ impl<'a> KnownPaths<'a> {
 
     /// Whether the table has an arc as long as this one.
     pub(crate) fn is_of_table(&self, from: &Moment, hop: &Hop) -> bool
-        ensures value { result ≡ reaches hop.now.wait (network (problem_of (document_of self.now)) (known_of (document_of self.now)).before from.now hop.now.to) }
+        ensures value { result ≡ reaches hop.now.wait (network (problem_of (document_of self.now))
+            (known_of (document_of self.now)).before from.now hop.now.to) }
         ensures from { IsTrue result → IsNumberOf (problem_of (document_of self.now)) from.now }
         ensures to { IsTrue result → IsNumberOf (problem_of (document_of self.now)) hop.now.to }
     {

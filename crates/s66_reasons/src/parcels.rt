@@ -40,7 +40,8 @@ fn push_last(
     n: u8,
 ) -> Result<(), AllocError>
     requires problem { prefix.now.problem ≡ problem_of (document_of document.now) }
-    requires parcels { (parcels ≡ sum_remaining prefix.now.problem.block [] (λ m. (row_at prefix.now.problem m).parcels)) × (parcels ≤ 2 * BLOCK_LIMIT) }
+    requires parcels { (parcels ≡ sum_remaining prefix.now.problem.block [] (λ m.
+        (row_at prefix.now.problem m).parcels)) × (parcels ≤ 2 * BLOCK_LIMIT) }
     requires n { (1 ≤ n) × (n ≤ length prefix.now.problem.block) }
     ensures { OnOk result (out.new.items ≡ out.old.items ++ row_text (last_row (document_of document.now) n)) }
 {
@@ -60,7 +61,8 @@ pub(crate) fn push_parcels(
 ) -> Result<(), AllocError>
     requires problem { prefix.now.problem ≡ problem_of (document_of document.now) }
     requires start { prefix.now.numbers ≡ [] }
-    ensures { OnOk result (out.new.items ≡ out.old.items ++ rows_text (map (last_row (document_of document.now)) (numbers prefix.now.problem.block))) }
+    ensures { OnOk result (out.new.items ≡ out.old.items ++
+        rows_text (map (last_row (document_of document.now)) (numbers prefix.now.problem.block))) }
 {
     let parcels = remaining_parcels(prefix);
     for position in 0..prefix.count() {

@@ -35,7 +35,8 @@ fn push_parcels_after(
     parcels: u32,
     m: u8,
 ) -> Result<(), AllocError>
-    ensures { OnOk result (out.new.items ≡ out.old.items ++ (counted parcels (codes "parcel") ++ codes " after " ++ instruction (document_of document.now) m)) }
+    ensures { OnOk result (out.new.items ≡ out.old.items ++
+        (counted parcels (codes "parcel") ++ codes " after " ++ instruction (document_of document.now) m)) }
 {
     push_counted(out, parcels as usize, b"parcel")?;
     out.extend_from_slice(b" after ")?;
@@ -58,7 +59,8 @@ fn push_parcels_words(
 
 /// The unit of m, which is of this kind.
 fn push_unit_of(out: &mut Vec<u8>, document: &Document, kind: Kind, m: u8) -> Result<(), AllocError>
-    ensures { OnOk result (out.new.items ≡ out.old.items ++ (codes "the " ++ unit_name kind ++ codes " unit of " ++ instruction (document_of document.now) m)) }
+    ensures { OnOk result (out.new.items ≡ out.old.items ++
+        (codes "the " ++ unit_name kind ++ codes " unit of " ++ instruction (document_of document.now) m)) }
 {
     out.extend_from_slice(b"the ")?;
     out.extend_from_slice(unit_name(kind))?;
@@ -88,7 +90,8 @@ fn push_read_words(
     n: u8,
     register: Reg,
 ) -> Result<(), AllocError>
-    ensures { OnOk result (out.new.items ≡ out.old.items ++ third_words (document_of document.now) m n (Done register)) }
+    ensures { OnOk result (out.new.items ≡ out.old.items ++
+        third_words (document_of document.now) m n (Done register)) }
 {
     push_around(out, b"", document, m, b" has read ")?;
     push_register(out, register)?;
@@ -145,7 +148,8 @@ impl<'a> KnownPaths<'a> {
     ) -> Result<(), AllocError>
         requires m { IsNumber (problem_of (document_of self.now)) m }
         requires n { IsNumber (problem_of (document_of self.now)) n }
-        ensures { OnOk result (out.new.items ≡ out.old.items ++ later_words (document_of self.now) m n from.now to.now) }
+        ensures { OnOk result (out.new.items ≡ out.old.items ++
+            later_words (document_of self.now) m n from.now to.now) }
     {
         let document = self.document;
         let earlier = self.prefix.row(m);
@@ -175,7 +179,9 @@ impl<'a> KnownPaths<'a> {
     ) -> Result<(), AllocError>
         requires m { IsNumber (problem_of (document_of self.now)) m }
         requires n { IsNumber (problem_of (document_of self.now)) n }
-        ensures { OnOk result (out.new.items ≡ out.old.items ++ row_text (record { number = number; words = later_words (document_of self.now) m n from.now to.now ++ by_words (line_of_pair (document_of self.now) m n) })) }
+        ensures { OnOk result (out.new.items ≡ out.old.items ++
+            row_text
+            (record { number = number; words = later_words (document_of self.now) m n from.now to.now ++ by_words (line_of_pair (document_of self.now) m n) })) }
     {
         push_number(out, number)?;
         self.push_later_words(out, m, from, n, to)?;
@@ -191,7 +197,8 @@ impl<'a> KnownPaths<'a> {
         m: u8,
         stage: &Stage,
     ) -> Result<(), AllocError>
-        ensures { OnOk result (out.new.items ≡ out.old.items ++ row_text (record { number = number; words = at_end_words (document_of self.now) m stage.now })) }
+        ensures { OnOk result (out.new.items ≡ out.old.items ++
+            row_text (record { number = number; words = at_end_words (document_of self.now) m stage.now })) }
     {
         push_number(out, number)?;
         push_at_end_words(out, self.document, m, stage)?;
@@ -208,7 +215,8 @@ impl<'a> KnownPaths<'a> {
     ) -> Result<(), AllocError>
         requires from { IsNumberOf (problem_of (document_of self.now)) from.now }
         requires to { IsNumberOf (problem_of (document_of self.now)) to.now }
-        ensures { OnOk result (out.new.items ≡ out.old.items ++ rows_text (table_rows (document_of self.now) number from.now to.now)) }
+        ensures { OnOk result (out.new.items ≡ out.old.items ++
+            rows_text (table_rows (document_of self.now) number from.now to.now)) }
     {
         let Moment::At(m, earlier) = from else {
             return Ok(());
@@ -229,7 +237,8 @@ impl<'a> KnownPaths<'a> {
         from: &Moment,
         hop: &Hop,
     ) -> Result<(), AllocError>
-        ensures { OnOk result (out.new.items ≡ out.old.items ++ row_text (load_row (document_of self.now) number from.now hop.now)) }
+        ensures { OnOk result (out.new.items ≡ out.old.items ++
+            row_text (load_row (document_of self.now) number from.now hop.now)) }
     {
         push_number(out, number)?;
         push_reached(out, &hop.to)?;
@@ -245,7 +254,8 @@ impl<'a> KnownPaths<'a> {
         from: &Moment,
         hop: &Hop,
     ) -> Result<(), AllocError>
-        ensures { OnOk result (out.new.items ≡ out.old.items ++ rows_text (hop_rows (document_of self.now) number from.now hop.now)) }
+        ensures { OnOk result (out.new.items ≡ out.old.items ++
+            rows_text (hop_rows (document_of self.now) number from.now hop.now)) }
     {
         if self.is_of_table(from, hop) {
             self.push_table_rows(out, number, from, &hop.to)
@@ -263,7 +273,8 @@ impl<'a> KnownPaths<'a> {
         mut from: Moment,
     ) -> Result<(), AllocError>
         requires few { most ≤ 2 ^ 16 }
-        ensures { OnOk result (out.new.items ≡ out.old.items ++ rows_text (path_rows (document_of self.now) 0 from (hops_from (document_of self.now) most left from))) }
+        ensures { OnOk result (out.new.items ≡ out.old.items ++
+            rows_text (path_rows (document_of self.now) 0 from (hops_from (document_of self.now) most left from))) }
     {
         let mut number = 0;
         for step in 0..most {
@@ -281,7 +292,8 @@ impl<'a> KnownPaths<'a> {
     /// The rows of a longest path from the issue of n to the end.
     pub(crate) fn push_longest(&self, out: &mut Vec<u8>, n: u8) -> Result<(), AllocError>
         requires { IsNumber (problem_of (document_of self.now)) n }
-        ensures { OnOk result (out.new.items ≡ out.old.items ++ rows_text (path_rows (document_of self.now) 0 (At n Issue) (hops_of (document_of self.now) n))) }
+        ensures { OnOk result (out.new.items ≡ out.old.items ++
+            rows_text (path_rows (document_of self.now) 0 (At n Issue) (hops_of (document_of self.now) n))) }
     {
         let left = self.by_lines.tail(n).issue.unwrap_or(0);
         let most = 4 * self.prefix.count() as usize + 1;

@@ -136,7 +136,8 @@ fn push_left_row(
     requires some { 0 < length numbers.now }
     requires few { length numbers.now ≤ BLOCK_LIMIT }
     requires remain { every (is_remaining prefix.now.problem.block []) numbers.now ≡ true }
-    ensures { OnOk result (out.new.items ≡ out.old.items ++ row_text (left_row (document_of document.now) after numbers.now)) }
+    ensures { OnOk result (out.new.items ≡ out.old.items ++
+        row_text (left_row (document_of document.now) after numbers.now)) }
 {
     let bound = document.bound();
     push_number(out, bound as usize)?;
@@ -169,7 +170,8 @@ fn push_left(
     requires some { 0 < length numbers.now }
     requires few { length numbers.now ≤ BLOCK_LIMIT }
     requires remain { every (is_remaining prefix.now.problem.block []) numbers.now ≡ true }
-    ensures { OnOk result (out.new.items ≡ out.old.items ++ said_at (document_of document.now) (AtTerminal (LoadFrom after numbers.now))) }
+    ensures { OnOk result (out.new.items ≡ out.old.items ++
+        said_at (document_of document.now) (AtTerminal (LoadFrom after numbers.now))) }
 {
     push_facts(out, document, prefix, facts)?;
     push_left_row(out, document, prefix, after, numbers)

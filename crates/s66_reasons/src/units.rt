@@ -108,7 +108,8 @@ fn push_who_needs(
     copies: u32,
     numbers: &[u8],
 ) -> Result<(), AllocError>
-    ensures { OnOk result (out.new.items ≡ out.old.items ++ who_needs_words (document_of document.now) kind copies numbers.now) }
+    ensures { OnOk result (out.new.items ≡ out.old.items ++
+        who_needs_words (document_of document.now) kind copies numbers.now) }
 {
     push_instructions(out, document, numbers)?;
     let need: &[u8] = if numbers.len() == 1 {
@@ -148,7 +149,9 @@ fn push_needs(
     numbers: &[u8],
 ) -> Result<(), AllocError>
     requires { length numbers.now ≤ BLOCK_LIMIT }
-    ensures { OnOk result (out.new.items ≡ out.old.items ++ (who_needs_words (document_of document.now) kind copies numbers.now ++ how_long_words copies total (length numbers.now) most)) }
+    ensures { OnOk result (out.new.items ≡ out.old.items ++
+        (who_needs_words (document_of document.now) kind copies numbers.now ++
+        how_long_words copies total (length numbers.now) most)) }
 {
     push_who_needs(out, document, kind, copies, numbers)?;
     push_how_long(out, copies, total, numbers.len(), most)
@@ -165,7 +168,8 @@ fn push_load_words(
     numbers: &[u8],
 ) -> Result<(), AllocError>
     requires { length numbers.now ≤ BLOCK_LIMIT }
-    ensures { OnOk result (out.new.items ≡ out.old.items ++ load_words (document_of document.now) kind copies total most numbers.now) }
+    ensures { OnOk result (out.new.items ≡ out.old.items ++
+        load_words (document_of document.now) kind copies total most numbers.now) }
 {
     if numbers.is_empty() {
         return push_no_need(out, kind, copies);

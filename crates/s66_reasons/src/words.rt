@@ -72,7 +72,8 @@ pub(crate) fn push_around(
     n: u8,
     after: &[u8],
 ) -> Result<(), AllocError>
-    ensures { OnOk result (out.new.items ≡ out.old.items ++ (before.now ++ instruction (document_of document.now) n ++ after.now)) }
+    ensures { OnOk result (out.new.items ≡ out.old.items ++
+        (before.now ++ instruction (document_of document.now) n ++ after.now)) }
 {
     out.extend_from_slice(before)?;
     push_instruction(out, document, n)?;
@@ -118,7 +119,8 @@ pub(crate) fn push_instructions(
     document: &Document,
     numbers: &[u8],
 ) -> Result<(), AllocError>
-    ensures { OnOk result (out.new.items ≡ out.old.items ++ listed (instruction (document_of document.now)) numbers.now) }
+    ensures { OnOk result (out.new.items ≡ out.old.items ++
+        listed (instruction (document_of document.now)) numbers.now) }
 {
     for place in 0..numbers.len() {
         push_instruction(out, document, numbers[place])?;

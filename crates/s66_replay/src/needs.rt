@@ -31,7 +31,8 @@ impl Model for Effects {
 
     ghost view = { λ e. e.instr };
 
-    ghost invariant = { λ e. (e.reads.items ≡ reads_of e.instr) × (e.results.items ≡ results_of e.instr) × (e.memory ≡ memory_of e.instr) };
+    ghost invariant = { λ e. (e.reads.items ≡ reads_of e.instr) × (e.results.items ≡ results_of e.instr) ×
+        (e.memory ≡ memory_of e.instr) };
 }
 
 impl Default for Effects {

@@ -26,7 +26,8 @@ impl Model for KeptPoint {
 
     ghost Value = { Point };
 
-    ghost view = { λ p. record { number = p.number; row = p.row; parcel = p.parcel; issue = p.issue; start = p.start; results = p.results.items; free = p.free } };
+    ghost view = { λ p.
+        record { number = p.number; row = p.row; parcel = p.parcel; issue = p.issue; start = p.start; results = p.results.items; free = p.free } };
 
     ghost invariant = { λ p. p.start + 1 < 2 ^ 32 };
 }

@@ -31,9 +31,11 @@ impl Model for Prefix {
 
     ghost Value = { Checked };
 
-    ghost view = { λ p. record { problem = record { block = p.block.items; profile = p.profile }; numbers = p.numbers.items } };
+    ghost view = { λ p.
+        record { problem = record { block = p.block.items; profile = p.profile }; numbers = p.numbers.items } };
 
-    ghost invariant = { λ p. IsPrefix p.block.items p.profile p.rows.items p.needs.items p.placed p.numbers.items p.past };
+    ghost invariant = { λ p. IsPrefix p.block.items p.profile p.rows.items p.needs.items p.placed p.numbers.items
+        p.past };
 }
 
 /// The rows of a block's instructions under a profile.
@@ -234,7 +236,8 @@ impl Prefix {
         ensures own { result ≤ length self.now.numbers }
         ensures others { result ≤ length numbers.now }
         ensures same { take result self.now.numbers ≡ take result numbers.now }
-        ensures most { result < length self.now.numbers → result < length numbers.now → get_or self.now.numbers result 0 ≢ get_or numbers.now result 0 }
+        ensures most { result < length self.now.numbers → result < length numbers.now →
+            get_or self.now.numbers result 0 ≢ get_or numbers.now result 0 }
         ensures begins { IsBeginning self.now.problem.block (take result numbers.now) }
     {
         let own = self.numbers.as_slice();
@@ -255,7 +258,8 @@ impl Prefix {
         ensures problem { self.new.problem ≡ self.old.problem }
         ensures all { IsTrue result → self.new.numbers ≡ numbers.now }
         ensures some { self.new.numbers ≡ take (length self.new.numbers) numbers.now }
-        ensures refused { result ≡ false → is_ready self.new.problem.block self.new.numbers (get_or numbers.now (length self.new.numbers) 0) ≡ false }
+        ensures refused { result ≡ false → is_ready self.new.problem.block self.new.numbers
+            (get_or numbers.now (length self.new.numbers) 0) ≡ false }
     {
         let shared = self.shared_with(numbers);
         while self.numbers.len() > shared {

@@ -117,7 +117,8 @@ fn issue(past: &Past, profile: &Profile, row: &Row) -> u32
 /// When the next instruction starts, which issues then: its operands are done, and memory is its to reference.
 fn start(past: &Past, row: &Row, issue: u32) -> u32
     requires { AreTimed past.now }
-    ensures { (b : Problem) → issue ≡ issue_of b (reverse past.now) row.now → result ≡ start_of b (reverse past.now) row.now }
+    ensures { (b : Problem) → issue ≡ issue_of b (reverse past.now) row.now →
+        result ≡ start_of b (reverse past.now) row.now }
 {
     let done = registers_done(past, row.reads.as_slice());
     issue.max(done.max(past.memory_wait(row.memory)))

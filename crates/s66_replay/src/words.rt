@@ -27,7 +27,8 @@ impl RegisterWords {
 
     /// Raises the word of a register to a time.
     fn raise(&mut self, register: Reg, time: u32)
-        ensures { (r : RegOf) → r.digit ≤ 7 → word_of self.new.words r ≡ max (word_of self.old.words r) (if same_reg register r then time else 0) }
+        ensures { (r : RegOf) → r.digit ≤ 7 → word_of self.new.words r ≡
+            max (word_of self.old.words r) (if same_reg register r then time else 0) }
     {
         let place = register.index() as usize;
         self.words[place] = self.words[place].max(time);
@@ -35,7 +36,9 @@ impl RegisterWords {
 
     /// Raises the words of the registers of results to the times at which they are done.
     fn raise_results(&mut self, results: &[KeptResult])
-        ensures { (r : RegOf) → r.digit ≤ 7 → word_of self.new.words r ≡ max (word_of self.old.words r) (greatest (λ (d : ResultAt). if same_reg d.reg r then d.time else 0) results.now) }
+        ensures { (r : RegOf) → r.digit ≤ 7 → word_of self.new.words r ≡
+            max (word_of self.old.words r)
+            (greatest (λ (d : ResultAt). if same_reg d.reg r then d.time else 0) results.now) }
     {
         for done in results {
             self.raise(done.reg, done.time);
@@ -44,7 +47,8 @@ impl RegisterWords {
 
     /// Raises the words of registers to a time.
     fn raise_all(&mut self, registers: &[Reg], time: u32)
-        ensures { (r : RegOf) → r.digit ≤ 7 → word_of self.new.words r ≡ max (word_of self.old.words r) (if has_reg r registers.now then time else 0) }
+        ensures { (r : RegOf) → r.digit ≤ 7 → word_of self.new.words r ≡
+            max (word_of self.old.words r) (if has_reg r registers.now then time else 0) }
     {
         for register in registers {
             self.raise(*register, time);
@@ -53,7 +57,8 @@ impl RegisterWords {
 
     /// Whether each word is no later than the other's of that register, or than the clamp.
     pub fn are_no_later(&self, other: &RegisterWords, clamp: u32) -> bool
-        ensures { IsTrue result ↔ ((i : ℕ) → i < REGISTER_COUNT → get_or self.now.words i 0 ≤ max (get_or other.now.words i 0) clamp) }
+        ensures { IsTrue result ↔ ((i : ℕ) → i < REGISTER_COUNT →
+            get_or self.now.words i 0 ≤ max (get_or other.now.words i 0) clamp) }
     {
         for index in 0..REGISTER_COUNT {
             if self.words[index] > other.words[index].max(clamp) {
@@ -76,7 +81,8 @@ pub struct FreeTimes {
 impl FreeTimes {
     /// The same, if one more instruction holds a unit until then.
     fn with(&self, free: u32) -> FreeTimes
-        ensures { (busy : ℕ → ℕ) → AreFree busy self.now → AreFree (λ t. busy t + (if nat_lt t free then 1 else 0)) result }
+        ensures { (busy : ℕ → ℕ) → AreFree busy self.now →
+            AreFree (λ t. busy t + (if nat_lt t free then 1 else 0)) result }
     {
         FreeTimes {
             all: self.all.max(free),

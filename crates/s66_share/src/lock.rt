@@ -143,7 +143,10 @@ impl<S: Summed + Drop> Lock<S> {
         requires agrees { Agrees (found token.old) (book token.old) }
         requires follows { MayBecome (book token.old).who (found token.old) (S.summary value) }
         ensures here { token.new.table_id ≡ token.old.table_id }
-        ensures resting { token.new.me ≡ (idle (renewed (S.summary value) (book token.old) (book token.old).least ∷ []), []) }
+        ensures resting { token.new.me ≡ (
+          idle (renewed (S.summary value) (book token.old) (book token.old).least ∷ []),
+          [],
+        ) }
     {
         let None = self.table.shared.exchange(token, 0, Some(value)) else {
             unreachable!()
@@ -196,7 +199,8 @@ impl<S: Summed + Drop> Lock<S> {
 
     /// Puts the seat records of another token before the token's own. It waits for nobody.
     pub fn join(&self, all: &mut Token<S>, other: Token<S>)
-        requires here { (all.old.table_id ≡ self.now.table.shared.table_id) × (other.table_id ≡ self.now.table.shared.table_id) }
+        requires here { (all.old.table_id ≡ self.now.table.shared.table_id) ×
+            (other.table_id ≡ self.now.table.shared.table_id) }
         requires idle { IsIdle all.old × IsIdle other }
         ensures here { all.new.table_id ≡ all.old.table_id }
         ensures books { all.new.me ≡ (idle (other.me.0.books ++ all.old.me.0.books), []) }

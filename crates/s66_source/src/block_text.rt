@@ -135,7 +135,8 @@ pub(crate) fn push_indented(
 ) -> Result<(), AllocError>
     requires order { (n : ℕ) → Among n order.now → (1 ≤ n) × (n ≤ length block.now.entries) }
     requires indents { length block.now.entries ≤ length indents.now }
-    ensures { OnOk result (out.new.items ≡ out.old.items ++ indented_lines indents.now block.now block.now.label order.now) }
+    ensures { OnOk result (out.new.items ≡ out.old.items ++
+        indented_lines indents.now block.now block.now.label order.now) }
 {
     let mut label = block.label();
     for number in order {

@@ -84,7 +84,8 @@ impl<'s, 'a> Model for Framer<'s, 'a> {
 
     ghost Value = { Framer };
 
-    ghost view = { λ f. record { cut = f.cut; standing = f.standing; blocks = f.blocks.now; dropped = f.dropped.now; after = f.after_code; lines = f.lines } };
+    ghost view = { λ f.
+        record { cut = f.cut; standing = f.standing; blocks = f.blocks.now; dropped = f.dropped.now; after = f.after_code; lines = f.lines } };
 }
 
 impl<'s, 'a> Framer<'s, 'a> {
@@ -101,7 +102,8 @@ impl<'s, 'a> Framer<'s, 'a> {
     fn pass_dropped(&mut self) -> bool
         requires { self.old.lines < SOURCE_LINES_LIMIT }
         ensures value { result ≡ begins_with (suc self.old.lines) self.old.dropped }
-        ensures rest { self.new ≡ record self.old { dropped = if begins_with (suc self.old.lines) self.old.dropped then rest self.old.dropped else self.old.dropped } }
+        ensures rest { self.new ≡ record
+            self.old { dropped = if begins_with (suc self.old.lines) self.old.dropped then rest self.old.dropped else self.old.dropped } }
     {
         match self.dropped {
             [line, dropped @ ..] if *line == self.lines + 1 => {
@@ -115,8 +117,10 @@ impl<'s, 'a> Framer<'s, 'a> {
     /// Passes the next block, if the next line has its first instruction.
     fn pass_block(&mut self) -> Option<FramePart<'a>>
         requires { self.old.lines < SOURCE_LINES_LIMIT }
-        ensures some { IfSome result (λ part. (begins_block (suc self.old.lines) self.old.blocks ≡ true) × (first_part self.old.blocks ≡ part ∷ []) × (self.new ≡ record self.old { blocks = rest self.old.blocks })) }
-        ensures none { IfNone result ((begins_block (suc self.old.lines) self.old.blocks ≡ false) × (self.new ≡ self.old)) }
+        ensures some { IfSome result (λ part. (begins_block (suc self.old.lines) self.old.blocks ≡ true) ×
+            (first_part self.old.blocks ≡ part ∷ []) × (self.new ≡ record self.old { blocks = rest self.old.blocks })) }
+        ensures none { IfNone result ((begins_block (suc self.old.lines) self.old.blocks ≡ false) ×
+            (self.new ≡ self.old)) }
     {
         match self.blocks {
             [block, blocks @ ..] => {
@@ -171,7 +175,8 @@ impl<'s, 'a> Framer<'s, 'a> {
         requires lines { self.old.lines < SOURCE_LINES_LIMIT }
         requires few { length line.now ≤ LINE_BYTES_LIMIT }
         requires bodies { self.old.standing.bodies ≤ self.old.lines }
-        ensures parts { OnOk result (parts.new.items ≡ parts.old.items ++ part_at self.old (flagged_next self.old continued line.now)) }
+        ensures parts { OnOk result (parts.new.items ≡ parts.old.items ++
+            part_at self.old (flagged_next self.old continued line.now)) }
         ensures rest { OnOk result (self.new ≡ after_framed self.old (flagged_next self.old continued line.now)) }
         ensures bodies { OnOk result (self.new.standing.bodies ≤ self.new.lines) }
     {

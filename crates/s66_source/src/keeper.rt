@@ -63,7 +63,8 @@ fn push_anew(
     requires indents { length indents.now ≡ suc passed }
     requires passed { passed < length block.now.entries }
     requires placed { (n : ℕ) → Among n placed.now.order → (1 ≤ n) × (n ≤ length block.now.entries) }
-    ensures { OnOk result (out.new.items ≡ out.old.items ++ text_anew quiet indents.now number passed block.now placed.now) }
+    ensures { OnOk result (out.new.items ≡ out.old.items ++
+        text_anew quiet indents.now number passed block.now placed.now) }
 {
     let count = block.count();
     if passed == 0 && !quiet {
@@ -108,7 +109,8 @@ impl<'s, 'a> Model for Keeper<'s, 'a> {
 
     ghost Value = { Keeper };
 
-    ghost view = { λ k. record { quiet = k.quiet; columns = k.columns; place = record { blocks = k.blocks.now; before = k.before; given = k.given.now; number = k.number; passed = k.passed; stood = k.stood }; indents = k.indents.items; dropped = k.dropped.now; leading = k.leading.now; lines = k.lines } };
+    ghost view = { λ k.
+        record { quiet = k.quiet; columns = k.columns; place = record { blocks = k.blocks.now; before = k.before; given = k.given.now; number = k.number; passed = k.passed; stood = k.stood }; indents = k.indents.items; dropped = k.dropped.now; leading = k.leading.now; lines = k.lines } };
 }
 
 impl<'s, 'a> Keeper<'s, 'a> {
@@ -165,7 +167,8 @@ impl<'s, 'a> Keeper<'s, 'a> {
     fn take_leading(&mut self) -> bool
         requires { self.old.lines < SOURCE_LINES_LIMIT }
         ensures leading { result ≡ is_leading_next self.old }
-        ensures rest { self.new ≡ record self.old { leading = if is_leading_next self.old then others self.old.leading else self.old.leading } }
+        ensures rest { self.new ≡ record
+            self.old { leading = if is_leading_next self.old then others self.old.leading else self.old.leading } }
     {
         if !begins_with(self.leading, self.lines + 1) {
             return false;
@@ -193,7 +196,8 @@ impl<'s, 'a> Keeper<'s, 'a> {
         requires place { IsPlace self.now.place }
         requires indents { length self.now.indents ≡ suc self.now.place.passed }
         requires here { is_instruction_next self.now ≡ true }
-        ensures { OnOk result (out.new.items ≡ out.old.items ++ instruction_text self.now.quiet self.now.indents self.now.place line.now) }
+        ensures { OnOk result (out.new.items ≡ out.old.items ++
+            instruction_text self.now.quiet self.now.indents self.now.place line.now) }
     {
         if self.before > 0 {
             return push_copied(out, line);
@@ -242,7 +246,8 @@ impl<'s, 'a> Keeper<'s, 'a> {
         requires number { self.old.place.number ≤ suc self.old.lines }
         requires indents { length self.old.indents ≡ suc self.old.place.passed }
         requires here { is_instruction_next self.old ≡ true }
-        ensures rest { self.new ≡ record self.old { place = after_instruction self.old.place; indents = if ends_block self.old.place.passed self.old.place.blocks then [] else self.old.indents } }
+        ensures rest { self.new ≡ record
+            self.old { place = after_instruction self.old.place; indents = if ends_block self.old.place.passed self.old.place.blocks then [] else self.old.indents } }
         ensures place { IsPlace self.new.place }
         ensures number { self.new.place.number ≤ suc (suc self.old.lines) }
         ensures indents { length self.new.indents ≡ self.new.place.passed }
@@ -260,7 +265,8 @@ impl<'s, 'a> Keeper<'s, 'a> {
 
     /// Prints a line that is left out unless its block stands.
     fn print_pad(&self, out: &mut Vec<u8>, line: &[u8], leading: bool) -> Result<(), AllocError>
-        ensures { OnOk result (out.new.items ≡ out.old.items ++ (if pad_stands leading self.now.place then copied line.now else [])) }
+        ensures { OnOk result (out.new.items ≡ out.old.items ++
+            (if pad_stands leading self.now.place then copied line.now else [])) }
     {
         if self.pad_stands(leading) {
             push_copied(out, line)

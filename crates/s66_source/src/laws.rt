@@ -25,7 +25,8 @@ ghost use Rattle.s66_source.specs.Roles.{is_note, is_note_of, is_dropped, is_cop
 /// Lower case reads as upper case. Texts that differ only in the case of letters have the same blocks but for the case of letters
 /// in what is stored of their lines, or the same refusal.
 pub fn case_law()
-    ensures { (source other : Reading) → source.cut ≡ other.cut → upper source.text ≡ upper other.text → upper_read (source_of source) ≡ upper_read (source_of other) }
+    ensures { (source other : Reading) → source.cut ≡ other.cut → upper source.text ≡ upper other.text →
+        upper_read (source_of source) ≡ upper_read (source_of other) }
 {}
 
 /// The blocks of a source are its instruction lines, cut into runs, and these into blocks of `BLOCK_LIMIT` lines and what is left.
@@ -35,41 +36,56 @@ pub fn parts_law()
 
 /// Each block of an accepted source has 1 to `BLOCK_LIMIT` instructions, each of which its text spells.
 pub fn spelled_law()
-    ensures some { (source : Reading) (blocks : List Block) (block : Block) → source_of source ≡ Ok blocks → Among block blocks → 1 ≤ length (instrs_of block) }
-    ensures few { (source : Reading) (blocks : List Block) (block : Block) → source_of source ≡ Ok blocks → Among block blocks → length (instrs_of block) ≤ BLOCK_LIMIT }
-    ensures spelled { (source : Reading) (blocks : List Block) (block : Block) → source_of source ≡ Ok blocks → Among block blocks → (n : ℕ) → 1 ≤ n → n ≤ length (instrs_of block) → IsTextOf (text_of block n) (instr_at (instrs_of block) n) }
+    ensures some { (source : Reading) (blocks : List Block) (block : Block) → source_of source ≡ Ok blocks →
+        Among block blocks → 1 ≤ length (instrs_of block) }
+    ensures few { (source : Reading) (blocks : List Block) (block : Block) → source_of source ≡ Ok blocks →
+        Among block blocks → length (instrs_of block) ≤ BLOCK_LIMIT }
+    ensures spelled { (source : Reading) (blocks : List Block) (block : Block) → source_of source ≡ Ok blocks →
+        Among block blocks → (n : ℕ) → 1 ≤ n → n ≤ length (instrs_of block) →
+        IsTextOf (text_of block n) (instr_at (instrs_of block) n) }
 {}
 
 /// Each line of an accepted source is exactly one of these: an instruction, a note, a `NO` that is left out, or copied. A note is
 /// one of exactly one block.
 pub fn line_law()
-    ensures one { (source : Reading) (blocks : List Block) (line : Line) → source_of source ≡ Ok blocks → Among line (classed_lines source) → tally (λ is. is) (roles (classed_lines source) line) ≡ 1 }
-    ensures note { (source : Reading) (line : Line) → Among line (classed_lines source) → is_note (classed_lines source) line ≡ true → tally (is_note_of line) (blocks_of (classed_lines source)) ≡ 1 }
+    ensures one { (source : Reading) (blocks : List Block) (line : Line) → source_of source ≡ Ok blocks →
+        Among line (classed_lines source) → tally (λ is. is) (roles (classed_lines source) line) ≡ 1 }
+    ensures note { (source : Reading) (line : Line) → Among line (classed_lines source) →
+        is_note (classed_lines source) line ≡ true → tally (is_note_of line) (blocks_of (classed_lines source)) ≡ 1 }
 {}
 
 /// A line that is printed in its place is cut out again at its newline, and is of the same class as before, after code or not.
 pub fn copied_law()
-    ensures cut { (line text : List ℕ) → every (λ b. not (is_newline b)) line ≡ true → lines_of (line ++ codes "\n" ++ text) ≡ line ∷ lines_of text }
+    ensures cut { (line text : List ℕ) → every (λ b. not (is_newline b)) line ≡ true →
+        lines_of (line ++ codes "\n" ++ text) ≡ line ∷ lines_of text }
     ensures class { (after : Bool) (line : List ℕ) → class_of after (body line) ≡ class_of after line }
 {}
 
 /// If a printed source is accepted when it is read again, its blocks are those of the source, each in its placed order. It is
 /// refused if a line or the source has grown too long.
 pub fn read_again_law()
-    ensures { (source : Reading) (blocks again : List Block) (ps : List Placed) → source_of source ≡ Ok blocks → ArePlaced blocks ps → AreComplete blocks ps → source_of (record { cut = source.cut; text = printed source ps }) ≡ Ok again → ArePlacedAgain blocks ps again }
+    ensures { (source : Reading) (blocks again : List Block) (ps : List Placed) → source_of source ≡ Ok blocks →
+        ArePlaced blocks ps → AreComplete blocks ps →
+        source_of (record { cut = source.cut; text = printed source ps }) ≡ Ok again → ArePlacedAgain blocks ps again }
 {}
 
 /// Where no block stands, a source is printed as by its orders alone.
 pub fn none_stands_law()
-    ensures { (source : Reading) (blocks : List Block) (ps : List Placed) → source_of source ≡ Ok blocks → ArePlaced blocks ps → printed_keeping false Usual source 0 (map (λ (p : Placed). Some p) ps) ≡ printed source ps }
+    ensures { (source : Reading) (blocks : List Block) (ps : List Placed) → source_of source ≡ Ok blocks →
+        ArePlaced blocks ps → printed_keeping false Usual source 0 (map (λ (p : Placed). Some p) ps) ≡
+        printed source ps }
 {}
 
 /// An operation in the usual column is printed as without the option. A line whose operation keeps its column is read as the
 /// instruction that it spells.
 pub fn columns_law()
-    ensures usual { (all : List Line) (block : Block) (order : List ℕ) → ((n : ℕ) → Among n order → (1 ≤ n) × (n ≤ length block.entries)) → indented_lines (indents Usual all block) block block.label order ≡ instruction_lines block block.label order }
-    ensures class { (after : Bool) (line bytes : List ℕ) (n : Instr) → Spells bytes n → class_of after (replicate (indent Own line) 32 ++ trim is_trailing bytes) ≡ Instruction false n }
-    ensures bytes { (line bytes : List ℕ) (n : Instr) → Spells bytes n → from_operation (body (replicate (indent Own line) 32 ++ trim is_trailing bytes)) ≡ trim is_trailing bytes }
+    ensures usual { (all : List Line) (block : Block) (order : List ℕ) →
+        ((n : ℕ) → Among n order → (1 ≤ n) × (n ≤ length block.entries)) →
+        indented_lines (indents Usual all block) block block.label order ≡ instruction_lines block block.label order }
+    ensures class { (after : Bool) (line bytes : List ℕ) (n : Instr) → Spells bytes n →
+        class_of after (replicate (indent Own line) 32 ++ trim is_trailing bytes) ≡ Instruction false n }
+    ensures bytes { (line bytes : List ℕ) (n : Instr) → Spells bytes n →
+        from_operation (body (replicate (indent Own line) 32 ++ trim is_trailing bytes)) ≡ trim is_trailing bytes }
 {}
 
 /// With `--cut` no operand is refused.
@@ -79,12 +95,14 @@ pub fn cut_law()
 
 /// Without `--cut`, no line of a source that has no switch `OFF` is left alone.
 pub fn plain_law()
-    ensures { (text : List ℕ) → every (λ line. not (is_off_switch (body line))) (lines_of text) ≡ true → every (λ (line : Flagged). not line.alone) (flagged_lines (plain text)) ≡ true }
+    ensures { (text : List ℕ) → every (λ line. not (is_off_switch (body line))) (lines_of text) ≡ true →
+        every (λ (line : Flagged). not line.alone) (flagged_lines (plain text)) ≡ true }
 {}
 
 /// What becomes of the lines of a small source, and of comments and a `NO` outside of blocks.
 pub fn line_examples()
-    ensures instructions { lines_that (λ lines line. is_instruction line.class) (plain mixed_source) ≡ 2 ∷ 5 ∷ 6 ∷ 8 ∷ [] }
+    ensures instructions { lines_that (λ lines line. is_instruction line.class) (plain mixed_source) ≡ 2 ∷ 5 ∷ 6 ∷ 8 ∷
+        [] }
     ensures notes { lines_that is_note (plain mixed_source) ≡ 4 ∷ [] }
     ensures dropped { lines_that is_dropped (plain mixed_source) ≡ 3 ∷ [] }
     ensures copied { lines_that is_copied (plain mixed_source) ≡ 1 ∷ 7 ∷ 9 ∷ [] }
@@ -94,19 +112,30 @@ pub fn line_examples()
 
 /// What operations cover, by the text from their operands on.
 pub fn count_examples()
-    ensures alone { map (λ name. cover_of name (codes "1")) (codes "SKIP" ∷ codes "ELSE" ∷ codes "IFCP" ∷ codes "IFCP6" ∷ codes "IFCP7" ∷ codes "IFPP" ∷ codes "IFPP6" ∷ codes "IFPP7" ∷ []) ≡ replicate 8 (Lines 1) }
-    ensures after_one { map (λ name. cover_of name (codes "N,1")) (codes "DUP" ∷ codes "IFPL" ∷ codes "IFMI" ∷ []) ≡ replicate 3 (Lines 1) }
-    ensures after_two { map (λ name. cover_of name (codes "A,B,1")) (codes "IF" ∷ codes "IFEQ" ∷ codes "IFNE" ∷ codes "IFGT" ∷ codes "IFGE" ∷ codes "IFLT" ∷ codes "IFLE" ∷ []) ≡ replicate 7 (Lines 1) }
-    ensures dup { map (cover_of (codes "DUP")) (codes "3,2" ∷ codes "N" ∷ codes "N,0" ∷ []) ≡ Lines 2 ∷ Nothing ∷ Nothing ∷ [] }
+    ensures alone { map (λ name. cover_of name (codes "1"))
+        (codes "SKIP" ∷ codes "ELSE" ∷ codes "IFCP" ∷ codes "IFCP6" ∷ codes "IFCP7" ∷ codes "IFPP" ∷ codes "IFPP6" ∷
+        codes "IFPP7" ∷ []) ≡ replicate 8 (Lines 1) }
+    ensures after_one { map (λ name. cover_of name (codes "N,1")) (codes "DUP" ∷ codes "IFPL" ∷ codes "IFMI" ∷ []) ≡
+        replicate 3 (Lines 1) }
+    ensures after_two { map (λ name. cover_of name (codes "A,B,1"))
+        (codes "IF" ∷ codes "IFEQ" ∷ codes "IFNE" ∷ codes "IFGT" ∷ codes "IFGE" ∷ codes "IFLT" ∷ codes "IFLE" ∷ []) ≡
+        replicate 7 (Lines 1) }
+    ensures dup { map (cover_of (codes "DUP")) (codes "3,2" ∷ codes "N" ∷ codes "N,0" ∷ []) ≡ Lines 2 ∷ Nothing ∷
+        Nothing ∷ [] }
     ensures echo { map (cover_of (codes "ECHO")) (codes "2,P=(A,B)" ∷ codes ",P=(A,B)" ∷ []) ≡ Lines 2 ∷ Nothing ∷ [] }
-    ensures compared { map (cover_of (codes "IFEQ")) (codes "A,B,2" ∷ codes "A,1" ∷ codes "A,B,N" ∷ []) ≡ Lines 2 ∷ Nothing ∷ ToItsEnd ∷ [] }
+    ensures compared { map (cover_of (codes "IFEQ")) (codes "A,B,2" ∷ codes "A,1" ∷ codes "A,B,N" ∷ []) ≡ Lines 2 ∷
+        Nothing ∷ ToItsEnd ∷ [] }
     ensures attribute { cover_of (codes "IF") (codes "DEF,A,4") ≡ Lines 4 }
-    ensures strings { map (cover_of (codes "IFC")) (codes "EQ,/A,B/C/,3" ∷ codes "EQ,/A/B/" ∷ codes "EQ,AB" ∷ []) ≡ Lines 3 ∷ Nothing ∷ ToItsEnd ∷ [] }
-    ensures blanks { map (cover_of (codes "IFC")) (codes "EQ,* *A*,1" ∷ codes "EQ,*A B* *,0" ∷ codes "EQ,*A*B* ,1" ∷ codes "EQ,*A B*C,1" ∷ codes "EQ, *A*B*,1" ∷ codes "EQ *,A*B*" ∷ []) ≡ Lines 1 ∷ Nothing ∷ Nothing ∷ ToItsEnd ∷ ToItsEnd ∷ ToItsEnd ∷ [] }
+    ensures strings { map (cover_of (codes "IFC")) (codes "EQ,/A,B/C/,3" ∷ codes "EQ,/A/B/" ∷ codes "EQ,AB" ∷ []) ≡
+        Lines 3 ∷ Nothing ∷ ToItsEnd ∷ [] }
+    ensures blanks { map (cover_of (codes "IFC")) (codes "EQ,* *A*,1" ∷ codes "EQ,*A B* *,0" ∷ codes "EQ,*A*B* ,1" ∷
+        codes "EQ,*A B*C,1" ∷ codes "EQ, *A*B*,1" ∷ codes "EQ *,A*B*" ∷ []) ≡ Lines 1 ∷ Nothing ∷ Nothing ∷ ToItsEnd ∷
+        ToItsEnd ∷ ToItsEnd ∷ [] }
     ensures positive { cover_of (codes "IFPL") (codes "N") ≡ Nothing }
     ensures negative { cover_of (codes "IFMI") (codes "N,10") ≡ Lines 10 }
     ensures otherwise { cover_of (codes "ELSE") (codes "2") ≡ Lines 2 }
-    ensures skip { map (cover_of (codes "SKIP")) (codes "99999999999999999999" ∷ codes "0" ∷ []) ≡ Lines 20000 ∷ Nothing ∷ [] }
+    ensures skip { map (cover_of (codes "SKIP")) (codes "99999999999999999999" ∷ codes "0" ∷ []) ≡ Lines 20000 ∷
+        Nothing ∷ [] }
     ensures no_number { map (cover_of (codes "SKIP")) (codes "1,2" ∷ codes "1  REMARK" ∷ []) ≡ ToItsEnd ∷ Lines 1 ∷ [] }
     ensures other { cover_of (codes "VFD") (codes "60/0") ≡ Nothing }
 {}
@@ -115,31 +144,73 @@ pub fn count_examples()
 /// definitions, one in the other, under counts, of which a comment is none and each has its own end, in repetitions by `ECHO`,
 /// directives, lines with an operand that is not taken, and what is continued. An operand in column 30 or later is a remark.
 pub fn left_alone_examples()
-    ensures switches { map (λ (m : Flagged). m.alone) (flagged_lines (plain (codes "*S66 OFF  BY HAND\n  BX6 X1\n*s66 on\n  BX6 X1\n"))) ≡ true ∷ true ∷ true ∷ false ∷ [] }
-    ensures switches_cut { map (λ (m : Flagged). m.alone) (flagged_lines (record { cut = true; text = codes "*S66 OFF  BY HAND\n  BX6 X1\n*s66 on\n  BX6 X1\n" })) ≡ true ∷ true ∷ true ∷ false ∷ [] }
-    ensures to_the_end { map (λ (m : Flagged). m.alone) (flagged_lines (plain (codes "  BX6 X1\n*S66 OFF\n  BX6 X1\n  ZR X1,L\n"))) ≡ false ∷ true ∷ true ∷ true ∷ [] }
-    ensures no_switch { map (λ (m : Flagged). m.alone) (flagged_lines (plain (codes "*S66 OFF\n*S66 ONE\n  BX6 X1\n"))) ≡ true ∷ true ∷ true ∷ [] }
-    ensures nested { map (λ (m : Flagged). m.alone) (flagged_lines (record { cut = true; text = codes "M MACRO A\n  BX6 X1\nN MACRO B\n  ENDM\n  BX6 X1\n  ENDM\n  BX6 X1\n" })) ≡ false ∷ true ∷ true ∷ true ∷ true ∷ true ∷ false ∷ [] }
-    ensures no_end { map (λ (m : Flagged). m.alone) (flagged_lines (record { cut = true; text = codes "M MACRO\n  BX6 X1\n  BX6 X1\n" })) ≡ false ∷ true ∷ true ∷ [] }
-    ensures counted { map (λ (m : Flagged). m.alone) (flagged_lines (record { cut = true; text = codes "  DUP 2,2\n  BX6 X1\n* NOTE\n  BX6 X1\n  BX6 X1\n" })) ≡ false ∷ true ∷ true ∷ true ∷ false ∷ [] }
-    ensures to_its_end { map (λ (m : Flagged). m.alone) (flagged_lines (record { cut = true; text = codes "  IFEQ A,B,N\n  BX6 X1\n  SA1 A1\n  ENDIF\n  BX6 X1\n" })) ≡ false ∷ true ∷ true ∷ true ∷ false ∷ [] }
-    ensures counted_around { map (λ (m : Flagged). m.alone) (flagged_lines (record { cut = true; text = codes "  DUP 2,5\n  IFEQ A,B,N\n  BX0 X1\n  ENDIF\n  SA1 A1\n  BX6 X1\n  BX7 X2\n" })) ≡ false ∷ true ∷ true ∷ true ∷ true ∷ true ∷ false ∷ [] }
-    ensures counted_within { map (λ (m : Flagged). m.alone) (flagged_lines (record { cut = true; text = codes "  SKIP N\n  IFCP 3\n  ENDIF\n  SA1 A1\n  BX6 X1\n  BX7 X2\n" })) ≡ false ∷ true ∷ true ∷ true ∷ true ∷ false ∷ [] }
-    ensures repeated { map (λ (m : Flagged). m.alone) (flagged_lines (record { cut = true; text = codes "  ECHO ,R=(B2,B3)\n  DUP 2\n  SX7 R\n  ENDD\n  SB3 B1\n  ENDD\n  SB1 1\n" })) ≡ false ∷ true ∷ true ∷ true ∷ true ∷ true ∷ false ∷ [] }
-    ensures repeated_alike { map (λ (m : Flagged). m.alone) (flagged_lines (record { cut = true; text = codes "  DUP 3\n  SX7 B1\n  ENDD\n  ENDD\n  SB1 1\n" })) ≡ false ∷ false ∷ false ∷ false ∷ false ∷ [] }
-    ensures directives { map (λ (m : Flagged). m.alone) (flagged_lines (record { cut = true; text = codes "*call COMX\n*IF,DEF,A\n*ENDIF\r\n*CALLS X\n*THE NEXT\n* IF A\n*\n" })) ≡ true ∷ true ∷ true ∷ false ∷ false ∷ false ∷ false ∷ [] }
-    ensures directive { map (λ (m : Flagged). m.alone) (flagged_lines (record { cut = true; text = codes "  BX6 X1\n*IF DEF,A\n  BX6 X2\n" })) ≡ false ∷ true ∷ false ∷ [] }
-    ensures bad_operand { map (λ (m : Flagged). m.alone) (flagged_lines (record { cut = true; text = codes "  BX6 X1\n  BX6 Q1\n" })) ≡ false ∷ true ∷ [] }
-    ensures continued { map (λ (m : Flagged). m.alone) (flagged_lines (record { cut = true; text = codes "  BX6 X1\n, X2\n  BX6 X3\n" })) ≡ true ∷ true ∷ false ∷ [] }
-    ensures remark { map (λ (m : Flagged). m.alone) (flagged_lines (record { cut = true; text = codes "  ELSE                       2 LINES\n  BX6 X1\n" })) ≡ false ∷ false ∷ [] }
-    ensures last_column { map (λ (m : Flagged). m.alone) (flagged_lines (record { cut = true; text = codes "  ELSE                      2 LINES\n  BX6 X1\n" })) ≡ false ∷ true ∷ [] }
-    ensures plain_macro { map (λ (m : Flagged). m.alone) (flagged_lines (plain (codes "M MACRO\n  BX6 X1\n  ENDM\n"))) ≡ false ∷ false ∷ false ∷ [] }
-    ensures plain_operand { map (λ (m : Flagged). m.alone) (flagged_lines (plain (codes "*IF DEF,A\n  BX6 Q1\n, X2\n"))) ≡ false ∷ false ∷ false ∷ [] }
+    ensures switches { map (λ (m : Flagged). m.alone)
+        (flagged_lines (plain (codes "*S66 OFF  BY HAND\n  BX6 X1\n*s66 on\n  BX6 X1\n"))) ≡ true ∷ true ∷ true ∷
+        false ∷ [] }
+    ensures switches_cut { map (λ (m : Flagged). m.alone)
+        (flagged_lines (record { cut = true; text = codes "*S66 OFF  BY HAND\n  BX6 X1\n*s66 on\n  BX6 X1\n" })) ≡
+        true ∷ true ∷ true ∷ false ∷ [] }
+    ensures to_the_end { map (λ (m : Flagged). m.alone)
+        (flagged_lines (plain (codes "  BX6 X1\n*S66 OFF\n  BX6 X1\n  ZR X1,L\n"))) ≡ false ∷ true ∷ true ∷ true ∷ [] }
+    ensures no_switch { map (λ (m : Flagged). m.alone)
+        (flagged_lines (plain (codes "*S66 OFF\n*S66 ONE\n  BX6 X1\n"))) ≡ true ∷ true ∷ true ∷ [] }
+    ensures nested { map (λ (m : Flagged). m.alone)
+        (flagged_lines
+        (record { cut = true; text = codes "M MACRO A\n  BX6 X1\nN MACRO B\n  ENDM\n  BX6 X1\n  ENDM\n  BX6 X1\n" })) ≡
+        false ∷ true ∷ true ∷ true ∷ true ∷ true ∷ false ∷ [] }
+    ensures no_end { map (λ (m : Flagged). m.alone)
+        (flagged_lines (record { cut = true; text = codes "M MACRO\n  BX6 X1\n  BX6 X1\n" })) ≡ false ∷ true ∷ true ∷
+        [] }
+    ensures counted { map (λ (m : Flagged). m.alone)
+        (flagged_lines (record { cut = true; text = codes "  DUP 2,2\n  BX6 X1\n* NOTE\n  BX6 X1\n  BX6 X1\n" })) ≡
+        false ∷ true ∷ true ∷ true ∷ false ∷ [] }
+    ensures to_its_end { map (λ (m : Flagged). m.alone)
+        (flagged_lines
+        (record { cut = true; text = codes "  IFEQ A,B,N\n  BX6 X1\n  SA1 A1\n  ENDIF\n  BX6 X1\n" })) ≡ false ∷
+        true ∷ true ∷ true ∷ false ∷ [] }
+    ensures counted_around { map (λ (m : Flagged). m.alone)
+        (flagged_lines
+        (record { cut = true; text = codes "  DUP 2,5\n  IFEQ A,B,N\n  BX0 X1\n  ENDIF\n  SA1 A1\n  BX6 X1\n  BX7 X2\n" })) ≡
+        false ∷ true ∷ true ∷ true ∷ true ∷ true ∷ false ∷ [] }
+    ensures counted_within { map (λ (m : Flagged). m.alone)
+        (flagged_lines
+        (record { cut = true; text = codes "  SKIP N\n  IFCP 3\n  ENDIF\n  SA1 A1\n  BX6 X1\n  BX7 X2\n" })) ≡ false ∷
+        true ∷ true ∷ true ∷ true ∷ false ∷ [] }
+    ensures repeated { map (λ (m : Flagged). m.alone)
+        (flagged_lines
+        (record { cut = true; text = codes "  ECHO ,R=(B2,B3)\n  DUP 2\n  SX7 R\n  ENDD\n  SB3 B1\n  ENDD\n  SB1 1\n" })) ≡
+        false ∷ true ∷ true ∷ true ∷ true ∷ true ∷ false ∷ [] }
+    ensures repeated_alike { map (λ (m : Flagged). m.alone)
+        (flagged_lines (record { cut = true; text = codes "  DUP 3\n  SX7 B1\n  ENDD\n  ENDD\n  SB1 1\n" })) ≡ false ∷
+        false ∷ false ∷ false ∷ false ∷ [] }
+    ensures directives { map (λ (m : Flagged). m.alone)
+        (flagged_lines
+        (record { cut = true; text = codes "*call COMX\n*IF,DEF,A\n*ENDIF\r\n*CALLS X\n*THE NEXT\n* IF A\n*\n" })) ≡
+        true ∷ true ∷ true ∷ false ∷ false ∷ false ∷ false ∷ [] }
+    ensures directive { map (λ (m : Flagged). m.alone)
+        (flagged_lines (record { cut = true; text = codes "  BX6 X1\n*IF DEF,A\n  BX6 X2\n" })) ≡ false ∷ true ∷
+        false ∷ [] }
+    ensures bad_operand { map (λ (m : Flagged). m.alone)
+        (flagged_lines (record { cut = true; text = codes "  BX6 X1\n  BX6 Q1\n" })) ≡ false ∷ true ∷ [] }
+    ensures continued { map (λ (m : Flagged). m.alone)
+        (flagged_lines (record { cut = true; text = codes "  BX6 X1\n, X2\n  BX6 X3\n" })) ≡ true ∷ true ∷ false ∷ [] }
+    ensures remark { map (λ (m : Flagged). m.alone)
+        (flagged_lines (record { cut = true; text = codes "  ELSE                       2 LINES\n  BX6 X1\n" })) ≡
+        false ∷ false ∷ [] }
+    ensures last_column { map (λ (m : Flagged). m.alone)
+        (flagged_lines (record { cut = true; text = codes "  ELSE                      2 LINES\n  BX6 X1\n" })) ≡
+        false ∷ true ∷ [] }
+    ensures plain_macro { map (λ (m : Flagged). m.alone) (flagged_lines (plain (codes "M MACRO\n  BX6 X1\n  ENDM\n"))) ≡
+        false ∷ false ∷ false ∷ [] }
+    ensures plain_operand { map (λ (m : Flagged). m.alone)
+        (flagged_lines (plain (codes "*IF DEF,A\n  BX6 Q1\n, X2\n"))) ≡ false ∷ false ∷ false ∷ [] }
 {}
 
 /// The texts of the constants in the instructions of a block.
 pub fn block_examples()
-    ensures { map (λ block. map (constants_in block) (1 ∷ 2 ∷ 3 ∷ [])) (blocks_of (classed_lines (plain (codes "  SA1 A1+n\n  BX6 X1\n  LX6 6\n")))) ≡ (codes "+N" ∷ [] ∷ codes "6" ∷ []) ∷ [] }
+    ensures { map (λ block. map (constants_in block) (1 ∷ 2 ∷ 3 ∷ []))
+        (blocks_of (classed_lines (plain (codes "  SA1 A1+n\n  BX6 X1\n  LX6 6\n")))) ≡
+        (codes "+N" ∷ [] ∷ codes "6" ∷ []) ∷ [] }
 {}
 
 /// Sources printed: one with lines of each sort; one with comments and `NO`s around a block; one with a label on a `NO`; and one

@@ -39,7 +39,9 @@ pub fn is_upper_case(bytes: &[u8]) -> bool
 /// or ends something.
 #[inline(always)]
 fn begins_name(first: u8, second: u8, third: u8) -> bool
-    ensures { result ≡ (bytes_eq (first ∷ upper_byte second ∷ []) (codes "IF") || is_one_of (codes "IDE" ∷ codes "END" ∷ codes "ELS" ∷ codes "ECH" ∷ codes "MAC" ∷ codes "OPD" ∷ codes "SKI" ∷ codes "DUP" ∷ []) (first ∷ upper_byte second ∷ upper_byte third ∷ [])) }
+    ensures { result ≡ (bytes_eq (first ∷ upper_byte second ∷ []) (codes "IF") || is_one_of
+        (codes "IDE" ∷ codes "END" ∷ codes "ELS" ∷ codes "ECH" ∷ codes "MAC" ∷ codes "OPD" ∷ codes "SKI" ∷
+        codes "DUP" ∷ []) (first ∷ upper_byte second ∷ upper_byte third ∷ [])) }
 {
     match first {
         b'I' => is_letter(second, b'F') || is_letter(second, b'D') && is_letter(third, b'E'),
@@ -58,7 +60,8 @@ fn begins_name(first: u8, second: u8, third: u8) -> bool
 
 /// Whether the operation in front of these bytes shows by its first letters that it covers, begins and ends nothing, as most do.
 pub fn is_ordinary(bytes: &[u8]) -> bool
-    ensures { result ≡ true → (s : Standing) (operand : List ℕ) → after_operation s (upper (word bytes.now)) operand ≡ record s { cover = count_down s.cover false } }
+    ensures { result ≡ true → (s : Standing) (operand : List ℕ) →
+        after_operation s (upper (word bytes.now)) operand ≡ record s { cover = count_down s.cover false } }
 {
     match bytes {
         [first, second, third, ..] => !begins_name(first.to_ascii_uppercase(), *second, *third),

@@ -20,7 +20,8 @@ impl Model for Pads {
 
     ghost Value = { Pads };
 
-    ghost view = { λ p. record { dropped = p.dropped.items; undecided = p.undecided.items; has_instruction = p.has_instruction; leading = p.leading.items } };
+    ghost view = { λ p.
+        record { dropped = p.dropped.items; undecided = p.undecided.items; has_instruction = p.has_instruction; leading = p.leading.items } };
 }
 
 impl Pads {

@@ -22,5 +22,6 @@ impl Model for Placed {
 
     ghost Value = { Placed };
 
-    ghost view = { λ p. record { order = p.order.items; source = p.source; time = p.time; bound = p.bound; splits = p.splits } };
+    ghost view = { λ p.
+        record { order = p.order.items; source = p.source; time = p.time; bound = p.bound; splits = p.splits } };
 }

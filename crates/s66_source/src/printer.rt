@@ -58,7 +58,8 @@ impl<'s, 'a> Model for Printer<'s, 'a> {
 
     ghost Value = { Printer };
 
-    ghost view = { λ p. record { blocks = p.blocks.now; placed = p.placed.now; dropped = p.dropped.now; number = p.number; passed = p.passed; lines = p.lines } };
+    ghost view = { λ p.
+        record { blocks = p.blocks.now; placed = p.placed.now; dropped = p.dropped.now; number = p.number; passed = p.passed; lines = p.lines } };
 }
 
 impl<'s, 'a> Printer<'s, 'a> {
@@ -98,7 +99,8 @@ impl<'s, 'a> Printer<'s, 'a> {
         requires lines { self.old.lines < SOURCE_LINES_LIMIT }
         requires printer { IsPrinter self.old }
         requires here { is_instruction_next self.old ≡ true }
-        ensures text { OnOk result (out.new.items ≡ out.old.items ++ text_at self.old.number self.old.passed self.old.blocks self.old.placed) }
+        ensures text { OnOk result (out.new.items ≡ out.old.items ++
+            text_at self.old.number self.old.passed self.old.blocks self.old.placed) }
         ensures rest { OnOk result (self.new ≡ pass_instruction self.old) }
     {
         let ([block, blocks @ ..], [placed, others @ ..]) = (self.blocks, self.placed) else {

@@ -108,7 +108,8 @@ impl<'a> Reader<'a> {
         requires lines { self.old.lines < SOURCE_LINES_LIMIT }
         requires bytes { length line.bytes.now ≤ TEXT_LIMIT }
         requires spelled { IsSpelled line.class line.bytes.now }
-        ensures step { Steps (state self.new) result (by_class (state self.old) line.entry.class line.entry.label.now line.entry.bytes.now) }
+        ensures step { Steps (state self.new) result (by_class
+            (state self.old) line.entry.class line.entry.label.now line.entry.bytes.now) }
         ensures pads { OnOk result (self.new.pads ≡ pads_by_class line.entry.class (suc self.old.lines) self.old.pads) }
         ensures count { OnOk result (self.new.lines ≡ suc self.old.lines) }
         ensures after_code { OnOk result (self.new.after_code ≡ is_code line.entry.class) }
@@ -157,10 +158,13 @@ impl<'a> Reader<'a> {
         requires few { length self.old.entries.items < BLOCK_LIMIT }
         requires lines { self.old.lines ≤ SOURCE_LINES_LIMIT }
         requires bodies { self.old.standing.bodies ≤ self.old.lines }
-        ensures step { Steps (state self.new) result (line_step (state self.old) (flagged self.old continued line.now)) }
-        ensures pads { OnOk result (self.new.pads ≡ pads_by_class (class_at self.old.after_code (flagged self.old continued line.now)) (suc self.old.lines) self.old.pads) }
+        ensures step { Steps (state self.new) result (line_step (state self.old)
+            (flagged self.old continued line.now)) }
+        ensures pads { OnOk result (self.new.pads ≡ pads_by_class
+            (class_at self.old.after_code (flagged self.old continued line.now)) (suc self.old.lines) self.old.pads) }
         ensures count { OnOk result (self.new.lines ≡ suc self.old.lines) }
-        ensures after_code { OnOk result (self.new.after_code ≡ is_code (class_at self.old.after_code (flagged self.old continued line.now))) }
+        ensures after_code { OnOk result (self.new.after_code ≡
+            is_code (class_at self.old.after_code (flagged self.old continued line.now))) }
         ensures standing { OnOk result (self.new.standing ≡ after_line self.old.cut self.old.standing line.now) }
         ensures cut { self.new.cut ≡ self.old.cut }
         ensures few { OnOk result (length self.new.entries.items < BLOCK_LIMIT) }
@@ -186,8 +190,10 @@ impl<'a> Reader<'a> {
         requires few { length self.old.entries.items < BLOCK_LIMIT }
         requires lines { self.old.lines ≤ SOURCE_LINES_LIMIT }
         requires bodies { self.old.standing.bodies ≤ self.old.lines }
-        ensures step { Steps (state self.new) result (lines_step (state self.old) (flagged_from self.old.cut self.old.standing (lines_from [] text.now))) }
-        ensures pads { OnOk result (self.new.pads ≡ pads_of_lines self.old.lines self.old.after_code self.old.pads (flagged_from self.old.cut self.old.standing (lines_from [] text.now))) }
+        ensures step { Steps (state self.new) result (lines_step (state self.old)
+            (flagged_from self.old.cut self.old.standing (lines_from [] text.now))) }
+        ensures pads { OnOk result (self.new.pads ≡ pads_of_lines self.old.lines self.old.after_code self.old.pads
+            (flagged_from self.old.cut self.old.standing (lines_from [] text.now))) }
         ensures few { OnOk result (length self.new.entries.items < BLOCK_LIMIT) }
     {
         let mut rest = text;

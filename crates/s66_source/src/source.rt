@@ -33,7 +33,9 @@ impl<'a> Model for Source<'a> {
 
     ghost view = { λ s. record { cut = s.cut; text = s.text.now } };
 
-    ghost invariant = { λ s. (source_of (record { cut = s.cut; text = s.text.now }) ≡ Ok s.blocks.items) × (s.dropped.items ≡ lines_that is_dropped (record { cut = s.cut; text = s.text.now })) × (s.leading.items ≡ lines_that is_leading (record { cut = s.cut; text = s.text.now })) };
+    ghost invariant = { λ s. (source_of (record { cut = s.cut; text = s.text.now }) ≡ Ok s.blocks.items) ×
+        (s.dropped.items ≡ lines_that is_dropped (record { cut = s.cut; text = s.text.now })) ×
+        (s.leading.items ≡ lines_that is_leading (record { cut = s.cut; text = s.text.now })) };
 }
 
 impl<'a> Source<'a> {
@@ -88,7 +90,8 @@ pub fn read_source(alloc: Global, text: &[u8]) -> Result<Source<'_>, SourceError
 /// directives, definitions, and what operations cover that count lines.
 pub fn read_source_with(alloc: Global, cut: bool, text: &[u8]) -> Result<Source<'_>, SourceError>
     ensures source { IfOk result (λ source. source ≡ record { cut = cut; text = text.now }) }
-    ensures read { Gives (λ source. blocks_of (classed_lines source)) result (source_of (record { cut = cut; text = text.now })) }
+    ensures read { Gives (λ source. blocks_of (classed_lines source)) result
+        (source_of (record { cut = cut; text = text.now })) }
 {
     let mut reader = Reader {
         blocks: Vec::new(alloc),

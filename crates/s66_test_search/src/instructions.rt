@@ -49,7 +49,8 @@ fn texts_of<R: AllocGlobal + Abort>(rt: &R, code: &str) -> Vec<Vec<u8>> {
 
 /// Whether each text is one of an instruction.
 fn are_instructions(texts: &[Vec<u8>]) -> bool
-    ensures { IsTrue result → (text : List ℕ) → Among text (map (λ (t : Vec ℕ Global). t.items) texts.now) → IsInstruction text }
+    ensures { IsTrue result → (text : List ℕ) → Among text (map (λ (t : Vec ℕ Global). t.items) texts.now) →
+        IsInstruction text }
 {
     for text in texts {
         if !is_instruction(text.as_slice()) {

@@ -54,12 +54,18 @@ impl Mark {
     )
         requires follows { AreWordsInTurn profile.now words.now }
         requires copies { AreCopies profile.now copies.now }
-        ensures progress { (self.new.next ≡ words.now.progress.next) × (self.new.total ≡ words.now.progress.total) × (self.new.place ≡ words.now.progress.parcel % 4) }
+        ensures progress { (self.new.next ≡ words.now.progress.next) × (self.new.total ≡ words.now.progress.total) ×
+            (self.new.place ≡ words.now.progress.parcel % 4) }
         ensures count { self.new.count ≡ word_count (kept_in shape.now.kept) }
-        ensures writers { (r : Reg) → r.digit ≤ 7 → get_or self.new.words.words (index_of r) 0 ≡ word_of words.now.done.words r }
-        ensures readers { (r : Reg) → r.digit ≤ 7 → get_or self.new.words.words (READERS_AT + index_of r) 0 ≡ word_of words.now.read.words r }
-        ensures memory { (get_or self.new.words.words REFERENCES_AT 0 ≡ words.now.progress.refs) × (get_or self.new.words.words STORES_AT 0 ≡ words.now.progress.stores) }
-        ensures units { (kind : Kind) → AreLatest (kept_in shape.now.kept kind) (units_of profile.now kind words.now.units.words) (words_from (first_kept (kept_in shape.now.kept) kind) (kept_in shape.now.kept kind) self.new.words.words) }
+        ensures writers { (r : Reg) → r.digit ≤ 7 → get_or self.new.words.words (index_of r) 0 ≡
+            word_of words.now.done.words r }
+        ensures readers { (r : Reg) → r.digit ≤ 7 → get_or self.new.words.words (READERS_AT + index_of r) 0 ≡
+            word_of words.now.read.words r }
+        ensures memory { (get_or self.new.words.words REFERENCES_AT 0 ≡ words.now.progress.refs) ×
+            (get_or self.new.words.words STORES_AT 0 ≡ words.now.progress.stores) }
+        ensures units { (kind : Kind) → AreLatest (kept_in shape.now.kept kind)
+            (units_of profile.now kind words.now.units.words)
+            (words_from (first_kept (kept_in shape.now.kept) kind) (kept_in shape.now.kept kind) self.new.words.words) }
     {
         let progress = words.progress;
         let marked = &mut self.words;

@@ -19,7 +19,8 @@ impl MarkShape {
     /// Of each kind as many as it has copies, but no more than there are rows of the kind.
     pub fn of(rows: &[Row], copies: &Copies) -> MarkShape
         requires { length rows.now ≤ BLOCK_LIMIT }
-        ensures { (kind : KindOf) → kept_in result.kept kind ≡ min (kept_in copies.now.counts kind) (tally (λ (r : RowOf). same_kind r.kind kind) rows.now) }
+        ensures { (kind : KindOf) → kept_in result.kept kind ≡
+            min (kept_in copies.now.counts kind) (tally (λ (r : RowOf). same_kind r.kind kind) rows.now) }
     {
         let mut kept = [0; KIND_COUNT];
         for row in rows {

@@ -30,7 +30,8 @@ pub struct Progress {
 impl Progress {
     /// Before the first push.
     pub fn new() -> Progress
-        ensures words { (result.refs ≡ 0) × (result.stores ≡ 0) × (result.parcel ≡ 0) × (result.next ≡ 0) × (result.total ≡ 0) }
+        ensures words { (result.refs ≡ 0) × (result.stores ≡ 0) × (result.parcel ≡ 0) × (result.next ≡ 0) ×
+            (result.total ≡ 0) }
         ensures pushed { numbers_in result.pushed ≡ [] }
     {
         Progress {
@@ -46,13 +47,16 @@ impl Progress {
     /// The progress after one more instruction, with its times.
     pub fn after(&self, number: u8, row: &Row, tick: &Tick) -> Progress
         requires number { (1 ≤ number) × (number ≤ BLOCK_LIMIT) }
-        requires early { (tick.now.issue ≤ TOTAL_LIMIT + 3) × (tick.now.parcel ≤ TOTAL_LIMIT + 3) × (tick.now.start ≤ TOTAL_LIMIT + 3) }
+        requires early { (tick.now.issue ≤ TOTAL_LIMIT + 3) × (tick.now.parcel ≤ TOTAL_LIMIT + 3) ×
+            (tick.now.start ≤ TOTAL_LIMIT + 3) }
         ensures refs { result.refs ≡ max self.now.refs (if touches row.now.memory then tick.now.start + 1 else 0) }
         ensures stores { result.stores ≡ max self.now.stores (if stores row.now.memory then tick.now.start + 1 else 0) }
         ensures parcel { result.parcel ≡ tick.now.parcel + row.now.parcels }
         ensures next { result.next ≡ tick.now.issue + row.now.parcels }
-        ensures total { result.total ≡ max self.now.total (max tick.now.free (greatest (λ (d : ResultOf). d.time) tick.now.results.items)) }
-        ensures pushed { (m : ℕ) → has m (numbers_in result.pushed) ≡ (m == number || has m (numbers_in self.now.pushed)) }
+        ensures total { result.total ≡ max self.now.total
+            (max tick.now.free (greatest (λ (d : ResultOf). d.time) tick.now.results.items)) }
+        ensures pushed { (m : ℕ) → has m (numbers_in result.pushed) ≡
+            (m == number || has m (numbers_in self.now.pushed)) }
     {
         let started = tick.start + 1;
         let (references, stored) = match row.memory {

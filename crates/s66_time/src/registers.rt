@@ -40,7 +40,8 @@ impl RegisterWords {
 
     /// The registers whose words are after a time.
     pub fn after(&self, time: u32) -> Registers
-        ensures { (f : RegOf → ℕ) → Tells self.now.words f → (r : RegOf) → r.digit ≤ 7 → has_reg r (registers_in result) ≡ nat_lt time (f r) }
+        ensures { (f : RegOf → ℕ) → Tells self.now.words f → (r : RegOf) → r.digit ≤ 7 →
+            has_reg r (registers_in result) ≡ nat_lt time (f r) }
     {
         let mut after = Registers::empty();
         for index in 0..REGISTER_COUNT {
@@ -83,7 +84,9 @@ impl RegisterWords {
     fn result(&self, write: &Write, start: u32) -> ResultAt
         requires latency { write.now.latency ≤ 100 }
         requires start { start ≤ TOTAL_LIMIT + 3 }
-        ensures { (f : RegOf → ℕ) → Tells self.now.words f → result ≡ record { reg = write.now.reg; time = max (start + write.now.latency) (f write.now.reg); held = write.now.held } }
+        ensures { (f : RegOf → ℕ) → Tells self.now.words f →
+            result ≡
+            record { reg = write.now.reg; time = max (start + write.now.latency) (f write.now.reg); held = write.now.held } }
     {
         ResultAt {
             reg: write.reg,
@@ -97,7 +100,9 @@ impl RegisterWords {
         requires few { length writes.now ≤ 2 }
         requires latencies { greatest (λ (w : WriteOf). w.latency) writes.now ≤ 100 }
         requires start { start ≤ TOTAL_LIMIT + 3 }
-        ensures { (f : RegOf → ℕ) → Tells self.now.words f → result.items ≡ map (λ (w : WriteOf). record { reg = w.reg; time = max (start + w.latency) (f w.reg); held = w.held }) writes.now }
+        ensures { (f : RegOf → ℕ) → Tells self.now.words f →
+            result.items ≡ map (λ (w : WriteOf).
+            record { reg = w.reg; time = max (start + w.latency) (f w.reg); held = w.held }) writes.now }
     {
         let mut results = ArrayVec::new();
         if writes.is_empty() {
@@ -114,8 +119,10 @@ impl RegisterWords {
     /// Raises the word of a register to a time, and saves at a place what it was.
     fn raise<const N: usize>(&mut self, register: Reg, time: u32, saved: &mut [Saved; N], at: usize)
         requires { at < N }
-        ensures words { (r : RegOf) → r.digit ≤ 7 → word_of self.new.words r ≡ max (word_of self.old.words r) (if same_reg register r then time else 0) }
-        ensures saved { put_back (take (at + 1) saved.new) self.new.words ≡ put_back (take at saved.old) self.old.words }
+        ensures words { (r : RegOf) → r.digit ≤ 7 → word_of self.new.words r ≡
+            max (word_of self.old.words r) (if same_reg register r then time else 0) }
+        ensures saved { put_back (take (at + 1) saved.new) self.new.words ≡
+            put_back (take at saved.old) self.old.words }
     {
         let place = register.index();
         let word = self.words[place as usize];
@@ -127,7 +134,9 @@ impl RegisterWords {
     /// place on.
     pub fn raise_results(&mut self, results: &[ResultAt], saved: &mut [Saved; 2])
         requires { length results.now ≤ 2 }
-        ensures words { (r : RegOf) → r.digit ≤ 7 → word_of self.new.words r ≡ max (word_of self.old.words r) (greatest (λ (d : ResultOf). if same_reg d.reg r then d.time else 0) results.now) }
+        ensures words { (r : RegOf) → r.digit ≤ 7 → word_of self.new.words r ≡
+            max (word_of self.old.words r)
+            (greatest (λ (d : ResultOf). if same_reg d.reg r then d.time else 0) results.now) }
         ensures saved { put_back (take (length results.now) saved.new) self.new.words ≡ self.old.words }
     {
         if results.is_empty() {
@@ -145,7 +154,8 @@ impl RegisterWords {
     /// Raises the words of registers to a time, and saves what they were, from the first place on.
     pub fn raise_all(&mut self, registers: &[Reg], time: u32, saved: &mut [Saved; 4])
         requires { length registers.now ≤ 4 }
-        ensures words { (r : RegOf) → r.digit ≤ 7 → word_of self.new.words r ≡ max (word_of self.old.words r) (if has_reg r registers.now then time else 0) }
+        ensures words { (r : RegOf) → r.digit ≤ 7 → word_of self.new.words r ≡
+            max (word_of self.old.words r) (if has_reg r registers.now then time else 0) }
         ensures saved { put_back (take (length registers.now) saved.new) self.new.words ≡ self.old.words }
     {
         for position in 0..registers.len() {

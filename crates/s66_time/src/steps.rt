@@ -53,8 +53,10 @@ impl Steps {
         requires some { (1 ≤ copies) × (copies ≤ COPIES_LIMIT) }
         requires number { (1 ≤ number) × (number ≤ BLOCK_LIMIT) }
         requires follows { AreWordsInTurn profile.now words.old }
-        ensures step { (step : StepOf) × (self.new ≡ self.old ++ step ∷ []) × (step.number ≡ number) × (after_undo words.new step ≡ words.old) }
-        ensures words { (s : List Point) → IsWords profile.now s words.old → InTurn s → IsWords profile.now (point (under profile.now) s number row.now ∷ s) words.new }
+        ensures step { (step : StepOf) × (self.new ≡ self.old ++ step ∷ []) × (step.number ≡ number) ×
+            (after_undo words.new step ≡ words.old) }
+        ensures words { (s : List Point) → IsWords profile.now s words.old → InTurn s →
+            IsWords profile.now (point (under profile.now) s number row.now ∷ s) words.new }
     {
         make_room(&mut self.places, self.count);
         words.push(profile, copies, number, row, &mut self.places[self.count]);

@@ -47,7 +47,8 @@ impl UnitWords {
 
     /// The words of all units that a profile has are 0 from now on.
     pub fn clear_all(&mut self, profile: &Profile)
-        ensures zeros { (kind : KindOf) (i : ℕ) → i < copies_of profile.now kind → get_or self.new.words (first_unit kind + i) 0 ≡ 0 }
+        ensures zeros { (kind : KindOf) (i : ℕ) → i < copies_of profile.now kind →
+            get_or self.new.words (first_unit kind + i) 0 ≡ 0 }
         ensures size { length self.new.words ≡ length self.old.words }
     {
         for kind in KINDS {
@@ -61,7 +62,8 @@ impl UnitWords {
         ensures within { result < UNIT_LIMIT }
         ensures own { first_unit kind ≤ result }
         ensures copy { result - first_unit kind < copies }
-        ensures least { (i : ℕ) → i < copies → get_or self.now.words result 0 ≤ get_or self.now.words (first_unit kind + i) 0 }
+        ensures least { (i : ℕ) → i < copies → get_or self.now.words result 0 ≤ get_or self.now.words
+            (first_unit kind + i) 0 }
     {
         let first = first_unit(kind);
         let copies = copies as usize;

@@ -60,7 +60,8 @@ impl Words {
     pub fn slot(&self, parcels: u32) -> u32
         requires parcel { self.now.progress.parcel ≤ TOTAL_LIMIT + 2 }
         requires next { self.now.progress.next ≤ TOTAL_LIMIT + 2 }
-        ensures { result ≡ self.now.progress.next + (fits_at self.now.progress.parcel parcels - self.now.progress.parcel) }
+        ensures { result ≡ self.now.progress.next + (fits_at self.now.progress.parcel
+            parcels - self.now.progress.parcel) }
     {
         self.progress.next + (fits_at(self.progress.parcel, parcels) - self.progress.parcel)
     }
@@ -90,7 +91,8 @@ impl Words {
 
     /// When the instruction starts that issues then.
     fn start(&self, row: &Row, issue: u32) -> u32
-        ensures { (p : ProfileOf) (s : List Point) → IsWords p s self.now → InTurn s → issue ≡ issue_of (under p) s row.now → result ≡ start_of (under p) s row.now }
+        ensures { (p : ProfileOf) (s : List Point) → IsWords p s self.now → InTurn s →
+            issue ≡ issue_of (under p) s row.now → result ≡ start_of (under p) s row.now }
     {
         let done = self.done.greatest(row.reads.as_slice());
         issue.max(done.max(self.memory_wait(row.memory)))
@@ -100,9 +102,11 @@ impl Words {
     pub fn tick(&self, profile: &Profile, row: &Row) -> Tick
         requires follows { AreWordsInTurn profile.now self.now }
         ensures soonest { IsSoonest profile.now row.now.kind self.now.units.words result.unit }
-        ensures value { (s : List Point) (n : ℕ) → IsWords profile.now s self.now → InTurn s → point_of_tick n row.now result ≡ point (under profile.now) s n row.now }
+        ensures value { (s : List Point) (n : ℕ) → IsWords profile.now s self.now → InTurn s →
+            point_of_tick n row.now result ≡ point (under profile.now) s n row.now }
         ensures good { IsInRange row.now }
-        ensures early { (result.issue ≤ TOTAL_LIMIT + 3) × (result.parcel ≤ TOTAL_LIMIT + 3) × (result.start ≤ TOTAL_LIMIT + 3) }
+        ensures early { (result.issue ≤ TOTAL_LIMIT + 3) × (result.parcel ≤ TOTAL_LIMIT + 3) ×
+            (result.start ≤ TOTAL_LIMIT + 3) }
     {
         self.tick_among(profile, profile.copies(row.kind), row)
     }
@@ -114,9 +118,11 @@ impl Words {
         requires some { (1 ≤ copies) × (copies ≤ COPIES_LIMIT) }
         requires follows { AreWordsInTurn profile.now self.now }
         ensures soonest { IsSoonest profile.now row.now.kind self.now.units.words result.unit }
-        ensures value { (s : List Point) (n : ℕ) → IsWords profile.now s self.now → InTurn s → point_of_tick n row.now result ≡ point (under profile.now) s n row.now }
+        ensures value { (s : List Point) (n : ℕ) → IsWords profile.now s self.now → InTurn s →
+            point_of_tick n row.now result ≡ point (under profile.now) s n row.now }
         ensures good { IsInRange row.now }
-        ensures early { (result.issue ≤ TOTAL_LIMIT + 3) × (result.parcel ≤ TOTAL_LIMIT + 3) × (result.start ≤ TOTAL_LIMIT + 3) }
+        ensures early { (result.issue ≤ TOTAL_LIMIT + 3) × (result.parcel ≤ TOTAL_LIMIT + 3) ×
+            (result.start ≤ TOTAL_LIMIT + 3) }
     {
         let unit = self.units.soonest(copies, row.kind);
         let issue = self.issue(profile, row, unit);
@@ -137,7 +143,8 @@ impl Words {
     #[inline(always)]
     pub fn take(&mut self, number: u8, row: &Row, tick: &Tick, step: &mut Step)
         requires number { (1 ≤ number) × (number ≤ BLOCK_LIMIT) }
-        requires early { (tick.now.issue ≤ TOTAL_LIMIT + 3) × (tick.now.parcel ≤ TOTAL_LIMIT + 3) × (tick.now.start ≤ TOTAL_LIMIT + 3) }
+        requires early { (tick.now.issue ≤ TOTAL_LIMIT + 3) × (tick.now.parcel ≤ TOTAL_LIMIT + 3) ×
+            (tick.now.start ≤ TOTAL_LIMIT + 3) }
         requires worked { get_or self.old.worked (kind_number row.now.kind) 0 ≤ WORK_LIMIT }
         ensures number { step.new.number ≡ number }
         ensures back { after_undo self.new step.new ≡ self.old }
@@ -171,7 +178,8 @@ impl Words {
         requires follows { AreWordsInTurn profile.now self.old }
         ensures number { step.new.number ≡ number }
         ensures back { after_undo self.new step.new ≡ self.old }
-        ensures words { (s : List Point) → IsWords profile.now s self.old → InTurn s → IsWords profile.now (point (under profile.now) s number row.now ∷ s) self.new }
+        ensures words { (s : List Point) → IsWords profile.now s self.old → InTurn s →
+            IsWords profile.now (point (under profile.now) s number row.now ∷ s) self.new }
     {
         let tick = self.tick_among(profile, copies, row);
         self.take(number, row, &tick, step);

@@ -109,7 +109,8 @@ fn some_dominated(marks: &[Mark]) -> bool
 fn line_at<'a>(marks: &[Mark], numbers: &'a [u8], begins: &[usize], place: usize) -> TreeLine<'a>
     requires kept { AreKeptLines marks.now numbers.now begins.now }
     requires within { place < length marks.now }
-    ensures { drop place (vertices_of marks.now numbers.now) ≡ vertex_of result ∷ drop (place + 1) (vertices_of marks.now numbers.now) }
+    ensures { drop place (vertices_of marks.now numbers.now) ≡ vertex_of result ∷
+        drop (place + 1) (vertices_of marks.now numbers.now) }
 {
     let mark = marks[place];
     let begin = begins[place];

@@ -38,7 +38,8 @@ pub fn chart_examples()
         codes "  1 I============================....\n" ++
         codes "  2 .IWWWWWWWWWWWWWWWWWWWWWWWWWWW===.\n" ++
         codes "  3 ..I=======HHHHHHHHHHHHHHHHHHHH...\n" }
-    ensures only_b0 { chart_text (record { problem = standard_problem (instr 0o61 0 0 0 ∷ []); numbers = 1 ∷ [] }) ≡ codes "  1 I==.\n" }
+    ensures only_b0 { chart_text (record { problem = standard_problem (instr 0o61 0 0 0 ∷ []); numbers = 1 ∷ [] }) ≡
+        codes "  1 I==.\n" }
 {}
 
 /// A block of five parcels with its texts: in upper case and without the remark, as wide as the widest; and a ruler to its end.

@@ -12,7 +12,9 @@ ghost use Rattle.s66_why.specs.declared.stretch.Stretch.{Stretch as StretchOf};
 /// Each stretch of an instruction that comes after others ends because of an earlier instruction, for which a rule forbids a minor
 /// cycle less.
 pub fn cause_law()
-    ensures { (b : Problem) (ns : List ℕ) (n : ℕ) (x : StretchOf) → length ns ≤ BLOCK_LIMIT → AreFromOne ns → Among x (stretches_at (points_of b ns) (point_of b (points_of b ns) n)) → IsForbidden b (points_of b ns) (point_of b (points_of b ns) n) x }
+    ensures { (b : Problem) (ns : List ℕ) (n : ℕ) (x : StretchOf) → length ns ≤ BLOCK_LIMIT → AreFromOne ns →
+        Among x (stretches_at (points_of b ns) (point_of b (points_of b ns) n)) →
+        IsForbidden b (points_of b ns) (point_of b (points_of b ns) n) x }
 {}
 
 /// The steps of an order, whose numbers are printed, are those of a path: it begins at minor cycle 0 and ends at the order's time. On

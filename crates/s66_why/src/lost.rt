@@ -28,7 +28,8 @@ impl Lost {
     /// Counts a stretch too.
     fn add(&mut self, stretch: &Stretch)
         requires { AreAtMost (2 ^ 63) self.old }
-        ensures sums { (conflict : ConflictOf) → sum_of self.new conflict ≡ sum_of self.old conflict + lost conflict (stretch.now ∷ []) }
+        ensures sums { (conflict : ConflictOf) → sum_of self.new conflict ≡
+            sum_of self.old conflict + lost conflict (stretch.now ∷ []) }
         ensures at_most { (n : ℕ) → AreAtMost n self.old → AreAtMost (n + 2 ^ 32) self.new }
     {
         let cycles = stretch.to.saturating_sub(stretch.from) as usize;
@@ -43,7 +44,8 @@ impl Lost {
     pub fn add_all(&mut self, stretches: &[Stretch])
         requires few { length stretches.now ≤ 4 }
         requires at_most { AreAtMost (2 ^ 62) self.old }
-        ensures sums { (conflict : ConflictOf) → sum_of self.new conflict ≡ sum_of self.old conflict + lost conflict stretches.now }
+        ensures sums { (conflict : ConflictOf) → sum_of self.new conflict ≡
+            sum_of self.old conflict + lost conflict stretches.now }
         ensures at_most { (n : ℕ) → AreAtMost n self.old → AreAtMost (n + 2 ^ 34) self.new }
     {
         for stretch in stretches {

@@ -74,7 +74,8 @@ impl Model for PlacedInstr {
 
     ghost Value = { Point };
 
-    ghost view = { λ p. record { number = p.number; row = p.row; parcel = p.parcel; issue = p.issue; start = p.start; results = p.results.items; free = p.free } };
+    ghost view = { λ p.
+        record { number = p.number; row = p.row; parcel = p.parcel; issue = p.issue; start = p.start; results = p.results.items; free = p.free } };
 
     ghost invariant = { λ p. IsKeptPoint p.row p.parcel p.issue p.start p.results.items p.last p.reads };
 }

@@ -28,7 +28,8 @@ fn put(page: &mut [u8], place: usize, text: &[u8])
 /// Writes a letter over those of the minor cycles before the end.
 fn fill_until(letters: &mut [u8], end: usize, letter: u8)
     ensures len { length letters.new ≡ length letters.old }
-    ensures letters { (others : ℕ → ℕ) (count : ℕ) → letters.old ≡ map others (range_with_len 0 count) → letters.new ≡ map (until end letter others) (range_with_len 0 count) }
+    ensures letters { (others : ℕ → ℕ) (count : ℕ) → letters.old ≡ map others (range_with_len 0 count) →
+        letters.new ≡ map (until end letter others) (range_with_len 0 count) }
 {
     let end = end.min(letters.len());
     letters[..end].fill(letter);

@@ -61,7 +61,8 @@ fn push_in_ten(out: &mut Vec<u8>, number: usize) -> Result<(), AllocError>
 /// The numbers of as many tens, from 0, each on the left of ten places.
 fn push_tens(out: &mut Vec<u8>, count: usize) -> Result<(), AllocError>
     requires { count < 2 ^ 32 }
-    ensures { OnOk result (out.new.items ≡ out.old.items ++ flat_map (λ ten. in_ten (10 * ten)) (range_with_len 0 count)) }
+    ensures { OnOk result (out.new.items ≡ out.old.items ++
+        flat_map (λ ten. in_ten (10 * ten)) (range_with_len 0 count)) }
 {
     for ten in 0..count {
         push_in_ten(out, 10 * ten)?;
@@ -179,7 +180,9 @@ fn push_rows(
     requires block { timed.now.problem.block ≡ instrs_of block.now }
     requires width { width ≡ text_width block.now }
     requires page { total_of timed.now.problem timed.now.numbers + ROW_FRAME ≤ length page.old }
-    ensures { OnOk result (out.new.items ≡ out.old.items ++ flat_map (λ position. text_row block.now timed.now position ++ blank_row block.now timed.now position) (range_with_len 0 (length timed.now.numbers))) }
+    ensures { OnOk result (out.new.items ≡ out.old.items ++
+        flat_map (λ position. text_row block.now timed.now position ++ blank_row block.now timed.now position)
+        (range_with_len 0 (length timed.now.numbers))) }
 {
     for position in 0..count(timed) {
         push_text_row(out, block, width, timed, position, page)?;

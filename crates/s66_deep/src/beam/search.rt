@@ -28,7 +28,8 @@ pub fn beam_below(
     width: usize,
     best: u32,
 ) -> Result<Option<Timed>, AllocError>
-    ensures problem { IfOk result (λ found. IfSome found (λ timed. timed.problem ≡ record { block = instrs_of block.now; profile = profile.now })) }
+    ensures problem { IfOk result (λ found. IfSome found
+        (λ timed. timed.problem ≡ record { block = instrs_of block.now; profile = profile.now })) }
     ensures below { IfOk result (λ found. IfSome found (λ timed. total_of timed.problem timed.numbers < best)) }
 {
     let mut prefix = Prefix::new(block, profile, tails);

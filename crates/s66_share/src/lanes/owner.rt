@@ -23,9 +23,11 @@ impl Model for Lane {
 
     ghost Value = { LaneOf };
 
-    ghost view = { λ l. record { id = worker_deque l.owner; put = (worker_view l.owner).put; taken = (worker_view l.owner).taken; passes = l.out; used = worker_index l.owner; room = worker_capacity l.owner } };
+    ghost view = { λ l.
+        record { id = worker_deque l.owner; put = (worker_view l.owner).put; taken = (worker_view l.owner).taken; passes = l.out; used = worker_index l.owner; room = worker_capacity l.owner } };
 
-    ghost invariant = { λ l. (worker_flavor l.owner ≡ 0) × (1 ≤ (worker_view l.owner).parts) × ((worker_view l.owner).parts + l.out ≡ PARTS) };
+    ghost invariant = { λ l. (worker_flavor l.owner ≡ 0) × (1 ≤ (worker_view l.owner).parts) ×
+        ((worker_view l.owner).parts + l.out ≡ PARTS) };
 }
 
 impl Lane {
@@ -39,7 +41,8 @@ impl Lane {
 
     pub(crate) fn new(alloc: Global, owner: Worker<Ticket, Global, Hand, Rule>) -> Lane
         requires { (worker_flavor owner ≡ 0) × (worker_view owner ≡ opening_hand) }
-        ensures { result ≡ record { id = worker_deque owner; put = []; taken = []; passes = 0; used = worker_index owner; room = worker_capacity owner } }
+        ensures { result ≡
+            record { id = worker_deque owner; put = []; taken = []; passes = 0; used = worker_index owner; room = worker_capacity owner } }
     {
         Lane {
             owner,
@@ -57,7 +60,8 @@ impl Lane {
         requires once { (self.old.passes ≡ 0) × (self.old.put ≡ []) }
         ensures ok { IfOk result (λ _. self.new ≡ record self.old { passes = n; room = self.new.room }) }
         ensures room { self.old.room ≤ self.new.room }
-        ensures passes { IfOk result (λ dealt. (length dealt.items ≡ n) × All (λ p. (p.lane ≡ self.old.id) × (p.taken ≡ [])) dealt.items) }
+        ensures passes { IfOk result (λ dealt. (length dealt.items ≡ n) ×
+            All (λ p. (p.lane ≡ self.old.id) × (p.taken ≡ [])) dealt.items) }
         ensures numbers { IfOk result (λ dealt. map (λ p. p.number) dealt.items ≡ rising n 0) }
         ensures err { OnErr result (self.new ≡ self.old) }
     {
@@ -74,7 +78,8 @@ impl Lane {
     ///
     /// In constant time, except for a put that makes room: it doubles the room, in time linear in it.
     pub fn put(&mut self, ticket: Ticket) -> Result<(), (AllocError, Ticket)>
-        ensures ok { OnOk result (self.new ≡ record self.old { put = self.old.put ++ ticket ∷ []; used = self.new.used; room = self.new.room }) }
+        ensures ok { OnOk result (self.new ≡ record
+            self.old { put = self.old.put ++ ticket ∷ []; used = self.new.used; room = self.new.room }) }
         ensures err { IfErr result (λ e. (e.1 ≡ ticket) × (self.new ≡ record self.old { room = self.new.room })) }
         ensures full { OnErr result (self.old.room ≤ self.old.used) }
         ensures used { (self.new.used ≤ self.old.used + 1) × (self.old.room ≤ self.new.room) }
@@ -89,7 +94,8 @@ impl Lane {
     ///
     /// In constant time, and without memory.
     pub fn take(&mut self) -> Option<Ticket>
-        ensures taken { IfSome result (λ t. self.new ≡ record self.old { taken = self.old.taken ++ t ∷ []; used = self.new.used; room = self.new.room }) }
+        ensures taken { IfSome result (λ t. self.new ≡
+            record self.old { taken = self.old.taken ++ t ∷ []; used = self.new.used; room = self.new.room }) }
         ensures none { IfNone result (self.new ≡ record self.old { used = self.new.used; room = self.new.room }) }
         ensures used { (self.new.used ≤ self.old.used) × (self.old.room ≤ self.new.room) }
     {
@@ -101,7 +107,8 @@ impl Lane {
     /// In constant time, and without memory.
     pub fn take_back(&mut self, pass: Pass)
         requires { pass.lane ≡ self.old.id }
-        ensures taken { self.new ≡ record self.old { taken = self.old.taken ++ pass.taken; passes = self.new.passes; room = self.new.room } }
+        ensures taken { self.new ≡ record
+            self.old { taken = self.old.taken ++ pass.taken; passes = self.new.passes; room = self.new.room } }
         ensures passes { self.new.passes + 1 ≡ self.old.passes }
         ensures room { self.old.room ≤ self.new.room }
     {
@@ -120,7 +127,8 @@ impl Lane {
         ensures same { self.new ≡ record self.old { room = self.new.room } }
         ensures out { IfNone result (1 ≤ self.old.passes) }
         ensures back { IfSome result (λ _. self.old.passes ≡ 0) }
-        ensures settled { IfSome result (λ count. (left : List TicketOf) × (length left ≡ count) × AreLeft self.old left) }
+        ensures settled { IfSome result (λ count. (left : List TicketOf) × (length left ≡ count) ×
+            AreLeft self.old left) }
     {
         if self.out != 0 {
             return None;

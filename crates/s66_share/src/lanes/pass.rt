@@ -17,9 +17,11 @@ impl Model for Pass {
 
     ghost Value = { PassOf };
 
-    ghost view = { λ p. record { lane = (p.token.rows, p.token.heap); number = p.number; taken = (known p.token).taken } };
+    ghost view = { λ p.
+        record { lane = (p.token.rows, p.token.heap); number = p.number; taken = (known p.token).taken } };
 
-    ghost invariant = { λ p. (p.token.me.hand ≡ None) × (p.token.me.spare ≡ None) × ((known p.token).parts ≡ 1) × ((known p.token).put ≡ []) };
+    ghost invariant = { λ p. (p.token.me.hand ≡ None) × (p.token.me.spare ≡ None) × ((known p.token).parts ≡ 1) ×
+        ((known p.token).put ≡ []) };
 }
 
 impl Pass {
