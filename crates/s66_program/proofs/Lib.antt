@@ -1,4 +1,3 @@
-pub mod Asked
 pub mod ByFacts
 pub mod Calls
 pub mod FactDocuments
@@ -11,4 +10,3 @@ pub mod ReadInput
 pub mod RefusedInput
 pub mod SearchAnswers
 pub mod Told
-pub mod TwoSources

@@ -1,1 +1,0 @@
--- The numbers of a command that the words ask for are within their limits.
