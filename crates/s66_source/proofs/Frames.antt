@@ -1,7 +1,7 @@
 -- The frame of a source, read line by line, is the definition.
-use Rattle.std.proofs.Common.{◌≡◌, ◌≤◌, ◌+◌, ◌&&◌, ◌||◌, not, ℕ, suc, Bool, true, false, if◌then◌else◌, Option, None, Some, List, [], ◌∷◌, ◌++◌, length, map, refl, sym, ap, ap₂, ◌∙◌, inl, inr, arith, append_assoc, eqb, leb, nat_lt}
+use Rattle.std.proofs.Common.{◌≡◌, ◌≤◌, ◌+◌, ◌&&◌, ◌||◌, not, ℕ, suc, Bool, true, false, if◌then◌else◌, Option, None, Some, List, [], ◌∷◌, ◌++◌, length, map, refl, sym, ap, ap₂, ◌∙◌, append_assoc, leb, nat_lt}
 use Rattle.std.specs.Prelude.{Ok, ◌==◌}
-use Rattle.std.proofs.lemmas.Bool.{and_parts, cases_Bool, eq-eqb, le-leb, leb-true, ltb-false}
+use Rattle.std.proofs.lemmas.Bool.{and_parts, le-leb, leb-true, ltb-false}
 use Rattle.s66_isa.specs.Lists.{every}
 use Rattle.s66_line.specs.Block.{Block, line_of}
 use Rattle.s66_line.specs.Class.{is_code}
@@ -11,7 +11,8 @@ use Rattle.s66_line.specs.declared.limits.TheConstants.{LINE_BYTES_LIMIT}
 use Rattle.s66_source.specs.Frame.{FramePart, block_part, frame_of, frame_of_lines, is_beside, line_part, part_beside}
 use Rattle.s66_source.specs.Framer.{Framer, after_framed, begins_block, first_part, flagged_next, frame_from, framed, is_short, part_at}
 use Rattle.s66_source.specs.LeftAlone.{Flagged, Reading, after_line, at_first, class_at, flagged_lines}
-use Rattle.s66_source.specs.Printer.{begins_with, rest}
+use Rattle.s66_source.specs.Keeper.{begins_with}
+use Rattle.s66_source.specs.Keeping.{others}
 use Rattle.s66_source.specs.Roles.{has_block, is_dropped, is_other_class, is_pad_class, lines_that}
 use Rattle.s66_source.specs.Source.{Line, blocks_of, classed_lines, classes_from, label_after, label_at, operand_refusal, place_after, place_at, refusal, run_after, run_at, source_of}
 use Rattle.s66_source.specs.declared.error.SourceError.{SourceError}
@@ -20,7 +21,8 @@ use Rattle.s66_source.specs.declared.standing.Standing.{Standing}
 use Rattle.s66_source.specs.declared.limits.TheConstants.{SOURCE_LINES_LIMIT}
 use Rattle.s66_source.proofs.FlaggedLines.{bytes-flagged, flagged-found}
 use Rattle.s66_source.proofs.LineLaw.{neither, no_refusal}
-use Rattle.s66_source.proofs.PrintedLines.{Ordered, accepted-is, dropped-no, dropped-yes, dropped_in, later-dropped, ordered-classed, run_behind}
+use Rattle.s66_source.proofs.KeptLines.{next-number, numbered-classed, numbers-after, numbers_in}
+use Rattle.s66_source.proofs.PrintedLines.{accepted-is}
 
 -- LINE BY LINE
 
@@ -57,20 +59,6 @@ short-lines source blocks accepted =
     ap (every is_short) (sym (bytes-flagged source.cut at_first (lines_of source.text)))
     ∙ short-from (flagged_lines source) 1 0 0 [] false (no_refusal (refusal (classed_lines source)) (blocks_of (classed_lines source)) blocks accepted)
 
--- A `NO` THAT IS LEFT OUT
-
-dropped-next : (all lines : List Line) (l : Line) (number run : ℕ) → Ordered number run (l ∷ lines) →
-    (begins_with number (dropped_in all (l ∷ lines)) ≡ is_dropped all l) × ((if begins_with number (dropped_in all (l ∷ lines)) then rest (dropped_in all (l ∷ lines)) else dropped_in all (l ∷ lines)) ≡ dropped_in all lines)
-dropped-next all lines l number run h =
-    elim (cases_Bool (is_dropped all l)) [
-      | inl stated ↦
-          let here : begins_with number (dropped_in all (l ∷ lines)) ≡ true = ap (begins_with number) (dropped-yes all lines l stated) ∙ eq-eqb l.number number h.0 in
-          (here ∙ sym stated, rw here (ap rest (dropped-yes all lines l stated)))
-      | inr other ↦
-          let later : begins_with number (dropped_in all (l ∷ lines)) ≡ false = ap (begins_with number) (dropped-no all lines l other) ∙ later-dropped all number (suc number) (run_behind l) lines (omega arith) h.2 in
-          (later ∙ sym other, rw later (dropped-no all lines l other))
-    ]
-
 -- a Pad with a block is no Pad without one
 beside-same : (other pad has : Bool) → (other || (pad && not (pad && has))) ≡ (other || (pad && not has))
 beside-same other true has = refl
@@ -79,23 +67,24 @@ beside-same other false has = refl
 -- ALL LINES
 
 frame-lines : (all : List Line) (lines : List Flagged) (cut : Bool) (standing : Standing) (blocks : List Block) (dropped : List ℕ) (after : Bool) (count run index : ℕ) (label : List ℕ) →
-    dropped ≡ dropped_in all (classes_from (suc count) run index label after lines) →
+    dropped ≡ numbers_in (is_dropped all) (classes_from (suc count) run index label after lines) →
     frame_from (record { cut = cut; standing = standing; blocks = blocks; dropped = dropped; after = after; lines = count }) lines ≡ frame_of_lines all blocks (classes_from (suc count) run index label after lines)
 frame-lines all [] cut standing blocks dropped after count run index label same = refl
 frame-lines all (line ∷ lines) cut standing blocks dropped after count run index label same =
     let c : Class = class_at after line in
     let l : Line = first-classed (suc count) run index label after line in
     let ls : List Line = classes_from (suc (suc count)) (run_after run c) (place_after index c) (label_after label c line.bytes) (is_code c) lines in
-    let next = dropped-next all ls l (suc count) run (ordered-classed (line ∷ lines) (suc count) run index label after) in
-    let begins : begins_with (suc count) dropped ≡ is_dropped all l = ap (begins_with (suc count)) same ∙ next.0 in
-    let left = ap (λ ns. if begins_with (suc count) ns then rest ns else ns) same ∙ next.1 in
+    let begins : begins_with (suc count) dropped ≡ is_dropped all l =
+    ap (begins_with (suc count)) same ∙ next-number (is_dropped all) (suc count) l ls (numbered-classed (line ∷ lines) (suc count) run index label after)
+    in
+    let left = ap₂ (λ t ns. if t then others ns else ns) begins same ∙ numbers-after (is_dropped all) l ls in
     let beside : (is_other_class c || (is_pad_class c && not (begins_with (suc count) dropped))) ≡ is_beside all l =
     ap (λ t. is_other_class c || (is_pad_class c && not t)) begins ∙ beside-same (is_other_class c) (is_pad_class c) (has_block all l)
     in
     by_blocks all blocks (is_other_class c || (is_pad_class c && not (begins_with (suc count) dropped))) l ls lines
-    cut (after_line cut standing line.bytes) (if begins_with (suc count) dropped then rest dropped else dropped) (is_code c) (suc count)
+    cut (after_line cut standing line.bytes) (if begins_with (suc count) dropped then others dropped else dropped) (is_code c) (suc count)
     beside
-    (λ others. frame-lines all lines cut (after_line cut standing line.bytes) others (if begins_with (suc count) dropped then rest dropped else dropped) (is_code c) (suc count) (run_after run c) (place_after index c) (label_after label c line.bytes) left)
+    (λ more. frame-lines all lines cut (after_line cut standing line.bytes) more (if begins_with (suc count) dropped then others dropped else dropped) (is_code c) (suc count) (run_after run c) (place_after index c) (label_after label c line.bytes) left)
   where
     first-classed : (number run index : ℕ) (label : List ℕ) (after : Bool) → Flagged → Line
     first-classed number run index label after line =
@@ -103,9 +92,9 @@ frame-lines all (line ∷ lines) cut standing blocks dropped after count run ind
 
     by_blocks : (all : List Line) (blocks : List Block) (is : Bool) (l : Line) (ls : List Line) (lines : List Flagged) (cut : Bool) (standing : Standing) (dropped : List ℕ) (after : Bool) (count : ℕ) →
         is ≡ is_beside all l →
-        ((others : List Block) → frame_from (record { cut = cut; standing = standing; blocks = others; dropped = dropped; after = after; lines = count }) lines ≡ frame_of_lines all others ls) →
+        ((more : List Block) → frame_from (record { cut = cut; standing = standing; blocks = more; dropped = dropped; after = after; lines = count }) lines ≡ frame_of_lines all more ls) →
         (if begins_block l.number blocks then first_part blocks else (if is then line_part l ∷ [] else []))
-        ++ frame_from (record { cut = cut; standing = standing; blocks = if begins_block l.number blocks then rest blocks else blocks; dropped = dropped; after = after; lines = count }) lines
+        ++ frame_from (record { cut = cut; standing = standing; blocks = if begins_block l.number blocks then others blocks else blocks; dropped = dropped; after = after; lines = count }) lines
         ≡ frame_of_lines all blocks (l ∷ ls)
     by_blocks all [] is l ls lines cut standing dropped after count beside later =
         ap₂ (λ xs ys. xs ++ ys) (ap (λ t. if t then line_part l ∷ [] else []) beside) (later [])

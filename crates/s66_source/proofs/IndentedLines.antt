@@ -1,8 +1,7 @@
 -- Lines after as many blanks as are usual, and lines that keep their columns.
 use Rattle.std.proofs.Common.{◌≡◌, ◌≤◌, ◌<◌, ◌-◌, ◌==◌, ℕ, zero, suc, Bool, false, true, eqb-true, List, [], ◌∷◌, ◌++◌, codes, get_or, inl, inr, length, map, replicate, take, refl, sym, ap, ◌∙◌, subst, arith}
-use Rattle.std.proofs.lemmas.List.{get_or-replicate, take-replicate}
+use Rattle.std.proofs.lemmas.List.{take-replicate}
 use Rattle.s66_isa.specs.Lists.{Among}
-use Rattle.s66_isa.specs.declared.limits.TheConstants.{BLOCK_LIMIT}
 use Rattle.s66_line.specs.Block.{Block, Entry, bytes_of}
 use Rattle.s66_line.specs.Fields.{body, from_operation, trim}
 use Rattle.s66_isa.specs.declared.instr.Instr.{Instr}
@@ -29,12 +28,6 @@ usual-lines blanks block label [] are = refl
 usual-lines blanks block label (n ∷ ns) are =
     ap (λ start. (start ++ trim is_trailing (bytes_of block n) ++ codes "\n") ++ indented_lines blanks block [] ns) (usual-start label (get_or blanks (n - 1) 0) (are n (inl refl)))
     ∙ ap (λ lines. (label_field label ++ trim is_trailing (bytes_of block n) ++ codes "\n") ++ lines) (usual-lines blanks block [] ns (λ m among. are m (inr among)))
-
--- by a list of them
-pub usual-replicate : (block : Block) (label order : List ℕ) → length block.entries ≤ BLOCK_LIMIT → ((n : ℕ) → Among n order → (1 ≤ n) × (n ≤ length block.entries)) →
-    indented_lines (replicate BLOCK_LIMIT 10) block label order ≡ instruction_lines block label order
-usual-replicate block label order few within =
-    usual-lines (replicate BLOCK_LIMIT 10) block label order (λ n among. let (first, last) = within n among in get_or-replicate BLOCK_LIMIT (n - 1) 10 0 (omega (arith, first, last, few)))
 
 -- by the lines of a source
 pub usual-indents : (all : List Line) (block : Block) (order : List ℕ) → ((n : ℕ) → Among n order → (1 ≤ n) × (n ≤ length block.entries)) →

@@ -3,7 +3,7 @@ use Rattle.std.proofs.Common.{◌≡◌, ◌≤◌, ◌<◌, ◌+◌, ◌-◌, �
 use Rattle.std.specs.Prelude.{Ok}
 use Rattle.std.specs.List.{filter}
 use Rattle.std.specs.Prelude.{nat_lt}
-use Rattle.std.proofs.lemmas.Bool.{ne_eqb, eq-eqb, lt-ltb}
+use Rattle.std.proofs.lemmas.Bool.{ne_eqb, eq-eqb}
 use Rattle.std.proofs.lemmas.List.{length-map, take_all}
 use Rattle.s66_isa.specs.Lists.{Among}
 use Rattle.s66_line.specs.Fields.{lines_from, lines_of}
@@ -13,10 +13,9 @@ use Rattle.s66_source.specs.LeftAlone.{Reading, Flagged, at_first, class_at, fla
 use Rattle.s66_source.specs.Source.{Line, run_after, place_after, label_after, classes_from, classed_lines, blocks_of, source_of}
 use Rattle.s66_line.specs.Class.{is_code}
 use Rattle.s66_source.specs.Roles.{is_dropped, is_leading, lines_that}
-use Rattle.s66_source.specs.Printed.{Placed, report}
-use Rattle.s66_source.specs.Printer.{HasMore, begins_with}
+use Rattle.s66_source.specs.Printed.{ArePlaced, Placed, report}
 use Rattle.s66_source.specs.Keeping.{Place, AreGiven, after_block, after_line, at_start, copied, ends_block, instruction_text, is_at, next_indents, others, printed_keeping, text_anew, text_at, text_from, text_given}
-use Rattle.s66_source.specs.Keeper.{Keeper, after_kept, kept_from, kept_text}
+use Rattle.s66_source.specs.Keeper.{HasMore, Keeper, after_kept, begins_with, kept_from, kept_text}
 use Rattle.s66_source.specs.declared.columns.Columns.{Columns}
 use Rattle.s66_source.proofs.FlaggedLines.{bytes-flagged}
 use Rattle.s66_source.proofs.PrintedLines.{accepted-is, bytes-classed}
@@ -217,29 +216,41 @@ no-block : (before : ℕ) (given : List (Option Placed)) → AreGiven (drop befo
 no-block zero given = tt
 no-block (suc before) given = tt
 
-pub given-after : (blocks : List Block) (before : ℕ) (given : List (Option Placed)) → AreGiven (drop before blocks) given →
-    AreGiven (drop (before - 1) (others blocks)) (if nat_lt 0 before then given else others given)
-given-after [] before given h = no-block (before - 1) (if nat_lt 0 before then given else others given)
-given-after (block ∷ blocks) zero [] h = none-given blocks
-given-after (block ∷ blocks) zero (None ∷ given) h = h
-given-after (block ∷ blocks) zero (Some p ∷ given) h = h.1
-given-after (block ∷ blocks) (suc before) given h =
-    let one : suc before - 1 ≡ before = omega arith in
-    rw (lt-ltb 0 (suc before) (omega arith), one) h
+-- one fewer stands before those that are given
+pub given-later : (blocks : List Block) (before : ℕ) (given : List (Option Placed)) → 0 < before → AreGiven (drop before blocks) given → AreGiven (drop (before - 1) (others blocks)) given
+given-later [] before given some h = no-block (before - 1) given
+given-later (block ∷ blocks) zero given some h = absurd (omega (arith, some))
+given-later (block ∷ blocks) (suc before) given some h = let one : suc before - 1 ≡ before = omega arith in rw one h
+
+-- the first of them comes
+pub given-next : (blocks : List Block) (before : ℕ) (given : List (Option Placed)) → before ≡ 0 → AreGiven (drop before blocks) given → AreGiven (drop before (others blocks)) (others given)
+given-next [] before given none h = no-block before (others given)
+given-next (block ∷ blocks) (suc before) given none h = absurd (omega (arith, none))
+given-next (block ∷ blocks) zero [] none h = none-given blocks
+given-next (block ∷ blocks) zero (None ∷ given) none h = h
+given-next (block ∷ blocks) zero (Some p ∷ given) none h = h.1
 
 pub none-passed : (blocks : List Block) → HasMore 0 blocks
 none-passed [] = tt
 none-passed (block ∷ blocks) = λ some. absurd (omega (arith, some))
 
 -- the numbers of an order that is given first are those of the first block
-pub given-first : (line passed before : ℕ) (blocks : List Block) (given : List (Option Placed)) (block : Block) (first : Option Placed) (p : Placed) → AreGiven (drop before blocks) given → before ≡ 0 → is_at line passed blocks ≡ true →
-    block ≡ get_or blocks 0 block → first ≡ get_or given 0 first → 1 ≤ length given → first ≡ Some p → (n : ℕ) → Among n p.order → (1 ≤ n) × (n ≤ length block.entries)
-given-first line passed before [] given block first p are none some here there long is n among = cc
-given-first line passed before (b ∷ blocks) [] block first p are none some here there long is n among = absurd (omega (arith, long))
-given-first line passed before (b ∷ blocks) (None ∷ given) block first p are none some here there long is n among = absurd cc
-given-first line passed before (b ∷ blocks) (Some q ∷ given) block first p are none some here there long is n among =
-    let same : Some q ≡ Some p = sym there ∙ is in
-    let one : q ≡ p = cc in
-    let all = subst (λ k. AreGiven (drop k (b ∷ blocks)) (Some q ∷ given)) none are in
-    let numbers = all.0 n (subst (λ (x : Placed). Among n x.order) (sym one) among) in
+pub given-first : (line passed before : ℕ) (blocks : List Block) (given rest : List (Option Placed)) (block : Block) (p : Placed) → AreGiven (drop before blocks) given → before ≡ 0 → is_at line passed blocks ≡ true →
+    block ≡ get_or blocks 0 block → given ≡ Some p ∷ rest → (n : ℕ) → Among n p.order → (1 ≤ n) × (n ≤ length block.entries)
+given-first line passed before [] given rest block p are none some here is n among = cc
+given-first line passed before (b ∷ blocks) given rest block p are none some here is n among =
+    let numbers = (subst (AreGiven (b ∷ blocks)) is (subst (λ k. AreGiven (drop k (b ∷ blocks)) given) none are)).0 n among in
     (numbers.0, subst (λ (x : Block). n ≤ length x.entries) (sym here) numbers.1)
+
+-- ALL BLOCKS ARE PRINTED
+
+pub given-placed : (blocks : List Block) (ps : List Placed) → ArePlaced blocks ps → AreGiven blocks (map (λ (p : Placed). Some p) ps)
+given-placed [] ps are = tt
+given-placed (block ∷ blocks) [] are = tt
+given-placed (block ∷ blocks) (p ∷ ps) are = (are.0, given-placed blocks ps are.1)
+
+pub count-placed : (blocks : List Block) (ps : List Placed) → ArePlaced blocks ps → length blocks ≡ length ps
+count-placed [] [] are = refl
+count-placed [] (p ∷ ps) are = absurd are
+count-placed (block ∷ blocks) [] are = absurd are
+count-placed (block ∷ blocks) (p ∷ ps) are = omega (arith, count-placed blocks ps are.1)

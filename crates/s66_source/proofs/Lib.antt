@@ -9,10 +9,8 @@ pub mod PadsLaw
 pub mod LeadingPads
 pub mod IndentedLines
 pub mod KeptLines
-pub mod PlacedBlocks
 pub mod PrintedLines
 pub mod MergedLines
-pub mod NoneStands
 pub mod ReadBack
 pub mod ReadStanding
 pub mod ReadLine

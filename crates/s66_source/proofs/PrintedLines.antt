@@ -1,21 +1,23 @@
--- Printing line by line is the definition.
-use Rattle.std.proofs.Common.{◌≡◌, ◌≤◌, ◌<◌, ◌+◌, ◌&&◌, ◌||◌, not, ℕ, zero, suc, Bool, true, false, if◌then◌else◌, Option, None, Some, List, [], ◌∷◌, ◌++◌, length, map, drop, codes, refl, sym, ap, ◌∙◌, subst, inl, inr, arith, append_assoc, eqb, nat_lt}
+-- Where no block stands, a source is printed as by its orders alone.
+use Rattle.std.proofs.Common.{◌≡◌, ◌≤◌, ◌<◌, ◌+◌, ◌&&◌, ◌||◌, ◌==◌, not, ℕ, zero, suc, Bool, true, false, if◌then◌else◌, Option, None, Some, List, [], ◌∷◌, ◌++◌, length, map, drop, refl, sym, ap, ap₂, ◌∙◌, subst, inl, inr, arith, append_assoc, eqb, nat_lt}
 use Rattle.std.specs.Prelude.{Result, Ok}
-use Rattle.std.specs.List.{filter}
+use Rattle.std.proofs.Math.Bool.{and-false}
 use Rattle.std.proofs.lemmas.Bool.{ne_eqb, eq-eqb, lt-ltb, ltb-false}
 use Rattle.std.proofs.lemmas.List.{append-nil}
 use Rattle.s66_isa.specs.Lists.{Among, some_of}
 use Rattle.s66_isa.specs.declared.instr.Instr.{Instr}
 use Rattle.s66_isa.proofs.Lists.{among-rest}
-use Rattle.s66_line.specs.Fields.{body, lines_of}
+use Rattle.s66_line.specs.Fields.{lines_of}
 use Rattle.s66_source.specs.LeftAlone.{Reading, Flagged, class_at, at_first, flagged_lines}
 use Rattle.s66_source.specs.Source.{Line, run_after, place_after, label_after, classes_from, classed_lines, refusal, refusal_at, operand_refusal, instructions, parts_of, entry_of, block_of, blocks_of, source_of}
 use Rattle.s66_line.specs.Block.{Entry, Block, line_of}
 use Rattle.s66_line.specs.Class.{is_instruction, is_code, ends_run}
 use Rattle.s66_source.specs.BlockParts.{all_of}
-use Rattle.s66_source.specs.Roles.{is_comment_class, is_pad_class, is_other_class, is_note_of, is_note, has_block, is_dropped, lines_that}
+use Rattle.s66_source.specs.Roles.{is_comment_class, is_pad_class, is_other_class, is_note_of, is_note, has_block, is_dropped, is_leading}
 use Rattle.s66_source.specs.Printed.{Placed, ArePlaced, report, instruction_lines, copied_line, copied_text, notes_text, block_text, text_of_lines, printed}
-use Rattle.s66_source.specs.Printer.{Printer, begins_with, rest, is_skipped, is_passed, is_instruction_next, text_in_place, text_at, is_last, printed_from}
+use Rattle.s66_source.specs.Columns.{indented_lines, indents}
+use Rattle.s66_source.specs.Keeping.{Place, after_block, is_at, pad_stands, printed_keeping, stands_next, text_anew, text_from}
+use Rattle.s66_source.specs.declared.columns.Columns.TheVariants.{Usual}
 use Rattle.s66_line.specs.declared.class.Class.{Class}
 use Rattle.s66_line.specs.declared.class.Class.TheVariants.{Comment, Other, Refused, Pad, Instruction}
 use Rattle.s66_line.specs.declared.limits.TheConstants.{LINE_BYTES_LIMIT}
@@ -25,27 +27,70 @@ use Rattle.s66_source.specs.declared.error.SourceError.{SourceError}
 use Rattle.s66_source.specs.declared.error.SourceError.TheVariants.{LineTooLong, TooLarge}
 use Rattle.s66_source.proofs.PartsLaw.{parts}
 use Rattle.s66_source.proofs.ReaderBlocks.{Gives-accepted}
-use Rattle.s66_source.proofs.FlaggedLines.{bytes-flagged, length-flagged}
+use Rattle.s66_source.proofs.FlaggedLines.{length-flagged}
+use Rattle.s66_source.proofs.IndentedLines.{usual-indents}
 use Rattle.s66_source.proofs.LineLaw.{no_refusal, neither, operand-none, Rising, Rising-lower, rising-instructions, last_number, Rising-behind, outside}
 
--- A STEP OF THE PRINTER
+-- WHERE NO BLOCK STANDS
 
-step-skipped : (p : Printer) (line : List ℕ) (lines : List (List ℕ)) → is_skipped p ≡ true →
-    printed_from p (line ∷ lines) ≡ printed_from (record p { dropped = rest p.dropped; lines = suc p.lines }) lines
-step-skipped p line lines skipped = rw skipped refl
+abbrev all_given : List Placed → List (Option Placed)
+all_given ps = map (λ (p : Placed). Some p) ps
 
-step-copied : (p : Printer) (line : List ℕ) (lines : List (List ℕ)) → is_skipped p ≡ false → is_instruction_next p ≡ false →
-    printed_from p (line ∷ lines) ≡ (body line ++ codes "\n") ++ printed_from (record p { lines = suc p.lines }) lines
-step-copied p line lines skipped next = rw (skipped, next) refl
+-- these blocks are to come, the first of them the n-th, of which k instructions came
+abbrev place : List Block → List Placed → (n k : ℕ) → Place
+place blocks ps n k = record { blocks = blocks; before = 0; given = all_given ps; number = n; passed = k; stood = false }
 
-step-instruction : (p : Printer) (line : List ℕ) (lines : List (List ℕ)) → is_skipped p ≡ false → is_instruction_next p ≡ true → is_last p.passed p.blocks ≡ false →
-    printed_from p (line ∷ lines) ≡ text_at p.number p.passed p.blocks p.placed ++ printed_from (record p { passed = suc p.passed; lines = suc p.lines }) lines
-step-instruction p line lines skipped next last = rw (skipped, next, last) refl
+abbrev text_after : (all : List Line) → List Block → List Placed → (n k : ℕ) → List Line → List ℕ
+text_after all blocks ps n k lines = text_from false Usual all (place blocks ps n k) lines
 
-step-last : (p : Printer) (line : List ℕ) (lines : List (List ℕ)) → is_skipped p ≡ false → is_instruction_next p ≡ true → is_last p.passed p.blocks ≡ true →
-    printed_from p (line ∷ lines) ≡ text_at p.number p.passed p.blocks p.placed
-    ++ printed_from (record p { blocks = rest p.blocks; placed = rest p.placed; number = suc p.number; passed = 0; lines = suc p.lines }) lines
-step-last p line lines skipped next last = rw (skipped, next, last) refl
+none-next : (blocks : List Block) (ps : List Placed) (n k : ℕ) → ArePlaced blocks ps → stands_next (place blocks ps n k) ≡ false
+none-next [] ps n k are = refl
+none-next (block ∷ blocks) [] n k are = absurd are
+none-next (block ∷ blocks) (p ∷ ps) n k are = and-false (not (length (block ∷ blocks) == 0))
+
+no-pad : (leading : Bool) (blocks : List Block) (ps : List Placed) (n k : ℕ) → ArePlaced blocks ps → pad_stands leading (place blocks ps n k) ≡ false
+no-pad leading blocks ps n k are =
+    elim (k == 0 && not leading) as (λ t. (if t then false else stands_next (place blocks ps n k)) ≡ false) [ true ↦ refl | false ↦ none-next blocks ps n k are ]
+
+-- in the place of an instruction of a block: the report in that of the first, and all instructions in that of the last
+abbrev text_in_place : ℕ → ℕ → Block → Placed → List ℕ
+text_in_place n k block p =
+    (if k == 0 then report n (length block.entries) p else [])
+    ++ (if suc k == length block.entries then instruction_lines block block.label p.order else [])
+
+anew-in_place : (all : List Line) (block : Block) (p : Placed) (n k : ℕ) → ((m : ℕ) → Among m p.order → (1 ≤ m) × (m ≤ length block.entries)) →
+    text_anew false (indents Usual all block) n k block p ≡ text_in_place n k block p
+anew-in_place all block p n k within =
+    ap (λ t. (if t then report n (length block.entries) p else []) ++ (if suc k == length block.entries then indented_lines (indents Usual all block) block block.label p.order else [])) (not-quiet (k == 0))
+    ∙ ap (λ lines. (if k == 0 then report n (length block.entries) p else []) ++ (if suc k == length block.entries then lines else [])) (usual-indents all block p.order within)
+  where
+    not-quiet : (t : Bool) → (t && not false) ≡ t
+    not-quiet true = refl
+    not-quiet false = refl
+
+-- A STEP
+
+step-dropped : (all : List Line) (blocks : List Block) (ps : List Placed) (n k : ℕ) (l : Line) (lines : List Line) → ArePlaced blocks ps → is_dropped all l ≡ true →
+    text_after all blocks ps n k (l ∷ lines) ≡ text_after all blocks ps n k lines
+step-dropped all blocks ps n k l lines are dropped = rw (dropped, no-pad (is_leading all l) blocks ps n k are) refl
+
+step-copied : (all : List Line) (blocks : List Block) (ps : List Placed) (n k : ℕ) (l : Line) (lines : List Line) → is_dropped all l ≡ false → is_at l.number k blocks ≡ false →
+    text_after all blocks ps n k (l ∷ lines) ≡ copied_line l ++ text_after all blocks ps n k lines
+step-copied all blocks ps n k l lines kept next = rw (kept, next) refl
+
+-- an instruction, which is the last of its block or not
+step-instruction : (last : Bool) (all : List Line) (block : Block) (blocks : List Block) (p : Placed) (ps : List Placed) (n k : ℕ) (l : Line) (lines : List Line) → ArePlaced (block ∷ blocks) (p ∷ ps) →
+    is_dropped all l ≡ false → line_of block (suc k) ≡ l.number → eqb (suc k) (length block.entries) ≡ last →
+    text_after all (block ∷ blocks) (p ∷ ps) n k (l ∷ lines) ≡ text_in_place n k block p ++ (if last then text_after all blocks ps (suc n) 0 lines else text_after all (block ∷ blocks) (p ∷ ps) n (suc k) lines)
+step-instruction last all block blocks p ps n k l lines are kept here ends =
+    rw (kept, eq-eqb (line_of block (suc k)) l.number here)
+    (ap₂ (λ text rest. text ++ rest) (anew-in_place all block p n k are.0)
+    (ap (λ t. text_from false Usual all (if t then after_block (place (block ∷ blocks) (p ∷ ps) n k) else place (block ∷ blocks) (p ∷ ps) n (suc k)) lines) ends ∙ by_end last))
+  where
+    by_end : (t : Bool) → text_from false Usual all (if t then after_block (place (block ∷ blocks) (p ∷ ps) n k) else place (block ∷ blocks) (p ∷ ps) n (suc k)) lines
+        ≡ (if t then text_after all blocks ps (suc n) 0 lines else text_after all (block ∷ blocks) (p ∷ ps) n (suc k) lines)
+    by_end true = ap (λ (stood : Bool). text_from false Usual all (record (place blocks ps (suc n) 0) { stood = stood }) lines) (none-next (block ∷ blocks) (p ∷ ps) n k are)
+    by_end false = refl
 
 -- LINES IN ORDER: numbers that rise by one, runs that do not fall
 
@@ -101,23 +146,6 @@ of-instructions (l ∷ lines) m among = by_test (is_instruction l.class) refl (o
 pub Rising-after : (low : ℕ) (xs ys : List Line) → Rising low (xs ++ ys) → Rising low ys
 Rising-after low [] ys h = h
 Rising-after low (x ∷ xs) ys h = Rising-lower low (suc x.number) ys (omega (arith, h.0)) (Rising-after (suc x.number) xs ys h.1)
-
--- WHAT IS LEFT OUT
-
-abbrev pub dropped_in : List Line → List Line → List ℕ
-dropped_in all lines = map (λ (l : Line). l.number) (filter (is_dropped all) lines)
-
-pub dropped-no : (all lines : List Line) (l : Line) → is_dropped all l ≡ false → dropped_in all (l ∷ lines) ≡ dropped_in all lines
-dropped-no all lines l h = rw h refl
-
-pub dropped-yes : (all lines : List Line) (l : Line) → is_dropped all l ≡ true → dropped_in all (l ∷ lines) ≡ l.number ∷ dropped_in all lines
-dropped-yes all lines l h = rw h refl
-
-pub later-dropped : (all : List Line) (low number run : ℕ) (lines : List Line) → low < number → Ordered number run lines → begins_with low (dropped_in all lines) ≡ false
-later-dropped all low number run [] lt h = refl
-later-dropped all low number run (l ∷ lines) lt h =
-    elim (is_dropped all l) as (λ t. begins_with low (map (λ (x : Line). x.number) (if t then l ∷ filter (is_dropped all) lines else filter (is_dropped all) lines)) ≡ false)
-    [ true ↦ ne_eqb l.number low (λ same. absurd (omega (arith, same, h.0, lt))) | false ↦ later-dropped all low (suc number) (run_behind l) lines (omega (arith, lt)) h.2 ]
 
 -- ENTRIES OF A BLOCK that are left
 
@@ -328,7 +356,7 @@ record Open (all lines : List Line) (ended : List Block) (block : Block) (x : Li
   first : line_of block 1 ≤ count
   up_to : x.run ≤ run
   same : SameRun x.run q
-  placed : ArePlaced (map block_of parts) ps
+  placed : ArePlaced (block ∷ map block_of parts) ps
 
 record Closed (all lines : List Line) (ended : List Block) (parts : List (List Line)) (ps : List Placed) (count : ℕ) : Type 0 where
   blocks : blocks_of all ≡ ended ++ map block_of parts
@@ -337,22 +365,16 @@ record Closed (all lines : List Line) (ended : List Block) (parts : List (List L
   left : instructions lines ≡ all_of parts
   placed : ArePlaced (map block_of parts) ps
 
-abbrev printer : List Block → List Placed → List ℕ → ℕ → ℕ → ℕ → Printer
-printer blocks ps dropped n k count = record { blocks = blocks; placed = ps; dropped = dropped; number = n; passed = k; lines = count }
-
-abbrev bytes_in : List Line → List (List ℕ)
-bytes_in lines = map (λ (l : Line). l.bytes) lines
-
 abbrev Opens : List Line → List Line → Type 0
 Opens all lines = (before : List Line) (ended : List Block) (block : Block) (x : Line) (q : List Line) (parts : List (List Line)) (p : Placed) (ps : List Placed) (count run n k : ℕ) →
-    At all before lines count run → Open all lines ended block x q parts ps count run k →
-    printed_from (printer (block ∷ map block_of parts) (p ∷ ps) (dropped_in all lines) n k count) (bytes_in lines)
+    At all before lines count run → Open all lines ended block x q parts (p ∷ ps) count run k →
+    text_after all (block ∷ map block_of parts) (p ∷ ps) n k lines
     ≡ notes_text block lines ++ (instruction_lines block block.label p.order ++ text_of_lines all (suc n) (map block_of parts) ps lines)
 
 abbrev Closes : List Line → List Line → Type 0
 Closes all lines = (before : List Line) (ended : List Block) (parts : List (List Line)) (ps : List Placed) (count run n : ℕ) →
     At all before lines count run → Closed all lines ended parts ps count →
-    printed_from (printer (map block_of parts) ps (dropped_in all lines) n 0 count) (bytes_in lines) ≡ text_of_lines all n (map block_of parts) ps lines
+    text_after all (map block_of parts) ps n 0 lines ≡ text_of_lines all n (map block_of parts) ps lines
 
 -- what comes after a line that is no instruction
 record Ahead (all lines : List Line) (x : Line) (q : List Line) (parts : List (List Line)) (count : ℕ) : Type 0 where
@@ -402,20 +424,17 @@ nothing-first first text h = rw h refl
 
 open-comment : (all lines : List Line) (l : Line) → l.class ≡ Comment → Opens all lines → Opens all (l ∷ lines)
 open-comment all lines l stated opens before ended block x q parts p ps count run n k at begun =
-    let kept : is_dropped all l ≡ false = comment-kept all l stated in
     let ahead = ahead-open all lines l x q parts count (rw stated refl) at.ordered.2 begun.left in
     let number : l.number ≡ suc count = at.ordered.0 in
     let last = line_of-end block k x q begun.entries in
     let here : is_note_of l block ≡ true = inside (is_comment_class l.class) (line_of block 1) l.number (line_of block (length block.entries)) (rw stated refl) (omega (arith, begun.first, number)) (omega (arith, number, ahead.next, ahead.last, last)) in
     let noted : is_note all l ≡ true = ap (λ blocks. some_of (is_note_of l) blocks) begun.blocks ∙ some-note l ended block (map block_of parts) here in
-    ap (λ dropped. printed_from (printer (block ∷ map block_of parts) (p ∷ ps) dropped n k count) (bytes_in (l ∷ lines))) (dropped-no all lines l kept)
-    ∙ step-copied (printer (block ∷ map block_of parts) (p ∷ ps) (dropped_in all lines) n k count) l.bytes (bytes_in lines)
-    (later-dropped all (suc count) (suc (suc count)) (run_behind l) lines (omega arith) at.ordered.2)
-    (not-next block x q k (suc count) begun.entries (omega (arith, ahead.next)))
+    step-copied all (block ∷ map block_of parts) (p ∷ ps) n k l lines (comment-kept all l stated)
+    (not-next block x q k l.number begun.entries (omega (arith, number, ahead.next)))
     ∙ ap (λ text. copied_line l ++ text) (opens (before ++ l ∷ []) ended block x q parts p ps (suc count) (run_behind l) n k (At-next all before lines l count run at)
-    (Open-next all before lines l ended block x q parts ps count run k at ahead begun))
+    (Open-next all before lines l ended block x q parts (p ∷ ps) count run k at ahead begun))
     ∙ with-note (is_note_of l block) (copied_line l) (notes_text block lines) (instruction_lines block block.label p.order) (text_of_lines all (suc n) (map block_of parts) ps lines) (text_of_lines all (suc n) (map block_of parts) ps (l ∷ lines)) here
-    (text-on all (suc n) parts ps l lines (suc (last_number x q)) begun.one begun.placed ahead.rising (omega (arith, number, ahead.next, ahead.last))
+    (text-on all (suc n) parts ps l lines (suc (last_number x q)) begun.one begun.placed.1 ahead.rising (omega (arith, number, ahead.next, ahead.last))
     ∙ nothing-first (copied_text all l) _ (note-moved all l stated noted))
 
 -- the next instruction is of the run of the line
@@ -427,7 +446,7 @@ same-run all before lines l ended block x q parts ps count run k at ahead begun 
 open-other : (all lines : List Line) (l : Line) → l.class ≡ Other → Opens all (l ∷ lines)
 open-other all lines l stated before ended block x q parts p ps count run n k at begun =
     let ahead = ahead-open all lines l x q parts count (rw stated refl) at.ordered.2 begun.left in
-    let runs = same-run all before lines l ended block x q parts ps count run k at ahead begun in
+    let runs = same-run all before lines l ended block x q parts (p ∷ ps) count run k at ahead begun in
     let later : run_behind l ≡ suc l.run = rw stated refl in
     absurd (omega (arith, runs.0, runs.1, later))
 
@@ -442,15 +461,14 @@ open-pad : (all lines : List Line) (l : Line) (located : Bool) → l.class ≡ P
 open-pad all lines l located stated opens before ended block x q parts p ps count run n k at begun =
     let ahead = ahead-open all lines l x q parts count (rw stated refl) at.ordered.2 begun.left in
     let number : l.number ≡ suc count = at.ordered.0 in
-    let runs = same-run all before lines l ended block x q parts ps count run k at ahead begun in
+    let runs = same-run all before lines l ended block x q parts (p ∷ ps) count run k at ahead begun in
     let among = of-instructions lines x (subst (Among x) (sym ahead.left) (inl refl)) in
     let here : has_block all l ≡ true = has-instruction l.run x all (subst (Among x) (sym at.whole) (among-rest x before (l ∷ lines) (inr among.0))) among.1 (omega (arith, runs.0, runs.1, run_behind-le l)) in
-    ap (λ dropped. printed_from (printer (block ∷ map block_of parts) (p ∷ ps) dropped n k count) (bytes_in (l ∷ lines))) (dropped-yes all lines l (pad-dropped all l located stated here))
-    ∙ step-skipped (printer (block ∷ map block_of parts) (p ∷ ps) (l.number ∷ dropped_in all lines) n k count) l.bytes (bytes_in lines) (eq-eqb l.number (suc count) number)
-    ∙ opens (before ++ l ∷ []) ended block x q parts p ps (suc count) (run_behind l) n k (At-next all before lines l count run at) (Open-next all before lines l ended block x q parts ps count run k at ahead begun)
+    step-dropped all (block ∷ map block_of parts) (p ∷ ps) n k l lines begun.placed (pad-dropped all l located stated here)
+    ∙ opens (before ++ l ∷ []) ended block x q parts p ps (suc count) (run_behind l) n k (At-next all before lines l count run at) (Open-next all before lines l ended block x q parts (p ∷ ps) count run k at ahead begun)
     ∙ without-note (is_note_of l block) (copied_line l) (notes_text block lines) (instruction_lines block block.label p.order) (text_of_lines all (suc n) (map block_of parts) ps lines) (text_of_lines all (suc n) (map block_of parts) ps (l ∷ lines))
     (no-note-of_code l block (rw stated refl))
-    (text-on all (suc n) parts ps l lines (suc (last_number x q)) begun.one begun.placed ahead.rising (omega (arith, number, ahead.next, ahead.last))
+    (text-on all (suc n) parts ps l lines (suc (last_number x q)) begun.one begun.placed.1 ahead.rising (omega (arith, number, ahead.next, ahead.last))
     ∙ nothing-first (copied_text all l) _ (pad-not_copied all l located stated here))
 
 -- the lines that are left after an instruction
@@ -473,8 +491,8 @@ between-lines t place copied notes lines text other at stated same = rw (at, sta
 -- the last instruction
 open-last : (all lines : List Line) (l : Line) (located : Bool) (i : Instr) → l.class ≡ Instruction located i → Closes all lines →
     (before : List Line) (ended : List Block) (block : Block) (x : Line) (parts : List (List Line)) (p : Placed) (ps : List Placed) (count run n k : ℕ) →
-    At all before (l ∷ lines) count run → Open all (l ∷ lines) ended block x [] parts ps count run k →
-    printed_from (printer (block ∷ map block_of parts) (p ∷ ps) (dropped_in all lines) n k count) (bytes_in (l ∷ lines))
+    At all before (l ∷ lines) count run → Open all (l ∷ lines) ended block x [] parts (p ∷ ps) count run k →
+    text_after all (block ∷ map block_of parts) (p ∷ ps) n k (l ∷ lines)
     ≡ notes_text block (l ∷ lines) ++ (instruction_lines block block.label p.order ++ text_of_lines all (suc n) (map block_of parts) ps (l ∷ lines))
 open-last all lines l located i stated closes before ended block x parts p ps count run n k at begun =
     let number : l.number ≡ suc count = at.ordered.0 in
@@ -484,28 +502,26 @@ open-last all lines l located i stated closes before ended block x parts p ps co
     let size : length block.entries ≡ k + 1 = length-left block.entries k (entry_of x) [] begun.entries in
     let last : line_of block (length block.entries) ≡ x.number = line_of-end block k x [] begun.entries in
     let rising : Rising (suc (suc count)) (all_of parts) = subst (Rising (suc (suc count))) rests.1 (rising-instructions (suc (suc count)) lines (Rising-ordered (suc (suc count)) (run_behind l) lines at.ordered.2)) in
-    step-last (printer (block ∷ map block_of parts) (p ∷ ps) (dropped_in all lines) n k count) l.bytes (bytes_in lines)
-    (later-dropped all (suc count) (suc (suc count)) (run_behind l) lines (omega arith) at.ordered.2)
-    (eq-eqb (line_of block (suc k)) (suc count) (here ∙ same))
+    step-instruction true all block (map block_of parts) p ps n k l lines begun.placed (instruction-kept all l located i stated) (here ∙ same ∙ sym number)
     (eq-eqb (suc k) (length block.entries) (omega (arith, size)))
     ∙ ap (λ text. text_in_place n k block p ++ text) (closes (before ++ l ∷ []) (ended ++ block ∷ []) parts ps (suc count) (run_behind l) (suc n) (At-next all before lines l count run at) (record {
       blocks = begun.blocks ∙ sym (append_assoc ended (block ∷ []) (map block_of parts));
       behind = Ended-push (suc count) ended block begun.behind (omega (arith, last, same));
       one = begun.one;
       left = rests.1;
-      placed = begun.placed;
+      placed = begun.placed.1;
     }))
     ∙ last-lines (is_note_of l block) (text_in_place n k block p) (copied_line l) (notes_text block lines) (instruction_lines block block.label p.order) (text_of_lines all (suc n) (map block_of parts) ps lines) (text_of_lines all (suc n) (map block_of parts) ps (l ∷ lines))
     (in-place-last n k block p begun.some (omega (arith, size)))
     (no-note-of_code l block (rw stated refl))
     (notes-past block (suc (suc count)) (run_behind l) lines at.ordered.2 (omega (arith, last, same)))
-    (text-on all (suc n) parts ps l lines (suc (suc count)) begun.one begun.placed rising (omega (arith, number)) ∙ nothing-first (copied_text all l) _ (instruction-not_copied all l located i stated))
+    (text-on all (suc n) parts ps l lines (suc (suc count)) begun.one begun.placed.1 rising (omega (arith, number)) ∙ nothing-first (copied_text all l) _ (instruction-not_copied all l located i stated))
 
 -- one between the first and the last
 open-between : (all lines : List Line) (l : Line) (located : Bool) (i : Instr) → l.class ≡ Instruction located i → Opens all lines →
     (before : List Line) (ended : List Block) (block : Block) (x y : Line) (q : List Line) (parts : List (List Line)) (p : Placed) (ps : List Placed) (count run n k : ℕ) →
-    At all before (l ∷ lines) count run → Open all (l ∷ lines) ended block x (y ∷ q) parts ps count run k →
-    printed_from (printer (block ∷ map block_of parts) (p ∷ ps) (dropped_in all lines) n k count) (bytes_in (l ∷ lines))
+    At all before (l ∷ lines) count run → Open all (l ∷ lines) ended block x (y ∷ q) parts (p ∷ ps) count run k →
+    text_after all (block ∷ map block_of parts) (p ∷ ps) n k (l ∷ lines)
     ≡ notes_text block (l ∷ lines) ++ (instruction_lines block block.label p.order ++ text_of_lines all (suc n) (map block_of parts) ps (l ∷ lines))
 open-between all lines l located i stated opens before ended block x y q parts p ps count run n k at begun =
     let number : l.number ≡ suc count = at.ordered.0 in
@@ -515,9 +531,7 @@ open-between all lines l located i stated opens before ended block x y q parts p
     let size : length block.entries ≡ k + suc (suc (length (map entry_of q))) = length-left block.entries k (entry_of x) (map entry_of (y ∷ q)) begun.entries in
     let rising : Rising (suc (suc count)) (y ∷ q ++ all_of parts) = subst (Rising (suc (suc count))) rests.1 (rising-instructions (suc (suc count)) lines (Rising-ordered (suc (suc count)) (run_behind l) lines at.ordered.2)) in
     let behind = Rising-behind (suc (suc count)) y q (all_of parts) rising in
-    step-instruction (printer (block ∷ map block_of parts) (p ∷ ps) (dropped_in all lines) n k count) l.bytes (bytes_in lines)
-    (later-dropped all (suc count) (suc (suc count)) (run_behind l) lines (omega arith) at.ordered.2)
-    (eq-eqb (line_of block (suc k)) (suc count) (here ∙ same))
+    step-instruction false all block (map block_of parts) p ps n k l lines begun.placed (instruction-kept all l located i stated) (here ∙ same ∙ sym number)
     (ne_eqb (suc k) (length block.entries) (λ last. absurd (omega (arith, last, size))))
     ∙ ap (λ text. text_in_place n k block p ++ text) (opens (before ++ l ∷ []) ended block y q parts p ps (suc count) (run_behind l) n (suc k) (At-next all before lines l count run at) (record {
       blocks = begun.blocks;
@@ -534,15 +548,13 @@ open-between all lines l located i stated opens before ended block x y q parts p
     ∙ between-lines (is_note_of l block) (text_in_place n k block p) (copied_line l) (notes_text block lines) (instruction_lines block block.label p.order) (text_of_lines all (suc n) (map block_of parts) ps lines) (text_of_lines all (suc n) (map block_of parts) ps (l ∷ lines))
     (in-place-between n k block p begun.some (omega (arith, size)))
     (no-note-of_code l block (rw stated refl))
-    (text-on all (suc n) parts ps l lines (suc (last_number y q)) begun.one begun.placed behind.1 (omega (arith, number, rising.0, behind.0)) ∙ nothing-first (copied_text all l) _ (instruction-not_copied all l located i stated))
+    (text-on all (suc n) parts ps l lines (suc (last_number y q)) begun.one begun.placed.1 behind.1 (omega (arith, number, rising.0, behind.0)) ∙ nothing-first (copied_text all l) _ (instruction-not_copied all l located i stated))
 
 open-instruction : (all lines : List Line) (l : Line) (located : Bool) (i : Instr) → l.class ≡ Instruction located i → Opens all lines → Closes all lines → Opens all (l ∷ lines)
 open-instruction all lines l located i stated opens closes before ended block x [] parts p ps count run n k at begun =
-    ap (λ dropped. printed_from (printer (block ∷ map block_of parts) (p ∷ ps) dropped n k count) (bytes_in (l ∷ lines))) (dropped-no all lines l (instruction-kept all l located i stated))
-    ∙ open-last all lines l located i stated closes before ended block x parts p ps count run n k at begun
+    open-last all lines l located i stated closes before ended block x parts p ps count run n k at begun
 open-instruction all lines l located i stated opens closes before ended block x (y ∷ q) parts p ps count run n k at begun =
-    ap (λ dropped. printed_from (printer (block ∷ map block_of parts) (p ∷ ps) dropped n k count) (bytes_in (l ∷ lines))) (dropped-no all lines l (instruction-kept all l located i stated))
-    ∙ open-between all lines l located i stated opens before ended block x y q parts p ps count run n k at begun
+    open-between all lines l located i stated opens before ended block x y q parts p ps count run n k at begun
 
 open-line : (c : Class) (all lines : List Line) (l : Line) → l.class ≡ c → Opens all lines → Closes all lines → Opens all (l ∷ lines)
 open-line Comment all lines l stated opens closes = open-comment all lines l stated opens
@@ -553,7 +565,7 @@ open-line (Instruction located i) all lines l stated opens closes = open-instruc
 
 -- A LINE WHILE NO BLOCK IS BEGUN
 
-not-first : (parts : List (List Line)) (number low : ℕ) → OneRun parts → Rising low (all_of parts) → number < low → is_passed number 0 (map block_of parts) ≡ false
+not-first : (parts : List (List Line)) (number low : ℕ) → OneRun parts → Rising low (all_of parts) → number < low → is_at number 0 (map block_of parts) ≡ false
 not-first [] number low one rising below = refl
 not-first ([] ∷ parts) number low one rising below = absurd one
 not-first ((m ∷ more) ∷ parts) number low one rising below = ne_eqb m.number number (λ same. absurd (omega (arith, same, rising.0, below)))
@@ -577,13 +589,10 @@ rising-closed lines l parts count stated ordered left =
 closed-copied : (all lines : List Line) (l : Line) → is_instruction l.class ≡ false → is_dropped all l ≡ false → Closes all lines →
     (before : List Line) (ended : List Block) (parts : List (List Line)) (ps : List Placed) (count run n : ℕ) → At all before (l ∷ lines) count run → Closed all (l ∷ lines) ended parts ps count →
     copied_text all l ≡ copied_line l →
-    printed_from (printer (map block_of parts) ps (dropped_in all (l ∷ lines)) n 0 count) (bytes_in (l ∷ lines)) ≡ text_of_lines all n (map block_of parts) ps (l ∷ lines)
+    text_after all (map block_of parts) ps n 0 (l ∷ lines) ≡ text_of_lines all n (map block_of parts) ps (l ∷ lines)
 closed-copied all lines l stated kept closes before ended parts ps count run n at closed copied =
     let rising = rising-closed lines l parts count stated at.ordered.2 closed.left in
-    ap (λ dropped. printed_from (printer (map block_of parts) ps dropped n 0 count) (bytes_in (l ∷ lines))) (dropped-no all lines l kept)
-    ∙ step-copied (printer (map block_of parts) ps (dropped_in all lines) n 0 count) l.bytes (bytes_in lines)
-    (later-dropped all (suc count) (suc (suc count)) (run_behind l) lines (omega arith) at.ordered.2)
-    (not-first parts (suc count) (suc (suc count)) closed.one rising (omega arith))
+    step-copied all (map block_of parts) ps n 0 l lines kept (not-first parts l.number (suc (suc count)) closed.one rising (omega (arith, at.ordered.0)))
     ∙ ap (λ text. copied_line l ++ text) (closes (before ++ l ∷ []) ended parts ps (suc count) (run_behind l) n (At-next all before lines l count run at) (Closed-next all lines l ended parts ps count stated closed))
     ∙ ap (λ first. first ++ text_of_lines all n (map block_of parts) ps lines) (sym copied)
     ∙ sym (text-on all n parts ps l lines (suc (suc count)) closed.one closed.placed rising (omega (arith, at.ordered.0)))
@@ -605,8 +614,7 @@ closed-other all lines l stated closes before ended parts ps count run n at clos
 closed-pad : (all lines : List Line) (l : Line) (located here : Bool) → l.class ≡ Pad located → has_block all l ≡ here → Closes all lines → Closes all (l ∷ lines)
 closed-pad all lines l located true stated here closes before ended parts ps count run n at closed =
     let rising = rising-closed lines l parts count (rw stated refl) at.ordered.2 closed.left in
-    ap (λ dropped. printed_from (printer (map block_of parts) ps dropped n 0 count) (bytes_in (l ∷ lines))) (dropped-yes all lines l (pad-dropped all l located stated here))
-    ∙ step-skipped (printer (map block_of parts) ps (l.number ∷ dropped_in all lines) n 0 count) l.bytes (bytes_in lines) (eq-eqb l.number (suc count) at.ordered.0)
+    step-dropped all (map block_of parts) ps n 0 l lines closed.placed (pad-dropped all l located stated here)
     ∙ closes (before ++ l ∷ []) ended parts ps (suc count) (run_behind l) n (At-next all before lines l count run at) (Closed-next all lines l ended parts ps count (rw stated refl) closed)
     ∙ sym (nothing-first (copied_text all l) _ (pad-not_copied all l located stated here))
     ∙ sym (text-on all n parts ps l lines (suc (suc count)) closed.one closed.placed rising (omega (arith, at.ordered.0)))
@@ -636,15 +644,13 @@ first-place place head notes other lines text at same =
 closed-alone : (all lines : List Line) (l : Line) (located : Bool) (i : Instr) → l.class ≡ Instruction located i → Closes all lines →
     (before : List Line) (ended : List Block) (m : Line) (parts : List (List Line)) (p : Placed) (ps : List Placed) (count run n : ℕ) →
     At all before (l ∷ lines) count run → Closed all (l ∷ lines) ended ((m ∷ []) ∷ parts) (p ∷ ps) count →
-    printed_from (printer (map block_of ((m ∷ []) ∷ parts)) (p ∷ ps) (dropped_in all lines) n 0 count) (bytes_in (l ∷ lines)) ≡ text_of_lines all n (map block_of ((m ∷ []) ∷ parts)) (p ∷ ps) (l ∷ lines)
+    text_after all (map block_of ((m ∷ []) ∷ parts)) (p ∷ ps) n 0 (l ∷ lines) ≡ text_of_lines all n (map block_of ((m ∷ []) ∷ parts)) (p ∷ ps) (l ∷ lines)
 closed-alone all lines l located i stated closes before ended m parts p ps count run n at closed =
     let block : Block = block_of (m ∷ []) in
     let rests = rest-left l m lines (all_of parts) (rw stated refl) closed.left in
     let same : m.number ≡ l.number = sym (ap (λ (y : Line). y.number) rests.0) in
     let number : m.number ≡ suc count = same ∙ at.ordered.0 in
-    step-last (printer (block ∷ map block_of parts) (p ∷ ps) (dropped_in all lines) n 0 count) l.bytes (bytes_in lines)
-    (later-dropped all (suc count) (suc (suc count)) (run_behind l) lines (omega arith) at.ordered.2)
-    (eq-eqb m.number (suc count) number) refl
+    step-instruction true all block (map block_of parts) p ps n 0 l lines closed.placed (instruction-kept all l located i stated) same refl
     ∙ ap (λ text. text_in_place n 0 block p ++ text) (closes (before ++ l ∷ []) (ended ++ block ∷ []) parts ps (suc count) (run_behind l) (suc n) (At-next all before lines l count run at) (record {
       blocks = closed.blocks ∙ sym (append_assoc ended (block ∷ []) (map block_of parts));
       behind = Ended-push (suc count) ended block closed.behind (omega (arith, number));
@@ -659,16 +665,14 @@ closed-alone all lines l located i stated closes before ended m parts p ps count
 closed-first : (all lines : List Line) (l : Line) (located : Bool) (i : Instr) → l.class ≡ Instruction located i → Opens all lines →
     (before : List Line) (ended : List Block) (m y : Line) (q : List Line) (parts : List (List Line)) (p : Placed) (ps : List Placed) (count run n : ℕ) →
     At all before (l ∷ lines) count run → Closed all (l ∷ lines) ended ((m ∷ y ∷ q) ∷ parts) (p ∷ ps) count →
-    printed_from (printer (map block_of ((m ∷ y ∷ q) ∷ parts)) (p ∷ ps) (dropped_in all lines) n 0 count) (bytes_in (l ∷ lines)) ≡ text_of_lines all n (map block_of ((m ∷ y ∷ q) ∷ parts)) (p ∷ ps) (l ∷ lines)
+    text_after all (map block_of ((m ∷ y ∷ q) ∷ parts)) (p ∷ ps) n 0 (l ∷ lines) ≡ text_of_lines all n (map block_of ((m ∷ y ∷ q) ∷ parts)) (p ∷ ps) (l ∷ lines)
 closed-first all lines l located i stated opens before ended m y q parts p ps count run n at closed =
     let block : Block = block_of (m ∷ y ∷ q) in
     let rests = rest-left l m lines (y ∷ q ++ all_of parts) (rw stated refl) closed.left in
     let same : m.number ≡ l.number = sym (ap (λ (z : Line). z.number) rests.0) in
     let number : m.number ≡ suc count = same ∙ at.ordered.0 in
     let more : eqb 1 (length block.entries) ≡ false = ne_eqb 1 (length block.entries) (λ last. absurd (omega (arith, last))) in
-    step-instruction (printer (block ∷ map block_of parts) (p ∷ ps) (dropped_in all lines) n 0 count) l.bytes (bytes_in lines)
-    (later-dropped all (suc count) (suc (suc count)) (run_behind l) lines (omega arith) at.ordered.2)
-    (eq-eqb m.number (suc count) number) more
+    step-instruction false all block (map block_of parts) p ps n 0 l lines closed.placed (instruction-kept all l located i stated) same more
     ∙ ap (λ text. text_in_place n 0 block p ++ text) (opens (before ++ l ∷ []) ended block y q parts p ps (suc count) (run_behind l) n 1 (At-next all before lines l count run at) (record {
       blocks = closed.blocks;
       behind = Ended-later (suc count) ended closed.behind;
@@ -679,7 +683,7 @@ closed-first all lines l located i stated opens before ended m y q parts p ps co
       first = omega (arith, number);
       up_to = omega (arith, closed.one.0.0, ap (λ (z : Line). z.run) rests.0, run_behind-le l);
       same = subst (λ r. SameRun r q) (sym closed.one.0.0) closed.one.0.1;
-      placed = closed.placed.1;
+      placed = closed.placed;
     }))
     ∙ first-place (text_in_place n 0 block p) (report n (length block.entries) p) (notes_text block lines) (notes_text block all) (instruction_lines block block.label p.order) (text_of_lines all (suc n) (map block_of parts) ps lines)
     (rw more (append-nil (report n (length block.entries) p))) (notes-begun all before lines l block count run at number (rw stated refl))
@@ -688,19 +692,12 @@ closed-first all lines l located i stated opens before ended m y q parts p ps co
 no_line : (l : Line) (lines : List Line) → l ∷ lines ≡ [] → ⊥
 no_line l lines h = cc
 
-closed-part : (all lines : List Line) (l : Line) (located : Bool) (i : Instr) → l.class ≡ Instruction located i → Opens all lines → Closes all lines →
-    (before : List Line) (ended : List Block) (parts : List (List Line)) (ps : List Placed) (count run n : ℕ) → At all before (l ∷ lines) count run → Closed all (l ∷ lines) ended parts ps count →
-    printed_from (printer (map block_of parts) ps (dropped_in all lines) n 0 count) (bytes_in (l ∷ lines)) ≡ text_of_lines all n (map block_of parts) ps (l ∷ lines)
-closed-part all lines l located i stated opens closes before ended [] ps count run n at closed = absurd (no_line l (instructions lines) (sym (instructions-yes l lines (rw stated refl)) ∙ closed.left))
-closed-part all lines l located i stated opens closes before ended ([] ∷ parts) ps count run n at closed = absurd closed.one
-closed-part all lines l located i stated opens closes before ended ((m ∷ more) ∷ parts) [] count run n at closed = absurd closed.placed
-closed-part all lines l located i stated opens closes before ended ((m ∷ []) ∷ parts) (p ∷ ps) count run n at closed = closed-alone all lines l located i stated closes before ended m parts p ps count run n at closed
-closed-part all lines l located i stated opens closes before ended ((m ∷ y ∷ q) ∷ parts) (p ∷ ps) count run n at closed = closed-first all lines l located i stated opens before ended m y q parts p ps count run n at closed
-
 closed-instruction : (all lines : List Line) (l : Line) (located : Bool) (i : Instr) → l.class ≡ Instruction located i → Opens all lines → Closes all lines → Closes all (l ∷ lines)
-closed-instruction all lines l located i stated opens closes before ended parts ps count run n at closed =
-    ap (λ dropped. printed_from (printer (map block_of parts) ps dropped n 0 count) (bytes_in (l ∷ lines))) (dropped-no all lines l (instruction-kept all l located i stated))
-    ∙ closed-part all lines l located i stated opens closes before ended parts ps count run n at closed
+closed-instruction all lines l located i stated opens closes before ended [] ps count run n at closed = absurd (no_line l (instructions lines) (sym (instructions-yes l lines (rw stated refl)) ∙ closed.left))
+closed-instruction all lines l located i stated opens closes before ended ([] ∷ parts) ps count run n at closed = absurd closed.one
+closed-instruction all lines l located i stated opens closes before ended ((m ∷ more) ∷ parts) [] count run n at closed = absurd closed.placed
+closed-instruction all lines l located i stated opens closes before ended ((m ∷ []) ∷ parts) (p ∷ ps) count run n at closed = closed-alone all lines l located i stated closes before ended m parts p ps count run n at closed
+closed-instruction all lines l located i stated opens closes before ended ((m ∷ y ∷ q) ∷ parts) (p ∷ ps) count run n at closed = closed-first all lines l located i stated opens before ended m y q parts p ps count run n at closed
 
 closed-line : (c : Class) (all lines : List Line) (l : Line) → l.class ≡ c → Opens all lines → Closes all lines → Closes all (l ∷ lines)
 closed-line Comment all lines l stated opens closes = closed-comment all lines l stated closes
@@ -735,17 +732,14 @@ same-blocks found blocks read h g = cc
 pub accepted-is : (source : Reading) (blocks : List Block) → source_of source ≡ Ok blocks → blocks_of (classed_lines source) ≡ blocks
 accepted-is source blocks accepted = same-blocks (blocks_of (classed_lines source)) blocks (source_of source) (Gives-accepted source blocks accepted) accepted
 
-pub print-source : (source : Reading) (blocks : List Block) (ps : List Placed) → source_of source ≡ Ok blocks → ArePlaced (blocks_of (classed_lines source)) ps →
-    printed_from (printer blocks ps (lines_that is_dropped source) 1 0 0) (lines_of source.text) ≡ printed source ps
-print-source source blocks ps accepted placed =
+pub none-stands : (source : Reading) (blocks : List Block) (ps : List Placed) → source_of source ≡ Ok blocks → ArePlaced blocks ps → printed_keeping false Usual source 0 (all_given ps) ≡ printed source ps
+none-stands source blocks ps accepted are =
     let all : List Line = classed_lines source in
     let cut = parts source in
     let found : List (List Line) = parts_of (instructions all) in
-    ap (λ blocks. printed_from (printer blocks ps (dropped_in all all) 1 0 0) (lines_of source.text)) (sym (accepted-is source blocks accepted))
-    ∙ ap (λ lines. printed_from (printer (blocks_of all) ps (dropped_in all all) 1 0 0) lines) (sym (bytes-classed (flagged_lines source) 1 0 0 [] false ∙ bytes-flagged source.cut at_first (lines_of source.text)))
-    ∙ (print-lines all all).1 [] [] found ps 0 0 1
+    (print-lines all all).1 [] [] found ps 0 0 1
     (record { whole = refl; below = tt; ordered = ordered-classed (flagged_lines source) 1 0 0 [] false; taken = no_refusal (refusal all) (blocks_of all) blocks accepted })
-    (record { blocks = refl; behind = tt; one = one-run found (λ part among. (cut.sizes part among).0) cut.runs; left = sym cut.whole; placed = placed })
+    (record { blocks = refl; behind = tt; one = one-run found (λ part among. (cut.sizes part among).0) cut.runs; left = sym cut.whole; placed = subst (λ bs. ArePlaced bs ps) (sym (accepted-is source blocks accepted)) are })
 
 not-many : (long many : Bool) (e f : SourceError) (o : Option SourceError) → (if long then Some e else (if many then Some f else o)) ≡ None → many ≡ false
 not-many true many e f o h = cc

@@ -7,9 +7,10 @@ use Rattle.s66_line.specs.Fields.{trim}
 use Rattle.s66_line.specs.declared.class.Class.{Class}
 use Rattle.s66_line.specs.declared.limits.TheConstants.{LINE_BYTES_LIMIT}
 use Rattle.s66_source.specs.Frame.{FramePart, block_part}
+use Rattle.s66_source.specs.Keeper.{begins_with}
+use Rattle.s66_source.specs.Keeping.{others}
 use Rattle.s66_source.specs.LeftAlone.{Flagged, after_line, class_at, flagged_from, is_alone}
 use Rattle.s66_source.specs.Printed.{is_trailing}
-use Rattle.s66_source.specs.Printer.{begins_with, rest}
 use Rattle.s66_source.specs.Roles.{is_other_class, is_pad_class}
 use Rattle.s66_source.specs.declared.standing.Standing.{Standing}
 
@@ -50,8 +51,8 @@ abbrev pub after_framed : Framer → Flagged → Framer
 after_framed f line = record {
   cut = f.cut;
   standing = after_line f.cut f.standing line.bytes;
-  blocks = if begins_block (suc f.lines) f.blocks then rest f.blocks else f.blocks;
-  dropped = if begins_with (suc f.lines) f.dropped then rest f.dropped else f.dropped;
+  blocks = if begins_block (suc f.lines) f.blocks then others f.blocks else f.blocks;
+  dropped = if begins_with (suc f.lines) f.dropped then others f.dropped else f.dropped;
   after = is_code (class_at f.after line);
   lines = suc f.lines;
 }

@@ -1,8 +1,8 @@
 -- Used by contracts within the crate alone: a source printed line by line, where some of its blocks stand.
-use Rattle.std.specs.Prelude.{◌≡◌, ℕ, suc, ◌≤◌, Bool, if◌then◌else◌, List, [], ◌∷◌, ◌++◌, drop, length}
+use Rattle.std.specs.Prelude.{◌≡◌, ◌==◌, ℕ, suc, ◌≤◌, ◌<◌, Bool, false, if◌then◌else◌, List, [], ◌∷◌, ◌++◌, drop, length}
+use Rattle.s66_line.specs.Block.{Block}
 use Rattle.s66_source.specs.Columns.{indent}
 use Rattle.s66_source.specs.Keeping.{AreGiven, Place, after_line, ends_block, is_at, others, text_at}
-use Rattle.s66_source.specs.Printer.{HasMore, begins_with}
 use Rattle.s66_source.specs.declared.columns.Columns.{Columns}
 
 -- what is left to print after some lines
@@ -19,6 +19,11 @@ pub record Keeper : Type 0 where
   -- how many lines come before
   pub lines : ℕ
 
+-- the first block has more instructions than were passed, if some were
+abbrev pub HasMore : ℕ → List Block → Type 0
+HasMore passed [] = Unit {0}
+HasMore passed (block ∷ blocks) = 0 < passed → passed < length block.entries
+
 pub record IsPlace (s : Place) : Type 0 where
   pub given : AreGiven (drop s.before s.blocks) s.given
   pub more : HasMore s.passed s.blocks
@@ -27,6 +32,10 @@ pub record IsKeeper (k : Keeper) : Type 0 where
   pub place : IsPlace k.place
   pub number : k.place.number ≤ suc k.lines
   pub indents : length k.indents ≡ k.place.passed
+
+abbrev pub begins_with : ℕ → List ℕ → Bool
+begins_with n [] = false
+begins_with n (m ∷ ms) = m == n
 
 abbrev pub is_dropped_next : Keeper → Bool
 is_dropped_next k = begins_with (suc k.lines) k.dropped

@@ -10,7 +10,6 @@ pub mod Pads
 pub mod Columns
 pub mod Keeping
 pub mod Merged
-pub mod Printer
 pub mod Keeper
 pub mod Reader
 pub mod SourceReader

@@ -2,13 +2,12 @@ ghost use Rattle.std.specs.Prelude.{ℕ, ◌≡◌, ◌≤◌, ◌++◌, codes, 
 ghost use Rattle.s66_isa.specs.Lists.{Among};
 ghost use Rattle.s66_line.specs.Fields.{body, trim};
 ghost use Rattle.s66_source.specs.Columns.{indented_line, indented_lines, line_start};
-ghost use Rattle.s66_source.specs.Printed.{is_trailing, bound_text, splits_line, times_text, report, label_field, instruction_lines};
+ghost use Rattle.s66_source.specs.Printed.{is_trailing, bound_text, splits_line, times_text, report, label_field};
 ghost use Rattle.s66_isa.specs.declared.limits.TheConstants.{BLOCK_LIMIT};
 
 use crate::columns::USUAL_INDENT;
 use crate::placed::Placed;
 use s66_device::push_field;
-use s66_isa::BLOCK_LIMIT;
 use s66_line::{Block, body_of};
 use std::alloc::AllocError;
 
@@ -145,19 +144,6 @@ pub(crate) fn push_indented(
         label = &[];
     }
     Ok(())
-}
-
-/// The lines of the instructions of these numbers, the first with the label of the block.
-pub(crate) fn push_instructions(
-    out: &mut Vec<u8>,
-    block: &Block,
-    order: &[u8],
-) -> Result<(), AllocError>
-    requires { (n : ℕ) → Among n order.now → (1 ≤ n) × (n ≤ length block.now.entries) }
-    ensures { OnOk result (out.new.items ≡ out.old.items ++ instruction_lines block.now block.now.label order.now) }
-{
-    prove!(block.count() <= BLOCK_LIMIT);
-    push_indented(out, block, order, &[USUAL_INDENT; BLOCK_LIMIT])
 }
 
 /// A line as it was read, without the carriage returns at its end.

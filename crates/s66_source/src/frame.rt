@@ -95,7 +95,8 @@ impl<'s, 'a> Framer<'s, 'a> {
     ghost use Rattle.s66_line.specs.Fields.{lines_from};
     ghost use Rattle.s66_line.specs.declared.limits.TheConstants.{LINE_BYTES_LIMIT};
     ghost use Rattle.s66_source.specs.Framer.{after_framed, begins_block, first_part, flagged_next, framed, is_short, part_at};
-    ghost use Rattle.s66_source.specs.Printer.{begins_with, rest};
+    ghost use Rattle.s66_source.specs.Keeper.{begins_with};
+    ghost use Rattle.s66_source.specs.Keeping.{others};
     ghost use Rattle.s66_source.specs.declared.limits.TheConstants.{SOURCE_LINES_LIMIT};
 
     /// Passes the next line of those that are left out, if it is the next line.
@@ -103,7 +104,7 @@ impl<'s, 'a> Framer<'s, 'a> {
         requires { self.old.lines < SOURCE_LINES_LIMIT }
         ensures value { result ≡ begins_with (suc self.old.lines) self.old.dropped }
         ensures rest { self.new ≡ record
-            self.old { dropped = if begins_with (suc self.old.lines) self.old.dropped then rest self.old.dropped else self.old.dropped } }
+            self.old { dropped = if begins_with (suc self.old.lines) self.old.dropped then others self.old.dropped else self.old.dropped } }
     {
         match self.dropped {
             [line, dropped @ ..] if *line == self.lines + 1 => {
@@ -118,7 +119,8 @@ impl<'s, 'a> Framer<'s, 'a> {
     fn pass_block(&mut self) -> Option<FramePart<'a>>
         requires { self.old.lines < SOURCE_LINES_LIMIT }
         ensures some { IfSome result (λ part. (begins_block (suc self.old.lines) self.old.blocks ≡ true) ×
-            (first_part self.old.blocks ≡ part ∷ []) × (self.new ≡ record self.old { blocks = rest self.old.blocks })) }
+            (first_part self.old.blocks ≡ part ∷ []) ×
+            (self.new ≡ record self.old { blocks = others self.old.blocks })) }
         ensures none { IfNone result ((begins_block (suc self.old.lines) self.old.blocks ≡ false) ×
             (self.new ≡ self.old)) }
     {

@@ -1,11 +1,13 @@
-ghost use Rattle.std.specs.Prelude.{ℕ, suc, ◌≡◌, ◌≤◌, ◌<◌, ◌++◌, if◌then◌else◌, length, nat_lt, IfOk, OnOk, drop};
+ghost use Rattle.std.specs.Prelude.{ℕ, suc, ◌≡◌, ◌≤◌, ◌<◌, ◌++◌, length, IfOk, OnOk, drop};
 ghost use Rattle.s66_isa.specs.Lists.{Among};
-ghost use Rattle.s66_source.specs.Keeping.{AreGiven, others, printed_keeping, text_anew};
-ghost use Rattle.s66_source.specs.Printer.{begins_with};
+ghost use Rattle.s66_source.specs.Keeping.{AreGiven, printed_keeping, text_anew};
+ghost use Rattle.s66_source.specs.Keeper.{begins_with};
+ghost use Rattle.s66_source.specs.Printed.{ArePlaced, printed};
 ghost use Rattle.s66_source.specs.Source.{blocks_of, classed_lines};
 
 use crate::block_text::{push_copied, push_indented, push_report};
 use crate::columns::Columns;
+use crate::given::{Given, others};
 use crate::lines::cut_line;
 use crate::placed::Placed;
 use crate::source::Source;
@@ -22,29 +24,6 @@ fn begins_with(numbers: &[u32], number: u32) -> bool
     match numbers {
         [first, ..] => *first == number,
         [] => false,
-    }
-}
-
-/// The blocks but the first.
-fn others<'s, 'a>(blocks: &'s [Block<'a>]) -> &'s [Block<'a>]
-    ensures { result.now ≡ others blocks.now }
-{
-    match blocks {
-        [_, rest @ ..] => rest,
-        [] => blocks,
-    }
-}
-
-/// How blocks are to be printed after one before which so many stand.
-fn given_after(given: &[Option<Placed>], before: usize) -> &[Option<Placed>]
-    ensures { result.now ≡ (if nat_lt 0 before then given.now else others given.now) }
-{
-    if before > 0 {
-        return given;
-    }
-    match given {
-        [_, rest @ ..] => rest,
-        [] => given,
     }
 }
 
@@ -86,8 +65,8 @@ struct Keeper<'s, 'a> {
     blocks: &'s [Block<'a>],
     /// How many of them stand before those that are given.
     before: usize,
-    /// How those are to be printed, `None` if they stand; what comes after them stands.
-    given: &'s [Option<Placed>],
+    /// How those are to be printed; what comes after them stands.
+    given: Given<'s>,
     /// Those of the lines to come that are left out if their blocks are printed.
     dropped: &'s [u32],
     /// Those that are `NO`s before which no instruction of their run comes.
@@ -110,13 +89,13 @@ impl<'s, 'a> Model for Keeper<'s, 'a> {
     ghost Value = { Keeper };
 
     ghost view = { λ k.
-        record { quiet = k.quiet; columns = k.columns; place = record { blocks = k.blocks.now; before = k.before; given = k.given.now; number = k.number; passed = k.passed; stood = k.stood }; indents = k.indents.items; dropped = k.dropped.now; leading = k.leading.now; lines = k.lines } };
+        record { quiet = k.quiet; columns = k.columns; place = record { blocks = k.blocks.now; before = k.before; given = k.given; number = k.number; passed = k.passed; stood = k.stood }; indents = k.indents.items; dropped = k.dropped.now; leading = k.leading.now; lines = k.lines } };
 }
 
 impl<'s, 'a> Keeper<'s, 'a> {
     ghost use Rattle.std.specs.Prelude.{◌≡◌, ◌≤◌, ◌<◌, ◌+◌, ◌++◌, true, suc, [], if◌then◌else◌, length, OnOk};
     ghost use Rattle.s66_line.specs.Fields.{lines_from};
-    ghost use Rattle.s66_source.specs.Keeping.{after_block, after_instruction, copied, ends_block, instruction_text, pad_stands, stands_next};
+    ghost use Rattle.s66_source.specs.Keeping.{after_block, after_instruction, copied, ends_block, instruction_text, others, pad_stands, stands_next};
     ghost use Rattle.s66_source.specs.Keeper.{IsKeeper, IsPlace, after_kept, is_instruction_next, is_leading_next, kept_from, kept_text, with_indent};
     ghost use Rattle.s66_source.specs.declared.limits.TheConstants.{SOURCE_LINES_LIMIT};
 
@@ -124,17 +103,7 @@ impl<'s, 'a> Keeper<'s, 'a> {
     fn stands(&self) -> bool
         ensures { result ≡ stands_next self.now.place }
     {
-        if self.blocks.is_empty() {
-            return false;
-        }
-        if self.before > 0 {
-            return true;
-        }
-        match self.given {
-            [Some(_), ..] => false,
-            [None, ..] => true,
-            [] => true,
-        }
+        !self.blocks.is_empty() && (self.before > 0 || self.given.first().is_none())
     }
 
     /// Whether a `NO` stands, before which an instruction of its run comes or not.
@@ -202,25 +171,19 @@ impl<'s, 'a> Keeper<'s, 'a> {
         if self.before > 0 {
             return push_copied(out, line);
         }
-        let [block, ..] = self.blocks else {
+        let ([block, ..], Some(placed)) = (self.blocks, self.given.first()) else {
             return push_copied(out, line);
         };
         prove!(block.count() >= 1);
-        let [first, ..] = self.given else {
-            return push_copied(out, line);
-        };
-        match first {
-            Some(placed) => push_anew(
-                out,
-                self.quiet,
-                self.indents.as_slice(),
-                self.number,
-                self.passed,
-                block,
-                placed,
-            ),
-            None => push_copied(out, line),
-        }
+        push_anew(
+            out,
+            self.quiet,
+            self.indents.as_slice(),
+            self.number,
+            self.passed,
+            block,
+            placed,
+        )
     }
 
     /// Passes the last instruction of a block.
@@ -231,8 +194,11 @@ impl<'s, 'a> Keeper<'s, 'a> {
         ensures place { IsPlace self.new.place }
     {
         self.stood = self.stands();
-        self.given = given_after(self.given, self.before);
-        self.before = self.before.saturating_sub(1);
+        if self.before > 0 {
+            self.before -= 1;
+        } else {
+            self.given.pass();
+        }
         self.blocks = others(self.blocks);
         self.number += 1;
         self.passed = 0;
@@ -313,20 +279,17 @@ impl<'s, 'a> Keeper<'s, 'a> {
     }
 }
 
-/// A source, so many of whose blocks stand before those that are given. Of these stand those without an order, and so do all blocks after
-/// them. Each line of a block that stands is as it was read, and so are the `NO`s of it; all other blocks are printed as `print_source`
-/// does, without reports if it is `quiet`, and with the operations of lines without a label in these columns. Only the first line of a
-/// block can have a label.
-pub fn print_keeping(
+/// A source as `print_keeping` prints it.
+fn print_given(
     alloc: Global,
     source: &Source,
     before: usize,
-    given: &[Option<Placed>],
+    given: Given,
     quiet: bool,
     columns: Columns,
 ) -> Result<Vec<u8>, AllocError>
-    requires { AreGiven (drop before (blocks_of (classed_lines source.now))) given.now }
-    ensures { IfOk result (λ text. text.items ≡ printed_keeping quiet columns source.now before given.now) }
+    requires { AreGiven (drop before (blocks_of (classed_lines source.now))) given }
+    ensures { IfOk result (λ text. text.items ≡ printed_keeping quiet columns source.now before given.entry) }
 {
     let mut keeper = Keeper {
         quiet,
@@ -345,4 +308,45 @@ pub fn print_keeping(
     let mut out = Vec::new(alloc);
     keeper.print_all(&mut out, source.text())?;
     Ok(out)
+}
+
+/// A source with its blocks in these orders, one for each. In the place of a block come its report, its notes and its
+/// instructions, the first after the label; every other line is as it was read, save the `NO`s that are left out. It takes one
+/// pass over the lines, in time linear in the source and the orders.
+pub fn print_source(
+    alloc: Global,
+    source: &Source,
+    placed: &[Placed],
+) -> Result<Vec<u8>, AllocError>
+    requires { ArePlaced (blocks_of (classed_lines source.now)) placed.now }
+    ensures { IfOk result (λ text. text.items ≡ printed source.now placed.now) }
+{
+    prove!(source.blocks().len() == placed.len());
+    let given = Given {
+        every: placed,
+        some: &[],
+    };
+    print_given(alloc, source, 0, given, false, Columns::Usual)
+}
+
+/// A source, so many of whose blocks stand before those that are given. Of these stand those without an order, and so do all blocks after
+/// them. Each line of a block that stands is as it was read, and so are the `NO`s of it; all other blocks are printed as `print_source`
+/// does, without reports if it is `quiet`, and with the operations of lines without a label in these columns. Only the first line of a
+/// block can have a label.
+pub fn print_keeping(
+    alloc: Global,
+    source: &Source,
+    before: usize,
+    given: &[Option<Placed>],
+    quiet: bool,
+    columns: Columns,
+) -> Result<Vec<u8>, AllocError>
+    requires { AreGiven (drop before (blocks_of (classed_lines source.now))) given.now }
+    ensures { IfOk result (λ text. text.items ≡ printed_keeping quiet columns source.now before given.now) }
+{
+    let given = Given {
+        every: &[],
+        some: given,
+    };
+    print_given(alloc, source, before, given, quiet, columns)
 }

@@ -7,6 +7,7 @@ mod counts;
 mod cover;
 mod error;
 mod frame;
+mod given;
 mod halves;
 mod keeper;
 mod laws;
@@ -16,7 +17,6 @@ mod merged_laws;
 mod operation;
 mod pads;
 mod placed;
-mod printer;
 mod reader;
 mod source;
 mod standing;
@@ -27,7 +27,7 @@ pub use cover::{Cover, Covered};
 pub use error::SourceError;
 pub use frame::{FramePart, frame_of};
 pub use halves::{Halves, halves_of};
-pub use keeper::print_keeping;
+pub use keeper::{print_keeping, print_source};
 pub use laws::{
     block_examples, case_law, columns_examples, columns_law, copied_law, count_examples, cut_law,
     left_alone_examples, line_examples, line_law, none_stands_law, parts_law, plain_law,
@@ -37,6 +37,5 @@ pub use limits::SOURCE_LINES_LIMIT;
 pub use lines::cut_line;
 pub use merged_laws::{merged_examples, merged_law};
 pub use placed::Placed;
-pub use printer::print_source;
 pub use source::{Source, read_source, read_source_with};
 pub use standing::{Standing, is_directive, is_switch};

@@ -1,4 +1,4 @@
-use Rattle.s66_source.proofs.NoneStands.{none-stands}
+use Rattle.s66_source.proofs.PrintedLines.{none-stands}
 use Rattle.s66_source.proofs.laws.none_stands_law.Goals as goal
 
 pub returns : goal.returns

@@ -1,7 +1,0 @@
-use Rattle.std.proofs.Common.{◌∙◌, ap, subst}
-use Rattle.s66_isa.specs.Lists.{Among}
-use Rattle.s66_source.specs.Printed.{Placed}
-use Rattle.s66_source.proofs.printer.push_in_place.Goals as goal
-
-pub push_instructions-requires : goal.push_instructions-requires
-push_instructions-requires c = λ n among. c.requires.placed n (subst (Among n) (c.as_slice.ensures.value ∙ ap (λ (p : Placed). p.order) c.placed.view_is) among)
