@@ -1,4 +1,2 @@
 pub mod Each
 pub mod Begins
-pub mod FittingLines
-pub mod WholeTrees

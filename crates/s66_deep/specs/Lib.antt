@@ -1,6 +1,4 @@
 pub mod FollowingWords
 pub mod Prefixes
 pub mod Branching
-pub mod Ranges
-pub mod Trees
 pub mod Orders
