@@ -1,15 +1,11 @@
 -- Used by contracts: what is true of an order that is found, and of what is found with it.
-use Rattle.std.specs.Prelude.{ℕ, ◌≡◌, ◌≤◌, length}
-use Rattle.s66_isa.specs.declared.limits.TheConstants.{BLOCK_LIMIT}
+use Rattle.std.specs.Prelude.{ℕ, ◌≡◌, ◌≤◌}
 use Rattle.s66_isa.specs.Table.{numbers}
 use Rattle.s66_model.specs.Answer.{source_time}
 use Rattle.s66_model.specs.Timing.{Problem, total_of}
 use Rattle.s66_model.specs.Tree.{splits}
 use Rattle.s66_time.specs.TimedOrder.{TimedOrder}
-use Rattle.s66_cert.specs.declared.limits.TheConstants.{FACT_LIMIT}
-use Rattle.s66_cert.specs.Document.{AreFactLines}
 use Rattle.s66_cert.specs.DocumentParts.{tree_of_lines}
-use Rattle.s66_deep.specs.Trees.{AreOfTree}
 use Rattle.s66_deep.specs.declared.look.Looked.{Looked}
 
 -- it takes no more than the source order, and is the source order if it takes as much
@@ -18,13 +14,9 @@ pub record IsGood (b : Problem) (t : TimedOrder) : Type 0 where
   pub source : total_of b t.numbers ≤ source_time b
   pub first : source_time b ≡ total_of b t.numbers → t.numbers ≡ numbers b.block
 
--- and a certificate may have what is found with it, a tree of at most this many splits
+-- found with what is to show a bound, by a tree of at most this many splits
 pub record IsLooked (b : Problem) (most : ℕ) (l : Looked) : Type 0 where
   pub best : IsGood b l.best
   pub source : l.source ≡ source_time b
-  pub bound : l.bound ≤ total_of b l.best.numbers
-  pub tree : AreOfTree l.tree
-  -- how often it splits
-  pub splits : (l.splits ≡ splits (tree_of_lines l.tree)) × (l.splits ≤ most)
-  pub few : length l.lines.items ≤ FACT_LIMIT
-  pub lines : AreFactLines BLOCK_LIMIT l.lines.items
+  pub bound : l.evidence.bound ≤ total_of b l.best.numbers
+  pub splits : splits (tree_of_lines l.evidence.vertices) ≤ most

@@ -12,9 +12,7 @@ mod limits;
 mod lines;
 mod look;
 mod orders;
-mod ranges;
 mod search;
-mod trees;
 mod walk;
 mod work;
 

@@ -8,13 +8,10 @@ use crate::facts::Finder;
 use crate::instance::Instance;
 use crate::lines::best_by_beams;
 use crate::orders::{faster, source_order};
-use crate::ranges::are_lines;
 use crate::search::{Searched, Written, search};
-use crate::trees::splits_of;
-use s66_cert::{FACT_LIMIT, Tree};
+use s66_cert::Evidence;
 use s66_isa::Profile;
 use s66_line::Block;
-use s66_moments::FactLine;
 use s66_time::Timed;
 use std::alloc::{AllocError, Global};
 
@@ -25,14 +22,8 @@ pub struct Looked {
     pub best: Timed,
     /// What the source order takes, in minor cycles.
     pub source: u32,
-    /// What every order takes at least, in minor cycles, as the fact lines and the tree may show; at most what the best order takes.
-    pub bound: u32,
-    /// The fact lines.
-    pub lines: Vec<FactLine>,
-    /// The tree that is to show the bound by them.
-    pub tree: Tree,
-    /// How often it splits.
-    pub splits: u32,
+    /// What is to show a bound: at most what the best order takes.
+    pub evidence: Evidence,
 }
 
 /// What a look at a block came to.
@@ -44,18 +35,20 @@ pub struct Look {
     pub splits: u32,
 }
 
-/// What is found, if a certificate may have it.
-fn fitting(looked: Looked, most: u32) -> Option<Looked>
-    ensures { (b : Problem) → IsGood b looked.best → looked.source ≡ source_time b → IfSome result (IsLooked b most) }
+/// What is found, if a certificate may have it, with a tree of at most so many splits.
+fn fitting(best: Timed, source: u32, written: Written, most: u32) -> Option<Looked>
+    ensures { (b : Problem) → IsGood b best → source ≡ source_time b → IfSome result (IsLooked b most) }
 {
-    let count = splits_of(&looked.tree)?;
-    if count != looked.splits || most < count || looked.best.total() < looked.bound {
+    let Written { bound, lines, tree } = written;
+    if best.total() < bound {
         return None;
     }
-    if FACT_LIMIT < looked.lines.len() || !are_lines(looked.lines.as_slice()) {
-        return None;
-    }
-    Some(looked)
+    let evidence = Evidence::new(bound, lines, tree, most)?;
+    Some(Looked {
+        best,
+        source,
+        evidence,
+    })
 }
 
 /// What is found of a block under a profile beyond an order of it that was found before: the best of this, the source order, and what
@@ -93,24 +86,11 @@ pub fn look_at(
     let Searched {
         best,
         shown,
-        splits: made,
+        splits,
     } = search(&instance, &finder, best, most)?;
-    let Written {
-        bound,
-        lines,
-        tree,
-        splits,
-    } = shown.written(alloc, &finder, is_printed)?;
-    let looked = Looked {
-        best,
-        source,
-        bound,
-        lines,
-        tree,
-        splits,
-    };
+    let written = shown.written(alloc, &finder, is_printed)?;
     Ok(Look {
-        found: fitting(looked, most),
-        splits: made,
+        found: fitting(best, source, written, most),
+        splits,
     })
 }

@@ -18,13 +18,12 @@ use std::alloc::{AllocError, Global};
 /// The lines of a document before its fact lines, but for those of its instructions.
 const HEAD_LINES: u32 = 6;
 
-/// What shows a bound, as a certificate has it: fact lines, a tree, and how often that splits.
+/// What shows a bound, as a certificate has it: fact lines and a tree.
 #[derive(Drop)]
 pub(crate) struct Written {
     pub(crate) bound: u32,
     pub(crate) lines: Vec<FactLine>,
     pub(crate) tree: Tree,
-    pub(crate) splits: u32,
 }
 
 /// What may be shown of all orders: by fact lines and one leaf, or by a tree.
@@ -81,7 +80,6 @@ fn by_leaf(alloc: Global, bound: Bound, is_printed: bool) -> Result<Written, All
         bound: value,
         lines: finder.into_lines(),
         tree,
-        splits: 0,
     })
 }
 
@@ -176,7 +174,6 @@ fn search_below(
             bound,
             lines: below.into_lines(),
             tree,
-            splits,
         }),
         None => None,
     };

@@ -1,22 +1,32 @@
 -- Used by examples alone: worked blocks, their COMPASS lines above each, paths through their moments, and lines that show their bounds, under the standard profile.
-use Rattle.std.specs.Prelude.{ℕ, List, [], ◌∷◌}
+use Rattle.std.specs.Prelude.{ℕ, Bool, List, [], ◌∷◌, Option}
 use Rattle.s66_isa.specs.declared.instr.Instr.{Instr}
 use Rattle.s66_isa.specs.declared.instr.Kind.TheVariants.{Boolean, Add, Multiply, Increment}
-use Rattle.s66_isa.specs.Table.{instr}
+use Rattle.s66_isa.specs.Table.{instr, x_reg}
 use Rattle.s66_model.specs.Leaves.{Load}
 use Rattle.s66_model.specs.Tree.{Tree, Parted, Siblings, NoMore, Unsplit, Split}
 use Rattle.s66_model.specs.Examples.{standard_problem}
-use Rattle.s66_moments.specs.declared.moment.Stage.TheVariants.{Start}
+use Rattle.s66_moments.specs.declared.moment.Stage.{Stage}
+use Rattle.s66_moments.specs.declared.moment.Stage.TheVariants.{Issue, Start, Done, Free}
 use Rattle.s66_moments.specs.declared.moment.Moment.{Moment}
 use Rattle.s66_moments.specs.declared.moment.Moment.TheVariants.{Origin, At, End}
 use Rattle.s66_moments.specs.Paths.{Hop}
+use Rattle.s66_moments.specs.Networks.{Network, network, precedes}
 use Rattle.s66_moments.specs.FactLines.{Use, Line, LoadArc}
 use Rattle.s66_moments.specs.LineTrees.{LineEnding, AtLeaf}
 use Rattle.s66_moments.specs.declared.fact_line.FactLine.{FactLine}
 use Rattle.s66_moments.specs.declared.fact_line.FactLine.TheVariants as fact
-use Rattle.s66_moments.specs.Known.{Known, known_first, known_after}
+use Rattle.s66_moments.specs.Known.{Known, span, known_first, known_after, is_taken, next_value, is_turned, is_loaded, start_at_least}
+use Rattle.s66_moments.specs.Known.{arcs_of as known_arcs}
 
 -- ARCS
+
+-- the arcs by dependence
+abbrev pub arcs_of : List Instr → Network
+arcs_of block = network (standard_problem block) (precedes block)
+
+abbrev pub arc_in : List Instr → ℕ → Stage → ℕ → Stage → Option ℕ
+arc_in block m e n f = arcs_of block (At m e) (At n f)
 
 abbrev pub hop : ℕ → Moment → Hop
 hop wait to = record { wait = wait; to = to }
@@ -24,6 +34,20 @@ hop wait to = record { wait = wait; to = to }
 -- FX1 X2+X3 / FX4 X1+X5: the only Add unit is free one minor cycle after X1 is there
 abbrev pub two_adds : List Instr
 two_adds = instr 0o30 1 2 3 ∷ instr 0o30 4 1 5 ∷ []
+
+-- from the start of its first to the end
+abbrev pub unit_path : List Hop
+unit_path =
+    hop 4 (At 1 (Done (x_reg 1))) ∷ hop 1 (At 1 Free) ∷ hop 0 (At 2 Issue) ∷ hop 0 (At 2 Start)
+    ∷ hop 4 (At 2 (Done (x_reg 4))) ∷ hop 1 (At 2 Free) ∷ hop 0 End ∷ []
+
+-- FX1 X2+X3 / BX4 X1*X5 / FX6 X4+X4: the third depends on the first only by the second
+abbrev pub boolean_between_adds : List Instr
+boolean_between_adds = instr 0o30 1 2 3 ∷ instr 0o11 4 1 5 ∷ instr 0o30 6 4 4 ∷ []
+
+-- FX1 X2*X3 / FX4 X1*X5: there are two Multiply units
+abbrev pub two_multiplies : List Instr
+two_multiplies = instr 0o40 1 2 3 ∷ instr 0o40 4 1 5 ∷ []
 
 -- LOAD ARCS
 
@@ -57,6 +81,10 @@ two_free_adds = instr 0o30 1 2 3 ∷ instr 0o30 4 2 5 ∷ []
 -- after the first, which leaves its unit at 5, what is left of its use from 1 on, and the second
 abbrev pub still_line : Line
 still_line = LoadArc Add Origin End 1 10 (use_of 1 4 ∷ use_of 2 5 ∷ [])
+
+-- RX1 X2/X3 / BX4 X1 / BX5 X1: both copies issue at once, and start when the quotient is there
+abbrev pub two_copies_of_a_quotient : List Instr
+two_copies_of_a_quotient = instr 0o45 1 2 3 ∷ instr 0o10 4 1 0 ∷ instr 0o10 5 1 0 ∷ []
 
 -- PAIRS
 
@@ -96,7 +124,32 @@ load_fact from to after wait numbers =
 abbrev pub known_of : List Instr → List FactLine → Known
 known_of block lines = known_after (known_first (standard_problem block)) lines
 
+abbrev pub span_after : List Instr → List FactLine → Moment → Moment → Option ℕ
+span_after block lines = span (standard_problem block) (known_arcs (standard_problem block) (known_of block lines))
+
+-- whether it is taken after these lines, for this bound
+abbrev pub is_taken_after : List Instr → ℕ → List FactLine → FactLine → Bool
+is_taken_after block bound lines line = is_taken (standard_problem block) bound (known_of block lines) line
+
+abbrev pub next_after : List Instr → List FactLine → List ℕ → ℕ → ℕ
+next_after block lines prefix n = next_value (standard_problem block) (known_of block lines) prefix n
+
+abbrev pub is_turned_after : List Instr → List FactLine → List ℕ → ℕ → ℕ → Bool
+is_turned_after block lines prefix m n = is_turned (standard_problem block) (known_of block lines) prefix m n
+
+-- whether a load leaf of these numbers, from a minor cycle on, closes a prefix for this bound
+abbrev pub is_loaded_after : List Instr → ℕ → List FactLine → (prefix : List ℕ) → (after : ℕ) → List ℕ → Bool
+is_loaded_after block bound lines prefix after numbers =
+    is_loaded (standard_problem block) (known_of block lines) prefix bound after numbers
+
+abbrev pub start_after : List Instr → List FactLine → List ℕ → ℕ → ℕ
+start_after block lines prefix n = start_at_least (standard_problem block) (known_of block lines) prefix n
+
 -- TREES
+
+-- split once, with two children
+abbrev pub split_once : LineEnding → LineEnding → Tree LineEnding
+split_once first second = Parted (1 ∷ 2 ∷ []) (Unsplit first (Unsplit second NoMore))
 
 abbrev pub increments_load : LineEnding
 increments_load = AtLeaf (Load Increment)

@@ -1,5 +1,5 @@
 -- What facts show is an answer to the block.
-use Rattle.std.proofs.Common.{ℕ, ◌*◌, ◌≡◌, ◌≤◌, ◌∙◌, List, length, true, ap, arith, inr, refl, subst, sym}
+use Rattle.std.proofs.Common.{◌*◌, ◌≡◌, ◌≤◌, ◌∙◌, List, true, ap, arith, inr, refl, subst, sym}
 use Rattle.std.specs.Option.{is_some}
 use Rattle.s66_isa.specs.declared.limits.TheConstants.{BLOCK_LIMIT}
 use Rattle.s66_isa.specs.declared.instr.Instr.{Instr}
@@ -10,21 +10,17 @@ use Rattle.s66_model.specs.Answer.{source_time}
 use Rattle.s66_model.specs.LegalOrder.{IsLegal}
 use Rattle.s66_model.specs.Timing.{Problem, total_of}
 use Rattle.s66_time.specs.TimedOrder.{TimedOrder}
-use Rattle.s66_model.proofs.Beginnings.{source-legal}
-use Rattle.s66_model.proofs.Growth.{total-le}
-use Rattle.s66_model.proofs.LegalOrders.{legal-order}
-use Rattle.s66_deep.specs.Orders.{IsGood, IsLooked}
-use Rattle.s66_deep.specs.declared.look.Looked.{Looked}
+use Rattle.s66_deep.specs.Orders.{IsGood}
 use Rattle.s66_cert.specs.Document.{Document, IsDocument}
 use Rattle.s66_cert.specs.DocumentParts.{Parts, document_of}
+use Rattle.s66_cert.specs.Evidence.{EvidenceOf}
 use Rattle.s66_checker.specs.Verdict.{verdict}
 use Rattle.s66_checker.specs.declared.verdict.Verdict.TheVariants.{Yes}
 use Rattle.s66_command.specs.declared.strategy.Strategy.{Strategy}
 use Rattle.s66_program.specs.declared.answers.ByFacts.{ByFacts}
 use Rattle.s66_program.specs.declared.answers.Candidate.{Candidate}
-use Rattle.s66_program.specs.declared.documents.Shows.{Shows}
 use Rattle.s66_output.specs.Answers.{IsEnough, document_under, problem_of}
-use Rattle.s66_program.specs.Stored.{IsClaimed, IsFit, IsShownBy, claimed, claimed_by, parts_by}
+use Rattle.s66_program.specs.Stored.{IsClaimed, IsShownBy, claimed, claimed_by, parts_by}
 
 -- a candidate is a legal order with its total, no slower than the source order, which it is if it is as slow
 pub record IsCandidate (p : Profile) (block : Block) (c : Candidate) : Type 0 where
@@ -35,14 +31,14 @@ pub record IsCandidate (p : Profile) (block : Block) (c : Candidate) : Type 0 wh
   pub first : source_time (problem_of p block) ≡ c.time → c.order.numbers ≡ numbers (instrs_of block)
   pub source : c.source ≡ source_time (problem_of p block)
 
-module _ (strategy : Strategy) (p : Profile) (block : Block) (c : Candidate) (l : Shows) (s : ByFacts) (shown : IsShownBy p block c l s) where
+module _ (strategy : Strategy) (p : Profile) (block : Block) (c : Candidate) (e : EvidenceOf) (s : ByFacts) (shown : IsShownBy p block c e s) where
   same-document : document_of s.document ≡ document_under strategy.search.rule p block (claimed s)
   same-document =
       subst (λ (d : Parts). document_of d ≡ document_under strategy.search.rule p block (claimed_by d s.splits)) (sym shown.document) refl
 
   pub shown-claimed : strategy.deep ≡ true → IsCandidate p block c → IsEnough strategy.search (problem_of p block) (claimed s) → 2 * s.splits ≤ 7 * strategy.search.nodes → IsClaimed strategy p block s
   shown-claimed deep is enough few =
-      let back : parts_by p block c.order.numbers c.time l ≡ s.document = sym shown.document in
+      let back : parts_by p block c.order.numbers c.time e ≡ s.document = sym shown.document in
       let whole : c.order ≡ record { block = instrs_of block; numbers = c.order.numbers } = ap (λ (instrs : List Instr). record { block = instrs; numbers = c.order.numbers }) is.of_block in
       record {
         answer = inr (
@@ -81,16 +77,3 @@ module _ (b : Problem) (t u : TimedOrder) (problem : u.problem ≡ t.problem) (t
         source = omega (arith, same, good.source);
         first = λ e. first (subst (λ (q : Problem). source_time q ≡ total_of q t.numbers) (sym good.problem) (e ∙ same)) ∙ good.first (e ∙ same);
       }
-
--- WHAT IS FOUND may stand in a document
-
-pub looked-fit : (p : Profile) (block : Block) (most : ℕ) (l : Looked) → IsLooked (problem_of p block) most l → length (instrs_of block) ≤ BLOCK_LIMIT → IsFit (record { bound = l.bound; lines = l.lines; tree = l.tree })
-looked-fit p block most l is few =
-    let b : Problem = problem_of p block in
-    let whole = (legal-order b.block (numbers b.block) (source-legal b.block)).1 in
-    record {
-      few = is.few;
-      lines = is.lines;
-      tree = is.tree;
-      bound = omega (arith, is.bound, is.best.source, total-le b (numbers b.block), whole, few);
-    }

@@ -1,5 +1,5 @@
 -- Used by contracts within the crate alone: an answer as code stores it.
-use Rattle.std.specs.Prelude.{ℕ, ◌*◌, ◌≡◌, ◌≤◌, ◌⊎◌, false, List, Some, length}
+use Rattle.std.specs.Prelude.{ℕ, ◌*◌, ◌≡◌, ◌≤◌, ◌⊎◌, false, List, Some}
 use Rattle.s66_isa.specs.declared.limits.TheConstants.{BLOCK_LIMIT}
 use Rattle.s66_isa.specs.Table.{entries}
 use Rattle.s66_isa.specs.declared.profile.Profile.{Profile}
@@ -7,12 +7,11 @@ use Rattle.s66_line.specs.Block.{instrs_of, Block}
 use Rattle.s66_model.specs.declared.rule.Rule.TheVariants.{ClampedStanding}
 use Rattle.s66_model.specs.Answer.{source_time}
 use Rattle.s66_model.specs.Tree.{splits}
-use Rattle.s66_deep.specs.Trees.{AreOfTree}
 use Rattle.s66_ledger.specs.Answers.{AnswerOf, answer_of}
 use Rattle.s66_ledger.specs.Ledgers.{LedgerOf}
-use Rattle.s66_cert.specs.declared.limits.TheConstants.{FACT_LIMIT, TIME_LIMIT}
-use Rattle.s66_cert.specs.Document.{AreFactLines, IsDocument}
+use Rattle.s66_cert.specs.Document.{IsDocument}
 use Rattle.s66_cert.specs.DocumentParts.{Parts, document_of, tree_of_lines}
+use Rattle.s66_cert.specs.Evidence.{EvidenceOf}
 use Rattle.s66_checker.specs.declared.verdict.Verdict.TheVariants.{Yes}
 use Rattle.s66_checker.specs.Verdict.{verdict}
 use Rattle.s66_command.specs.declared.strategy.Strategy.{Strategy}
@@ -20,7 +19,6 @@ use Rattle.s66_program.specs.declared.answers.Found.{Found}
 use Rattle.s66_program.specs.declared.answers.Found.TheVariants.{Searched, Shown}
 use Rattle.s66_program.specs.declared.answers.ByFacts.{ByFacts}
 use Rattle.s66_program.specs.declared.answers.Candidate.{Candidate}
-use Rattle.s66_program.specs.declared.documents.Shows.{Shows}
 use Rattle.s66_output.specs.Answers.{Answer, AreAll, IsAnswer, document_under, problem_of, searched, texts_of}
 
 -- A SEARCH of the block's orders for an answer
@@ -34,25 +32,18 @@ AreBeside strategy n = (2 * n ≤ 5 * strategy.search.nodes) × (strategy.deep �
 
 -- FACT LINES
 
--- a document may have them, and the tree and the bound
-pub record IsFit (l : Shows) : Type 0 where
-  pub few : length l.lines.items ≤ FACT_LIMIT
-  pub lines : AreFactLines BLOCK_LIMIT l.lines.items
-  pub tree : AreOfTree l.tree
-  pub bound : l.bound ≤ TIME_LIMIT
-
--- the document of an order that takes this time: with this bound, and with what is to show it
-abbrev pub parts_by : Profile → Block → (order : List ℕ) (time : ℕ) → Shows → Parts
-parts_by p block order time l =
+-- the document of an order that takes this time, and of what is to show a bound
+abbrev pub parts_by : Profile → Block → (order : List ℕ) (time : ℕ) → EvidenceOf → Parts
+parts_by p block order time e =
     record {
       rule = ClampedStanding;
-      facts = Some l.lines.items;
+      facts = Some e.lines;
       profile = entries p;
       block = texts_of block;
       time = time;
-      bound = l.bound;
+      bound = e.bound;
       numbers = order;
-      vertices = l.tree;
+      vertices = e.vertices;
     }
 
 -- it passes the checker
@@ -73,9 +64,9 @@ abbrev pub answer_in : Found → Answer
 answer_in (Searched s) = record (searched (answer_of s.answer)) { splits = s.splits }
 answer_in (Shown s) = claimed s
 
--- of this candidate, with a document that passes the checker by these lines
-pub record IsShownBy (p : Profile) (block : Block) (c : Candidate) (l : Shows) (s : ByFacts) : Type 0 where
-  pub document : s.document ≡ parts_by p block c.order.numbers c.time l
+-- of this candidate, with a document that passes the checker by this
+pub record IsShownBy (p : Profile) (block : Block) (c : Candidate) (e : EvidenceOf) (s : ByFacts) : Type 0 where
+  pub document : s.document ≡ parts_by p block c.order.numbers c.time e
   pub accepted : IsAccepted s.document
   pub order : s.order ≡ c.order
   pub source : s.source ≡ c.source
@@ -99,5 +90,5 @@ IsFor strategy p block (Shown s) = IsClaimed strategy p block s
 
 -- facts show that the answer's order is best, by a tree of no more splits than a search may have, or as much of the answer as its
 -- search did
-abbrev pub IsWorth : (nodes : ℕ) → AnswerOf → Shows → Type 0
-IsWorth nodes found l = ((l.bound ≡ (answer_of found).time) × (splits (tree_of_lines l.tree) ≤ nodes)) ⊎ ((answer_of found).bound ≤ l.bound)
+abbrev pub IsWorth : (nodes : ℕ) → AnswerOf → EvidenceOf → Type 0
+IsWorth nodes found e = ((e.bound ≡ (answer_of found).time) × (splits (tree_of_lines e.vertices) ≤ nodes)) ⊎ ((answer_of found).bound ≤ e.bound)

@@ -10,10 +10,10 @@ ghost use Rattle.s66_model.specs.Answer.{source_time};
 ghost use Rattle.s66_model.specs.Timing.{total_of};
 ghost use Rattle.s66_output.specs.Answers.{problem_of};
 ghost use Rattle.s66_program.specs.Output.{IsSearchWithin};
-ghost use Rattle.s66_program.specs.Stored.{AreBeside, IsFit, IsFor, IsFound, IsSearchOf, IsShownBy, IsWorth};
+ghost use Rattle.s66_program.specs.Stored.{AreBeside, IsFor, IsFound, IsSearchOf, IsShownBy, IsWorth};
 
-use crate::documents::{Shows, document_by, document_of, is_accepted};
-use s66_cert::{Document, Tree};
+use crate::documents::{document_by, document_of, is_accepted};
+use s66_cert::{Document, Evidence, Tree};
 use s66_command::Strategy;
 use s66_deep::{Look, Looked, faster, look_at};
 use s66_dep::Order;
@@ -176,12 +176,11 @@ fn shown_by(
     block: &Block,
     profile: &Profile,
     candidate: Candidate,
-    shows: Shows,
+    evidence: Evidence,
 ) -> Result<Option<ByFacts>, AllocError>
     requires order { candidate.order.block ≡ instrs_of block.now }
     requires time { candidate.time ≤ TIME_LIMIT }
-    requires fit { IsFit shows }
-    ensures { IfOk result (λ shown. IfSome shown (λ s. IsShownBy profile.now block.now candidate shows s)) }
+    ensures { IfOk result (λ shown. IfSome shown (λ s. IsShownBy profile.now block.now candidate evidence s)) }
 {
     let Candidate {
         order,
@@ -189,7 +188,7 @@ fn shown_by(
         source,
         splits,
     } = candidate;
-    let document = document_by(alloc, block, profile, &order, time, shows)?;
+    let document = document_by(alloc, block, profile, &order, time, evidence)?;
     if !is_accepted(&document) {
         return Ok(None);
     }
@@ -255,12 +254,11 @@ fn shown_or_searched(
     profile: &Profile,
     answer: Answer,
     beside: u32,
-    shows: Shows,
+    evidence: Evidence,
 ) -> Result<Found, AllocError>
     requires problem { answer.problem ≡ problem_of profile.now block.now }
-    requires fit { IsFit shows }
     ensures { (strategy : StrategyOf) → strategy.deep ≡ true → IsFound strategy profile.now block.now answer →
-        AreBeside strategy beside → IsWorth strategy.search.nodes answer shows →
+        AreBeside strategy beside → IsWorth strategy.search.nodes answer evidence →
         IfOk result (IsFor strategy profile.now block.now) }
 {
     // so its time is one that a document may claim
@@ -271,7 +269,7 @@ fn shown_or_searched(
         source: answer.source(),
         splits: answer.splits().saturating_add(beside),
     };
-    match shown_by(alloc, block, profile, candidate, shows)? {
+    match shown_by(alloc, block, profile, candidate, evidence)? {
         Some(shown) => Ok(Found::Shown(shown)),
         None => Ok(by_search(answer, beside)),
     }
@@ -285,19 +283,18 @@ fn found_or_shown(
     profile: &Profile,
     search: LoneSearch<'_>,
     beside: u32,
-    shows: Shows,
+    evidence: Evidence,
 ) -> Result<Found, AllocError>
     requires search { search.problem ≡ problem_of profile.now block.now }
-    requires fit { IsFit shows }
     ensures { (strategy : StrategyOf) → strategy.deep ≡ true → IsSearchOf strategy profile.now block.now search.entry →
         AreBeside strategy beside → IfOk result (IsFor strategy profile.now block.now) }
 {
     let found = search.finish()?;
     let answer = nearest(block, found);
-    if shows.bound < answer.bound() {
+    if evidence.bound() < answer.bound() {
         return Ok(by_search(answer, beside));
     }
-    shown_or_searched(alloc, block, profile, answer, beside, shows)
+    shown_or_searched(alloc, block, profile, answer, beside, evidence)
 }
 
 /// An order that is sought, and how many splits were made for it.
@@ -386,19 +383,14 @@ fn answer_by(
     let Looked {
         best,
         source,
-        bound,
-        lines,
-        tree,
-        ..
+        evidence,
     } = looked;
-    let shows = Shows { bound, lines, tree };
+    let bound = evidence.bound();
     let found = seek(alloc, block, profile, strategy, &mut search, best, bound)?;
     let Sought { best, splits } = found;
     let beside = made.saturating_add(splits);
-    // so the bound is one that a document may claim
-    prove!(block.count() <= BLOCK_LIMIT);
     if best.total() != bound {
-        return found_or_shown(alloc, block, profile, search, beside, shows);
+        return found_or_shown(alloc, block, profile, search, beside, evidence);
     }
     let near = nearest_order(block, best, source);
     let candidate = Candidate {
@@ -407,7 +399,7 @@ fn answer_by(
         source,
         splits: search.splits().saturating_add(beside),
     };
-    match shown_by(alloc, block, profile, candidate, shows)? {
+    match shown_by(alloc, block, profile, candidate, evidence)? {
         Some(shown) => Ok(Found::Shown(shown)),
         None => found_by_search(block, search, beside),
     }
@@ -439,21 +431,14 @@ fn in_fewer_lines(
     ensures { (strategy : StrategyOf) → strategy.deep ≡ true → IsFound strategy profile.now block.now answer →
         AreBeside strategy beside → IfOk result (IsFor strategy profile.now block.now) }
 {
-    let Looked {
-        bound,
-        lines,
-        tree,
-        ..
-    } = looked;
-    if bound != answer.time()
-        || answer.line_count() <= lines.len().saturating_add(line_count(&tree))
+    let evidence = looked.evidence;
+    let lines = evidence.lines().len();
+    if evidence.bound() != answer.time()
+        || answer.line_count() <= lines.saturating_add(line_count(evidence.tree()))
     {
         return Ok(by_search(answer, beside));
     }
-    // so the bound is one that a document may claim
-    prove!(block.count() <= BLOCK_LIMIT);
-    let shows = Shows { bound, lines, tree };
-    shown_or_searched(alloc, block, profile, answer, beside, shows)
+    shown_or_searched(alloc, block, profile, answer, beside, evidence)
 }
 
 /// The answer of a search that found a best order; if documents are printed, one by facts if that is shorter, whose tree has at most so

@@ -8,10 +8,10 @@ ghost use Rattle.s66_cert.specs.DocumentParts.{document_of};
 ghost use Rattle.s66_checker.specs.Verdict.{verdict};
 ghost use Rattle.s66_checker.specs.declared.verdict.Verdict.TheVariants.{Yes};
 ghost use Rattle.s66_output.specs.Answers.{document_under, searched};
-ghost use Rattle.s66_program.specs.Stored.{IsAccepted, IsFit, parts_by};
+ghost use Rattle.s66_program.specs.Stored.{IsAccepted, parts_by};
 
 use arrayvec::ArrayVec;
-use s66_cert::{Claim, Document, FactLine, Tree};
+use s66_cert::{Claim, Document, Evidence, Tree};
 use s66_checker::{Verdict, verify};
 use s66_dep::Order;
 use s66_isa::{BLOCK_LIMIT, Profile};
@@ -65,44 +65,35 @@ pub fn document_of(
     }))
 }
 
-/// What fact lines and a tree are to show: that no order takes less than a bound.
-#[derive(Drop)]
-pub struct Shows {
-    /// In minor cycles.
-    pub bound: u32,
-    pub lines: Vec<FactLine>,
-    pub tree: Tree,
-}
-
-/// The document of an order of this block under this profile, with what it takes, and of a bound that fact lines and a tree are to show. `Err` is
-/// out of memory.
+/// The document of an order of this block under this profile, with what it takes, and of what is to show a bound. `Err` is out of memory.
 pub fn document_by(
     alloc: Global,
     block: &Block,
     profile: &Profile,
     order: &Order,
     time: u32,
-    shows: Shows,
+    evidence: Evidence,
 ) -> Result<Document, AllocError>
     requires order { order.now.block ≡ instrs_of block.now }
     requires time { time ≤ TIME_LIMIT }
-    requires fit { IsFit shows }
-    ensures { IfOk result (λ document. document ≡ parts_by profile.now block.now order.now.numbers time shows) }
+    ensures { IfOk result (λ document. document ≡ parts_by profile.now block.now order.now.numbers time evidence) }
 {
     let Ok(numbers) = ArrayVec::try_from(order.numbers()) else {
         unreachable!()
     };
     // so the texts are a block's
     prove!(block.count() <= BLOCK_LIMIT);
+    let bound = evidence.bound();
+    let (lines, tree) = evidence.into_parts();
     Ok(Document::new(Claim {
         rule: Rule::ClampedStanding,
+        facts: Some(lines),
         profile: ArrayVec::from(profile.entries()),
         block: texts_of(alloc, block)?,
         time,
-        bound: shows.bound,
+        bound,
         order: numbers,
-        tree: shows.tree,
-        facts: Some(shows.lines),
+        tree,
     }))
 }
 

@@ -5,17 +5,13 @@ use Rattle.s66_model.specs.LegalOrder.{IsLegal}
 use Rattle.s66_model.specs.Timing.{Problem, total_of}
 use Rattle.s66_model.specs.Tree.{splits}
 use Rattle.s66_cert.specs.DocumentParts.{Parts, tree_of_lines}
+use Rattle.s66_cert.specs.Evidence.{EvidenceOf}
 use Rattle.s66_program.specs.declared.answers.Candidate.{Candidate}
-use Rattle.s66_program.specs.declared.documents.Shows.{Shows}
 use Rattle.s66_output.specs.Answers.{IsEnough, problem_of}
 use Rattle.s66_program.specs.Stored.{IsShownBy, claimed}
 use Rattle.s66_program.proofs.SearchAnswers.{beside-deep}
-use Rattle.s66_program.proofs.ByFacts.{IsCandidate, as-good, as-long, looked-fit, shown-claimed}
+use Rattle.s66_program.proofs.ByFacts.{IsCandidate, as-good, as-long, shown-claimed}
 use Rattle.s66_program.proofs.answers.answer_by.Goals as goal
-
-pub found_or_shown-requires-clause-fit : goal.found_or_shown-requires-clause-fit
-found_or_shown-requires-clause-fit c =
-    looked-fit c.args.profile.now c.args.block.now c.args.strategy.search.nodes c.args.looked c.requires.looked (omega (arith, c.count.ensures.value, c.count.ensures.few))
 
 pub returns-then-total-bound : goal.returns-then-total-bound
 returns-then-total-bound c =
@@ -41,10 +37,10 @@ returns-in-Some c =
     let nearer = c.nearest_order-near.ensures in
     let good = as-good b best near nearer.problem nearer.time found nearer.first in
     let same = as-long b best near nearer.problem nearer.time found.problem in
-    let shows : Shows = record { bound = looked.bound; lines = looked.lines; tree = looked.tree } in
+    let evidence : EvidenceOf = looked.evidence in
     let candidate : Candidate = record { order = c.duplicate.result; time = c.total-2.result; source = looked.source; splits = c.saturating_add.result } in
     let s = c.in-Some.shown in
-    let shown : IsShownBy p block candidate shows s = subst (λ o. IfSome o (IsShownBy p block candidate shows)) c.in-Some.is c.in_ok-shown.ensures in
+    let shown : IsShownBy p block candidate evidence s = subst (λ o. IfSome o (IsShownBy p block candidate evidence)) c.in-Some.is c.in_ok-shown.ensures in
     let order : c.duplicate.result ≡ record { block = near.problem.block; numbers = near.numbers } = c.duplicate.ensures ∙ c.order.ensures.value in
     let numbers : c.duplicate.result.numbers ≡ near.numbers = ap (λ (o : Ordered). o.numbers) order in
     let total : c.total-2.result ≡ total_of b near.numbers = c.total-2.ensures.value ∙ ap (λ (q : Problem). total_of q near.numbers) good.problem in
@@ -60,12 +56,12 @@ returns-in-Some c =
     in
     let first : c.total.result ≡ total_of b best.numbers = c.total.ensures.value ∙ ap (λ (q : Problem). total_of q best.numbers) found.problem in
     let time : s.document.time ≡ c.total-2.result = ap (λ (d : Parts). d.time) shown.document in
-    let bound : s.document.bound ≡ looked.bound = ap (λ (d : Parts). d.bound) shown.document in
-    let counted : splits (tree_of_lines s.document.vertices) ≡ splits (tree_of_lines looked.tree) = ap (λ (d : Parts). splits (tree_of_lines d.vertices)) shown.document in
+    let bound : s.document.bound ≡ evidence.bound = ap (λ (d : Parts). d.bound) shown.document in
+    let counted : splits (tree_of_lines s.document.vertices) ≡ splits (tree_of_lines evidence.vertices) = ap (λ (d : Parts). splits (tree_of_lines d.vertices)) shown.document in
     let enough : IsEnough strategy.search b (claimed s) =
-    inl (omega (arith, bound, time, total, same, first, c.if-total-bound.false), omega (arith, counted, is.splits.0, is.splits.1))
+    inl (omega (arith, bound, c.bound-bound.ensures, time, total, same, first, c.if-total-bound.false), omega (arith, counted, is.splits))
     in
     let all : 2 * s.splits ≤ 7 * strategy.search.nodes =
     omega (arith, shown.splits, c.saturating_add.ensures, c.splits.ensures, c.seek.ensures.search.2, c.saturating_add-beside.ensures, c.requires.made, c.in_ok-found.ensures.splits)
     in
-    shown-claimed strategy p block candidate shows s shown c.requires.deep right enough all
+    shown-claimed strategy p block candidate evidence s shown c.requires.deep right enough all

@@ -1,8 +1,8 @@
 use Rattle.std.proofs.Common.{◌∙◌, arith, inr}
 use Rattle.s66_program.proofs.answers.found_or_shown.Goals as goal
 
-pub returns-then-shows-bound : goal.returns-then-shows-bound
-returns-then-shows-bound c =
+pub returns-then-bound : goal.returns-then-bound
+returns-then-bound c =
     λ strategy deep searched beside.
     let near = c.nearest-answer.ensures in
     let ended = c.in_ok-found.ensures in
@@ -14,4 +14,4 @@ returns c =
     let near = c.nearest-answer.ensures in
     let ended = c.in_ok-found.ensures in
     c.shown_or_searched.ensures strategy deep (near.rule ∙ (ended.rule ∙ searched.0), near.problem ∙ (ended.problem ∙ searched.1), near.budget ∙ (ended.budget ∙ searched.2)) beside
-    (inr (omega (arith, c.if-shows-bound.false, c.bound.ensures.value)))
+    (inr (omega (arith, c.if-bound.false, c.bound.ensures, c.bound-2.ensures.value)))

@@ -37,7 +37,7 @@ returns-in-Some c =
     let is = search-answers strategy p block found for c.time.ensures.answer in
     let candidate : Candidate = record { order = c.duplicate.result; time = c.time.result; source = c.source.result; splits = c.saturating_add.result } in
     let s = c.in-Some.shown in
-    let shown : IsShownBy p block candidate c.args.shows s = subst (λ o. IfSome o (IsShownBy p block candidate c.args.shows)) c.in-Some.is c.in_ok-shown.ensures in
+    let shown : IsShownBy p block candidate c.args.evidence s = subst (λ o. IfSome o (IsShownBy p block candidate c.args.evidence)) c.in-Some.is c.in_ok-shown.ensures in
     let order : c.duplicate.result ≡ record { block = found.problem.block; numbers = a.order } = c.duplicate.ensures ∙ c.order.ensures in
     let numbers : c.duplicate.result.numbers ≡ a.order = ap (λ (o : Ordered). o.numbers) order in
     let right : IsCandidate p block candidate =
@@ -51,15 +51,15 @@ returns-in-Some c =
     }
     in
     let time : s.document.time ≡ c.time.result = ap (λ (d : Parts). d.time) shown.document in
-    let bound : s.document.bound ≡ c.args.shows.bound = ap (λ (d : Parts). d.bound) shown.document in
-    let counted : splits (tree_of_lines s.document.vertices) ≡ splits (tree_of_lines c.args.shows.tree) = ap (λ (d : Parts). splits (tree_of_lines d.vertices)) shown.document in
+    let bound : s.document.bound ≡ c.args.evidence.bound = ap (λ (d : Parts). d.bound) shown.document in
+    let counted : splits (tree_of_lines s.document.vertices) ≡ splits (tree_of_lines c.args.evidence.vertices) = ap (λ (d : Parts). splits (tree_of_lines d.vertices)) shown.document in
     let enough : IsEnough strategy.search b (claimed s) =
     elim worth [
       | inl best ↦ inl (bound ∙ best.0 ∙ sym c.time.ensures.value ∙ sym time, omega (arith, counted, best.1))
       | inr more ↦ inr (a, is, omega (arith, time, c.time.ensures.value), omega (arith, bound, more), omega (arith, shown.splits, c.saturating_add.ensures, c.splits.ensures.value, c.splits.ensures.few))
     ]
     in
-    shown-claimed strategy p block candidate c.args.shows s shown deep right enough (omega (arith, shown.splits, c.saturating_add.ensures, c.splits.ensures.value, is.within, beside.0))
+    shown-claimed strategy p block candidate c.args.evidence s shown deep right enough (omega (arith, shown.splits, c.saturating_add.ensures, c.splits.ensures.value, is.within, beside.0))
 
 pub returns-in-None : goal.returns-in-None
 returns-in-None c = λ strategy deep for beside worth. c.by_search.ensures strategy c.args.profile.now c.args.block.now for beside
