@@ -9,6 +9,7 @@ use Rattle.s66_cert.specs.declared.limits.TheConstants.{SPLIT_LIMIT, TIME_LIMIT}
 use Rattle.s66_cert.specs.Document.{AreFacts, HasItsLeaves, TreeFits}
 use Rattle.s66_cert.specs.DocumentParts.{tree_of_lines}
 
+-- a bound, and the fact lines and the lines of a tree that are to show it
 pub record EvidenceOf : Type 0 where
   pub bound : ℕ
   pub lines : List FactLine

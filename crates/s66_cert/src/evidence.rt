@@ -59,7 +59,7 @@ impl Evidence {
     ghost use Rattle.s66_cert.specs.DocumentParts.{tree_of_lines};
     ghost use Rattle.s66_cert.specs.Evidence.{IsEvidence};
 
-    /// Fact lines and a tree that are to show by them that no order takes less than a bound, in minor cycles. None if a document may not
+    /// Fact lines, and a tree that is to show by them that no order takes less than a bound, in minor cycles. None if a document may not
     /// have them, or the tree has more than this many splits.
     pub fn new(bound: u32, lines: Vec<FactLine>, tree: Tree, most: u32) -> Option<Evidence>
         ensures value { IfSome result (λ e. e ≡ record { bound = bound; lines = lines.items; vertices = tree }) }

@@ -14,7 +14,7 @@ pub record IsGood (b : Problem) (t : TimedOrder) : Type 0 where
   pub source : total_of b t.numbers ≤ source_time b
   pub first : source_time b ≡ total_of b t.numbers → t.numbers ≡ numbers b.block
 
--- found with what is to show a bound, by a tree of at most this many splits
+-- a good order, and with it what is to show a bound, by a tree of at most this many splits
 pub record IsLooked (b : Problem) (most : ℕ) (l : Looked) : Type 0 where
   pub best : IsGood b l.best
   pub source : l.source ≡ source_time b

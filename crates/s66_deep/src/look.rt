@@ -22,7 +22,7 @@ pub struct Looked {
     pub best: Timed,
     /// What the source order takes, in minor cycles.
     pub source: u32,
-    /// What is to show a bound: at most what the best order takes.
+    /// What is to show a bound, which is at most what the best order takes.
     pub evidence: Evidence,
 }
 

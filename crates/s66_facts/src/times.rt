@@ -231,7 +231,7 @@ pub fn fetches(row: &Row, register: Reg) -> bool
     is_fetched(row.writes.as_slice(), register)
 }
 
-/// How many minor cycles the result in a register takes from the start of its instruction; 0 if none of these is there.
+/// How many minor cycles the result in a register takes from the start of its instruction; 0 if none of these results is in it.
 pub fn latency_to(results: &[Write], register: Reg) -> u32
     ensures { result ≡ greatest (λ (w : WriteOf). if same_reg w.reg register then w.latency else 0) results.now }
 {

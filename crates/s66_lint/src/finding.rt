@@ -32,7 +32,7 @@ pub enum Rule {
     CountsLines,
 }
 
-/// What was found in a line, with up to two words of it.
+/// What was found in a line, without the line's number: the rule, and up to two words of the line.
 #[derive(Clone, Copy)]
 pub(crate) struct LineFinding<'a> {
     pub(crate) rule: Rule,

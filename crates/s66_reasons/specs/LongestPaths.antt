@@ -39,7 +39,7 @@ abbrev pub first_hop : Document → (left : ℕ) → Moment → List Moment → 
 first_hop d left e [] = None
 first_hop d left e (f ∷ fs) = option_or (hop_to d left e f) (first_hop d left e fs)
 
--- of all to which an arc may lead: the end, and then the moments of each number
+-- to the first of all moments to which an arc may lead: the end, and then those of each number
 abbrev pub next_hop : Document → (left : ℕ) → Moment → Option Hop
 next_hop d left e = first_hop d left e (targets (problem_of d))
 
@@ -48,6 +48,7 @@ hop_and None more = []
 hop_and (Some hop) more = hop ∷ more hop
 
 -- at most so many, from e to the end, which comes so much later
+-- at most so many, from e to the end, which comes so much later and from which no arc leads on
 abbrev pub hops_from : Document → (most left : ℕ) → Moment → List Hop
 hops_from d zero left e = []
 hops_from d (suc more) left e = hop_and (next_hop d left e) (λ (hop : Hop). hops_from d more (left - hop.wait) hop.to)

@@ -113,7 +113,7 @@ impl<'a> KnownPaths<'a> {
         }
     }
 
-    /// The same to the first result of n to which there is one.
+    /// The arc, as `hop_to` has it, to the first result of n to which there is one.
     fn hop_to_result(&self, left: u64, from: &Moment, n: u8) -> Option<Hop>
         requires { IsNumber (problem_of (document_of self.now)) n }
         ensures { result ≡ first_hop (document_of self.now) left from.now
@@ -135,7 +135,7 @@ impl<'a> KnownPaths<'a> {
         }
     }
 
-    /// To the first moment of n.
+    /// The same to the first moment of n: its issue, start, free, and then its results.
     fn hop_to_moment_of(&self, left: u64, from: &Moment, n: u8) -> Option<Hop>
         requires { IsNumber (problem_of (document_of self.now)) n }
         ensures { result ≡ first_hop (document_of self.now) left from.now
@@ -148,7 +148,7 @@ impl<'a> KnownPaths<'a> {
             .or(self.hop_to_result(left, from, n))
     }
 
-    /// To a moment of the first number.
+    /// The same to the first moment of all numbers of the block, the lowest number first.
     fn hop_among(&self, left: u64, from: &Moment) -> Option<Hop>
         ensures { result ≡ first_hop (document_of self.now) left from.now
             (moments_among (problem_of (document_of self.now)) (numbers (problem_of (document_of self.now)).block)) }

@@ -279,7 +279,7 @@ impl<'s, 'a> Keeper<'s, 'a> {
     }
 }
 
-/// A source as `print_keeping` prints it.
+/// A source with its blocks as they are given, after so many that stand, as `print_keeping` prints it.
 fn print_given(
     alloc: Global,
     source: &Source,
