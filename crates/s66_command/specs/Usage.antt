@@ -23,7 +23,6 @@ use Rattle.s66_command.specs.declared.subcommand.OptionName.{OptionName}
 use Rattle.s66_command.specs.declared.subcommand.OptionName.TheVariants as option
 use Rattle.s66_command.specs.declared.subcommand.Subcommand.{Subcommand}
 use Rattle.s66_command.specs.declared.subcommand.Subcommand.TheVariants as sub
-use Rattle.s66_command.specs.declared.subcommand.TheConstants.{SUBCOMMANDS}
 use Rattle.s66_command.specs.declared.command.Command.{Command}
 use Rattle.s66_command.specs.declared.command.Command.TheVariants.{Time, Deps, Chart, Why, Page, Order, Prove, Check, Sum, Compare, Json, Lint}
 use Rattle.s66_command.specs.declared.strategy.Strategy.{Strategy}
@@ -108,8 +107,14 @@ start_app =
     let a = new_app (codes "s66") in
     record a { top = record a.top { subcommand_required = true; has_version = true } }
 
+-- all subcommands, in the order of the help
+abbrev pub subcommands : List Subcommand
+subcommands =
+    sub.Lint ∷ sub.Order ∷ sub.Compare ∷ sub.Sum ∷ sub.Prove ∷ sub.Check ∷ sub.Time ∷ sub.Why ∷ sub.Chart ∷ sub.Deps ∷ sub.Page ∷ sub.Json ∷ []
+
+-- the command line of the program
 abbrev pub s66_app : App
-s66_app = with_subcommands start_app SUBCOMMANDS
+s66_app = with_subcommands start_app subcommands
 
 -- the argument is this one, and not for all subcommands
 abbrev pub IsArgumentOf : Rule → Arg → Type 0

@@ -91,7 +91,8 @@ pub(crate) fn order_in(matches: &ArgMatches) -> Option<Strategy>
     }
 }
 
-/// What is wrong with these flags together, if anything is.
+/// What is wrong with these flags together, if anything is. The texts are those of clap's own rule for this, on which there would be no
+/// contract.
 fn conflict_of(
     dominate: bool,
     dominate_tree: bool,

@@ -4,7 +4,7 @@ ghost use Rattle.std.specs.Prelude.{◌≡◌, ◌++◌, find, bytes_eq};
 ghost use Rattle.s66_command.specs.Usage.{name_of, options_of, rule_of_option};
 ghost use Rattle.s66_command.specs.declared.subcommand.TheConstants.{SUBCOMMANDS};
 
-/// What the program is called to do.
+/// A subcommand, without its options.
 #[derive(Clone, Copy)]
 pub(crate) enum Subcommand {
     Lint,
