@@ -119,6 +119,7 @@ fn runs_no_commands(rt: HostRuntime) {
 #[test]
 fn reads_words(rt: HostRuntime) {
     for &(words, said) in COMMANDS {
+        assert!(rt; 1 < words.len(), "{words:?}");
         let command = command_by(words[1], said);
         let read = command_of(rt.alloc(), words);
         assert!(rt; matches!(read, Ok(read) if read == command), "{words:?}");
