@@ -34,26 +34,26 @@ abbrev pub hop_to : Document → (left : ℕ) → (e f : Moment) → Option Hop
 hop_to d left e f =
     if reaches left (plus (arcs d e f) (to_end d f)) then Some (record { wait = unwrap_or (arcs d e f) 0; to = f }) else None
 
--- to the first of these moments to which there is one
+-- the arc from e to the first of these moments to which there is one, as `hop_to` has it
 abbrev pub first_hop : Document → (left : ℕ) → Moment → List Moment → Option Hop
 first_hop d left e [] = None
 first_hop d left e (f ∷ fs) = option_or (hop_to d left e f) (first_hop d left e fs)
 
--- to the first of all moments to which an arc may lead: the end, and then those of each number
+-- the same to the first of all moments to which an arc may lead: the end, and then those of each number
 abbrev pub next_hop : Document → (left : ℕ) → Moment → Option Hop
 next_hop d left e = first_hop d left e (targets (problem_of d))
 
+-- an arc and those after it; none if it isn't there
 abbrev pub hop_and : Option Hop → (Hop → List Hop) → List Hop
 hop_and None more = []
 hop_and (Some hop) more = hop ∷ more hop
 
--- at most so many, from e to the end, which comes so much later
--- at most so many, from e to the end, which comes so much later and from which no arc leads on
+-- the arcs of a longest path from e to the end, at most so many: the end comes so much later than e, and no arc leads on from it
 abbrev pub hops_from : Document → (most left : ℕ) → Moment → List Hop
 hops_from d zero left e = []
 hops_from d (suc more) left e = hop_and (next_hop d left e) (λ (hop : Hop). hops_from d more (left - hop.wait) hop.to)
 
--- from the issue of n
+-- the arcs of a longest path from the issue of n to the end
 abbrev pub hops_of : Document → ℕ → List Hop
 hops_of d n = hops_from d (most_arcs (problem_of d)) (unwrap_or (to_end d (At n Issue)) 0) (At n Issue)
 
@@ -70,7 +70,7 @@ puts_before d m n (Pair j k) =
     is_number (problem_of d) j && is_number (problem_of d) k && (m == j || (known_of d).before m j) && (n == k || (known_of d).before k n)
 puts_before d m n (Load line) = false
 
--- 0 if n depends on m
+-- the number of the first pair by which m stands before n; 0 if n depends on m, or there is no such pair
 abbrev pub line_of_pair : Document → (m n : ℕ) → ℕ
 line_of_pair d m n = if precedes (problem_of d).block m n then 0 else first_line (puts_before d m n) 1 (facts_of d)
 
@@ -79,6 +79,7 @@ abbrev pub keeps_apart : (e f : Moment) → (wait : ℕ) → FactLine → Bool
 keeps_apart e f wait (Pair m n) = false
 keeps_apart e f wait (Load line) = same_moment line.from e && same_moment line.to f && nat_le wait line.wait
 
+-- the number of the first load that gives this arc from e; 0 if none does
 abbrev pub line_of_load : Document → Moment → Hop → ℕ
 line_of_load d e hop = first_line (keeps_apart e hop.to hop.wait) 1 (facts_of d)
 
