@@ -64,7 +64,7 @@ abbrev pub answer_in : Found → Answer
 answer_in (Searched s) = record (searched (answer_of s.answer)) { splits = s.splits }
 answer_in (Shown s) = claimed s
 
--- of this candidate, with a document that passes the checker by this
+-- an answer with this candidate's order, by a document that has this evidence and passes the checker
 pub record IsShownBy (p : Profile) (block : Block) (c : Candidate) (e : EvidenceOf) (s : ByFacts) : Type 0 where
   pub document : s.document ≡ parts_by p block c.order.numbers c.time e
   pub accepted : IsAccepted s.document
