@@ -2,26 +2,14 @@ use crate::reading::check_reading;
 
 /// Sources by name, and what each is read as.
 const SOURCES: &[(&str, &str, &str)] = &[
-    (
-        "a last line without its newline",
-        "  BX1 X2",
-        "[] 1: 1 10120 BX1 X2 <BX1 X2> to 1 10120\n",
-    ),
+    ("a last line without its newline", "  BX1 X2", ALONE),
     (
         "lower case",
         "  bx1 x2\n",
         "[] 1: 1 10120 BX1 X2 <bx1 x2> to 1 10120\n",
     ),
-    (
-        "a tab in column 1",
-        "\tBX1 X2\n",
-        "[] 1: 1 10120 BX1 X2 <BX1 X2> to 1 10120\n",
-    ),
-    (
-        "a tab in column 2",
-        " \tBX1 X2\n",
-        "[] 1: 1 10120 BX1 X2 <BX1 X2> to 1 10120\n",
-    ),
+    ("a tab in column 1", "\tBX1 X2\n", ALONE),
+    ("a tab in column 2", " \tBX1 X2\n", ALONE),
     (
         "tabs between fields",
         "L\tBX1\tX2\tREMARK\n",
@@ -44,18 +32,10 @@ const SOURCES: &[(&str, &str, &str)] = &[
         " ,  BX1 X2\n",
         "[ ,] 1: 1 10120 BX1 X2 <BX1 X2> to 1 10120\n",
     ),
-    (
-        "a carriage return at the end",
-        "  BX1 X2\r\r\n",
-        "[] 1: 1 10120 BX1 X2 <BX1 X2> to 1 10120\n",
-    ),
+    ("a carriage return at the end", "  BX1 X2\r\r\n", ALONE),
     ("a carriage return in a field", "  BX1\rX2\n", ""),
     ("a carriage return in front", "\rBX1 X2\n", ""),
-    (
-        "28 blanks",
-        "                            BX1 X2\n",
-        "[] 1: 1 10120 BX1 X2 <BX1 X2> to 1 10120\n",
-    ),
+    ("28 blanks", "                            BX1 X2\n", ALONE),
     ("29 blanks", "                             BX1 X2\n", ""),
     (
         "a remark after a blank",
@@ -65,17 +45,13 @@ const SOURCES: &[(&str, &str, &str)] = &[
     (
         "a comment between",
         "  BX1 X2\n* NOTE\n  BX3 X4\n",
-        "[] 2: 1 10120 BX1 X2 <BX1 X2> to 3 10340\n",
+        TOGETHER,
     ),
-    (
-        "an empty line between",
-        "  BX1 X2\n\n  BX3 X4\n",
-        "[] 2: 1 10120 BX1 X2 <BX1 X2> to 3 10340\n",
-    ),
+    ("an empty line between", "  BX1 X2\n\n  BX3 X4\n", TOGETHER),
     (
         "a pad between",
         "  BX1 X2\n  NO  FILL\n  BX3 X4\n",
-        "[] 2: 1 10120 BX1 X2 <BX1 X2> to 3 10340\n",
+        TOGETHER,
     ),
     (
         "a located pad between",
@@ -98,7 +74,7 @@ const SOURCES: &[(&str, &str, &str)] = &[
     (
         "a continuation behind a comment",
         "  BX1 X2\n* NOTE\n, X3\n",
-        "[] 1: 1 10120 BX1 X2 <BX1 X2> to 1 10120\n",
+        ALONE,
     ),
     ("a continuation of nothing", ", X3\n", ""),
     (
@@ -140,6 +116,13 @@ const SOURCES: &[(&str, &str, &str)] = &[
     ),
 ];
 
+/// What a block of one instruction is read as.
+const ALONE: &str = "[] 1: 1 10120 BX1 X2 <BX1 X2> to 1 10120\n";
+
+/// A block of two, with a line between them.
+const TOGETHER: &str = "[] 2: 1 10120 BX1 X2 <BX1 X2> to 3 10340\n";
+
+/// Two blocks of these.
 const APART: &str =
     "[] 1: 1 10120 BX1 X2 <BX1 X2> to 1 10120\n[] 1: 3 10340 BX3 X4 <BX3 X4> to 3 10340\n";
 

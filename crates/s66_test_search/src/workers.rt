@@ -171,35 +171,30 @@ fn work_is_done(rt: HostRuntime) {
     }
 }
 
+/// What two workers leave of a search in which they meet at their grafts; each has split something.
+fn left_of_two<R: AllocGlobal + Abort + Clock + Threads + Wait + Sync>(
+    rt: &R,
+    code: &str,
+    rule: Rule,
+) -> Left {
+    let gate = Watch::new(rt, Meeting::Grafts);
+    let left = left_of(rt, code, rule, 2, BUDGET_LIMIT, &gate);
+    assert!(rt; 0 < left.fewest);
+    gate.check_met(rt);
+    left
+}
+
 #[test]
 fn both_graft(rt: HostRuntime) {
-    let gate = Watch::new(&rt, Meeting::Grafts);
-    let left = left_of(
-        &rt,
-        FIVE_MULTIPLIES,
-        Rule::NoneNamed,
-        2,
-        BUDGET_LIMIT,
-        &gate,
-    );
-    assert!(rt; left.splits == ALL_SPLITS && left.bound == 33 && 0 < left.fewest);
-    gate.check_met(&rt);
+    let left = left_of_two(&rt, FIVE_MULTIPLIES, Rule::NoneNamed);
+    assert!(rt; left.splits == ALL_SPLITS && left.bound == 33);
 }
 
 /// Two workers name each other's nodes: they may split again only what the other is about to graft.
 #[test]
 fn each_set_is_split_once(rt: HostRuntime) {
-    let gate = Watch::new(&rt, Meeting::Grafts);
-    let left = left_of(
-        &rt,
-        SEVEN_ALIKE,
-        Rule::ClampedStanding,
-        2,
-        BUDGET_LIMIT,
-        &gate,
-    );
-    assert!(rt; left.splits < 2 * SETS && left.bound == 16 && 0 < left.fewest);
-    gate.check_met(&rt);
+    let left = left_of_two(&rt, SEVEN_ALIKE, Rule::ClampedStanding);
+    assert!(rt; left.splits < 2 * SETS && left.bound == 16);
 }
 
 /// After its first piece, of at most 64 splits, a worker claims several nodes: all but one go into its lane.
