@@ -1,4 +1,5 @@
-use crate::running::{LINT, ORDER, ORDER_TRACE, TIME, check, check_told, run};
+use crate::running::{LINT, ORDER, ORDER_TRACE, PAGE, TIME, check, check_told, run};
+use crate::verdicts::altered;
 use s66_test_search::{ONE_LOAD, PACKING_GAP};
 use std::process::Abort;
 use std::sync::Wait;
@@ -153,7 +154,6 @@ fn runs_rows(rt: HostRuntime) {
     check_rows(&rt, deps::ROWS);
     check_rows(&rt, chart::ROWS);
     check_rows(&rt, why::ROWS);
-    check_rows(&rt, page::ROWS);
     check_rows(&rt, json::ROWS);
     check_rows(&rt, order::ROWS);
     check_rows(&rt, kept::ROWS);
@@ -210,6 +210,18 @@ fn shows_pages(rt: HostRuntime) {
             written.starts_with(b"<!DOCTYPE html>\n") && written.ends_with(ends.as_bytes()),
             "{name}: {written:?}"
         );
+    }
+}
+
+/// What stands before the list of blocks is the same in each page but for the title. On paper it hides the box that only a screen can
+/// use, and nothing else anywhere.
+#[test]
+fn hides_no_rows(rt: HostRuntime) {
+    let ran = run(&rt, PAGE, b"");
+    let page = String::from_utf8(ran.written).expect(&rt, "a text");
+    let page = altered(&rt, page.as_str(), "#fit,#fit+label{display:none}", "");
+    for &word in page::RESTLESS {
+        assert!(rt; !page.as_str().contains(word), "{word}");
     }
 }
 
