@@ -3,7 +3,7 @@ ghost use Rattle.s66_model.specs.declared.limits.TheConstants.{WORKERS_LIMIT};
 
 use crate::commands::{PLAIN_CHECK, check_output, order_by, prove_by};
 use crate::documents::{ONE_DOMINATED, THREE_DOMINATED, THREE_MULTIPLIES};
-use crate::verdicts::{altered, check_denied, check_refused};
+use crate::verdicts::{Denial, altered, check_denied, check_refused};
 use s66_cert::CertError;
 use s66_model::Rule;
 use s66_program::Status;
@@ -12,26 +12,18 @@ use std::process::Abort;
 use std::sync::Wait;
 use std::thread::Threads;
 
-/// What of a document with one dominated leaf is altered, and the verdict, in both versions.
-const ALTERED_LEAVES: &[(&str, &str, &str)] = &[
+/// Alterations of a document with one dominated leaf, in both versions.
+const ALTERED_LEAVES: &[Denial] = &[
     // the prefix itself
-    ("D 1 2 3", "D 1 3 2", "DOCUMENT 1 NO LINE 18 REASON 9\n"),
+    ("D 1 2 3", "D 1 3 2", 18, 9),
     // a node over another set
-    ("D 1 2 3", "D 1 2 4", "DOCUMENT 1 NO LINE 18 REASON 9\n"),
+    ("D 1 2 3", "D 1 2 4", 18, 9),
     // a beginning that is no node of the tree
-    ("D 1 2 3", "D 2 1 3", "DOCUMENT 1 NO LINE 18 REASON 9\n"),
+    ("D 1 2 3", "D 2 1 3", 18, 9),
     // a complete order isn't dominated
-    (
-        "S 4\nT\n",
-        "S 4\nD 1 2 3 4\n",
-        "DOCUMENT 1 NO LINE 15 REASON 6\n",
-    ),
+    ("S 4\nT\n", "S 4\nD 1 2 3 4\n", 15, 6),
     // a node that doesn't dominate
-    (
-        "S 2\nT\nC 3\n",
-        "S 2\nT\nS 2 3\nD 1 2 4\nC 2\n",
-        "DOCUMENT 1 NO LINE 22 REASON 10\n",
-    ),
+    ("S 2\nT\nC 3\n", "S 2\nT\nS 2 3\nD 1 2 4\nC 2\n", 22, 10),
 ];
 
 #[test]
@@ -44,16 +36,16 @@ fn checks_dominated_leaves(rt: HostRuntime) {
     check_denied(&rt, third.as_str(), ALTERED_LEAVES);
 }
 
-/// What of three that don't differ is altered, and the verdict.
-const ALTERED_NAMES: &[(&str, &str, &str)] = &[
+/// Alterations of the document of three that don't differ.
+const ALTERED_NAMES: &[Denial] = &[
     // two leaves that name each other
-    ("S 3\nT\n", "D 2 1\n", "DOCUMENT 1 NO LINE 12 REASON 9\n"),
+    ("S 3\nT\n", "D 2 1\n", 12, 9),
     // a leaf that is itself dominated
-    ("D 2 3", "D 3 1", "DOCUMENT 1 NO LINE 22 REASON 9\n"),
+    ("D 2 3", "D 3 1", 22, 9),
     // other numbers
-    ("D 1 3", "D 1 2", "DOCUMENT 1 NO LINE 21 REASON 9\n"),
+    ("D 1 3", "D 1 2", 21, 9),
     // fewer numbers
-    ("D 1 3", "D 1", "DOCUMENT 1 NO LINE 21 REASON 9\n"),
+    ("D 1 3", "D 1", 21, 9),
 ];
 
 /// A leaf may name a node after it in version 3 alone.
@@ -70,11 +62,7 @@ fn checks_which_nodes_are_named(rt: HostRuntime) {
     check_denied(
         &rt,
         later.as_str(),
-        &[(
-            "CERTIFICATE 3",
-            "CERTIFICATE 2",
-            "DOCUMENT 1 NO LINE 12 REASON 9\n",
-        )],
+        &[("CERTIFICATE 3", "CERTIFICATE 2", 12, 9)],
     );
 }
 

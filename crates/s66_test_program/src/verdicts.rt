@@ -12,80 +12,77 @@ pub(crate) fn altered<R: AllocGlobal + Abort>(rt: &R, text: &str, old: &str, new
     format!(in rt.alloc(); "{front}{new}{back}").expect(rt, "memory")
 }
 
-/// What of one load's document is altered, and the verdict.
-const ALTERED_LOADS: &[(&str, &str, &str)] = &[
-    ("PROFILE 3", "PROFILE 4", "DOCUMENT 1 NO LINE 7 REASON 2\n"),
-    ("BOUND 12", "BOUND 13", "DOCUMENT 1 NO LINE 8 REASON 8\n"),
-    (
-        "ORDER 1 3 2",
-        "ORDER 1 2 3",
-        "DOCUMENT 1 NO LINE 7 REASON 2\n",
-    ),
-    (
-        "ORDER 1 3 2",
-        "ORDER 2 1 3",
-        "DOCUMENT 1 NO LINE 9 REASON 1\n",
-    ),
-    ("C 1 2", "C 1 3", "DOCUMENT 1 NO LINE 10 REASON 4\n"),
-    ("C 1 2", "C 2", "DOCUMENT 1 NO LINE 10 REASON 5\n"),
-    ("C 1 2", "T", "DOCUMENT 1 NO LINE 10 REASON 6\n"),
+/// What of a document is altered, what it is then, and the line and the reason of the verdict.
+pub(crate) type Denial = (&'static str, &'static str, u32, u32);
+
+/// Alterations of one load's document.
+const ALTERED_LOADS: &[Denial] = &[
+    ("PROFILE 3", "PROFILE 4", 7, 2),
+    ("BOUND 12", "BOUND 13", 8, 8),
+    ("ORDER 1 3 2", "ORDER 1 2 3", 7, 2),
+    ("ORDER 1 3 2", "ORDER 2 1 3", 9, 1),
+    ("C 1 2", "C 1 3", 10, 4),
+    ("C 1 2", "C 2", 10, 5),
+    ("C 1 2", "T", 10, 6),
 ];
 
-/// The same of three multiplies.
-const ALTERED_MULTIPLIES: &[(&str, &str, &str)] = &[
-    (
-        "ORDER 1 2 3",
-        "ORDER 1 2",
-        "DOCUMENT 1 NO LINE 9 REASON 1\n",
-    ),
-    ("S 1 2 3", "S 1 3 2", "DOCUMENT 1 NO LINE 10 REASON 3\n"),
-    ("S 3\nT\n", "T\n", "DOCUMENT 1 NO LINE 12 REASON 6\n"),
-    (
-        "S 3\nT\n",
-        "U MULTIPLY\n",
-        "DOCUMENT 1 NO LINE 12 REASON 5\n",
-    ),
-    ("S 3\nT\n", "C 3\n", "DOCUMENT 1 NO LINE 12 REASON 5\n"),
-    ("S 3\nT\n", "C 1\n", "DOCUMENT 1 NO LINE 12 REASON 4\n"),
-    ("S 3\nT\n", "S 3\nP\n", "DOCUMENT 1 NO LINE 13 REASON 6\n"),
+/// Alterations of three multiplies' document.
+const ALTERED_MULTIPLIES: &[Denial] = &[
+    ("ORDER 1 2 3", "ORDER 1 2", 9, 1),
+    ("S 1 2 3", "S 1 3 2", 10, 3),
+    ("S 3\nT\n", "T\n", 12, 6),
+    ("S 3\nT\n", "U MULTIPLY\n", 12, 5),
+    ("S 3\nT\n", "C 3\n", 12, 5),
+    ("S 3\nT\n", "C 1\n", 12, 4),
+    ("S 3\nT\n", "S 3\nP\n", 13, 6),
     // the third child is left out, with all below it
     (
         "S 1 2 3\nS 2 3\nS 3\nT\nS 2\nT\nS 1 3\nS 3\nT\nS 1\nT\nS 1 2\nS 2\nT\nS 1\nT\n",
         "S 1 2\nS 2 3\nS 3\nT\nS 2\nT\nS 1 3\nS 3\nT\nS 1\nT\n",
-        "DOCUMENT 1 NO LINE 10 REASON 3\n",
+        10,
+        3,
     ),
 ];
 
-/// The same of forced pairs.
-const ALTERED_PAIRS: &[(&str, &str, &str)] = &[
-    ("F 1 3", "F 3 1", "DOCUMENT 1 NO LINE 12 REASON 11\n"),
-    ("F 2 1\n", "", "DOCUMENT 1 NO LINE 15 REASON 13\n"),
-    ("F 1 3\n", "", "DOCUMENT 1 NO LINE 18 REASON 13\n"),
-    ("\nE 3", "\nE 5", "DOCUMENT 1 NO LINE 18 REASON 12\n"),
-    ("\nE 3", "\nE 1", "DOCUMENT 1 NO LINE 18 REASON 12\n"),
-    ("R 2 1", "R 1 2", "DOCUMENT 1 NO LINE 16 REASON 13\n"),
-    ("R 1 3", "R 2 3", "DOCUMENT 1 NO LINE 19 REASON 13\n"),
-    ("BOUND 11", "BOUND 12", "DOCUMENT 1 NO LINE 10 REASON 8\n"),
+/// Alterations of the document of forced pairs.
+const ALTERED_PAIRS: &[Denial] = &[
+    ("F 1 3", "F 3 1", 12, 11),
+    ("F 2 1\n", "", 15, 13),
+    ("F 1 3\n", "", 18, 13),
+    ("\nE 3", "\nE 5", 18, 12),
+    ("\nE 3", "\nE 1", 18, 12),
+    ("R 2 1", "R 1 2", 16, 13),
+    ("R 1 3", "R 2 3", 19, 13),
+    ("BOUND 11", "BOUND 12", 10, 8),
 ];
 
-/// The same of lines that are named.
-const ALTERED_NAMES: &[(&str, &str, &str)] = &[
-    ("N 12", "N 11", "DOCUMENT 1 NO LINE 15 REASON 9\n"),
-    ("N 12", "N 15", "DOCUMENT 1 NO LINE 15 REASON 9\n"),
-    ("N 12", "N 9", "DOCUMENT 1 NO LINE 15 REASON 9\n"),
-    ("N 12", "N 20", "DOCUMENT 1 NO LINE 15 REASON 9\n"),
-    ("N 16", "N 18", "DOCUMENT 1 NO LINE 19 REASON 9\n"),
+/// Alterations of that of lines that are named.
+const ALTERED_NAMES: &[Denial] = &[
+    ("N 12", "N 11", 15, 9),
+    ("N 12", "N 15", 15, 9),
+    ("N 12", "N 9", 15, 9),
+    ("N 12", "N 20", 15, 9),
+    ("N 16", "N 18", 19, 9),
 ];
 
 /// Checks that altered documents are denied.
 pub(crate) fn check_denied<R: AllocGlobal + Abort + Threads + Wait + Sync>(
     rt: &R,
     document: &str,
-    rows: &[(&str, &str, &str)],
+    denials: &[Denial],
 ) {
-    for &(old, new, verdict) in rows {
+    for &(old, new, line, reason) in denials {
         let text = altered(rt, document, old, new);
-        check_output(rt, PLAIN_CHECK, text.as_str(), Status::Denied, verdict);
+        let verdict = format!(in rt.alloc(); "DOCUMENT 1 NO LINE {line} REASON {reason}\n").expect(
+            rt, "memory",
+        );
+        check_output(
+            rt,
+            PLAIN_CHECK,
+            text.as_str(),
+            Status::Denied,
+            verdict.as_str(),
+        );
     }
 }
 
