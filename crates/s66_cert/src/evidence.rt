@@ -1,4 +1,4 @@
-ghost use Rattle.std.specs.Prelude.{◌≡◌, ◌≤◌, IsTrue};
+ghost use Rattle.std.specs.Prelude.{◌≡◌, ◌≤◌, ◌↔◌, IsTrue};
 ghost use Rattle.s66_isa.specs.declared.limits.TheConstants.{BLOCK_LIMIT};
 ghost use Rattle.s66_model.specs.Tree.{flat, splits};
 ghost use Rattle.s66_cert.specs.Document.{TreeFits};
@@ -11,10 +11,10 @@ use s66_moments::FactLine;
 use s66_tree::Tree;
 use std::marker::Model;
 
-/// Whether lines are those of one whole tree of at most this many splits.
+/// Whether lines are those of one whole tree that a document may have, of at most this many splits.
 fn is_whole(tree: &Tree, most: u32) -> bool
-    ensures { IsTrue result → (flat (tree_of_lines tree.now) ≡ tree.now) ×
-        TreeFits BLOCK_LIMIT (tree_of_lines tree.now) × (splits (tree_of_lines tree.now) ≤ most) }
+    ensures { IsTrue result ↔ ((flat (tree_of_lines tree.now) ≡ tree.now) ×
+        TreeFits BLOCK_LIMIT (tree_of_lines tree.now) × (splits (tree_of_lines tree.now) ≤ most)) }
 {
     let mut lines = tree.lines();
     let mut left = 1usize;
@@ -54,16 +54,18 @@ impl Model for Evidence {
 }
 
 impl Evidence {
-    ghost use Rattle.std.specs.Prelude.{◌≡◌, ◌≤◌, IfSome, length};
+    ghost use Rattle.std.specs.Prelude.{◌≡◌, ◌≤◌, IfSome, IfNone};
     ghost use Rattle.s66_model.specs.Tree.{splits};
     ghost use Rattle.s66_cert.specs.DocumentParts.{tree_of_lines};
     ghost use Rattle.s66_cert.specs.Evidence.{IsEvidence};
 
-    /// Fact lines, and a tree that is to show by them that no order takes less than a bound, in minor cycles. None if a document may not
-    /// have them, or the tree has more than this many splits.
+    /// Fact lines, and a tree that is to show by them that no order takes less than a bound, in minor cycles. None exactly if a document
+    /// may not have them, or the tree has more than this many splits.
     pub fn new(bound: u32, lines: Vec<FactLine>, tree: Tree, most: u32) -> Option<Evidence>
         ensures value { IfSome result (λ e. e ≡ record { bound = bound; lines = lines.items; vertices = tree }) }
         ensures splits { IfSome result (λ e. splits (tree_of_lines e.vertices) ≤ most) }
+        ensures none { IfNone result (¬ (IsEvidence (record { bound = bound; lines = lines.items; vertices = tree }) ×
+            (splits (tree_of_lines tree) ≤ most))) }
     {
         let are_few = bound <= TIME_LIMIT && lines.len() <= FACT_LIMIT;
         if !are_few || tree.has_dominated() || !are_fact_lines(lines.as_slice()) {
