@@ -22,16 +22,29 @@ const _: () = prove!(BLOCK_NUMBER_LIMIT == 20_000);
 /// What the help of a subcommand ends with: an example, the statuses, and those that it has alone.
 macro_rules! help_ending {
     ($example:literal) => {
-        help_ending!($example, "the source or the profile was refused", "")
+        help_ending!($example, "the source or the profile was refused")
     };
-    ($example:literal, $refusal:literal, $own_statuses:literal) => {
+    ($example:literal, $refusal:literal $(, $own_statuses:literal)*) => {
         concat!(
             "Example: ",
             $example,
             "\n\nStatus: 0 done, 2 usage, 3 ",
             $refusal,
-            ",\n        4 out of memory, 6 a read or write failed",
-            $own_statuses
+            ",\n        4 out of memory, 6 a read or write failed"
+            $(, $own_statuses)*
+        )
+    };
+}
+
+/// That of a subcommand that searches, always or in some case.
+macro_rules! search_ending {
+    ($example:literal, $case:literal) => {
+        help_ending!(
+            $example,
+            "the source or the profile was refused",
+            ",\n        7 ",
+            $case,
+            "some block is only bounded"
         )
     };
 }
@@ -90,49 +103,25 @@ Example: s66 lint < SOURCE
 
 Status: 0 done, 2 usage, 4 out of memory, 5 some line is refused,
         6 a read or write failed, 8 other lines alone are listed",
-        Subcommand::Order => help_ending!(
-            "s66 order --deep < SOURCE",
-            "the source or the profile was refused",
-            ",\n        7 some block is only bounded"
-        ),
+        Subcommand::Order => search_ending!("s66 order --deep < SOURCE", ""),
         Subcommand::Compare => help_ending!(
             "s66 compare --cut < SOURCES",
             "a source or the profile was refused",
             ",\n        5 something else is changed"
         ),
-        Subcommand::Sum => help_ending!(
-            "s66 sum --deep < SOURCE",
-            "the source or the profile was refused",
-            ",\n        7 some block is only bounded"
-        ),
-        Subcommand::Prove => help_ending!(
-            "s66 prove --deep < SOURCE > CERTIFICATES",
-            "the source or the profile was refused",
-            ",\n        7 some block is only bounded"
-        ),
+        Subcommand::Sum => search_ending!("s66 sum --deep < SOURCE", ""),
+        Subcommand::Prove => search_ending!("s66 prove --deep < SOURCE > CERTIFICATES", ""),
         Subcommand::Check => help_ending!(
             "s66 check < CERTIFICATES",
             "the documents were refused",
             ",\n        5 some verdict is NO"
         ),
         Subcommand::Time => help_ending!("s66 time --trace < SOURCE"),
-        Subcommand::Why => help_ending!(
-            "s66 why --text --block 2 < SOURCE",
-            "the source or the profile was refused",
-            ",\n        7 with --order: some block is only bounded"
-        ),
+        Subcommand::Why => search_ending!("s66 why --text --block 2 < SOURCE", "with --order: "),
         Subcommand::Chart => help_ending!("s66 chart --text < SOURCE"),
-        Subcommand::Deps => help_ending!("s66 deps < SOURCE", "the source was refused", ""),
-        Subcommand::Page => help_ending!(
-            "s66 page --deep < SOURCE > page.html",
-            "the source or the profile was refused",
-            ",\n        7 some block is only bounded"
-        ),
-        Subcommand::Json => help_ending!(
-            "s66 json --order --deep < SOURCE",
-            "the source or the profile was refused",
-            ",\n        7 with --order: some block is only bounded"
-        ),
+        Subcommand::Deps => help_ending!("s66 deps < SOURCE", "the source was refused"),
+        Subcommand::Page => search_ending!("s66 page --deep < SOURCE > page.html", ""),
+        Subcommand::Json => search_ending!("s66 json --order --deep < SOURCE", "with --order: "),
     }
 }
 

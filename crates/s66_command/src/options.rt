@@ -3,7 +3,7 @@
 ghost use Rattle.std.specs.Prelude.{◌≡◌, IfSome, List, is_some};
 ghost use Rattle.clap.specs.Words.{Text, found_of};
 ghost use Rattle.s66_command.specs.FoundOptions.{IsFlag, IsFoundBy};
-ghost use Rattle.s66_command.specs.Usage.{GivesBlock, GivesFlag, GivesNodes, GivesOrder, GivesProfile, GivesSearch, GivesWorkers, IsMistake, are_in_conflict, gives_conflict, rule_by, rule_of_option};
+ghost use Rattle.s66_command.specs.Usage.{GivesBlock, GivesFlag, GivesNodes, GivesOrder, GivesProfile, GivesSearch, GivesWorkers, IsMistake, are_two, gives_conflict, rule_by, rule_of_option};
 
 use crate::limits::{NODES_DEFAULT, WORKERS_DEFAULT};
 use crate::strategy::Strategy;
@@ -93,29 +93,20 @@ pub(crate) fn order_in(matches: &ArgMatches) -> Option<Strategy>
 
 /// What is wrong with these flags together, if anything is. The texts are those of clap's own rule for this, on which there would be no
 /// contract.
-fn conflict_of(
-    dominate: bool,
-    dominate_tree: bool,
-    deep: bool,
-    columns: bool,
-    keep: bool,
-) -> Option<(ErrorKind, &'static str)>
-    ensures kind { IfSome result (λ conflict. IsMistake conflict.0) }
-    ensures given { is_some result ≡ are_in_conflict dominate dominate_tree deep columns keep }
+fn conflict_of(dominate: bool, dominate_tree: bool, deep: bool) -> Option<&'static str>
+    ensures { is_some result ≡ are_two dominate dominate_tree deep }
 {
-    let message = match (dominate, dominate_tree, deep) {
-        (true, true, false) => "the argument '--dominate' cannot be used with '--dominate-tree'",
-        (true, false, true) => "the argument '--dominate' cannot be used with '--deep'",
-        (false, true, true) => "the argument '--dominate-tree' cannot be used with '--deep'",
-        (true, true, true) =>
-            "the argument '--dominate' cannot be used with:\n  --dominate-tree\n  --deep",
-        _ if columns && !keep => {
-            let message = "the following required arguments were not provided:\n  --keep";
-            return Some((ErrorKind::MissingRequiredArgument, message));
+    match (dominate, dominate_tree, deep) {
+        (true, true, false) => Some(
+            "the argument '--dominate' cannot be used with '--dominate-tree'",
+        ),
+        (true, false, true) => Some("the argument '--dominate' cannot be used with '--deep'"),
+        (false, true, true) => Some("the argument '--dominate-tree' cannot be used with '--deep'"),
+        (true, true, true) => {
+            Some("the argument '--dominate' cannot be used with:\n  --dominate-tree\n  --deep")
         }
-        _ => return None,
-    };
-    Some((ErrorKind::ArgumentConflict, message))
+        _ => None,
+    }
 }
 
 /// What is wrong with the options of a subcommand together, if anything is: the kind of the mistake, and its text.
@@ -129,5 +120,12 @@ pub(crate) fn conflict_in(matches: &ArgMatches) -> Option<(ErrorKind, &'static s
     let deep = flag_in(matches, OptionName::Deep);
     let columns = flag_in(matches, OptionName::Columns);
     let keep = flag_in(matches, OptionName::Keep);
-    conflict_of(dominate, dominate_tree, deep, columns, keep)
+    if let Some(message) = conflict_of(dominate, dominate_tree, deep) {
+        return Some((ErrorKind::ArgumentConflict, message));
+    }
+    if columns && !keep {
+        let message = "the following required arguments were not provided:\n  --keep";
+        return Some((ErrorKind::MissingRequiredArgument, message));
+    }
+    None
 }
