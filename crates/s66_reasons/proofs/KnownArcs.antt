@@ -1,5 +1,5 @@
 -- The arcs by all that is known are those of the table with those of fact lines, and lead from and to instructions of the block.
-use Rattle.std.proofs.Common.{ℕ, true, ◌≡◌, ◌∙◌, List, [], ◌∷◌, ◌++◌, Option, Some, ap, ap₂, append_assoc, inl, inr, max, refl, sym}
+use Rattle.std.proofs.Common.{ℕ, ◌≡◌, ◌∙◌, List, [], ◌∷◌, ◌++◌, Option, Some, ap, ap₂, append_assoc, inl, inr, max, refl, sym}
 use Rattle.std.specs.Prelude.{unwrap_or, ◌&&◌}
 use Rattle.std.proofs.lemmas.Bool.{and_parts, cases_Bool}
 use Rattle.std.proofs.lemmas.List.{append-nil}

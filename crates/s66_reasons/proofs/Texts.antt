@@ -24,12 +24,6 @@ pub joined : (out one two front middle rest : List ℕ) → one ≡ out ++ front
 joined out one two front middle rest first second =
     ap (λ xs. xs ++ rest) (second ∙ ap (λ xs. xs ++ middle) first ∙ append_assoc out front middle) ∙ append_assoc out (front ++ middle) rest
 
--- a text, and three more at once after it
-pub pushed-after : (out first front one two three : List ℕ) → first ≡ out ++ front → first ++ (one ++ two ++ three) ≡ out ++ (front ++ one ++ two ++ three)
-pushed-after out first front one two three is =
-    ap (λ xs. xs ++ (one ++ two ++ three)) is ∙ append_assoc out front (one ++ two ++ three)
-    ∙ ap (λ xs. out ++ xs) (sym (append_assoc front (one ++ two) three) ∙ ap (λ xs. xs ++ three) (sym (append_assoc front one two)))
-
 -- one row of a chain more
 pub walk-more : (d : Document) (t n : ℕ) (ms : List ℕ) (i wait : ℕ) (old new : List ℕ) → i < length ms →
     wait ≡ link (row_at (problem_of d) n) (row_at (problem_of d) (get_or ms i 0)) → new ≡ old ++ row_text (link_row d t n (get_or ms i 0)) →

@@ -58,10 +58,22 @@ IsNumberOf b Origin = Unit {0}
 IsNumberOf b (At n stage) = IsNumber b n
 IsNumberOf b End = Unit {0}
 
--- the empty prefix of its block, what is known of this by dependence alone, and what is known after its fact lines
-pub record AreKnown (d : Document) (prefix : Checked) (by_dependence by_lines : Ground) : Type 0 where
+-- the numbers of a load: some of those of a block, whose prefix is empty
+pub record AreLoaded (prefix : Checked) (numbers : List ℕ) : Type 0 where
+  pub start : prefix.numbers ≡ []
+  pub some : 0 < length numbers
+  pub few : length numbers ≤ BLOCK_LIMIT
+  pub remain : every (is_remaining prefix.problem.block []) numbers ≡ true
+
+-- the empty prefix of the block of a document, whose fact lines are taken, and what is known of this block by dependence alone
+pub record AreFirst (d : Document) (prefix : Checked) (by_dependence : Ground) : Type 0 where
   pub problem : prefix.problem ≡ problem_of d
   pub start : prefix.numbers ≡ []
   pub first_problem : by_dependence.problem ≡ problem_of d
-  pub first : known_in by_dependence ≡ known_first (problem_of d)
+  pub known : known_in by_dependence ≡ known_first (problem_of d)
+  pub taken : AreTaken d
+
+-- these, and what is known after the fact lines
+pub record AreKnown (d : Document) (prefix : Checked) (by_dependence by_lines : Ground) : Type 0 where
+  pub first : AreFirst d prefix by_dependence
   pub all : KnowsAll d by_lines

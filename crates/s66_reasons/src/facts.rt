@@ -2,17 +2,16 @@
 
 ghost use Rattle.std.specs.Prelude.{◌≡◌, ◌≤◌, ◌<◌, ◌+◌, ◌++◌, [], true, IfOk, OnOk, Some, decimal, length};
 ghost use Rattle.s66_isa.specs.declared.limits.TheConstants.{BLOCK_LIMIT};
-ghost use Rattle.s66_isa.specs.Lists.{every};
 ghost use Rattle.s66_model.specs.Timing.{row_at};
-ghost use Rattle.s66_model.specs.LegalOrder.{is_remaining};
 ghost use Rattle.s66_moments.specs.declared.fact_line.FactLine.TheVariants.{Load};
 ghost use Rattle.s66_moments.specs.Facts.{IsNumber};
 ghost use Rattle.s66_moments.specs.Known.{arcs_of, is_taken, known_first, plus, reaches, with_line};
 ghost use Rattle.s66_facts.specs.Ground.{known_of as known_in};
 ghost use Rattle.s66_cert.specs.declared.limits.TheConstants.{FACT_LIMIT};
 ghost use Rattle.s66_cert.specs.DocumentParts.{document_of};
-ghost use Rattle.s66_checker.specs.KeptKnown.{AreTaken, KnowsAll};
+ghost use Rattle.s66_checker.specs.KeptKnown.{KnowsAll};
 ghost use Rattle.s66_checker.specs.Verdict.{facts_of, problem_of};
+ghost use Rattle.s66_reasons.specs.Within.{AreFirst, AreLoaded};
 ghost use Rattle.s66_reasons.specs.Words.{listed};
 ghost use Rattle.s66_reasons.specs.FactWords.{begins, by_parcels, by_unit, could_words, fact_sentence, facts_from, from_words, has_words, in_all, issues_words, last_words, late_words, left_to, load_sentence, many_words, mixed_words, need_words, numbered_fact, one_words, pair_sentence, pair_words, rest_words, side_by_side, so_words, to_words, units_words, until_words, which_words};
 
@@ -222,10 +221,7 @@ pub(crate) fn push_load_sentence(
     wait: u32,
     numbers: &[u8],
 ) -> Result<(), AllocError>
-    requires some { 0 < length numbers.now }
-    requires few { length numbers.now ≤ BLOCK_LIMIT }
-    requires start { prefix.now.numbers ≡ [] }
-    requires remain { every (is_remaining prefix.now.problem.block []) numbers.now ≡ true }
+    requires { AreLoaded prefix.now numbers.now }
     ensures { OnOk result (out.new.items ≡ out.old.items ++
         load_sentence prefix.now.problem from.now to.now after wait numbers.now) }
 {
@@ -476,11 +472,7 @@ pub(crate) fn push_facts(
     prefix: &Prefix,
     mut facts: Facts,
 ) -> Result<Facts, AllocError>
-    requires same { prefix.now.problem ≡ problem_of (document_of document.now) }
-    requires start { prefix.now.numbers ≡ [] }
-    requires problem { facts.problem ≡ problem_of (document_of document.now) }
-    requires known { known_in facts ≡ known_first (problem_of (document_of document.now)) }
-    requires taken { AreTaken (document_of document.now) }
+    requires { AreFirst (document_of document.now) prefix.now facts }
     ensures text { OnOk result (out.new.items ≡ out.old.items ++
         facts_from (document_of document.now) (known_first (problem_of (document_of document.now))) 1
         (facts_of (document_of document.now))) }

@@ -1,10 +1,9 @@
 //! The rows of a longest path to the end by what is known after fact lines, arc by arc.
 
-ghost use Rattle.std.specs.Prelude.{◌≡◌, ◌++◌, OnOk, codes};
+ghost use Rattle.std.specs.Prelude.{◌≡◌, ◌++◌, OnOk};
 ghost use Rattle.s66_moments.specs.declared.moment.Stage.TheVariants.{Done};
 ghost use Rattle.s66_cert.specs.DocumentParts.{document_of};
 ghost use Rattle.s66_reasons.specs.LongestPaths.{at_end_words, by_words, free_unit_words, parcels_words, reached_words, third_words};
-ghost use Rattle.s66_reasons.specs.Words.{counted, instruction, unit_name};
 
 use crate::chain::{push_end_words, push_link_words};
 use crate::hop::Hop;
@@ -28,21 +27,6 @@ fn push_by(out: &mut Vec<u8>, number: usize) -> Result<(), AllocError>
     push_between(out, b" (by ", number, b".)")
 }
 
-/// So many parcels after m.
-fn push_parcels_after(
-    out: &mut Vec<u8>,
-    document: &Document,
-    parcels: u32,
-    m: u8,
-) -> Result<(), AllocError>
-    ensures { OnOk result (out.new.items ≡ out.old.items ++
-        (counted parcels (codes "parcel") ++ codes " after " ++ instruction (document_of document.now) m)) }
-{
-    push_counted(out, parcels as usize, b"parcel")?;
-    out.extend_from_slice(b" after ")?;
-    push_instruction(out, document, m)
-}
-
 /// That n issues after so many parcels of m.
 fn push_parcels_words(
     out: &mut Vec<u8>,
@@ -53,18 +37,10 @@ fn push_parcels_words(
 ) -> Result<(), AllocError>
     ensures { OnOk result (out.new.items ≡ out.old.items ++ parcels_words (document_of document.now) parcels m n) }
 {
-    push_around(out, b"", document, n, b" can issue, ")?;
-    push_parcels_after(out, document, parcels, m)
-}
-
-/// The unit of m, which is of this kind.
-fn push_unit_of(out: &mut Vec<u8>, document: &Document, kind: Kind, m: u8) -> Result<(), AllocError>
-    ensures { OnOk result (out.new.items ≡ out.old.items ++
-        (codes "the " ++ unit_name kind ++ codes " unit of " ++ instruction (document_of document.now) m)) }
-{
-    out.extend_from_slice(b"the ")?;
-    out.extend_from_slice(unit_name(kind))?;
-    out.extend_from_slice(b" unit of ")?;
+    push_instruction(out, document, n)?;
+    out.extend_from_slice(b" can issue, ")?;
+    push_counted(out, parcels as usize, b"parcel")?;
+    out.extend_from_slice(b" after ")?;
     push_instruction(out, document, m)
 }
 
@@ -78,8 +54,13 @@ fn push_unit_words(
 ) -> Result<(), AllocError>
     ensures { OnOk result (out.new.items ≡ out.old.items ++ free_unit_words (document_of document.now) kind m n) }
 {
-    push_unit_of(out, document, kind, m)?;
-    push_around(out, b" is free, which ", document, n, b" needs")
+    out.extend_from_slice(b"the ")?;
+    out.extend_from_slice(unit_name(kind))?;
+    out.extend_from_slice(b" unit of ")?;
+    push_instruction(out, document, m)?;
+    out.extend_from_slice(b" is free, which ")?;
+    push_instruction(out, document, n)?;
+    out.extend_from_slice(b" needs")
 }
 
 /// That the result of n in a register waits for m to read this.

@@ -1,21 +1,17 @@
-ghost use Rattle.std.specs.Prelude.{◌≡◌, ◌≤◌, ◌<◌, ◌++◌, [], true, OnOk, length};
+ghost use Rattle.std.specs.Prelude.{◌≡◌, ◌≤◌, ◌++◌, OnOk, length};
 ghost use Rattle.s66_isa.specs.declared.limits.TheConstants.{BLOCK_LIMIT};
-ghost use Rattle.s66_isa.specs.Lists.{every, tally};
-ghost use Rattle.s66_model.specs.LegalOrder.{is_remaining};
+ghost use Rattle.s66_isa.specs.Lists.{tally};
 ghost use Rattle.s66_model.specs.Tree.{AtTerminal, splits};
 ghost use Rattle.s66_model.specs.DominatedLeaves.{Next, LoadFrom};
 ghost use Rattle.s66_tree.specs.Lines.{vertex_of};
 ghost use Rattle.s66_moments.specs.Facts.{IsNumber};
-ghost use Rattle.s66_moments.specs.Known.{known_first};
-ghost use Rattle.s66_facts.specs.Ground.{known_of as known_in};
 ghost use Rattle.s66_cert.specs.declared.limits.TheConstants.{SPLIT_LIMIT};
 ghost use Rattle.s66_cert.specs.DocumentParts.{document_of};
 ghost use Rattle.s66_checker.specs.declared.verdict.Verdict.TheVariants.{Yes};
-ghost use Rattle.s66_checker.specs.KeptKnown.{AreTaken};
 ghost use Rattle.s66_checker.specs.Verdict.{problem_of, verdict};
-ghost use Rattle.s66_reasons.specs.Reasons.{and_facts, body, colon, counts_text, issue_row, last_line, left_row, opening, path_row, reasons_text, said_at, top};
+ghost use Rattle.s66_reasons.specs.Reasons.{and_facts, colon, counts_text, issue_row, last_line, left_row, opening, path_row, reasons_text, said_at, top};
 ghost use Rattle.s66_reasons.specs.Words.{row_text};
-ghost use Rattle.s66_reasons.specs.Within.{IsGranted, is_split};
+ghost use Rattle.s66_reasons.specs.Within.{AreFirst, AreLoaded, IsGranted, is_split};
 
 use crate::chain::push_chain;
 use crate::facts::{push_facts, push_load_sentence};
@@ -108,11 +104,7 @@ fn push_path(
     facts: Facts,
     n: u8,
 ) -> Result<(), AllocError>
-    requires same { prefix.now.problem ≡ problem_of (document_of document.now) }
-    requires start { prefix.now.numbers ≡ [] }
-    requires problem { facts.problem ≡ problem_of (document_of document.now) }
-    requires known { known_in facts ≡ known_first (problem_of (document_of document.now)) }
-    requires taken { AreTaken (document_of document.now) }
+    requires first { AreFirst (document_of document.now) prefix.now facts }
     requires n { IsNumber (problem_of (document_of document.now)) n }
     ensures { OnOk result (out.new.items ≡ out.old.items ++ said_at (document_of document.now) (AtTerminal (Next n))) }
 {
@@ -132,10 +124,7 @@ fn push_left_row(
     numbers: &[u8],
 ) -> Result<(), AllocError>
     requires same { prefix.now.problem ≡ problem_of (document_of document.now) }
-    requires start { prefix.now.numbers ≡ [] }
-    requires some { 0 < length numbers.now }
-    requires few { length numbers.now ≤ BLOCK_LIMIT }
-    requires remain { every (is_remaining prefix.now.problem.block []) numbers.now ≡ true }
+    requires loaded { AreLoaded prefix.now numbers.now }
     ensures { OnOk result (out.new.items ≡ out.old.items ++
         row_text (left_row (document_of document.now) after numbers.now)) }
 {
@@ -162,14 +151,8 @@ fn push_left(
     after: u32,
     numbers: &[u8],
 ) -> Result<(), AllocError>
-    requires same { prefix.now.problem ≡ problem_of (document_of document.now) }
-    requires start { prefix.now.numbers ≡ [] }
-    requires problem { facts.problem ≡ problem_of (document_of document.now) }
-    requires known { known_in facts ≡ known_first (problem_of (document_of document.now)) }
-    requires taken { AreTaken (document_of document.now) }
-    requires some { 0 < length numbers.now }
-    requires few { length numbers.now ≤ BLOCK_LIMIT }
-    requires remain { every (is_remaining prefix.now.problem.block []) numbers.now ≡ true }
+    requires first { AreFirst (document_of document.now) prefix.now facts }
+    requires loaded { AreLoaded prefix.now numbers.now }
     ensures { OnOk result (out.new.items ≡ out.old.items ++
         said_at (document_of document.now) (AtTerminal (LoadFrom after numbers.now))) }
 {
@@ -226,25 +209,6 @@ fn colon(line: &TreeLine<'_>) -> &'static [u8]
     }
 }
 
-/// What is said of a tree whose first line is this.
-fn push_body(
-    out: &mut Vec<u8>,
-    document: &Document,
-    block: &[Instr],
-    profile: &Profile,
-    line: TreeLine<'_>,
-) -> Result<(), AllocError>
-    requires block { record { block = block.now; profile = profile.now } ≡ problem_of (document_of document.now) }
-    requires some { 1 ≤ length block.now }
-    requires few { length block.now ≤ BLOCK_LIMIT }
-    requires granted { IsGranted (document_of document.now) (vertex_of line) }
-    ensures { OnOk result (out.new.items ≡ out.old.items ++ body (document_of document.now) (vertex_of line.entry)) }
-{
-    push_opening(out, document)?;
-    out.extend_from_slice(colon(&line))?;
-    push_said(out, document, block, profile, line)
-}
-
 /// The first line of a document's tree.
 fn first_line(document: &Document) -> TreeLine<'_>
     ensures { top (document_of document.now).tree ≡ vertex_of result }
@@ -286,12 +250,9 @@ pub fn push_reasons(
 {
     let block = instructions_of(document.block());
     let profile = profile_of(document);
-    push_body(
-        out,
-        document,
-        block.as_slice(),
-        &profile,
-        first_line(document),
-    )?;
+    let first = first_line(document);
+    push_opening(out, document)?;
+    out.extend_from_slice(colon(&first))?;
+    push_said(out, document, block.as_slice(), &profile, first)?;
     push_last_line(out, time, bound)
 }

@@ -20,18 +20,13 @@ pub struct Work {
 }
 
 impl Work {
-    ghost use Rattle.std.specs.Prelude.{◌≡◌, ◌≤◌, ◌<◌, [], true, length};
-    ghost use Rattle.s66_isa.specs.declared.limits.TheConstants.{BLOCK_LIMIT};
-    ghost use Rattle.s66_isa.specs.Lists.{every};
-    ghost use Rattle.s66_model.specs.LegalOrder.{is_remaining};
+    ghost use Rattle.std.specs.Prelude.{◌≡◌};
     ghost use Rattle.s66_reasons.specs.FactWords.{work_of_load};
+    ghost use Rattle.s66_reasons.specs.Within.{AreLoaded};
 
     /// Of these, whose kind is that of the first.
     pub(crate) fn of(prefix: &Prefix, numbers: &[u8]) -> Work
-        requires some { 0 < length numbers.now }
-        requires few { length numbers.now ≤ BLOCK_LIMIT }
-        requires start { prefix.now.numbers ≡ [] }
-        requires remain { every (is_remaining prefix.now.problem.block []) numbers.now ≡ true }
+        requires { AreLoaded prefix.now numbers.now }
         ensures { result ≡ work_of_load prefix.now.problem numbers.now }
     {
         let kind = prefix.row(numbers[0]).kind;

@@ -1,4 +1,4 @@
-use Rattle.std.proofs.Common.{ℕ, ◌≡◌, ◌++◌, ◌∙◌, [], true, List, ap, sym, subst}
+use Rattle.std.proofs.Common.{rules, ℕ, ◌≡◌, ◌++◌, ◌∙◌, [], true, List, ap, sym, subst}
 use Rattle.std.proofs.lemmas.Result.{IfOk-equal}
 use Rattle.s66_isa.specs.Lists.{every}
 use Rattle.s66_model.specs.Timing.{Problem}
@@ -8,12 +8,17 @@ use Rattle.s66_reasons.specs.FactWords.{load_sentence}
 use Rattle.s66_reasons.proofs.FactTexts.{taken-remain}
 use Rattle.s66_reasons.proofs.facts.push_load_fact.Goals as goal
 
-pub push_load_sentence-requires-clause-remain : goal.push_load_sentence-requires-clause-remain
-push_load_sentence-requires-clause-remain c =
+pub push_load_sentence-requires : goal.push_load_sentence-requires
+push_load_sentence-requires c =
     let b : Problem = c.args.facts.now.problem in
     let stay : every (is_remaining b.block []) c.args.load.now.numbers.items ≡ true = taken-remain b (known_in c.args.facts.now) c.args.load.now c.requires.taken in
-    ap (λ (ns : List ℕ). every (is_remaining c.args.prefix.now.problem.block []) ns) c.as_slice-numbers.ensures.value
-    ∙ subst (λ (q : Problem). every (is_remaining q.block []) c.args.load.now.numbers.items ≡ true) (sym c.requires.same) stay
+    record {
+      start = c.requires.start;
+      some = search rules;
+      few = search rules;
+      remain = ap (λ (ns : List ℕ). every (is_remaining c.args.prefix.now.problem.block []) ns) c.as_slice-numbers.ensures.value
+          ∙ subst (λ (q : Problem). every (is_remaining q.block []) c.args.load.now.numbers.items ≡ true) (sym c.requires.same) stay;
+    }
 
 pub returns : goal.returns
 returns c =

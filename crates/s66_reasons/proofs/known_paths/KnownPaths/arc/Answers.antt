@@ -18,7 +18,7 @@ returns c =
     let f = c.args.to.now in
     let lines = c.fact_lines-lines.result.now in
     c.arc_by_lines.ensures
-    ∙ ap (λ (q : Problem). with_lines (network q (before_in c.self.inside.by_lines.now.marks)) lines e f) c.self.invariant.problem
+    ∙ ap (λ (q : Problem). with_lines (network q (before_in c.self.inside.by_lines.now.marks)) lines e f) c.self.invariant.first.problem
     ∙ ap (λ (known : Known). with_lines (network (problem_of d) known.before) lines e f) c.self.invariant.all.known
     ∙ ap (λ (ls : List FactLine). with_lines (network (problem_of d) (known_of d).before) ls e f) c.fact_lines-lines.ensures.value
     ∙ sym (arcs-lines d e f)

@@ -7,5 +7,5 @@ use Rattle.s66_reasons.proofs.known_paths.KnownPaths.depends.Goals as goal
 
 pub returns : goal.returns
 returns c =
-    c.is_before.ensures ∙ ap (λ (known : Known). known.before c.args.m c.args.n) c.self.invariant.first
+    c.is_before.ensures ∙ ap (λ (known : Known). known.before c.args.m c.args.n) c.self.invariant.first.known
     ∙ ap (λ (p : Parts). precedes (problem_of (document_of p)).block c.args.m c.args.n) c.self.view_is
