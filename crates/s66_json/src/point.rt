@@ -6,7 +6,8 @@ use crate::text::{push_comma, push_text};
 use crate::wait::push_waits;
 use crate::words::push_register;
 use s66_device::push_field;
-use s66_why::{PlacedInstr, ResultAt, Stretch};
+use s66_time::ResultAt;
+use s66_why::{PlacedInstr, Stretch};
 use std::alloc::AllocError;
 
 /// When a result is done.

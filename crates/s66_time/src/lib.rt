@@ -24,4 +24,5 @@ pub use dominance::{dominates, dominates_clamped};
 pub use limits::{LOOK_LIMIT, TOTAL_LIMIT};
 pub use mark::Mark;
 pub use packing::{Packing, pack};
+pub use result::{ResultAt, last_time};
 pub use timed::{Timed, Timer, Times, time_of};

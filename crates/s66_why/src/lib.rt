@@ -26,7 +26,7 @@ pub use laws::{cause_law, path_law};
 pub use lost::Lost;
 pub use path::{Step, path_of, steps_of};
 pub use picture::chart;
-pub use placed::{PlacedInstr, ResultAt};
+pub use placed::PlacedInstr;
 pub use points::points_of;
 pub use stretch::{Conflict, Stretch};
 pub use text::{bank_name, conflict_name, push_in_three, push_why};

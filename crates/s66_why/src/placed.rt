@@ -1,54 +1,23 @@
 ghost use Rattle.std.specs.Prelude.{◌≡◌, ◌+◌, ◌≤◌, ◌==◌, if◌then◌else◌, max, reverse};
-ghost use Rattle.s66_isa.specs.Lists.{greatest};
 ghost use Rattle.s66_isa.specs.Table.{same_reg};
-ghost use Rattle.s66_model.specs.Timing.{ResultAt as ResultOf, done_at, end_of, readers_wait};
+ghost use Rattle.s66_model.specs.Timing.{done_at, end_of, readers_wait};
 ghost use Rattle.s66_time.specs.declared.limits.TheConstants.{TOTAL_LIMIT};
 ghost use Rattle.s66_why.specs.Why.{lets_go};
 
 use crate::cause::Cause;
 use arrayvec::ArrayVec;
 use s66_isa::{Reg, Registers, Row, is_memory_conflict, is_same_kind, is_same_register};
+use s66_time::ResultAt;
 use std::marker::Model;
 
-/// A result: its register, the minor cycle in which it is done, and whether the unit holds it.
-#[derive(Clone, Copy, Default, Drop)]
-pub struct ResultAt {
-    pub reg: Reg,
-    pub time: u32,
-    pub held: bool,
-}
-
-impl Model for ResultAt {
-    ghost use Rattle.s66_model.specs.Timing.{ResultAt};
-
-    ghost Value = { ResultAt };
-
-    ghost view = { λ d. record { reg = d.reg; time = d.time; held = d.held } };
-
-    ghost inverse = { λ d. record { reg = d.reg; time = d.time; held = d.held } };
-}
-
-/// When the last of these results is done; 0 if there is none.
-pub fn last_of(results: &[ResultAt]) -> u32
-    ensures { result ≡ greatest (λ (d : ResultOf). d.time) results.now }
+/// The minor cycle in which a result is done, if it is in this register; 0 if it is in another.
+fn time_in(made: &ResultAt, register: Reg) -> u32
+    ensures { result ≡ if same_reg made.now.reg register then made.now.time else 0 }
 {
-    let mut last = 0u32;
-    for made in results {
-        last = last.max(made.time);
-    }
-    last
-}
-
-impl ResultAt {
-    /// When it is done, if it is in this register; 0 if it is in another.
-    fn time_in(&self, register: Reg) -> u32
-        ensures { result ≡ if same_reg self.now.reg register then self.now.time else 0 }
-    {
-        if is_same_register(self.reg, register) {
-            self.time
-        } else {
-            0
-        }
+    if is_same_register(made.reg, register) {
+        made.time
+    } else {
+        0
     }
 }
 
@@ -106,7 +75,7 @@ impl PlacedInstr {
     {
         let mut done = 0u32;
         for made in self.results.as_slice() {
-            done = done.max(made.time_in(register));
+            done = done.max(time_in(made, register));
         }
         done
     }

@@ -6,10 +6,10 @@ ghost use Rattle.s66_model.specs.Timing.{points_of, result_at};
 ghost use Rattle.s66_time.specs.TimedOrder.{point_at};
 ghost use Rattle.s66_time.specs.declared.limits.TheConstants.{TOTAL_LIMIT};
 
-use crate::placed::{PlacedInstr, ResultAt, last_of, readers_wait};
+use crate::placed::{PlacedInstr, readers_wait};
 use arrayvec::ArrayVec;
 use s66_isa::{BLOCK_LIMIT, Registers, Row};
-use s66_time::Timed;
+use s66_time::{ResultAt, Timed, last_time};
 
 /// When each result is done of an instruction that starts then after the earlier ones.
 fn results(earlier: &[PlacedInstr], row: &Row, start: u32) -> ArrayVec<ResultAt, 2>
@@ -39,7 +39,7 @@ fn placed(timed: &Timed, position: usize, earlier: &[PlacedInstr]) -> PlacedInst
     let number = order.numbers()[position];
     let row = Row::of(&order.instr(number as usize), timed.profile());
     let results = results(earlier, &row, times.start);
-    let last = last_of(results.as_slice());
+    let last = last_time(results.as_slice());
     let reads = Registers::of(row.reads.as_slice());
     PlacedInstr {
         number,
