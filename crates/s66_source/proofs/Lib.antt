@@ -10,6 +10,7 @@ pub mod LeadingPads
 pub mod IndentedLines
 pub mod KeptLines
 pub mod PrintedLines
+pub mod FewBlocks
 pub mod MergedLines
 pub mod ReadBack
 pub mod ReadStanding

@@ -241,7 +241,7 @@ impl<'s, 'a> Keeper<'s, 'a> {
         }
     }
 
-    /// Passes a line.
+    /// Prints a line, or what a block that doesn't stand has in its place, and passes it.
     fn print_line(&mut self, out: &mut Vec<u8>, line: &[u8]) -> Result<(), AllocError>
         requires lines { self.old.lines < SOURCE_LINES_LIMIT }
         requires keeper { IsKeeper self.old }
@@ -264,7 +264,7 @@ impl<'s, 'a> Keeper<'s, 'a> {
         Ok(())
     }
 
-    /// Passes the lines of a text.
+    /// Prints the lines of a text, each as `print_line` does.
     fn print_all(&mut self, out: &mut Vec<u8>, text: &[u8]) -> Result<(), AllocError>
         requires lines { self.old.lines + length (lines_from [] text.now) ≤ SOURCE_LINES_LIMIT }
         requires keeper { IsKeeper self.old }
