@@ -7,10 +7,11 @@ use Rattle.s66_model.specs.Leaves.{floor_value}
 use Rattle.s66_model.specs.Tree.{Tree, splits}
 use Rattle.s66_model.specs.Piece.{Terminal}
 use Rattle.s66_machine.specs.Recorded.{TreeOpens}
-use Rattle.s66_node.specs.Pieces.{PieceOf, tree_of}
+use Rattle.s66_node.specs.Pieces.{PieceOf, tree_of, IsExpandedPiece}
 use Rattle.s66_machine.specs.Ledger.{Ledger, Node, Out, Event, Reply, Run, Graft, Taken, IsOut, is_open, is_out, is_live, best_time, allowance, node_at, after_offer}
 use Rattle.s66_machine.specs.Tickets.{TicketOf}
 use Rattle.s66_ledger.specs.Ledgers.{LedgerOf, IsEvent}
+use Rattle.s66_ledger.specs.PieceSplits.{piece_splits}
 
 -- some events lead from one to the other
 abbrev pub Leads : LedgerOf → LedgerOf → Type 0
@@ -81,6 +82,11 @@ pub record IsWithinRound (b : Problem) (l : Ledger) (ticket : TicketOf) : Type 0
   pub one_out : tally is_out l.nodes ≡ 1
   pub alone : weigh (λ n. n) l.allowances ≡ allowance l 1
   pub wholes : WholesAreTimed b l
+
+-- a piece was expanded from the prefix by the best time, with as many splits as one of worker 1's may have
+abbrev pub IsRoundPiece : LedgerOf → List ℕ → PieceOf → Type 0
+IsRoundPiece l =
+    IsExpandedPiece l.rule l.problem (best_time l.problem l.state) (best_time l.problem l.state) (piece_splits l.rule (allowance l.state 1))
 
 -- worker 1's piece is in the place of the node, with some of its dominated prefixes left open
 pub record IsTaken (old : LedgerOf) (node : ℕ) (piece : PieceOf) (new : LedgerOf) : Type 0 where

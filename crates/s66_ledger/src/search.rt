@@ -48,11 +48,9 @@ impl Ledger<'_> {
     ghost use Rattle.s66_time.specs.TimedOrder.{TimedOrder};
     ghost use Rattle.s66_machine.specs.Ledger.{best_time, allowance, node_at, IsOut, Back, Returned};
     ghost use Rattle.s66_machine.specs.Coverage.{Covers};
-    ghost use Rattle.s66_machine.specs.Expansion.{IsExpansion};
-    ghost use Rattle.s66_node.specs.Pieces.{tree_of, IsBestTimed};
+    ghost use Rattle.s66_node.specs.Pieces.{tree_of};
     ghost use Rattle.s66_ledger.specs.Ledgers.{IsEvent};
-    ghost use Rattle.s66_ledger.specs.PieceSplits.{piece_splits};
-    ghost use Rattle.s66_ledger.specs.Finishing.{Leads, IsIdle, WholesAreTimed, IsSearched, IsBetweenRounds, IsWithinRound, IsOffering, IsTaken, still_to_go};
+    ghost use Rattle.s66_ledger.specs.Finishing.{Leads, IsIdle, WholesAreTimed, IsSearched, IsBetweenRounds, IsWithinRound, IsRoundPiece, IsOffering, IsTaken, still_to_go};
 
     /// Searches as worker 1, from where the ledger is, until `most` splits are spent in all, the best time is no more than `goal` minor
     /// cycles, no open node's floor is below the best time, or the budget is spent. Every allowance and every node that is out is
@@ -205,13 +203,7 @@ impl Ledger<'_> {
         requires prefix { IsBeginning self.now.problem.block prefix.now }
         ensures same { walk.new.problem ≡ walk.old.problem }
         ensures marks { marks.new.problem ≡ marks.old.problem }
-        ensures rule { IfOk result (λ p. p.rule ≡ self.now.rule) }
-        ensures problem { IfOk result (λ p. p.problem ≡ self.now.problem) }
-        ensures prefix { IfOk result (λ p. p.prefix ≡ prefix.now) }
-        ensures expansion { IfOk result (λ p. IsExpansion self.now.rule self.now.problem
-            (best_time self.now.problem self.now.state) (best_time self.now.problem self.now.state)
-            (piece_splits self.now.rule (allowance self.now.state 1)) prefix.now (tree_of p)) }
-        ensures timed { IfOk result (λ p. IsBestTimed self.now.problem prefix.now (tree_of p) p.timed) }
+        ensures piece { IfOk result (IsRoundPiece self.now prefix.now) }
     {
         let best = self.best();
         let rule = self.rule();
@@ -312,15 +304,9 @@ impl Ledger<'_> {
         requires workers { 1 ≤ self.old.workers }
         requires covers { Covers self.old.rule self.old.problem self.old.budget self.old.state }
         requires within { IsWithinRound self.old.problem self.old.state ticket }
-        requires rule { piece.rule ≡ self.old.rule }
-        requires problem { piece.problem ≡ self.old.problem }
-        requires prefix { piece.prefix ≡ ticket.prefix }
-        requires expansion { IsExpansion self.old.rule self.old.problem (best_time self.old.problem self.old.state)
-            (best_time self.old.problem self.old.state)
-            (piece_splits self.old.rule (allowance self.old.state 1)) piece.prefix (tree_of piece) }
-        requires timed { IsBestTimed self.old.problem piece.prefix (tree_of piece) piece.timed }
+        requires piece { IsRoundPiece self.old ticket.prefix piece }
         requires some { 1 ≤ allowance self.old.state 1 }
-        requires below { floor_value self.old.problem piece.prefix < best_time self.old.problem self.old.state }
+        requires below { floor_value self.old.problem ticket.prefix < best_time self.old.problem self.old.state }
         ensures leads { Leads self.old self.new }
         ensures between { OnOk result (IsBetweenRounds self.new.problem self.new.state) }
         ensures less { OnOk result (still_to_go self.new < still_to_go self.old) }

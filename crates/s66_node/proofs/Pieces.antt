@@ -15,7 +15,7 @@ use Rattle.s66_model.proofs.TreesHold.{tree-weaken}
 use Rattle.s66_node.specs.declared.grow.Grown.{Grown}
 use Rattle.s66_node.specs.Nodes.{prefixes_over}
 use Rattle.s66_node.specs.Growing.{tree_prefixes}
-use Rattle.s66_node.specs.Pieces.{PieceOf, piece_lines, tree_of, IsBestTimed, AreTreeNodes, IsKeptPiece}
+use Rattle.s66_node.specs.Pieces.{PieceOf, piece_lines, tree_of, IsBestTimed, IsExpandedPiece, AreTreeNodes, IsKeptPiece}
 use Rattle.s66_node.specs.Walking.{Span, IsDue, IsLeft, IsGrown, NameSplits, names_of}
 use Rattle.s66_node.proofs.Growing.{tree-holds, tree-splits}
 use Rattle.s66_node.proofs.NamedSplits.{split-node, tree-within}
@@ -66,11 +66,18 @@ module _ (rule : Rule) (b : Problem) (best : Span) (allowance : ℕ) (root : Lis
     piece-lines = rw (own, over, nodes, names) (sym h.lines)
 
     -- it is the tree that was grown
-    pub piece-tree : tree_of p ≡ tree
+    piece-tree : tree_of p ≡ tree
     piece-tree = ap (read_tree Frontier) piece-lines ∙ read-flat Frontier tree grown-match
 
-    pub piece-expansion : IsExpansion rule b best.high best.low allowance root (tree_of p)
-    piece-expansion = subst (IsExpansion rule b best.high best.low allowance root) (sym piece-tree) expansion
+    pub piece-expanded : IsBestTimed b root tree p.timed → IsExpandedPiece rule b best.high best.low allowance root p
+    piece-expanded timed =
+        record {
+          expansion = subst (IsExpansion rule b best.high best.low allowance root) (sym piece-tree) expansion;
+          timed = subst (λ t. IsBestTimed b root t p.timed) (sym piece-tree) timed;
+          problem = own;
+          rule = by;
+          prefix = over;
+        }
 
     pub piece-kept : IsBestTimed b root tree p.timed → IsKeptPiece p grown.splits
     piece-kept timed =

@@ -5,7 +5,7 @@ use Rattle.s66_model.specs.Timing.{Problem}
 use Rattle.s66_model.specs.Tree.{Tree, Vertex, flat, splits}
 use Rattle.s66_model.specs.Preorder.{read_tree}
 use Rattle.s66_model.specs.Piece.{Terminal, Frontier, IsPiece}
-use Rattle.s66_machine.specs.Expansion.{IsBestWhole}
+use Rattle.s66_machine.specs.Expansion.{IsBestWhole, IsExpansion}
 use Rattle.s66_time.specs.TimedOrder.{TimedOrder}
 use Rattle.s66_node.specs.declared.node.Node.{Node}
 use Rattle.s66_node.specs.Nodes.{Named, prefixes_over, node_lines, AreNodes}
@@ -50,3 +50,15 @@ pub record IsKeptPiece (p : PieceOf) (count : ℕ) : Type 0 where
   pub nodes : AreTreeNodes p
   pub splits : splits (tree_of p) ≡ count
   pub timed : IsBestTimed p.problem p.prefix (tree_of p) p.timed
+
+-- what an expansion of a prefix promises of its piece: the best time falls from high to low meanwhile, and there are at most as many
+-- splits as are allowed
+pub record IsExpandedPiece (by : Rule) (b : Problem) (high low allowance : ℕ) (at : List ℕ) (p : PieceOf) : Type 0 where
+  -- its tree is an expansion of the prefix
+  pub expansion : IsExpansion by b high low allowance at (tree_of p)
+  -- its timed order is one of the least whole orders of the tree
+  pub timed : IsBestTimed b at (tree_of p) p.timed
+  -- it says of itself what was expanded, and by which rule
+  pub problem : p.problem ≡ b
+  pub rule : p.rule ≡ by
+  pub prefix : p.prefix ≡ at

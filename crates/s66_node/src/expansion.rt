@@ -6,8 +6,8 @@ ghost use Rattle.s66_model.specs.Timing.{Problem};
 ghost use Rattle.s66_model.specs.LegalOrder.{IsBeginning};
 ghost use Rattle.s66_model.specs.Tree.{Tree};
 ghost use Rattle.s66_model.specs.Piece.{Terminal};
-ghost use Rattle.s66_machine.specs.Expansion.{IsExpansion, whole_orders};
-ghost use Rattle.s66_node.specs.Pieces.{tree_of, IsBestTimed};
+ghost use Rattle.s66_machine.specs.Expansion.{whole_orders};
+ghost use Rattle.s66_node.specs.Pieces.{IsBestTimed, IsExpandedPiece};
 ghost use Rattle.s66_node.specs.Walking.{IsLeast};
 
 use crate::grow::{Grown, grow};
@@ -64,13 +64,8 @@ pub fn expand(
     allowance: u32,
 ) -> Result<Piece, AllocError>
     requires { IsBeginning (instrs_of block.now) prefix.now }
-    ensures problem { IfOk result (λ p. p.problem ≡ record { block = instrs_of block.now; profile = profile.now }) }
-    ensures rule { IfOk result (λ p. p.rule ≡ NoneNamed) }
-    ensures prefix { IfOk result (λ p. p.prefix ≡ prefix.now) }
-    ensures expansion { IfOk result (λ p. IsExpansion NoneNamed
-        (record { block = instrs_of block.now; profile = profile.now }) best best allowance prefix.now (tree_of p)) }
-    ensures timed { IfOk result (λ p. IsBestTimed (record { block = instrs_of block.now; profile = profile.now })
-        prefix.now (tree_of p) p.timed) }
+    ensures piece { IfOk result (IsExpandedPiece NoneNamed
+        (record { block = instrs_of block.now; profile = profile.now }) best best allowance prefix.now) }
 {
     let incumbent = &mut Constant(best);
     expand_with(alloc, block, profile, prefix, incumbent, allowance)
@@ -94,14 +89,9 @@ pub fn expand_with<L: Least>(
     ensures falls { L.kept incumbent.new ≤ L.kept incumbent.old }
     ensures lowest { (L.lowest incumbent.new ≡ L.lowest incumbent.old) ×
         (L.lowest incumbent.old ≤ L.kept incumbent.new) }
-    ensures problem { IfOk result (λ p. p.problem ≡ record { block = instrs_of block.now; profile = profile.now }) }
-    ensures rule { IfOk result (λ p. p.rule ≡ NoneNamed) }
-    ensures prefix { IfOk result (λ p. p.prefix ≡ prefix.now) }
-    ensures expansion { IfOk result (λ p. IsExpansion NoneNamed
+    ensures piece { IfOk result (IsExpandedPiece NoneNamed
         (record { block = instrs_of block.now; profile = profile.now }) (L.kept incumbent.old)
-        (L.kept incumbent.new) allowance prefix.now (tree_of p)) }
-    ensures timed { IfOk result (λ p. IsBestTimed (record { block = instrs_of block.now; profile = profile.now })
-        prefix.now (tree_of p) p.timed) }
+        (L.kept incumbent.new) allowance prefix.now) }
 {
     Walk::new(block, profile).expand_with(alloc, prefix, incumbent, allowance)
 }
@@ -117,13 +107,8 @@ pub fn expand_dominated(
     allowance: u32,
 ) -> Result<Piece, AllocError>
     requires { IsBeginning (instrs_of block.now) prefix.now }
-    ensures problem { IfOk result (λ p. p.problem ≡ record { block = instrs_of block.now; profile = profile.now }) }
-    ensures rule { IfOk result (λ p. p.rule ≡ WrittenEarlier) }
-    ensures prefix { IfOk result (λ p. p.prefix ≡ prefix.now) }
-    ensures expansion { IfOk result (λ p. IsExpansion WrittenEarlier
-        (record { block = instrs_of block.now; profile = profile.now }) best best allowance prefix.now (tree_of p)) }
-    ensures timed { IfOk result (λ p. IsBestTimed (record { block = instrs_of block.now; profile = profile.now })
-        prefix.now (tree_of p) p.timed) }
+    ensures piece { IfOk result (IsExpandedPiece WrittenEarlier
+        (record { block = instrs_of block.now; profile = profile.now }) best best allowance prefix.now) }
 {
     let mut marks = MarkTable::new(alloc, block, profile);
     Walk::new(block, profile).expand_dominated(
@@ -140,8 +125,7 @@ impl Walk<'_> {
     ghost use Rattle.std.specs.Prelude.{◌≡◌, ◌≤◌, [], IfOk};
     ghost use Rattle.s66_model.specs.declared.rule.Rule.TheVariants.{NoneNamed, WrittenEarlier};
     ghost use Rattle.s66_model.specs.LegalOrder.{IsBeginning};
-    ghost use Rattle.s66_machine.specs.Expansion.{IsExpansion};
-    ghost use Rattle.s66_node.specs.Pieces.{tree_of, IsBestTimed};
+    ghost use Rattle.s66_node.specs.Pieces.{IsExpandedPiece};
 
     /// Goes to a prefix and expands it, as `expand_with` does; the tables of the block are there already. On `Err` the walk is at
     /// some prefix of the same block, and the best time may have fallen.
@@ -157,12 +141,8 @@ impl Walk<'_> {
         ensures falls { L.kept incumbent.new ≤ L.kept incumbent.old }
         ensures lowest { (L.lowest incumbent.new ≡ L.lowest incumbent.old) ×
             (L.lowest incumbent.old ≤ L.kept incumbent.new) }
-        ensures problem { IfOk result (λ p. p.problem ≡ self.old.problem) }
-        ensures rule { IfOk result (λ p. p.rule ≡ NoneNamed) }
-        ensures prefix { IfOk result (λ p. p.prefix ≡ prefix.now) }
-        ensures expansion { IfOk result (λ p. IsExpansion NoneNamed self.old.problem (L.kept incumbent.old)
-            (L.kept incumbent.new) allowance prefix.now (tree_of p)) }
-        ensures timed { IfOk result (λ p. IsBestTimed self.old.problem prefix.now (tree_of p) p.timed) }
+        ensures piece { IfOk result (IsExpandedPiece NoneNamed self.old.problem (L.kept incumbent.old)
+            (L.kept incumbent.new) allowance prefix.now) }
     {
         let rule = Rule::NoneNamed;
         self.expand_named(alloc, prefix, incumbent, allowance, rule, &mut NoNames)
@@ -191,12 +171,8 @@ impl Walk<'_> {
         ensures falls { L.kept incumbent.new ≤ L.kept incumbent.old }
         ensures lowest { (L.lowest incumbent.new ≡ L.lowest incumbent.old) ×
             (L.lowest incumbent.old ≤ L.kept incumbent.new) }
-        ensures problem { IfOk result (λ p. p.problem ≡ self.old.problem) }
-        ensures rule { IfOk result (λ p. p.rule ≡ rule) }
-        ensures prefix { IfOk result (λ p. p.prefix ≡ prefix.now) }
-        ensures expansion { IfOk result (λ p. IsExpansion rule self.old.problem (L.kept incumbent.old)
-            (L.kept incumbent.new) allowance prefix.now (tree_of p)) }
-        ensures timed { IfOk result (λ p. IsBestTimed self.old.problem prefix.now (tree_of p) p.timed) }
+        ensures piece { IfOk result (IsExpandedPiece rule self.old.problem (L.kept incumbent.old)
+            (L.kept incumbent.new) allowance prefix.now) }
     {
         match rule {
             Rule::WrittenEarlier => marks.clear(),
@@ -225,12 +201,8 @@ impl Walk<'_> {
         ensures falls { L.kept incumbent.new ≤ L.kept incumbent.old }
         ensures lowest { (L.lowest incumbent.new ≡ L.lowest incumbent.old) ×
             (L.lowest incumbent.old ≤ L.kept incumbent.new) }
-        ensures problem { IfOk result (λ p. p.problem ≡ self.old.problem) }
-        ensures rule { IfOk result (λ p. p.rule ≡ rule) }
-        ensures prefix { IfOk result (λ p. p.prefix ≡ prefix.now) }
-        ensures expansion { IfOk result (λ p. IsExpansion rule self.old.problem (L.kept incumbent.old)
-            (L.kept incumbent.new) allowance prefix.now (tree_of p)) }
-        ensures timed { IfOk result (λ p. IsBestTimed self.old.problem prefix.now (tree_of p) p.timed) }
+        ensures piece { IfOk result (IsExpandedPiece rule self.old.problem (L.kept incumbent.old)
+            (L.kept incumbent.new) allowance prefix.now) }
     {
         self.go_to(prefix);
         let mut grown = Grown::empty(alloc);

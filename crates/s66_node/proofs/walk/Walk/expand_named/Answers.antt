@@ -1,4 +1,4 @@
-use Rattle.std.proofs.Common.{◌≡◌, List, Option, arith, rules, length, sym, ◌∙◌, ap, subst, refl}
+use Rattle.std.proofs.Common.{◌≡◌, List, Option, arith, rules, length, ◌∙◌, ap, subst, refl}
 use Rattle.std.specs.Option.{option_map}
 use Rattle.s66_isa.specs.declared.instr.Instr.{Instr}
 use Rattle.s66_line.specs.Block.{instrs_of}
@@ -13,7 +13,7 @@ use Rattle.s66_node.specs.Pieces.{PieceOf, IsBestTimed}
 use Rattle.s66_node.specs.Walked.{Walked}
 use Rattle.s66_node.specs.declared.piece.Origin.{Origin}
 use Rattle.s66_node.specs.Walking.{Span, span, IsGrown, IsLeast, names_of}
-use Rattle.s66_node.proofs.Pieces.{piece-tree, piece-expansion, piece-kept}
+use Rattle.s66_node.proofs.Pieces.{piece-expanded, piece-kept}
 use Rattle.s66_node.proofs.walk.Walk.expand_named.Goals as goal
 use Rattle.s66_node.proofs.walk.Walk.expand_named.Goals.{In_ok-timed_of}
 use Rattle.s66_node.proofs.walk.Walk.expand_named.Given.{Over}
@@ -68,13 +68,7 @@ invariant_of-result g c =
     let (tree, h) = grown g c in
     piece-kept c.args.rule (b g c) (best g c) c.args.allowance c.args.prefix.now c.grow.new.grown tree h (piece g c) refl (own g c) (over g c) refl refl (timed g c tree h)
 
-pub returns-clause-expansion : goal.returns-clause-expansion
-returns-clause-expansion g c =
+pub returns-clause-piece : goal.returns-clause-piece
+returns-clause-piece g c =
     let (tree, h) = grown g c in
-    piece-expansion c.args.rule (b g c) (best g c) c.args.allowance c.args.prefix.now c.grow.new.grown tree h (piece g c) refl (own g c) (over g c) refl refl
-
-pub returns-clause-timed : goal.returns-clause-timed
-returns-clause-timed g c =
-    let (tree, h) = grown g c in
-    let is = piece-tree c.args.rule (b g c) (best g c) c.args.allowance c.args.prefix.now c.grow.new.grown tree h (piece g c) refl (own g c) (over g c) refl refl in
-    subst (λ t. IsBestTimed (b g c) c.args.prefix.now t (shown g c)) (sym is) (timed g c tree h)
+    piece-expanded c.args.rule (b g c) (best g c) c.args.allowance c.args.prefix.now c.grow.new.grown tree h (piece g c) refl (own g c) (over g c) refl refl (timed g c tree h)
