@@ -273,7 +273,7 @@ impl MarkEntry {
 }
 
 impl<'a> MarkTable<'a> {
-    ghost use Rattle.std.specs.Prelude.{ℕ, ◌≡◌, ◌⊎◌, ◌++◌, [], ◌∷◌, List, IfSome, IfNone, IsTrue};
+    ghost use Rattle.std.specs.Prelude.{ℕ, ◌≡◌, ◌⊎◌, ◌++◌, [], ◌∷◌, List, IfOk, IfSome, IfNone, IsTrue};
     ghost use Rattle.s66_dep.specs.Members.{numbers_in};
     ghost use Rattle.s66_isa.specs.Lists.{Among, has};
     ghost use Rattle.s66_time.specs.Marks.{IsMarkOf};
@@ -342,7 +342,7 @@ impl<'a> MarkTable<'a> {
     }
 
     /// What `find` finds, by the set of the prefix's numbers and its mark.
-    pub fn find_by(
+    fn find_by(
         &self,
         walk: &Walk<'_>,
         pushed: &Set,
@@ -372,6 +372,30 @@ impl<'a> MarkTable<'a> {
             place = self.chains.next(place);
         }
         None
+    }
+
+    /// A node that dominates the walk's prefix, as the rule asks, if one is known. The set is that of the prefix's numbers, and the
+    /// mark the prefix's.
+    pub fn find_name(
+        &self,
+        alloc: Global,
+        walk: &Walk<'_>,
+        pushed: &Set,
+        mark: &Mark,
+        rule: Rule,
+    ) -> Result<Option<Box<Name>>, AllocError>
+        requires here { self.now.problem ≡ walk.now.problem }
+        requires pushed { (m : ℕ) → has m (numbers_in pushed.now) ≡ has m walk.now.numbers }
+        requires mark { IsMarkOf walk.now.problem walk.now.numbers mark.now }
+        ensures dominates { IfOk result (λ found. IfSome found
+            (λ name. IsIncomplete walk.now.problem.block walk.now.numbers →
+            DominatesByRule rule walk.now.problem name.value.numbers.items walk.now.numbers)) }
+        ensures known { IfOk result (λ found. IfSome found (λ name. Among name.value.numbers.items self.now.names)) }
+    {
+        match self.find_by(walk, pushed, mark, rule) {
+            Some((numbers, place)) => Ok(Some(Name::new(alloc, numbers, place)?)),
+            None => Ok(None),
+        }
     }
 
     /// Keeps an entry, and the node that it is, if there is room.
@@ -508,8 +532,8 @@ impl Naming for MarkTable<'_> {
     ) -> Result<Option<Box<Name>>, AllocError> {
         let pushed = walk.pushed();
         walk.set_mark(&mut self.room);
-        if let Some((numbers, place)) = self.find_by(walk, &pushed, &self.room, rule) {
-            return Ok(Some(Name::new(alloc, numbers, place)?));
+        if let Some(name) = self.find_name(alloc, walk, &pushed, &self.room, rule)? {
+            return Ok(Some(name));
         }
         let entry = MarkEntry::of(walk, &pushed, &self.room);
         self.put_line(entry, line, is_split, rule);

@@ -1,4 +1,4 @@
-use crate::shared_marks::{SharedMarks, Token, name_in};
+use crate::shared_marks::{SharedMarks, Token};
 use s66_model::Rule;
 use s66_node::{MarkEntry, MarkTable, Name, Naming, NodePlace, State, Walk};
 use s66_time::Mark;
@@ -88,7 +88,8 @@ impl<R: Wait> Naming for KnownNodes<'_, '_, R> {
     ) -> Result<Option<Box<Name>>, AllocError> {
         let pushed = walk.pushed();
         walk.set_mark(&mut self.room);
-        if let Some(name) = name_in(alloc, &self.own, walk, &pushed, &self.room, rule)? {
+        let own = self.own.find_name(alloc, walk, &pushed, &self.room, rule)?;
+        if let Some(name) = own {
             return Ok(Some(name));
         }
         let token = &mut self.token;

@@ -1,12 +1,7 @@
 //! The marks of the nodes that all workers of a search have grafted, in parts, each of which one worker at a time may use.
 
-ghost use Rattle.std.specs.Prelude.{ℕ, ◌≡◌, ◌<◌, All, length, IfOk, IfSome};
-ghost use Rattle.s66_isa.specs.Lists.{has, Among};
-ghost use Rattle.s66_model.specs.LegalOrder.{IsIncomplete};
-ghost use Rattle.s66_model.specs.DominatedLeaves.{DominatesByRule};
+ghost use Rattle.std.specs.Prelude.{◌≡◌, ◌<◌, All, length, IfOk};
 ghost use Rattle.s66_line.specs.Block.{instrs_of};
-ghost use Rattle.s66_dep.specs.Members.{numbers_in};
-ghost use Rattle.s66_time.specs.Marks.{IsMarkOf};
 
 use atomic_table::{Play, Refused, Seat, Table, TableRule};
 use s66_dep::Set;
@@ -72,30 +67,6 @@ impl<'b> Play<MarkTable<'b>, MarkTable<'b>> for Gives {
     ghost then = { Gave };
 }
 
-/// A node of a table that dominates the walk's prefix, as the rule asks, if one is known. The set is that of the prefix's numbers,
-/// and the mark the prefix's.
-pub(crate) fn name_in(
-    alloc: Global,
-    marks: &MarkTable<'_>,
-    walk: &Walk<'_>,
-    pushed: &Set,
-    mark: &Mark,
-    rule: Rule,
-) -> Result<Option<Box<Name>>, AllocError>
-    requires here { marks.now.problem ≡ walk.now.problem }
-    requires pushed { (m : ℕ) → has m (numbers_in pushed.now) ≡ has m walk.now.numbers }
-    requires mark { IsMarkOf walk.now.problem walk.now.numbers mark.now }
-    ensures dominates { IfOk result (λ found. IfSome found
-        (λ name. IsIncomplete walk.now.problem.block walk.now.numbers →
-        DominatesByRule rule walk.now.problem name.value.numbers.items walk.now.numbers)) }
-    ensures known { IfOk result (λ found. IfSome found (λ name. Among name.value.numbers.items marks.now.names)) }
-{
-    match marks.find_by(walk, pushed, mark, rule) {
-        Some((numbers, place)) => Ok(Some(Name::new(alloc, numbers, place)?)),
-        None => Ok(None),
-    }
-}
-
 /// So many parts, which have no mark.
 fn empty_parts<'b>(
     alloc: Global,
@@ -128,7 +99,7 @@ pub(crate) struct SharedMarks<'b> {
 }
 
 impl<'b> SharedMarks<'b> {
-    ghost use Rattle.std.specs.Prelude.{◌≡◌, ◌<◌, ◌∷◌, [], IfOk, IfSome};
+    ghost use Rattle.std.specs.Prelude.{ℕ, ◌≡◌, ◌<◌, IfOk, IfSome};
     ghost use Rattle.s66_line.specs.Block.{instrs_of};
     ghost use Rattle.s66_dep.specs.Members.{numbers_in};
     ghost use Rattle.s66_isa.specs.Lists.{has};
@@ -266,7 +237,7 @@ impl<'b> SharedMarks<'b> {
         let part = self.part_of(pushed.hash());
         self.take(rt, token, part);
         let held = token.slot_mut(&self.table.shared, part);
-        let named = name_in(alloc, held, walk, pushed, mark, rule);
+        let named = held.find_name(alloc, walk, pushed, mark, rule);
         self.give(token, part);
         named
     }
