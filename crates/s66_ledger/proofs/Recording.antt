@@ -59,7 +59,7 @@ module _ (m next : MachineOf) (before reserved after : List EventRecord) (bytes 
       (entries-next m.problem before bytes (drop 1 m.lines) entry own own_lines kept.bytes lines counted lines_counted)
       ∙ ap (λ (e : Event × Reply). events_of (with_history m before bytes) ++ e ∷ []) is)
 
-  pub recorded : IsRecorded (with_history next after all)
+  recorded : IsRecorded (with_history next after all)
   recorded =
       let old = events_of (with_history m before bytes) in
       let run : Run m.rule m.problem (opening m.problem m.budget m.workers) (old ++ (event, reply) ∷ []) next.state =
@@ -77,16 +77,19 @@ module _ (m next : MachineOf) (before reserved after : List EventRecord) (bytes 
             omega (arith, ap (weigh line_count) pushed, ap (λ es. weigh line_count (es ++ entry ∷ [])) same, weigh-append line_count before (entry ∷ []), ap length more, length-append m.lines own_lines, kept.lines, lines_counted);
       }
 
-  pub recorded-event : IsEvent (with_history m before bytes) event reply (with_history next after all)
-  recorded-event = (moved.0, moved.1, moved.2, moved.3, events-on, moved.4)
+  pub noted : IsRecorded (with_history next after all) × IsEvent (with_history m before bytes) event reply (with_history next after all)
+  noted = (recorded, (moved.0, moved.1, moved.2, moved.3, events-on, moved.4))
 
 -- an entry without lines
 module _ (m next : MachineOf) (before reserved after : List EventRecord) (bytes all : List ℕ) (entry : EventRecord) (own : List ℕ) (event : Event) (reply : Reply) (moved : IsMove m event reply next) (still : next.lines ≡ m.lines) (is : entry_of m.problem entry own [] ≡ (event, reply)) (same : reserved ≡ before) (pushed : after ≡ reserved ++ entry ∷ []) (put : all ≡ bytes ++ own) (counted : byte_count entry ≡ length own) (none : line_count entry ≡ 0) (kept : IsRecorded (with_history m before bytes)) where
+  pub noted-lineless : IsRecorded (with_history next after all) × IsEvent (with_history m before bytes) event reply (with_history next after all)
+  noted-lineless = noted m next before reserved after bytes all entry own [] event reply moved (still ∙ sym (append-nil m.lines)) is same pushed put counted none kept
+
   pub recorded-lineless : IsRecorded (with_history next after all)
-  recorded-lineless = recorded m next before reserved after bytes all entry own [] event reply moved (still ∙ sym (append-nil m.lines)) is same pushed put counted none kept
+  recorded-lineless = noted-lineless.0
 
   pub event-lineless : IsEvent (with_history m before bytes) event reply (with_history next after all)
-  event-lineless = recorded-event m next before reserved after bytes all entry own [] event reply moved (still ∙ sym (append-nil m.lines)) is same pushed put counted none kept
+  event-lineless = noted-lineless.1
 
 -- an entry without bytes
 module _ (m next : MachineOf) (before reserved after : List EventRecord) (bytes : List ℕ) (entry : EventRecord) (event : Event) (reply : Reply) (moved : IsMove m event reply next) (still : next.lines ≡ m.lines) (is : entry_of m.problem entry [] [] ≡ (event, reply)) (same : reserved ≡ before) (pushed : after ≡ reserved ++ entry ∷ []) (none : byte_count entry ≡ 0) (lineless : line_count entry ≡ 0) (kept : IsRecorded (with_history m before bytes)) where
