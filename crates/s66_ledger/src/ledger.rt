@@ -39,7 +39,7 @@ impl<'a> Summed for Ledger<'a> {
 }
 
 impl<'a> Ledger<'a> {
-    ghost use Rattle.std.specs.Prelude.{ℕ, List, [], ◌≡◌, ◌≢◌, ◌≤◌, length, slice_get, IfOk, IfSome, IfNone, IfErr, OnOk, OnErr};
+    ghost use Rattle.std.specs.Prelude.{ℕ, List, [], ◌≡◌, ◌≢◌, ◌≤◌, length, IfOk, IfSome, IfNone, IfErr, OnOk, OnErr};
     ghost use Rattle.s66_line.specs.Block.{instrs_of};
     ghost use Rattle.s66_isa.specs.Lists.{tally, weigh};
     ghost use Rattle.s66_model.specs.declared.rule.Rule.TheVariants.{NoneNamed};
@@ -160,7 +160,7 @@ impl<'a> Ledger<'a> {
     pub fn made(&self, node: u32) -> Option<State>
         ensures { IsMadeAs self.now.problem self.now.state.nodes self.now.lines node result }
     {
-        self.machine.made(node)
+        self.machine.table.made(node)
     }
 
     /// The name of a node that is dominated: the prefix of the node that dominates it, by the line that made it. None of any
@@ -195,7 +195,7 @@ impl<'a> Ledger<'a> {
     pub fn open_nodes(&self) -> usize
         ensures { result ≡ tally is_open self.now.state.nodes }
     {
-        self.machine.open_nodes()
+        self.machine.table.open_count()
     }
 
     /// The best time, in minor cycles. Whatever happened to the ledger, every legal order begins with the prefix of exactly one of
@@ -205,14 +205,14 @@ impl<'a> Ledger<'a> {
         ensures covers { Covers self.now.rule self.now.problem self.now.budget self.now.state }
         ensures table { IsTable self.now.problem self.now.state }
     {
-        self.machine.best()
+        self.machine.best.total()
     }
 
     /// The best order so far, with its times.
     pub fn best_order(&self) -> &Timed
         ensures { result.now ≡ record { problem = self.now.problem; numbers = self.now.state.best } }
     {
-        self.machine.best_order()
+        &self.machine.best
     }
 
     /// A lower bound of the totals of all legal orders, in minor cycles: the least of the best time and the floors of the nodes that

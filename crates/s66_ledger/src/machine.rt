@@ -8,7 +8,7 @@ use s66_isa::{BLOCK_LIMIT, Profile};
 use s66_line::Block;
 use s66_machine::Ticket;
 use s66_model::{BUDGET_LIMIT, Rule};
-use s66_node::{Piece, State, Walk};
+use s66_node::{Piece, Walk};
 use s66_time::{Timed, time_of};
 use std::alloc::{AllocError, Global};
 use std::marker::Model;
@@ -24,7 +24,7 @@ pub(crate) struct Machine<'a> {
     pub(crate) table: NodeTable,
     /// The total of the source order, in minor cycles.
     source: u32,
-    best: Timed,
+    pub(crate) best: Timed,
     left: u32,
     pub(crate) allowances: Vec<u32>,
     pub(crate) spent: u32,
@@ -44,21 +44,17 @@ impl<'a> Model for Machine<'a> {
 }
 
 impl<'a> Machine<'a> {
-    ghost use Rattle.std.specs.Prelude.{ℕ, Bool, true, false, Some, None, List, [], ◌+◌, ◌≡◌, ◌≢◌, ◌<◌, ◌≤◌, ◌⊎◌, ◌↔◌, length, slice_get, IfOk, IfErr, IfSome, IfNone, OnOk, OnErr, IsTrue, if◌then◌else◌};
+    ghost use Rattle.std.specs.Prelude.{ℕ, true, Some, None, List, [], ◌+◌, ◌≡◌, ◌≢◌, ◌<◌, ◌≤◌, ◌⊎◌, ◌↔◌, length, IfOk, IfErr, IfSome, IfNone, OnOk, OnErr, IsTrue};
     ghost use Rattle.s66_line.specs.Block.{instrs_of};
-    ghost use Rattle.s66_isa.specs.Lists.{tally};
-    ghost use Rattle.s66_model.specs.Timing.{total_of};
     ghost use Rattle.s66_model.specs.LegalOrder.{IsBeginning};
     ghost use Rattle.s66_model.specs.DominatedLeaves.{Dominated};
     ghost use Rattle.s66_model.specs.Leaves.{floor_value};
     ghost use Rattle.s66_model.specs.Tree.{splits};
-    ghost use Rattle.s66_machine.specs.Ledger.{Event, opening, best_time, allowance, is_open, is_live, node_at, IsOut, Closed, Grant, Granted, Claim, Claimed, Back, Returned, NotOut, Retire, Retired, Offer};
+    ghost use Rattle.s66_machine.specs.Ledger.{Event, opening, best_time, allowance, is_live, node_at, IsOut, Closed, Grant, Granted, Claim, Claimed, Back, Returned, NotOut, Retire, Retired};
     ghost use Rattle.s66_machine.specs.Recorded.{IsOfferOf, IsOwnPiece};
-    ghost use Rattle.s66_machine.specs.Coverage.{Covers, bound_of, IsFinished};
-    ghost use Rattle.s66_model.specs.BestAndBound.{IsBound};
-    ghost use Rattle.s66_machine.specs.NodeTable.{IsTable};
+    ghost use Rattle.s66_machine.specs.Coverage.{bound_of};
     ghost use Rattle.s66_node.specs.Pieces.{tree_of};
-    ghost use Rattle.s66_ledger.specs.LedgerMachine.{IsMove, IsMadeAs};
+    ghost use Rattle.s66_ledger.specs.LedgerMachine.{IsMove};
     ghost use Rattle.s66_machine.specs.Ended.{IsEnded, ended_answer};
     ghost use Rattle.s66_ledger.specs.Answers.{answer_of};
     ghost use Rattle.s66_ledger.specs.Finishing.{NoneOut, WholesAreTimed};
@@ -108,29 +104,8 @@ impl<'a> Machine<'a> {
         })
     }
 
-    pub fn open_nodes(&self) -> usize
-        ensures { result ≡ tally is_open self.now.state.nodes }
-    {
-        self.table.open_count()
-    }
-
-    pub fn best(&self) -> u32
-        ensures value { result ≡ best_time self.now.problem self.now.state }
-        ensures covers { Covers self.now.rule self.now.problem self.now.budget self.now.state }
-        ensures table { IsTable self.now.problem self.now.state }
-    {
-        self.best.total()
-    }
-
-    pub fn best_order(&self) -> &Timed
-        ensures { result.now ≡ record { problem = self.now.problem; numbers = self.now.state.best } }
-    {
-        &self.best
-    }
-
     pub fn bound(&self) -> u32
-        ensures value { result ≡ bound_of self.now.problem self.now.state }
-        ensures bound { IsBound self.now.problem result }
+        ensures { result ≡ bound_of self.now.problem self.now.state }
     {
         self.table.least_floor(self.best.total())
     }
@@ -246,12 +221,6 @@ impl<'a> Machine<'a> {
         ensures lines { result ≡ length self.now.lines }
     {
         self.table.count() as u32
-    }
-
-    pub fn made(&self, node: u32) -> Option<State>
-        ensures { IsMadeAs self.now.problem self.now.state.nodes self.now.lines node result }
-    {
-        self.table.made(node)
     }
 
     pub fn name_of(&self, node: u32) -> Option<ArrayVec<u8, BLOCK_LIMIT>>

@@ -11,7 +11,7 @@ pub invariant_of-result : goal.invariant_of-result
 invariant_of-result c =
     let m = stored_of c.self.inside in
     subst (λ nodes. IsKeptAnswer (ended_of m.rule m.best.problem m.budget nodes m.best.numbers m.spent) nodes c.bound-bound.result m.source) (sym c.into_nodes.ensures)
-    (kept-answer m c.self.invariant c.args.self c.self.view_is c.bound-bound.result c.requires c.bound-bound.ensures.value)
+    (kept-answer m c.self.invariant c.args.self c.self.view_is c.bound-bound.result c.requires c.bound-bound.ensures)
 
 pub returns-clause-answer : goal.returns-clause-answer
 returns-clause-answer c =
