@@ -8,7 +8,8 @@ use crate::json_text::push_json_line;
 use crate::outcome::{Output, Status};
 use crate::selection::{blocks_before, shown};
 use crate::time_text::push_time_lines;
-use crate::why_text::push_why_lines;
+use crate::why_text::push_waits;
+use s66_dep::Order;
 use s66_isa::Profile;
 use s66_line::Block;
 use s66_source::Source;
@@ -50,7 +51,10 @@ fn push_block(
         Listing::Times { trace } => push_time_lines(out, timer, *trace, number, block),
         Listing::Dependences => push_deps_lines(out, number, block),
         Listing::Chart { text } => push_chart_lines(alloc, out, timer, *text, number, block),
-        Listing::Why { text } => push_why_lines(out, timer, *text, number, block),
+        Listing::Why { text } => {
+            let timed = timer.time(block, &Order::source(block));
+            push_waits(out, *text, number, block, &timed)
+        }
         Listing::Json => push_json_line(out, timer, number, block),
     }
 }

@@ -1,11 +1,10 @@
 ghost use Rattle.std.specs.Prelude.{◌≡◌, ◌++◌, OnOk};
 ghost use Rattle.s66_line.specs.Block.{instrs_of};
-ghost use Rattle.s66_output.specs.WhyText.{waits_lines, why_lines};
+ghost use Rattle.s66_output.specs.WhyText.{waits_lines};
 
 use crate::chart_text::push_timed_line;
-use s66_dep::Order;
 use s66_line::Block;
-use s66_time::{Timed, Timer};
+use s66_time::Timed;
 use s66_why::push_why;
 use std::alloc::AllocError;
 
@@ -22,19 +21,4 @@ pub fn push_waits(
 {
     push_timed_line(out, number, block, timed)?;
     push_why(out, text, block, timed)
-}
-
-/// The lines of a block, whose number is from 1, as it was written, under the timer's profile, with texts or without them.
-pub fn push_why_lines(
-    out: &mut Vec<u8>,
-    timer: &mut Timer,
-    text: bool,
-    number: usize,
-    block: &Block,
-) -> Result<(), AllocError>
-    ensures profile { timer.new ≡ timer.old }
-    ensures lines { OnOk result (out.new.items ≡ out.old.items ++ why_lines timer.old text number block.now) }
-{
-    let timed = timer.time(block, &Order::source(block));
-    push_waits(out, text, number, block, &timed)
 }
