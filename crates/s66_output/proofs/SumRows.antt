@@ -1,28 +1,24 @@
 -- The rows of a source's blocks: how many there are, in which order they come, and that they are those of answers.
-use Rattle.std.proofs.Common.{◌≡◌, ◌≤◌, ◌<◌, ◌+◌, ◌-◌, ◌==◌, ◌∙◌, ℕ, zero, suc, Bool, true, false, cond, if◌then◌else◌, List, [], ◌∷◌, ◌++◌, Option, None, Some, Ok, length, drop, take, slice_index_or, refl, sym, subst, ap, ap₂, arith, inl, inr, append_assoc, ltb, ltb-true}
+use Rattle.std.proofs.Common.{◌≡◌, ◌≤◌, ◌<◌, ◌+◌, ◌-◌, ◌==◌, ◌∙◌, ℕ, zero, suc, Bool, true, false, cond, List, [], ◌∷◌, ◌++◌, Option, None, Some, Ok, length, drop, take, slice_index_or, refl, sym, subst, ap, ap₂, arith, inl, inr, append_assoc, ltb, ltb-true}
 use Rattle.std.specs.Ordering.{is_lt, nat_cmp}
 use Rattle.std.specs.declared.cmp.Ordering.TheVariants.{Less, Equal, Greater}
 use Rattle.std.specs.List.Sorted.{IsSortedBy, IsStableBy, ties}
 use Rattle.std.specs.Cmp.{IsStrictWeakOrder}
 use Rattle.std.proofs.lemmas.Bool.{le-ltb, ltb-false}
-use Rattle.std.proofs.lemmas.List.{append-nil, at_drop_all, drop_more, length-map}
+use Rattle.std.proofs.lemmas.List.{append-nil, at_drop_all, drop_more}
 use Rattle.std.proofs.lemmas.List.MinMax.{IsStrictWeakOrder-by_number}
 use Rattle.std.proofs.lemmas.List.Sorted.{IsStrictWeakOrder-flip, ties_stay_sorted}
 use Rattle.s66_isa.specs.Lists.{Among, tally, weigh}
 use Rattle.s66_source.specs.declared.limits.TheConstants.{SOURCE_LINES_LIMIT}
-use Rattle.s66_line.specs.Fields.{lines_of}
 use Rattle.s66_source.specs.Printed.{ArePlaced, Placed}
 use Rattle.s66_line.specs.Block.{Block}
-use Rattle.s66_source.specs.LeftAlone.{Flagged, Reading, at_first, class_at, flagged_lines}
-use Rattle.s66_source.proofs.FlaggedLines.{length-flagged}
-use Rattle.s66_source.specs.Source.{Line, begins_block, block_of, blocks_of, classed_lines, classes_from, instructions, label_after, parts_of, place_after, put_before, run_after, source_of}
-use Rattle.s66_line.specs.Class.{is_code, is_instruction}
-use Rattle.s66_source.proofs.PrintedLines.{few-lines}
+use Rattle.s66_source.specs.LeftAlone.{Reading}
+use Rattle.s66_source.proofs.FewBlocks.{few-blocks}
+use Rattle.s66_source.specs.Source.{source_of}
 use Rattle.s66_output.specs.declared.sum_rows.Row.{Row}
 use Rattle.s66_output.specs.SumRows.{AreNumbered}
 use Rattle.s66_output.specs.SumText.{AreInOrder, MayPrecede, all_splits, is_best, line_end, row_of, rows_of, total_line, total_text}
 use Rattle.s66_output.specs.Shown.{before, shown}
-use Rattle.s66_output.proofs.PlacedAnswers.{read-blocks}
 
 -- ONE ROW AFTER THE OTHER
 
@@ -63,37 +59,6 @@ placed-at (b ∷ blocks) [] are i block p below at placed n among = absurd are
 placed-at (b ∷ blocks) (q ∷ ps) are zero block p below at placed n among =
     subst (λ (c : Block). (1 ≤ n) × (n ≤ length c.entries)) (sym at) (are.0 n (subst (λ (r : Placed). Among n r.order) placed among))
 placed-at (b ∷ blocks) (q ∷ ps) are (suc i) block p below at placed n among = placed-at blocks ps are.1 i block p (omega (arith, below)) at placed n among
-
-length-put : (line : Line) (parts : List (List Line)) → length (put_before line parts) ≤ length parts + 1
-length-put line [] = omega arith
-length-put line ([] ∷ parts) = omega arith
-length-put line ((next ∷ more) ∷ parts) =
-    elim (begins_block next) as (λ t. length (if t then (line ∷ []) ∷ (next ∷ more) ∷ parts else (line ∷ next ∷ more) ∷ parts) ≤ length ((next ∷ more) ∷ parts) + 1)
-    [ true ↦ omega arith | false ↦ omega arith ]
-
-length-parts : (lines : List Line) → length (parts_of lines) ≤ length lines
-length-parts [] = omega arith
-length-parts (line ∷ lines) = omega (arith, length-put line (parts_of lines), length-parts lines)
-
-length-kept : (lines : List Line) → length (instructions lines) ≤ length lines
-length-kept [] = omega arith
-length-kept (line ∷ lines) =
-    let more = length-kept lines in
-    elim (is_instruction line.class) as (λ t. length (if t then line ∷ instructions lines else instructions lines) ≤ length (line ∷ lines))
-    [ true ↦ omega (arith, more) | false ↦ omega (arith, more) ]
-
-length-classed : (lines : List Flagged) (number run index : ℕ) (label : List ℕ) (after : Bool) → length (classes_from number run index label after lines) ≡ length lines
-length-classed [] number run index label after = refl
-length-classed (line ∷ lines) number run index label after =
-    let c = class_at after line in
-    ap suc (length-classed lines (suc number) (run_after run c) (place_after index c) (label_after label c line.bytes) (is_code c))
-
-pub few-blocks : (source : Reading) (blocks : List Block) → source_of source ≡ Ok blocks → length blocks ≤ SOURCE_LINES_LIMIT
-few-blocks source blocks accepted =
-    let all = classed_lines source in
-    let parts = parts_of (instructions all) in
-    let made : length blocks ≡ length parts = ap (λ (bs : List Block). length bs) (read-blocks _ (blocks_of all) blocks accepted) ∙ length-map parts block_of in
-    omega (arith, made, length-parts (instructions all), length-kept all, length-classed (flagged_lines source) 1 0 0 [] false, length-flagged source.cut at_first (lines_of source.text), few-lines source blocks accepted)
 
 few-later : (k : ℕ) (blocks : List Block) → length (drop k blocks) ≤ length blocks
 few-later zero [] = omega arith

@@ -13,7 +13,7 @@ use Rattle.s66_output.specs.OfAnswers.{status_of}
 use Rattle.s66_output.specs.PageText.{all_found}
 use Rattle.s66_output.specs.Shown.{before, shown}
 use Rattle.s66_output.proofs.FoundAnswers.{found-of}
-use Rattle.s66_output.proofs.SumRows.{few-blocks}
+use Rattle.s66_source.proofs.FewBlocks.{few-blocks}
 use Rattle.s66_program.specs.Kept.{AreAnswered, found_part}
 use Rattle.s66_program.proofs.KeptParts.{kept-whole, of-read}
 use Rattle.s66_program.proofs.page_text.page_output.Goals as goal
