@@ -6,15 +6,15 @@ use Rattle.s66_model.specs.Timing.{Problem, row_at}
 use Rattle.s66_model.specs.Leaves.{uses, tail}
 use Rattle.s66_bound.specs.declared.cost.Cost.{Cost}
 
-pub record IsCostOf (r : Row) (e : Cost) : Type 0 where
-  pub kind : e.kind ≡ r.kind
-  pub parcels : e.parcels ≡ r.parcels
-  pub writes : e.writes.items ≡ r.writes
+pub record IsCostOf (r : Row) (cost : Cost) : Type 0 where
+  pub kind : cost.kind ≡ r.kind
+  pub parcels : cost.parcels ≡ r.parcels
+  pub writes : cost.writes.items ≡ r.writes
   -- the registers that it reads or writes
-  pub used : (x : Reg) → has_reg x (registers_in e.used) ≡ uses r x
-  pub memory : e.memory ≡ r.memory
-  pub work : e.work ≡ r.hold + 1
-  pub tail : e.tail ≡ tail r
+  pub used : (x : Reg) → has_reg x (registers_in cost.used) ≡ uses r x
+  pub memory : cost.memory ≡ r.memory
+  pub work : cost.work ≡ r.hold + 1
+  pub tail : cost.tail ≡ tail r
 
 -- those of a block, in order
 pub record AreCosts (b : Problem) (costs : List Cost) : Type 0 where
