@@ -20,6 +20,7 @@ use std::thread::Threads;
 /// An answer to a block under a profile, and the number of the block, from 1.
 #[derive(Drop)]
 pub(crate) struct BlockAnswer<'s, 'b> {
+    pub alloc: Global,
     pub number: usize,
     pub block: &'s Block<'b>,
     pub profile: &'s Profile,
@@ -79,6 +80,7 @@ fn keep_found<X: Drop, K: Keep<X>>(
 {
     let best = found.is_best();
     let answer = BlockAnswer {
+        alloc: searches.alloc,
         number: searches.before + place + 1,
         block,
         profile: searches.profile,

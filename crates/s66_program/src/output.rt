@@ -1,5 +1,4 @@
 ghost use Rattle.std.specs.Prelude.{◌≡◌, true, IfOk, IfErr, IfSome};
-ghost use Rattle.s66_output.specs.ProveText.{IsProveOutput};
 ghost use Rattle.s66_program.specs.Output.{IsOutput, IsLinesOutput, IsSearchWithin, IsWaitsOutput, IsWithinLimits, columns_by, is_cut, reads_source};
 ghost use Rattle.s66_program.specs.Remarks.{IsRemark};
 ghost use Rattle.s66_program.specs.Run.{IsRefusal};
@@ -65,10 +64,7 @@ fn waits_output<R: AllocGlobal + Threads + Wait + Sync, O: Observer>(
     match order {
         None => listing_output(rt.alloc(), profile, &Listing::Why { text }, only, source),
         Some(strategy) => {
-            let waits = Waits {
-                alloc: rt.alloc(),
-                text,
-            };
+            let waits = Waits { text };
             text_of_answers(rt, &waits, source, only, profile, strategy, observer)
         }
     }
@@ -93,24 +89,6 @@ fn lines_output<R: AllocGlobal + Threads + Wait + Sync, O: Observer>(
             text_of_answers(rt, &JsonLines, source, only, profile, strategy, observer)
         }
     }
-}
-
-/// A document for each block of a source, or for the only one that is printed, of the answer that a search finds under a profile.
-fn documents_output<R: AllocGlobal + Threads + Wait + Sync, O: Observer>(
-    rt: &R,
-    source: &Source,
-    only: Option<u32>,
-    profile: &Profile,
-    strategy: Strategy,
-    observer: &mut O,
-) -> Result<Output, AllocError>
-    requires { IsSearchWithin strategy.search.workers strategy.search.nodes }
-    ensures { IfOk result (λ output. IsProveOutput strategy profile.now only source.now output.text.items
-        output.status) }
-{
-    let documents = Documents { alloc: rt.alloc() };
-    let output = text_of_answers(rt, &documents, source, only, profile, strategy, observer)?;
-    Ok(output)
 }
 
 /// What a command that reads a source writes for one under a profile. `Err` is out of memory.
@@ -174,7 +152,7 @@ fn output_of<R: AllocGlobal + Threads + Wait + Sync, O: Observer>(
             strategy,
             block,
             ..
-        } => documents_output(rt, source, block, profile, strategy, observer),
+        } => text_of_answers(rt, &Documents, source, block, profile, strategy, observer),
         Command::Sum {
             strategy,
             trace,

@@ -28,8 +28,7 @@ pub fn page_output<R: AllocGlobal + Threads + Wait + Sync, O: Observer>(
     ensures { IfOk result (λ output. IsPageOutput strategy profile.now only source.now output.text.items
         output.status) }
 {
-    let views = Views { alloc: rt.alloc() };
-    let all = keep_answers(rt, &views, source, only, profile, strategy, observer)?;
+    let all = keep_answers(rt, &Views, source, only, profile, strategy, observer)?;
     let blocks = shown(source.blocks(), only);
     let mut timer = Timer::new(profile);
     let mut text = Vec::new(rt.alloc());

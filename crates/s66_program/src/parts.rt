@@ -19,7 +19,7 @@ use s66_page::FoundOrder;
 use s66_reasons::push_reasons;
 use s66_source::Placed;
 use s66_time::Timer;
-use std::alloc::{AllocError, Global};
+use std::alloc::AllocError;
 
 /// How an answer's block is to be printed.
 fn placing(answer: &Found, trace: bool) -> Placed
@@ -52,17 +52,14 @@ fn given(answer: &Found, trace: bool, keep: bool) -> Option<Placed>
 }
 
 /// Appends the sentences that say why no order of a block is faster, if that of an answer is best; else nothing.
-fn push_best_reasons(
-    alloc: Global,
-    out: &mut Vec<u8>,
-    answer: BlockAnswer,
-) -> Result<(), AllocError>
+fn push_best_reasons(out: &mut Vec<u8>, answer: BlockAnswer) -> Result<(), AllocError>
     requires { IsFor answer.strategy answer.profile.now answer.block.now answer.found }
     ensures { OnOk result (out.new.items ≡ out.old.items ++
         best_reasons answer.entry.strategy.search.rule answer.entry.profile.now answer.entry.block.now
         (answer_in answer.entry.found)) }
 {
     let BlockAnswer {
+        alloc,
         block,
         profile,
         strategy,
@@ -111,9 +108,7 @@ impl Keep<Option<Placed>> for Givings {
 
 /// What a page shows of blocks beside their source orders.
 #[derive(Drop)]
-pub(crate) struct Views {
-    pub alloc: Global,
-}
+pub(crate) struct Views;
 
 impl Keep<FoundOrder> for Views {
     ghost part = { λ _. found_part };
@@ -125,8 +120,8 @@ impl Keep<FoundOrder> for Views {
     fn keep(&self, parts: &mut Vec<FoundOrder>, answer: BlockAnswer) -> Result<(), AllocError> {
         let order = answer.found.order().duplicate();
         let bound = answer.found.bound();
-        let mut reasons = Vec::new(self.alloc);
-        push_best_reasons(self.alloc, &mut reasons, answer)?;
+        let mut reasons = Vec::new(answer.alloc);
+        push_best_reasons(&mut reasons, answer)?;
         parts.push(FoundOrder {
             order,
             bound,
@@ -162,7 +157,6 @@ impl Keep<u8> for JsonLines {
 /// What the instructions of blocks wait for in the orders of answers, and why no order is faster than a best one.
 #[derive(Drop)]
 pub(crate) struct Waits {
-    pub alloc: Global,
     pub text: bool,
 }
 
@@ -177,16 +171,14 @@ impl Keep<u8> for Waits {
         let mut timer = Timer::new(answer.profile);
         let timed = timer.time(answer.block, answer.found.order());
         push_waits(parts, self.text, answer.number, answer.block, &timed)?;
-        push_best_reasons(self.alloc, parts, answer)?;
+        push_best_reasons(parts, answer)?;
         Ok(())
     }
 }
 
 /// The texts of documents.
 #[derive(Drop)]
-pub(crate) struct Documents {
-    pub alloc: Global,
-}
+pub(crate) struct Documents;
 
 impl Keep<u8> for Documents {
     ghost part = { λ documents. document_part };
@@ -197,14 +189,15 @@ impl Keep<u8> for Documents {
 
     fn keep(&self, parts: &mut Vec<u8>, answer: BlockAnswer) -> Result<(), AllocError> {
         let BlockAnswer {
+            alloc,
             block,
             profile,
             strategy,
             found,
             ..
         } = answer;
-        let document = found.into_document(self.alloc, block, profile, strategy)?;
-        push_document(self.alloc, parts, &document)?;
+        let document = found.into_document(alloc, block, profile, strategy)?;
+        push_document(alloc, parts, &document)?;
         Ok(())
     }
 }

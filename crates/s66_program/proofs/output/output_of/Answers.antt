@@ -1,10 +1,15 @@
-use Rattle.std.proofs.Common.{◌≡◌, ◌∙◌, Bool, IfOk, ap, subst, sym}
+use Rattle.std.proofs.Common.{◌≡◌, ◌∙◌, Bool, IfOk, ap, refl, subst, sym}
+use Rattle.std.proofs.lemmas.Result.{IfOk-weaker}
+use Rattle.s66_cert.specs.Document.{documents_text}
 use Rattle.s66_command.specs.declared.command.Command.{Command}
 use Rattle.s66_output.specs.declared.outcome.Output.{Output}
 use Rattle.s66_source.specs.LeftAlone.{Reading}
 use Rattle.s66_output.specs.PageText.{IsPageOutput}
+use Rattle.s66_output.specs.ProveText.{IsProveOutput, all_documents}
 use Rattle.s66_output.specs.SumText.{IsSumOutput}
+use Rattle.s66_program.specs.Kept.{document_part}
 use Rattle.s66_program.specs.Output.{IsOutput, is_cut}
+use Rattle.s66_program.proofs.KeptParts.{kept-whole}
 use Rattle.s66_program.proofs.output.output_of.Goals as goal
 
 -- a source by its parts
@@ -28,3 +33,17 @@ returns-in-Sum g c =
     let same : source ≡ record { cut = sum.cut; text = source.text } = by-parts source sum.cut (c.requires.cut ∙ ap is_cut sum.is) in
     let wrote = subst (λ (s : Reading). IfOk c.sum_output.result (λ (output : Output). IsSumOutput sum.strategy p sum.trace sum.words sum.block s output.text.items output.status)) same c.sum_output.ensures in
     subst (λ (command : Command). IfOk c.sum_output.result (λ (output : Output). IsOutput p command source.text output.text.items output.status)) (sym sum.is) wrote
+
+pub returns-in-Prove : goal.returns-in-Prove
+returns-in-Prove g c =
+    let p = c.args.profile.now in
+    let source = c.args.source.now in
+    let prove = c.in-Prove in
+    let strategy = prove.strategy in
+    let same : source ≡ record { cut = prove.cut; text = source.text } = by-parts source prove.cut (c.requires.cut ∙ ap is_cut prove.is) in
+    let kept : IfOk c.text_of_answers.result (λ (output : Output). IsProveOutput strategy p prove.block source output.text.items output.status) =
+    IfOk-weaker c.text_of_answers.result _ _
+    (λ (output : Output). kept-whole (document_part strategy p) strategy p (λ n blocks answers. documents_text (all_documents strategy.search.rule p blocks answers)) (λ n. refl) (λ n b bs a more. refl) prove.block source output.text.items output.status)
+    c.text_of_answers.ensures in
+    let wrote = subst (λ (s : Reading). IfOk c.text_of_answers.result (λ (output : Output). IsProveOutput strategy p prove.block s output.text.items output.status)) same kept in
+    subst (λ (command : Command). IfOk c.text_of_answers.result (λ (output : Output). IsOutput p command source.text output.text.items output.status)) (sym prove.is) wrote
