@@ -96,8 +96,8 @@ pub fn costs_of(block: &Block<'_>, profile: &Profile) -> ArrayVec<Cost, BLOCK_LI
 
 /// The greatest latency of the results that are among these registers.
 fn greatest_shared(writes: &[Write], used: &Registers) -> u32
-    ensures { result ≡ greatest (λ (w : WriteOf). if has_reg w.reg (registers_in used.now) then w.latency else 0)
-        writes.now }
+    ensures { result ≡
+        greatest (λ (w : WriteOf). if has_reg w.reg (registers_in used.now) then w.latency else 0) writes.now }
 {
     let mut last = 0u32;
     for write in writes {

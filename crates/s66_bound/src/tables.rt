@@ -160,8 +160,8 @@ fn users_by_rank(costs: &[Cost], ranking: &Ranking) -> [Set; REGISTER_COUNT]
 
 /// Whether some instruction writes the register.
 fn is_written(costs: &[Cost], register: Reg) -> bool
-    ensures { result ≡ some_of (λ (e : CostOf). some_of (λ (w : WriteOf). same_reg w.reg register) e.writes.items)
-        costs.now }
+    ensures { result ≡
+        some_of (λ (e : CostOf). some_of (λ (w : WriteOf). same_reg w.reg register) e.writes.items) costs.now }
 {
     for cost in costs {
         if writes_register(cost.writes.as_slice(), register) {

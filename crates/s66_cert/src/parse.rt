@@ -153,8 +153,8 @@ fn split_line<'a>(
     rest: Option<&[u8]>,
     room: &'a mut ArrayVec<u8, BLOCK_LIMIT>,
 ) -> Option<LineOf<'a>>
-    ensures { option_map said result ≡ option_map (λ ns. OfTree (AtSplit ns))
-        (block_numbers BLOCK_LIMIT (option_map (λ r. r.now) rest.entry)) }
+    ensures { option_map said result ≡
+        option_map (λ ns. OfTree (AtSplit ns)) (block_numbers BLOCK_LIMIT (option_map (λ r. r.now) rest.entry)) }
 {
     Some(LineOf::OfTree(TreeLine::Split(block_numbers(rest, room)?)))
 }
@@ -180,8 +180,8 @@ fn dominated_line<'a>(
 }
 
 fn next_line(rest: Option<&[u8]>) -> Option<LineOf<'_>>
-    ensures { option_map said result ≡ option_map (λ n. OfTree (AtTerminal (Next n)))
-        (one_number 1 BLOCK_LIMIT (option_map (λ r. r.now) rest.entry)) }
+    ensures { option_map said result ≡
+        option_map (λ n. OfTree (AtTerminal (Next n))) (one_number 1 BLOCK_LIMIT (option_map (λ r. r.now) rest.entry)) }
 {
     let number = number(rest, 1, BLOCK_LIMIT as u32)?;
     Some(LineOf::OfTree(TreeLine::Next(number as u8)))
@@ -217,8 +217,8 @@ fn load_from_line<'a>(
 }
 
 fn pair_line(rest: Option<&[u8]>) -> Option<LineOf<'_>>
-    ensures { option_map said result ≡ pair_with (λ n m. OfFact (fact.Pair n m))
-        (two_numbers BLOCK_LIMIT (option_map (λ r. r.now) rest.entry)) }
+    ensures { option_map said result ≡
+        pair_with (λ n m. OfFact (fact.Pair n m)) (two_numbers BLOCK_LIMIT (option_map (λ r. r.now) rest.entry)) }
 {
     match two_numbers(rest)?.as_slice() {
         [first, second] => Some(LineOf::OfFact(FactLine::Pair(*first, *second))),
@@ -299,8 +299,8 @@ fn order_line<'a>(
     rest: Option<&[u8]>,
     room: &'a mut ArrayVec<u8, BLOCK_LIMIT>,
 ) -> Option<LineOf<'a>>
-    ensures { option_map said result ≡ option_map line.Order
-        (block_numbers BLOCK_LIMIT (option_map (λ r. r.now) rest.entry)) }
+    ensures { option_map said result ≡
+        option_map line.Order (block_numbers BLOCK_LIMIT (option_map (λ r. r.now) rest.entry)) }
 {
     Some(LineOf::Order(block_numbers(rest, room)?))
 }
@@ -312,29 +312,29 @@ fn profile_line(rest: Option<&[u8]>) -> Option<LineOf<'_>>
 }
 
 fn load_line(rest: Option<&[u8]>) -> Option<LineOf<'_>>
-    ensures { option_map said result ≡ option_map (λ kind. OfTree (AtTerminal (Bounding (Load kind))))
-        (kind_in (option_map (λ r. r.now) rest.entry)) }
+    ensures { option_map said result ≡
+        option_map (λ kind. OfTree (AtTerminal (Bounding (Load kind)))) (kind_in (option_map (λ r. r.now) rest.entry)) }
 {
     Some(LineOf::OfTree(TreeLine::Load(kind_in(rest)?)))
 }
 
 fn block_line(rest: Option<&[u8]>) -> Option<LineOf<'_>>
-    ensures { option_map said result ≡ option_map line.Block
-        (one_number 1 BLOCK_LIMIT (option_map (λ r. r.now) rest.entry)) }
+    ensures { option_map said result ≡
+        option_map line.Block (one_number 1 BLOCK_LIMIT (option_map (λ r. r.now) rest.entry)) }
 {
     Some(LineOf::Block(number(rest, 1, BLOCK_LIMIT as u32)?))
 }
 
 fn time_line(rest: Option<&[u8]>) -> Option<LineOf<'_>>
-    ensures { option_map said result ≡ option_map line.Time
-        (one_number 0 TIME_LIMIT (option_map (λ r. r.now) rest.entry)) }
+    ensures { option_map said result ≡
+        option_map line.Time (one_number 0 TIME_LIMIT (option_map (λ r. r.now) rest.entry)) }
 {
     Some(LineOf::Time(number(rest, 0, TIME_LIMIT)?))
 }
 
 fn bound_line(rest: Option<&[u8]>) -> Option<LineOf<'_>>
-    ensures { option_map said result ≡ option_map line.Bound
-        (one_number 0 TIME_LIMIT (option_map (λ r. r.now) rest.entry)) }
+    ensures { option_map said result ≡
+        option_map line.Bound (one_number 0 TIME_LIMIT (option_map (λ r. r.now) rest.entry)) }
 {
     Some(LineOf::Bound(number(rest, 0, TIME_LIMIT)?))
 }

@@ -123,8 +123,8 @@ impl Reader {
     /// The next line was read, and another comes.
     fn go_on(&mut self, place: DocumentPlace, left: u64, splits: u32)
         requires { self.old.lines < 2 ^ 64 - 1 }
-        ensures { state self.new ≡ record (state
-            self.old) { count = suc self.old.lines; place = place; left = left; splits = splits } }
+        ensures { state self.new ≡
+            record (state self.old) { count = suc self.old.lines; place = place; left = left; splits = splits } }
     {
         self.lines += 1;
         self.place = place;

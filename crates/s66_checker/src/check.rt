@@ -44,8 +44,8 @@ pub fn instructions_of(texts: &[InstructionText]) -> ArrayVec<Instr, BLOCK_LIMIT
 
 /// Goes through an order. Returns what it takes, in minor cycles; None if it isn't legal.
 fn legal_total(prefix: &mut Prefix, order: &[u8]) -> Option<u32>
-    ensures value { result ≡ (if is_legal_order prefix.old.problem.block order.now then Some
-        (total_of prefix.old.problem order.now) else None) }
+    ensures value { result ≡ (if is_legal_order prefix.old.problem.block order.now then
+        Some (total_of prefix.old.problem order.now) else None) }
     ensures problem { prefix.new.problem ≡ prefix.old.problem }
 {
     if !prefix.go_to(order) {

@@ -65,8 +65,8 @@ fn is_complete(prefix: &Prefix) -> bool
 
 /// The fault of a split: its children are exactly the ready numbers, rising.
 fn split_fault(prefix: &Prefix, children: &[u8]) -> Option<Reason>
-    ensures { result ≡ if bytes_eq children.now
-        (ready prefix.now.problem.block prefix.now.numbers) then None else Some fault.Children }
+    ensures { result ≡ if bytes_eq children.now (ready prefix.now.problem.block prefix.now.numbers) then
+        None else Some fault.Children }
 {
     if children == ready(prefix).as_slice() {
         None

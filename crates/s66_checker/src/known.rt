@@ -150,10 +150,10 @@ impl Known {
     /// The longest paths from the moments of an instruction to the end.
     pub(crate) fn tails(&self, n: u8) -> Times
         requires { (1 ≤ n) × (n ≤ length self.now.problem.block) }
-        ensures issue { result.issue ≡ Some (tail self.now.problem (arcs_of self.now.problem (known_in self.now))
-            (At n Issue)) }
-        ensures start { result.start ≡ Some (tail self.now.problem (arcs_of self.now.problem (known_in self.now))
-            (At n Start)) }
+        ensures issue { result.issue ≡
+            Some (tail self.now.problem (arcs_of self.now.problem (known_in self.now)) (At n Issue)) }
+        ensures start { result.start ≡
+            Some (tail self.now.problem (arcs_of self.now.problem (known_in self.now)) (At n Start)) }
     {
         times_at(&self.tails, n)
     }

@@ -34,7 +34,8 @@ pub fn dominating_law()
         (dominates_by WrittenEarlier b name at ≡ true) ↔ Dominates b name at }
     ensures clamped { (b : Problem) (name at : List ℕ) → HaveDigits b.block →
         (dominates_by ClampedStanding b name at ≡ true) ↔ DominatesClamped b name at }
-    ensures in_use { (b : Problem) (bound : ℕ) (lines : List FactLine) (name at : List ℕ) → are_taken b bound (known_first b) lines ≡ true →
+    ensures in_use { (b : Problem) (bound : ℕ) (lines : List FactLine) (name at : List ℕ) →
+        are_taken b bound (known_first b) lines ≡ true →
         dominates_in_use b bound (known_after (known_first b) lines) name at ≡ true →
         DominatesInUse b bound (facts_after [] (map (line_of b) lines)) name at }
     ensures clamped_in_use { (b : Problem) (bound : ℕ) (known : Known) (name at : List ℕ) → DominatesClamped b name at →

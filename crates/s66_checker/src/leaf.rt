@@ -29,8 +29,8 @@ pub fn ready(prefix: &Prefix) -> Numbers
 
 /// The parcels of all that remains.
 pub fn remaining_parcels(prefix: &Prefix) -> u32
-    ensures value { result ≡ sum_remaining prefix.now.problem.block prefix.now.numbers
-        (λ m. (row_at prefix.now.problem m).parcels) }
+    ensures value { result ≡
+        sum_remaining prefix.now.problem.block prefix.now.numbers (λ m. (row_at prefix.now.problem m).parcels) }
     ensures at_most { result ≤ 2 * BLOCK_LIMIT }
 {
     let mut parcels = 0;
@@ -79,8 +79,8 @@ pub fn parcels(prefix: &Prefix) -> u32
 
 /// The work that remains for a kind of unit.
 pub fn remaining_work(prefix: &Prefix, kind: Kind) -> u32
-    ensures value { result ≡ sum_remaining prefix.now.problem.block prefix.now.numbers
-        (λ m. work_of kind (row_at prefix.now.problem m)) }
+    ensures value { result ≡
+        sum_remaining prefix.now.problem.block prefix.now.numbers (λ m. work_of kind (row_at prefix.now.problem m)) }
     ensures at_most { result ≤ TOTAL_LIMIT }
 {
     let mut sum = 0;
@@ -127,8 +127,8 @@ fn head(prefix: &Prefix, n: u8) -> u32
 /// How long m waits from the start of n, which remains; 0 if m doesn't remain, or they have no link.
 fn wait(prefix: &Prefix, n: u8, m: u8) -> u32
     requires { is_remaining prefix.now.problem.block prefix.now.numbers n ≡ true }
-    ensures links { nat_lt 0 result ≡ (is_remaining prefix.now.problem.block prefix.now.numbers m &&
-        is_linked prefix.now.problem n m) }
+    ensures links { nat_lt 0 result ≡
+        (is_remaining prefix.now.problem.block prefix.now.numbers m && is_linked prefix.now.problem n m) }
     ensures value { 0 < result → result ≡ link (row_at prefix.now.problem n) (row_at prefix.now.problem m) }
 {
     if !prefix.is_remaining(m) || m <= n {

@@ -128,8 +128,8 @@ fn are_left(
 ) -> bool
     requires same { prefix.now.problem ≡ known.now.problem }
     requires remain { every (is_remaining prefix.now.problem.block prefix.now.numbers) numbers.now ≡ true }
-    ensures { result ≡ every (is_left prefix.now.problem (known_in known.now) prefix.now.numbers kind bound after time)
-        numbers.now }
+    ensures { result ≡
+        every (is_left prefix.now.problem (known_in known.now) prefix.now.numbers kind bound after time) numbers.now }
 {
     for n in numbers {
         if !is_left(prefix, known, kind, bound, after, time, *n) {

@@ -88,8 +88,8 @@ fn node_on<'a>(
 pub fn is_name_at(prefix: &Prefix, named: &mut Prefix, document: &Document, line: u32) -> bool
     requires problem { prefix.now.problem ≡ problem_of (document_of document.now) }
     requires same { named.old.problem ≡ prefix.now.problem }
-    ensures value { result ≡ is_name_at (document_of document.now) prefix.now.numbers
-        (node_on (document_of document.now) line) }
+    ensures value { result ≡
+        is_name_at (document_of document.now) prefix.now.numbers (node_on (document_of document.now) line) }
     ensures there { IsTrue result → named.new.numbers ≡ name_of (node_on (document_of document.now) line) }
     ensures same { named.new.problem ≡ named.old.problem }
 {

@@ -36,8 +36,8 @@ pub fn compare(
     old: &Source,
     new: &Source,
 ) -> Result<Compared, AllocError>
-    ensures { IfOk result (λ compared. IsCompared profile.now old.now new.now compared.text.items
-        compared.is_accepted) }
+    ensures { IfOk result (λ compared.
+        IsCompared profile.now old.now new.now compared.text.items compared.is_accepted) }
 {
     let rows = rows_of(alloc, profile, old.blocks(), new.blocks())?;
     let difference = difference_of(alloc, old, new)?;

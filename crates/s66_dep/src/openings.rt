@@ -50,8 +50,8 @@ fn direct_needs(dependences: &Dependences, n: u8) -> Set
 /// The numbers that depend on n directly. Of each number, `direct` has those on which it does.
 fn opened_by(direct: &[Set], n: u8) -> Set
     requires { length direct.now ≤ BLOCK_LIMIT }
-    ensures { numbers_in result ≡ filter (λ m. has n (numbers_in (get_or direct.now (m - 1) no_set)))
-        (rising (length direct.now) 1) }
+    ensures { numbers_in result ≡
+        filter (λ m. has n (numbers_in (get_or direct.now (m - 1) no_set))) (rising (length direct.now) 1) }
 {
     let mut opened = Set::empty();
     for position in 0..direct.len() {

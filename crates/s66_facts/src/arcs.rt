@@ -103,8 +103,8 @@ fn latest_along(
 ) -> Option<u64>
     requires falling { IsFalling arcs.now before.now }
     requires fits { last ≤ length arcs.now }
-    ensures { result ≡ along (by_arc direction (time_along direction times.now first) to.now) arcs.now before.now last
-        last }
+    ensures { result ≡
+        along (by_arc direction (time_along direction times.now first) to.now) arcs.now before.now last last }
 {
     let mut latest = None;
     let mut place = last;

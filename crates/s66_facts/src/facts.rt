@@ -82,18 +82,16 @@ impl Facts {
     /// The longest paths from the moments of all instructions to the end, by what is known; those of number n are at n - 1. They are
     /// kept.
     pub fn tails(&self) -> [Times; BLOCK_LIMIT]
-        ensures { (n : ℕ) → IsNumber self.now.problem n →
-            AreTimes self.now.problem (λ m. span self.now.problem
-            (arcs_of self.now.problem (known_of self.now)) m End) n (times_at result n) }
+        ensures { (n : ℕ) → IsNumber self.now.problem n → AreTimes self.now.problem (λ m.
+            span self.now.problem (arcs_of self.now.problem (known_of self.now)) m End) n (times_at result n) }
     {
         self.tails
     }
 
     /// The longest paths from the origin to them.
     pub fn heads(&self) -> [Times; BLOCK_LIMIT]
-        ensures { (n : ℕ) → IsNumber self.now.problem n →
-            AreTimes self.now.problem (λ m. span self.now.problem
-            (arcs_of self.now.problem (known_of self.now)) Origin m) n (times_at result n) }
+        ensures { (n : ℕ) → IsNumber self.now.problem n → AreTimes self.now.problem (λ m.
+            span self.now.problem (arcs_of self.now.problem (known_of self.now)) Origin m) n (times_at result n) }
     {
         self.heads
     }
@@ -101,8 +99,8 @@ impl Facts {
     /// The longest paths from the moments of a number to the end.
     pub fn tail(&self, n: u8) -> Times
         requires { IsNumber self.now.problem n }
-        ensures { AreTimes self.now.problem (λ m. span self.now.problem
-            (arcs_of self.now.problem (known_of self.now)) m End) n result }
+        ensures { AreTimes self.now.problem (λ m.
+            span self.now.problem (arcs_of self.now.problem (known_of self.now)) m End) n result }
     {
         times_at(&self.tails, n)
     }
@@ -110,8 +108,8 @@ impl Facts {
     /// The longest paths from the origin to them.
     pub fn head(&self, n: u8) -> Times
         requires { IsNumber self.now.problem n }
-        ensures { AreTimes self.now.problem (λ m. span self.now.problem
-            (arcs_of self.now.problem (known_of self.now)) Origin m) n result }
+        ensures { AreTimes self.now.problem (λ m.
+            span self.now.problem (arcs_of self.now.problem (known_of self.now)) Origin m) n result }
     {
         times_at(&self.heads, n)
     }
@@ -121,9 +119,8 @@ impl Facts {
     /// what is written before them, and linear in the loads that say something new.
     pub fn tails_to(&self, to: &Moment) -> [Times; BLOCK_LIMIT]
         requires { is_back to.now ≡ true }
-        ensures { (n : ℕ) → IsNumber self.now.problem n →
-            AreTimes self.now.problem (λ m. span self.now.problem
-            (arcs_of self.now.problem (known_of self.now)) m to.now) n (times_at result n) }
+        ensures { (n : ℕ) → IsNumber self.now.problem n → AreTimes self.now.problem (λ m.
+            span self.now.problem (arcs_of self.now.problem (known_of self.now)) m to.now) n (times_at result n) }
     {
         // as in `new`
         let _count = self.graph.count();
@@ -139,9 +136,8 @@ impl Facts {
     /// The longest paths from the origin or from an issue or a start to them, in the same time.
     pub fn heads_from(&self, from: &Moment) -> [Times; BLOCK_LIMIT]
         requires { is_front from.now ≡ true }
-        ensures { (n : ℕ) → IsNumber self.now.problem n →
-            AreTimes self.now.problem (λ m. span self.now.problem
-            (arcs_of self.now.problem (known_of self.now)) from.now m) n (times_at result n) }
+        ensures { (n : ℕ) → IsNumber self.now.problem n → AreTimes self.now.problem (λ m.
+            span self.now.problem (arcs_of self.now.problem (known_of self.now)) from.now m) n (times_at result n) }
     {
         // as in `new`
         let _count = self.graph.count();
@@ -220,8 +216,8 @@ impl Facts {
     pub fn take_pair(&mut self, bound: u32, m: u8, n: u8) -> bool
         ensures taken { result ≡ is_taken self.old.problem bound (known_of self.old) (Pair m n) }
         ensures problem { self.new.problem ≡ self.old.problem }
-        ensures known { known_of self.new ≡ (if result then with_line (known_of self.old)
-            (Pair m n) else known_of self.old) }
+        ensures known { known_of self.new ≡
+            (if result then with_line (known_of self.old) (Pair m n) else known_of self.old) }
     {
         if !self.is_forced(bound, m, n) {
             return false;
@@ -306,8 +302,8 @@ impl Facts {
         requires room { length self.old.loads < FACT_LIMIT }
         ensures taken { result ≡ is_load_taken self.old.problem (known_of self.old) line.now }
         ensures problem { self.new.problem ≡ self.old.problem }
-        ensures known { known_of self.new ≡ (if result then with_line (known_of self.old)
-            (Load line.now) else known_of self.old) }
+        ensures known { known_of self.new ≡
+            (if result then with_line (known_of self.old) (Load line.now) else known_of self.old) }
     {
         if !self.is_load_taken(line) {
             return false;
@@ -357,8 +353,8 @@ impl Facts {
         requires room { length self.old.loads < FACT_LIMIT }
         ensures taken { result ≡ is_load_taken self.old.problem (known_of self.old) line.now }
         ensures problem { self.new.problem ≡ self.old.problem }
-        ensures known { known_of self.new ≡ (if result then with_line (known_of self.old)
-            (Load line.now) else known_of self.old) }
+        ensures known { known_of self.new ≡
+            (if result then with_line (known_of self.old) (Load line.now) else known_of self.old) }
     {
         self.keep(line);
         self.take(line)

@@ -187,8 +187,8 @@ fn is_used_from(
 ) -> bool
     requires amount { amount ≤ 2 ^ 32 }
     requires time { time ≤ 2 ^ 40 }
-    ensures { result ≡ (reaches line.now.after head &&
-        reaches (amount + line.now.wait) (plus (Some (line.now.after + time)) tail)) }
+    ensures { result ≡
+        (reaches line.now.after head && reaches (amount + line.now.wait) (plus (Some (line.now.after + time)) tail)) }
 {
     reaches(line.after as u64, head)
         && reaches_after(amount + line.wait as u64, line.after as u64 + time, tail)

@@ -39,8 +39,8 @@ fn push_order_numbers(
 fn push_points(out: &mut Vec<u8>, points: &[PlacedInstr]) -> Result<Lost, AllocError>
     requires { length points.now ≤ BLOCK_LIMIT }
     ensures text { OnOk result (out.new.items ≡ out.old.items ++ points_text (reverse points.now)) }
-    ensures sums { (conflict : ConflictOf) → IfOk result
-        (λ sums. sum_of sums conflict ≡ lost conflict (stretches (reverse points.now))) }
+    ensures sums { (conflict : ConflictOf) →
+        IfOk result (λ sums. sum_of sums conflict ≡ lost conflict (stretches (reverse points.now))) }
 {
     let mut sums = Lost::none();
     for position in 0..points.len() {

@@ -446,8 +446,8 @@ impl<'a> Ledger<'a> {
         ensures rule { IfOk result (λ a. a.rule ≡ self.entry.rule) }
         ensures problem { IfOk result (λ a. a.problem ≡ self.entry.problem) }
         ensures budget { IfOk result (λ a. a.budget ≡ self.entry.budget) }
-        ensures finished { IfOk result (λ a. IsFinished self.entry.rule self.entry.problem self.entry.budget
-            self.entry.state (answer_of a)) }
+        ensures finished { IfOk result (λ a.
+            IsFinished self.entry.rule self.entry.problem self.entry.budget self.entry.state (answer_of a)) }
     {
         let mut walk = Walk::new(self.block(), self.profile());
         self.offer_schedules(&mut walk)?;
@@ -470,8 +470,8 @@ impl<'a> Ledger<'a> {
         ensures rule { IfOk result (λ a. a.rule ≡ self.entry.rule) }
         ensures problem { IfOk result (λ a. a.problem ≡ self.entry.problem) }
         ensures budget { IfOk result (λ a. a.budget ≡ self.entry.budget) }
-        ensures finished { IfOk result (λ a. IsFinished self.entry.rule self.entry.problem self.entry.budget
-            self.entry.state (answer_of a)) }
+        ensures finished { IfOk result (λ a.
+            IsFinished self.entry.rule self.entry.problem self.entry.budget self.entry.state (answer_of a)) }
     {
         // proof only: it leads to the ledger as it is
         let _history = self.history();

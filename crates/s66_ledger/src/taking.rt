@@ -76,8 +76,8 @@ impl Ledger<'_> {
         requires workers { 1 ≤ self.old.workers }
         requires legal { IsLegal self.old.problem.block numbers.now }
         ensures offers { IsOffering self.old self.new }
-        ensures at_most { OnOk result (best_time self.new.problem self.new.state ≤ total_of self.old.problem
-            numbers.now) }
+        ensures at_most { OnOk result (best_time self.new.problem self.new.state ≤
+            total_of self.old.problem numbers.now) }
     {
         let block = self.block();
         let Ok(order) = Order::new(block, numbers) else {

@@ -78,8 +78,8 @@ pub struct Classified<'a> {
 /// A body that is neither a comment nor a continuation, with its class.
 fn class_by_fields(line: &[u8]) -> Classified<'_>
     requires { length line.now ≤ LINE_BYTES_LIMIT }
-    ensures class { result.class ≡ by_operation (is_located line.now) (upper (operation line.now))
-        (upper (operand line.now)) }
+    ensures class { result.class ≡
+        by_operation (is_located line.now) (upper (operation line.now)) (upper (operand line.now)) }
     ensures label { result.label.now ≡ label_bytes line.now }
     ensures bytes { result.bytes.now ≡ from_operation line.now }
     ensures spelled { IsSpelled result.class result.bytes.now }

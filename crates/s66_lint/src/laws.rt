@@ -11,8 +11,8 @@ ghost use Rattle.s66_lint.specs.Switched.{switched, switched_lines, unnumbered};
 pub fn switched_law()
     ensures alone { (text : List ℕ) → flagged_lines (plain (switched text)) ≡
         switched_lines (flagged_lines (record { cut = true; text = text })) }
-    ensures taken { (text : List ℕ) → every (λ (line : Line). not (is_refused line.class))
-        (classed_lines (plain (switched text))) ≡ true }
+    ensures taken { (text : List ℕ) →
+        every (λ (line : Line). not (is_refused line.class)) (classed_lines (plain (switched text))) ≡ true }
     ensures blocks { (text : List ℕ) (blocks again : List Block) →
         source_of (record { cut = true; text = text }) ≡ Ok blocks → source_of (plain (switched text)) ≡ Ok again →
         map unnumbered again ≡ map unnumbered blocks }

@@ -31,8 +31,8 @@ pub fn expansion_examples()
     ensures nothing_else_at_17 { (tree : Tree Terminal) → IsExpansion NoneNamed multiply_problem 17 17 1 [] tree →
         tree ≡ Alone (Carries (Load Multiply)) }
     ensures whole_order { IsExpansion NoneNamed multiply_problem 22 22 0 (1 ∷ 2 ∷ 3 ∷ []) (Alone (Carries Whole)) }
-    ensures nothing_else_of_a_whole_order { (tree : Tree Terminal) → IsExpansion NoneNamed multiply_problem 22 22 0
-        (1 ∷ 2 ∷ 3 ∷ []) tree → tree ≡ Alone (Carries Whole) }
+    ensures nothing_else_of_a_whole_order { (tree : Tree Terminal) →
+        IsExpansion NoneNamed multiply_problem 22 22 0 (1 ∷ 2 ∷ 3 ∷ []) tree → tree ≡ Alone (Carries Whole) }
     ensures whole_order_below_the_best { IsExpansion NoneNamed load_problem 16 16 0 (1 ∷ 3 ∷ 2 ∷ [])
         (Alone (Carries Whole)) }
     ensures three_splits { IsExpansion NoneNamed load_problem 16 16 3 [] load_piece }

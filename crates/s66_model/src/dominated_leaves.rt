@@ -24,16 +24,16 @@ pub fn dominated_law()
 
 /// What trees with dominated leaves show, by which rule.
 pub fn dominated_examples()
-    ensures one_order_for_two { ByBoth (λ rule. ShowsBy rule (standard_problem late_reader)
-        33 [] (late_reader_tree (1 ∷ 2 ∷ 3 ∷ []) fourth_bounding)) }
+    ensures one_order_for_two { ByBoth (λ rule.
+        ShowsBy rule (standard_problem late_reader) 33 [] (late_reader_tree (1 ∷ 2 ∷ 3 ∷ []) fourth_bounding)) }
     ensures none_named { ¬ ShowsBy NoneNamed (standard_problem late_reader)
         0 [] (late_reader_tree (1 ∷ 2 ∷ 3 ∷ []) fourth_bounding) }
-    ensures no_more_than_the_least_leaf { (rule : Rule) → ¬ ShowsBy rule
-        (standard_problem late_reader) 34 [] (late_reader_tree (1 ∷ 2 ∷ 3 ∷ []) fourth_bounding) }
-    ensures another_set { (rule : Rule) → ¬ ShowsBy rule
-        (standard_problem late_reader) 0 [] (late_reader_tree (1 ∷ 2 ∷ 4 ∷ []) fourth_bounding) }
-    ensures not_dominated { (rule : Rule) → ¬ ShowsBy rule
-        (standard_problem late_reader) 0 [] (late_reader_tree (1 ∷ 2 ∷ 3 ∷ []) fourth_split) }
+    ensures no_more_than_the_least_leaf { (rule : Rule) →
+        ¬ ShowsBy rule (standard_problem late_reader) 34 [] (late_reader_tree (1 ∷ 2 ∷ 3 ∷ []) fourth_bounding) }
+    ensures another_set { (rule : Rule) →
+        ¬ ShowsBy rule (standard_problem late_reader) 0 [] (late_reader_tree (1 ∷ 2 ∷ 4 ∷ []) fourth_bounding) }
+    ensures not_dominated { (rule : Rule) →
+        ¬ ShowsBy rule (standard_problem late_reader) 0 [] (late_reader_tree (1 ∷ 2 ∷ 3 ∷ []) fourth_split) }
     ensures named_before { ByBoth (λ rule. ShowsBy rule (standard_problem three_increments)
         7 [] (increments_tree increments_load (Dominated (1 ∷ 2 ∷ [])))) }
     ensures named_after { ShowsBy ClampedStanding (standard_problem three_increments)
@@ -44,8 +44,8 @@ pub fn dominated_examples()
         (standard_problem three_increments) 0 [] (increments_tree (Dominated (2 ∷ 1 ∷ [])) (Dominated (1 ∷ 2 ∷ []))) }
     ensures by_itself { (rule : Rule) → ¬ ShowsBy rule
         (standard_problem three_increments) 0 [] (increments_tree (Dominated (1 ∷ 2 ∷ [])) increments_load) }
-    ensures no_such_node { (rule : Rule) → ¬ ShowsBy rule
-        (standard_problem three_increments) 0 [] (first_unsplit (Dominated (1 ∷ 2 ∷ []))) }
-    ensures whole_order { (rule : Rule) → ¬ ShowsBy rule
-        (standard_problem three_increments) 0 [] (order_ending (Dominated (1 ∷ 2 ∷ 3 ∷ []))) }
+    ensures no_such_node { (rule : Rule) →
+        ¬ ShowsBy rule (standard_problem three_increments) 0 [] (first_unsplit (Dominated (1 ∷ 2 ∷ []))) }
+    ensures whole_order { (rule : Rule) →
+        ¬ ShowsBy rule (standard_problem three_increments) 0 [] (order_ending (Dominated (1 ∷ 2 ∷ 3 ∷ []))) }
 {}

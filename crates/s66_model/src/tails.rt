@@ -20,9 +20,8 @@ pub fn tail_law()
         is_remaining b.block prefix n ≡ true → longest b prefix (length b.block) n ≡ longest_tail b n }
     ensures step { (b : Problem) (n : ℕ) → 1 ≤ n → n ≤ length b.block →
         longest_tail b n ≡ max (tail (row_at b n)) (greatest (walk_to b n) (numbers b.block)) }
-    ensures heads { (b : Problem) (prefix : List ℕ) → IsBeginning b.block prefix →
-        chain b prefix ≡ greatest (λ n. head (points_of b prefix) (row_at b n) + longest_tail b n)
-        (remaining b.block prefix) }
+    ensures heads { (b : Problem) (prefix : List ℕ) → IsBeginning b.block prefix → chain b prefix ≡
+        greatest (λ n. head (points_of b prefix) (row_at b n) + longest_tail b n) (remaining b.block prefix) }
     ensures registers { (b : Problem) (prefix : List ℕ) (xs : List Reg) → IsBeginning b.block prefix →
         IsIncomplete b.block prefix → HasLate b prefix xs →
         chain b prefix ≡ max (next (points_of b prefix) + tail_remaining b prefix) (greatest (chain_by b prefix) xs) }
@@ -52,8 +51,8 @@ pub fn floor_parts_law()
     ensures greatest { (b : Problem) (prefix : List ℕ) → IsBeginning b.block prefix → IsIncomplete b.block prefix →
         floor_value b prefix ≡ max (chain b prefix) (greatest (value b prefix) after_chain) }
     ensures parcels { (b : Problem) (prefix : List ℕ) → IsBeginning b.block prefix → IsIncomplete b.block prefix →
-        parcels b prefix ≡ (next (points_of b prefix) + sum_remaining b.block prefix
-        (λ n. (row_at b n).parcels)) + least (spare b) (remaining b.block prefix) }
+        parcels b prefix ≡ (next (points_of b prefix) + sum_remaining b.block prefix (λ n. (row_at b n).parcels)) +
+        least (spare b) (remaining b.block prefix) }
     ensures loads { (b : Problem) (prefix words : List ℕ) (kind : Kind) →
         HasWords b (λ n. work_of kind (row_at b n)) words →
         load b prefix kind ≡ over (weigh (λ n. get_or words (n - 1) 0) (remaining b.block prefix) + weigh

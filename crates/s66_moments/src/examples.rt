@@ -162,19 +162,19 @@ pub fn line_tree_examples()
 /// result only after its unit is free, or after the parcels of what stands before it, or sooner. A total that is greater has to be below
 /// the time.
 pub fn in_use_examples()
-    ensures read_after_the_unit { (low : ℕ) → DominatesInUse (standard_problem waits_for_the_unit) low [] (2 ∷ 1 ∷ [])
-        (1 ∷ 2 ∷ []) }
+    ensures read_after_the_unit { (low : ℕ) →
+        DominatesInUse (standard_problem waits_for_the_unit) low [] (2 ∷ 1 ∷ []) (1 ∷ 2 ∷ []) }
     ensures not_clamped { ¬ DominatesClamped (standard_problem waits_for_the_unit) (2 ∷ 1 ∷ []) (1 ∷ 2 ∷ []) }
     ensures it_takes_12 { total_of (standard_problem waits_for_the_unit) (2 ∷ 1 ∷ 3 ∷ []) ≡ 12 }
     ensures the_other_takes_12 { total_of (standard_problem waits_for_the_unit) (1 ∷ 2 ∷ 3 ∷ []) ≡ 12 }
-    ensures read_after_two_parcels { (low : ℕ) → DominatesInUse (standard_problem waits_for_two_parcels)
-        low [] (2 ∷ 1 ∷ []) (1 ∷ 2 ∷ []) }
+    ensures read_after_two_parcels { (low : ℕ) →
+        DominatesInUse (standard_problem waits_for_two_parcels) low [] (2 ∷ 1 ∷ []) (1 ∷ 2 ∷ []) }
     ensures after_two_parcels_it_takes_12 { total_of (standard_problem waits_for_two_parcels) (2 ∷ 1 ∷ 3 ∷ 4 ∷ []) ≡
         12 }
     ensures after_two_parcels_the_other_takes_12 { total_of (standard_problem waits_for_two_parcels)
         (1 ∷ 2 ∷ 3 ∷ 4 ∷ []) ≡ 12 }
-    ensures read_at_once { (low : ℕ) → 10 ≤ low → ¬ DominatesInUse (standard_problem waits_for_x1) low [] (2 ∷ 1 ∷ [])
-        (1 ∷ 2 ∷ []) }
+    ensures read_at_once { (low : ℕ) →
+        10 ≤ low → ¬ DominatesInUse (standard_problem waits_for_x1) low [] (2 ∷ 1 ∷ []) (1 ∷ 2 ∷ []) }
     ensures it_takes_11 { total_of (standard_problem waits_for_x1) (2 ∷ 1 ∷ 3 ∷ []) ≡ 11 }
     ensures the_other_takes_9 { total_of (standard_problem waits_for_x1) (1 ∷ 2 ∷ 3 ∷ []) ≡ 9 }
     ensures by_its_total { DominatesInUse (standard_problem product_and_booleans) 13 [] (1 ∷ 2 ∷ []) (2 ∷ 1 ∷ []) }

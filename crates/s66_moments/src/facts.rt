@@ -21,7 +21,8 @@ pub fn fact_law()
     ensures cut { (b : Problem) (low : ℕ) (known : List Fact) (fact other : Fact) →
         Follows b low known fact → Follows b low (fact ∷ known) other → Follows b low known other }
     ensures composed { (b : Problem) (low : ℕ) (known : List Fact) (e f g : Moment) (w v x y : ℕ) →
-        Follows b low known (Arc e w f v) → Follows b low known (Arc f x g y) → Follows b low known (Arc e (w + x) g (v + y)) }
+        Follows b low known (Arc e w f v) →
+        Follows b low known (Arc f x g y) → Follows b low known (Arc e (w + x) g (v + y)) }
     ensures shortened { (b : Problem) (low : ℕ) (known : List Fact) (e f : Moment) (w v x y : ℕ) →
         Follows b low known (Arc e w f v) → x + v ≤ w + y → Follows b low known (Arc e x f y) }
     ensures lower { (b : Problem) (low other : ℕ) (known : List Fact) (fact : Fact) →
@@ -41,12 +42,13 @@ pub fn pair_law()
         NoOrder b low known }
     ensures forced { (b : Problem) (low : ℕ) (known : List Fact) (m n : ℕ) → m ≢ n → IsNumber b m → IsNumber b n →
         NoOrder b low (Before n m ∷ known) → Follows b low known (Before m n) }
-    ensures forced_by_parcels { (b : Problem) (low : ℕ) (known : List Fact) (m n h t : ℕ) → m ≢ n → IsNumber b m → IsNumber b n →
+    ensures forced_by_parcels { (b : Problem) (low : ℕ) (known : List Fact) (m n h t : ℕ) →
+        m ≢ n → IsNumber b m → IsNumber b n →
         Follows b low known (Arc Origin h (At n Issue) 0) → Follows b low known (Arc (At m Issue) t End 0) →
         low ≤ h + (row_at b n).parcels + t → Follows b low known (Before m n) }
-    ensures forced_by_unit { (b : Problem) (low : ℕ) (known : List Fact) (m n h t : ℕ) → m ≢ n → IsNumber b m → IsNumber b n →
-        IsOnlyUnit b n m → Follows b low known (Arc Origin h (At n Free) 0) → Follows b low known (Arc (At m Issue) t End 0) →
-        low ≤ h + t → Follows b low known (Before m n) }
+    ensures forced_by_unit { (b : Problem) (low : ℕ) (known : List Fact) (m n h t : ℕ) →
+        m ≢ n → IsNumber b m → IsNumber b n → IsOnlyUnit b n m → Follows b low known (Arc Origin h (At n Free) 0) →
+        Follows b low known (Arc (At m Issue) t End 0) → low ≤ h + t → Follows b low known (Before m n) }
 {}
 
 /// What a prefix decides: when each moment of what is placed is, that all else comes no sooner than if it came next and stands
@@ -60,7 +62,8 @@ pub fn prefix_law()
         Follows b low known (Begins prefix) → is_remaining b.block prefix n ≡ true →
         Follows b low known (Arc Origin (soonest b prefix n stage) (At n stage) 0) }
     ensures later { (b : Problem) (low : ℕ) (known : List Fact) (prefix : List ℕ) (m n : ℕ) →
-        Follows b low known (Begins prefix) → IsPlacedFirst prefix m n → IsNumber b n → Follows b low known (Before m n) }
+        Follows b low known (Begins prefix) →
+        IsPlacedFirst prefix m n → IsNumber b n → Follows b low known (Before m n) }
     ensures total { (b : Problem) (low : ℕ) (known : List Fact) (prefix : List ℕ) →
         Follows b low known (Begins prefix) → Follows b low known (Arc Origin (total_of b prefix) End 0) }
 {}

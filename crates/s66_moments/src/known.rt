@@ -20,12 +20,12 @@ ghost use Rattle.s66_moments.specs.Known.{Known, line_of, later, latest, plus, s
 pub fn span_law()
     ensures path { (b : Problem) (arcs : Network) (e f : Moment) (w : ℕ) → span b arcs e f ≡ Some w →
         (hops : List Hop) × IsNetworkPath arcs e hops f × (waits hops ≡ w) }
-    ensures longest { (b : Problem) (arcs : Network) (e f : Moment) (hops : List Hop) → IsRising b arcs → IsNetworkPath arcs e hops f →
-        (w : ℕ) × (span b arcs e f ≡ Some w) × (waits hops ≤ w) }
-    ensures from_the_front { (b : Problem) (arcs : Network) (e f : Moment) → IsRising b arcs →
-        span b arcs e f ≡ later (only_if (same_moment e f) 0) (latest (λ m. plus (arcs e m) (span b arcs m f)) (targets b)) }
-    ensures from_the_back { (b : Problem) (arcs : Network) (e f : Moment) → IsRising b arcs →
-        span b arcs e f ≡ later (only_if (same_moment e f) 0) (latest (λ m. plus (span b arcs e m) (arcs m f)) (e ∷ targets b)) }
+    ensures longest { (b : Problem) (arcs : Network) (e f : Moment) (hops : List Hop) →
+        IsRising b arcs → IsNetworkPath arcs e hops f → (w : ℕ) × (span b arcs e f ≡ Some w) × (waits hops ≤ w) }
+    ensures from_the_front { (b : Problem) (arcs : Network) (e f : Moment) → IsRising b arcs → span b arcs e f ≡
+        later (only_if (same_moment e f) 0) (latest (λ m. plus (arcs e m) (span b arcs m f)) (targets b)) }
+    ensures from_the_back { (b : Problem) (arcs : Network) (e f : Moment) → IsRising b arcs → span b arcs e f ≡
+        later (only_if (same_moment e f) 0) (latest (λ m. plus (span b arcs e m) (arcs m f)) (e ∷ targets b)) }
 {}
 
 /// If each of these lines is taken, they are founded: so their facts follow, and all that is known after them does. The arcs of that
@@ -36,31 +36,33 @@ pub fn fact_lines_law()
         are_taken b bound (known_first b) lines ≡ true → AreFounded b bound [] (map (line_of b) lines) }
     ensures known { (b : Problem) (bound : ℕ) (lines : List FactLine) → are_taken b bound (known_first b) lines ≡ true →
         IsKnown b (facts_after [] (map (line_of b) lines)) (known_after (known_first b) lines).before }
-    ensures transitive { (b : Problem) (bound : ℕ) (lines : List FactLine) → are_taken b bound (known_first b) lines ≡ true →
-        IsTransitive b (known_after (known_first b) lines).before }
-    ensures no_ring { (b : Problem) (bound : ℕ) (lines : List FactLine) → are_taken b bound (known_first b) lines ≡ true →
-        HasNoRing b (known_after (known_first b) lines).before }
+    ensures transitive { (b : Problem) (bound : ℕ) (lines : List FactLine) →
+        are_taken b bound (known_first b) lines ≡ true → IsTransitive b (known_after (known_first b) lines).before }
+    ensures no_ring { (b : Problem) (bound : ℕ) (lines : List FactLine) →
+        are_taken b bound (known_first b) lines ≡ true → HasNoRing b (known_after (known_first b) lines).before }
     ensures steps { (b : Problem) (bound : ℕ) (lines : List FactLine) → are_taken b bound (known_first b) lines ≡ true →
         AreSteps b (facts_after [] (map (line_of b) lines)) (arcs_of b (known_after (known_first b) lines)) }
-    ensures rising { (b : Problem) (bound : ℕ) (lines : List FactLine) → are_taken b bound (known_first b) lines ≡ true →
-        IsRising b (arcs_of b (known_after (known_first b) lines)) }
+    ensures rising { (b : Problem) (bound : ℕ) (lines : List FactLine) →
+        are_taken b bound (known_first b) lines ≡ true → IsRising b (arcs_of b (known_after (known_first b) lines)) }
     ensures own { (b : Problem) (bound : ℕ) (lines : List FactLine) → are_taken b bound (known_first b) lines ≡ true →
         HasOwnArcs b (arcs_of b (known_after (known_first b) lines)) }
-    ensures tails { (b : Problem) (bound : ℕ) (lines : List FactLine) (e : Moment) → are_taken b bound (known_first b) lines ≡ true →
-        is_moment b e ≡ true → span b (arcs_of b (known_after (known_first b) lines)) e End
-        ≡ Some (tail b (arcs_of b (known_after (known_first b) lines)) e) }
+    ensures tails { (b : Problem) (bound : ℕ) (lines : List FactLine) (e : Moment) →
+        are_taken b bound (known_first b) lines ≡ true →
+        is_moment b e ≡ true → span b (arcs_of b (known_after (known_first b) lines)) e End ≡
+        Some (tail b (arcs_of b (known_after (known_first b) lines)) e) }
     ensures next { (b : Problem) (bound : ℕ) (lines : List FactLine) (prefix : List ℕ) (n : ℕ) →
         are_taken b bound (known_first b) lines ≡ true → is_remaining b.block prefix n ≡ true →
         bound ≤ next_value b (known_after (known_first b) lines) prefix n →
         IsTooLate b bound (Begins prefix ∷ facts_after [] (map (line_of b) lines)) }
     ensures turned { (b : Problem) (bound : ℕ) (lines : List FactLine) (prefix : List ℕ) (m n : ℕ) →
-        are_taken b bound (known_first b) lines ≡ true → is_turned b (known_after (known_first b) lines) prefix m n ≡ true →
-        IsTooLate b bound (Begins prefix ∷ facts_after [] (map (line_of b) lines)) }
-    ensures loaded { (b : Problem) (bound : ℕ) (lines : List FactLine) (prefix : List ℕ) (after : ℕ) (numbers : List ℕ) →
-        are_taken b bound (known_first b) lines ≡ true → is_loaded b (known_after (known_first b) lines) prefix bound after numbers ≡ true →
+        are_taken b bound (known_first b) lines ≡ true → is_turned b (known_after (known_first b) lines) prefix m n ≡
+        true → IsTooLate b bound (Begins prefix ∷ facts_after [] (map (line_of b) lines)) }
+    ensures loaded { (b : Problem) (bound : ℕ) (lines : List FactLine)
+        (prefix : List ℕ) (after : ℕ) (numbers : List ℕ) → are_taken b bound (known_first b) lines ≡ true →
+        is_loaded b (known_after (known_first b) lines) prefix bound after numbers ≡ true →
         IsClosedByLines b bound (facts_after [] (map (line_of b) lines)) prefix (load_of b bound after numbers ∷ []) }
     ensures no_sooner { (b : Problem) (bound : ℕ) (lines : List FactLine) (prefix : List ℕ) (n : ℕ) →
         are_taken b bound (known_first b) lines ≡ true → is_remaining b.block prefix n ≡ true →
-        ComesNoSooner b bound (facts_after [] (map (line_of b) lines)) prefix n
-        (issue_at_least b (known_after (known_first b) lines) prefix n) (start_at_least b (known_after (known_first b) lines) prefix n) }
+        ComesNoSooner b bound (facts_after [] (map (line_of b) lines)) prefix n (issue_at_least b
+        (known_after (known_first b) lines) prefix n) (start_at_least b (known_after (known_first b) lines) prefix n) }
 {}

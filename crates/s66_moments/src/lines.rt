@@ -32,11 +32,11 @@ pub fn line_law()
 /// An unsplit prefix is closed if a moment of what remains, as if its instruction came next, and its tail reach low by known arcs. So it
 /// is if it has a number and not one that is known to precede it.
 pub fn next_leaf_law()
-    ensures next { (b : Problem) (low : ℕ) (known : List Fact) (prefix : List ℕ) (arcs : Network) (n : ℕ) (stage : Stage) →
-        AreSteps b known arcs → IsRemaining b prefix n stage →
+    ensures next { (b : Problem) (low : ℕ) (known : List Fact) (prefix : List ℕ)
+        (arcs : Network) (n : ℕ) (stage : Stage) → AreSteps b known arcs → IsRemaining b prefix n stage →
         low ≤ soonest b prefix n stage + tail b arcs (At n stage) → IsTooLate b low (Begins prefix ∷ known) }
-    ensures turned { (b : Problem) (low : ℕ) (known : List Fact) (prefix : List ℕ) (m n : ℕ) → IsNumber b m → IsNumber b n →
-        Precedes b known m n → IsPlacedFirst prefix n m → IsTooLate b low (Begins prefix ∷ known) }
+    ensures turned { (b : Problem) (low : ℕ) (known : List Fact) (prefix : List ℕ) (m n : ℕ) → IsNumber b m →
+        IsNumber b n → Precedes b known m n → IsPlacedFirst prefix n m → IsTooLate b low (Begins prefix ∷ known) }
 {}
 
 /// Whatever completes a beginning with a total below a time, and has the known facts, completes one that dominates it in use below that
@@ -45,7 +45,8 @@ pub fn next_leaf_law()
 pub fn in_use_law()
     ensures no_worse { (b : Problem) (low : ℕ) (known : List Fact) (other prefix : List ℕ) →
         DominatesInUse b low known other prefix → IsNoWorseBelow b low known other prefix }
-    ensures next { (b : Problem) (low : ℕ) (known : List Fact) (prefix : List ℕ) (n : ℕ) → is_remaining b.block prefix n ≡ true →
+    ensures next { (b : Problem) (low : ℕ) (known : List Fact) (prefix : List ℕ) (n : ℕ) →
+        is_remaining b.block prefix n ≡ true →
         ComesNoSooner b low known prefix n (soonest b prefix n Issue) (soonest b prefix n Start) }
     ensures clamped { (b : Problem) (low : ℕ) (known : List Fact) (other prefix : List ℕ) →
         DominatesClamped b other prefix → DominatesInUse b low known other prefix }
@@ -54,8 +55,9 @@ pub fn in_use_law()
 /// What a tree shows by lines, by leaves and by dominated leaves of one rule is at most the total of every legal order that begins
 /// with its prefix: over the empty prefix it is a bound. What it shows of a time it shows of each that is less.
 pub fn line_tree_law()
-    ensures below { (rule : Rule) (b : Problem) (low : ℕ) (lines : List Line) (prefix rest : List ℕ) (tree : Tree LineEnding) →
-        ShowsByLines rule b low lines prefix tree → IsLegal b.block (prefix ++ rest) → low ≤ total_of b (prefix ++ rest) }
+    ensures below { (rule : Rule) (b : Problem) (low : ℕ) (lines : List Line)
+        (prefix rest : List ℕ) (tree : Tree LineEnding) → ShowsByLines rule b low lines prefix tree →
+        IsLegal b.block (prefix ++ rest) → low ≤ total_of b (prefix ++ rest) }
     ensures bound { (rule : Rule) (b : Problem) (low : ℕ) (lines : List Line) (tree : Tree LineEnding) →
         ShowsByLines rule b low lines [] tree → IsBound b low }
     ensures lower { (rule : Rule) (b : Problem) (low other : ℕ) (lines : List Line) (prefix : List ℕ) (tree : Tree LineEnding) →

@@ -65,8 +65,8 @@ pub fn more_pairs_law()
         IsNumber b j → IsNumber b k → Among (Before j k) known → IsKnown b known (with_pair before j k) }
     ensures transitive { (b : Problem) (before : ℕ → ℕ → Bool) (j k : ℕ) → IsNumber b j → IsNumber b k →
         IsTransitive b before → IsTransitive b (with_pair before j k) }
-    ensures no_ring { (b : Problem) (before : ℕ → ℕ → Bool) (j k : ℕ) → IsNumber b j → IsNumber b k → IsTransitive b before →
-        HasNoRing b before → j ≢ k → before k j ≡ false → HasNoRing b (with_pair before j k) }
+    ensures no_ring { (b : Problem) (before : ℕ → ℕ → Bool) (j k : ℕ) → IsNumber b j → IsNumber b k →
+        IsTransitive b before → HasNoRing b before → j ≢ k → before k j ≡ false → HasNoRing b (with_pair before j k) }
     ensures places { (b : Problem) (before : ℕ → ℕ → Bool) →
         IsTransitive b before → HasNoRing b before → IsPlaced b before (place_by b before) }
 {}
@@ -75,13 +75,14 @@ pub fn more_pairs_law()
 /// a number remains some path takes it, and if no arcs form a ring none is greater.
 pub fn greatest_path_law()
     ensures below { (b : Problem) (low : ℕ) (known : List Fact) (arcs : Network) (prefix : List ℕ) →
-        AreArcs b low known arcs → Follows b low (Begins prefix ∷ known) (Arc Origin (greatest_path b arcs prefix) End 0) }
+        AreArcs b low known arcs →
+        Follows b low (Begins prefix ∷ known) (Arc Origin (greatest_path b arcs prefix) End 0) }
     ensures by_dependence { (b : Problem) (prefix rest : List ℕ) → IsLegal b.block (prefix ++ rest) →
         greatest_path b (network b (precedes b.block)) prefix ≤ total_of b (prefix ++ rest) }
-    ensures greatest { (b : Problem) (arcs : Network) (prefix : List ℕ) (n : ℕ) (stage : Stage) (hops : List Hop) (f : Moment) →
-        IsRising b arcs → IsRemaining b prefix n stage → IsNetworkPath arcs (At n stage) hops f →
-        soonest b prefix n stage + waits hops ≤ greatest_path b arcs prefix }
+    ensures greatest { (b : Problem) (arcs : Network) (prefix : List ℕ)
+        (n : ℕ) (stage : Stage) (hops : List Hop) (f : Moment) → IsRising b arcs → IsRemaining b prefix n stage →
+        IsNetworkPath arcs (At n stage) hops f → soonest b prefix n stage + waits hops ≤ greatest_path b arcs prefix }
     ensures reached { (b : Problem) (arcs : Network) (prefix : List ℕ) (m : ℕ) → is_remaining b.block prefix m ≡ true →
-        (n : ℕ) × (stage : Stage) × (hops : List Hop) × (f : Moment) × IsRemaining b prefix n stage
-        × IsNetworkPath arcs (At n stage) hops f × (soonest b prefix n stage + waits hops ≡ greatest_path b arcs prefix) }
+        (n : ℕ) × (stage : Stage) × (hops : List Hop) × (f : Moment) × IsRemaining b prefix n stage ×
+        IsNetworkPath arcs (At n stage) hops f × (soonest b prefix n stage + waits hops ≡ greatest_path b arcs prefix) }
 {}

@@ -22,6 +22,6 @@ pub fn table_law()
         AreKept (IsStep b known) reached times → (e f : Moment) (w : ℕ) → reached e ≡ true → Leads b known e w f →
         (reached f ≡ true) × (times e + w ≤ times f) }
     ensures tails { (b : Problem) (known : List Fact) (reached : Moment → Bool) (times : Moment → ℕ) →
-        AreKept (λ f w e. IsStep b known e w f) reached times → (e f : Moment) (w : ℕ) → reached f ≡ true → Leads b known e w f →
-        (reached e ≡ true) × (times f + w ≤ times e) }
+        AreKept (λ f w e. IsStep b known e w f) reached times →
+        (e f : Moment) (w : ℕ) → reached f ≡ true → Leads b known e w f → (reached e ≡ true) × (times f + w ≤ times e) }
 {}

@@ -32,8 +32,8 @@ fn timed_of(
     profile: &Profile,
     least: Option<WholeOrder>,
 ) -> Result<Option<Box<Timed>>, AllocError>
-    ensures { let b : Problem = record { block = instrs_of block.now; profile = profile.now } in (prefix : List ℕ)
-        (tree : Tree Terminal) → IsLeast b (whole_orders prefix tree) least →
+    ensures { let b : Problem = record { block = instrs_of block.now; profile = profile.now } in
+        (prefix : List ℕ) (tree : Tree Terminal) → IsLeast b (whole_orders prefix tree) least →
         IfOk result (λ timed. IsBestTimed b prefix tree (option_map (λ t. t.value) timed)) }
 {
     let Some(least) = least else {

@@ -127,11 +127,10 @@ fn unsplit_by_name<N: Naming>(
     ensures suits { N.suits names.new walk.now.problem }
     ensures known { (name : List ℕ) → Among name (N.names names.new) →
         (name ≡ walk.now.numbers) ⊎ Among name (N.names names.old) }
-    ensures same { rule ≡ WrittenEarlier → IfOk result
-        (λ unsplit. IfSome unsplit (λ u. N.names names.new ≡ N.names names.old)) }
-    ensures found { (best : Span) → IsDue walk.now.problem best.high walk.now.numbers →
-        IfOk result (λ unsplit. IfSome unsplit
-        (IsFound rule walk.now.problem best walk.now.numbers (N.names names.old))) }
+    ensures same { rule ≡ WrittenEarlier →
+        IfOk result (λ unsplit. IfSome unsplit (λ u. N.names names.new ≡ N.names names.old)) }
+    ensures found { (best : Span) → IsDue walk.now.problem best.high walk.now.numbers → IfOk result (λ unsplit.
+        IfSome unsplit (IsFound rule walk.now.problem best walk.now.numbers (N.names names.old))) }
     ensures left_open { IfOk result (λ unsplit. IfSome unsplit (λ u. IsOpen u → ¬ IsTrue may_split)) }
     ensures may { IfOk result (λ unsplit. IfNone unsplit (IsTrue may_split)) }
 {
@@ -163,14 +162,14 @@ fn unsplit_child<L: Least, N: Naming>(
     ensures suits { N.suits names.new walk.now.problem }
     ensures known { (name : List ℕ) → Among name (N.names names.new) →
         (name ≡ walk.now.numbers) ⊎ Among name (N.names names.old) }
-    ensures same { rule ≡ WrittenEarlier → IfOk result
-        (λ unsplit. IfSome unsplit (λ u. N.names names.new ≡ N.names names.old)) }
+    ensures same { rule ≡ WrittenEarlier →
+        IfOk result (λ unsplit. IfSome unsplit (λ u. N.names names.new ≡ N.names names.old)) }
     ensures kept { L.kept incumbent.new ≡ best.new }
     ensures falls { best.new ≤ best.old }
     ensures lowest { (L.lowest incumbent.new ≡ L.lowest incumbent.old) ×
         (L.lowest incumbent.old ≤ best.old → L.lowest incumbent.old ≤ best.new) }
-    ensures found { IfOk result (λ unsplit. IfSome unsplit
-        (IsFound rule walk.now.problem (span best.old best.new) walk.now.numbers (N.names names.old))) }
+    ensures found { IfOk result (λ unsplit.
+        IfSome unsplit (IsFound rule walk.now.problem (span best.old best.new) walk.now.numbers (N.names names.old))) }
     ensures due { IfOk result (λ unsplit. IfNone unsplit (IsDue walk.now.problem best.new walk.now.numbers)) }
     ensures left_open { IfOk result (λ unsplit. IfSome unsplit (λ u. IsOpen u → ¬ IsTrue may_split)) }
     ensures may { IfOk result (λ unsplit. IfNone unsplit (IsTrue may_split)) }
@@ -247,8 +246,8 @@ impl Grown {
     ) -> Result<OpenSplit, AllocError>
         requires { self.old.splits + 1 < 2 ^ 32 }
         ensures same { walk.new ≡ walk.old }
-        ensures put { IfOk result (λ frame. IsSplitPut walk.old.problem walk.old.numbers self.old parent number self.new
-            frame) }
+        ensures put { IfOk result (λ frame.
+            IsSplitPut walk.old.problem walk.old.numbers self.old parent number self.new frame) }
     {
         let node = place_of(self.nodes.len())?;
         self.nodes

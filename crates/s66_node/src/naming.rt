@@ -38,12 +38,12 @@ pub trait Naming {
         ensures dominates { IfOk result (λ found. IfSome found
             (λ name. IsIncomplete walk.now.problem.block walk.now.numbers →
             DominatesByRule rule walk.now.problem name.value.numbers.items walk.now.numbers)) }
-        ensures known { rule ≡ WrittenEarlier → IfOk result
-            (λ found. IfSome found (λ name. Among name.value.numbers.items (names self.old))) }
+        ensures known { rule ≡ WrittenEarlier →
+            IfOk result (λ found. IfSome found (λ name. Among name.value.numbers.items (names self.old))) }
         ensures kept { (name : List ℕ) → Among name (names self.new) →
             (name ≡ walk.now.numbers) ⊎ Among name (names self.old) }
-        ensures found { rule ≡ WrittenEarlier → IfOk result
-            (λ found. IfSome found (λ name. names self.new ≡ names self.old)) }
+        ensures found { rule ≡ WrittenEarlier →
+            IfOk result (λ found. IfSome found (λ name. names self.new ≡ names self.old)) }
         ensures open { rule ≡ WrittenEarlier → ¬ IsTrue is_split → names self.new ≡ names self.old };
 
     /// May know the walk's prefix from now on, which is the root of a tree: its node has this state.

@@ -98,10 +98,10 @@ fn total_of(timer: &mut Timer, before: usize, blocks: &[Block], found: &[FoundOr
     requires few { length blocks.now < 2 ^ 31 }
     requires found { AreOf blocks.now found.now }
     ensures profile { timer.new ≡ timer.old }
-    ensures count { result.count ≡ weigh (λ (b : SummaryOf). b.count)
-        (summaries timer.old before blocks.now found.now) }
-    ensures source { result.source ≡ weigh (λ (b : SummaryOf). b.source)
-        (summaries timer.old before blocks.now found.now) }
+    ensures count { result.count ≡
+        weigh (λ (b : SummaryOf). b.count) (summaries timer.old before blocks.now found.now) }
+    ensures source { result.source ≡
+        weigh (λ (b : SummaryOf). b.source) (summaries timer.old before blocks.now found.now) }
     ensures time { result.time ≡ weigh (λ (b : SummaryOf). b.time) (summaries timer.old before blocks.now found.now) }
     ensures best { result.best ≡ tally is_best (summaries timer.old before blocks.now found.now) }
 {

@@ -97,8 +97,8 @@ impl<'a> Hub<'a> {
         requires here { seat.old.hub ≡ self.now.id }
         requires empty { tickets.old.items ≡ [] }
         ensures here { seat.new.hub ≡ seat.old.hub }
-        ensures ok { IfOk result (λ supply. HasGraftedAndSupply seat.old node piece.now supply tickets.new.items
-            seat.new) }
+        ensures ok { IfOk result (λ supply.
+            HasGraftedAndSupply seat.old node piece.now supply tickets.new.items seat.new) }
         ensures needed { IfOk result (λ supply. IsSupplyFor needs supply tickets.new.items) }
         ensures refused { IfErr result (λ why. HasBeenRefused seat.old node piece.now why seat.new) }
         ensures unclaimed { OnErr result (tickets.new.items ≡ []) }
@@ -153,8 +153,8 @@ impl<'a> Hub<'a> {
     ) -> Result<(), (BackError, Ticket)>
         requires { seat.old.hub ≡ self.now.id }
         ensures here { seat.new.hub ≡ seat.old.hub }
-        ensures ok { OnOk result (seat.new.book ≡ after_event seat.old.book
-            (Back seat.old.book.who ticket.node) Returned) }
+        ensures ok { OnOk result (seat.new.book ≡
+            after_event seat.old.book (Back seat.old.book.who ticket.node) Returned) }
         ensures not_out { IfErr result (λ e. e.0 ≡ refused.NotOut →
             seat.new.book ≡ after_event seat.old.book (Back seat.old.book.who ticket.node) NotOut) }
         ensures no_memory { IfErr result (λ e. e.0 ≡ refused.OutOfMemory → seat.new ≡ seat.old) }

@@ -49,8 +49,8 @@ impl<'a> Hub<'a> {
     pub fn new(alloc: Global, ledger: Ledger<'a>) -> Result<(Hub<'a>, Vec<Seat<'a>>), AllocError>
         requires { 1 ≤ ledger.workers }
         ensures summary { IfOk result (λ r. r.0.summary ≡ account_summary ledger.entry) }
-        ensures seats { IfOk result (λ r. r.1.items ≡ map (λ w. record { hub = r.0.id; book = opened r.0.summary w })
-            (rising ledger.entry.workers 1)) }
+        ensures seats { IfOk result (λ r. r.1.items ≡
+            map (λ w. record { hub = r.0.id; book = opened r.0.summary w }) (rising ledger.entry.workers 1)) }
         ensures here { IfOk result (λ r. All (λ s. s.hub ≡ r.0.id) r.1.items) }
     {
         let workers = ledger.workers();

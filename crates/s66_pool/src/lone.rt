@@ -107,8 +107,8 @@ impl<'a> LoneSearch<'a> {
 
     /// Whether no legal order takes less than the best one so far. In time linear in the number of nodes.
     pub fn is_best(&self) -> bool
-        ensures { IsTrue result ↔ (best_time self.now.problem self.now.state ≤ bound_of self.now.problem
-            self.now.state) }
+        ensures { IsTrue result ↔
+            (best_time self.now.problem self.now.state ≤ bound_of self.now.problem self.now.state) }
     {
         self.ledger.best() <= self.ledger.bound()
     }
@@ -119,8 +119,8 @@ impl<'a> LoneSearch<'a> {
         ensures rule { IfOk result (λ a. a.rule ≡ self.entry.rule) }
         ensures problem { IfOk result (λ a. a.problem ≡ self.entry.problem) }
         ensures budget { IfOk result (λ a. a.budget ≡ self.entry.budget) }
-        ensures finished { IfOk result (λ a. IsFinished self.entry.rule self.entry.problem self.entry.budget
-            self.entry.state (answer_of a)) }
+        ensures finished { IfOk result (λ a.
+            IsFinished self.entry.rule self.entry.problem self.entry.budget self.entry.state (answer_of a)) }
     {
         let LoneSearch {
             alloc,

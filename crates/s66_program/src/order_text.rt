@@ -38,8 +38,8 @@ fn order_output<R: AllocGlobal + Threads + Wait + Sync, O: Observer>(
     observer: &mut O,
 ) -> Result<Output, AllocError>
     requires { IsSearchWithin strategy.search.workers strategy.search.nodes }
-    ensures { IfOk result (λ output. IsOrderOutput strategy profile.now trace source.now output.text.items
-        output.status) }
+    ensures { IfOk result (λ output.
+        IsOrderOutput strategy profile.now trace source.now output.text.items output.status) }
 {
     let placings = Placings { trace };
     let all = keep_answers(rt, &placings, source, None, profile, strategy, observer)?;

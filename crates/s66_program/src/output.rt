@@ -58,8 +58,8 @@ fn waits_output<R: AllocGlobal + Threads + Wait + Sync, O: Observer>(
     observer: &mut O,
 ) -> Result<Output, AllocError>
     requires { IfSome order (λ strategy. IsSearchWithin strategy.search.workers strategy.search.nodes) }
-    ensures { IfOk result (λ output. IsWaitsOutput profile.now order text only source.now output.text.items
-        output.status) }
+    ensures { IfOk result (λ output.
+        IsWaitsOutput profile.now order text only source.now output.text.items output.status) }
 {
     match order {
         None => listing_output(rt.alloc(), profile, &Listing::Why { text }, only, source),
@@ -102,8 +102,8 @@ fn output_of<R: AllocGlobal + Threads + Wait + Sync, O: Observer>(
     requires within { IsWithinLimits command }
     requires reads { reads_source command ≡ true }
     requires cut { source.now.cut ≡ is_cut command }
-    ensures { IfOk result (λ output. IsOutput profile.now command.entry source.now.text output.text.items
-        output.status) }
+    ensures { IfOk result (λ output.
+        IsOutput profile.now command.entry source.now.text output.text.items output.status) }
 {
     let alloc = rt.alloc();
     match command {
@@ -177,8 +177,8 @@ fn source_output<R: AllocGlobal + Threads + Wait + Sync, O: Observer>(
 ) -> Result<Finished, Fault>
     requires within { IsWithinLimits command }
     requires reads { reads_source command ≡ true }
-    ensures ok { IfOk result (λ finished. IsOutput profile.now command.entry input.now finished.output.text.items
-        finished.output.status) }
+    ensures ok { IfOk result (λ finished.
+        IsOutput profile.now command.entry input.now finished.output.text.items finished.output.status) }
     ensures remark { IfOk result (λ finished. IsRemark command.entry input.now finished.remark) }
     ensures err { IfErr result (IsRefusal command.entry input.now) }
 {
@@ -198,8 +198,8 @@ pub(crate) fn output_for<R: AllocGlobal + Threads + Wait + Sync, O: Observer>(
     observer: &mut O,
 ) -> Result<Finished, Fault>
     requires { IsWithinLimits command }
-    ensures ok { IfOk result (λ finished. IsOutput profile.now command.entry input.now finished.output.text.items
-        finished.output.status) }
+    ensures ok { IfOk result (λ finished.
+        IsOutput profile.now command.entry input.now finished.output.text.items finished.output.status) }
     ensures remark { IfOk result (λ finished. IsRemark command.entry input.now finished.remark) }
     ensures err { IfErr result (IsRefusal command.entry input.now) }
 {

@@ -25,8 +25,8 @@ pub fn page_output<R: AllocGlobal + Threads + Wait + Sync, O: Observer>(
     observer: &mut O,
 ) -> Result<Output, AllocError>
     requires { IsSearchWithin strategy.search.workers strategy.search.nodes }
-    ensures { IfOk result (λ output. IsPageOutput strategy profile.now only source.now output.text.items
-        output.status) }
+    ensures { IfOk result (λ output.
+        IsPageOutput strategy profile.now only source.now output.text.items output.status) }
 {
     let all = keep_answers(rt, &Views, source, only, profile, strategy, observer)?;
     let blocks = shown(source.blocks(), only);

@@ -94,8 +94,8 @@ fn arc_between(
     requires same { prefix.now.problem ≡ facts.now.problem }
     requires m { IsNumber prefix.now.problem m }
     requires n { IsNumber prefix.now.problem n }
-    ensures { result ≡ if m == n || before_in facts.now.marks m n then arc prefix.now.problem (At m from.now)
-        (At n to.now) else None }
+    ensures { result ≡ if m == n || before_in facts.now.marks m n then
+        arc prefix.now.problem (At m from.now) (At n to.now) else None }
 {
     if m == n {
         own_arc(prefix.row(m), from, to)

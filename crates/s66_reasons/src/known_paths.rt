@@ -138,8 +138,8 @@ impl<'a> KnownPaths<'a> {
     /// The same to the first moment of n: its issue, start, free, and then its results.
     fn hop_to_moment_of(&self, left: u64, from: &Moment, n: u8) -> Option<Hop>
         requires { IsNumber (problem_of (document_of self.now)) n }
-        ensures { result ≡ first_hop (document_of self.now) left from.now
-            (moments_of (problem_of (document_of self.now)) n) }
+        ensures { result ≡
+            first_hop (document_of self.now) left from.now (moments_of (problem_of (document_of self.now)) n) }
     {
         let times = self.by_lines.tail(n);
         self.hop_to(left, from, Moment::At(n, Stage::Issue), times.issue)

@@ -34,8 +34,8 @@ fn are_units_no_later(own: &Past, other: &Past, kind: Kind, copies: u32, clamp: 
     requires some { 1 ≤ copies }
     requires own { AreTimed own.now }
     requires other { AreTimed other.now }
-    ensures { result ≡ are_places_no_later copies clamp (free_times kind (reverse own.now))
-        (free_times kind (reverse other.now)) }
+    ensures { result ≡
+        are_places_no_later copies clamp (free_times kind (reverse own.now)) (free_times kind (reverse other.now)) }
 {
     if copies > 2 {
         return free_times(own.points(), kind).are_no_later(
@@ -75,8 +75,8 @@ fn are_all_units_no_later(own: &Past, other: &Past, profile: &Profile, clamp: u3
 pub fn is_no_later(own: &Past, other: &Past, profile: &Profile, readers: u32, others: u32) -> bool
     requires own { AreTimed own.now }
     requires other { AreTimed other.now }
-    ensures { result ≡ is_no_later profile.now (record { readers = readers; others = others }) (reverse own.now)
-        (reverse other.now) }
+    ensures { result ≡
+        is_no_later profile.now (record { readers = readers; others = others }) (reverse own.now) (reverse other.now) }
 {
     if next(own.points()) > next(other.points()) {
         return false;

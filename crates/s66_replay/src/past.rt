@@ -108,8 +108,8 @@ impl Past {
 
     /// From when on a reference to memory of this kind may start.
     pub(crate) fn memory_wait(&self, memory: Memory) -> u32
-        ensures { result ≡ greatest (λ (p : Point). if memory_pair p.row.memory memory then p.start + 1 else 0)
-            self.now }
+        ensures { result ≡
+            greatest (λ (p : Point). if memory_pair p.row.memory memory then p.start + 1 else 0) self.now }
     {
         match memory {
             Memory::None => 0,

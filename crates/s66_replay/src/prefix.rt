@@ -258,8 +258,8 @@ impl Prefix {
         ensures problem { self.new.problem ≡ self.old.problem }
         ensures all { IsTrue result → self.new.numbers ≡ numbers.now }
         ensures some { self.new.numbers ≡ take (length self.new.numbers) numbers.now }
-        ensures refused { result ≡ false → is_ready self.new.problem.block self.new.numbers
-            (get_or numbers.now (length self.new.numbers) 0) ≡ false }
+        ensures refused { result ≡ false →
+            is_ready self.new.problem.block self.new.numbers (get_or numbers.now (length self.new.numbers) 0) ≡ false }
     {
         let shared = self.shared_with(numbers);
         while self.numbers.len() > shared {

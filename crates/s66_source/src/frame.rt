@@ -103,8 +103,10 @@ impl<'s, 'a> Framer<'s, 'a> {
     fn pass_dropped(&mut self) -> bool
         requires { self.old.lines < SOURCE_LINES_LIMIT }
         ensures value { result ≡ begins_with (suc self.old.lines) self.old.dropped }
-        ensures rest { self.new ≡ record
-            self.old { dropped = if begins_with (suc self.old.lines) self.old.dropped then others self.old.dropped else self.old.dropped } }
+        ensures rest { self.new ≡ record self.old {
+          dropped = if begins_with (suc self.old.lines) self.old.dropped then
+              others self.old.dropped else self.old.dropped;
+        } }
     {
         match self.dropped {
             [line, dropped @ ..] if *line == self.lines + 1 => {

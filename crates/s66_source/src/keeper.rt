@@ -212,8 +212,10 @@ impl<'s, 'a> Keeper<'s, 'a> {
         requires number { self.old.place.number ≤ suc self.old.lines }
         requires indents { length self.old.indents ≡ suc self.old.place.passed }
         requires here { is_instruction_next self.old ≡ true }
-        ensures rest { self.new ≡ record
-            self.old { place = after_instruction self.old.place; indents = if ends_block self.old.place.passed self.old.place.blocks then [] else self.old.indents } }
+        ensures rest { self.new ≡ record self.old {
+          place = after_instruction self.old.place;
+          indents = if ends_block self.old.place.passed self.old.place.blocks then [] else self.old.indents;
+        } }
         ensures place { IsPlace self.new.place }
         ensures number { self.new.place.number ≤ suc (suc self.old.lines) }
         ensures indents { length self.new.indents ≡ self.new.place.passed }

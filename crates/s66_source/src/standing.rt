@@ -202,8 +202,8 @@ impl Standing {
         continued: bool,
     ) -> Classified<'a>
         requires { length line.now ≤ LINE_BYTES_LIMIT }
-        ensures class { result.class ≡ class_at after_code
-            (record { alone = is_alone cut self.now line.now continued; bytes = line.now }) }
+        ensures class { result.class ≡
+            class_at after_code (record { alone = is_alone cut self.now line.now continued; bytes = line.now }) }
         ensures label { is_code result.class ≡ true → result.label.now ≡ label_bytes (body line.now) }
         ensures bytes { is_code result.class ≡ true → result.bytes.now ≡ from_operation (body line.now) }
         ensures spelled { IsSpelled result.class result.bytes.now }
@@ -299,8 +299,8 @@ impl Standing {
     ) -> Classified<'a>
         requires few { length line.now ≤ LINE_BYTES_LIMIT }
         requires bodies { self.old.bodies < SOURCE_LINES_LIMIT }
-        ensures class { result.class ≡ class_at after_code
-            (record { alone = is_alone cut self.old line.now continued; bytes = line.now }) }
+        ensures class { result.class ≡
+            class_at after_code (record { alone = is_alone cut self.old line.now continued; bytes = line.now }) }
         ensures label { is_code result.class ≡ true → result.label.now ≡ label_bytes (body line.now) }
         ensures bytes { is_code result.class ≡ true → result.bytes.now ≡ from_operation (body line.now) }
         ensures spelled { IsSpelled result.class result.bytes.now }

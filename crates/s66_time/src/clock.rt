@@ -103,8 +103,8 @@ impl<'a> Clock<'a> {
     pub fn push(&mut self, n: u8)
         requires { is_ready (instrs_of self.old.block) self.old.numbers n ≡ true }
         ensures value { self.new ≡ record self.old { numbers = self.old.numbers ++ n ∷ []; looks = self.new.looks } }
-        ensures looks { self.new.looks ≤ LOOK_LIMIT + copies_of self.old.profile
-            (kind_of (instr_at (instrs_of self.old.block) n).op.code) }
+        ensures looks { self.new.looks ≤
+            LOOK_LIMIT + copies_of self.old.profile (kind_of (instr_at (instrs_of self.old.block) n).op.code) }
     {
         let row = &self.rows[n as usize - 1];
         let copies = self.copies.at(row.kind);
@@ -233,8 +233,8 @@ impl<'a> Clock<'a> {
     /// The minor cycle from which on memory lets an instruction start that references it so: one after the last start of an earlier
     /// reference, if either of the two is a store; 0 if there is none.
     pub fn memory_wait(&self, memory: Memory) -> u32
-        ensures value { result ≡ greatest (λ (p : Point). if memory_pair p.row.memory memory then p.start + 1 else 0)
-            (points self.now) }
+        ensures value { result ≡
+            greatest (λ (p : Point). if memory_pair p.row.memory memory then p.start + 1 else 0) (points self.now) }
         ensures at_most { result ≤ TOTAL_LIMIT }
     {
         self.words.memory_wait(memory)
@@ -252,8 +252,8 @@ impl<'a> Clock<'a> {
     /// The minor cycle in which the only unit of a kind is free, or the next slot if that is later.
     pub fn free(&self, kind: Kind) -> u32
         requires { copies_of self.now.profile kind ≡ 1 }
-        ensures value { result ≡ next (points self.now) + weigh (rest_busy kind (next (points self.now)))
-            (points self.now) }
+        ensures value { result ≡
+            next (points self.now) + weigh (rest_busy kind (next (points self.now))) (points self.now) }
         ensures at_most { result ≤ TOTAL_LIMIT }
     {
         self.words.units.first(kind).max(self.words.progress.next)
@@ -272,8 +272,8 @@ impl<'a> Clock<'a> {
 
     /// The minor cycle from which on a unit of a kind is free; the time is that of their number.
     pub fn soonest_free(&self, kind: Kind) -> u32
-        ensures value { (t : ℕ) → nat_le result t ≡ nat_lt (tally (busy_at kind t) (points self.now))
-            (copies_of self.now.profile kind) }
+        ensures value { (t : ℕ) →
+            nat_le result t ≡ nat_lt (tally (busy_at kind t) (points self.now)) (copies_of self.now.profile kind) }
         ensures at_most { result ≤ TOTAL_LIMIT }
     {
         let place = self.words.units.soonest(self.copies.at(kind), kind);

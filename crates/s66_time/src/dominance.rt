@@ -60,10 +60,9 @@ pub fn dominates(other: &Mark, prefix: &Mark) -> bool
 
 /// The same, if what is past by the second's next slot doesn't count. That the total is no greater follows here too.
 pub fn dominates_clamped(other: &Mark, prefix: &Mark) -> bool
-    ensures no_later { (b : Problem) (numbers_of_other numbers : List ℕ) → IsMarkOf b numbers_of_other other.now →
-        IsMarkOf b numbers prefix.now →
-        IsTrue result ↔ IsNoLater b (clamp_at (next (points_of b numbers))) (points_of b numbers_of_other)
-        (points_of b numbers) }
+    ensures no_later { (b : Problem) (numbers_of_other numbers : List ℕ) →
+        IsMarkOf b numbers_of_other other.now → IsMarkOf b numbers prefix.now → IsTrue result ↔
+        IsNoLater b (clamp_at (next (points_of b numbers))) (points_of b numbers_of_other) (points_of b numbers) }
     ensures dominates { (b : Problem) (numbers_of_other numbers : List ℕ) → IsMarkOf b numbers_of_other other.now →
         IsMarkOf b numbers prefix.now → IsSameSet numbers_of_other numbers →
         IsTrue result ↔ DominatesClamped b numbers_of_other numbers }

@@ -53,8 +53,8 @@ impl Progress {
         ensures stores { result.stores ≡ max self.now.stores (if stores row.now.memory then tick.now.start + 1 else 0) }
         ensures parcel { result.parcel ≡ tick.now.parcel + row.now.parcels }
         ensures next { result.next ≡ tick.now.issue + row.now.parcels }
-        ensures total { result.total ≡ max self.now.total
-            (max tick.now.free (greatest (λ (d : ResultOf). d.time) tick.now.results.items)) }
+        ensures total { result.total ≡
+            max self.now.total (max tick.now.free (greatest (λ (d : ResultOf). d.time) tick.now.results.items)) }
         ensures pushed { (m : ℕ) → has m (numbers_in result.pushed) ≡
             (m == number || has m (numbers_in self.now.pushed)) }
     {

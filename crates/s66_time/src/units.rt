@@ -62,8 +62,8 @@ impl UnitWords {
         ensures within { result < UNIT_LIMIT }
         ensures own { first_unit kind ≤ result }
         ensures copy { result - first_unit kind < copies }
-        ensures least { (i : ℕ) → i < copies → get_or self.now.words result 0 ≤ get_or self.now.words
-            (first_unit kind + i) 0 }
+        ensures least { (i : ℕ) →
+            i < copies → get_or self.now.words result 0 ≤ get_or self.now.words (first_unit kind + i) 0 }
     {
         let first = first_unit(kind);
         let copies = copies as usize;

@@ -60,8 +60,8 @@ impl Words {
     pub fn slot(&self, parcels: u32) -> u32
         requires parcel { self.now.progress.parcel ≤ TOTAL_LIMIT + 2 }
         requires next { self.now.progress.next ≤ TOTAL_LIMIT + 2 }
-        ensures { result ≡ self.now.progress.next + (fits_at self.now.progress.parcel
-            parcels - self.now.progress.parcel) }
+        ensures { result ≡
+            self.now.progress.next + (fits_at self.now.progress.parcel parcels - self.now.progress.parcel) }
     {
         self.progress.next + (fits_at(self.progress.parcel, parcels) - self.progress.parcel)
     }

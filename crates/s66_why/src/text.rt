@@ -183,8 +183,8 @@ fn push_all_lines(
     requires width { width ≡ text_width block.now }
     ensures lines { OnOk result (out.new.items ≡ out.old.items ++
         flat_map (stretch_line texts block.now) (stretches (reverse points.now))) }
-    ensures sums { (conflict : ConflictOf) → IfOk result
-        (λ sums. sum_of sums conflict ≡ lost conflict (stretches (reverse points.now))) }
+    ensures sums { (conflict : ConflictOf) →
+        IfOk result (λ sums. sum_of sums conflict ≡ lost conflict (stretches (reverse points.now))) }
 {
     let mut sums = Lost::none();
     for position in 0..points.len() {

@@ -310,8 +310,8 @@ pub fn branch(
 ) -> Result<Branched, AllocError>
     requires { best.problem ≡ record { block = instrs_of block.now; profile = profile.now } }
     ensures problem { IfOk result (λ branched. branched.best.problem ≡ best.problem) }
-    ensures total { IfOk result (λ branched. total_of branched.best.problem branched.best.numbers ≤ total_of
-        best.problem best.numbers) }
+    ensures total { IfOk result (λ branched. total_of branched.best.problem branched.best.numbers ≤
+        total_of best.problem best.numbers) }
     ensures splits { IfOk result (λ branched. branched.splits ≤ limits.splits) }
 {
     let instructions = Instructions::new(finder);
