@@ -1,4 +1,3 @@
-pub mod Onward
 pub mod Returned
 pub mod SeatEvents
 pub mod AfterCalls

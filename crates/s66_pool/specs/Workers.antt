@@ -1,11 +1,9 @@
--- To be believed: what comes back from the workers, and of an answer to a search that began with an order.
+-- To be believed: what comes back from the workers.
 use Rattle.std.specs.Prelude.{ℕ, ◌≡◌, ◌<◌, ◌≤◌, All, List, Vec, length, map, slice_index_or}
 use Rattle.std.specs.declared.alloc.Global.{Global}
-use Rattle.s66_model.specs.Timing.{Problem, total_of}
+use Rattle.s66_model.specs.Timing.{Problem}
 use Rattle.s66_machine.specs.Ledger.{best_time}
 use Rattle.s66_share.specs.Lanes.{LaneId, LaneOf}
-use Rattle.s66_time.specs.TimedOrder.{TimedOrder}
-use Rattle.s66_ledger.specs.Answers.{AnswerOf, answer_of}
 use Rattle.s66_ledger.specs.Ledgers.{LedgerOf}
 use Rattle.s66_pool.specs.Hubs.{SeatOf}
 use Rattle.s66_pool.specs.Victims.{VictimOf}
@@ -22,10 +20,6 @@ AreSameSeats seats others =
     (length others ≡ length seats)
     × ((i : ℕ) (d : SeatOf) → i < length seats → IsSameSeat (slice_index_or seats i d) (slice_index_or others i d))
 
--- if the order is one of the answer's block under its profile, the answer takes at most its total
-abbrev pub TakesNoLonger : AnswerOf → TimedOrder → Type 0
-TakesNoLonger a timed = timed.problem ≡ a.problem → (answer_of a).time ≤ total_of timed.problem timed.numbers
-
 -- USED WITHIN THE CRATE ALONE
 
 -- the search goes on from one to the other: of the same problem by the same rule, for the same budget and workers, and its best time
@@ -34,10 +28,6 @@ abbrev pub GoesOn : LedgerOf → LedgerOf → Type 0
 GoesOn old new =
     (new.problem ≡ old.problem) × (new.budget ≡ old.budget) × (new.workers ≡ old.workers) × (new.rule ≡ old.rule)
     × (best_time new.problem new.state ≤ best_time old.problem old.state)
-
--- if the order is one of the ledger's problem, the best time isn't above its total
-abbrev pub HasTaken : LedgerOf → TimedOrder → Type 0
-HasTaken l timed = timed.problem ≡ l.problem → best_time l.problem l.state ≤ total_of timed.problem timed.numbers
 
 -- a search of one thread, with a walk and marks of these problems
 pub record IsLone (l : LedgerOf) (walked marked : Problem) : Type 0 where

@@ -26,6 +26,6 @@ pub use hub::{Hub, SeatsMissing};
 pub use limits::{CLAIMS_LIMIT, FIRST_SPLITS};
 pub use lone::LoneSearch;
 pub use s66_share::{Hint, HintSeat};
-pub use search::{run, run_from};
+pub use search::run;
 pub use seat::Seat;
 pub use supply::{Needs, Supply};

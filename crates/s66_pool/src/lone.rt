@@ -1,6 +1,5 @@
 //! A search of one thread, which stops and goes on.
 
-use crate::search::offer_first;
 use s66_isa::Profile;
 use s66_ledger::{Answer, Ledger};
 use s66_line::Block;
@@ -40,13 +39,13 @@ impl<'a> Model for LoneSearch<'a> {
 }
 
 impl<'a> LoneSearch<'a> {
-    ghost use Rattle.std.specs.Prelude.{◌≡◌, ◌≤◌, ◌↔◌, IsTrue, IfOk, IfSome, OnOk};
+    ghost use Rattle.std.specs.Prelude.{◌≡◌, ◌≤◌, ◌↔◌, IsTrue, IfOk};
     ghost use Rattle.s66_line.specs.Block.{instrs_of};
     ghost use Rattle.s66_machine.specs.Ledger.{best_time};
     ghost use Rattle.s66_machine.specs.Coverage.{IsFinished, bound_of};
     ghost use Rattle.s66_model.specs.declared.limits.TheConstants.{BUDGET_LIMIT};
     ghost use Rattle.s66_ledger.specs.Answers.{answer_of};
-    ghost use Rattle.s66_pool.specs.Workers.{GoesOn, HasTaken};
+    ghost use Rattle.s66_pool.specs.Workers.{GoesOn};
 
     /// Before the first split: its best order is the best of the source order and two list schedules. Of the options the number of
     /// workers isn't read. `Err` is out of memory.
@@ -82,13 +81,12 @@ impl<'a> LoneSearch<'a> {
         all_kept(&self.marks)
     }
 
-    /// Offers an order, if there is one: it is the best from then on if it is faster, and is one of the block under the profile. `Err` is
-    /// out of memory.
-    pub fn offer(&mut self, timed: Option<&Timed>) -> Result<(), AllocError>
-        ensures on { GoesOn self.old self.new }
-        ensures order { OnOk result (IfSome timed.entry (λ t. HasTaken self.new t.now)) }
+    /// Offers an order: it is the best from then on if it is faster, and is one of the block under the profile. `Err` is out of memory.
+    pub fn offer(&mut self, timed: &Timed) -> Result<(), AllocError>
+        ensures { GoesOn self.old self.new }
     {
-        offer_first(&mut self.ledger, timed)
+        self.ledger.offer_order(timed.duplicate())?;
+        Ok(())
     }
 
     /// The best order so far, with its times.

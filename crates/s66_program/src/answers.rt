@@ -22,7 +22,7 @@ use s66_ledger::Answer;
 use s66_line::Block;
 use s66_model::{Options, Rule};
 use s66_near::nearer;
-use s66_pool::{Free, LoneSearch, run_from};
+use s66_pool::{Free, LoneSearch, run};
 use s66_time::Timed;
 use std::alloc::{AllocError, Global};
 use std::sync::Wait;
@@ -356,7 +356,7 @@ fn seek(
     if best.total() <= bound {
         return Ok(Sought { best, splits });
     }
-    search.offer(Some(&best))?;
+    search.offer(&best)?;
     search.search(strategy.search.nodes, bound)?;
     let best = faster(best, Some(search.best().duplicate()));
     Ok(Sought { best, splits })
@@ -516,6 +516,6 @@ pub fn answer_to<R: AllocGlobal + Threads + Wait + Sync>(
     requires { IsSearchWithin strategy.search.workers strategy.search.nodes }
     ensures { IfOk result (IsFor strategy profile.now block.now) }
 {
-    let answer = run_from(rt, block, profile, strategy.search, None, &Free)?;
+    let answer = run(rt, block, profile, strategy.search, &Free)?;
     Ok(by_search(nearest(block, answer), 0))
 }
