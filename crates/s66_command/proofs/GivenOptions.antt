@@ -1,10 +1,10 @@
 -- What was found of an option of a subcommand is what the words give.
-use Rattle.std.proofs.Common.{◌≡◌, ◌∙◌, inl, inr, ℕ, Bool, cond, true, false, true≢false, List, [], ◌∷◌, ◌++◌, Option, Some, is_some, refl, sym, ap, subst, fold, find, drop, map, bytes_eq, codes, option_and_then, option_map, slice_get}
+use Rattle.std.proofs.Common.{◌≡◌, ◌∙◌, inl, inr, ℕ, Bool, cond, true, false, true≢false, List, [], ◌∷◌, Option, Some, is_some, refl, sym, ap, subst, find, drop, map, bytes_eq, codes, option_and_then, option_map, slice_get}
 use Rattle.std.specs.Prelude.{unwrap_or}
 use Rattle.std.specs.Borrow.{Bor}
 use Rattle.std.specs.Option.{option_map_or}
 use Rattle.std.proofs.lemmas.Slice.Eq.{bytes_eq-Decides}
-use Rattle.clap.specs.Words.{Row, Rule, Shape, Text, built, first_of, first_value, new_rule, one_of, one_text, rows_of, subcommand_of, subcommand_rows_of}
+use Rattle.clap.specs.Words.{Row, Rule, Shape, Text, built, first_of, first_value, one_of, one_text, rows_of, subcommand_of, subcommand_rows_of}
 use Rattle.clap.specs.Takes.{is_given}
 use Rattle.clap.specs.Faults.{level_fault}
 use Rattle.clap.specs.Simple.{filled, label_of}
@@ -12,10 +12,8 @@ use Rattle.clap.specs.Walk.{answers_to, nothing_held, rows_after}
 use Rattle.clap.specs.declared.parser.matches.ArgMatches.{ArgMatches}
 use Rattle.clap.specs.declared.parser.matches.Found.{Found}
 use Rattle.clap.proofs.WalkLemmas.{first_value-rows, one_text-rows}
-use Rattle.s66_command.specs.FoundOptions.{IsFlag, IsFoundBy, IsTaken}
-use Rattle.s66_command.specs.Usage.{GivesFlag, GivesProfile, flag_rule, number_rule, option_text, rule_of_option, s66_app}
-use Rattle.s66_command.specs.declared.subcommand.OptionName.{OptionName}
-use Rattle.s66_command.specs.declared.subcommand.OptionName.TheVariants as option
+use Rattle.s66_command.specs.FoundOptions.{IsFlagName, IsFoundBy, IsTaken, rule_called}
+use Rattle.s66_command.specs.Usage.{GivesFlag, GivesProfile, flag_rule, number_rule, option_text, s66_app}
 use Rattle.s66_command.proofs.Flags.{IsFlagOf, flag-is}
 use Rattle.s66_command.proofs.Named.{named}
 use Rattle.s66_command.proofs.OptionRanges.{IsNumber, number-is}
@@ -26,32 +24,11 @@ use Rattle.s66_command.proofs.OptionRows.{AreOptions, IsOption}
 abbrev shapes : List Shape
 shapes = (built s66_app).subs
 
--- the first rule of this name, of all subcommands
-abbrev rule_called : Text → Rule
-rule_called name = unwrap_or (find (λ a. bytes_eq a.id name) (fold (λ rules s. rules ++ s.rules) [] shapes)) (new_rule name)
-
 abbrev AreCalled : List Rule → Type 0
 AreCalled rules = map (λ a. rule_called a.id) rules ≡ rules
 
 all-called : map (λ s. map (λ a. rule_called a.id) s.rules) shapes ≡ map (λ s. s.rules) shapes
 all-called = refl
-
-option-called : (o : OptionName) → filled (rule_of_option o) ≡ rule_called (rule_of_option o).id
-option-called option.Deep = refl
-option-called option.Cut = refl
-option-called option.Profile = refl
-option-called option.Nodes = refl
-option-called option.Workers = refl
-option-called option.Dominate = refl
-option-called option.DominateTree = refl
-option-called option.Order = refl
-option-called option.Text = refl
-option-called option.Trace = refl
-option-called option.Keep = refl
-option-called option.Columns = refl
-option-called option.Quiet = refl
-option-called option.Words = refl
-option-called option.Block = refl
 
 found-called : (p : Shape → Bool) (all : List Shape) → map (λ s. map (λ a. rule_called a.id) s.rules) all ≡ map (λ s. s.rules) all →
     (s : Shape) → find p all ≡ Some s → AreCalled s.rules
@@ -85,14 +62,12 @@ matched found words is =
     let met = named words is.0 in
     (met.0, met.1, met.2, ap (λ o. unwrap_or o []) (sym is.1 ∙ ap (option_map (λ p. p.1)) met.2), met.5, found-called (λ s. answers_to met.0.name (label_of s)) shapes all-called met.0 met.3)
 
-pub flag-of : (found : Found) (words : List Text) (flag : Bool) (name : Text) (o : OptionName) → IsFlag o → IsFoundBy found words → name ≡ (rule_of_option o).id →
-    IsFlagOf (one_text found name) flag → GivesFlag (rule_of_option o).id words flag
-flag-of found words flag name o is-flag is same read =
-    let id = (rule_of_option o).id in
+pub flag-of : (found : Found) (words : List Text) (flag : Bool) (name : Text) → IsFlagName name → IsFoundBy found words → IsFlagOf (one_text found name) flag → GivesFlag name words flag
+flag-of found words flag name is-flag is read =
     let (s, rest, met, rows, none, are-called) = matched found words is in
-    let options = options-in (filled (flag_rule id)) (ap filled (sym is-flag) ∙ option-called o) s.rules are-called in
-    flag-is id s options rest false none flag (subst (λ text. IsFlagOf text flag) (ap (one_text found) same ∙ one_text-rows found id ∙ ap (one_of id) rows) read)
-    ∙ sym (ap (λ o. option_map_or (λ (p : Text × List Row). is_given id p.1) o false) met)
+    let options = options-in (filled (flag_rule name)) is-flag s.rules are-called in
+    flag-is name s options rest false none flag (subst (λ text. IsFlagOf text flag) (one_text-rows found name ∙ ap (one_of name) rows) read)
+    ∙ sym (ap (λ o. option_map_or (λ (p : Text × List Row). is_given name p.1) o false) met)
 
 -- the text of a number's option
 pub number-of : (found : Found) (words : List Text) (id name : Text) (least most : ℕ) → filled (number_rule id least most) ≡ rule_called id → IsFoundBy found words → name ≡ id →

@@ -236,7 +236,7 @@ called-name (t ∷ rest) s name at = called-head (bytes_eq (name_of t) name) t s
 
 -- the subcommand that clap gives by its name is the one that the words name
 pub asks-for : (m : ArgMatches) (words : List Text) (name : Text) (s : Subcommand) → IsTaken m words → Some name ≡ subcommand_name_of m →
-    subcommand_called name SUBCOMMANDS ≡ Some s → gives_conflict words ≡ false → AsksFor words (name_of s)
+    subcommand_called name SUBCOMMANDS ≡ Some s → gives_conflict words ≡ false → AsksFor words s
 asks-for m words name s is gives called none =
     (is.0, none, sym (name-is m words is) ∙ sym gives ∙ ap (λ n. Some n) (sym (called-name SUBCOMMANDS s name called)))
 

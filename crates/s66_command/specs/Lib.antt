@@ -1,6 +1,6 @@
 pub mod Usage
+pub mod CommandParts
 pub mod FoundOptions
-pub mod Profile
 pub mod ProfileText
 pub mod ProfileGiven
 pub mod ProfileRefusals

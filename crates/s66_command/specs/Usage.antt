@@ -1,6 +1,6 @@
 -- To be believed: the command line, by clap's rules: the subcommands, which options each takes, what words ask for by them, and which words are
 -- refused.
-use Rattle.std.specs.Prelude.{◌≡◌, ◌≢◌, ◌⊎◌, ◌≤◌, ◌&&◌, ◌||◌, not, if◌then◌else◌, IfSome, ℕ, Bool, List, [], ◌∷◌, ◌++◌, fold, false, true, Option, None, Some, codes, option_and_then, pos}
+use Rattle.std.specs.Prelude.{◌≡◌, ◌≢◌, ◌⊎◌, ◌≤◌, ◌&&◌, ◌||◌, not, if◌then◌else◌, IfSome, ℕ, Bool, List, [], ◌++◌, fold, false, true, Option, None, Some, codes, option_and_then, pos, slice_get, map}
 use Rattle.std.specs.Borrow.{Bor}
 use Rattle.std.specs.Option.{option_map, option_map_or}
 use Rattle.std.specs.Str.Parse.{digits_value, without_leading_plus}
@@ -19,79 +19,75 @@ use Rattle.s66_model.specs.declared.options.Options.{Options}
 use Rattle.s66_model.specs.declared.rule.Rule.{Rule as LeafRule}
 use Rattle.s66_model.specs.declared.rule.Rule.TheVariants.{NoneNamed, WrittenEarlier, ClampedStanding}
 use Rattle.s66_command.specs.declared.limits.TheConstants.{BLOCK_NUMBER_LIMIT, NODES_DEFAULT, WORKERS_DEFAULT}
-use Rattle.s66_command.specs.declared.subcommand.OptionName.{OptionName}
-use Rattle.s66_command.specs.declared.subcommand.OptionName.TheVariants as option
+use Rattle.s66_command.specs.declared.subcommand.TheConstants.{SUBCOMMANDS, TABLE}
+use Rattle.s66_command.specs.declared.subcommand.Value.{Value}
+use Rattle.s66_command.specs.declared.subcommand.Value.TheVariants as value
 use Rattle.s66_command.specs.declared.subcommand.Subcommand.{Subcommand}
 use Rattle.s66_command.specs.declared.subcommand.Subcommand.TheVariants as sub
 use Rattle.s66_command.specs.declared.command.Command.{Command}
-use Rattle.s66_command.specs.declared.command.Command.TheVariants.{Time, Deps, Chart, Why, Page, Order, Prove, Check, Sum, Compare, Json, Lint}
+use Rattle.s66_command.specs.declared.command.OrderStyle.{OrderStyle}
+use Rattle.s66_command.specs.declared.command.Asked.{Asked}
+use Rattle.s66_command.specs.declared.command.Asked.TheVariants.{Time, Deps, Chart, Why, Page, Order, Prove, Check, Sum, Compare, Json, Lint}
 use Rattle.s66_command.specs.declared.strategy.Strategy.{Strategy}
 use Rattle.s66_command.specs.declared.usage.Usage.{Usage}
 use Rattle.s66_command.specs.declared.usage.Usage.TheVariants.{Help, Bad, OutOfMemory}
 
+-- an option by its name
+abbrev pub named_rule : Text → Rule
+named_rule name = record (new_rule name) { long = Some name }
+
 -- a flag by its name
 abbrev pub flag_rule : Text → Rule
-flag_rule name = record (new_rule name) { long = Some name; action = Some SetTrue }
+flag_rule name = record (named_rule name) { action = Some SetTrue }
 
 -- an option whose value is a number from the least to the most
 abbrev pub number_rule : Text → ℕ → ℕ → Rule
-number_rule name least most = record (new_rule name) { long = Some name; value_names = 1; parser = Some (Signed (pos least) (pos most)) }
+number_rule name least most = record (named_rule name) { value_names = 1; parser = Some (Signed (pos least) (pos most)) }
 
--- the option by its name, with its range; all that take no value are flags
-abbrev pub rule_of_option : OptionName → Rule
-rule_of_option option.Deep = flag_rule (codes "deep")
-rule_of_option option.Cut = flag_rule (codes "cut")
-rule_of_option option.Profile = record (new_rule (codes "profile")) { long = Some (codes "profile"); value_names = 1 }
-rule_of_option option.Nodes = number_rule (codes "nodes") 0 BUDGET_LIMIT
-rule_of_option option.Workers = number_rule (codes "workers") 1 WORKERS_LIMIT
-rule_of_option option.Dominate = flag_rule (codes "dominate")
-rule_of_option option.DominateTree = flag_rule (codes "dominate-tree")
-rule_of_option option.Order = flag_rule (codes "order")
-rule_of_option option.Text = flag_rule (codes "text")
-rule_of_option option.Trace = flag_rule (codes "trace")
-rule_of_option option.Keep = flag_rule (codes "keep")
-rule_of_option option.Columns = flag_rule (codes "columns")
-rule_of_option option.Quiet = flag_rule (codes "quiet")
-rule_of_option option.Words = flag_rule (codes "words")
-rule_of_option option.Block = number_rule (codes "block") 1 BLOCK_NUMBER_LIMIT
+-- an option by its name and the value that it takes
+abbrev pub rule_of_row : Text → Value → Rule
+rule_of_row name value.Flag = flag_rule name
+rule_of_row name value.Written = record (named_rule name) { value_names = 1 }
+rule_of_row name (value.Number least most) = number_rule name least most
 
--- the word by which a subcommand is called
+-- the places of the subcommands in the table, in the order of their names
+abbrev pub place_of : Subcommand → ℕ
+place_of sub.Lint = 0
+place_of sub.Order = 1
+place_of sub.Compare = 2
+place_of sub.Sum = 3
+place_of sub.Prove = 4
+place_of sub.Check = 5
+place_of sub.Time = 6
+place_of sub.Why = 7
+place_of sub.Chart = 8
+place_of sub.Deps = 9
+place_of sub.Page = 10
+place_of sub.Json = 11
+
+-- the word by which a subcommand is called, by the table
 abbrev pub name_of : Subcommand → Text
-name_of sub.Lint = codes "lint"
-name_of sub.Order = codes "order"
-name_of sub.Compare = codes "compare"
-name_of sub.Sum = codes "sum"
-name_of sub.Prove = codes "prove"
-name_of sub.Check = codes "check"
-name_of sub.Time = codes "time"
-name_of sub.Why = codes "why"
-name_of sub.Chart = codes "chart"
-name_of sub.Deps = codes "deps"
-name_of sub.Page = codes "page"
-name_of sub.Json = codes "json"
+name_of s = option_map_or (λ r. r.0.now) (slice_get TABLE (place_of s)) []
 
--- the options of a search
-abbrev pub search_options : List OptionName
-search_options = option.Deep ∷ option.Cut ∷ option.Profile ∷ option.Nodes ∷ option.Workers ∷ option.Dominate ∷ option.DominateTree ∷ []
+-- a row of an option in the code: its name, the value that it takes, and what the help says
+abbrev pub OptionRow : Type 0
+OptionRow = Bor Text × Value × Bor Text
 
--- the options that a subcommand takes
-abbrev pub options_of : Subcommand → List OptionName
-options_of sub.Lint = option.Cut ∷ []
-options_of sub.Order = search_options ++ option.Trace ∷ option.Keep ∷ option.Columns ∷ option.Quiet ∷ option.Block ∷ []
-options_of sub.Compare = option.Cut ∷ option.Profile ∷ []
-options_of sub.Sum = search_options ++ option.Trace ∷ option.Words ∷ option.Block ∷ []
-options_of sub.Prove = search_options ++ option.Block ∷ []
-options_of sub.Check = option.Text ∷ []
-options_of sub.Time = option.Cut ∷ option.Profile ∷ option.Trace ∷ option.Block ∷ []
-options_of sub.Why = search_options ++ option.Order ∷ option.Text ∷ option.Block ∷ []
-options_of sub.Chart = option.Cut ∷ option.Profile ∷ option.Text ∷ option.Block ∷ []
-options_of sub.Deps = option.Cut ∷ option.Block ∷ []
-options_of sub.Page = search_options ++ option.Block ∷ []
-options_of sub.Json = search_options ++ option.Order ∷ option.Block ∷ []
+-- the names of such rows, with the values that these take
+abbrev pub rows : List OptionRow → List (Text × Value)
+rows options = map (λ (o : OptionRow). (o.0.now, o.1)) options
+
+-- the options that a subcommand takes, by the table
+abbrev pub options_of : Subcommand → List (Text × Value)
+options_of s = option_map_or (λ r. map (λ o. (o.0.now, o.1)) (r.1.now ++ r.2.now)) (slice_get TABLE (place_of s)) []
 
 -- a command line with these options too
-abbrev pub with_options : App → List OptionName → App
-with_options a options = fold (λ a o. with_rule a (rule_of_option o)) a options
+abbrev pub with_options : App → List (Text × Value) → App
+with_options a options = fold (λ a o. with_rule a (rule_of_row o.0 o.1)) a options
+
+-- the same, of rows in the code
+abbrev pub with_rows : App → List OptionRow → App
+with_rows a options = fold (λ a o. with_rule a (rule_of_row o.0.now o.1)) a options
 
 -- the command line of a subcommand
 abbrev pub app_of_subcommand : Subcommand → App
@@ -107,14 +103,9 @@ start_app =
     let a = new_app (codes "s66") in
     record a { top = record a.top { subcommand_required = true; has_version = true } }
 
--- all subcommands, in the order of the help
-abbrev pub subcommands : List Subcommand
-subcommands =
-    sub.Lint ∷ sub.Order ∷ sub.Compare ∷ sub.Sum ∷ sub.Prove ∷ sub.Check ∷ sub.Time ∷ sub.Why ∷ sub.Chart ∷ sub.Deps ∷ sub.Page ∷ sub.Json ∷ []
-
 -- the command line of the program
 abbrev pub s66_app : App
-s66_app = with_subcommands start_app subcommands
+s66_app = with_subcommands start_app SUBCOMMANDS
 
 -- the argument is this one, and not for all subcommands
 abbrev pub IsArgumentOf : Rule → Arg → Type 0
@@ -167,10 +158,10 @@ gives_conflict words =
     are_in_conflict (has (codes "dominate")) (has (codes "dominate-tree")) (has (codes "deep")) (has (codes "columns")) (has (codes "keep"))
 
 -- the words, of which the first is the program's name, have no fault, give no options that don't go together, and name the subcommand
-abbrev pub AsksFor : List Text → Text → Type 0
-AsksFor words name = (fault_of s66_app words ≡ []) × (gives_conflict words ≡ false) × (subcommand_name words ≡ Some name)
+abbrev pub AsksFor : List Text → Subcommand → Type 0
+AsksFor words s = (fault_of s66_app words ≡ []) × (gives_conflict words ≡ false) × (subcommand_name words ≡ Some (name_of s))
 
--- they give the subcommand the flag of this name, or don't
+-- they give the subcommand the flag, or don't
 abbrev pub GivesFlag : (name : Text) → List Text → Bool → Type 0
 GivesFlag name words flag = flag ≡ has_option name words
 
@@ -209,36 +200,32 @@ GivesBlock words block = IsNumberIn 1 BLOCK_NUMBER_LIMIT (option_text (codes "bl
 abbrev pub GivesProfile : List Text → Option (Bor Text) → Type 0
 GivesProfile words profile = option_map (λ text. text.now) profile ≡ plain_text (codes "profile") words
 
--- they ask for the command
+-- they say how an order is printed
+abbrev pub GivesStyle : List Text → OrderStyle → Type 0
+GivesStyle words style =
+    GivesFlag (codes "trace") words style.trace × GivesFlag (codes "keep") words style.keep × GivesFlag (codes "columns") words style.columns
+    × GivesFlag (codes "quiet") words style.quiet
+
+-- they ask for this, by a subcommand and its own options
+abbrev pub AsksBy : List Text → Asked → Type 0
+AsksBy words (Time trace) = AsksFor words sub.Time × GivesFlag (codes "trace") words trace
+AsksBy words Deps = AsksFor words sub.Deps
+AsksBy words (Chart text) = AsksFor words sub.Chart × GivesFlag (codes "text") words text
+AsksBy words (Why order text) = AsksFor words sub.Why × GivesOrder words order × GivesFlag (codes "text") words text
+AsksBy words (Page strategy) = AsksFor words sub.Page × GivesSearch words strategy
+AsksBy words (Order strategy style) = AsksFor words sub.Order × GivesSearch words strategy × GivesStyle words style
+AsksBy words (Prove strategy) = AsksFor words sub.Prove × GivesSearch words strategy
+AsksBy words (Check text) = AsksFor words sub.Check × GivesFlag (codes "text") words text
+AsksBy words (Sum strategy trace words_printed) =
+    AsksFor words sub.Sum × GivesSearch words strategy × GivesFlag (codes "trace") words trace × GivesFlag (codes "words") words words_printed
+AsksBy words Compare = AsksFor words sub.Compare
+AsksBy words (Json order) = AsksFor words sub.Json × GivesOrder words order
+AsksBy words Lint = AsksFor words sub.Lint
+
+-- they ask for the command; what a subcommand doesn't take, no words give it
 abbrev pub Asks : List Text → Command → Type 0
-Asks words (Time cut trace block profile) =
-    AsksFor words (codes "time") × GivesFlag (codes "cut") words cut × GivesFlag (codes "trace") words trace × GivesBlock words block
-    × GivesProfile words profile
-Asks words (Deps cut block) = AsksFor words (codes "deps") × GivesFlag (codes "cut") words cut × GivesBlock words block
-Asks words (Chart cut text block profile) =
-    AsksFor words (codes "chart") × GivesFlag (codes "cut") words cut × GivesFlag (codes "text") words text × GivesBlock words block
-    × GivesProfile words profile
-Asks words (Why cut order text block profile) =
-    AsksFor words (codes "why") × GivesFlag (codes "cut") words cut × GivesOrder words order × GivesFlag (codes "text") words text × GivesBlock words block
-    × GivesProfile words profile
-Asks words (Page cut strategy block profile) =
-    AsksFor words (codes "page") × GivesFlag (codes "cut") words cut × GivesSearch words strategy × GivesBlock words block
-    × GivesProfile words profile
-Asks words (Order cut strategy trace keep columns quiet block profile) =
-    AsksFor words (codes "order") × GivesFlag (codes "cut") words cut × GivesSearch words strategy × GivesFlag (codes "trace") words trace
-    × GivesFlag (codes "keep") words keep × GivesFlag (codes "columns") words columns × GivesFlag (codes "quiet") words quiet × GivesBlock words block
-    × GivesProfile words profile
-Asks words (Prove cut strategy block profile) =
-    AsksFor words (codes "prove") × GivesFlag (codes "cut") words cut × GivesSearch words strategy × GivesBlock words block
-    × GivesProfile words profile
-Asks words (Check text) = AsksFor words (codes "check") × GivesFlag (codes "text") words text
-Asks words (Sum cut strategy trace words_printed block profile) =
-    AsksFor words (codes "sum") × GivesFlag (codes "cut") words cut × GivesSearch words strategy × GivesFlag (codes "trace") words trace
-    × GivesFlag (codes "words") words words_printed × GivesBlock words block × GivesProfile words profile
-Asks words (Compare cut profile) = AsksFor words (codes "compare") × GivesFlag (codes "cut") words cut × GivesProfile words profile
-Asks words (Json cut order block profile) =
-    AsksFor words (codes "json") × GivesFlag (codes "cut") words cut × GivesOrder words order × GivesBlock words block × GivesProfile words profile
-Asks words (Lint cut) = AsksFor words (codes "lint") × GivesFlag (codes "cut") words cut
+Asks words command =
+    AsksBy words command.asked × GivesFlag (codes "cut") words command.cut × GivesBlock words command.block × GivesProfile words command.profile
 
 -- a kind of error that is no mistake
 abbrev pub IsHelp : ErrorKind → Type 0

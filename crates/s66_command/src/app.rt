@@ -2,38 +2,38 @@
 
 ghost use Rattle.std.specs.Prelude.{◌≡◌, IfOk};
 ghost use Rattle.clap.specs.Words.{App, app_of, new_app};
-ghost use Rattle.s66_command.specs.Usage.{IsArgumentOf, IsCommandOf, app_of_subcommand, name_of, rule_of_option, s66_app, with_options};
+ghost use Rattle.s66_command.specs.Usage.{IsArgumentOf, IsCommandOf, app_of_subcommand, name_of, named_rule, rule_of_row, s66_app, with_rows};
 
 use crate::help;
-use crate::limits::BLOCK_NUMBER_LIMIT;
-use crate::subcommand::{OptionName, SUBCOMMANDS, Subcommand};
+use crate::subcommand::{OptionRow, SUBCOMMANDS, Subcommand, Value};
 use clap::{Arg, ArgAction, Command, value_parser};
-use s66_model::{BUDGET_LIMIT, WORKERS_LIMIT};
 use std::alloc::{AllocError, Global};
 
 /// The version of the program.
 pub const VERSION: &str = "0.7.0";
 
-/// An option of a subcommand, with its help.
-fn argument<'a>(alloc: Global, subcommand: Subcommand, option: OptionName) -> Arg<'a>
-    ensures { IsArgumentOf (rule_of_option option) result }
+/// An option by its name, with its help.
+fn named_argument<'a>(alloc: Global, name: &'a str, text: &'a str) -> Arg<'a>
+    ensures { IsArgumentOf (named_rule name.now) result }
 {
-    let argument = Arg::new(alloc, option.name())
-        .long(option.name())
-        .help(help::option(subcommand, option));
-    match option {
-        OptionName::Profile => argument.value_name("TEXT").long_help(help::PROFILE_LONG),
-        OptionName::Nodes => argument
-            .value_name("N")
-            .long_help(help::NODES_LONG)
-            .value_parser(value_parser!(u32).range(..=i64::from(BUDGET_LIMIT))),
-        OptionName::Workers => argument
-            .value_name("N")
-            .value_parser(value_parser!(u8).range(1..=i64::from(WORKERS_LIMIT))),
-        OptionName::Block => argument.value_name("N").value_parser(value_parser!(u32).range(
-            1..=i64::from(BLOCK_NUMBER_LIMIT),
-        )),
-        _ => argument.action(ArgAction::SetTrue),
+    let argument = Arg::new(alloc, name).long(name).help(text);
+    match help::long(name) {
+        Some(text) => argument.long_help(text),
+        None => argument,
+    }
+}
+
+/// An option, with its help.
+fn argument<'a>(alloc: Global, name: &'a str, value: Value, text: &'a str) -> Arg<'a>
+    ensures { IsArgumentOf (rule_of_row name.now value) result }
+{
+    let argument = named_argument(alloc, name, text);
+    match value {
+        Value::Flag => argument.action(ArgAction::SetTrue),
+        Value::Written => argument.value_name("TEXT"),
+        Value::Number(least, most) => argument.value_name("N").value_parser(value_parser!(
+            u32
+        ).range(i64::from(least)..=i64::from(most))),
     }
 }
 
@@ -47,18 +47,17 @@ fn described<'a>(alloc: Global, subcommand: Subcommand) -> Command<'a>
         .after_help(help::ending(subcommand))
 }
 
-/// A command line with these options of the subcommand too.
+/// A command line with these options too.
 fn with_options<'a>(
     alloc: Global,
     command: Command<'a>,
-    subcommand: Subcommand,
-    options: &[OptionName],
+    options: &'static [OptionRow],
 ) -> Result<Command<'a>, AllocError>
-    ensures { (a : App) → IsCommandOf a command.entry → IfOk result (IsCommandOf (with_options a options.now)) }
+    ensures { (a : App) → IsCommandOf a command.entry → IfOk result (IsCommandOf (with_rows a options.now)) }
 {
     let mut command = command;
-    for &option in options {
-        command = command.arg(argument(alloc, subcommand, option))?;
+    for &(name, value, text) in options {
+        command = command.arg(argument(alloc, name, value, text))?;
     }
     Ok(command)
 }
@@ -71,8 +70,8 @@ pub(crate) fn subcommand_line<'a>(
     ensures { IfOk result (IsCommandOf (app_of_subcommand subcommand)) }
 {
     let (shared, own) = subcommand.options();
-    let command = with_options(alloc, described(alloc, subcommand), subcommand, shared)?;
-    with_options(alloc, command, subcommand, own)
+    let command = with_options(alloc, described(alloc, subcommand), shared)?;
+    with_options(alloc, command, own)
 }
 
 /// The command line of the program, which usage and help call s66 whatever the program's file is named.

@@ -2,7 +2,7 @@
 //! one of its long help at most 70.
 
 use crate::limits::{BLOCK_NUMBER_LIMIT, NODES_DEFAULT, WORKERS_DEFAULT};
-use crate::subcommand::{OptionName, Subcommand};
+use crate::subcommand::{Subcommand, TABLE};
 use s66_isa::PROFILE_LIMIT;
 use s66_model::{BUDGET_LIMIT, WORKERS_LIMIT};
 
@@ -57,42 +57,12 @@ and explains them, and proves that no order is faster.";
 
 /// What a subcommand does.
 pub(crate) fn about<'a>(subcommand: Subcommand) -> &'a str {
-    match subcommand {
-        Subcommand::Lint => "Lists the lines that are refused, or that order could harm",
-        Subcommand::Order => "Writes the source with each block in the best order found",
-        Subcommand::Compare => "\
-Tells whether one source is another but for legal orders of blocks:
-OLD, a line *S66 NEW, then NEW",
-        Subcommand::Sum => "Prints what order saves in each block, and in all",
-        Subcommand::Prove => "Writes a certificate for each block: order, time, bound, and proof",
-        Subcommand::Check => "Checks each certificate by itself",
-        Subcommand::Time => "Times each block as it is written",
-        Subcommand::Why => "Prints what each instruction waits for, and for how long",
-        Subcommand::Chart => "Draws each block as it is written",
-        Subcommand::Deps => "Prints what each instruction depends on",
-        Subcommand::Page => "\
-Writes a page for a browser: each block as it is written and in the
-best order found",
-        Subcommand::Json => "Writes each block as a line of JSON, for programs",
-    }
+    TABLE[subcommand as usize].4
 }
 
 /// How a subcommand is called.
 pub(crate) fn usage<'a>(subcommand: Subcommand) -> &'a str {
-    match subcommand {
-        Subcommand::Lint => "s66 lint [OPTIONS] < SOURCE",
-        Subcommand::Order => "s66 order [OPTIONS] < SOURCE",
-        Subcommand::Compare => "s66 compare [OPTIONS] < SOURCES",
-        Subcommand::Sum => "s66 sum [OPTIONS] < SOURCE",
-        Subcommand::Prove => "s66 prove [OPTIONS] < SOURCE",
-        Subcommand::Check => "s66 check [OPTIONS] < CERTIFICATES",
-        Subcommand::Time => "s66 time [OPTIONS] < SOURCE",
-        Subcommand::Why => "s66 why [OPTIONS] < SOURCE",
-        Subcommand::Chart => "s66 chart [OPTIONS] < SOURCE",
-        Subcommand::Deps => "s66 deps [OPTIONS] < SOURCE",
-        Subcommand::Page => "s66 page [OPTIONS] < SOURCE > PAGE",
-        Subcommand::Json => "s66 json [OPTIONS] < SOURCE",
-    }
+    TABLE[subcommand as usize].5
 }
 
 /// How the help of a subcommand ends: with an example and the statuses.
@@ -125,7 +95,7 @@ Status: 0 done, 2 usage, 4 out of memory, 5 some line is refused,
     }
 }
 
-pub(crate) const PROFILE_LONG: &str = "\
+const PROFILE_LONG: &str = "\
 The timing profile, a JSON object [default: {}]; what it does not
 name is standard.
 
@@ -137,63 +107,17 @@ Each is 1 to 100.
 
 A third Multiply unit: --profile '{\"units_multiply\":3}'";
 
-pub(crate) const NODES_LONG: &str = "\
+const NODES_LONG: &str = "\
 The most splits of a block's search, 0 to 1000000 [default: 100000]
 
 A split divides all orders with one beginning by the instruction that
 comes next.";
 
-/// What an option of a subcommand does.
-pub(crate) fn option<'a>(subcommand: Subcommand, option: OptionName) -> &'a str {
-    match (subcommand, option) {
-        (_, OptionName::Deep) => "\
-Looks first for facts that show that no order is faster:
-always, unless the search itself is what you study",
-        (Subcommand::Lint, OptionName::Cut) => "\
-Leaves out what other subcommands leave alone with
---cut: lists what remains to be done by hand",
-        (_, OptionName::Cut) => "\
-Leaves alone, rather than refuses, lines that can't be
-read, and code that directives, macros or counts cover",
-        (_, OptionName::Profile) => "The timing profile, a JSON object [default: {}]",
-        (_, OptionName::Nodes) => "\
-The most splits of a block's search, 0 to 1000000
-[default: 100000]",
-        (_, OptionName::Workers) => "How many workers search, 1 to 16 [default: 4]",
-        (_, OptionName::Dominate) => "\
-For studying searches: leaves out beginnings of orders
-that an earlier one dominates",
-        (_, OptionName::DominateTree) => "\
-For studying searches: leaves out beginnings of orders
-that any other one dominates",
-        (Subcommand::Json, OptionName::Order) => "\
-Writes the best order found too; the options of a search
-are for this",
-        (_, OptionName::Order) => "\
-Explains the best order found, and not the source's; the
-options of a search are for this",
-        (Subcommand::Check, OptionName::Text) => "Says in sentences why no order is faster",
-        (Subcommand::Chart, OptionName::Text) => "\
-Puts the text of each instruction before its row, and a
-ruler above the rows",
-        (_, OptionName::Text) => "Puts the text of each instruction beside its number",
-        (Subcommand::Order, OptionName::Trace) => "Prints the number of splits of each block",
-        (Subcommand::Sum, OptionName::Trace) =>
-            "Prints the number of splits of each block, and of all",
-        (_, OptionName::Trace) => "Prints the times of each instruction",
-        (_, OptionName::Keep) => "\
-Copies a block that keeps its order as it stands, with
-its NOs and notes, and reports nothing of it",
-        (_, OptionName::Columns) => "\
-With --keep, puts the operation of each line of a
-changed block in the column in which it stood",
-        (_, OptionName::Quiet) => "Prints no reports, but the source alone",
-        (_, OptionName::Words) => "\
-Prints the words of each block, as written and in the
-best order found",
-        (Subcommand::Order, OptionName::Block) => "\
-Puts only the block of this number in order, 1 to 20000;
-copies the others as they stand",
-        (_, OptionName::Block) => "Prints only the block of this number, 1 to 20000",
+/// What the long help says of the option of this name, if it says more.
+pub(crate) fn long<'a>(name: &str) -> Option<&'a str> {
+    match name {
+        "profile" => Some(PROFILE_LONG),
+        "nodes" => Some(NODES_LONG),
+        _ => None,
     }
 }

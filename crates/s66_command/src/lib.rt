@@ -15,11 +15,11 @@ mod subcommand;
 mod usage;
 
 pub use app::VERSION;
-pub use command::Command;
+pub use command::{Asked, Command, OrderStyle};
 pub use examples::{hint_examples, profile_examples, refusal_examples};
 pub use hint::profile_hint;
 pub use limits::{BLOCK_NUMBER_LIMIT, NODES_DEFAULT, WORKERS_DEFAULT};
 pub use profile::read_profile;
 pub use profile_error::ProfileError;
 pub use strategy::Strategy;
-pub use usage::{Usage, command_of};
+pub use usage::{Usage, command_of, goes_deep};

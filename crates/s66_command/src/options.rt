@@ -2,54 +2,49 @@
 
 ghost use Rattle.std.specs.Prelude.{◌≡◌, IfSome, List, is_some};
 ghost use Rattle.clap.specs.Words.{Text, found_of};
-ghost use Rattle.s66_command.specs.FoundOptions.{IsFlag, IsFoundBy};
-ghost use Rattle.s66_command.specs.Usage.{GivesBlock, GivesFlag, GivesNodes, GivesOrder, GivesProfile, GivesSearch, GivesWorkers, IsMistake, are_two, gives_conflict, rule_by, rule_of_option};
+ghost use Rattle.s66_command.specs.FoundOptions.{IsFlagName, IsFoundBy};
+ghost use Rattle.s66_command.specs.Usage.{GivesBlock, GivesFlag, GivesNodes, GivesOrder, GivesProfile, GivesSearch, GivesWorkers, IsMistake, are_two, gives_conflict, rule_by};
 
 use crate::limits::{NODES_DEFAULT, WORKERS_DEFAULT};
 use crate::strategy::Strategy;
-use crate::subcommand::OptionName;
 use clap::ArgMatches;
 use clap::error::ErrorKind;
 use s66_model::{Options, Rule};
 
 /// Whether a flag is given.
-pub(crate) fn flag_in(matches: &ArgMatches, flag: OptionName) -> bool
-    ensures { IsFlag flag → (words : List Text) → IsFoundBy (found_of matches.now) words →
-        GivesFlag (rule_of_option flag).id words result }
+pub(crate) fn flag_in(matches: &ArgMatches, flag: &str) -> bool
+    ensures { IsFlagName flag.now → (words : List Text) → IsFoundBy (found_of matches.now) words →
+        GivesFlag flag.now words result }
 {
-    matches.get_flag(flag.name())
+    matches.get_flag(flag)
 }
 
 /// How many workers search.
 fn workers_in(matches: &ArgMatches) -> u8
     ensures { (words : List Text) → IsFoundBy (found_of matches.now) words → GivesWorkers words result }
 {
-    matches
-        .get_one(OptionName::Workers.name())
-        .unwrap_or(WORKERS_DEFAULT)
+    matches.get_one("workers").unwrap_or(WORKERS_DEFAULT)
 }
 
 /// The most splits of a search.
 fn nodes_in(matches: &ArgMatches) -> u32
     ensures { (words : List Text) → IsFoundBy (found_of matches.now) words → GivesNodes words result }
 {
-    matches
-        .get_one(OptionName::Nodes.name())
-        .unwrap_or(NODES_DEFAULT)
+    matches.get_one("nodes").unwrap_or(NODES_DEFAULT)
 }
 
 /// The number of the only block that is printed.
 pub(crate) fn block_in(matches: &ArgMatches) -> Option<u32>
     ensures { (words : List Text) → IsFoundBy (found_of matches.now) words → GivesBlock words result }
 {
-    matches.get_one(OptionName::Block.name())
+    matches.get_one("block")
 }
 
 /// The text of the profile.
 pub(crate) fn profile_in<'a>(matches: &ArgMatches<'a>) -> Option<&'a str>
     ensures { (words : List Text) → IsFoundBy (found_of matches.now) words → GivesProfile words result }
 {
-    matches.get_str(OptionName::Profile.name())
+    matches.get_str("profile")
 }
 
 /// Which nodes dominated leaves name by the flags `--dominate`, `--dominate-tree` and `--deep`, of which one at most is given.
@@ -69,9 +64,9 @@ fn rule_of(dominate: bool, dominate_tree: bool, deep: bool) -> Rule
 pub(crate) fn strategy_in(matches: &ArgMatches) -> Strategy
     ensures { (words : List Text) → IsFoundBy (found_of matches.now) words → GivesSearch words result }
 {
-    let dominate = flag_in(matches, OptionName::Dominate);
-    let dominate_tree = flag_in(matches, OptionName::DominateTree);
-    let deep = flag_in(matches, OptionName::Deep);
+    let dominate = flag_in(matches, "dominate");
+    let dominate_tree = flag_in(matches, "dominate-tree");
+    let deep = flag_in(matches, "deep");
     let search = Options {
         workers: workers_in(matches),
         nodes: nodes_in(matches),
@@ -84,7 +79,7 @@ pub(crate) fn strategy_in(matches: &ArgMatches) -> Strategy
 pub(crate) fn order_in(matches: &ArgMatches) -> Option<Strategy>
     ensures { (words : List Text) → IsFoundBy (found_of matches.now) words → GivesOrder words result }
 {
-    if flag_in(matches, OptionName::Order) {
+    if flag_in(matches, "order") {
         Some(strategy_in(matches))
     } else {
         None
@@ -115,11 +110,11 @@ pub(crate) fn conflict_in(matches: &ArgMatches) -> Option<(ErrorKind, &'static s
     ensures given { (words : List Text) → IsFoundBy (found_of matches.now) words →
         is_some result ≡ gives_conflict words }
 {
-    let dominate = flag_in(matches, OptionName::Dominate);
-    let dominate_tree = flag_in(matches, OptionName::DominateTree);
-    let deep = flag_in(matches, OptionName::Deep);
-    let columns = flag_in(matches, OptionName::Columns);
-    let keep = flag_in(matches, OptionName::Keep);
+    let dominate = flag_in(matches, "dominate");
+    let dominate_tree = flag_in(matches, "dominate-tree");
+    let deep = flag_in(matches, "deep");
+    let columns = flag_in(matches, "columns");
+    let keep = flag_in(matches, "keep");
     if let Some(message) = conflict_of(dominate, dominate_tree, deep) {
         return Some((ErrorKind::ArgumentConflict, message));
     }

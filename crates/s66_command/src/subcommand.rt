@@ -1,8 +1,12 @@
-//! The subcommands, and the options that each takes.
+//! The table of the command line: a row for each option, a row for each subcommand.
 
 ghost use Rattle.std.specs.Prelude.{◌≡◌, ◌++◌, find, bytes_eq};
-ghost use Rattle.s66_command.specs.Usage.{name_of, options_of, rule_of_option};
+ghost use Rattle.s66_command.specs.Usage.{name_of, options_of, rows};
 ghost use Rattle.s66_command.specs.declared.subcommand.TheConstants.{SUBCOMMANDS};
+
+use crate::limits::BLOCK_NUMBER_LIMIT;
+use Value::{Flag, Number, Written};
+use s66_model::{BUDGET_LIMIT, WORKERS_LIMIT};
 
 /// A subcommand, without its options.
 #[derive(Clone, Copy)]
@@ -37,40 +41,269 @@ pub(crate) const SUBCOMMANDS: [Subcommand; 12] = [
     Subcommand::Json,
 ];
 
-/// An option of subcommands.
+/// The value that an option takes.
 #[derive(Clone, Copy)]
-pub(crate) enum OptionName {
-    Deep,
-    Cut,
-    Profile,
-    Nodes,
-    Workers,
-    Dominate,
-    DominateTree,
-    Order,
-    Text,
-    Trace,
-    Keep,
-    Columns,
-    Quiet,
-    Words,
-    Block,
+pub(crate) enum Value {
+    /// None: it is given or not.
+    Flag,
+    /// A text, as it stands.
+    Written,
+    /// A number from the first to the second.
+    Number(u32, u32),
 }
 
-use OptionName::{
-    Block, Columns, Cut, Deep, Dominate, DominateTree, Keep, Nodes, Order, Profile, Quiet, Text,
-    Trace, Words, Workers,
-};
+/// An option: its name, which comes after two dashes, the value that it takes, and what its help says.
+pub(crate) type OptionRow = (&'static str, Value, &'static str);
+
+const DEEP: OptionRow = (
+    "deep",
+    Flag,
+    "\
+Looks first for facts that show that no order is faster:
+always, unless the search itself is what you study",
+);
+
+const CUT: OptionRow = (
+    "cut",
+    Flag,
+    "\
+Leaves alone, rather than refuses, lines that can't be
+read, and code that directives, macros or counts cover",
+);
+
+const CUT_OF_LINT: OptionRow = (
+    "cut",
+    Flag,
+    "\
+Leaves out what other subcommands leave alone with
+--cut: lists what remains to be done by hand",
+);
+
+const PROFILE: OptionRow = (
+    "profile",
+    Written,
+    "The timing profile, a JSON object [default: {}]",
+);
+
+const NODES: OptionRow = (
+    "nodes",
+    Number(0, BUDGET_LIMIT),
+    "\
+The most splits of a block's search, 0 to 1000000
+[default: 100000]",
+);
+
+const WORKERS: OptionRow = (
+    "workers",
+    Number(1, WORKERS_LIMIT as u32),
+    "How many workers search, 1 to 16 [default: 4]",
+);
+
+const DOMINATE: OptionRow = (
+    "dominate",
+    Flag,
+    "\
+For studying searches: leaves out beginnings of orders
+that an earlier one dominates",
+);
+
+const DOMINATE_TREE: OptionRow = (
+    "dominate-tree",
+    Flag,
+    "\
+For studying searches: leaves out beginnings of orders
+that any other one dominates",
+);
+
+const ORDER: OptionRow = (
+    "order",
+    Flag,
+    "\
+Explains the best order found, and not the source's; the
+options of a search are for this",
+);
+
+const ORDER_OF_JSON: OptionRow = (
+    "order",
+    Flag,
+    "\
+Writes the best order found too; the options of a search
+are for this",
+);
+
+const TEXT: OptionRow = (
+    "text",
+    Flag,
+    "Puts the text of each instruction beside its number",
+);
+
+const TEXT_OF_CHECK: OptionRow = ("text", Flag, "Says in sentences why no order is faster");
+
+const TEXT_OF_CHART: OptionRow = (
+    "text",
+    Flag,
+    "\
+Puts the text of each instruction before its row, and a
+ruler above the rows",
+);
+
+const TRACE: OptionRow = ("trace", Flag, "Prints the times of each instruction");
+
+const TRACE_OF_ORDER: OptionRow = ("trace", Flag, "Prints the number of splits of each block");
+
+const TRACE_OF_SUM: OptionRow = (
+    "trace",
+    Flag,
+    "Prints the number of splits of each block, and of all",
+);
+
+const KEEP: OptionRow = (
+    "keep",
+    Flag,
+    "\
+Copies a block that keeps its order as it stands, with
+its NOs and notes, and reports nothing of it",
+);
+
+const COLUMNS: OptionRow = (
+    "columns",
+    Flag,
+    "\
+With --keep, puts the operation of each line of a
+changed block in the column in which it stood",
+);
+
+const QUIET: OptionRow = ("quiet", Flag, "Prints no reports, but the source alone");
+
+const WORDS: OptionRow = (
+    "words",
+    Flag,
+    "\
+Prints the words of each block, as written and in the
+best order found",
+);
+
+const BLOCK: OptionRow = (
+    "block",
+    Number(1, BLOCK_NUMBER_LIMIT),
+    "Prints only the block of this number, 1 to 20000",
+);
+
+const BLOCK_OF_ORDER: OptionRow = (
+    "block",
+    Number(1, BLOCK_NUMBER_LIMIT),
+    "\
+Puts only the block of this number in order, 1 to 20000;
+copies the others as they stand",
+);
 
 /// The options of the subcommands that search.
-const SEARCH_OPTIONS: [OptionName; 7] = [
-    Deep,
-    Cut,
-    Profile,
-    Nodes,
-    Workers,
-    Dominate,
-    DominateTree,
+const SEARCH: &[OptionRow] = &[DEEP, CUT, PROFILE, NODES, WORKERS, DOMINATE, DOMINATE_TREE];
+
+/// The subcommands, each at the place of its name in `Subcommand`: its name, which is a word of the command line, the options that it
+/// takes, in the order of its help, those of a search first, whether its calls go deep, as those of a search or a check do, what it
+/// does, and how it is called.
+pub(crate) const TABLE: [(&str, &[OptionRow], &[OptionRow], bool, &str, &str); 12] = [
+    (
+        "lint",
+        &[],
+        &[CUT_OF_LINT],
+        false,
+        "Lists the lines that are refused, or that order could harm",
+        "s66 lint [OPTIONS] < SOURCE",
+    ),
+    (
+        "order",
+        SEARCH,
+        &[TRACE_OF_ORDER, KEEP, COLUMNS, QUIET, BLOCK_OF_ORDER],
+        true,
+        "Writes the source with each block in the best order found",
+        "s66 order [OPTIONS] < SOURCE",
+    ),
+    (
+        "compare",
+        &[],
+        &[CUT, PROFILE],
+        false,
+        "\
+Tells whether one source is another but for legal orders of blocks:
+OLD, a line *S66 NEW, then NEW",
+        "s66 compare [OPTIONS] < SOURCES",
+    ),
+    (
+        "sum",
+        SEARCH,
+        &[TRACE_OF_SUM, WORDS, BLOCK],
+        true,
+        "Prints what order saves in each block, and in all",
+        "s66 sum [OPTIONS] < SOURCE",
+    ),
+    (
+        "prove",
+        SEARCH,
+        &[BLOCK],
+        true,
+        "Writes a certificate for each block: order, time, bound, and proof",
+        "s66 prove [OPTIONS] < SOURCE",
+    ),
+    (
+        "check",
+        &[],
+        &[TEXT_OF_CHECK],
+        true,
+        "Checks each certificate by itself",
+        "s66 check [OPTIONS] < CERTIFICATES",
+    ),
+    (
+        "time",
+        &[],
+        &[CUT, PROFILE, TRACE, BLOCK],
+        false,
+        "Times each block as it is written",
+        "s66 time [OPTIONS] < SOURCE",
+    ),
+    (
+        "why",
+        SEARCH,
+        &[ORDER, TEXT, BLOCK],
+        true,
+        "Prints what each instruction waits for, and for how long",
+        "s66 why [OPTIONS] < SOURCE",
+    ),
+    (
+        "chart",
+        &[],
+        &[CUT, PROFILE, TEXT_OF_CHART, BLOCK],
+        false,
+        "Draws each block as it is written",
+        "s66 chart [OPTIONS] < SOURCE",
+    ),
+    (
+        "deps",
+        &[],
+        &[CUT, BLOCK],
+        false,
+        "Prints what each instruction depends on",
+        "s66 deps [OPTIONS] < SOURCE",
+    ),
+    (
+        "page",
+        SEARCH,
+        &[BLOCK],
+        true,
+        "\
+Writes a page for a browser: each block as it is written and in the
+best order found",
+        "s66 page [OPTIONS] < SOURCE > PAGE",
+    ),
+    (
+        "json",
+        SEARCH,
+        &[ORDER_OF_JSON, BLOCK],
+        true,
+        "Writes each block as a line of JSON, for programs",
+        "s66 json [OPTIONS] < SOURCE",
+    ),
 ];
 
 impl Subcommand {
@@ -78,39 +311,20 @@ impl Subcommand {
     pub(crate) fn name<'a>(self) -> &'a str
         ensures { result.now ≡ name_of self }
     {
-        match self {
-            Subcommand::Lint => "lint",
-            Subcommand::Order => "order",
-            Subcommand::Compare => "compare",
-            Subcommand::Sum => "sum",
-            Subcommand::Prove => "prove",
-            Subcommand::Check => "check",
-            Subcommand::Time => "time",
-            Subcommand::Why => "why",
-            Subcommand::Chart => "chart",
-            Subcommand::Deps => "deps",
-            Subcommand::Page => "page",
-            Subcommand::Json => "json",
-        }
+        TABLE[self as usize].0
     }
 
     /// The options that it takes, in the order of its help: those of a search if it searches, and its own.
-    pub(crate) fn options(self) -> (&'static [OptionName], &'static [OptionName])
-        ensures { result.0.now ++ result.1.now ≡ options_of self }
+    pub(crate) fn options(self) -> (&'static [OptionRow], &'static [OptionRow])
+        ensures { rows result.0.now ++ rows result.1.now ≡ options_of self }
     {
-        match self {
-            Subcommand::Lint => (&[], &[Cut]),
-            Subcommand::Order => (&SEARCH_OPTIONS, &[Trace, Keep, Columns, Quiet, Block]),
-            Subcommand::Compare => (&[], &[Cut, Profile]),
-            Subcommand::Sum => (&SEARCH_OPTIONS, &[Trace, Words, Block]),
-            Subcommand::Prove | Subcommand::Page => (&SEARCH_OPTIONS, &[Block]),
-            Subcommand::Check => (&[], &[Text]),
-            Subcommand::Time => (&[], &[Cut, Profile, Trace, Block]),
-            Subcommand::Why => (&SEARCH_OPTIONS, &[Order, Text, Block]),
-            Subcommand::Chart => (&[], &[Cut, Profile, Text, Block]),
-            Subcommand::Deps => (&[], &[Cut, Block]),
-            Subcommand::Json => (&SEARCH_OPTIONS, &[Order, Block]),
-        }
+        let (_, shared, own, _, _, _) = TABLE[self as usize];
+        (shared, own)
+    }
+
+    /// Whether its calls go deep: it searches, or checks.
+    pub(crate) fn goes_deep(self) -> bool {
+        TABLE[self as usize].3
     }
 
     /// The subcommand of this name.
@@ -121,30 +335,5 @@ impl Subcommand {
             .iter()
             .find(|subcommand| subcommand.name() == name)
             .copied()
-    }
-}
-
-impl OptionName {
-    /// Its name, which comes after two dashes.
-    pub(crate) fn name<'a>(self) -> &'a str
-        ensures { result.now ≡ (rule_of_option self).id }
-    {
-        match self {
-            Deep => "deep",
-            Cut => "cut",
-            Profile => "profile",
-            Nodes => "nodes",
-            Workers => "workers",
-            Dominate => "dominate",
-            DominateTree => "dominate-tree",
-            Order => "order",
-            Text => "text",
-            Trace => "trace",
-            Keep => "keep",
-            Columns => "columns",
-            Quiet => "quiet",
-            Words => "words",
-            Block => "block",
-        }
     }
 }

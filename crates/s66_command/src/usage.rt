@@ -2,13 +2,13 @@ ghost use Rattle.std.specs.Prelude.{◌≡◌, IfOk, IfErr, List, MatchResult, m
 ghost use Rattle.clap.specs.Words.{Text, found_of, kind_of};
 ghost use Rattle.clap.specs.declared.error.kind.ErrorKind.TheVariants.{UnknownArgument};
 ghost use Rattle.s66_command.specs.FoundOptions.{IsFoundBy, IsTaken};
-ghost use Rattle.s66_command.specs.Usage.{Asks, AsksFor, IsUsageOf, Refuses, name_of};
+ghost use Rattle.s66_command.specs.Usage.{Asks, AsksBy, AsksFor, IsUsageOf, Refuses};
 ghost use Rattle.s66_command.specs.declared.usage.Usage.TheVariants.{OutOfMemory};
 
 use crate::app::{program, subcommand_line};
-use crate::command::Command as Asked;
+use crate::command::{Asked, Command, OrderStyle};
 use crate::options::{block_in, conflict_in, flag_in, order_in, profile_in, strategy_in};
-use crate::subcommand::{OptionName, Subcommand};
+use crate::subcommand::Subcommand;
 use clap::error::ErrorKind;
 use clap::{ArgMatches, Error};
 use std::alloc::{AllocError, Global};
@@ -90,83 +90,56 @@ fn mistake(alloc: Global, subcommand: Subcommand, kind: ErrorKind, message: &str
     }
 }
 
-/// The command of a subcommand, by what clap found of its options.
-fn command_by<'a>(subcommand: Subcommand, given: &ArgMatches<'a>) -> Asked<'a>
-    ensures { (words : List Text) → IsFoundBy (found_of given.now) words → AsksFor words (name_of subcommand) →
-        Asks words result }
+/// What a subcommand writes, by what clap found of its options.
+fn asked_by(subcommand: Subcommand, given: &ArgMatches) -> Asked
+    ensures { (words : List Text) → IsFoundBy (found_of given.now) words → AsksFor words subcommand → AsksBy words result }
 {
-    let cut = flag_in(given, OptionName::Cut);
-    let text = flag_in(given, OptionName::Text);
-    let trace = flag_in(given, OptionName::Trace);
+    let text = flag_in(given, "text");
+    let trace = flag_in(given, "trace");
     let strategy = strategy_in(given);
     let order = order_in(given);
-    let block = block_in(given);
-    let profile = profile_in(given);
     match subcommand {
-        Subcommand::Lint => Asked::Lint { cut },
-        Subcommand::Order => Asked::Order {
-            cut,
-            strategy,
-            trace,
-            keep: flag_in(given, OptionName::Keep),
-            columns: flag_in(given, OptionName::Columns),
-            quiet: flag_in(given, OptionName::Quiet),
-            block,
-            profile,
-        },
-        Subcommand::Compare => Asked::Compare { cut, profile },
+        Subcommand::Lint => Asked::Lint,
+        Subcommand::Order => {
+            let style = OrderStyle {
+                trace,
+                keep: flag_in(given, "keep"),
+                columns: flag_in(given, "columns"),
+                quiet: flag_in(given, "quiet"),
+            };
+            Asked::Order { strategy, style }
+        }
+        Subcommand::Compare => Asked::Compare,
         Subcommand::Sum => Asked::Sum {
-            cut,
             strategy,
             trace,
-            words: flag_in(given, OptionName::Words),
-            block,
-            profile,
+            words: flag_in(given, "words"),
         },
-        Subcommand::Prove => Asked::Prove {
-            cut,
-            strategy,
-            block,
-            profile,
-        },
+        Subcommand::Prove => Asked::Prove { strategy },
         Subcommand::Check => Asked::Check { text },
-        Subcommand::Time => Asked::Time {
-            cut,
-            trace,
-            block,
-            profile,
-        },
-        Subcommand::Why => Asked::Why {
-            cut,
-            order,
-            text,
-            block,
-            profile,
-        },
-        Subcommand::Chart => Asked::Chart {
-            cut,
-            text,
-            block,
-            profile,
-        },
-        Subcommand::Deps => Asked::Deps { cut, block },
-        Subcommand::Page => Asked::Page {
-            cut,
-            strategy,
-            block,
-            profile,
-        },
-        Subcommand::Json => Asked::Json {
-            cut,
-            order,
-            block,
-            profile,
-        },
+        Subcommand::Time => Asked::Time { trace },
+        Subcommand::Why => Asked::Why { order, text },
+        Subcommand::Chart => Asked::Chart { text },
+        Subcommand::Deps => Asked::Deps,
+        Subcommand::Page => Asked::Page { strategy },
+        Subcommand::Json => Asked::Json { order },
+    }
+}
+
+/// The command of a subcommand, by what clap found of its options.
+fn command_by<'a>(subcommand: Subcommand, given: &ArgMatches<'a>) -> Command<'a>
+    ensures { (words : List Text) → IsFoundBy (found_of given.now) words → AsksFor words subcommand → Asks words result }
+{
+    Command {
+        cut: flag_in(given, "cut"),
+        block: block_in(given),
+        profile: profile_in(given),
+        asked: asked_by(subcommand, given),
     }
 }
 
 /// The command that the words give as clap took them. Options that don't go together are a mistake.
-fn asked<'a>(alloc: Global, matches: &ArgMatches<'a>) -> Result<Asked<'a>, Usage>
+fn asked<'a>(alloc: Global, matches: &ArgMatches<'a>) -> Result<Command<'a>, Usage>
     requires { (words : List Text) × IsTaken matches.now words }
     ensures { (words : List Text) → IsTaken matches.now words → MatchResult result (Asks words) (Refuses words) }
 {
@@ -183,12 +156,23 @@ fn asked<'a>(alloc: Global, matches: &ArgMatches<'a>) -> Result<Asked<'a>, Usage
 }
 
 /// The command that the words give, of which the first is the program's name.
-pub fn command_of<'a, S: AsStr>(alloc: Global, words: &'a [S]) -> Result<Asked<'a>, Usage>
+pub fn command_of<'a, S: AsStr>(alloc: Global, words: &'a [S]) -> Result<Command<'a>, Usage>
     ensures ok { IfOk result (λ command. Asks (map S.text words.entry.now) command) }
     ensures err { IfErr result (λ usage. Refuses (map S.text words.entry.now) usage) }
 {
     match program(alloc)?.try_get_matches_from(words) {
         Ok(matches) => asked(alloc, &matches),
         Err(error) => Err(usage_of(alloc, &error)),
+    }
+}
+
+/// Whether the words, of which the first is the program's name, ask for a search or a check, whose calls go deepest.
+pub fn goes_deep<S: AsStr>(words: &[S]) -> bool {
+    match words {
+        [_, name, ..] => match Subcommand::named(name.as_str()) {
+            Some(subcommand) => subcommand.goes_deep(),
+            None => false,
+        },
+        _ => false,
     }
 }

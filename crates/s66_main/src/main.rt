@@ -5,7 +5,7 @@ mod closed_pipe;
 
 use crate::closed_pipe::{Silenced, Watched};
 use s66_device::{OverRead, OverWrite};
-use s66_program::{Progress, refuse_words, run_program};
+use s66_program::{Progress, goes_deep, refuse_words, run_program};
 use std::cell::Cell;
 use std::io::{IsTerminal, Write};
 use std::process::ExitCode;
@@ -31,17 +31,6 @@ fn touch_stack(rt: &HostRuntime) {
 fn touch_deep_stack(rt: &HostRuntime) {
     let room = [0u8; DEEP_ROOM];
     let _ = rt.stderr().write(&room[..0]);
-}
-
-/// Whether the words ask for a search or a check, whose calls go deepest.
-fn goes_deep(words: &[String]) -> bool {
-    match words {
-        [_, subcommand, ..] => matches!(
-            subcommand.as_str(),
-            "order" | "why" | "page" | "json" | "sum" | "prove" | "check"
-        ),
-        _ => false,
-    }
 }
 
 /// The words of the command line, of which the first is the program's name.

@@ -7,6 +7,8 @@ use Rattle.s66_source.specs.Keeping.{printed_keeping}
 use Rattle.s66_source.specs.LeftAlone.{Reading}
 use Rattle.s66_source.specs.Printed.{Placed}
 use Rattle.s66_source.specs.declared.columns.Columns.{Columns}
+use Rattle.s66_source.specs.declared.columns.Columns.TheVariants.{Own, Usual}
+use Rattle.s66_command.specs.declared.command.OrderStyle.{OrderStyle}
 use Rattle.s66_command.specs.declared.strategy.Strategy.{Strategy}
 use Rattle.s66_output.specs.Answers.{Answer}
 use Rattle.s66_output.specs.OrderText.{IsOrderOutput, placed_by}
@@ -27,19 +29,23 @@ abbrev pub all_given : Profile → (trace keep : Bool) → List Block → List A
 all_given p trace keep (block ∷ blocks) (a ∷ answers) = given_by p trace keep block a ∷ all_given p trace keep blocks answers
 all_given p trace keep blocks answers = []
 
+-- in which columns the operations of a block stand that is put in order, with `--columns` or without it
+abbrev pub columns_by : Bool → Columns
+columns_by own = if own then Own else Usual
+
 -- the source printed by answers to the blocks that are shown, all other blocks of which stand
-abbrev pub IsKeptOutput : Strategy → Profile → (trace keep : Bool) → Columns → (quiet : Bool) (only : Option ℕ) (source : Reading) (text : List ℕ) → Status → Type 0
-IsKeptOutput strategy p trace keep columns quiet only source text status =
-    IsOfAnswers (λ blocks answers. text ≡ printed_keeping quiet columns source (before only) (all_given p trace keep blocks answers)) strategy p only source status
+abbrev pub IsKeptOutput : Strategy → Profile → OrderStyle → (only : Option ℕ) (source : Reading) (text : List ℕ) → Status → Type 0
+IsKeptOutput strategy p style only source text status =
+    IsOfAnswers (λ blocks answers. text ≡ printed_keeping style.quiet (columns_by style.columns) source (before only) (all_given p style.trace style.keep blocks answers)) strategy p only source status
 
 -- one of the options is there
-abbrev pub is_other : (keep quiet : Bool) → Option ℕ → Bool
-is_other keep quiet only = keep || (quiet || is_some only)
+abbrev pub is_other : OrderStyle → Option ℕ → Bool
+is_other style only = style.keep || (style.quiet || is_some only)
 
-abbrev pub IsOrderedBy : Bool → Strategy → Profile → (trace keep : Bool) → Columns → (quiet : Bool) (only : Option ℕ) (source : Reading) (text : List ℕ) → Status → Type 0
-IsOrderedBy true strategy p trace keep columns quiet only source text status = IsKeptOutput strategy p trace keep columns quiet only source text status
-IsOrderedBy false strategy p trace keep columns quiet only source text status = IsOrderOutput strategy p trace source text status
+abbrev pub IsOrderedBy : Bool → Strategy → Profile → OrderStyle → (only : Option ℕ) (source : Reading) (text : List ℕ) → Status → Type 0
+IsOrderedBy true strategy p style only source text status = IsKeptOutput strategy p style only source text status
+IsOrderedBy false strategy p style only source text status = IsOrderOutput strategy p style.trace source text status
 
 -- what `order` writes with these options or without them
-abbrev pub IsOrdered : Strategy → Profile → (trace keep : Bool) → Columns → (quiet : Bool) (only : Option ℕ) (source : Reading) (text : List ℕ) → Status → Type 0
-IsOrdered strategy p trace keep columns quiet only source text status = IsOrderedBy (is_other keep quiet only) strategy p trace keep columns quiet only source text status
+abbrev pub IsOrdered : Strategy → Profile → OrderStyle → (only : Option ℕ) (source : Reading) (text : List ℕ) → Status → Type 0
+IsOrdered strategy p style only source text status = IsOrderedBy (is_other style only) strategy p style only source text status

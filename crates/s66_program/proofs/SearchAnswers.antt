@@ -8,7 +8,7 @@ use Rattle.s66_model.specs.Timing.{Problem}
 use Rattle.s66_model.specs.declared.rule.Rule.{Rule}
 use Rattle.s66_ledger.specs.Answers.{AnswerOf, answer_of}
 use Rattle.s66_command.specs.declared.strategy.Strategy.{Strategy}
-use Rattle.s66_output.specs.Answers.{IsAnswer, problem_of}
+use Rattle.s66_output.specs.Answers.{problem_of}
 use Rattle.s66_program.specs.Stored.{AreBeside, IsFound}
 
 pub search-answers : (strategy : Strategy) (p : Profile) (block : Block) (found : AnswerOf) → IsFound strategy p block found → search.IsAnswer found.rule found.problem found.budget (answer_of found) →

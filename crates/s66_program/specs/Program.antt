@@ -5,7 +5,7 @@ use Rattle.s66_command.specs.declared.command.Command.{Command}
 use Rattle.s66_program.specs.declared.fault.Fault.{Fault}
 use Rattle.s66_program.specs.declared.remark.Ended.{Ended}
 use Rattle.s66_command.specs.declared.usage.Usage.{Usage}
-use Rattle.s66_command.specs.Profile.{profile_text}
+use Rattle.s66_command.specs.CommandParts.{profile_text}
 use Rattle.s66_program.specs.Ends.{EndsBy, ShowsUsage}
 use Rattle.s66_program.specs.Run.{IsOutcome}
 use Rattle.s66_command.specs.Usage.{Asks, Refuses, Text}

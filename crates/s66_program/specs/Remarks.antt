@@ -8,10 +8,10 @@ use Rattle.s66_source.specs.LeftAlone.{Reading}
 use Rattle.s66_source.specs.Source.{source_of}
 use Rattle.s66_lint.specs.Listing.{AreCounted}
 use Rattle.s66_command.specs.declared.command.Command.{Command}
-use Rattle.s66_command.specs.declared.command.Command.TheVariants.{Why, Page, Json, Order, Prove, Sum}
+use Rattle.s66_command.specs.CommandParts.{strategy_of}
 use Rattle.s66_program.specs.declared.remark.Remark.{Remark}
 use Rattle.s66_program.specs.Device.{Tells}
-use Rattle.s66_program.specs.Output.{is_cut, reads_source, source_in}
+use Rattle.s66_program.specs.Output.{reads_source, source_in}
 
 -- WHAT STANDARD ERROR GETS
 
@@ -45,13 +45,7 @@ IsTold (b ∷ text) old new = Tells old new (b ∷ text)
 
 -- it prints orders that were looked for, or their times: what `lint` lists may be harmed by them
 abbrev pub prints_orders : Command → Bool
-prints_orders (Why cut order texts only profile) = is_some order
-prints_orders (Page cut strategy only profile) = true
-prints_orders (Json cut order only profile) = is_some order
-prints_orders (Order cut strategy trace keep columns quiet block profile) = true
-prints_orders (Prove cut strategy block profile) = true
-prints_orders (Sum cut strategy trace words block profile) = true
-prints_orders command = false
+prints_orders command = is_some (strategy_of command.asked)
 
 -- a source is accepted, and has no block
 abbrev pub has_no_block : Result (List Block) SourceError → Bool
@@ -66,5 +60,5 @@ IsCount false source listed = listed ≡ 0
 -- what is told after a command has written its text for this input
 abbrev pub IsRemark : Command → (input : List ℕ) → Remark → Type 0
 IsRemark command input r =
-    (r.has_no_block ≡ (reads_source command && has_no_block (source_of (source_in command input))))
-    × (r.cut ≡ is_cut command) × IsCount (prints_orders command) (source_in command input) r.listed
+    (r.has_no_block ≡ (reads_source command.asked && has_no_block (source_of (source_in command input))))
+    × (r.cut ≡ command.cut) × IsCount (prints_orders command) (source_in command input) r.listed

@@ -1,11 +1,11 @@
-ghost use Rattle.std.specs.Prelude.{IfOk};
-ghost use Rattle.s66_output.specs.KeptText.{IsKeptOutput, IsOrdered};
+ghost use Rattle.std.specs.Prelude.{◌≡◌, IfOk};
+ghost use Rattle.s66_output.specs.KeptText.{IsKeptOutput, IsOrdered, columns_by};
 ghost use Rattle.s66_output.specs.OrderText.{IsOrderOutput};
 ghost use Rattle.s66_program.specs.Output.{IsSearchWithin};
 
 use crate::answered::keep_answers;
 use crate::parts::{Givings, Placings};
-use s66_command::Strategy;
+use s66_command::{OrderStyle, Strategy};
 use s66_isa::Profile;
 use s66_output::{Observer, Output, blocks_before};
 use s66_source::{Columns, Source, print_keeping, print_source};
@@ -13,19 +13,11 @@ use std::alloc::AllocError;
 use std::sync::Wait;
 use std::thread::Threads;
 
-/// How a source is printed by `order`.
-#[derive(Clone, Copy)]
-pub struct Style {
-    /// Whether splits are printed.
-    pub trace: bool,
-    /// Whether a block that keeps its order is copied as it stands, without a report.
-    pub keep: bool,
-    /// In which columns the operations of the other blocks stand.
-    pub columns: Columns,
-    /// Whether no report is printed.
-    pub quiet: bool,
-    /// The only block that is put in order; the others are copied as they stand.
-    pub only: Option<u32>,
+/// In which columns the operations of a block stand that is put in order.
+fn columns_by(own: bool) -> Columns
+    ensures { result ≡ columns_by own }
+{
+    if own { Columns::Own } else { Columns::Usual }
 }
 
 /// A source with each block in the best order that a search finds under a profile.
@@ -54,20 +46,19 @@ fn order_output<R: AllocGlobal + Threads + Wait + Sync, O: Observer>(
 fn kept_output<R: AllocGlobal + Threads + Wait + Sync, O: Observer>(
     rt: &R,
     source: &Source,
+    only: Option<u32>,
     profile: &Profile,
     strategy: Strategy,
-    style: Style,
+    style: OrderStyle,
     observer: &mut O,
 ) -> Result<Output, AllocError>
     requires { IsSearchWithin strategy.search.workers strategy.search.nodes }
-    ensures { IfOk result (λ output. IsKeptOutput strategy profile.now style.trace style.keep style.columns style.quiet
-        style.only source.now output.text.items output.status) }
+    ensures { IfOk result (λ output. IsKeptOutput strategy profile.now style only source.now output.text.items output.status) }
 {
     let givings = Givings {
         trace: style.trace,
         keep: style.keep,
     };
-    let only = style.only;
     let all = keep_answers(rt, &givings, source, only, profile, strategy, observer)?;
     Ok(Output {
         text: print_keeping(
@@ -76,7 +67,7 @@ fn kept_output<R: AllocGlobal + Threads + Wait + Sync, O: Observer>(
             blocks_before(only),
             all.parts.as_slice(),
             style.quiet,
-            style.columns,
+            columns_by(style.columns),
         )?,
         status: all.status,
     })
@@ -86,17 +77,17 @@ fn kept_output<R: AllocGlobal + Threads + Wait + Sync, O: Observer>(
 pub fn ordered_output<R: AllocGlobal + Threads + Wait + Sync, O: Observer>(
     rt: &R,
     source: &Source,
+    only: Option<u32>,
     profile: &Profile,
     strategy: Strategy,
-    style: Style,
+    style: OrderStyle,
     observer: &mut O,
 ) -> Result<Output, AllocError>
     requires { IsSearchWithin strategy.search.workers strategy.search.nodes }
-    ensures { IfOk result (λ output. IsOrdered strategy profile.now style.trace style.keep style.columns style.quiet
-        style.only source.now output.text.items output.status) }
+    ensures { IfOk result (λ output. IsOrdered strategy profile.now style only source.now output.text.items output.status) }
 {
-    if style.keep || style.quiet || style.only.is_some() {
-        kept_output(rt, source, profile, strategy, style, observer)
+    if style.keep || style.quiet || only.is_some() {
+        kept_output(rt, source, only, profile, strategy, style, observer)
     } else {
         order_output(rt, source, profile, strategy, style.trace, observer)
     }

@@ -1,50 +1,23 @@
 ghost use Rattle.std.specs.Prelude.{◌≡◌, true, IfOk, IfErr, IfSome};
-ghost use Rattle.s66_program.specs.Output.{IsOutput, IsLinesOutput, IsSearchWithin, IsWaitsOutput, IsWithinLimits, columns_by, is_cut, reads_source};
+ghost use Rattle.s66_program.specs.Output.{IsAskedOutput, IsOutput, IsLinesOutput, IsSearchWithin, IsWaitsOutput, IsWithinLimits, reads_source};
 ghost use Rattle.s66_program.specs.Remarks.{IsRemark};
 ghost use Rattle.s66_program.specs.Run.{IsRefusal};
 
 use crate::answered::text_of_answers;
 use crate::compare_text::compare_output;
 use crate::fault::Fault;
-use crate::order_text::{Style, ordered_output};
+use crate::order_text::ordered_output;
 use crate::page_text::page_output;
 use crate::parts::{Documents, JsonLines, Waits};
 use crate::remark::{Finished, remark_of, untold};
 use crate::sum_text::{Fields, sum_output};
-use s66_command::{Command, Strategy};
+use s66_command::{Asked, Command, Strategy};
 use s66_isa::Profile;
 use s66_output::{Listing, Observer, Output, check_output, lint_output, listing_output};
-use s66_source::{Columns, Source, read_source_with};
+use s66_source::{Source, read_source_with};
 use std::alloc::AllocError;
 use std::sync::Wait;
 use std::thread::Threads;
-
-/// Whether a command reads a source with `--cut`.
-pub(crate) fn is_cut(command: Command) -> bool
-    ensures { result ≡ is_cut command.entry }
-{
-    match command {
-        Command::Time { cut, .. }
-        | Command::Deps { cut, .. }
-        | Command::Chart { cut, .. }
-        | Command::Why { cut, .. }
-        | Command::Page { cut, .. }
-        | Command::Json { cut, .. }
-        | Command::Order { cut, .. }
-        | Command::Prove { cut, .. }
-        | Command::Sum { cut, .. }
-        | Command::Lint { cut }
-        | Command::Compare { cut, .. } => cut,
-        Command::Check { .. } => false,
-    }
-}
-
-/// In which columns the operations of a block stand that is put in order.
-fn columns_by(own: bool) -> Columns
-    ensures { result ≡ columns_by own }
-{
-    if own { Columns::Own } else { Columns::Usual }
-}
 
 /// What the instructions of a source's blocks wait for, or of the only one that is printed: as it was written, or in the best order
 /// that is found so.
@@ -91,7 +64,7 @@ fn lines_output<R: AllocGlobal + Threads + Wait + Sync, O: Observer>(
     }
 }
 
-/// What a command that reads a source writes for one under a profile. `Err` is out of memory.
+/// What is written for a source under a profile, by what is asked for. `Err` is out of memory.
 fn output_of<R: AllocGlobal + Threads + Wait + Sync, O: Observer>(
     rt: &R,
     command: Command,
@@ -100,70 +73,40 @@ fn output_of<R: AllocGlobal + Threads + Wait + Sync, O: Observer>(
     observer: &mut O,
 ) -> Result<Output, AllocError>
     requires within { IsWithinLimits command }
-    requires reads { reads_source command ≡ true }
-    requires cut { source.now.cut ≡ is_cut command }
+    requires reads { reads_source command.asked ≡ true }
     ensures { IfOk result (λ output.
-        IsOutput profile.now command.entry source.now.text output.text.items output.status) }
+        IsAskedOutput profile.now command.entry.asked command.entry.block source.now output.text.items output.status) }
 {
     let alloc = rt.alloc();
-    match command {
-        Command::Time { trace, block, .. } => {
-            listing_output(alloc, profile, &Listing::Times { trace }, block, source)
+    let only = command.block;
+    match command.asked {
+        Asked::Time { trace } => {
+            listing_output(alloc, profile, &Listing::Times { trace }, only, source)
         }
-        Command::Deps { block, .. } => {
-            listing_output(alloc, profile, &Listing::Dependences, block, source)
+        Asked::Deps => listing_output(alloc, profile, &Listing::Dependences, only, source),
+        Asked::Chart { text } => {
+            listing_output(alloc, profile, &Listing::Chart { text }, only, source)
         }
-        Command::Chart { text, block, .. } => {
-            listing_output(alloc, profile, &Listing::Chart { text }, block, source)
+        Asked::Why { order, text } => {
+            waits_output(rt, source, order, text, only, profile, observer)
         }
-        Command::Why {
-            order,
-            text,
-            block,
-            ..
-        } => waits_output(rt, source, order, text, block, profile, observer),
-        Command::Json { order, block, .. } => {
-            lines_output(rt, source, order, block, profile, observer)
+        Asked::Json { order } => lines_output(rt, source, order, only, profile, observer),
+        Asked::Page { strategy } => page_output(rt, source, only, profile, strategy, observer),
+        Asked::Order { strategy, style } => {
+            ordered_output(rt, source, only, profile, strategy, style, observer)
         }
-        Command::Page {
-            strategy,
-            block,
-            ..
-        } => page_output(rt, source, block, profile, strategy, observer),
-        Command::Order {
-            strategy,
-            trace,
-            keep,
-            columns,
-            quiet,
-            block,
-            ..
-        } => {
-            let style = Style {
-                trace,
-                keep,
-                columns: columns_by(columns),
-                quiet,
-                only: block,
-            };
-            ordered_output(rt, source, profile, strategy, style, observer)
+        Asked::Prove { strategy } => {
+            text_of_answers(rt, &Documents, source, only, profile, strategy, observer)
         }
-        Command::Prove {
-            strategy,
-            block,
-            ..
-        } => text_of_answers(rt, &Documents, source, block, profile, strategy, observer),
-        Command::Sum {
+        Asked::Sum {
             strategy,
             trace,
             words,
-            block,
-            ..
         } => {
             let fields = Fields { trace, words };
-            sum_output(rt, source, profile, strategy, fields, block, observer)
+            sum_output(rt, source, profile, strategy, fields, only, observer)
         }
-        Command::Check { .. } | Command::Lint { .. } | Command::Compare { .. } => unreachable!(),
+        Asked::Check { .. } | Asked::Lint | Asked::Compare => unreachable!(),
     }
 }
 
@@ -176,13 +119,13 @@ fn source_output<R: AllocGlobal + Threads + Wait + Sync, O: Observer>(
     observer: &mut O,
 ) -> Result<Finished, Fault>
     requires within { IsWithinLimits command }
-    requires reads { reads_source command ≡ true }
+    requires reads { reads_source command.asked ≡ true }
     ensures ok { IfOk result (λ finished.
         IsOutput profile.now command.entry input.now finished.output.text.items finished.output.status) }
     ensures remark { IfOk result (λ finished. IsRemark command.entry input.now finished.remark) }
     ensures err { IfErr result (IsRefusal command.entry input.now) }
 {
-    let source = read_source_with(rt.alloc(), is_cut(command), input)?;
+    let source = read_source_with(rt.alloc(), command.cut, input)?;
     let remark = remark_of(rt.alloc(), command, &source, input)?;
     let output = output_of(rt, command, profile, &source, observer)?;
     Ok(Finished { output, remark })
@@ -204,15 +147,12 @@ pub(crate) fn output_for<R: AllocGlobal + Threads + Wait + Sync, O: Observer>(
     ensures err { IfErr result (IsRefusal command.entry input.now) }
 {
     let alloc = rt.alloc();
-    match command {
-        Command::Check { text } => {
+    match command.asked {
+        Asked::Check { text } => {
             Ok(untold(command, check_output(alloc, text, input, observer)?))
         }
-        Command::Lint { cut } => Ok(untold(command, lint_output(alloc, input, cut)?)),
-        Command::Compare { cut, .. } => Ok(untold(
-            command,
-            compare_output(alloc, cut, profile, input)?,
-        )),
+        Asked::Lint => Ok(untold(command, lint_output(alloc, input, command.cut)?)),
+        Asked::Compare => Ok(untold(command, compare_output(alloc, command.cut, profile, input)?)),
         _ => source_output(rt, command, profile, input, observer),
     }
 }

@@ -34,6 +34,6 @@ pub fn run_program<
     };
     match run_observed(rt, command, reader, writer, observer) {
         Ok(ended) => tell_end(errors, &ended),
-        Err(fault) => tell_failure(rt.alloc(), errors, command.profile_text(), fault),
+        Err(fault) => tell_failure(rt.alloc(), errors, command.profile, fault),
     }
 }

@@ -1,10 +1,9 @@
 ghost use Rattle.std.specs.Prelude.{ℕ, List, ◌≡◌, ◌<◌, ◌≤◌, true, false, IfOk, length};
 ghost use Rattle.s66_source.specs.Source.{source_of};
-ghost use Rattle.s66_program.specs.Output.{is_cut, reads_source, source_in};
+ghost use Rattle.s66_program.specs.Output.{reads_source, source_in};
 ghost use Rattle.s66_program.specs.Remarks.{IsCount, IsRemark, block_line, has_no_block, lines_word, lint_words, prints_orders};
 
 use crate::limits::REMARK_ROOM;
-use crate::output::is_cut;
 use arrayvec::ArrayString;
 use itoa::Buffer;
 use s66_command::Command;
@@ -89,19 +88,7 @@ pub(crate) struct Finished {
 fn prints_orders(command: Command) -> bool
     ensures { result ≡ prints_orders command.entry }
 {
-    match command {
-        Command::Why { order, .. } | Command::Json { order, .. } => order.is_some(),
-        Command::Page { .. }
-        | Command::Order { .. }
-        | Command::Prove { .. }
-        | Command::Sum { .. } => true,
-        Command::Time { .. }
-        | Command::Deps { .. }
-        | Command::Chart { .. }
-        | Command::Check { .. }
-        | Command::Lint { .. }
-        | Command::Compare { .. } => false,
-    }
+    command.asked.strategy().is_some()
 }
 
 /// Whether a source has no block.
@@ -121,7 +108,7 @@ fn listed_of(alloc: Global, command: Command, input: &[u8]) -> Result<usize, All
     if !prints_orders(command) {
         return Ok(0);
     }
-    count_findings(alloc, input, is_cut(command))
+    count_findings(alloc, input, command.cut)
 }
 
 /// What is told after a command has written its text for a source, which was read from this input.
@@ -131,21 +118,21 @@ pub(crate) fn remark_of(
     source: &Source,
     input: &[u8],
 ) -> Result<Remark, AllocError>
-    requires reads { reads_source command ≡ true }
+    requires reads { reads_source command.asked ≡ true }
     requires source { source.now ≡ source_in command input.now }
     ensures { IfOk result (IsRemark command.entry input.now) }
 {
     let listed = listed_of(alloc, command, input)?;
     Ok(Remark {
         has_no_block: has_no_block(source),
-        cut: is_cut(command),
+        cut: command.cut,
         listed,
     })
 }
 
 /// What a command writes that reads no source, or has nothing to tell of it.
 pub(crate) fn untold(command: Command, output: Output) -> Finished
-    requires reads { reads_source command ≡ false }
+    requires reads { reads_source command.asked ≡ false }
     requires prints { prints_orders command ≡ false }
     ensures output { result.output ≡ output }
     ensures remark { (input : List ℕ) → IsRemark command.entry input result.remark }
@@ -154,7 +141,7 @@ pub(crate) fn untold(command: Command, output: Output) -> Finished
         output,
         remark: Remark {
             has_no_block: false,
-            cut: is_cut(command),
+            cut: command.cut,
             listed: 0,
         },
     }

@@ -8,7 +8,7 @@ use crate::limits::SOURCE_FRONT;
 use crate::output::output_for;
 use crate::reading::read_all;
 use crate::remark::Ended;
-use s66_command::{Command, read_profile};
+use s66_command::{Asked, Command, read_profile};
 use s66_device::{Feed, Sink, write_all};
 use s66_isa::Profile;
 use s66_output::{Observer, Silent, Status};
@@ -21,7 +21,7 @@ fn profile_of(alloc: Global, command: Command) -> Result<Profile, Fault>
     ensures ok { IfOk result (IsUnder command.entry) }
     ensures err { IfErr result (IsProfileFault command.entry) }
 {
-    match command.profile_text() {
+    match command.profile {
         Some(text) => Ok(read_profile(alloc, text)?),
         None => Ok(Profile::standard()),
     }
@@ -30,19 +30,11 @@ fn profile_of(alloc: Global, command: Command) -> Result<Profile, Fault>
 /// How many bytes of an input a command needs at most; None if it needs all. A source of more bytes is refused, for a reason that
 /// these show.
 fn most_kept(command: Command) -> Option<usize>
-    ensures { IfSome result (λ most. (most ≡ SOURCE_FRONT) × (reads_source command.entry ≡ true)) }
+    ensures { IfSome result (λ most. (most ≡ SOURCE_FRONT) × (reads_source command.entry.asked ≡ true)) }
 {
-    match command {
-        Command::Check { .. } | Command::Lint { .. } | Command::Compare { .. } => None,
-        Command::Time { .. }
-        | Command::Deps { .. }
-        | Command::Chart { .. }
-        | Command::Why { .. }
-        | Command::Page { .. }
-        | Command::Json { .. }
-        | Command::Order { .. }
-        | Command::Prove { .. }
-        | Command::Sum { .. } => Some(SOURCE_FRONT),
+    match command.asked {
+        Asked::Check { .. } | Asked::Lint | Asked::Compare => None,
+        _ => Some(SOURCE_FRONT),
     }
 }
 

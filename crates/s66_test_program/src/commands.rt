@@ -1,14 +1,33 @@
+ghost use Rattle.std.specs.Prelude.{◌≡◌};
 ghost use Rattle.s66_program.specs.Output.{IsSearchWithin, IsWithinLimits};
 
 use s66_device::{OverRead, OverWrite};
 use s66_model::{Options, Rule};
-use s66_program::{Command, Fault, Status, Strategy, run_command};
+use s66_program::{Asked, Command, Fault, OrderStyle, Status, Strategy, run_command};
 use std::process::Abort;
 use std::sync::Wait;
 use std::thread::Threads;
 
 /// `check` without sentences.
-pub const PLAIN_CHECK: Command<'static> = Command::Check { text: false };
+pub const PLAIN_CHECK: Command<'static> = Command {
+    cut: false,
+    block: None,
+    profile: None,
+    asked: Asked::Check { text: false },
+};
+
+/// What is asked for, of all blocks, under the standard profile.
+pub fn plain(asked: Asked) -> Command<'static>
+    ensures block { result.block ≡ None }
+    ensures asked { result.asked ≡ asked }
+{
+    Command {
+        cut: false,
+        block: None,
+        profile: None,
+        asked,
+    }
+}
 
 /// A search by workers, of at most so many splits, by a rule.
 fn search_by(workers: u8, nodes: u32, rule: Rule) -> Strategy
@@ -30,16 +49,14 @@ pub fn order_by(workers: u8, nodes: u32, rule: Rule) -> Command<'static>
     requires { IsSearchWithin workers nodes }
     ensures { IsWithinLimits result }
 {
-    Command::Order {
-        cut: false,
-        strategy: search_by(workers, nodes, rule),
+    let style = OrderStyle {
         trace: true,
         keep: false,
         columns: false,
         quiet: false,
-        block: None,
-        profile: None,
-    }
+    };
+    let strategy = search_by(workers, nodes, rule);
+    plain(Asked::Order { strategy, style })
 }
 
 /// `prove` by such a search.
@@ -47,12 +64,8 @@ pub fn prove_by(workers: u8, nodes: u32, rule: Rule) -> Command<'static>
     requires { IsSearchWithin workers nodes }
     ensures { IsWithinLimits result }
 {
-    Command::Prove {
-        cut: false,
-        strategy: search_by(workers, nodes, rule),
-        block: None,
-        profile: None,
-    }
+    let strategy = search_by(workers, nodes, rule);
+    plain(Asked::Prove { strategy })
 }
 
 /// The result of a command at a text, and what it wrote.

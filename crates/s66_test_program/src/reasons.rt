@@ -1,7 +1,7 @@
-use crate::commands::check_output;
+use crate::commands::{check_output, plain};
 use crate::documents::{FORCED_PAIRS, LINES_NAMED, ONE_LOAD, THREE_MULTIPLIES};
 use crate::verdicts::altered;
-use s66_program::{Command, Status};
+use s66_program::{Asked, Status};
 
 /// Documents, and what `check --text` says of each.
 const REASONS: &[(&str, &str)] = &[
@@ -49,7 +49,7 @@ const ONE_DENIED: &str =
 
 #[test]
 fn gives_reasons(rt: HostRuntime) {
-    let command = Command::Check { text: true };
+    let command = plain(Asked::Check { text: true });
     for &(document, text) in REASONS {
         check_output(&rt, command, document, Status::Done, text);
     }
@@ -58,7 +58,7 @@ fn gives_reasons(rt: HostRuntime) {
 
 #[test]
 fn gives_no_reasons_for_what_is_denied(rt: HostRuntime) {
-    let command = Command::Check { text: true };
+    let command = plain(Asked::Check { text: true });
     let mut both = altered(&rt, ONE_LOAD, "BOUND 12", "BOUND 13");
     both.push_str(ONE_LOAD).expect(&rt, "memory");
     check_output(&rt, command, both.as_str(), Status::Denied, ONE_DENIED);

@@ -1,6 +1,6 @@
-use crate::commands::check_output;
+use crate::commands::{check_output, plain};
 use crate::running::run;
-use s66_program::{Command, Status, command_of};
+use s66_program::{Asked, Status, command_of};
 use table::{COMMANDS, command_by};
 
 mod table;
@@ -128,10 +128,7 @@ fn reads_words(rt: HostRuntime) {
 
 #[test]
 fn runs_a_command(rt: HostRuntime) {
-    let command = Command::Deps {
-        cut: false,
-        block: None,
-    };
+    let command = plain(Asked::Deps);
     let output = "BLOCK 1 LINE 1 COUNT 1 DEPENDENCES 0\n";
     check_output(&rt, command, "  BX1 X2+X3\n", Status::Done, output);
 }

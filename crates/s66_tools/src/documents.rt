@@ -8,7 +8,7 @@ use s66_device::{Failed, OverRead, Sink};
 use s66_isa::Profile;
 use s66_model::{Options, Rule};
 use s66_pool::{FIRST_SPLITS, Free, run};
-use s66_program::{Command, Fault, Strategy, document_of, run_command};
+use s66_program::{Asked, Command, Fault, Strategy, document_of, run_command};
 use s66_test_search::{MULTIPLIES, SEVEN_MULTIPLIES};
 use std::alloc::{AllocError, Global};
 use std::sync::Wait;
@@ -82,16 +82,19 @@ impl Sink for Counts {
 
 /// How many bytes `sum` writes of three multiplies; a refusal has written none.
 pub fn summed<R: AllocGlobal + Threads + Wait + Sync>(rt: &R) -> Result<Answered, AllocError> {
-    let command = Command::Sum {
+    let strategy = Strategy {
+        search: OPTIONS,
+        deep: false,
+    };
+    let command = Command {
         cut: false,
-        strategy: Strategy {
-            search: OPTIONS,
-            deep: false,
-        },
-        trace: false,
-        words: false,
         block: None,
         profile: None,
+        asked: Asked::Sum {
+            strategy,
+            trace: false,
+            words: false,
+        },
     };
     let mut reader = OverRead::new(MULTIPLIES.as_bytes());
     let mut writer = Counts { bytes: 0 };

@@ -1,6 +1,6 @@
 use Said::*;
 use s66_model::{Options, Rule};
-use s66_program::{Command, Strategy};
+use s66_program::{Asked, Command, OrderStyle, Strategy};
 
 /// What an option says.
 #[derive(Clone, Copy, PartialEq, Eq)]
@@ -45,7 +45,7 @@ fn strategy_by(said: &[Said]) -> Strategy {
 /// The command of a subcommand with these options.
 pub(crate) fn command_by(subcommand: &str, said: &[Said]) -> Command<'static> {
     let is = |option| said.contains(&option);
-    let (cut, text, trace) = (is(Cut), is(Text), is(Trace));
+    let (text, trace) = (is(Text), is(Trace));
     let strategy = strategy_by(said);
     let order = if is(Order) { Some(strategy) } else { None };
     let block = said.iter().find_map(|option| match option {
@@ -56,66 +56,37 @@ pub(crate) fn command_by(subcommand: &str, said: &[Said]) -> Command<'static> {
         Profile(text) => Some(*text),
         _ => None
     });
-    match subcommand {
-        "time" => Command::Time {
-            cut,
-            trace,
-            block,
-            profile,
-        },
-        "deps" => Command::Deps { cut, block },
-        "chart" => Command::Chart {
-            cut,
-            text,
-            block,
-            profile,
-        },
-        "why" => Command::Why {
-            cut,
-            order,
-            text,
-            block,
-            profile,
-        },
-        "json" => Command::Json {
-            cut,
-            order,
-            block,
-            profile,
-        },
-        "page" => Command::Page {
-            cut,
-            strategy,
-            block,
-            profile,
-        },
-        "order" => Command::Order {
-            cut,
-            strategy,
-            trace,
-            keep: is(Keep),
-            columns: is(Columns),
-            quiet: is(Quiet),
-            block,
-            profile,
-        },
-        "prove" => Command::Prove {
-            cut,
-            strategy,
-            block,
-            profile,
-        },
-        "sum" => Command::Sum {
-            cut,
+    let asked = match subcommand {
+        "time" => Asked::Time { trace },
+        "deps" => Asked::Deps,
+        "chart" => Asked::Chart { text },
+        "why" => Asked::Why { order, text },
+        "json" => Asked::Json { order },
+        "page" => Asked::Page { strategy },
+        "order" => {
+            let style = OrderStyle {
+                trace,
+                keep: is(Keep),
+                columns: is(Columns),
+                quiet: is(Quiet),
+            };
+            Asked::Order { strategy, style }
+        }
+        "prove" => Asked::Prove { strategy },
+        "sum" => Asked::Sum {
             strategy,
             trace,
             words: is(Words),
-            block,
-            profile,
         },
-        "lint" => Command::Lint { cut },
-        "compare" => Command::Compare { cut, profile },
-        _ => Command::Check { text },
+        "lint" => Asked::Lint,
+        "compare" => Asked::Compare,
+        _ => Asked::Check { text },
+    };
+    Command {
+        cut: is(Cut),
+        block,
+        profile,
+        asked,
     }
 }
 

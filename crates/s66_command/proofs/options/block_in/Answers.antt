@@ -9,6 +9,6 @@ use Rattle.s66_command.proofs.options.block_in.Goals as goal
 
 pub returns : goal.returns
 returns c = λ words is.
-    number-given (found_of c.args.matches.now) words (codes "block") c.name.result.now 1 BLOCK_NUMBER_LIMIT (λ text. IsNumberIn 1 BLOCK_NUMBER_LIMIT text c.get_one.result) refl is c.name.ensures
+    number-given (found_of c.args.matches.now) words (codes "block") (codes "block") 1 BLOCK_NUMBER_LIMIT (λ text. IsNumberIn 1 BLOCK_NUMBER_LIMIT text c.get_one.result) refl is refl
     (number-or_none (codes "block") 1 BLOCK_NUMBER_LIMIT _ (λ t r. ParsesUnsigned 32 10 t r × ExplainsUnsignedError 10 t r × HasUnsignedDigitsIfOk t r) 32 (λ t r gives. gives.0) (omega arith) _ c.get_one.result
     c.get_one.ensures.none c.get_one.ensures.value)

@@ -4,5 +4,5 @@ use Rattle.s66_command.proofs.options.flag_in.Goals as goal
 
 pub returns : goal.returns
 returns c = λ is-flag words is.
-    flag-of (found_of c.args.matches.now) words c.get_flag.result c.name.result.now c.args.flag is-flag is c.name.ensures
+    flag-of (found_of c.args.matches.now) words c.get_flag.result c.args.flag.now is-flag is
     (c.get_flag.ensures.none, c.get_flag.ensures.value, c.get_flag.ensures.other)

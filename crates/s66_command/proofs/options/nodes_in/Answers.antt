@@ -10,6 +10,6 @@ use Rattle.s66_command.proofs.options.nodes_in.Goals as goal
 
 pub returns : goal.returns
 returns c = λ words is.
-    number-given (found_of c.args.matches.now) words (codes "nodes") c.name.result.now 0 BUDGET_LIMIT (λ text. IsNumberOrDefault 0 BUDGET_LIMIT NODES_DEFAULT text c.unwrap_or.result) refl is c.name.ensures
+    number-given (found_of c.args.matches.now) words (codes "nodes") (codes "nodes") 0 BUDGET_LIMIT (λ text. IsNumberOrDefault 0 BUDGET_LIMIT NODES_DEFAULT text c.unwrap_or.result) refl is refl
     (number-read (codes "nodes") 0 BUDGET_LIMIT _ (λ t r. ParsesUnsigned 32 10 t r × ExplainsUnsignedError 10 t r × HasUnsignedDigitsIfOk t r) 32 (λ t r gives. gives.0) (omega arith) NODES_DEFAULT _
     c.get_one.result c.unwrap_or.result (omega arith) (omega arith) c.get_one.ensures.none c.get_one.ensures.value c.unwrap_or.ensures)

@@ -10,6 +10,6 @@ use Rattle.s66_command.proofs.options.workers_in.Goals as goal
 
 pub returns : goal.returns
 returns c = λ words is.
-    number-given (found_of c.args.matches.now) words (codes "workers") c.name.result.now 1 WORKERS_LIMIT (λ text. IsNumberOrDefault 1 WORKERS_LIMIT WORKERS_DEFAULT text c.unwrap_or.result) refl is c.name.ensures
+    number-given (found_of c.args.matches.now) words (codes "workers") (codes "workers") 1 WORKERS_LIMIT (λ text. IsNumberOrDefault 1 WORKERS_LIMIT WORKERS_DEFAULT text c.unwrap_or.result) refl is refl
     (number-read (codes "workers") 1 WORKERS_LIMIT _ (λ t r. ParsesUnsigned 8 10 t r × ExplainsUnsignedError 10 t r × HasUnsignedDigitsIfOk t r) 8 (λ t r gives. gives.0) (omega arith) WORKERS_DEFAULT _
     c.get_one.result c.unwrap_or.result (omega arith) (omega arith) c.get_one.ensures.none c.get_one.ensures.value c.unwrap_or.ensures)

@@ -1,7 +1,7 @@
 use Rattle.std.proofs.Common.{◌∙◌, ap, drop, refl, subst, sym}
 use Rattle.s66_source.specs.Keeping.{AreGiven, printed_keeping}
 use Rattle.s66_source.specs.Source.{blocks_of, classed_lines}
-use Rattle.s66_output.specs.KeptText.{all_given}
+use Rattle.s66_output.specs.KeptText.{all_given, columns_by}
 use Rattle.s66_output.specs.Shown.{before}
 use Rattle.s66_output.proofs.KeptAnswers.{given-within}
 use Rattle.s66_program.specs.Kept.{given_part}
@@ -16,11 +16,11 @@ print_keeping-requires g c =
     let source = c.args.source.now in
     let all = c.in_ok-all.all in
     let (blocks, read, (answers, are, is, ends)) =
-    kept-whole (given_part style.trace style.keep p) strategy p (λ n. all_given p style.trace style.keep) (λ n. refl) (λ n b bs a more. refl) style.only source all.parts.items all.status c.in_ok-all.ensures
+    kept-whole (given_part style.trace style.keep p) strategy p (λ n. all_given p style.trace style.keep) (λ n. refl) (λ n b bs a more. refl) c.args.only source all.parts.items all.status c.in_ok-all.ensures
     in
     subst (λ k. AreGiven (drop k (blocks_of (classed_lines source))) c.as_slice.result.now) (sym c.blocks_before.ensures.value)
-    (subst (AreGiven (drop (before style.only) (blocks_of (classed_lines source)))) (sym (c.as_slice.ensures.value ∙ is))
-    (given-within strategy p style.trace style.keep style.only source blocks answers read are))
+    (subst (AreGiven (drop (before c.args.only) (blocks_of (classed_lines source)))) (sym (c.as_slice.ensures.value ∙ is))
+    (given-within strategy p style.trace style.keep c.args.only source blocks answers read are))
 
 pub returns : goal.returns
 returns g c =
@@ -30,15 +30,16 @@ returns g c =
     let source = c.args.source.now in
     let all = c.in_ok-all.all in
     let (blocks, read, (answers, are, is, ends)) =
-    kept-whole (given_part style.trace style.keep p) strategy p (λ n. all_given p style.trace style.keep) (λ n. refl) (λ n b bs a more. refl) style.only source all.parts.items all.status c.in_ok-all.ensures
+    kept-whole (given_part style.trace style.keep p) strategy p (λ n. all_given p style.trace style.keep) (λ n. refl) (λ n b bs a more. refl) c.args.only source all.parts.items all.status c.in_ok-all.ensures
     in (
       blocks,
       read,
       (
         answers,
         are,
-        c.in_ok-print_keeping.ensures ∙ ap (λ k. printed_keeping style.quiet style.columns source k c.as_slice.result.now) c.blocks_before.ensures.value
-            ∙ ap (printed_keeping style.quiet style.columns source (before style.only)) (c.as_slice.ensures.value ∙ is),
+        c.in_ok-print_keeping.ensures ∙ ap (λ columns. printed_keeping style.quiet columns source c.blocks_before.result c.as_slice.result.now) c.columns_by.ensures
+            ∙ ap (λ k. printed_keeping style.quiet (columns_by style.columns) source k c.as_slice.result.now) c.blocks_before.ensures.value
+            ∙ ap (printed_keeping style.quiet (columns_by style.columns) source (before c.args.only)) (c.as_slice.ensures.value ∙ is),
         ends,
       ),
     )

@@ -1,0 +1,20 @@
+-- To be believed: what a command has of a profile and of a search.
+use Rattle.std.specs.Prelude.{ℕ, List, Option, None, Some, option_map}
+use Rattle.s66_command.specs.declared.command.Asked.{Asked}
+use Rattle.s66_command.specs.declared.command.Asked.TheVariants.{Why, Page, Order, Prove, Sum, Json}
+use Rattle.s66_command.specs.declared.command.Command.{Command}
+use Rattle.s66_command.specs.declared.strategy.Strategy.{Strategy}
+
+-- the text of a profile that a command has, if any
+abbrev pub profile_text : Command → Option (List ℕ)
+profile_text command = option_map (λ text. text.now) command.profile
+
+-- how the best orders are looked for that are written, if any are
+abbrev pub strategy_of : Asked → Option Strategy
+strategy_of (Why order text) = order
+strategy_of (Page strategy) = Some strategy
+strategy_of (Order strategy style) = Some strategy
+strategy_of (Prove strategy) = Some strategy
+strategy_of (Sum strategy trace words) = Some strategy
+strategy_of (Json order) = order
+strategy_of asked = None
