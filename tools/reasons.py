@@ -6,8 +6,9 @@
 Certificates are those of examples/, with and without --deep, and of N random blocks, 100 unless given, under random profiles; of some of
 these others are made that have fact lines. Of each document with YES the first line must have the bound, and count splits and facts if
 the tree splits. Each row must have a number that follows from the row before it and from what its sentence names: the time of a result,
-a unit or a parcel, of instructions that the leaf names, with their texts. The last row has to reach the bound, or of parcels each. The
-last line must have the time. Each wrong thing is told, and the last line counts the documents. The status is 1 if something is wrong.
+a unit or a parcel, of instructions that the leaf names, with their texts. The last row has to reach the bound, or of parcels each; of a
+longest path it alone is the end, at the path's length. The last line must have the time. Each wrong thing is told, and the last line
+counts the documents. The status is 1 if something is wrong.
 """
 import argparse
 import glob
@@ -163,16 +164,16 @@ class Texts:
         return "the end" if moment == END else f"where {moment[1]} {moment[0]}s"
 
     def load_sentence(self, load, sentence):
-        """Whether a sentence says what a load line does, with the numbers that its check has."""
+        """The number in which a sentence of a load line ends; it must say what the line does, with the numbers that its check has."""
         begin = "From the beginning" if load.begin == ORIGIN else f"From {self.moment(load.begin)}"
         unit, numbers, to = self.problem.block[load.numbers[0]].unit, load.numbers, self.moment(load.end)
         copies, uses = self.problem.profile[unit], [self.problem.holds[n] + 1 for n in numbers]
         time, name = self.problem.use_time(unit, uses), NAMES[unit]
         if len(numbers) == 1:
-            said = r"{} it is {} or more until {} has its {} unit, and from there to {} it is ([0-9]+) or more: {}"
-            [rest] = read(said.format(begin, load.after, numbers[0], name, to, load.wait), sentence)
-            must(int(rest) == max(0, load.wait - load.after), f"{rest} isn't the rest: {sentence}")
-            return
+            said = r"{} it is {} or more until {} has its {} unit, and from there to {} it is ([0-9]+) or more: ([0-9]+)"
+            rest, all = map(int, read(said.format(begin, load.after, numbers[0], name, to), sentence))
+            must(rest == max(0, load.wait - load.after) and all == load.after + rest, f"not the sum: {sentence}")
+            return all
         said = r"{} it is {} or more until one of ([0-9, and]+) has its {} unit; these need {} for (.*?), ([0-9]+) in all{}(; so .*)"
         side = "" if copies == 1 else f" and {time} side by side"
         pronoun = "it" if copies == 1 else f"the {copies}"
@@ -181,10 +182,12 @@ class Texts:
         self.uses(numbers, each, total)
         if len(set(uses)) > 1:
             must(last == f"; so with what is left after the last of them begins it is {load.wait} or more to {to}", f"not so: {sentence}")
-            return
-        said = r"; so the last of them begins at ([0-9]+) or later, and from there to {} it is ([0-9]+) or more: {}"
-        begins, rest = map(int, read(said.format(to, load.wait), last))
-        must(begins == load.after + time - uses[0] and rest == max(0, load.wait - begins), f"not the sum: {sentence}")
+            return load.wait
+        said = r"; so the last of them begins at ([0-9]+) or later, and from there to {} it is ([0-9]+) or more: ([0-9]+)"
+        begins, rest, all = map(int, read(said.format(to), last))
+        must(begins == load.after + time - uses[0] and rest == max(0, load.wait - begins), f"not the rest: {sentence}")
+        must(all == begins + rest, f"not the sum: {sentence}")
+        return all
 
     def pair_sentence(self, pair, sentence):
         """Whether a sentence says why the second of a pair can't stand before the first."""
@@ -206,12 +209,14 @@ class Texts:
         must(rest <= tail, f"the path to the end is shorter: {sentence}")
 
     def facts(self):
-        """The fact lines, each by what is known before it."""
+        """The fact lines, each by what is known before it, and the orders in which they hold."""
         for number, fact in enumerate(self.document.facts, 1):
             place, sentence = read("  ([0-9]+)[.] (.*)", self.line())
             must(int(place) == number, f"not number {number}: {sentence}")
             (self.pair_sentence if isinstance(fact, Pair) else self.load_sentence)(fact, sentence)
             must(self.known.add_fact(fact), f"not right: {sentence}")
+        line = self.line()
+        must(line == f"If an order took less than {self.document.bound}:", f"not the orders of the rows: {line}")
 
     def path(self, numbers):
         self.at_first = {n: set(before) for n, before in self.known.before.items()}
@@ -220,15 +225,13 @@ class Texts:
         number, sentence = self.row()
         must(number == 0 and self.number(read("(.*) can issue", sentence)[0]) == n, f"another instruction: {sentence}")
         places, reached = {("issue", n)}, 0
-        while True:
+        while places != {END}:
             number, sentence = self.row()
-            if sentence == "the end, by the longest path from there":
-                break
             arcs = [(begin, end) for begin, end in self.arcs(sentence) if reached + self.way(places, begin, end) == number]
             must(arcs, f"{number} isn't the sum: {sentence}")
             places, reached = {end for _, end in arcs}, number
-        must(places == {END} and reached >= self.document.bound, f"{reached} doesn't reach the bound")
-        must(number == self.document.bound <= self.known.next_value((), n), f"{number} isn't shown")
+        self.reaches(reached)
+        must(reached == self.known.next_value((), n), f"{reached} isn't the longest path's")
 
     def way(self, places, begin, end):
         """How long an arc takes, after the longest way to its begin from one of these moments of the same instruction, by what that
@@ -275,8 +278,9 @@ class Texts:
         after, *numbers = names
         number, sentence = self.row()
         load = Load(ORIGIN, END, after, self.document.bound, numbers)
-        self.load_sentence(load, sentence)
-        must(number == self.document.bound and self.known.is_left((), load), f"{number} isn't shown")
+        must(number == self.load_sentence(load, sentence), f"{number} isn't what its sentence says: {sentence}")
+        self.reaches(number)
+        must(self.known.is_left((), load), f"{number} isn't shown")
 
 
 def documents(text):

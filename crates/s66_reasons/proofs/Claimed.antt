@@ -79,6 +79,17 @@ granted-left d after ns none =
     let stay = remain b known kind d.bound after time ns parts.1 in
     (ltb-true 0 (length ns) some.0, rising-few b [] ns some.1 stay, stay)
 
+-- each of them is shown to be so late
+pub granted-each : (d : Document) (after : ℕ) (ns : List ℕ) → line_fault d [] (AtTerminal (LoadFrom after ns)) ≡ None →
+    every (is_left (problem_of d) (known_of d) [] (kind_of_load (problem_of d) ns) d.bound after (use_time (problem_of d) (kind_of_load (problem_of d) ns) (map (use_of (problem_of d)) ns))) ns ≡ true
+granted-each d after ns none =
+    let b : Problem = problem_of d in
+    let known : Known = known_of d in
+    let kind : Kind = kind_of_load b ns in
+    let time : ℕ = use_time b kind (map (use_of b) ns) in
+    let all = tested (is_complete b []) (is_loaded b known [] d.bound after ns) fault.Place fault.Loaded none in
+    (and_parts (nat_lt 0 (length ns) && are_rising ns) (every (is_left b known [] kind d.bound after time) ns) all).1
+
 -- a number that remains, after which the bound is reached
 pub granted-next : (d : Document) (n : ℕ) → line_fault d [] (AtTerminal (Next n)) ≡ None →
     (is_remaining (problem_of d).block [] n ≡ true) × (nat_le d.bound (next_value (problem_of d) (known_of d) [] n) ≡ true)

@@ -1,8 +1,10 @@
+pub mod Along
 pub mod Claimed
 pub mod FactTexts
 pub mod Hops
 pub mod KnownArcs
 pub mod Listed
+pub mod PathEnds
 pub mod Rows
 pub mod Splits
 pub mod Texts

@@ -1,5 +1,5 @@
 -- What the rows of a leaf say of the end is the value of the leaf.
-use Rattle.std.proofs.Common.{ℕ, ◌≡◌, ◌≤◌, ◌∙◌, ◌+◌, List, [], ◌∷◌, ◌++◌, length, map, refl, ap, sym, arith}
+use Rattle.std.proofs.Common.{ℕ, ◌≡◌, ◌≤◌, ◌∙◌, ◌+◌, List, [], ◌∷◌, length, map, refl, ap, sym, arith}
 use Rattle.s66_isa.specs.declared.reg.Reg.{Reg}
 use Rattle.s66_isa.specs.Lists.{greatest, least}
 use Rattle.s66_isa.specs.Table.{Row, Write, numbers}
@@ -29,18 +29,12 @@ none-greatest (x ∷ xs) = omega (arith, none-greatest xs)
 first-head : (r : Row) → head [] r ≡ 0
 first-head r = omega (arith, none-greatest {X = Reg} r.reads, none-greatest {X = Write} r.writes)
 
--- of rows before another one, that is the last
-pub last-row : (rows : List Reason) (r : Reason) → last_number (rows ++ r ∷ []) ≡ r.number
-last-row [] r = refl
-last-row (q ∷ []) r = refl
-last-row (q ∷ (s ∷ rows)) r = last-row (s ∷ rows) r
-
 least-last : (d : Document) (ns : List ℕ) → least (λ (r : Reason). r.number) (map (last_row d) ns) ≡ least (if_last (problem_of d) []) ns
 least-last d [] = refl
 least-last d (n ∷ []) = refl
 least-last d (n ∷ (m ∷ ms)) = omega (arith, least-last d (m ∷ ms))
 
-pub rows-end : (d : Document) (leaf : Leaf) → 1 ≤ length (problem_of d).block → MayStand (problem_of d) [] leaf → end_by (Bounding leaf) (leaf_rows d (Bounding leaf)) ≡ value (problem_of d) [] leaf
+pub rows-end : (d : Document) (leaf : Leaf) → 1 ≤ length (problem_of d).block → MayStand (problem_of d) [] leaf → end_by leaf (leaf_rows d (Bounding leaf)) ≡ value (problem_of d) [] leaf
 rows-end d Whole some may = absurd (omega (arith, some, may))
 rows-end d (Chain []) some may = absurd may.1
 rows-end d (Chain (n ∷ ns)) some may =

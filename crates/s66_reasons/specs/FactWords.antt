@@ -1,5 +1,5 @@
 -- To be believed: fact lines in sentences, each number in them one that the line is checked by.
-use Rattle.std.specs.Prelude.{ℕ, ◌+◌, ◌-◌, ◌*◌, if◌then◌else◌, ◌==◌, List, [], ◌∷◌, ◌++◌, codes, decimal, get_or, length, map, unwrap_or}
+use Rattle.std.specs.Prelude.{ℕ, ◌+◌, ◌-◌, ◌*◌, if◌then◌else◌, ◌==◌, max, List, [], ◌∷◌, ◌++◌, codes, decimal, get_or, length, map, unwrap_or}
 use Rattle.s66_isa.specs.declared.instr.Kind.{Kind}
 use Rattle.s66_isa.specs.Lists.{weigh}
 use Rattle.s66_model.specs.Timing.{Problem, copies, row_at}
@@ -46,12 +46,12 @@ work_of_load b ns =
       time = use_time b (kind_of_load b ns) (map (use_of b) ns);
     }
 
--- where it leads, and how long it is from where the last use begins
-abbrev pub left_to : Moment → (rest wait : ℕ) → List ℕ
-left_to to rest wait = to_words to ++ codes " it is " ++ decimal rest ++ codes " or more: " ++ decimal wait
+-- where it leads, how long it is from where the last use begins, and how long with what comes before
+abbrev pub left_to : Moment → (rest all : ℕ) → List ℕ
+left_to to rest all = to_words to ++ codes " it is " ++ decimal rest ++ codes " or more: " ++ decimal all
 
 abbrev pub one_words : Work → Moment → (after wait : ℕ) → ℕ → List ℕ
-one_words w to after wait n = decimal n ++ codes " has its " ++ unit_name w.kind ++ codes " unit, and from there to " ++ left_to to (wait - after) wait
+one_words w to after wait n = decimal n ++ codes " has its " ++ unit_name w.kind ++ codes " unit, and from there to " ++ left_to to (wait - after) (max after wait)
 
 abbrev pub which_words : Work → List ℕ → List ℕ
 which_words w ns = codes "one of " ++ listed decimal ns ++ codes " has its " ++ unit_name w.kind ++ codes " unit"
@@ -74,7 +74,7 @@ begins w after = after + w.time - w.most
 
 abbrev pub last_words : Moment → (begins wait : ℕ) → List ℕ
 last_words to begins wait =
-    codes "; so the last of them begins at " ++ decimal begins ++ codes " or later, and from there to " ++ left_to to (wait - begins) wait
+    codes "; so the last of them begins at " ++ decimal begins ++ codes " or later, and from there to " ++ left_to to (wait - begins) (max begins wait)
 
 -- if their uses differ
 abbrev pub mixed_words : Moment → (wait : ℕ) → List ℕ
@@ -82,6 +82,11 @@ mixed_words to wait = codes "; so with what is left after the last of them begin
 
 abbrev pub so_words : Work → Moment → (after wait count : ℕ) → List ℕ
 so_words w to after wait count = if w.total == count * w.most then last_words to (begins w after) wait else mixed_words to wait
+
+-- so long is what these say in all, of so many: the wait at least
+abbrev pub load_end : Work → (after wait count : ℕ) → ℕ
+load_end w after wait count =
+    if count == 1 then max after wait else (if w.total == count * w.most then max (begins w after) wait else wait)
 
 abbrev pub many_words : Work → Moment → (after wait : ℕ) → List ℕ → List ℕ
 many_words w to after wait ns = which_words w ns ++ need_words w (length ns) ++ so_words w to after wait (length ns)

@@ -1,5 +1,5 @@
 -- To be believed: why no order is faster, in sentences: what is said of a document whose verdict is yes, each number in it one that its lines are checked by.
-use Rattle.std.specs.Prelude.{ℕ, ◌+◌, ◌-◌, if◌then◌else◌, ◌==◌, List, [], ◌∷◌, ◌++◌, codes, decimal, length, map}
+use Rattle.std.specs.Prelude.{ℕ, ◌-◌, if◌then◌else◌, ◌==◌, List, [], ◌∷◌, ◌++◌, codes, decimal, length, map}
 use Rattle.std.specs.List.{filter}
 use Rattle.s66_isa.specs.declared.instr.Kind.{Kind}
 use Rattle.s66_isa.specs.Table.{numbers, same_kind}
@@ -15,7 +15,7 @@ use Rattle.s66_moments.specs.Known.{known_first}
 use Rattle.s66_checker.specs.Verdict.{problem_of, facts_of}
 use Rattle.s66_reasons.specs.Words.{Reason, counted, each_words, instruction, listed, longest_use, rows_text, unit_name}
 use Rattle.s66_reasons.specs.ChainWords.{chain_rows}
-use Rattle.s66_reasons.specs.FactWords.{facts_from, load_sentence}
+use Rattle.s66_reasons.specs.FactWords.{facts_from, load_end, load_sentence, work_of_load}
 use Rattle.s66_reasons.specs.LongestPaths.{hops_of, path_rows}
 
 -- THE LOAD OF A KIND OF UNIT
@@ -71,18 +71,22 @@ last_row d n =
 
 -- BY FACTS: what the leaf says takes the bound by what is known after the fact lines
 
+-- the orders that rows by facts are said of: fact lines hold of these. The last row says that they take the bound or more, so there are none
+abbrev pub faster_words : (bound : ℕ) → List ℕ
+faster_words bound = codes "If an order took less than " ++ decimal bound ++ codes ":\n"
+
 abbrev pub issue_row : Document → ℕ → Reason
 issue_row d n = record { number = 0; words = instruction d n ++ codes " can issue" }
 
-abbrev pub path_row : (bound : ℕ) → Reason
-path_row bound = record { number = bound; words = codes "the end, by the longest path from there" }
-
--- the arcs of a longest path, between where it begins and where it leads
+-- where a longest path begins, and its arcs: the last leads to the end
 abbrev pub next_rows : Document → ℕ → List Reason
-next_rows d n = issue_row d n ∷ (path_rows d 0 (At n Issue) (hops_of d n) ++ path_row d.bound ∷ [])
+next_rows d n = issue_row d n ∷ path_rows d 0 (At n Issue) (hops_of d n)
 
+-- what its sentence says in all
 abbrev pub left_row : Document → ℕ → List ℕ → Reason
-left_row d after ns = record { number = d.bound; words = load_sentence (problem_of d) Origin End after d.bound ns }
+left_row d after ns =
+    let b : Problem = problem_of d in
+    record { number = load_end (work_of_load b ns) after d.bound (length ns); words = load_sentence b Origin End after d.bound ns }
 
 -- A LEAF
 
@@ -117,10 +121,10 @@ facts_text d = facts_from d (known_first (problem_of d)) 1 (facts_of d)
 abbrev pub facts_before : Document → Ending → List ℕ
 facts_before d (Bounding leaf) = []
 facts_before d (Dominated name) = []
-facts_before d (Next number) = facts_text d
+facts_before d (Next number) = facts_text d ++ faster_words d.bound
 facts_before d (Turned first second) = []
 facts_before d (AtLine line) = []
-facts_before d (LoadFrom after ns) = facts_text d
+facts_before d (LoadFrom after ns) = facts_text d ++ faster_words d.bound
 
 -- the first line of a tree
 abbrev pub top : {M : Type 0} → Tree M → Vertex M

@@ -1,10 +1,21 @@
 -- To be believed: what the rows of a leaf show of the end.
-use Rattle.std.specs.Prelude.{ℕ, ◌≤◌, List, [], ◌∷◌}
-use Rattle.s66_isa.specs.Lists.{least}
-use Rattle.s66_model.specs.Timing.{Problem, total_of}
+use Rattle.std.specs.Prelude.{ℕ, ◌+◌, ◌≡◌, ◌≤◌, ◌<◌, ◌⊎◌, List, [], ◌∷◌, Some}
+use Rattle.s66_isa.specs.Lists.{Among, least, weigh}
+use Rattle.s66_model.specs.Timing.{Problem, row_at, total_of}
 use Rattle.s66_model.specs.LegalOrder.{IsLegal}
-use Rattle.s66_model.specs.Leaves.{Whole, Chain, Load, Parcels}
-use Rattle.s66_model.specs.DominatedLeaves.{Ending, Bounding, Dominated, Next, Turned, AtLine, LoadFrom}
+use Rattle.s66_model.specs.Leaves.{Leaf, Whole, Chain, Load, Parcels}
+use Rattle.s66_moments.specs.declared.moment.Stage.{Stage}
+use Rattle.s66_moments.specs.declared.moment.Stage.TheVariants.{Issue, Start}
+use Rattle.s66_moments.specs.declared.moment.Moment.{Moment}
+use Rattle.s66_moments.specs.declared.moment.Moment.TheVariants.{At, End}
+use Rattle.s66_moments.specs.Moments.{soonest, time_of}
+use Rattle.s66_moments.specs.Networks.{Network}
+use Rattle.s66_cert.specs.Document.{Document}
+use Rattle.s66_checker.specs.Verdict.{problem_of}
+use Rattle.s66_reasons.specs.declared.hop.Hop.{Hop}
+use Rattle.s66_reasons.specs.LongestPaths.{arcs, hops_of, to_end}
+use Rattle.s66_reasons.specs.FactWords.{work_of_load}
+use Rattle.s66_reasons.specs.Reasons.{left_row, next_rows}
 use Rattle.s66_reasons.specs.Words.{Reason}
 
 abbrev pub last_number : List Reason → ℕ
@@ -13,17 +24,62 @@ last_number (r ∷ []) = r.number
 last_number (r ∷ (q ∷ rs)) = last_number (q ∷ rs)
 
 -- the end is no sooner than the last row says; by parcels, than one of them does
-abbrev pub end_by : Ending → List Reason → ℕ
-end_by (Bounding Whole) rows = last_number rows
-end_by (Bounding (Chain ns)) rows = last_number rows
-end_by (Bounding (Load kind)) rows = last_number rows
-end_by (Bounding Parcels) rows = least (λ (r : Reason). r.number) rows
-end_by (Dominated name) rows = last_number rows
-end_by (Next n) rows = last_number rows
-end_by (Turned first second) rows = last_number rows
-end_by (AtLine line) rows = last_number rows
-end_by (LoadFrom after ns) rows = last_number rows
+abbrev pub end_by : Leaf → List Reason → ℕ
+end_by Whole rows = last_number rows
+end_by (Chain ns) rows = last_number rows
+end_by (Load kind) rows = last_number rows
+end_by Parcels rows = least (λ (r : Reason). r.number) rows
 
 -- no legal order takes less than a number, which reaches the bound
 abbrev pub IsReached : Problem → (bound number : ℕ) → Type 0
 IsReached b bound number = (bound ≤ number) × ((order : List ℕ) → IsLegal b.block order → number ≤ total_of b order)
+
+-- BY A LONGEST PATH
+
+-- arcs of the network, each from where the one before it leads
+abbrev pub IsAlong : Network → Moment → List Hop → Moment → Type 0
+IsAlong net e [] f = e ≡ f
+IsAlong net e (hop ∷ hops) f = (net e hop.to ≡ Some hop.wait) × IsAlong net hop.to hops f
+
+-- how long they take, one after the other
+abbrev pub sum_of : List Hop → ℕ
+sum_of hops = weigh (λ (hop : Hop). hop.wait) hops
+
+-- rows of arcs of which the first begins at this number: of each arc one at its end, or none
+abbrev pub AreRowsOf : (number : ℕ) → List Hop → List Reason → Type 0
+AreRowsOf number [] rows = rows ≡ []
+AreRowsOf number (hop ∷ hops) rows =
+    (more : List Reason) × ((rows ≡ more) ⊎ ((r : Reason) × (r.number ≡ number + hop.wait) × (rows ≡ r ∷ more)))
+    × AreRowsOf (number + hop.wait) hops more
+
+-- The rows of n's path, after a first one at 0, are those of arcs that lead from its issue to the end, by what is known after the fact
+-- lines. The last one says how long they take, one after the other, no path takes longer, and that reaches the bound.
+pub record IsPathShown (d : Document) (bound n : ℕ) : Type 0 where
+  pub leads : IsAlong (arcs d) (At n Issue) (hops_of d n) End
+  pub rows : (first : Reason) × (more : List Reason) × (next_rows d n ≡ first ∷ more) × (first.number ≡ 0) × AreRowsOf 0 (hops_of d n) more
+  pub adds_up : last_number (next_rows d n) ≡ sum_of (hops_of d n)
+  pub longest : to_end d (At n Issue) ≡ Some (sum_of (hops_of d n))
+  pub reaches : bound ≤ last_number (next_rows d n)
+
+-- BY A LOAD
+
+-- The row of a load reaches the bound. Each of its instructions needs a unit from a moment on, its issue or its start, that is no sooner
+-- than the row says; and from there the end is so much later that with all others in between it comes at the bound or later.
+pub record IsLoadShown (d : Document) (bound after : ℕ) (ns : List ℕ) : Type 0 where
+  pub each : (n : ℕ) → Among n ns → (stage : Stage) × (t : ℕ) × ((stage ≡ Issue) ⊎ (stage ≡ Start)) ×
+      (after ≤ soonest (problem_of d) [] n stage) × (to_end d (At n stage) ≡ Some t) ×
+      ((row_at (problem_of d) n).hold + 1 + d.bound ≤ after + (work_of_load (problem_of d) ns).time + t)
+  pub reaches : bound ≤ (left_row d after ns).number
+
+-- IN A FASTER ORDER
+
+-- where rows begin with this number, no moment to which an arc leads is sooner than the number of its row
+abbrev pub AreNoSooner : (times : Moment → ℕ) → (number : ℕ) → List Hop → Type 0
+AreNoSooner times number [] = Unit {0}
+AreNoSooner times number (hop ∷ hops) = (number + hop.wait ≤ times hop.to) × AreNoSooner times (number + hop.wait) hops
+
+-- nor is the path's in any legal order that takes less than the bound of the document
+abbrev pub HasNoneSooner : Document → ℕ → Type 0
+HasNoneSooner d n =
+    (order : List ℕ) → IsLegal (problem_of d).block order → total_of (problem_of d) order < d.bound →
+    AreNoSooner (time_of (problem_of d) order) 0 (hops_of d n)

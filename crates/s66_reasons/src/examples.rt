@@ -29,6 +29,7 @@ pub fn reasons_examples()
         codes "So the order of 13 is best.\n" }
     ensures left { reasons_text before_their_writers ≡
         codes "Every order takes 16 or more:\n" ++
+        codes "If an order took less than 16:\n" ++
         codes "  16  From the beginning it is 0 or more until one of 1 and 2 has its Boolean unit; these need it for 4 each, 8 in all; so the last of them begins at 4 or later, and from there to the end it is 12 or more: 16\n" ++
         codes "So the order of 16 is best.\n" }
     ensures splits { reasons_text three_multiplies ≡

@@ -13,7 +13,7 @@ ghost use Rattle.s66_checker.specs.KeptKnown.{KnowsAll};
 ghost use Rattle.s66_checker.specs.Verdict.{facts_of, problem_of};
 ghost use Rattle.s66_reasons.specs.Within.{AreFirst, AreLoaded};
 ghost use Rattle.s66_reasons.specs.Words.{listed};
-ghost use Rattle.s66_reasons.specs.FactWords.{begins, by_parcels, by_unit, could_words, fact_sentence, facts_from, from_words, has_words, in_all, issues_words, last_words, late_words, left_to, load_sentence, many_words, mixed_words, need_words, numbered_fact, one_words, pair_sentence, pair_words, rest_words, side_by_side, so_words, to_words, units_words, until_words, which_words};
+ghost use Rattle.s66_reasons.specs.FactWords.{begins, by_parcels, by_unit, could_words, fact_sentence, facts_from, from_words, has_words, in_all, issues_words, last_words, late_words, left_to, load_end, load_sentence, many_words, mixed_words, need_words, numbered_fact, one_words, pair_sentence, pair_words, rest_words, side_by_side, so_words, to_words, units_words, until_words, which_words};
 
 use crate::units::{kind_of, push_each};
 use crate::words::{push_around, push_between, push_instruction, separator, unit_name};
@@ -51,13 +51,13 @@ fn push_to(out: &mut Vec<u8>, moment: &Moment) -> Result<(), AllocError>
     }
 }
 
-/// How long it is from where the last use begins to where a load ends, which so comes so long after.
-fn push_left_to(out: &mut Vec<u8>, to: &Moment, rest: usize, wait: u32) -> Result<(), AllocError>
-    ensures { OnOk result (out.new.items ≡ out.old.items ++ left_to to.now rest wait) }
+/// How long it is from where the last use begins to where a load ends, and how long with what comes before.
+fn push_left_to(out: &mut Vec<u8>, to: &Moment, rest: usize, all: usize) -> Result<(), AllocError>
+    ensures { OnOk result (out.new.items ≡ out.old.items ++ left_to to.now rest all) }
 {
     push_to(out, to)?;
     push_field(out, b" it is ", rest)?;
-    push_field(out, b" or more: ", wait as usize)
+    push_field(out, b" or more: ", all)
 }
 
 /// What units have to do before a moment, if they begin to work at `after`; so the moment comes at `wait` or later. Both are minor
@@ -79,7 +79,8 @@ fn push_one(out: &mut Vec<u8>, load: &UnitLoad, n: u8) -> Result<(), AllocError>
     out.extend_from_slice(unit_name(load.work.kind))?;
     out.extend_from_slice(b" unit, and from there to ")?;
     let rest = load.wait.saturating_sub(load.after);
-    push_left_to(out, &load.to, rest as usize, load.wait)
+    let all = load.after.max(load.wait);
+    push_left_to(out, &load.to, rest as usize, all as usize)
 }
 
 /// Which units instructions share.
@@ -125,7 +126,22 @@ fn push_last(out: &mut Vec<u8>, to: &Moment, begins: usize, wait: u32) -> Result
 {
     let start = b"; so the last of them begins at ";
     push_between(out, start, begins, b" or later, and from there to ")?;
-    push_left_to(out, to, (wait as usize).saturating_sub(begins), wait)
+    let wait = wait as usize;
+    push_left_to(out, to, wait.saturating_sub(begins), begins.max(wait))
+}
+
+/// How long a load of so many takes in all, by what is said of it.
+pub(crate) fn load_end(work: &Work, after: u32, wait: u32, count: usize) -> usize
+    requires { count ≤ BLOCK_LIMIT }
+    ensures { result ≡ load_end work.now after wait count }
+{
+    if count == 1 {
+        after.max(wait) as usize
+    } else if work.total as usize == count * work.most as usize {
+        begins(work, after).max(wait as usize)
+    } else {
+        wait as usize
+    }
 }
 
 /// The same, if they need it for different times.

@@ -9,16 +9,17 @@ ghost use Rattle.s66_cert.specs.declared.limits.TheConstants.{SPLIT_LIMIT};
 ghost use Rattle.s66_cert.specs.DocumentParts.{document_of};
 ghost use Rattle.s66_checker.specs.declared.verdict.Verdict.TheVariants.{Yes};
 ghost use Rattle.s66_checker.specs.Verdict.{problem_of, verdict};
-ghost use Rattle.s66_reasons.specs.Reasons.{and_facts, colon, counts_text, issue_row, last_line, left_row, opening, path_row, reasons_text, said_at, top};
+ghost use Rattle.s66_reasons.specs.Reasons.{and_facts, colon, counts_text, faster_words, issue_row, last_line, left_row, opening, reasons_text, said_at, top};
 ghost use Rattle.s66_reasons.specs.Words.{row_text};
 ghost use Rattle.s66_reasons.specs.Within.{AreFirst, AreLoaded, IsGranted, is_split};
 
 use crate::chain::push_chain;
-use crate::facts::{push_facts, push_load_sentence};
+use crate::facts::{load_end, push_facts, push_load_sentence};
 use crate::known_paths::KnownPaths;
 use crate::parcels::push_parcels;
 use crate::units::push_load;
-use crate::words::{push_around, push_between, push_counted, push_number, push_words};
+use crate::words::{push_around, push_between, push_counted, push_number};
+use crate::work::Work;
 use s66_cert::{Document, TreeLine, TreeLines};
 use s66_checker::{fact_lines, instructions_of, profile_of};
 use s66_device::push_field;
@@ -87,13 +88,11 @@ fn push_issue_row(out: &mut Vec<u8>, document: &Document, n: u8) -> Result<(), A
     out.extend_from_slice(b"\n")
 }
 
-/// Of where it leads.
-fn push_path_row(out: &mut Vec<u8>, bound: u32) -> Result<(), AllocError>
-    ensures { OnOk result (out.new.items ≡ out.old.items ++ row_text (path_row bound)) }
+/// The orders that rows by facts are said of.
+fn push_faster(out: &mut Vec<u8>, bound: u32) -> Result<(), AllocError>
+    ensures { OnOk result (out.new.items ≡ out.old.items ++ faster_words bound) }
 {
-    push_number(out, bound as usize)?;
-    push_words(out, b"the end, by the longest path from there")?;
-    out.extend_from_slice(b"\n")
+    push_between(out, b"If an order took less than ", bound as usize, b":\n")
 }
 
 /// The fact lines, and the longest path from an instruction to the end by them.
@@ -110,9 +109,9 @@ fn push_path(
 {
     let by_dependence = facts.duplicate();
     let by_lines = push_facts(out, document, prefix, facts)?;
+    push_faster(out, document.bound())?;
     push_issue_row(out, document, n)?;
-    KnownPaths::new(document, prefix, &by_dependence, &by_lines).push_longest(out, n)?;
-    push_path_row(out, document.bound())
+    KnownPaths::new(document, prefix, &by_dependence, &by_lines).push_longest(out, n)
 }
 
 /// The row of what units do for some instructions.
@@ -129,7 +128,8 @@ fn push_left_row(
         row_text (left_row (document_of document.now) after numbers.now)) }
 {
     let bound = document.bound();
-    push_number(out, bound as usize)?;
+    let work = Work::of(prefix, numbers);
+    push_number(out, load_end(&work, after, bound, numbers.len()))?;
     push_load_sentence(
         out,
         prefix,
@@ -157,6 +157,7 @@ fn push_left(
         said_at (document_of document.now) (AtTerminal (LoadFrom after numbers.now))) }
 {
     push_facts(out, document, prefix, facts)?;
+    push_faster(out, document.bound())?;
     push_left_row(out, document, prefix, after, numbers)
 }
 

@@ -35,11 +35,19 @@ const REASONS: &[(&str, &str)] = &[
     ),
     (
         "S66 CERTIFICATE 4\nPROFILE 3 3 4 4 3 10 29 8 3 8 1 1 1 1 2 1 2\nBLOCK 4\nI BX1 X2*X3\nI BX4 X1*X1\nI BX5 X1*X1\nI FX6 X4+X5\nTIME 16\nBOUND 16\nORDER 1 2 3 4\nA I1 END 4 16 2 3\nE 1\nEND\n",
-        "DOCUMENT 1 YES TIME 16 BOUND 16\nEvery order takes 16 or more:\n  1. From where 1 issues it is 4 or more until one of 2 and 3 has its Boolean unit; these need it for 4 each, 8 in all; so the last of them begins at 8 or later, and from there to the end it is 8 or more: 16\n   0  1 BX1 X2*X3 can issue\n  16  the end, by 1.\n  16  the end, by the longest path from there\nSo the order of 16 is best.\n",
+        "DOCUMENT 1 YES TIME 16 BOUND 16\nEvery order takes 16 or more:\n  1. From where 1 issues it is 4 or more until one of 2 and 3 has its Boolean unit; these need it for 4 each, 8 in all; so the last of them begins at 8 or later, and from there to the end it is 8 or more: 16\nIf an order took less than 16:\n   0  1 BX1 X2*X3 can issue\n  16  the end, by 1.\nSo the order of 16 is best.\n",
     ),
     (
         "S66 CERTIFICATE 4\nPROFILE 3 3 4 4 3 10 29 8 3 8 1 1 1 1 2 1 2\nBLOCK 4\nI BX1 X2\nI BX3 X4\nI FX2 X5*X6\nI FX4 X5*X6\nTIME 16\nBOUND 16\nORDER 1 3 2 4\nL 0 1 2\nEND\n",
-        "DOCUMENT 1 YES TIME 16 BOUND 16\nEvery order takes 16 or more:\n  16  From the beginning it is 0 or more until one of 1 and 2 has its Boolean unit; these need it for 4 each, 8 in all; so the last of them begins at 4 or later, and from there to the end it is 12 or more: 16\nSo the order of 16 is best.\n",
+        "DOCUMENT 1 YES TIME 16 BOUND 16\nEvery order takes 16 or more:\nIf an order took less than 16:\n  16  From the beginning it is 0 or more until one of 1 and 2 has its Boolean unit; these need it for 4 each, 8 in all; so the last of them begins at 4 or later, and from there to the end it is 12 or more: 16\nSo the order of 16 is best.\n",
+    ),
+    (
+        "S66 CERTIFICATE 4\nPROFILE 3 3 4 4 3 10 29 8 3 8 1 1 1 1 2 1 2\nBLOCK 2\nI SA1 A1+B1\nI BX6 X1\nTIME 12\nBOUND 10\nORDER 1 2\nE 1\nEND\n",
+        "DOCUMENT 1 YES TIME 12 BOUND 10\nEvery order takes 10 or more:\nIf an order took less than 10:\n   0  1 SA1 A1+B1 can issue\n   8  X1 of 1 SA1 A1+B1 is there, which 2 BX6 X1 reads\n  12  the unit of 2 BX6 X1 is free, and that is the end\nThe order found takes 12.\n",
+    ),
+    (
+        "S66 CERTIFICATE 4\nPROFILE 3 3 4 4 3 10 29 8 3 8 1 1 1 1 2 1 2\nBLOCK 4\nI BX1 X2\nI BX3 X4\nI FX2 X5*X6\nI FX4 X5*X6\nTIME 16\nBOUND 3\nORDER 1 3 2 4\nL 0 1 2\nEND\n",
+        "DOCUMENT 1 YES TIME 16 BOUND 3\nEvery order takes 3 or more:\nIf an order took less than 3:\n   4  From the beginning it is 0 or more until one of 1 and 2 has its Boolean unit; these need it for 4 each, 8 in all; so the last of them begins at 4 or later, and from there to the end it is 0 or more: 4\nThe order found takes 16.\n",
     ),
 ];
 

@@ -1,10 +1,11 @@
-use Rattle.std.proofs.Common.{ℕ, ◌≡◌, ◌++◌, ◌∙◌, List, OnOk, codes, ap, rules}
+use Rattle.std.proofs.Common.{ℕ, ◌≡◌, ◌++◌, ◌∙◌, List, OnOk, codes, ap, length, rules}
 use Rattle.std.proofs.lemmas.Result.{IfOk-equal}
 use Rattle.s66_model.specs.Timing.{Problem}
 use Rattle.s66_moments.specs.declared.moment.Moment.TheVariants.{Origin, End}
 use Rattle.s66_cert.specs.DocumentParts.{document_of}
+use Rattle.s66_reasons.specs.declared.work.Work.{Work}
 use Rattle.s66_reasons.specs.Words.{in_four}
-use Rattle.s66_reasons.specs.FactWords.{load_sentence}
+use Rattle.s66_reasons.specs.FactWords.{load_end, load_sentence, work_of_load}
 use Rattle.s66_reasons.proofs.Texts.{row-pushed}
 use Rattle.s66_reasons.proofs.reasons.push_left_row.Goals as goal
 
@@ -17,8 +18,11 @@ returns c =
     let ns : List ℕ = c.args.numbers.now in
     let bound : c.bound-bound.result ≡ d.bound = c.bound-bound.ensures in
     let row : ℕ → List ℕ → List ℕ = λ k ws. out ++ (in_four k ++ codes "  " ++ ws ++ codes "\n") in
+    let said : Problem → Work → ℕ → List ℕ = λ p w k. row (load_end w after k (length ns)) (load_sentence p Origin End after k ns) in
     let ended : OnOk c.extend_from_slice.result (c.extend_from_slice.new.self.items ≡ c.push_load_sentence.new.out.items ++ codes "\n") = search rules in
     IfOk-equal c.extend_from_slice.result _ _ _
-    (row-pushed c.extend_from_slice.result out _ _ _ (load_sentence q Origin End after c.bound-bound.result ns) c.bound-bound.result c.in_ok-push_number.ensures c.in_ok-push_load_sentence.ensures ended)
-    (ap (λ k. row k (load_sentence q Origin End after k ns)) bound
-    ∙ ap (λ (p : Problem). row d.bound (load_sentence p Origin End after d.bound ns)) c.requires.same)
+    (row-pushed c.extend_from_slice.result out _ _ _ (load_sentence q Origin End after c.bound-bound.result ns) c.load_end.result c.in_ok-push_number.ensures c.in_ok-push_load_sentence.ensures ended)
+    (ap (λ k. row k (load_sentence q Origin End after c.bound-bound.result ns)) c.load_end.ensures
+    ∙ ap (λ (w : Work). said q w c.bound-bound.result) c.of-work.ensures
+    ∙ ap (λ k. said q (work_of_load q ns) k) bound
+    ∙ ap (λ (p : Problem). said p (work_of_load p ns) d.bound) c.requires.same)
