@@ -10,6 +10,9 @@ pub mod LeadingPads
 pub mod IndentedLines
 pub mod KeptLines
 pub mod PrintedLines
+pub mod SoFar
+pub mod Owned
+pub mod BlocksBefore
 pub mod FewBlocks
 pub mod MergedLines
 pub mod ReadBack

@@ -9,6 +9,7 @@ pub mod Gives
 pub mod Pads
 pub mod Columns
 pub mod Keeping
+pub mod Replaced
 pub mod Merged
 pub mod Keeper
 pub mod Reader

@@ -1,8 +1,9 @@
-ghost use Rattle.std.specs.Prelude.{ℕ, suc, ◌≡◌, ◌≤◌, ◌<◌, ◌++◌, length, IfOk, OnOk, drop};
+ghost use Rattle.std.specs.Prelude.{ℕ, suc, ◌≡◌, ◌≤◌, ◌<◌, ◌++◌, length, IfOk, None, OnOk, drop, replicate};
 ghost use Rattle.s66_isa.specs.Lists.{Among};
-ghost use Rattle.s66_source.specs.Keeping.{AreGiven, printed_keeping, text_anew};
+ghost use Rattle.s66_source.specs.Keeping.{AreGiven, text_anew};
 ghost use Rattle.s66_source.specs.Keeper.{begins_with};
 ghost use Rattle.s66_source.specs.Printed.{ArePlaced, printed};
+ghost use Rattle.s66_source.specs.Replaced.{printed_in};
 ghost use Rattle.s66_source.specs.Source.{blocks_of, classed_lines};
 
 use crate::block_text::{push_copied, push_indented, push_report};
@@ -291,7 +292,8 @@ fn print_given(
     columns: Columns,
 ) -> Result<Vec<u8>, AllocError>
     requires { AreGiven (drop before (blocks_of (classed_lines source.now))) given }
-    ensures { IfOk result (λ text. text.items ≡ printed_keeping quiet columns source.now before given.entry) }
+    ensures { IfOk result (λ text. text.items ≡ printed_in quiet columns source.now
+        (replicate before None ++ given.entry)) }
 {
     let mut keeper = Keeper {
         quiet,
@@ -344,7 +346,8 @@ pub fn print_keeping(
     columns: Columns,
 ) -> Result<Vec<u8>, AllocError>
     requires { AreGiven (drop before (blocks_of (classed_lines source.now))) given.now }
-    ensures { IfOk result (λ text. text.items ≡ printed_keeping quiet columns source.now before given.now) }
+    ensures { IfOk result (λ text. text.items ≡ printed_in quiet columns source.now
+        (replicate before None ++ given.now)) }
 {
     let given = Given {
         every: &[],
