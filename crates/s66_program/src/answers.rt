@@ -28,11 +28,8 @@ use std::alloc::{AllocError, Global};
 use std::sync::Wait;
 use std::thread::Threads;
 
-/// How many splits a search makes for each instruction of a short block before facts are looked for.
-const SPLITS_EACH: u32 = 64;
-
-/// In a longer one it makes the square of the block's length for each, divided by this.
-const SQUARE_SHARE: u32 = 32;
+/// How many splits a search makes before facts are looked for, as a multiple of the square of the block's length.
+const SQUARE_SPLITS: u32 = 20;
 
 /// How many lines a tree has at most that no document by facts is sought to shorten.
 const SHORT_TREE: usize = 8;
@@ -469,10 +466,11 @@ fn found_best(
     }
 }
 
-/// How many splits the search of a block makes before facts are looked for: so many that they take about half the time that facts do.
+/// How many splits the search of a block makes before facts are looked for, if it may make so many: so many that few blocks that it
+/// would decide are looked at by facts, which take longer for most of these.
 fn first_splits(block: &Block) -> u32 {
     let count = block.count() as u32;
-    count * SPLITS_EACH.max(count * count / SQUARE_SHARE)
+    count * count * SQUARE_SPLITS
 }
 
 /// What is answered for a block under a profile with facts, by the calling thread alone: if some splits don't find the best order, facts

@@ -33,8 +33,13 @@ impl Merit {
     /// How promising a prefix is: its floor, no less than this one, and how far its instructions reach.
     pub fn of(prefix: &Prefix<'_>, floor: u32) -> Merit {
         let clock = prefix.walk().clock();
+        let least = if prefix.walk().is_complete() {
+            clock.total()
+        } else {
+            prefix.floor()
+        };
         Merit {
-            floor: floor.max(prefix.path_floor()).max(clock.total()),
+            floor: floor.max(least).max(clock.total()),
             reach: clock
                 .next()
                 .saturating_mul(LATE_SHARE)
