@@ -29,7 +29,7 @@ def build(name):
     """The program of a crate, proved and built as ./s66 does it."""
     if subprocess.run(["sh", "-c", BUILD, "bench", TOP, name], stdin=subprocess.DEVNULL).returncode != 0:
         raise SystemExit(1)
-    return os.path.join(TOP, "crates", name, "out", name)
+    return os.path.join(TOP, "built", name)
 
 
 def block_of(rng, length):

@@ -23,7 +23,7 @@ ENDED = (0, 7)  # statuses of a program that did its work: done; some block is o
 # the C library's fills and copies by one instruction, of which callgrind counts each byte, are switched off
 COUNTED = {**os.environ, "GLIBC_TUNABLES": "glibc.cpu.hwcaps=-ERMS"}
 TOP = os.path.dirname(os.path.dirname(os.path.abspath(__file__)))
-PROGRAM = os.path.join(TOP, "crates/s66_main/out/s66_main")
+PROGRAM = os.path.join(TOP, "built/s66_main")
 
 ALL = [
     "BX{i}    X{j}*X{k}", "BX{i}    -X{k}", "LX{i}    {k}", "AX{i}    B{j},X{k}", "NX{i}    B{j},X{k}",

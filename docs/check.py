@@ -91,13 +91,15 @@ def fences_of(text):
 
 def put_script(folder, program):
     """Puts the script ./s66 into a folder, as if the program had been proved and built there."""
-    out = os.path.join(folder, "crates/s66_main/out")
-    os.makedirs(out)
-    os.mkdir(os.path.join(folder, "tools"))
-    for name in ("s66", "tools/build.sh"):
+    built = os.path.join(folder, "built")
+    os.mkdir(built)
+    for name in ("tools", "docs"):
+        os.mkdir(os.path.join(folder, name))
+    for name in ("s66", "tools/build.sh", "tools/improve.sh"):
         shutil.copy(os.path.join(ROOT, name), os.path.join(folder, name))
-    os.symlink(os.path.abspath(program), os.path.join(out, "s66_main"))
-    with open(os.path.join(out, "proved"), "w", encoding="utf-8") as mark:
+    shutil.copytree(os.path.join(ROOT, "docs/help"), os.path.join(folder, "docs/help"))
+    os.symlink(os.path.abspath(program), os.path.join(built, "s66_main"))
+    with open(os.path.join(built, "s66_main.of"), "w", encoding="utf-8") as mark:
         print("tools", file=mark)
 
 
@@ -259,6 +261,8 @@ def wrong_help(program):
     wrong = []
     for path in sorted(glob.glob(os.path.join(ROOT, "docs/help/*"))):
         name = os.path.basename(path)
+        if name == "script":
+            continue
         words = name.removesuffix("-h").split("s66")[-1:] + ["-h" if name.endswith("-h") else "--help"]
         ran = subprocess.run([program, *asked.get(name, [word for word in words if word])], capture_output=True)
         with open(path, "rb") as opened:
