@@ -1,11 +1,11 @@
 -- To be believed: what `order` writes with `--keep`, with `--columns` or without it, `--quiet` or `--block`, and how it ends.
-use Rattle.std.specs.Prelude.{ℕ, suc, ◌≡◌, ◌==◌, ◌&&◌, ◌||◌, if◌then◌else◌, Bool, true, false, List, [], ◌∷◌, Option, Some, None}
+use Rattle.std.specs.Prelude.{ℕ, suc, ◌≡◌, ◌==◌, ◌&&◌, ◌||◌, if◌then◌else◌, Bool, true, false, List, [], ◌∷◌, ◌++◌, Option, Some, None, replicate}
 use Rattle.std.specs.Option.{is_some}
 use Rattle.s66_isa.specs.declared.profile.Profile.{Profile}
 use Rattle.s66_line.specs.Block.{Block}
-use Rattle.s66_source.specs.Keeping.{printed_keeping}
 use Rattle.s66_source.specs.LeftAlone.{Reading}
 use Rattle.s66_source.specs.Printed.{Placed}
+use Rattle.s66_source.specs.Replaced.{printed_in}
 use Rattle.s66_source.specs.declared.columns.Columns.{Columns}
 use Rattle.s66_source.specs.declared.columns.Columns.TheVariants.{Own, Usual}
 use Rattle.s66_command.specs.declared.command.OrderStyle.{OrderStyle}
@@ -36,7 +36,7 @@ columns_by own = if own then Own else Usual
 -- the source printed by answers to the blocks that are shown, all other blocks of which stand
 abbrev pub IsKeptOutput : Strategy → Profile → OrderStyle → (only : Option ℕ) (source : Reading) (text : List ℕ) → Status → Type 0
 IsKeptOutput strategy p style only source text status =
-    IsOfAnswers (λ blocks answers. text ≡ printed_keeping style.quiet (columns_by style.columns) source (before only) (all_given p style.trace style.keep blocks answers)) strategy p only source status
+    IsOfAnswers (λ blocks answers. text ≡ printed_in style.quiet (columns_by style.columns) source (replicate (before only) None ++ all_given p style.trace style.keep blocks answers)) strategy p only source status
 
 -- one of the options is there
 abbrev pub is_other : OrderStyle → Option ℕ → Bool

@@ -14,13 +14,14 @@ use Rattle.s66_source.specs.BlockParts.{all_of}
 use Rattle.s66_source.specs.Columns.{indented_lines, indents}
 use Rattle.s66_source.specs.Keeping.{is_at, is_given, others, pad_stands, printed_keeping, stands_next, text_given}
 use Rattle.s66_source.specs.LeftAlone.{Reading, flagged_lines}
-use Rattle.s66_source.specs.Printed.{Placed, copied_line, notes_text, report}
+use Rattle.s66_source.specs.Printed.{ArePlaced, Placed, copied_line, notes_text, printed, report}
 use Rattle.s66_source.specs.Roles.{has_block, is_comment_class, is_dropped, is_leading, is_note, is_note_of, is_pad_class}
 use Rattle.s66_source.specs.Source.{Line, block_of, blocks_of, classed_lines, entry_of, instructions, parts_of, place_after, place_at, refusal, run_after, run_at, source_of}
 use Rattle.s66_source.specs.declared.columns.Columns.{Columns}
+use Rattle.s66_source.specs.declared.columns.Columns.TheVariants.{Usual}
 use Rattle.s66_source.proofs.LineLaw.{Rising, Rising-behind, last_number, no_refusal, operand-none, outside}
 use Rattle.s66_source.proofs.PartsLaw.{parts}
-use Rattle.s66_source.proofs.PrintedLines.{instructions-no, instructions-yes, line_of-end}
+use Rattle.s66_source.proofs.PrintedLines.{instructions-no, instructions-yes, line_of-end, none-stands}
 use Rattle.s66_source.specs.Replaced.{begins, begun, line_text, owner, printed_in, replaced, text_for, texts_of}
 use Rattle.s66_source.proofs.SoFar.{At, OneRun, SameRun, ahead-open, at-next, block-at, drop-left, indexed-classed, inside, length-left, line_of-left, next-stands, not-next, notes-before, notes-code, notes-past, or-true, ordered-of, place, refused-none, rest-left, rising-next, run-next, step-copied, step-dropped, step-instruction, text_after}
 
@@ -617,3 +618,8 @@ keeping-owned quiet columns source blocks gs accepted =
     (print-lines quiet columns texts all all).1 [] [] found gs 0 0 0 1 false
     (record { whole = refl; below = tt; indexed = indexed-classed (flagged_lines source) 1 0 0 [] false; low = tt; ran = refl; taken = no_refusal (refusal all) (blocks_of all) blocks accepted })
     (record { blocks = refl; gone = tt; number = refl; ahead = λ i j is. ap (λ k. get_or texts k None) (is ∙ omega arith); stands = λ some. absurd (omega (arith, some)); one = one-run found (λ part among. (cut.sizes part among).0) cut.runs; left = sym cut.whole })
+
+-- where each block is printed anew
+pub all-anew : (source : Reading) (blocks : List Block) (ps : List Placed) → source_of source ≡ Ok blocks → ArePlaced blocks ps → printed_in false Usual source (map (λ (p : Placed). Some p) ps) ≡ printed source ps
+all-anew source blocks ps accepted are =
+    sym (keeping-owned false Usual source blocks (map (λ (p : Placed). Some p) ps) accepted) ∙ none-stands source blocks ps accepted are

@@ -17,9 +17,9 @@ ghost use Rattle.s66_line.specs.Block.{Block, instrs_of, text_of, constants_in};
 ghost use Rattle.s66_line.specs.Class.{class_of, is_instruction};
 ghost use Rattle.s66_isa.specs.declared.limits.TheConstants.{BLOCK_LIMIT};
 ghost use Rattle.s66_source.specs.BlockParts.{AreParts};
-ghost use Rattle.s66_source.specs.Keeping.{printed_keeping};
 ghost use Rattle.s66_source.specs.Printed.{Placed, ArePlaced, instruction_lines, is_trailing, label_field, printed};
 ghost use Rattle.s66_source.specs.ReadAgain.{AreComplete, ArePlacedAgain};
+ghost use Rattle.s66_source.specs.Replaced.{printed_in};
 ghost use Rattle.s66_source.specs.Roles.{is_note, is_note_of, is_dropped, is_copied, roles, lines_that, mixed_source, outside_source};
 
 /// Lower case reads as upper case. Texts that differ only in the case of letters have the same blocks but for the case of letters
@@ -72,8 +72,7 @@ pub fn read_again_law()
 /// Where no block stands, a source is printed as by its orders alone.
 pub fn none_stands_law()
     ensures { (source : Reading) (blocks : List Block) (ps : List Placed) → source_of source ≡ Ok blocks →
-        ArePlaced blocks ps → printed_keeping false Usual source 0 (map (λ (p : Placed). Some p) ps) ≡
-        printed source ps }
+        ArePlaced blocks ps → printed_in false Usual source (map (λ (p : Placed). Some p) ps) ≡ printed source ps }
 {}
 
 /// An operation in the usual column is printed as without the option. A line whose operation keeps its column is read as the
@@ -250,13 +249,34 @@ pub fn printed_examples()
     ensures short_label { label_field (codes "ABCDEFGHI") ≡ codes "ABCDEFGHI " }
 {}
 
+/// A source of which some blocks stand, and one without a block. The `NO`s of a block that stands are as they were read.
+#[tactic(auto, unfolding(crate::specs::Replaced::digits))]
+pub fn printed_in_examples()
+    ensures some { printed_in false Usual (plain mixed_source) (None ∷ Some (record { order = 1 ∷ []; source = 4; time = 4; bound = 4; splits = None }) ∷ []) ≡
+        codes "* TEST\n" ++
+        codes "LOOP      SA1 A1+1     LOAD\n" ++
+        codes "          NO\n" ++
+        codes "* NOTE\n" ++
+        codes "          BX6 X1\n" ++
+        codes "* BLOCK 2 COUNT 1 SOURCE 4 TIME 4 BEST\n" ++
+        codes "+         SA6 A6+B1    STORE\n" ++
+        codes "          ZR X1,LOOP\n" ++
+        codes "          BX1 X2\n" ++
+        codes "          VFD 60/0\n" }
+    ensures none { printed_in true Own (plain outside_source) [] ≡ outside_source }
+    ensures label_on_a_pad { printed_in false Usual (plain (codes "LOOP NO  WAIT\n* LOADED\n  BX1 X2\n")) (Some (record { order = 1 ∷ []; source = 4; time = 4; bound = 4; splits = None }) ∷ []) ≡
+        codes "* LOADED\n" ++
+        codes "* BLOCK 1 COUNT 1 SOURCE 4 TIME 4 BEST\n" ++
+        codes "LOOP      BX1 X2\n" }
+{}
+
 /// How many blanks come before an operation that keeps its column: after a label, after a tab alone, and in a line with a long label. And
 /// a source printed so, of which one block stands.
 pub fn columns_examples()
     ensures label { indent Own (codes "LOOP  SA1 A1") ≡ 6 }
     ensures tab { indent Own (codes "\tBX6 X1") ≡ 2 }
     ensures long { indent Own (codes " A.LABEL.OF.THIRTY.BYTES.AND.ONE  BX6 X1\r") ≡ 28 }
-    ensures kept { printed_keeping true Own (plain (codes "LOOP  SA1 A1+B1\n    BX6 X1\n* NOTE\n      BX7 X2     COPY \r\n ZR X1,L\n   BX1 X2\n")) 0 (Some (record { order = 3 ∷ 1 ∷ 2 ∷ []; source = 16; time = 12; bound = 12; splits = None }) ∷ None ∷ []) ≡
+    ensures kept { printed_in true Own (plain (codes "LOOP  SA1 A1+B1\n    BX6 X1\n* NOTE\n      BX7 X2     COPY \r\n ZR X1,L\n   BX1 X2\n")) (Some (record { order = 3 ∷ 1 ∷ 2 ∷ []; source = 16; time = 12; bound = 12; splits = None }) ∷ None ∷ []) ≡
         codes "* NOTE\n" ++
         codes "LOOP      BX7 X2     COPY\n" ++
         codes "      SA1 A1+B1\n" ++

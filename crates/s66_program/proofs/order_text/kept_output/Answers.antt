@@ -1,5 +1,6 @@
-use Rattle.std.proofs.Common.{◌∙◌, ap, drop, refl, subst, sym}
-use Rattle.s66_source.specs.Keeping.{AreGiven, printed_keeping}
+use Rattle.std.proofs.Common.{◌∙◌, ◌++◌, None, ap, drop, refl, replicate, subst, sym}
+use Rattle.s66_source.specs.Keeping.{AreGiven}
+use Rattle.s66_source.specs.Replaced.{printed_in}
 use Rattle.s66_source.specs.Source.{blocks_of, classed_lines}
 use Rattle.s66_output.specs.KeptText.{all_given, columns_by}
 use Rattle.s66_output.specs.Shown.{before}
@@ -37,9 +38,9 @@ returns g c =
       (
         answers,
         are,
-        c.in_ok-print_keeping.ensures ∙ ap (λ columns. printed_keeping style.quiet columns source c.blocks_before.result c.as_slice.result.now) c.columns_by.ensures
-            ∙ ap (λ k. printed_keeping style.quiet (columns_by style.columns) source k c.as_slice.result.now) c.blocks_before.ensures.value
-            ∙ ap (printed_keeping style.quiet (columns_by style.columns) source (before c.args.only)) (c.as_slice.ensures.value ∙ is),
+        c.in_ok-print_keeping.ensures ∙ ap (λ columns. printed_in style.quiet columns source (replicate c.blocks_before.result None ++ c.as_slice.result.now)) c.columns_by.ensures
+            ∙ ap (λ k. printed_in style.quiet (columns_by style.columns) source (replicate k None ++ c.as_slice.result.now)) c.blocks_before.ensures.value
+            ∙ ap (λ given. printed_in style.quiet (columns_by style.columns) source (replicate (before c.args.only) None ++ given)) (c.as_slice.ensures.value ∙ is),
         ends,
       ),
     )

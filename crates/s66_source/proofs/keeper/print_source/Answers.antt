@@ -7,8 +7,8 @@ use Rattle.s66_source.specs.Replaced.{printed_in}
 use Rattle.s66_source.specs.Source.{blocks_of, classed_lines}
 use Rattle.s66_source.specs.declared.columns.Columns.TheVariants.{Usual}
 use Rattle.s66_source.proofs.KeptLines.{count-placed, given-placed}
-use Rattle.s66_source.proofs.Owned.{keeping-owned}
-use Rattle.s66_source.proofs.PrintedLines.{accepted-is, none-stands}
+use Rattle.s66_source.proofs.Owned.{all-anew}
+use Rattle.s66_source.proofs.PrintedLines.{accepted-is}
 use Rattle.s66_source.proofs.keeper.print_source.Goals as goal
 
 pub prove-unreachable-requires : goal.prove-unreachable-requires
@@ -27,4 +27,4 @@ returns c =
     let placed = c.args.placed.now in
     let are = subst (λ (blocks : List Block). ArePlaced blocks placed) (accepted-is source c.blocks-2.result.now c.blocks-2.ensures) c.requires in
     let same = ap (λ (given : List (Option Placed)). printed_in false Usual source given) (append-nil (map (λ (p : Placed). Some p) placed)) in
-    subst (λ (printed : List ℕ). IfOk c.print_given.result (λ text. text.items ≡ printed)) (same ∙ sym (keeping-owned false Usual source c.blocks-2.result.now (map (λ (p : Placed). Some p) placed) c.blocks-2.ensures) ∙ none-stands source c.blocks-2.result.now placed c.blocks-2.ensures are) c.print_given.ensures
+    subst (λ (printed : List ℕ). IfOk c.print_given.result (λ text. text.items ≡ printed)) (same ∙ all-anew source c.blocks-2.result.now placed c.blocks-2.ensures are) c.print_given.ensures

@@ -1,5 +1,5 @@
-use Rattle.s66_source.proofs.PrintedLines.{none-stands}
+use Rattle.s66_source.proofs.Owned.{all-anew}
 use Rattle.s66_source.proofs.laws.none_stands_law.Goals as goal
 
 pub returns : goal.returns
-returns c = none-stands
+returns c = all-anew
