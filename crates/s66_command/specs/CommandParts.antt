@@ -15,6 +15,6 @@ strategy_of (Why order text) = order
 strategy_of (Page strategy) = Some strategy
 strategy_of (Order strategy style) = Some strategy
 strategy_of (Prove strategy) = Some strategy
-strategy_of (Sum strategy trace words) = Some strategy
+strategy_of (Sum strategy style) = Some strategy
 strategy_of (Json order) = order
 strategy_of asked = None

@@ -26,6 +26,7 @@ use Rattle.s66_command.specs.declared.subcommand.Subcommand.{Subcommand}
 use Rattle.s66_command.specs.declared.subcommand.Subcommand.TheVariants as sub
 use Rattle.s66_command.specs.declared.command.Command.{Command}
 use Rattle.s66_command.specs.declared.command.OrderStyle.{OrderStyle}
+use Rattle.s66_command.specs.declared.command.SumStyle.{SumStyle}
 use Rattle.s66_command.specs.declared.command.Asked.{Asked}
 use Rattle.s66_command.specs.declared.command.Asked.TheVariants.{Time, Deps, Chart, Why, Page, Order, Prove, Check, Sum, Compare, Json, Lint}
 use Rattle.s66_command.specs.declared.strategy.Strategy.{Strategy}
@@ -206,6 +207,10 @@ GivesStyle words style =
     GivesFlag (codes "trace") words style.trace × GivesFlag (codes "keep") words style.keep × GivesFlag (codes "columns") words style.columns
     × GivesFlag (codes "quiet") words style.quiet
 
+-- they say what is printed beside the times that `sum` prints
+abbrev pub GivesSumStyle : List Text → SumStyle → Type 0
+GivesSumStyle words style = GivesFlag (codes "trace") words style.trace × GivesFlag (codes "words") words style.words
+
 -- they ask for this, by a subcommand and its own options
 abbrev pub AsksBy : List Text → Asked → Type 0
 AsksBy words (Time trace) = AsksFor words sub.Time × GivesFlag (codes "trace") words trace
@@ -216,8 +221,7 @@ AsksBy words (Page strategy) = AsksFor words sub.Page × GivesSearch words strat
 AsksBy words (Order strategy style) = AsksFor words sub.Order × GivesSearch words strategy × GivesStyle words style
 AsksBy words (Prove strategy) = AsksFor words sub.Prove × GivesSearch words strategy
 AsksBy words (Check text) = AsksFor words sub.Check × GivesFlag (codes "text") words text
-AsksBy words (Sum strategy trace words_printed) =
-    AsksFor words sub.Sum × GivesSearch words strategy × GivesFlag (codes "trace") words trace × GivesFlag (codes "words") words words_printed
+AsksBy words (Sum strategy style) = AsksFor words sub.Sum × GivesSearch words strategy × GivesSumStyle words style
 AsksBy words Compare = AsksFor words sub.Compare
 AsksBy words (Json order) = AsksFor words sub.Json × GivesOrder words order
 AsksBy words Lint = AsksFor words sub.Lint

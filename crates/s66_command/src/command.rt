@@ -61,10 +61,8 @@ pub enum Asked {
     Sum {
         /// How the best order of each block is looked for.
         strategy: Strategy,
-        /// Whether the numbers of splits are printed.
-        trace: bool,
-        /// Whether the words that each block takes are printed, as it was written and in the best order that was found.
-        words: bool,
+        /// What is printed beside the times.
+        style: SumStyle,
     },
     /// Whether one source is another but for legal orders of its blocks.
     Compare,
@@ -89,6 +87,15 @@ pub struct OrderStyle {
     pub columns: bool,
     /// Whether no report is printed.
     pub quiet: bool,
+}
+
+/// What is printed of a block beside its times.
+#[derive(Clone, Copy, PartialEq, Eq)]
+pub struct SumStyle {
+    /// Whether the numbers of splits are printed.
+    pub trace: bool,
+    /// Whether the words that each block takes are printed, as it was written and in the best order that was found.
+    pub words: bool,
 }
 
 impl Asked {

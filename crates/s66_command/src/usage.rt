@@ -6,7 +6,7 @@ ghost use Rattle.s66_command.specs.Usage.{Asks, AsksBy, AsksFor, IsUsageOf, Refu
 ghost use Rattle.s66_command.specs.declared.usage.Usage.TheVariants.{OutOfMemory};
 
 use crate::app::{program, subcommand_line};
-use crate::command::{Asked, Command, OrderStyle};
+use crate::command::{Asked, Command, OrderStyle, SumStyle};
 use crate::options::{block_in, conflict_in, flag_in, order_in, profile_in, strategy_in};
 use crate::subcommand::Subcommand;
 use clap::error::ErrorKind;
@@ -110,11 +110,13 @@ fn asked_by(subcommand: Subcommand, given: &ArgMatches) -> Asked
             Asked::Order { strategy, style }
         }
         Subcommand::Compare => Asked::Compare,
-        Subcommand::Sum => Asked::Sum {
-            strategy,
-            trace,
-            words: flag_in(given, "words"),
-        },
+        Subcommand::Sum => {
+            let style = SumStyle {
+                trace,
+                words: flag_in(given, "words"),
+            };
+            Asked::Sum { strategy, style }
+        }
         Subcommand::Prove => Asked::Prove { strategy },
         Subcommand::Check => Asked::Check { text },
         Subcommand::Time => Asked::Time { trace },

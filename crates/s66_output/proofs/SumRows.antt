@@ -17,6 +17,7 @@ use Rattle.s66_source.proofs.FewBlocks.{few-blocks}
 use Rattle.s66_source.specs.Source.{source_of}
 use Rattle.s66_output.specs.declared.sum_rows.Row.{Row}
 use Rattle.s66_output.specs.SumRows.{AreNumbered}
+use Rattle.s66_command.specs.declared.command.SumStyle.{SumStyle}
 use Rattle.s66_output.specs.SumText.{AreInOrder, MayPrecede, all_splits, is_best, line_end, row_of, rows_of, total_line, total_text}
 use Rattle.s66_output.specs.Shown.{before, shown}
 
@@ -122,8 +123,8 @@ in-order rows ordered numbered sorted stable = λ k d below. by_saving k d below
 
 -- WHAT THEY COME TO
 
-pub total-is : (trace words : Bool) (rows : List Row) (blocks source time best moved source_words found_words : ℕ) (splits : Option ℕ) → blocks ≡ length rows → source ≡ weigh (λ (r : Row). r.source) rows → time ≡ weigh (λ (r : Row). r.time) rows →
-    best ≡ tally is_best rows → moved ≡ weigh (λ (r : Row). r.moved) rows → splits ≡ all_splits trace rows → source_words ≡ weigh (λ (r : Row). r.source_words) rows →
-    found_words ≡ weigh (λ (r : Row). r.words) rows → total_text blocks source time best (line_end words moved source_words found_words splits) ≡ total_line trace words rows
-total-is trace words rows blocks source time best moved source_words found_words splits is_blocks is_source is_time is_few is_moved is_splits is_source_words is_words =
+pub total-is : (style : SumStyle) (rows : List Row) (blocks source time best moved source_words found_words : ℕ) (splits : Option ℕ) → blocks ≡ length rows → source ≡ weigh (λ (r : Row). r.source) rows → time ≡ weigh (λ (r : Row). r.time) rows →
+    best ≡ tally is_best rows → moved ≡ weigh (λ (r : Row). r.moved) rows → splits ≡ all_splits style.trace rows → source_words ≡ weigh (λ (r : Row). r.source_words) rows →
+    found_words ≡ weigh (λ (r : Row). r.words) rows → total_text blocks source time best (line_end style.words moved source_words found_words splits) ≡ total_line style rows
+total-is style rows blocks source time best moved source_words found_words splits is_blocks is_source is_time is_few is_moved is_splits is_source_words is_words =
     rw (is_blocks, is_source, is_time, is_few, is_moved, is_splits, is_source_words, is_words) refl

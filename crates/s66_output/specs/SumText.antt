@@ -8,6 +8,7 @@ use Rattle.s66_isa.specs.declared.profile.Profile.{Profile}
 use Rattle.s66_line.specs.Block.{instrs_of, line_of, Block}
 use Rattle.s66_source.specs.Printed.{Placed}
 use Rattle.s66_source.specs.LeftAlone.{Reading}
+use Rattle.s66_command.specs.declared.command.SumStyle.{SumStyle}
 use Rattle.s66_command.specs.declared.strategy.Strategy.{Strategy}
 use Rattle.s66_output.specs.Moved.{moved}
 use Rattle.s66_output.specs.Words.{words_of}
@@ -96,17 +97,17 @@ splits_in r = unwrap_or r.splits 0
 abbrev pub all_splits : Bool → List Row → Option ℕ
 all_splits trace rows = if trace then Some (weigh splits_in rows) else None
 
-abbrev pub total_line : (trace words : Bool) → List Row → List ℕ
-total_line trace words rows =
+abbrev pub total_line : SumStyle → List Row → List ℕ
+total_line style rows =
     total_text (length rows) (weigh (λ (r : Row). r.source) rows) (weigh (λ (r : Row). r.time) rows) (tally is_best rows)
-    (line_end words (weigh (λ (r : Row). r.moved) rows) (weigh (λ (r : Row). r.source_words) rows) (weigh (λ (r : Row). r.words) rows) (all_splits trace rows))
+    (line_end style.words (weigh (λ (r : Row). r.moved) rows) (weigh (λ (r : Row). r.source_words) rows) (weigh (λ (r : Row). r.words) rows) (all_splits style.trace rows))
 
 -- the rows in their order, and their sums
-abbrev pub IsSumText : (trace words : Bool) (rows : List Row) (text : List ℕ) → Type 0
-IsSumText trace words rows text =
-    (ordered : List Row) × IsPermutation rows ordered × AreInOrder ordered × (text ≡ row_lines words ordered ++ total_line trace words rows)
+abbrev pub IsSumText : SumStyle → (rows : List Row) (text : List ℕ) → Type 0
+IsSumText style rows text =
+    (ordered : List Row) × IsPermutation rows ordered × AreInOrder ordered × (text ≡ row_lines style.words ordered ++ total_line style rows)
 
 -- the rows of what `order` would print of the blocks that are shown
-abbrev pub IsSumOutput : Strategy → Profile → (trace words : Bool) (only : Option ℕ) (source : Reading) (text : List ℕ) → Status → Type 0
-IsSumOutput strategy p trace words only source text status =
-    IsOfAnswers (λ blocks answers. IsSumText trace words (rows_of (before only) blocks (all_placed p trace blocks answers)) text) strategy p only source status
+abbrev pub IsSumOutput : Strategy → Profile → SumStyle → (only : Option ℕ) (source : Reading) (text : List ℕ) → Status → Type 0
+IsSumOutput strategy p style only source text status =
+    IsOfAnswers (λ blocks answers. IsSumText style (rows_of (before only) blocks (all_placed p style.trace blocks answers)) text) strategy p only source status

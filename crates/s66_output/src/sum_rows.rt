@@ -7,6 +7,7 @@ ghost use Rattle.s66_output.specs.SumRows.{AreNumbered};
 
 use crate::moved::moved;
 use crate::words::words_of;
+use s66_command::SumStyle;
 use s66_dep::Order;
 use s66_device::push_field;
 use s66_isa::BLOCK_LIMIT;
@@ -268,21 +269,20 @@ fn push_total(out: &mut Vec<u8>, words: bool, total: &Total) -> Result<(), Alloc
     )
 }
 
-/// The rows in their order, and their sums, with the trace also splits, and words if these are printed. `Err` is out of memory.
+/// The rows in their order, and their sums, printed in this way. `Err` is out of memory.
 pub fn sum_text(
     alloc: Global,
     rows: &mut Vec<Row>,
-    trace: bool,
-    words: bool,
+    style: SumStyle,
 ) -> Result<Vec<u8>, AllocError>
     requires numbered { AreNumbered rows.old.items }
     requires few { length rows.old.items ≤ SOURCE_LINES_LIMIT }
-    ensures { IfOk result (λ text. IsSumText trace words rows.old.items text.items) }
+    ensures { IfOk result (λ text. IsSumText style rows.old.items text.items) }
 {
-    let total = total_of(rows.as_slice(), trace);
+    let total = total_of(rows.as_slice(), style.trace);
     put_in_order(rows)?;
     let mut text = Vec::new(alloc);
-    push_rows(&mut text, words, rows.as_slice())?;
-    push_total(&mut text, words, &total)?;
+    push_rows(&mut text, style.words, rows.as_slice())?;
+    push_total(&mut text, style.words, &total)?;
     Ok(text)
 }

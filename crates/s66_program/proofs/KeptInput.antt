@@ -48,7 +48,7 @@ accepted-by p (Order strategy style) only source text status reads is =
 accepted-by p (Prove strategy) only source text status reads (blocks, ok, is) = (blocks, ok)
 accepted-by p (Check texts) only source text status reads is = absurd (cc)
 accepted-by p Lint only source text status reads is = absurd (cc)
-accepted-by p (Sum strategy trace words) only source text status reads (blocks, ok, is) = (blocks, ok)
+accepted-by p (Sum strategy style) only source text status reads (blocks, ok, is) = (blocks, ok)
 accepted-by p Compare only source text status reads is = absurd (cc)
 
 accepted : (p : Profile) (command : Command) (input text : List ℕ) (status : Status) → reads_source command.asked ≡ true → IsOutput p command input text status → (blocks : List Block) × (source_of (source_in command input) ≡ Ok blocks)

@@ -84,7 +84,7 @@ IsAskedOutput p (Order strategy style) only source text status = IsOrdered strat
 IsAskedOutput p (Prove strategy) only source text status = IsProveOutput strategy p only source text status
 IsAskedOutput p (Check texts) only source text status = IsCheckOutput texts source.text text status
 IsAskedOutput p Lint only source text status = IsLintOutput source text status
-IsAskedOutput p (Sum strategy trace words) only source text status = IsSumOutput strategy p trace words only source text status
+IsAskedOutput p (Sum strategy style) only source text status = IsSumOutput strategy p style only source text status
 IsAskedOutput p Compare only source text status = IsCompareOutput p source.cut source.text text status
 
 -- for this input, under a profile, a command writes the text and ends so

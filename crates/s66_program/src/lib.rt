@@ -40,7 +40,7 @@ pub use progress::Progress;
 pub use remark::{Ended, Remark};
 pub use run::{run_command, run_observed};
 pub use s66_command::{
-    Asked, Command, NODES_DEFAULT, OrderStyle, Strategy, Usage, VERSION, WORKERS_DEFAULT,
+    Asked, Command, NODES_DEFAULT, OrderStyle, Strategy, SumStyle, Usage, VERSION, WORKERS_DEFAULT,
     command_of, goes_deep,
 };
 pub use s66_output::{Observer, Silent, Status};

@@ -10,7 +10,7 @@ use crate::order_text::ordered_output;
 use crate::page_text::page_output;
 use crate::parts::{Documents, JsonLines, Waits};
 use crate::remark::{Finished, remark_of, untold};
-use crate::sum_text::{Fields, sum_output};
+use crate::sum_text::sum_output;
 use s66_command::{Asked, Command, Strategy};
 use s66_isa::Profile;
 use s66_output::{Listing, Observer, Output, check_output, lint_output, listing_output};
@@ -98,13 +98,8 @@ fn output_of<R: AllocGlobal + Threads + Wait + Sync, O: Observer>(
         Asked::Prove { strategy } => {
             text_of_answers(rt, &Documents, source, only, profile, strategy, observer)
         }
-        Asked::Sum {
-            strategy,
-            trace,
-            words,
-        } => {
-            let fields = Fields { trace, words };
-            sum_output(rt, source, profile, strategy, fields, only, observer)
+        Asked::Sum { strategy, style } => {
+            sum_output(rt, source, profile, strategy, style, only, observer)
         }
         Asked::Check { .. } | Asked::Lint | Asked::Compare => unreachable!(),
     }

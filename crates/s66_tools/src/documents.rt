@@ -8,7 +8,7 @@ use s66_device::{Failed, OverRead, Sink};
 use s66_isa::Profile;
 use s66_model::{Options, Rule};
 use s66_pool::{FIRST_SPLITS, Free, run};
-use s66_program::{Asked, Command, Fault, Strategy, document_of, run_command};
+use s66_program::{Asked, Command, Fault, Strategy, SumStyle, document_of, run_command};
 use s66_test_search::{MULTIPLIES, SEVEN_MULTIPLIES};
 use std::alloc::{AllocError, Global};
 use std::sync::Wait;
@@ -92,8 +92,10 @@ pub fn summed<R: AllocGlobal + Threads + Wait + Sync>(rt: &R) -> Result<Answered
         profile: None,
         asked: Asked::Sum {
             strategy,
-            trace: false,
-            words: false,
+            style: SumStyle {
+                trace: false,
+                words: false,
+            },
         },
     };
     let mut reader = OverRead::new(MULTIPLIES.as_bytes());

@@ -1,6 +1,6 @@
 use Said::*;
 use s66_model::{Options, Rule};
-use s66_program::{Asked, Command, OrderStyle, Strategy};
+use s66_program::{Asked, Command, OrderStyle, Strategy, SumStyle};
 
 /// What an option says.
 #[derive(Clone, Copy, PartialEq, Eq)]
@@ -73,11 +73,13 @@ pub(crate) fn command_by(subcommand: &str, said: &[Said]) -> Command<'static> {
             Asked::Order { strategy, style }
         }
         "prove" => Asked::Prove { strategy },
-        "sum" => Asked::Sum {
-            strategy,
-            trace,
-            words: is(Words),
-        },
+        "sum" => {
+            let style = SumStyle {
+                trace,
+                words: is(Words),
+            };
+            Asked::Sum { strategy, style }
+        }
         "lint" => Asked::Lint,
         "compare" => Asked::Compare,
         _ => Asked::Check { text },

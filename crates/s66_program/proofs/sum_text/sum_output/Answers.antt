@@ -37,13 +37,13 @@ rows_of-requires-clause-found g c =
     let only = c.args.only in
     let blocks = c.blocks-2.result.now in
     let all = c.in_ok-all.all in
-    let are = placed-shown c.args.strategy c.args.profile.now c.args.fields.trace only c.args.source.now all.status blocks all.parts.items c.blocks-2.ensures c.in_ok-all.ensures in
+    let are = placed-shown c.args.strategy c.args.profile.now c.args.style.trace only c.args.source.now all.status blocks all.parts.items c.blocks-2.ensures c.in_ok-all.ensures in
     ap (λ (ps : List Placed). length ps) c.as_slice.ensures.value ∙ length-placed (shown only blocks) all.parts.items are ∙ sym (ap (λ (bs : List Block). length bs) c.shown-blocks.ensures)
 
 pub rows_of-requires-clause-placed : goal.rows_of-requires-clause-placed
 rows_of-requires-clause-placed g c =
     let all = c.in_ok-all.all in
-    let are = placed-shown c.args.strategy c.args.profile.now c.args.fields.trace c.args.only c.args.source.now all.status c.blocks-2.result.now all.parts.items c.blocks-2.ensures c.in_ok-all.ensures in
+    let are = placed-shown c.args.strategy c.args.profile.now c.args.style.trace c.args.only c.args.source.now all.status c.blocks-2.result.now all.parts.items c.blocks-2.ensures c.in_ok-all.ensures in
     subst (λ (bs : List Block). ArePlaced bs c.as_slice.result.now) (sym c.shown-blocks.ensures) (subst (ArePlaced (shown c.args.only c.blocks-2.result.now)) (sym c.as_slice.ensures.value) are)
 
 pub sum_text-requires : goal.sum_text-requires
@@ -63,8 +63,7 @@ pub returns : goal.returns
 returns g c =
     let p = c.args.profile.now in
     let only = c.args.only in
-    let trace = c.args.fields.trace in
-    let words = c.args.fields.words in
+    let trace = c.args.style.trace in
     let blocks = c.blocks-2.result.now in
     let all = c.in_ok-all.all in
     let text = c.in_ok-sum_text.field-0.items in
@@ -73,4 +72,4 @@ returns g c =
     c.in_ok-rows.ensures ∙ ap (rows_of c.blocks_before.result c.shown-blocks.result.now) (c.as_slice.ensures.value ∙ is)
     ∙ ap₂ (λ n bs. rows_of n bs (all_placed p trace (shown only blocks) answers)) c.blocks_before.ensures.value c.shown-blocks.ensures
     in
-    (blocks, c.blocks-2.ensures, (answers, are, subst (λ rows. IsSumText trace words rows text) same c.in_ok-sum_text.ensures, ends))
+    (blocks, c.blocks-2.ensures, (answers, are, subst (λ rows. IsSumText c.args.style rows text) same c.in_ok-sum_text.ensures, ends))
