@@ -6,9 +6,8 @@
 PROGRAM is the built program. Without a DOCUMENT all are checked:
 
 - README.md, CONTRIBUTING.md, CHANGELOG.md, the README.md of bench/, *.md of examples/, and docs/*.md;
-- the manual page docs/s66.1: that its literal displays are what a terminal shows, and that its part that docs/manual.py makes of
-  the program's help is current;
-- docs/help: that each file is what the program shows;
+- the manual page docs/s66.1: that its literal displays are what a terminal shows;
+- what docs/manual.py makes of what the program shows, which is docs/help and a part of the page: that it is as that makes it now;
 - ARCHITECTURE.md's table of crates: that each file of a crate's code is in a row of that crate;
 - what docs/definitions.py makes in documents: that it is as that makes it now;
 - the files of examples/: that each NAME.time, NAME.chart and NAME.order is to the byte what the program writes of NAME.compass, and
@@ -247,28 +246,11 @@ def wrong_names(name, text, repository):
 
 
 def wrong_manual(name, program):
-    """What the manual page shows otherwise than the program does it, or docs/help says it."""
+    """What the manual page shows otherwise than the program does it."""
     with open(os.path.join(ROOT, name), encoding="utf-8") as opened:
         page = opened.read()
     for display in DISPLAY.findall(page):
         yield from wrong_commands(name, "```console\n" + display.replace(r"\e", "\\") + "```\n", program)
-    yield from manual.stale()
-
-
-def wrong_help(program):
-    """What ./s66 shows of docs/help before the program is built is to the byte what the program shows."""
-    asked = {"none": [], "version": ["--version"]}
-    wrong = []
-    for path in sorted(glob.glob(os.path.join(ROOT, "docs/help/*"))):
-        name = os.path.basename(path)
-        if name == "script":
-            continue
-        words = name.removesuffix("-h").split("s66")[-1:] + ["-h" if name.endswith("-h") else "--help"]
-        ran = subprocess.run([program, *asked.get(name, [word for word in words if word])], capture_output=True)
-        with open(path, "rb") as opened:
-            if opened.read() != ran.stdout + ran.stderr:
-                wrong.append(f"docs/help/{name}: isn't what the program shows")
-    return wrong
 
 
 def unplaced_files():
@@ -303,7 +285,7 @@ def main(arguments):
     if not documents:
         documents = [os.path.join(ROOT, name) for name in DOCUMENTS]
         documents += sorted(glob.glob(os.path.join(ROOT, "docs/*.md")))
-        checks = [wrong_manual("docs/s66.1", program), wrong_help(program), unplaced_files()]
+        checks = [wrong_manual("docs/s66.1", program), manual.stale(program), unplaced_files()]
         checks += [definitions.stale(), wrong_examples(program)]
     repository = Repository()
     checks += [wrong_in(document, program, repository) for document in documents]
