@@ -23,6 +23,9 @@ import subprocess
 import sys
 import tempfile
 
+sys.path.append(os.path.join(os.path.dirname(os.path.dirname(os.path.abspath(__file__))), "docs"))
+import manual
+
 SEVEN = "".join(f"  FX{i} X7*X7\n" for i in range(7))  # 8,660 splits, all of which any search takes, and one best time: workers start
 SOURCE = f"LOOP   SA1 A1+B1\n  BX6 X1\n  ZR X1,LOOP\n{SEVEN}".encode()
 LONG = b"  SA1 A1+B1\n" * 20000
@@ -135,7 +138,7 @@ def check_devices(checks, program):
     silent, speaker = os.pipe()
     os.set_blocking(silent, False)
     bad = b"  SA1 *\n"
-    for word in ("time", "chart", "page", "json", "lint", "order", "prove", "sum", "check"):
+    for word in manual.commands_in(manual.kept()):
         for name, file in (("closed", None), ("a folder", folder), ("a pipe that says nothing yet", silent)):
             checks.look(f"{word}: input is {name}", "", with_files(program, [word], b"", {0: file}), UNREAD)
     for word in ("time", "deps", "chart", "page", "json", "order", "prove", "sum", "--help"):
