@@ -1,7 +1,7 @@
 #!/usr/bin/env python3
 """Makes docs/help of what the program shows, and of docs/help what the manual page says of subcommands, options and statuses.
 
-    docs/manual.py PROGRAM    writes docs/help, the list and the page; PROGRAM is the built program
+    docs/manual.py PROGRAM    writes docs/help, the list and the page; PROGRAM is the built program, or built/tried as ./s66 keeps it
     docs/manual.py            writes the list and the page, of docs/help as it stands
     docs/manual.py --check    tells whether they aren't current; the status is then 1
 
@@ -9,7 +9,7 @@
   behind the name the brief one. What else stands there is removed. docs/help/script is written by hand.
 - The list, docs/help/value-options, has the options that take a value, by which ./s66 tells that from a file.
 - Of the page docs/s66.1 that part is made which stands between the comments `made by docs/manual.py` and `end`. An option that says
-  the same of several subcommands stands there once, with their names.
+  the same of several subcommands stands there once, with their names; a heading of the help, but `Options:`, stands there too.
 """
 import glob
 import os
