@@ -8,12 +8,32 @@ use std::process::Abort;
 use std::sync::Wait;
 use std::thread::Threads;
 
-/// `check` without sentences.
-pub const PLAIN_CHECK: Command<'static> = Command {
+/// `deps`, of all blocks. Each other command is this one with fields changed.
+pub const PLAIN: Command<'static> = Command {
     cut: false,
     block: None,
     profile: None,
+    asked: Asked::Deps,
+};
+
+/// `check` without sentences.
+pub const PLAIN_CHECK: Command<'static> = Command {
     asked: Asked::Check { text: false },
+    ..PLAIN
+};
+
+/// How `order` prints if no flag is given.
+pub const STYLE: OrderStyle = OrderStyle {
+    trace: false,
+    keep: false,
+    columns: false,
+    quiet: false,
+};
+
+/// How it prints by `--trace`.
+pub const TRACED: OrderStyle = OrderStyle {
+    trace: true,
+    ..STYLE
 };
 
 /// What is asked for, of all blocks, under the standard profile.
@@ -21,12 +41,7 @@ pub fn plain(asked: Asked) -> Command<'static>
     ensures block { result.block ≡ None }
     ensures asked { result.asked ≡ asked }
 {
-    Command {
-        cut: false,
-        block: None,
-        profile: None,
-        asked,
-    }
+    Command { asked, ..PLAIN }
 }
 
 /// A search by workers, of at most so many splits, by a rule.
@@ -49,12 +64,7 @@ pub fn order_by(workers: u8, nodes: u32, rule: Rule) -> Command<'static>
     requires { IsSearchWithin workers nodes }
     ensures { IsWithinLimits result }
 {
-    let style = OrderStyle {
-        trace: true,
-        keep: false,
-        columns: false,
-        quiet: false,
-    };
+    let style = TRACED;
     let strategy = search_by(workers, nodes, rule);
     plain(Asked::Order { strategy, style })
 }

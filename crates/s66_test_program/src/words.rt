@@ -1,7 +1,7 @@
-use crate::commands::{check_output, plain};
+use crate::commands::{PLAIN, check_output};
 use crate::running::run;
-use s66_program::{Asked, Status, command_of};
-use table::{COMMANDS, command_by};
+use s66_program::{Status, command_of};
+use table::COMMANDS;
 
 mod table;
 
@@ -118,9 +118,7 @@ fn runs_no_commands(rt: HostRuntime) {
 
 #[test]
 fn reads_words(rt: HostRuntime) {
-    for &(words, said) in COMMANDS {
-        assert!(rt; 1 < words.len(), "{words:?}");
-        let command = command_by(words[1], said);
+    for &(words, command) in COMMANDS {
         let read = command_of(rt.alloc(), words);
         assert!(rt; matches!(read, Ok(read) if read == command), "{words:?}");
     }
@@ -128,7 +126,6 @@ fn reads_words(rt: HostRuntime) {
 
 #[test]
 fn runs_a_command(rt: HostRuntime) {
-    let command = plain(Asked::Deps);
     let output = "BLOCK 1 LINE 1 COUNT 1 DEPENDENCES 0\n";
-    check_output(&rt, command, "  BX1 X2+X3\n", Status::Done, output);
+    check_output(&rt, PLAIN, "  BX1 X2+X3\n", Status::Done, output);
 }
