@@ -1,5 +1,5 @@
 -- What was found of an option of a subcommand is what the words give.
-use Rattle.std.proofs.Common.{◌≡◌, ◌∙◌, inl, inr, ℕ, Bool, cond, true, false, true≢false, List, [], ◌∷◌, Option, Some, is_some, refl, sym, ap, subst, find, drop, map, bytes_eq, codes, option_and_then, option_map, slice_get}
+use Rattle.std.proofs.Common.{◌≡◌, ◌∙◌, inl, inr, Bool, cond, true, false, true≢false, List, [], ◌∷◌, Option, Some, is_some, refl, sym, ap, subst, find, drop, map, bytes_eq, codes, option_and_then, option_map, slice_get}
 use Rattle.std.specs.Prelude.{unwrap_or}
 use Rattle.std.specs.Borrow.{Bor}
 use Rattle.std.specs.Option.{option_map_or}
@@ -13,7 +13,7 @@ use Rattle.clap.specs.declared.parser.matches.ArgMatches.{ArgMatches}
 use Rattle.clap.specs.declared.parser.matches.Found.{Found}
 use Rattle.clap.proofs.WalkLemmas.{first_value-rows, one_text-rows}
 use Rattle.s66_command.specs.FoundOptions.{IsFlagName, IsFoundBy, IsTaken, rule_called}
-use Rattle.s66_command.specs.Usage.{GivesFlag, GivesProfile, flag_rule, number_rule, option_text, s66_app}
+use Rattle.s66_command.specs.Usage.{GivesFlag, GivesProfile, Limits, flag_rule, number_rule, option_text, s66_app}
 use Rattle.s66_command.proofs.Flags.{IsFlagOf, flag-is}
 use Rattle.s66_command.proofs.Named.{named}
 use Rattle.s66_command.proofs.OptionRanges.{IsNumber, number-is}
@@ -70,21 +70,21 @@ flag-of found words flag name is-flag is read =
     ∙ sym (ap (λ o. option_map_or (λ (p : Text × List Row). is_given name p.1) o false) met)
 
 -- the text of a number's option
-pub number-of : (found : Found) (words : List Text) (id name : Text) (least most : ℕ) → filled (number_rule id least most) ≡ rule_called id → IsFoundBy found words → name ≡ id →
-    IsNumber least most (one_text found name) × (one_text found name ≡ option_text id words)
-number-of found words id name least most is-number is same =
+pub number-of : (found : Found) (words : List Text) (id name : Text) (limits : Limits) → filled (number_rule id limits) ≡ rule_called id → IsFoundBy found words → name ≡ id →
+    IsNumber limits (one_text found name) × (one_text found name ≡ option_text id words)
+number-of found words id name limits is-number is same =
     let (s, rest, met, rows, none, are-called) = matched found words is in
-    let options = options-in (filled (number_rule id least most)) is-number s.rules are-called in
+    let options = options-in (filled (number_rule id limits)) is-number s.rules are-called in
     let text = ap (one_text found) same ∙ one_text-rows found id ∙ ap (one_of id) rows in (
-      subst (IsNumber least most) (sym text) (number-is id least most s options rest false none),
+      subst (IsNumber limits) (sym text) (number-is id limits s options rest false none),
       text ∙ sym (ap (option_and_then (λ (p : Text × List Row). one_of id p.1)) met),
     )
 
 -- what follows of a number is by the words
-pub number-given : (found : Found) (words : List Text) (id name : Text) (least most : ℕ) (P : Option Text → Type 0) → filled (number_rule id least most) ≡ rule_called id → IsFoundBy found words →
-    name ≡ id → (IsNumber least most (one_text found name) → P (one_text found name)) → P (option_text id words)
-number-given found words id name least most P is-number is same read =
-    let there = number-of found words id name least most is-number is same in
+pub number-given : (found : Found) (words : List Text) (id name : Text) (limits : Limits) (P : Option Text → Type 0) → filled (number_rule id limits) ≡ rule_called id → IsFoundBy found words →
+    name ≡ id → (IsNumber limits (one_text found name) → P (one_text found name)) → P (option_text id words)
+number-given found words id name limits P is-number is same read =
+    let there = number-of found words id name limits is-number is same in
     subst P there.1 (read there.0)
 
 pub profile-of : (found : Found) (words : List Text) (name : Text) (profile : Option (Bor Text)) → IsFoundBy found words → name ≡ codes "profile" →

@@ -1,6 +1,5 @@
 -- Words that clap takes name a subcommand.
 use Rattle.std.proofs.Common.{◌≡◌, ◌⊎◌, inl, inr, ℕ, Bool, cond, true, false, true≢false, ◌||◌, List, [], ◌∷◌, ◌++◌, Option, Some, None, refl, sym, ap, ◌∙◌, subst, Box, box_value, codes, find, fold, drop, is_some, map, option_map, bytes_eq}
-use Rattle.std.specs.Prelude.{unwrap_or}
 use Rattle.std.specs.List.{list_all, list_any}
 use Rattle.std.specs.Option.{option_map_or}
 use Rattle.std.proofs.lemmas.Slice.Eq.{bytes_eq-Decides}
@@ -15,9 +14,8 @@ use Rattle.clap.specs.Faults.{check_fault, defaults_fault, entered_fault, fault_
 use Rattle.clap.proofs.SimpleLemmas.{is_nil}
 use Rattle.clap.proofs.WalkLemmas.{both}
 use Rattle.s66_command.specs.FoundOptions.{IsTaken}
-use Rattle.s66_command.specs.declared.subcommand.Subcommand.{Subcommand}
-use Rattle.s66_command.specs.declared.subcommand.TheConstants.{SUBCOMMANDS}
-use Rattle.s66_command.specs.Usage.{gives_conflict, name_of, AsksFor, s66_app, subcommand_name}
+use Rattle.s66_command.specs.Rows.{IsNameOf}
+use Rattle.s66_command.specs.Usage.{AsksFor, Subcommand, gives_conflict, s66_app, subcommand_name}
 use Rattle.s66_command.proofs.Faults.{first-none, full, second-none}
 
 -- A NAME OF A LIST
@@ -222,23 +220,9 @@ name-at (Some b) = refl
 name-is : (m : ArgMatches) (words : List Text) → IsTaken m words → subcommand_name_of m ≡ subcommand_name words
 name-is m words is = name-at (out-ArgMatches m).subcommand ∙ ap (option_map (λ s. s.0)) is.1
 
-abbrev subcommand_called : Text → List Subcommand → Option Subcommand
-subcommand_called name = find (λ s. bytes_eq (name_of s) name)
-
-called-head : (b : Bool) (t s : Subcommand) (rest : Option Subcommand) (name : Text) → bytes_eq (name_of t) name ≡ b → (rest ≡ Some s → name_of s ≡ name) →
-    cond b (Some t) rest ≡ Some s → name_of s ≡ name
-called-head true t s rest name same more at = sym (ap (λ o. name_of (unwrap_or o t)) at) ∙ (bytes_eq-Decides (name_of t) name).0 same
-called-head false t s rest name apart more at = more at
-
-called-name : (all : List Subcommand) (s : Subcommand) (name : Text) → subcommand_called name all ≡ Some s → name_of s ≡ name
-called-name [] s name at = absurd (true≢false (ap is_some (sym at)))
-called-name (t ∷ rest) s name at = called-head (bytes_eq (name_of t) name) t s _ name refl (called-name rest s name) at
-
--- the subcommand that clap gives by its name is the one that the words name
-pub asks-for : (m : ArgMatches) (words : List Text) (name : Text) (s : Subcommand) → IsTaken m words → Some name ≡ subcommand_name_of m →
-    subcommand_called name SUBCOMMANDS ≡ Some s → gives_conflict words ≡ false → AsksFor words s
-asks-for m words name s is gives called none =
-    (is.0, none, sym (name-is m words is) ∙ sym gives ∙ ap (λ n. Some n) (sym (called-name SUBCOMMANDS s name called)))
+-- the words ask for the subcommand whose name clap gives
+pub asks-for : (m : ArgMatches) (words : List Text) (name : Text) → IsTaken m words → Some name ≡ subcommand_name_of m → gives_conflict words ≡ false → AsksFor words name
+asks-for m words name is gives none = (is.0, none, sym (name-is m words is) ∙ sym gives)
 
 -- clap gives a name, which is a subcommand's
 abbrev IsKnown : Option Text → Type 0
@@ -250,16 +234,13 @@ name-known m words given is gives =
     let met = named words is.0 in
     subst IsKnown (sym (gives ∙ name-is m words is ∙ ap (option_map (λ s. s.0)) met.2)) met.4
 
--- a subcommand has that name
-abbrev IsCalled : Text → List Subcommand → Type 0
-IsCalled name all = IsNamed (map (λ s. (name_of s, [])) all) name
+-- a subcommand of that name is found
+found-head : (b : Bool) (s : Subcommand) (rest : List Subcommand) (name : Text) → bytes_eq s.name name ≡ b → IsNameOf (s ∷ rest) name →
+    (IsNameOf rest name → find (λ (s : Subcommand). bytes_eq s.name name) rest ≡ None → ⊥) → cond b (Some s) (find (λ (s : Subcommand). bytes_eq s.name name) rest) ≡ None → ⊥
+found-head true s rest name here is more none = true≢false (ap is_some none)
+found-head false s rest name here (inl e) more none = true≢false (sym ((bytes_eq-Decides s.name name).1 (sym e)) ∙ here)
+found-head false s rest name here (inr is) more none = more is none
 
-found-head : (b : Bool) (t : Subcommand) (rest : List Subcommand) (name : Text) → bytes_eq (name_of t) name ≡ b → IsCalled name (t ∷ rest) →
-    (IsCalled name rest → subcommand_called name rest ≡ None → ⊥) → cond b (Some t) (subcommand_called name rest) ≡ None → ⊥
-found-head true t rest name here is more none = true≢false (ap is_some none)
-found-head false t rest name here (inl e) more none = true≢false (sym ((bytes_eq-Decides (name_of t) name).1 (sym e)) ∙ here)
-found-head false t rest name here (inr is) more none = more is none
-
-pub found-called : (all : List Subcommand) (name : Text) → IsCalled name all → subcommand_called name all ≡ None → ⊥
-found-called [] name is none = is
-found-called (t ∷ rest) name is none = found-head (bytes_eq (name_of t) name) t rest name refl is (found-called rest name) none
+pub found-named : (all : List Subcommand) (name : Text) → IsNameOf all name → find (λ (s : Subcommand). bytes_eq s.name name) all ≡ None → ⊥
+found-named [] name is none = is
+found-named (s ∷ rest) name is none = found-head (bytes_eq s.name name) s rest name refl is (found-named rest name) none

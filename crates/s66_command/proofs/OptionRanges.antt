@@ -15,19 +15,19 @@ use Rattle.clap.specs.declared.error.kind.ErrorKind.TheVariants.{ValueValidation
 use Rattle.clap.specs.declared.parser.matches.ValueSource.TheVariants.{CommandLine}
 use Rattle.clap.proofs.CallerReads.{signed_reads}
 use Rattle.clap.proofs.ValueTestLemmas.{accepts-Accepts}
-use Rattle.s66_command.specs.Usage.{IsNumberIn, IsNumberOrDefault, number_rule}
+use Rattle.s66_command.specs.Usage.{IsNumberIn, IsNumberOrDefault, Limits, number_rule}
 use Rattle.s66_command.proofs.Faults.{full, second-none}
 use Rattle.s66_command.proofs.OptionRows.{AllGood, AreOptions, IsGoodIfFound, defaults-good, found-good, good-change, good-without, walked-good}
 
--- the text, if there is one, is a number from the least to the most
-abbrev pub IsNumber : (least most : ℕ) → Option Text → Type 0
-IsNumber least most None = Unit {0}
-IsNumber least most (Some text) = (v : Text) × (text ≡ without_minus v) × IsSignedIn (pos least) (pos most) v
+-- the text, if there is one, is a number within the limits
+abbrev pub IsNumber : Limits → Option Text → Type 0
+IsNumber limits None = Unit {0}
+IsNumber limits (Some text) = (v : Text) × (text ≡ without_minus v) × IsSignedIn (pos limits.least) (pos limits.most) v
 
-module _ (id : Text) (least most : ℕ) where
+module _ (id : Text) (limits : Limits) where
   -- the option, as clap fills it in
   abbrev number : Rule
-  number = filled (number_rule id least most)
+  number = filled (number_rule id limits)
 
   -- no rule but the option has its name
   abbrev pub HasNumber : List Rule → Type 0
@@ -36,7 +36,7 @@ module _ (id : Text) (least most : ℕ) where
   -- A ROW OF THE OPTION BEGINS WITH A NUMBER WITHIN THE LIMITS
 
   abbrev is-within : Text → Bool
-  is-within text = accepts false (Signed (pos least) (pos most)) text
+  is-within text = accepts false (Signed (pos limits.least) (pos limits.most)) text
 
   abbrev IsNumberRow : Row → Type 0
   IsNumberRow r = (v : Text) × (vs : List Text) × (r.values ≡ v ∷ vs) × (r.reading ≡ WithoutMinus) × (is-within v ≡ true)
@@ -68,50 +68,50 @@ module _ (id : Text) (least most : ℕ) where
   -- THE TEXT OF THE OPTION
 
   -- there is no text, or one of a number within the limits
-  row-number : (r : Row) → IsNumberRow r → IsNumber least most (row_text r)
-  row-number r begins = subst (λ (x : Row). IsNumber least most (row_text x)) (sym shown) (begins.0, refl, accepts-Accepts false (Signed (pos least) (pos most)) begins.0 begins.4)
+  row-number : (r : Row) → IsNumberRow r → IsNumber limits (row_text r)
+  row-number r begins = subst (λ (x : Row). IsNumber limits (row_text x)) (sym shown) (begins.0, refl, accepts-Accepts false (Signed (pos limits.least) (pos limits.most)) begins.0 begins.4)
     where
       shown : r ≡ record r { values = begins.0 ∷ begins.1; reading = WithoutMinus }
       shown = ap (λ vs. record r { values = vs }) begins.2 ∙ ap (λ how. record r { values = begins.0 ∷ begins.1; reading = how }) begins.3
 
-  number-in : (found : Option Row) → IsGoodIfFound number IsNumberRow found → IsNumber least most (option_and_then row_text found)
+  number-in : (found : Option Row) → IsGoodIfFound number IsNumberRow found → IsNumber limits (option_and_then row_text found)
   number-in None good = tt
   number-in (Some r) good = row-number r good
 
   pub number-is : (s : Shape) → HasNumber s.rules → (words : List Text) (given : Bool) → level_fault s [] nothing_held words given [] ≡ [] →
-      IsNumber least most (one_of id (rows_after s.rules [] words))
+      IsNumber limits (one_of id (rows_after s.rules [] words))
   number-is s has words given none =
       let good = walked-good number IsNumberRow number-used s has words given none in
       number-in _ (found-good number IsNumberRow _ (defaults-good number IsNumberRow number-default s.rules has _ good))
 
   -- what `get_one` makes of a text by a type's `from_str`
-  module _ (E : Type 0) (gives : Text → Result ℕ E → Type 0) (k : ℕ) (parses : (t : Text) (x : Result ℕ E) → gives t x → ParsesUnsigned k 10 t x) (fits : most < 2 ^ k) where
-    read-text : (default : ℕ) (v : Text) (r : Option ℕ) → IsSignedIn (pos least) (pos most) v → ReadsOne gives (without_minus v) r →
-        IsNumberOrDefault least most default (Some (without_minus v)) (unwrap_or r default)
+  module _ (E : Type 0) (gives : Text → Result ℕ E → Type 0) (k : ℕ) (parses : (t : Text) (x : Result ℕ E) → gives t x → ParsesUnsigned k 10 t x) (fits : limits.most < 2 ^ k) where
+    read-text : (default : ℕ) (v : Text) (r : Option ℕ) → IsSignedIn (pos limits.least) (pos limits.most) v → ReadsOne gives (without_minus v) r →
+        IsNumberOrDefault limits default (Some (without_minus v)) (unwrap_or r default)
     read-text default v r within reads =
-        let found = signed_reads E gives k least most v r reads parses fits within in
-        subst (λ (o : Option ℕ). IsNumberOrDefault least most default (Some (without_minus v)) (unwrap_or o default)) (sym found.1)
+        let found = signed_reads E gives k limits.least limits.most v r reads parses fits within in
+        subst (λ (o : Option ℕ). IsNumberOrDefault limits default (Some (without_minus v)) (unwrap_or o default)) (sym found.1)
         ((parses (without_minus v) (Ok found.0) (subst (ReadsOne gives (without_minus v)) found.1 reads)).1, found.2, found.3)
 
-    given-text : (v : Text) (r : Option ℕ) → IsSignedIn (pos least) (pos most) v → ReadsOne gives (without_minus v) r → IsNumberIn least most (Some (without_minus v)) r
+    given-text : (v : Text) (r : Option ℕ) → IsSignedIn (pos limits.least) (pos limits.most) v → ReadsOne gives (without_minus v) r → IsNumberIn limits (Some (without_minus v)) r
     given-text v r within reads =
-        let found = signed_reads E gives k least most v r reads parses fits within in
-        subst (IsNumberIn least most (Some (without_minus v))) (sym found.1)
+        let found = signed_reads E gives k limits.least limits.most v r reads parses fits within in
+        subst (IsNumberIn limits (Some (without_minus v))) (sym found.1)
         (ap (λ n. Some n) (parses (without_minus v) (Ok found.0) (subst (ReadsOne gives (without_minus v)) found.1 reads)).1, (found.2, found.3))
 
     -- the number of the option, if it is given
-    pub number-or_none : (text : Option Text) (r : Option ℕ) → (text ≡ None → r ≡ None) → ((t : Text) → text ≡ Some t → ReadsOne gives t r) → IsNumber least most text → IsNumberIn least most text r
-    number-or_none None r none some is = subst (IsNumberIn least most None) (sym (none refl)) (refl, tt)
+    pub number-or_none : (text : Option Text) (r : Option ℕ) → (text ≡ None → r ≡ None) → ((t : Text) → text ≡ Some t → ReadsOne gives t r) → IsNumber limits text → IsNumberIn limits text r
+    number-or_none None r none some is = subst (IsNumberIn limits None) (sym (none refl)) (refl, tt)
     number-or_none (Some text) r none some is =
-        subst (λ t. IsNumberIn least most (Some t) r) (sym is.1) (given-text is.0 r is.2 (subst (λ t. ReadsOne gives t r) is.1 (some text refl)))
+        subst (λ t. IsNumberIn limits (Some t) r) (sym is.1) (given-text is.0 r is.2 (subst (λ t. ReadsOne gives t r) is.1 (some text refl)))
 
-    read-option : (default : ℕ) (text : Option Text) (r : Option ℕ) → IsNumber least most text → least ≤ default → default ≤ most → (text ≡ None → r ≡ None) →
-        ((t : Text) → text ≡ Some t → ReadsOne gives t r) → IsNumberOrDefault least most default text (unwrap_or r default)
-    read-option default None r is low high none some = subst (λ (o : Option ℕ). IsNumberOrDefault least most default None (unwrap_or o default)) (sym (none refl)) (refl, low, high)
+    read-option : (default : ℕ) (text : Option Text) (r : Option ℕ) → IsNumber limits text → limits.least ≤ default → default ≤ limits.most → (text ≡ None → r ≡ None) →
+        ((t : Text) → text ≡ Some t → ReadsOne gives t r) → IsNumberOrDefault limits default text (unwrap_or r default)
+    read-option default None r is low high none some = subst (λ (o : Option ℕ). IsNumberOrDefault limits default None (unwrap_or o default)) (sym (none refl)) (refl, low, high)
     read-option default (Some text) r is low high none some =
-        subst (λ t. IsNumberOrDefault least most default (Some t) (unwrap_or r default)) (sym is.1) (read-text default is.0 r is.2 (subst (λ t. ReadsOne gives t r) is.1 (some text refl)))
+        subst (λ t. IsNumberOrDefault limits default (Some t) (unwrap_or r default)) (sym is.1) (read-text default is.0 r is.2 (subst (λ t. ReadsOne gives t r) is.1 (some text refl)))
 
-    pub number-read : (default : ℕ) (text : Option Text) (r : Option ℕ) (n : ℕ) → least ≤ default → default ≤ most → (text ≡ None → r ≡ None) →
-        ((t : Text) → text ≡ Some t → ReadsOne gives t r) → n ≡ unwrap_or r default → IsNumber least most text → IsNumberOrDefault least most default text n
+    pub number-read : (default : ℕ) (text : Option Text) (r : Option ℕ) (n : ℕ) → limits.least ≤ default → default ≤ limits.most → (text ≡ None → r ≡ None) →
+        ((t : Text) → text ≡ Some t → ReadsOne gives t r) → n ≡ unwrap_or r default → IsNumber limits text → IsNumberOrDefault limits default text n
     number-read default text r n low high none some taken is =
-        subst (λ x. IsNumberOrDefault least most default text x) (sym taken) (read-option default text r is low high none some)
+        subst (λ x. IsNumberOrDefault limits default text x) (sym taken) (read-option default text r is low high none some)

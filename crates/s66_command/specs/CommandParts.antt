@@ -1,8 +1,10 @@
--- To be believed: what a command has of a profile and of a search.
+-- To be believed: what a command has of a profile and of a search, and what it reads.
 use Rattle.std.specs.Prelude.{ℕ, List, Option, None, Some, option_map}
 use Rattle.s66_command.specs.declared.command.Asked.{Asked}
-use Rattle.s66_command.specs.declared.command.Asked.TheVariants.{Why, Page, Order, Prove, Sum, Json}
+use Rattle.s66_command.specs.declared.command.Asked.TheVariants.{Why, Page, Order, Prove, Check, Sum, Compare, Json, Lint}
 use Rattle.s66_command.specs.declared.command.Command.{Command}
+use Rattle.s66_command.specs.declared.command.Reads.{Reads}
+use Rattle.s66_command.specs.declared.command.Reads.TheVariants.{Source, Sources, Documents, Text}
 use Rattle.s66_command.specs.declared.strategy.Strategy.{Strategy}
 
 -- the text of a profile that a command has, if any
@@ -18,3 +20,10 @@ strategy_of (Prove strategy) = Some strategy
 strategy_of (Sum strategy style) = Some strategy
 strategy_of (Json order) = order
 strategy_of asked = None
+
+-- what is read for it
+abbrev pub reads_of : Asked → Reads
+reads_of Lint = Text
+reads_of Compare = Sources
+reads_of (Check text) = Documents
+reads_of asked = Source

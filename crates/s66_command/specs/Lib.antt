@@ -1,5 +1,6 @@
 pub mod Usage
 pub mod CommandParts
+pub mod Rows
 pub mod FoundOptions
 pub mod ProfileText
 pub mod ProfileGiven

@@ -1,6 +1,6 @@
--- To be believed: the command line, by clap's rules: the subcommands, which options each takes, what words ask for by them, and which words are
--- refused.
-use Rattle.std.specs.Prelude.{◌≡◌, ◌≢◌, ◌⊎◌, ◌≤◌, ◌&&◌, ◌||◌, not, if◌then◌else◌, IfSome, ℕ, Bool, List, [], ◌++◌, fold, false, true, Option, None, Some, codes, option_and_then, pos, slice_get, map}
+-- To be believed: the command line, by clap's rules: the subcommands, which options each takes, what words ask for by them, which words are
+-- refused, and which ask for calls that go deep.
+use Rattle.std.specs.Prelude.{◌≡◌, ◌≢◌, ◌⊎◌, ◌≤◌, ◌&&◌, ◌||◌, not, if◌then◌else◌, IfSome, ℕ, Bool, List, [], ◌∷◌, ◌++◌, fold, find, bytes_eq, false, true, Option, None, Some, codes, option_and_then, pos, map}
 use Rattle.std.specs.Borrow.{Bor}
 use Rattle.std.specs.Option.{option_map, option_map_or}
 use Rattle.std.specs.Str.Parse.{digits_value, without_leading_plus}
@@ -19,16 +19,17 @@ use Rattle.s66_model.specs.declared.options.Options.{Options}
 use Rattle.s66_model.specs.declared.rule.Rule.{Rule as LeafRule}
 use Rattle.s66_model.specs.declared.rule.Rule.TheVariants.{NoneNamed, WrittenEarlier, ClampedStanding}
 use Rattle.s66_command.specs.declared.limits.TheConstants.{BLOCK_NUMBER_LIMIT, NODES_DEFAULT, WORKERS_DEFAULT}
-use Rattle.s66_command.specs.declared.subcommand.TheConstants.{SUBCOMMANDS, TABLE}
+use Rattle.s66_command.specs.declared.subcommand.TheConstants.{SEARCH, STUDY, SUBCOMMANDS}
 use Rattle.s66_command.specs.declared.subcommand.Value.{Value}
 use Rattle.s66_command.specs.declared.subcommand.Value.TheVariants as value
-use Rattle.s66_command.specs.declared.subcommand.Subcommand.{Subcommand}
-use Rattle.s66_command.specs.declared.subcommand.Subcommand.TheVariants as sub
+use Rattle.s66_command.specs.declared.subcommand.Work.{Work}
+use Rattle.s66_command.specs.declared.subcommand.Work.TheVariants as work
 use Rattle.s66_command.specs.declared.command.Command.{Command}
 use Rattle.s66_command.specs.declared.command.OrderStyle.{OrderStyle}
 use Rattle.s66_command.specs.declared.command.SumStyle.{SumStyle}
 use Rattle.s66_command.specs.declared.command.Asked.{Asked}
 use Rattle.s66_command.specs.declared.command.Asked.TheVariants.{Time, Deps, Chart, Why, Page, Order, Prove, Check, Sum, Compare, Json, Lint}
+use Rattle.s66_command.specs.declared.options.SearchFlags.{SearchFlags}
 use Rattle.s66_command.specs.declared.strategy.Strategy.{Strategy}
 use Rattle.s66_command.specs.declared.usage.Usage.{Usage}
 use Rattle.s66_command.specs.declared.usage.Usage.TheVariants.{Help, Bad, OutOfMemory}
@@ -41,58 +42,51 @@ named_rule name = record (new_rule name) { long = Some name }
 abbrev pub flag_rule : Text → Rule
 flag_rule name = record (named_rule name) { action = Some SetTrue }
 
--- an option whose value is a number from the least to the most
-abbrev pub number_rule : Text → ℕ → ℕ → Rule
-number_rule name least most = record (named_rule name) { value_names = 1; parser = Some (Signed (pos least) (pos most)) }
+-- the numbers that an option takes, from the least to the most
+pub record Limits : Type 0 where
+  pub least : ℕ
+  pub most : ℕ
+
+-- an option whose value is a number within these limits
+abbrev pub number_rule : Text → Limits → Rule
+number_rule name limits = record (named_rule name) { value_names = 1; parser = Some (Signed (pos limits.least) (pos limits.most)) }
 
 -- an option by its name and the value that it takes
-abbrev pub rule_of_row : Text → Value → Rule
-rule_of_row name value.Flag = flag_rule name
-rule_of_row name value.Written = record (named_rule name) { value_names = 1 }
-rule_of_row name (value.Number least most) = number_rule name least most
+abbrev pub option_rule : Text → Value → Rule
+option_rule name value.Flag = flag_rule name
+option_rule name value.Written = record (named_rule name) { value_names = 1 }
+option_rule name (value.Number least most) = number_rule name (record { least = least; most = most })
 
--- the places of the subcommands in the table, in the order of their names
-abbrev pub place_of : Subcommand → ℕ
-place_of sub.Lint = 0
-place_of sub.Order = 1
-place_of sub.Compare = 2
-place_of sub.Sum = 3
-place_of sub.Prove = 4
-place_of sub.Check = 5
-place_of sub.Time = 6
-place_of sub.Why = 7
-place_of sub.Chart = 8
-place_of sub.Deps = 9
-place_of sub.Page = 10
-place_of sub.Json = 11
+-- a text of the table
+abbrev pub TableText : Type 0
+TableText = record { now : Text }
 
--- the word by which a subcommand is called, by the table
-abbrev pub name_of : Subcommand → Text
-name_of s = option_map_or (λ r. r.0.now) (slice_get TABLE (place_of s)) []
+-- options of the table, each by its name and the value that it takes
+abbrev pub options_in : List (TableText × Value × TableText) → List (Text × Value)
+options_in rows = map (λ (o : TableText × Value × TableText). (o.0.now, o.1)) rows
 
--- a row of an option in the code: its name, the value that it takes, and what the help says
-abbrev pub OptionRow : Type 0
-OptionRow = Bor Text × Value × Bor Text
+-- a subcommand: its name, how it works, and its own options
+pub record Subcommand : Type 0 where
+  pub name : Text
+  pub work : Work
+  pub own : List (Text × Value)
 
--- the names of such rows, with the values that these take
-abbrev pub rows : List OptionRow → List (Text × Value)
-rows options = map (λ (o : OptionRow). (o.0.now, o.1)) options
+-- all subcommands, by the table
+abbrev pub subcommands : List Subcommand
+subcommands = map (λ r. record { name = r.0.now; work = r.1; own = options_in r.2.now }) SUBCOMMANDS.now
 
--- the options that a subcommand takes, by the table
-abbrev pub options_of : Subcommand → List (Text × Value)
-options_of s = option_map_or (λ r. map (λ o. (o.0.now, o.1)) (r.1.now ++ r.2.now)) (slice_get TABLE (place_of s)) []
+-- the options that a subcommand takes, by how it works and by its own: if it searches, those of a search too
+abbrev pub options_by : Work → List (Text × Value) → List (Text × Value)
+options_by work.Search own = options_in SEARCH.now ++ (own ++ options_in STUDY.now)
+options_by work own = own
 
 -- a command line with these options too
 abbrev pub with_options : App → List (Text × Value) → App
-with_options a options = fold (λ a o. with_rule a (rule_of_row o.0 o.1)) a options
-
--- the same, of rows in the code
-abbrev pub with_rows : App → List OptionRow → App
-with_rows a options = fold (λ a o. with_rule a (rule_of_row o.0.now o.1)) a options
+with_options a options = fold (λ a o. with_rule a (option_rule o.0 o.1)) a options
 
 -- the command line of a subcommand
 abbrev pub app_of_subcommand : Subcommand → App
-app_of_subcommand s = with_options (new_app (name_of s)) (options_of s)
+app_of_subcommand s = with_options (new_app s.name) (options_by s.work s.own)
 
 -- a command line with these subcommands too
 abbrev pub with_subcommands : App → List Subcommand → App
@@ -106,7 +100,7 @@ start_app =
 
 -- the command line of the program
 abbrev pub s66_app : App
-s66_app = with_subcommands start_app SUBCOMMANDS
+s66_app = with_subcommands start_app subcommands
 
 -- the argument is this one, and not for all subcommands
 abbrev pub IsArgumentOf : Rule → Arg → Type 0
@@ -136,31 +130,34 @@ plain_text id words = option_and_then (λ s. first_of id s.1) (subcommand_of s66
 abbrev pub number_in : Text → ℕ
 number_in text = digits_value 10 (without_leading_plus text)
 
--- the number of the text, or the default if there is none, is from the least to the most
-abbrev pub IsNumberOrDefault : (least most default : ℕ) → Option Text → ℕ → Type 0
-IsNumberOrDefault least most default text n = (n ≡ option_map_or number_in text default) × (least ≤ n) × (n ≤ most)
+-- a number of a text, if there is one, is within the limits
+abbrev pub IsNumberIn : Limits → Option Text → Option ℕ → Type 0
+IsNumberIn limits text number = (number ≡ option_map number_in text) × IfSome number (λ n. (limits.least ≤ n) × (n ≤ limits.most))
 
--- which nodes dominated leaves name by the flags `--dominate`, `--dominate-tree` and `--deep`
-abbrev pub rule_by : (dominate dominate_tree deep : Bool) → LeafRule
-rule_by dominate dominate_tree deep = if dominate_tree || deep then ClampedStanding else (if dominate then WrittenEarlier else NoneNamed)
+-- the number of the text, or the default if there is none, is within the limits
+abbrev pub IsNumberOrDefault : Limits → (default : ℕ) → Option Text → ℕ → Type 0
+IsNumberOrDefault limits default text n = (n ≡ option_map_or number_in text default) × (limits.least ≤ n) × (n ≤ limits.most)
 
--- two of three hold, or all
-abbrev pub are_two : (first second third : Bool) → Bool
-are_two first second third = (first && second) || ((first && third) || (second && third))
+-- the flags of a search that the words give the subcommand
+abbrev pub search_flags : List Text → SearchFlags
+search_flags words =
+    record { dominate = has_option (codes "dominate") words; dominate_tree = has_option (codes "dominate-tree") words; deep = has_option (codes "deep") words }
 
--- flags don't go together if they are two of the first three, or `--columns` without `--keep`, which it needs
-abbrev pub are_in_conflict : (dominate dominate_tree deep columns keep : Bool) → Bool
-are_in_conflict dominate dominate_tree deep columns keep = are_two dominate dominate_tree deep || (columns && not keep)
+-- which nodes dominated leaves name by the flags of a search
+abbrev pub rule_by : SearchFlags → LeafRule
+rule_by flags = if flags.dominate_tree || flags.deep then ClampedStanding else (if flags.dominate then WrittenEarlier else NoneNamed)
 
--- the words give the subcommand flags that don't go together
+-- two of the three flags of a search hold, or all
+abbrev pub are_two : SearchFlags → Bool
+are_two flags = (flags.dominate && flags.dominate_tree) || ((flags.dominate && flags.deep) || (flags.dominate_tree && flags.deep))
+
+-- the words give the subcommand flags that don't go together: two of those of a search, or `--columns` without `--keep`, which it needs
 abbrev pub gives_conflict : List Text → Bool
-gives_conflict words =
-    let has = λ (name : Text). has_option name words in
-    are_in_conflict (has (codes "dominate")) (has (codes "dominate-tree")) (has (codes "deep")) (has (codes "columns")) (has (codes "keep"))
+gives_conflict words = are_two (search_flags words) || (has_option (codes "columns") words && not (has_option (codes "keep") words))
 
--- the words, of which the first is the program's name, have no fault, give no options that don't go together, and name the subcommand
-abbrev pub AsksFor : List Text → Subcommand → Type 0
-AsksFor words s = (fault_of s66_app words ≡ []) × (gives_conflict words ≡ false) × (subcommand_name words ≡ Some (name_of s))
+-- the words, of which the first is the program's name, have no fault, give no options that don't go together, and name this subcommand
+abbrev pub AsksFor : List Text → (name : Text) → Type 0
+AsksFor words name = (fault_of s66_app words ≡ []) × (gives_conflict words ≡ false) × (subcommand_name words ≡ Some name)
 
 -- they give the subcommand the flag, or don't
 abbrev pub GivesFlag : (name : Text) → List Text → Bool → Type 0
@@ -168,19 +165,18 @@ GivesFlag name words flag = flag ≡ has_option name words
 
 -- they give a search this number of workers
 abbrev pub GivesWorkers : List Text → ℕ → Type 0
-GivesWorkers words workers = IsNumberOrDefault 1 WORKERS_LIMIT WORKERS_DEFAULT (option_text (codes "workers") words) workers
+GivesWorkers words workers = IsNumberOrDefault (record { least = 1; most = WORKERS_LIMIT }) WORKERS_DEFAULT (option_text (codes "workers") words) workers
 
 -- they give a search this number of splits at most
 abbrev pub GivesNodes : List Text → ℕ → Type 0
-GivesNodes words nodes = IsNumberOrDefault 0 BUDGET_LIMIT NODES_DEFAULT (option_text (codes "nodes") words) nodes
+GivesNodes words nodes = IsNumberOrDefault (record { least = 0; most = BUDGET_LIMIT }) NODES_DEFAULT (option_text (codes "nodes") words) nodes
 
 -- they give a search these options: numbers within their limits, and a rule by the flags
 abbrev pub GivesOptions : List Text → Options → Type 0
 GivesOptions words options =
-    GivesWorkers words options.workers × GivesNodes words options.nodes
-    × (options.rule ≡ rule_by (has_option (codes "dominate") words) (has_option (codes "dominate-tree") words) (has_option (codes "deep") words))
+    GivesWorkers words options.workers × GivesNodes words options.nodes × (options.rule ≡ rule_by (search_flags words))
 
--- they say how to look for the best order: by these options of a search, and with facts first by the flag `--deep`
+-- they say how to look for the best order: by these options of a search, and by facts too if the flag `--deep` is given
 abbrev pub GivesSearch : List Text → Strategy → Type 0
 GivesSearch words strategy = GivesOptions words strategy.search × GivesFlag (codes "deep") words strategy.deep
 
@@ -189,13 +185,9 @@ abbrev pub GivesOrder : List Text → Option Strategy → Type 0
 GivesOrder words None = has_option (codes "order") words ≡ false
 GivesOrder words (Some strategy) = (has_option (codes "order") words ≡ true) × GivesSearch words strategy
 
--- a number of a text, if there is one, is from the least to the most
-abbrev pub IsNumberIn : (least most : ℕ) → Option Text → Option ℕ → Type 0
-IsNumberIn least most text number = (number ≡ option_map number_in text) × IfSome number (λ n. (least ≤ n) × (n ≤ most))
-
 -- they give it the number of a block, or none
 abbrev pub GivesBlock : List Text → Option ℕ → Type 0
-GivesBlock words block = IsNumberIn 1 BLOCK_NUMBER_LIMIT (option_text (codes "block") words) block
+GivesBlock words block = IsNumberIn (record { least = 1; most = BLOCK_NUMBER_LIMIT }) (option_text (codes "block") words) block
 
 -- they give it this text for its profile, if any
 abbrev pub GivesProfile : List Text → Option (Bor Text) → Type 0
@@ -213,18 +205,18 @@ GivesSumStyle words style = GivesFlag (codes "trace") words style.trace × Gives
 
 -- they ask for this, by a subcommand and its own options
 abbrev pub AsksBy : List Text → Asked → Type 0
-AsksBy words (Time trace) = AsksFor words sub.Time × GivesFlag (codes "trace") words trace
-AsksBy words Deps = AsksFor words sub.Deps
-AsksBy words (Chart text) = AsksFor words sub.Chart × GivesFlag (codes "text") words text
-AsksBy words (Why order text) = AsksFor words sub.Why × GivesOrder words order × GivesFlag (codes "text") words text
-AsksBy words (Page strategy) = AsksFor words sub.Page × GivesSearch words strategy
-AsksBy words (Order strategy style) = AsksFor words sub.Order × GivesSearch words strategy × GivesStyle words style
-AsksBy words (Prove strategy) = AsksFor words sub.Prove × GivesSearch words strategy
-AsksBy words (Check text) = AsksFor words sub.Check × GivesFlag (codes "text") words text
-AsksBy words (Sum strategy style) = AsksFor words sub.Sum × GivesSearch words strategy × GivesSumStyle words style
-AsksBy words Compare = AsksFor words sub.Compare
-AsksBy words (Json order) = AsksFor words sub.Json × GivesOrder words order
-AsksBy words Lint = AsksFor words sub.Lint
+AsksBy words (Time trace) = AsksFor words (codes "time") × GivesFlag (codes "trace") words trace
+AsksBy words Deps = AsksFor words (codes "deps")
+AsksBy words (Chart text) = AsksFor words (codes "chart") × GivesFlag (codes "text") words text
+AsksBy words (Why order text) = AsksFor words (codes "why") × GivesOrder words order × GivesFlag (codes "text") words text
+AsksBy words (Page strategy) = AsksFor words (codes "page") × GivesSearch words strategy
+AsksBy words (Order strategy style) = AsksFor words (codes "order") × GivesSearch words strategy × GivesStyle words style
+AsksBy words (Prove strategy) = AsksFor words (codes "prove") × GivesSearch words strategy
+AsksBy words (Check text) = AsksFor words (codes "check") × GivesFlag (codes "text") words text
+AsksBy words (Sum strategy style) = AsksFor words (codes "sum") × GivesSearch words strategy × GivesSumStyle words style
+AsksBy words Compare = AsksFor words (codes "compare")
+AsksBy words (Json order) = AsksFor words (codes "json") × GivesOrder words order
+AsksBy words Lint = AsksFor words (codes "lint")
 
 -- they ask for the command; what a subcommand doesn't take, no words give it
 abbrev pub Asks : List Text → Command → Type 0
@@ -256,3 +248,18 @@ abbrev pub usage_code : Usage → ℕ
 usage_code (Help text) = 0
 usage_code (Bad text) = 2
 usage_code OutOfMemory = 4
+
+-- the subcommand of this name
+abbrev pub subcommand_named : Text → Option Subcommand
+subcommand_named name = find (λ s. bytes_eq s.name name) subcommands
+
+-- the calls of a subcommand that works so go deep: those of a search and of a check do
+abbrev pub is_deep : Work → Bool
+is_deep work.Search = true
+is_deep work.Check = true
+is_deep work.Plain = false
+
+-- the second word names a subcommand whose calls go deep; the first is the program's name
+abbrev pub go_deep : List Text → Bool
+go_deep (program ∷ name ∷ more) = option_map_or (λ s. is_deep s.work) (subcommand_named name) false
+go_deep words = false

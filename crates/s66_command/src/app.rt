@@ -2,10 +2,11 @@
 
 ghost use Rattle.std.specs.Prelude.{◌≡◌, IfOk};
 ghost use Rattle.clap.specs.Words.{App, app_of, new_app};
-ghost use Rattle.s66_command.specs.Usage.{IsArgumentOf, IsCommandOf, app_of_subcommand, name_of, named_rule, rule_of_row, s66_app, with_rows};
+ghost use Rattle.s66_command.specs.Rows.{in_row, in_rows};
+ghost use Rattle.s66_command.specs.Usage.{IsArgumentOf, IsCommandOf, app_of_subcommand, named_rule, option_rule, s66_app, with_options};
 
 use crate::help;
-use crate::subcommand::{OptionRow, SUBCOMMANDS, Subcommand, Value};
+use crate::subcommand::{OptionRow, SEARCH, STUDY, SUBCOMMANDS, SubcommandRow, Value, Work};
 use clap::{Arg, ArgAction, Command, value_parser};
 use std::alloc::{AllocError, Global};
 
@@ -25,26 +26,27 @@ fn named_argument<'a>(alloc: Global, name: &'a str, text: &'a str) -> Arg<'a>
 
 /// An option, with its help.
 fn argument<'a>(alloc: Global, name: &'a str, value: Value, text: &'a str) -> Arg<'a>
-    ensures { IsArgumentOf (rule_of_row name.now value) result }
+    ensures { IsArgumentOf (option_rule name.now value) result }
 {
     let argument = named_argument(alloc, name, text);
     match value {
         Value::Flag => argument.action(ArgAction::SetTrue),
         Value::Written => argument.value_name("TEXT"),
-        Value::Number(least, most) => argument.value_name("N").value_parser(value_parser!(
+        Value::Number { least, most } => argument.value_name("N").value_parser(value_parser!(
             u32
         ).range(i64::from(least)..=i64::from(most))),
     }
 }
 
-/// A subcommand with its help, and without options: what it does, how it is called, and how the help ends.
-fn described<'a>(alloc: Global, subcommand: Subcommand) -> Command<'a>
-    ensures { IsCommandOf (new_app (name_of subcommand)) result }
+/// A subcommand with its help, and without options.
+fn described<'a>(alloc: Global, row: SubcommandRow) -> Command<'a>
+    ensures { IsCommandOf (new_app row.entry.0.now) result }
 {
-    Command::new(alloc, subcommand.name())
-        .about(help::about(subcommand))
-        .override_usage(help::usage(subcommand))
-        .after_help(help::ending(subcommand))
+    let (name, _, _, about, usage, ending) = row;
+    Command::new(alloc, name)
+        .about(about)
+        .override_usage(usage)
+        .after_help(ending)
 }
 
 /// A command line with these options too.
@@ -53,7 +55,8 @@ fn with_options<'a>(
     command: Command<'a>,
     options: &'static [OptionRow],
 ) -> Result<Command<'a>, AllocError>
-    ensures { (a : App) → IsCommandOf a command.entry → IfOk result (IsCommandOf (with_rows a options.now)) }
+    ensures { (a : App) → IsCommandOf a command.entry →
+        IfOk result (IsCommandOf (with_options a (in_rows options.now))) }
 {
     let mut command = command;
     for &(name, value, text) in options {
@@ -65,13 +68,21 @@ fn with_options<'a>(
 /// The command line of a subcommand.
 pub(crate) fn subcommand_line<'a>(
     alloc: Global,
-    subcommand: Subcommand,
+    row: SubcommandRow,
 ) -> Result<Command<'a>, AllocError>
-    ensures { IfOk result (IsCommandOf (app_of_subcommand subcommand)) }
+    ensures { IfOk result (IsCommandOf (app_of_subcommand (in_row row.entry))) }
 {
-    let (shared, own) = subcommand.options();
-    let command = with_options(alloc, described(alloc, subcommand), shared)?;
-    with_options(alloc, command, own)
+    let (_, work, own, _, _, _) = row;
+    let line = described(alloc, row);
+    match work {
+        Work::Search => {
+            let line = with_options(alloc, line, SEARCH)?;
+            let line = with_options(alloc, line, own)?;
+            let line = line.next_help_heading("For the study of searches");
+            with_options(alloc, line, STUDY)
+        }
+        _ => with_options(alloc, line, own),
+    }
 }
 
 /// The command line of the program, which usage and help call s66 whatever the program's file is named.
@@ -83,8 +94,8 @@ pub(crate) fn program<'a>(alloc: Global) -> Result<Command<'a>, AllocError>
         .version(VERSION)
         .about(help::ABOUT)
         .subcommand_required(true);
-    for subcommand in SUBCOMMANDS {
-        let added = subcommand_line(alloc, subcommand)?;
+    for row in SUBCOMMANDS {
+        let added = subcommand_line(alloc, *row)?;
         program = program.subcommand(added)?;
     }
     Ok(program)

@@ -76,6 +76,19 @@ pub enum Asked {
     Lint,
 }
 
+/// What a command reads.
+#[derive(Clone, Copy, PartialEq, Eq)]
+pub enum Reads {
+    /// A source, which may be refused.
+    Source,
+    /// Two sources, either of which may be refused.
+    Sources,
+    /// Documents, which may be refused.
+    Documents,
+    /// Any text, of which nothing is refused.
+    Text,
+}
+
 /// How the blocks of a source are printed that are put in order.
 #[derive(Clone, Copy, PartialEq, Eq)]
 pub struct OrderStyle {
@@ -100,7 +113,7 @@ pub struct SumStyle {
 
 impl Asked {
     ghost use Rattle.std.specs.Prelude.{◌≡◌};
-    ghost use Rattle.s66_command.specs.CommandParts.{strategy_of};
+    ghost use Rattle.s66_command.specs.CommandParts.{reads_of, strategy_of};
 
     /// How the best orders are looked for that are written, if any are.
     pub fn strategy(self) -> Option<Strategy>
@@ -112,12 +125,19 @@ impl Asked {
             | Asked::Order { strategy, .. }
             | Asked::Prove { strategy }
             | Asked::Sum { strategy, .. } => Some(strategy),
-            Asked::Time { .. }
-            | Asked::Deps
-            | Asked::Chart { .. }
-            | Asked::Check { .. }
-            | Asked::Compare
-            | Asked::Lint => None,
+            _ => None,
+        }
+    }
+
+    /// What it reads.
+    pub fn reads(self) -> Reads
+        ensures { result ≡ reads_of self }
+    {
+        match self {
+            Asked::Lint => Reads::Text,
+            Asked::Compare => Reads::Sources,
+            Asked::Check { .. } => Reads::Documents,
+            _ => Reads::Source,
         }
     }
 }

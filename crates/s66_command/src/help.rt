@@ -1,8 +1,7 @@
-//! What the help says of each subcommand and each option. Its lines have at most 80 columns: a text of an option at most 56 a line,
-//! one of its long help at most 70.
+//! What the help says beside the table. Its lines have at most 80 columns: a text of an option at most 56 a line, one of its long help
+//! at most 70.
 
 use crate::limits::{BLOCK_NUMBER_LIMIT, NODES_DEFAULT, WORKERS_DEFAULT};
-use crate::subcommand::{Subcommand, TABLE};
 use s66_isa::PROFILE_LIMIT;
 use s66_model::{BUDGET_LIMIT, WORKERS_LIMIT};
 
@@ -49,51 +48,15 @@ macro_rules! search_ending {
     };
 }
 
+pub(crate) use help_ending;
+pub(crate) use search_ending;
+
+/// What the program does.
 pub(crate) const ABOUT: &str = "\
 s66 order --deep < SOURCE   writes the source with each block in the best order
 
 Blocks are straight-line COMPASS code for the CDC 6600. s66 orders, times, draws
 and explains them, and proves that no order is faster.";
-
-/// What a subcommand does.
-pub(crate) fn about<'a>(subcommand: Subcommand) -> &'a str {
-    TABLE[subcommand as usize].4
-}
-
-/// How a subcommand is called.
-pub(crate) fn usage<'a>(subcommand: Subcommand) -> &'a str {
-    TABLE[subcommand as usize].5
-}
-
-/// How the help of a subcommand ends: with an example and the statuses.
-pub(crate) fn ending<'a>(subcommand: Subcommand) -> &'a str {
-    match subcommand {
-        Subcommand::Lint => "\
-Example: s66 lint < SOURCE
-
-Status: 0 done, 2 usage, 4 out of memory, 5 some line is refused,
-        6 a read or write failed, 8 other lines alone are listed",
-        Subcommand::Order => search_ending!("s66 order --deep < SOURCE", ""),
-        Subcommand::Compare => help_ending!(
-            "s66 compare --cut < SOURCES",
-            "a source or the profile was refused",
-            ",\n        5 something else is changed"
-        ),
-        Subcommand::Sum => search_ending!("s66 sum --deep < SOURCE", ""),
-        Subcommand::Prove => search_ending!("s66 prove --deep < SOURCE > CERTIFICATES", ""),
-        Subcommand::Check => help_ending!(
-            "s66 check < CERTIFICATES",
-            "the documents were refused",
-            ",\n        5 some verdict is NO"
-        ),
-        Subcommand::Time => help_ending!("s66 time --trace < SOURCE"),
-        Subcommand::Why => search_ending!("s66 why --text --block 2 < SOURCE", "with --order: "),
-        Subcommand::Chart => help_ending!("s66 chart --text < SOURCE"),
-        Subcommand::Deps => help_ending!("s66 deps < SOURCE", "the source was refused"),
-        Subcommand::Page => search_ending!("s66 page --deep < SOURCE > page.html", ""),
-        Subcommand::Json => search_ending!("s66 json --order --deep < SOURCE", "with --order: "),
-    }
-}
 
 const PROFILE_LONG: &str = "\
 The timing profile, a JSON object [default: {}]; what it does not

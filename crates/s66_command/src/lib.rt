@@ -15,7 +15,7 @@ mod subcommand;
 mod usage;
 
 pub use app::VERSION;
-pub use command::{Asked, Command, OrderStyle, SumStyle};
+pub use command::{Asked, Command, OrderStyle, Reads, SumStyle};
 pub use examples::{hint_examples, profile_examples, refusal_examples};
 pub use hint::profile_hint;
 pub use limits::{BLOCK_NUMBER_LIMIT, NODES_DEFAULT, WORKERS_DEFAULT};

@@ -3,7 +3,7 @@
 ghost use Rattle.std.specs.Prelude.{◌≡◌, IfSome, List, is_some};
 ghost use Rattle.clap.specs.Words.{Text, found_of};
 ghost use Rattle.s66_command.specs.FoundOptions.{IsFlagName, IsFoundBy};
-ghost use Rattle.s66_command.specs.Usage.{GivesBlock, GivesFlag, GivesNodes, GivesOrder, GivesProfile, GivesSearch, GivesWorkers, IsMistake, are_two, gives_conflict, rule_by};
+ghost use Rattle.s66_command.specs.Usage.{GivesBlock, GivesFlag, GivesNodes, GivesOrder, GivesProfile, GivesSearch, GivesWorkers, IsMistake, are_two, gives_conflict, rule_by, search_flags};
 
 use crate::limits::{NODES_DEFAULT, WORKERS_DEFAULT};
 use crate::strategy::Strategy;
@@ -17,6 +17,25 @@ pub(crate) fn flag_in(matches: &ArgMatches, flag: &str) -> bool
         GivesFlag flag.now words result }
 {
     matches.get_flag(flag)
+}
+
+/// The flags of a search, of which one at most may be given.
+#[derive(Clone, Copy)]
+struct SearchFlags {
+    dominate: bool,
+    dominate_tree: bool,
+    deep: bool,
+}
+
+/// Which flags of a search are given.
+fn search_flags_in(matches: &ArgMatches) -> SearchFlags
+    ensures { (words : List Text) → IsFoundBy (found_of matches.now) words → result ≡ search_flags words }
+{
+    SearchFlags {
+        dominate: flag_in(matches, "dominate"),
+        dominate_tree: flag_in(matches, "dominate-tree"),
+        deep: flag_in(matches, "deep"),
+    }
 }
 
 /// How many workers search.
@@ -47,13 +66,13 @@ pub(crate) fn profile_in<'a>(matches: &ArgMatches<'a>) -> Option<&'a str>
     matches.get_str("profile")
 }
 
-/// Which nodes dominated leaves name by the flags `--dominate`, `--dominate-tree` and `--deep`, of which one at most is given.
-fn rule_of(dominate: bool, dominate_tree: bool, deep: bool) -> Rule
-    ensures { result ≡ rule_by dominate dominate_tree deep }
+/// Which nodes dominated leaves name by the flags of a search.
+fn rule_of(flags: SearchFlags) -> Rule
+    ensures { result ≡ rule_by flags }
 {
-    if dominate_tree || deep {
+    if flags.dominate_tree || flags.deep {
         Rule::ClampedStanding
-    } else if dominate {
+    } else if flags.dominate {
         Rule::WrittenEarlier
     } else {
         Rule::NoneNamed
@@ -64,15 +83,16 @@ fn rule_of(dominate: bool, dominate_tree: bool, deep: bool) -> Rule
 pub(crate) fn strategy_in(matches: &ArgMatches) -> Strategy
     ensures { (words : List Text) → IsFoundBy (found_of matches.now) words → GivesSearch words result }
 {
-    let dominate = flag_in(matches, "dominate");
-    let dominate_tree = flag_in(matches, "dominate-tree");
-    let deep = flag_in(matches, "deep");
+    let flags = search_flags_in(matches);
     let search = Options {
         workers: workers_in(matches),
         nodes: nodes_in(matches),
-        rule: rule_of(dominate, dominate_tree, deep),
+        rule: rule_of(flags),
     };
-    Strategy { search, deep }
+    Strategy {
+        search,
+        deep: flags.deep,
+    }
 }
 
 /// How the best order is looked for, if the flag `--order` is given.
@@ -88,10 +108,10 @@ pub(crate) fn order_in(matches: &ArgMatches) -> Option<Strategy>
 
 /// What is wrong with these flags together, if anything is. The texts are those of clap's own rule for this, on which there would be no
 /// contract.
-fn conflict_of(dominate: bool, dominate_tree: bool, deep: bool) -> Option<&'static str>
-    ensures { is_some result ≡ are_two dominate dominate_tree deep }
+fn conflict_of(flags: SearchFlags) -> Option<&'static str>
+    ensures { is_some result ≡ are_two flags }
 {
-    match (dominate, dominate_tree, deep) {
+    match (flags.dominate, flags.dominate_tree, flags.deep) {
         (true, true, false) => Some(
             "the argument '--dominate' cannot be used with '--dominate-tree'",
         ),
@@ -110,12 +130,9 @@ pub(crate) fn conflict_in(matches: &ArgMatches) -> Option<(ErrorKind, &'static s
     ensures given { (words : List Text) → IsFoundBy (found_of matches.now) words →
         is_some result ≡ gives_conflict words }
 {
-    let dominate = flag_in(matches, "dominate");
-    let dominate_tree = flag_in(matches, "dominate-tree");
-    let deep = flag_in(matches, "deep");
     let columns = flag_in(matches, "columns");
     let keep = flag_in(matches, "keep");
-    if let Some(message) = conflict_of(dominate, dominate_tree, deep) {
+    if let Some(message) = conflict_of(search_flags_in(matches)) {
         return Some((ErrorKind::ArgumentConflict, message));
     }
     if columns && !keep {

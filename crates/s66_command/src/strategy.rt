@@ -5,6 +5,6 @@ use s66_model::Options;
 pub struct Strategy {
     /// How its orders are searched.
     pub search: Options,
-    /// Whether facts that all faster orders have in common are looked for first.
+    /// Whether facts that all faster orders have in common are looked for, where some splits don't decide a block.
     pub deep: bool,
 }

@@ -1,45 +1,15 @@
-//! The table of the command line: a row for each option, a row for each subcommand.
+//! The command line: a row for each subcommand, and in it a row for each of its own options. One that several take is a constant, and all
+//! that search take more. What a call asks for by them is `asked_by` in `usage.rt`, and `AsksBy` in `specs/Usage.antt`.
 
-ghost use Rattle.std.specs.Prelude.{◌≡◌, ◌++◌, find, bytes_eq};
-ghost use Rattle.s66_command.specs.Usage.{name_of, options_of, rows};
-ghost use Rattle.s66_command.specs.declared.subcommand.TheConstants.{SUBCOMMANDS};
+ghost use Rattle.std.specs.Prelude.{◌≡◌, option_map};
+ghost use Rattle.s66_command.specs.Rows.{in_row};
+ghost use Rattle.s66_command.specs.Usage.{is_deep, subcommand_named};
 
+use crate::help::{help_ending, search_ending};
 use crate::limits::BLOCK_NUMBER_LIMIT;
 use Value::{Flag, Number, Written};
+use Work::{Check, Plain, Search};
 use s66_model::{BUDGET_LIMIT, WORKERS_LIMIT};
-
-/// A subcommand, without its options.
-#[derive(Clone, Copy)]
-pub(crate) enum Subcommand {
-    Lint,
-    Order,
-    Compare,
-    Sum,
-    Prove,
-    Check,
-    Time,
-    Why,
-    Chart,
-    Deps,
-    Page,
-    Json,
-}
-
-/// All subcommands, in the order in which one needs them.
-pub(crate) const SUBCOMMANDS: [Subcommand; 12] = [
-    Subcommand::Lint,
-    Subcommand::Order,
-    Subcommand::Compare,
-    Subcommand::Sum,
-    Subcommand::Prove,
-    Subcommand::Check,
-    Subcommand::Time,
-    Subcommand::Why,
-    Subcommand::Chart,
-    Subcommand::Deps,
-    Subcommand::Page,
-    Subcommand::Json,
-];
 
 /// The value that an option takes.
 #[derive(Clone, Copy)]
@@ -48,35 +18,40 @@ pub(crate) enum Value {
     Flag,
     /// A text, as it stands.
     Written,
-    /// A number from the first to the second.
-    Number(u32, u32),
+    /// A number from the least to the most.
+    Number { least: u32, most: u32 },
 }
 
 /// An option: its name, which comes after two dashes, the value that it takes, and what its help says.
 pub(crate) type OptionRow = (&'static str, Value, &'static str);
 
-const DEEP: OptionRow = (
-    "deep",
-    Flag,
-    "\
-Looks first for facts that show that no order is faster:
-always, unless the search itself is what you study",
+/// How a subcommand works.
+#[derive(Clone, Copy)]
+pub(crate) enum Work {
+    /// It searches orders: it takes the options of a search, and its calls go deep.
+    Search,
+    /// It checks certificates, in calls that go deep.
+    Check,
+    /// It does neither, and its calls stay shallow.
+    Plain,
+}
+
+/// A subcommand: its name, which is a word of the command line, how it works, its own options, what it does, how it is called, and how its
+/// help ends.
+pub(crate) type SubcommandRow = (
+    &'static str,
+    Work,
+    &'static [OptionRow],
+    &'static str,
+    &'static str,
+    &'static str,
 );
 
 const CUT: OptionRow = (
     "cut",
     Flag,
-    "\
-Leaves alone, rather than refuses, lines that can't be
-read, and code that directives, macros or counts cover",
-);
-
-const CUT_OF_LINT: OptionRow = (
-    "cut",
-    Flag,
-    "\
-Leaves out what other subcommands leave alone with
---cut: lists what remains to be done by hand",
+    "Leaves alone, rather than refuses, lines that can't be\n\
+     read, and code that directives, macros or counts cover",
 );
 
 const PROFILE: OptionRow = (
@@ -85,255 +60,262 @@ const PROFILE: OptionRow = (
     "The timing profile, a JSON object [default: {}]",
 );
 
-const NODES: OptionRow = (
-    "nodes",
-    Number(0, BUDGET_LIMIT),
-    "\
-The most splits of a block's search, 0 to 1000000
-[default: 100000]",
-);
-
-const WORKERS: OptionRow = (
-    "workers",
-    Number(1, WORKERS_LIMIT as u32),
-    "How many workers search, 1 to 16 [default: 4]",
-);
-
-const DOMINATE: OptionRow = (
-    "dominate",
-    Flag,
-    "\
-For studying searches: leaves out beginnings of orders
-that an earlier one dominates",
-);
-
-const DOMINATE_TREE: OptionRow = (
-    "dominate-tree",
-    Flag,
-    "\
-For studying searches: leaves out beginnings of orders
-that any other one dominates",
-);
-
-const ORDER: OptionRow = (
-    "order",
-    Flag,
-    "\
-Explains the best order found, and not the source's; the
-options of a search are for this",
-);
-
-const ORDER_OF_JSON: OptionRow = (
-    "order",
-    Flag,
-    "\
-Writes the best order found too; the options of a search
-are for this",
-);
-
-const TEXT: OptionRow = (
-    "text",
-    Flag,
-    "Puts the text of each instruction beside its number",
-);
-
-const TEXT_OF_CHECK: OptionRow = ("text", Flag, "Says in sentences why no order is faster");
-
-const TEXT_OF_CHART: OptionRow = (
-    "text",
-    Flag,
-    "\
-Puts the text of each instruction before its row, and a
-ruler above the rows",
-);
-
-const TRACE: OptionRow = ("trace", Flag, "Prints the times of each instruction");
-
-const TRACE_OF_ORDER: OptionRow = ("trace", Flag, "Prints the number of splits of each block");
-
-const TRACE_OF_SUM: OptionRow = (
-    "trace",
-    Flag,
-    "Prints the number of splits of each block, and of all",
-);
-
-const KEEP: OptionRow = (
-    "keep",
-    Flag,
-    "\
-Copies a block that keeps its order as it stands, with
-its NOs and notes, and reports nothing of it",
-);
-
-const COLUMNS: OptionRow = (
-    "columns",
-    Flag,
-    "\
-With --keep, puts the operation of each line of a
-changed block in the column in which it stood",
-);
-
-const QUIET: OptionRow = ("quiet", Flag, "Prints no reports, but the source alone");
-
-const WORDS: OptionRow = (
-    "words",
-    Flag,
-    "\
-Prints the words of each block, as written and in the
-best order found",
-);
+const BLOCK_NUMBER: Value = Number {
+    least: 1,
+    most: BLOCK_NUMBER_LIMIT,
+};
 
 const BLOCK: OptionRow = (
     "block",
-    Number(1, BLOCK_NUMBER_LIMIT),
+    BLOCK_NUMBER,
     "Prints only the block of this number, 1 to 20000",
 );
 
-const BLOCK_OF_ORDER: OptionRow = (
-    "block",
-    Number(1, BLOCK_NUMBER_LIMIT),
-    "\
-Puts only the block of this number in order, 1 to 20000;
-copies the others as they stand",
-);
-
-/// The options of the subcommands that search.
-const SEARCH: &[OptionRow] = &[DEEP, CUT, PROFILE, NODES, WORKERS, DOMINATE, DOMINATE_TREE];
-
-/// The subcommands, each at the place of its name in `Subcommand`: its name, which is a word of the command line, the options that it
-/// takes, in the order of its help, those of a search first, whether its calls go deep, as those of a search or a check do, what it
-/// does, and how it is called.
-pub(crate) const TABLE: [(&str, &[OptionRow], &[OptionRow], bool, &str, &str); 12] = [
+/// What all subcommands take that search, in the help before their own options.
+pub(crate) const SEARCH: &[OptionRow] = &[
     (
-        "lint",
-        &[],
-        &[CUT_OF_LINT],
-        false,
-        "Lists the lines that are refused, or that order could harm",
-        "s66 lint [OPTIONS] < SOURCE",
+        "deep",
+        Flag,
+        "If some splits don't decide, looks for facts that rule\n\
+         out faster orders: always, unless you study searches",
+    ),
+    CUT,
+    PROFILE,
+    (
+        "nodes",
+        Number {
+            least: 0,
+            most: BUDGET_LIMIT,
+        },
+        "The most splits of a block's search, 0 to 1000000\n\
+         [default: 100000]",
     ),
     (
-        "order",
-        SEARCH,
-        &[TRACE_OF_ORDER, KEEP, COLUMNS, QUIET, BLOCK_OF_ORDER],
-        true,
-        "Writes the source with each block in the best order found",
-        "s66 order [OPTIONS] < SOURCE",
-    ),
-    (
-        "compare",
-        &[],
-        &[CUT, PROFILE],
-        false,
-        "\
-Tells whether one source is another but for legal orders of blocks:
-OLD, a line *S66 NEW, then NEW",
-        "s66 compare [OPTIONS] < SOURCES",
-    ),
-    (
-        "sum",
-        SEARCH,
-        &[TRACE_OF_SUM, WORDS, BLOCK],
-        true,
-        "Prints what order saves in each block, and in all",
-        "s66 sum [OPTIONS] < SOURCE",
-    ),
-    (
-        "prove",
-        SEARCH,
-        &[BLOCK],
-        true,
-        "Writes a certificate for each block: order, time, bound, and proof",
-        "s66 prove [OPTIONS] < SOURCE",
-    ),
-    (
-        "check",
-        &[],
-        &[TEXT_OF_CHECK],
-        true,
-        "Checks each certificate by itself",
-        "s66 check [OPTIONS] < CERTIFICATES",
-    ),
-    (
-        "time",
-        &[],
-        &[CUT, PROFILE, TRACE, BLOCK],
-        false,
-        "Times each block as it is written",
-        "s66 time [OPTIONS] < SOURCE",
-    ),
-    (
-        "why",
-        SEARCH,
-        &[ORDER, TEXT, BLOCK],
-        true,
-        "Prints what each instruction waits for, and for how long",
-        "s66 why [OPTIONS] < SOURCE",
-    ),
-    (
-        "chart",
-        &[],
-        &[CUT, PROFILE, TEXT_OF_CHART, BLOCK],
-        false,
-        "Draws each block as it is written",
-        "s66 chart [OPTIONS] < SOURCE",
-    ),
-    (
-        "deps",
-        &[],
-        &[CUT, BLOCK],
-        false,
-        "Prints what each instruction depends on",
-        "s66 deps [OPTIONS] < SOURCE",
-    ),
-    (
-        "page",
-        SEARCH,
-        &[BLOCK],
-        true,
-        "\
-Writes a page for a browser: each block as it is written and in the
-best order found",
-        "s66 page [OPTIONS] < SOURCE > PAGE",
-    ),
-    (
-        "json",
-        SEARCH,
-        &[ORDER_OF_JSON, BLOCK],
-        true,
-        "Writes each block as a line of JSON, for programs",
-        "s66 json [OPTIONS] < SOURCE",
+        "workers",
+        Number {
+            least: 1,
+            most: WORKERS_LIMIT as u32,
+        },
+        "How many workers search, 1 to 16 [default: 4]",
     ),
 ];
 
-impl Subcommand {
-    /// Its name, which is a word of the command line.
-    pub(crate) fn name<'a>(self) -> &'a str
-        ensures { result.now ≡ name_of self }
-    {
-        TABLE[self as usize].0
-    }
+/// What they take for the study of searches, in the help at the end.
+pub(crate) const STUDY: &[OptionRow] = &[
+    (
+        "dominate",
+        Flag,
+        "Skips beginnings of orders that an earlier one dominates",
+    ),
+    (
+        "dominate-tree",
+        Flag,
+        "Skips beginnings of orders that any other one dominates",
+    ),
+];
 
-    /// The options that it takes, in the order of its help: those of a search if it searches, and its own.
-    pub(crate) fn options(self) -> (&'static [OptionRow], &'static [OptionRow])
-        ensures { rows result.0.now ++ rows result.1.now ≡ options_of self }
-    {
-        let (_, shared, own, _, _, _) = TABLE[self as usize];
-        (shared, own)
-    }
+/// The subcommands, in the order in which one needs them.
+pub(crate) const SUBCOMMANDS: &[SubcommandRow] = &[
+    (
+        "lint",
+        Plain,
+        &[(
+            "cut",
+            Flag,
+            "Leaves out what other subcommands leave alone with\n\
+             --cut: lists what remains to be done by hand",
+        )],
+        "Lists the lines that are refused, or that order could harm",
+        "s66 lint [OPTIONS] < SOURCE",
+        "Example: s66 lint < SOURCE\n\n\
+         Status: 0 done, 2 usage, 4 out of memory, 5 some line is refused,\n        \
+         6 a read or write failed, 8 other lines alone are listed",
+    ),
+    (
+        "order",
+        Search,
+        &[
+            ("trace", Flag, "Prints the number of splits of each block"),
+            (
+                "keep",
+                Flag,
+                "Copies a block that keeps its order as it stands, with\n\
+                 its NOs and notes, and reports nothing of it",
+            ),
+            (
+                "columns",
+                Flag,
+                "With --keep, puts the operation of each line of a\n\
+                 changed block in the column in which it stood",
+            ),
+            ("quiet", Flag, "Prints no reports, but the source alone"),
+            (
+                "block",
+                BLOCK_NUMBER,
+                "Puts only the block of this number in order, 1 to 20000;\n\
+                 copies the others as they stand",
+            ),
+        ],
+        "Writes the source with each block in the best order found",
+        "s66 order [OPTIONS] < SOURCE",
+        search_ending!("s66 order --deep < SOURCE", ""),
+    ),
+    (
+        "compare",
+        Plain,
+        &[CUT, PROFILE],
+        "Tells whether one source is another but for legal orders of blocks:\n\
+         OLD, a line *S66 NEW, then NEW",
+        "s66 compare [OPTIONS] < SOURCES",
+        help_ending!(
+            "s66 compare --cut < SOURCES",
+            "a source or the profile was refused",
+            ",\n        5 something else is changed"
+        ),
+    ),
+    (
+        "sum",
+        Search,
+        &[
+            (
+                "trace",
+                Flag,
+                "Prints the number of splits of each block, and of all",
+            ),
+            (
+                "words",
+                Flag,
+                "Prints the words of each block, as written and in the\n\
+                 best order found",
+            ),
+            BLOCK,
+        ],
+        "Prints what order saves in each block, and in all",
+        "s66 sum [OPTIONS] < SOURCE",
+        search_ending!("s66 sum --deep < SOURCE", ""),
+    ),
+    (
+        "prove",
+        Search,
+        &[BLOCK],
+        "Writes a certificate for each block: order, time, bound, and proof",
+        "s66 prove [OPTIONS] < SOURCE",
+        search_ending!("s66 prove --deep < SOURCE > CERTIFICATES", ""),
+    ),
+    (
+        "check",
+        Check,
+        &[("text", Flag, "Says in sentences why no order is faster")],
+        "Checks each certificate by itself",
+        "s66 check [OPTIONS] < CERTIFICATES",
+        help_ending!(
+            "s66 check < CERTIFICATES",
+            "the documents were refused",
+            ",\n        5 some verdict is NO"
+        ),
+    ),
+    (
+        "time",
+        Plain,
+        &[
+            CUT,
+            PROFILE,
+            ("trace", Flag, "Prints the times of each instruction"),
+            BLOCK,
+        ],
+        "Times each block as it is written",
+        "s66 time [OPTIONS] < SOURCE",
+        help_ending!("s66 time --trace < SOURCE"),
+    ),
+    (
+        "why",
+        Search,
+        &[
+            (
+                "order",
+                Flag,
+                "Explains the best order found, and not the source's; the\n\
+                 options of a search are for this",
+            ),
+            (
+                "text",
+                Flag,
+                "Puts the text of each instruction beside its number",
+            ),
+            BLOCK,
+        ],
+        "Prints what each instruction waits for, and for how long",
+        "s66 why [OPTIONS] < SOURCE",
+        search_ending!("s66 why --text --block 2 < SOURCE", "with --order: "),
+    ),
+    (
+        "chart",
+        Plain,
+        &[
+            CUT,
+            PROFILE,
+            (
+                "text",
+                Flag,
+                "Puts the text of each instruction before its row, and a\n\
+                 ruler above the rows",
+            ),
+            BLOCK,
+        ],
+        "Draws each block as it is written",
+        "s66 chart [OPTIONS] < SOURCE",
+        help_ending!("s66 chart --text < SOURCE"),
+    ),
+    (
+        "deps",
+        Plain,
+        &[CUT, BLOCK],
+        "Prints what each instruction depends on",
+        "s66 deps [OPTIONS] < SOURCE",
+        help_ending!("s66 deps < SOURCE", "the source was refused"),
+    ),
+    (
+        "page",
+        Search,
+        &[BLOCK],
+        "Writes a page for a browser: each block as it is written and in the\n\
+         best order found",
+        "s66 page [OPTIONS] < SOURCE > PAGE",
+        search_ending!("s66 page --deep < SOURCE > page.html", ""),
+    ),
+    (
+        "json",
+        Search,
+        &[
+            (
+                "order",
+                Flag,
+                "Writes the best order found too; the options of a search\n\
+                 are for this",
+            ),
+            BLOCK,
+        ],
+        "Writes each block as a line of JSON, for programs",
+        "s66 json [OPTIONS] < SOURCE",
+        search_ending!("s66 json --order --deep < SOURCE", "with --order: "),
+    ),
+];
 
-    /// Whether its calls go deep: it searches, or checks.
-    pub(crate) fn goes_deep(self) -> bool {
-        TABLE[self as usize].3
-    }
-
-    /// The subcommand of this name.
-    pub(crate) fn named(name: &str) -> Option<Subcommand>
-        ensures { result ≡ find (λ s. bytes_eq (name_of s) name.now) SUBCOMMANDS }
+impl Work {
+    /// Whether its calls go deep.
+    pub(crate) fn is_deep(self) -> bool
+        ensures { result ≡ is_deep self }
     {
-        SUBCOMMANDS
-            .iter()
-            .find(|subcommand| subcommand.name() == name)
-            .copied()
+        match self {
+            Search | Check => true,
+            Plain => false,
+        }
     }
+}
+
+/// The row of the subcommand of this name.
+pub(crate) fn row_named(name: &str) -> Option<SubcommandRow>
+    ensures { option_map in_row result ≡ subcommand_named name.now }
+{
+    SUBCOMMANDS.iter().find(|row| row.0 == name).copied()
 }

@@ -2,13 +2,14 @@ ghost use Rattle.std.specs.Prelude.{◌≡◌, IfOk, IfErr, List, MatchResult, m
 ghost use Rattle.clap.specs.Words.{Text, found_of, kind_of};
 ghost use Rattle.clap.specs.declared.error.kind.ErrorKind.TheVariants.{UnknownArgument};
 ghost use Rattle.s66_command.specs.FoundOptions.{IsFoundBy, IsTaken};
-ghost use Rattle.s66_command.specs.Usage.{Asks, AsksBy, AsksFor, IsUsageOf, Refuses};
+ghost use Rattle.s66_command.specs.Rows.{IsSubcommand};
+ghost use Rattle.s66_command.specs.Usage.{Asks, AsksBy, AsksFor, IsUsageOf, Refuses, go_deep};
 ghost use Rattle.s66_command.specs.declared.usage.Usage.TheVariants.{OutOfMemory};
 
 use crate::app::{program, subcommand_line};
 use crate::command::{Asked, Command, OrderStyle, SumStyle};
 use crate::options::{block_in, conflict_in, flag_in, order_in, profile_in, strategy_in};
-use crate::subcommand::Subcommand;
+use crate::subcommand::row_named;
 use clap::error::ErrorKind;
 use clap::{ArgMatches, Error};
 use std::alloc::{AllocError, Global};
@@ -77,11 +78,15 @@ fn usage_of(alloc: Global, error: &Error) -> Usage
     }
 }
 
-/// A mistake of this kind, as the command line of the subcommand tells it.
-fn mistake(alloc: Global, subcommand: Subcommand, kind: ErrorKind, message: &str) -> Usage
+/// A mistake of this kind, as the command line of the subcommand of this name tells it.
+fn mistake(alloc: Global, name: &str, kind: ErrorKind, message: &str) -> Usage
+    requires { IsSubcommand name.now }
     ensures { IsUsageOf kind result }
 {
-    let Ok(mut command) = subcommand_line(alloc, subcommand) else {
+    let Some(row) = row_named(name) else {
+        unreachable!()
+    };
+    let Ok(mut command) = subcommand_line(alloc, row) else {
         return Usage::OutOfMemory;
     };
     match command.error(kind, message) {
@@ -90,17 +95,18 @@ fn mistake(alloc: Global, subcommand: Subcommand, kind: ErrorKind, message: &str
     }
 }
 
-/// What a subcommand writes, by what clap found of its options.
-fn asked_by(subcommand: Subcommand, given: &ArgMatches) -> Asked
-    ensures { (words : List Text) → IsFoundBy (found_of given.now) words → AsksFor words subcommand → AsksBy words result }
+/// What the subcommand of this name writes, by what clap found of its options.
+fn asked_by(name: &str, given: &ArgMatches) -> Asked
+    requires { IsSubcommand name.now }
+    ensures { (words : List Text) → IsFoundBy (found_of given.now) words → AsksFor words name.now → AsksBy words result }
 {
     let text = flag_in(given, "text");
     let trace = flag_in(given, "trace");
     let strategy = strategy_in(given);
     let order = order_in(given);
-    match subcommand {
-        Subcommand::Lint => Asked::Lint,
-        Subcommand::Order => {
+    match name {
+        "lint" => Asked::Lint,
+        "order" => {
             let style = OrderStyle {
                 trace,
                 keep: flag_in(given, "keep"),
@@ -109,34 +115,36 @@ fn asked_by(subcommand: Subcommand, given: &ArgMatches) -> Asked
             };
             Asked::Order { strategy, style }
         }
-        Subcommand::Compare => Asked::Compare,
-        Subcommand::Sum => {
+        "compare" => Asked::Compare,
+        "sum" => {
             let style = SumStyle {
                 trace,
                 words: flag_in(given, "words"),
             };
             Asked::Sum { strategy, style }
         }
-        Subcommand::Prove => Asked::Prove { strategy },
-        Subcommand::Check => Asked::Check { text },
-        Subcommand::Time => Asked::Time { trace },
-        Subcommand::Why => Asked::Why { order, text },
-        Subcommand::Chart => Asked::Chart { text },
-        Subcommand::Deps => Asked::Deps,
-        Subcommand::Page => Asked::Page { strategy },
-        Subcommand::Json => Asked::Json { order },
+        "prove" => Asked::Prove { strategy },
+        "check" => Asked::Check { text },
+        "time" => Asked::Time { trace },
+        "why" => Asked::Why { order, text },
+        "chart" => Asked::Chart { text },
+        "deps" => Asked::Deps,
+        "page" => Asked::Page { strategy },
+        "json" => Asked::Json { order },
+        _ => unreachable!(),
     }
 }
 
-/// The command of a subcommand, by what clap found of its options.
-fn command_by<'a>(subcommand: Subcommand, given: &ArgMatches<'a>) -> Command<'a>
-    ensures { (words : List Text) → IsFoundBy (found_of given.now) words → AsksFor words subcommand → Asks words result }
+/// The command of the subcommand of this name, by what clap found of its options.
+fn command_by<'a>(name: &str, given: &ArgMatches<'a>) -> Command<'a>
+    requires { IsSubcommand name.now }
+    ensures { (words : List Text) → IsFoundBy (found_of given.now) words → AsksFor words name.now → Asks words result }
 {
     Command {
         cut: flag_in(given, "cut"),
         block: block_in(given),
         profile: profile_in(given),
-        asked: asked_by(subcommand, given),
+        asked: asked_by(name, given),
     }
 }
 
@@ -148,12 +156,9 @@ fn asked<'a>(alloc: Global, matches: &ArgMatches<'a>) -> Result<Command<'a>, Usa
     let Some((name, given)) = matches.subcommand() else {
         unreachable!()
     };
-    let Some(subcommand) = Subcommand::named(name) else {
-        unreachable!()
-    };
     match conflict_in(given) {
-        Some((kind, message)) => Err(mistake(alloc, subcommand, kind, message)),
-        None => Ok(command_by(subcommand, given)),
+        Some((kind, message)) => Err(mistake(alloc, name, kind, message)),
+        None => Ok(command_by(name, given)),
     }
 }
 
@@ -169,10 +174,12 @@ pub fn command_of<'a, S: AsStr>(alloc: Global, words: &'a [S]) -> Result<Command
 }
 
 /// Whether the words, of which the first is the program's name, ask for a search or a check, whose calls go deepest.
-pub fn goes_deep<S: AsStr>(words: &[S]) -> bool {
+pub fn goes_deep<S: AsStr>(words: &[S]) -> bool
+    ensures { result ≡ go_deep (map S.text words.now) }
+{
     match words {
-        [_, name, ..] => match Subcommand::named(name.as_str()) {
-            Some(subcommand) => subcommand.goes_deep(),
+        [_, name, ..] => match row_named(name.as_str()) {
+            Some((_, work, _, _, _, _)) => work.is_deep(),
             None => false,
         },
         _ => false,

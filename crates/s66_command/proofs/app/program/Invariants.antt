@@ -1,8 +1,8 @@
-use Rattle.std.proofs.Common.{take}
+use Rattle.std.proofs.Common.{map, take}
+use Rattle.s66_command.specs.Rows.{in_row}
 use Rattle.s66_command.specs.Usage.{IsCommandOf, start_app, with_subcommands}
-use Rattle.s66_command.specs.declared.subcommand.TheConstants.{SUBCOMMANDS}
 use Rattle.s66_command.proofs.app.program.Given as goal
 
 -- the subcommands so far are added
-abbrev pub invariant-loop-subcommand : goal.invariant-loop-subcommand
-invariant-loop-subcommand l = IsCommandOf (with_subcommands start_app (take l.subcommand-index SUBCOMMANDS)) l.program
+abbrev pub invariant-loop-row : goal.invariant-loop-row
+invariant-loop-row l = IsCommandOf (with_subcommands start_app (map in_row (take l.row-index l.row-items))) l.program

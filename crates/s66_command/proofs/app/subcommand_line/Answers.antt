@@ -1,17 +1,25 @@
-use Rattle.std.proofs.Common.{◌∙◌, ap, sym, subst}
-use Rattle.std.proofs.lemmas.List.Sums.{fold-append}
+use Rattle.std.proofs.Common.{sym, subst}
 use Rattle.std.proofs.lemmas.Result.{IfOk-weaker}
-use Rattle.clap.specs.Words.{App, new_app}
-use Rattle.s66_command.specs.Usage.{IsCommandOf, name_of, rows, with_options, with_rows}
-use Rattle.s66_command.proofs.CommandLine.{with-rows}
+use Rattle.clap.specs.Words.{new_app}
+use Rattle.s66_command.specs.declared.subcommand.TheConstants.{SEARCH, STUDY}
+use Rattle.s66_command.specs.Rows.{in_rows}
+use Rattle.s66_command.specs.Usage.{IsCommandOf, options_by, options_in, with_options}
+use Rattle.s66_command.proofs.CommandLine.{own-alone, with-heading, with-search}
 use Rattle.s66_command.proofs.app.subcommand_line.Goals as goal
 
-pub returns : goal.returns
-returns c =
-    let start = new_app (name_of c.args.subcommand) in
-    let shared = c.options.result.0.now in
-    let own = c.options.result.1.now in
-    IfOk-weaker c.with_options-2.result _ _
-    (λ line is. subst (λ os. IsCommandOf (with_options start os) line) c.options.ensures
-    (subst (λ a. IsCommandOf a line) (sym (fold-append _ start (rows shared) (rows own) ∙ with-rows (with_options start (rows shared)) own ∙ ap (λ (a : App). with_rows a own) (with-rows start shared))) is))
-    (c.with_options-2.ensures _ (c.in_ok-command.ensures start c.described.ensures))
+pub returns-in_ok-line-in-Search-2 : goal.returns-in_ok-line-in-Search-2
+returns-in_ok-line-in-Search-2 c =
+    let start = new_app c.args.row.0.now in
+    let own = in_rows c.args.row.2.now in
+    IfOk-weaker c.with_options-in-Search-2.result _ _
+    (λ line is. subst (λ work. IsCommandOf (with_options start (options_by work own)) line) (sym c.in-Search.is) (subst (λ a. IsCommandOf a line) (sym (with-search start (options_in SEARCH.now) own (options_in STUDY.now))) is))
+    (c.with_options-in-Search-2.ensures _
+    (with-heading _ c.in_ok-line-in-Search-2.line c.next_help_heading-line.result _ c.next_help_heading-line.ensures (c.in_ok-line-in-Search-2.ensures _ (c.in_ok-line-in-Search.ensures start c.described-line.ensures))))
+
+pub returns-in_default : goal.returns-in_default
+returns-in_default c =
+    let start = new_app c.args.row.0.now in
+    let own = in_rows c.args.row.2.now in
+    IfOk-weaker c.with_options-in_default.result _ _
+    (λ line is. subst (λ options. IsCommandOf (with_options start options) line) (own-alone c.args.row.1 own c.in_default.not-Search) is)
+    (c.with_options-in_default.ensures start c.described-line.ensures)

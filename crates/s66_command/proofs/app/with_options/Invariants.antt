@@ -1,8 +1,9 @@
 use Rattle.std.proofs.Common.{take}
 use Rattle.clap.specs.Words.{App}
-use Rattle.s66_command.specs.Usage.{IsCommandOf, with_rows}
+use Rattle.s66_command.specs.Rows.{in_rows}
+use Rattle.s66_command.specs.Usage.{IsCommandOf, with_options}
 use Rattle.s66_command.proofs.app.with_options.Given as goal
 
 -- the options so far are added
 abbrev pub invariant-loop-name : goal.invariant-loop-name
-invariant-loop-name l = (a : App) → IsCommandOf a l.fn.command → IsCommandOf (with_rows a (take l.name-index l.fn.options)) l.command
+invariant-loop-name l = (a : App) → IsCommandOf a l.fn.command → IsCommandOf (with_options a (in_rows (take l.name-index l.fn.options))) l.command

@@ -3,13 +3,14 @@ use Rattle.std.specs.Str.Parse.{ExplainsUnsignedError, HasUnsignedDigitsIfOk, Pa
 use Rattle.clap.specs.Words.{found_of}
 use Rattle.s66_model.specs.declared.limits.TheConstants.{WORKERS_LIMIT}
 use Rattle.s66_command.specs.declared.limits.TheConstants.{WORKERS_DEFAULT}
-use Rattle.s66_command.specs.Usage.{IsNumberOrDefault}
+use Rattle.s66_command.specs.Usage.{IsNumberOrDefault, Limits}
 use Rattle.s66_command.proofs.GivenOptions.{number-given}
 use Rattle.s66_command.proofs.OptionRanges.{number-read}
 use Rattle.s66_command.proofs.options.workers_in.Goals as goal
 
 pub returns : goal.returns
 returns c = λ words is.
-    number-given (found_of c.args.matches.now) words (codes "workers") (codes "workers") 1 WORKERS_LIMIT (λ text. IsNumberOrDefault 1 WORKERS_LIMIT WORKERS_DEFAULT text c.unwrap_or.result) refl is refl
-    (number-read (codes "workers") 1 WORKERS_LIMIT _ (λ t r. ParsesUnsigned 8 10 t r × ExplainsUnsignedError 10 t r × HasUnsignedDigitsIfOk t r) 8 (λ t r gives. gives.0) (omega arith) WORKERS_DEFAULT _
+    let limits : Limits = record { least = 1; most = WORKERS_LIMIT } in
+    number-given (found_of c.args.matches.now) words (codes "workers") (codes "workers") limits (λ text. IsNumberOrDefault limits WORKERS_DEFAULT text c.unwrap_or.result) refl is refl
+    (number-read (codes "workers") limits _ (λ t r. ParsesUnsigned 8 10 t r × ExplainsUnsignedError 10 t r × HasUnsignedDigitsIfOk t r) 8 (λ t r gives. gives.0) (omega arith) WORKERS_DEFAULT _
     c.get_one.result c.unwrap_or.result (omega arith) (omega arith) c.get_one.ensures.none c.get_one.ensures.value c.unwrap_or.ensures)
