@@ -15,7 +15,7 @@ use Rattle.clap.proofs.SimpleLemmas.{is_nil}
 use Rattle.clap.proofs.WalkLemmas.{both}
 use Rattle.s66_command.specs.FoundOptions.{IsTaken}
 use Rattle.s66_command.specs.Rows.{IsNameOf}
-use Rattle.s66_command.specs.Usage.{AsksFor, Subcommand, gives_conflict, s66_app, subcommand_name}
+use Rattle.s66_command.specs.Usage.{Calls, Subcommand, gives_conflict, s66_app, subcommand_name}
 use Rattle.s66_command.proofs.Faults.{first-none, full, second-none}
 
 -- A NAME OF A LIST
@@ -220,9 +220,9 @@ name-at (Some b) = refl
 name-is : (m : ArgMatches) (words : List Text) → IsTaken m words → subcommand_name_of m ≡ subcommand_name words
 name-is m words is = name-at (out-ArgMatches m).subcommand ∙ ap (option_map (λ s. s.0)) is.1
 
--- the words ask for the subcommand whose name clap gives
-pub asks-for : (m : ArgMatches) (words : List Text) (name : Text) → IsTaken m words → Some name ≡ subcommand_name_of m → gives_conflict words ≡ false → AsksFor words name
-asks-for m words name is gives none = (is.0, none, sym (name-is m words is) ∙ sym gives)
+-- the words call the subcommand whose name clap gives
+pub calls : (m : ArgMatches) (words : List Text) (name : Text) → IsTaken m words → Some name ≡ subcommand_name_of m → gives_conflict words ≡ false → Calls words name
+calls m words name is gives none = (is.0, none, sym (name-is m words is) ∙ sym gives)
 
 -- clap gives a name, which is a subcommand's
 abbrev IsKnown : Option Text → Type 0

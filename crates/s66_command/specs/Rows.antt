@@ -1,7 +1,9 @@
 -- Used by contracts within the crate alone: rows of the table as the code has them.
-use Rattle.std.specs.Prelude.{◌≡◌, ◌⊎◌, List, [], ◌∷◌, map}
+use Rattle.std.specs.Prelude.{◌≡◌, ◌⊎◌, ◌++◌, List, [], ◌∷◌, codes, map, nat_eq, true}
+use Rattle.std.specs.List.{list_all, starts_with}
 use Rattle.std.specs.Borrow.{Bor}
 use Rattle.s66_command.specs.Usage.{Subcommand, Text, subcommands}
+use Rattle.s66_command.specs.declared.subcommand.TheConstants.{SUBCOMMANDS}
 use Rattle.s66_command.specs.declared.subcommand.Value.{Value}
 use Rattle.s66_command.specs.declared.subcommand.Work.{Work}
 
@@ -29,3 +31,7 @@ IsNameOf (s ∷ rest) name = (name ≡ s.name) ⊎ IsNameOf rest name
 -- a name of a subcommand
 abbrev pub IsSubcommand : Text → Type 0
 IsSubcommand name = IsNameOf subcommands name
+
+-- how a subcommand is called, as its help shows it, is by the program's name and its own
+abbrev pub AreCalledByName : Type 0
+AreCalledByName = list_all (λ r. starts_with nat_eq r.4.now (codes "s66 " ++ r.0.now)) SUBCOMMANDS.now ≡ true

@@ -75,6 +75,10 @@ pub record Subcommand : Type 0 where
 abbrev pub subcommands : List Subcommand
 subcommands = map (λ r. record { name = r.0.now; work = r.1; own = options_in r.2.now }) SUBCOMMANDS.now
 
+-- the subcommand of this name
+abbrev pub subcommand_named : Text → Option Subcommand
+subcommand_named name = find (λ s. bytes_eq s.name name) subcommands
+
 -- the options that a subcommand takes, by how it works and by its own: if it searches, those of a search too
 abbrev pub options_by : Work → List (Text × Value) → List (Text × Value)
 options_by work.Search own = options_in SEARCH.now ++ (own ++ options_in STUDY.now)
@@ -156,8 +160,12 @@ abbrev pub gives_conflict : List Text → Bool
 gives_conflict words = are_two (search_flags words) || (has_option (codes "columns") words && not (has_option (codes "keep") words))
 
 -- the words, of which the first is the program's name, have no fault, give no options that don't go together, and name this subcommand
-abbrev pub AsksFor : List Text → (name : Text) → Type 0
-AsksFor words name = (fault_of s66_app words ≡ []) × (gives_conflict words ≡ false) × (subcommand_name words ≡ Some name)
+abbrev pub Calls : List Text → (name : Text) → Type 0
+Calls words name = (fault_of s66_app words ≡ []) × (gives_conflict words ≡ false) × (subcommand_name words ≡ Some name)
+
+-- they name this subcommand, which works so by the table
+abbrev pub AsksFor : List Text → (name : Text) → Work → Type 0
+AsksFor words name work = Calls words name × (option_map (λ s. s.work) (subcommand_named name) ≡ Some work)
 
 -- they give the subcommand the flag, or don't
 abbrev pub GivesFlag : (name : Text) → List Text → Bool → Type 0
@@ -203,20 +211,20 @@ GivesStyle words style =
 abbrev pub GivesSumStyle : List Text → SumStyle → Type 0
 GivesSumStyle words style = GivesFlag (codes "trace") words style.trace × GivesFlag (codes "words") words style.words
 
--- they ask for this, by a subcommand and its own options
+-- they ask for this, by the name of a subcommand, which works so, and by its own options
 abbrev pub AsksBy : List Text → Asked → Type 0
-AsksBy words (Time trace) = AsksFor words (codes "time") × GivesFlag (codes "trace") words trace
-AsksBy words Deps = AsksFor words (codes "deps")
-AsksBy words (Chart text) = AsksFor words (codes "chart") × GivesFlag (codes "text") words text
-AsksBy words (Why order text) = AsksFor words (codes "why") × GivesOrder words order × GivesFlag (codes "text") words text
-AsksBy words (Page strategy) = AsksFor words (codes "page") × GivesSearch words strategy
-AsksBy words (Order strategy style) = AsksFor words (codes "order") × GivesSearch words strategy × GivesStyle words style
-AsksBy words (Prove strategy) = AsksFor words (codes "prove") × GivesSearch words strategy
-AsksBy words (Check text) = AsksFor words (codes "check") × GivesFlag (codes "text") words text
-AsksBy words (Sum strategy style) = AsksFor words (codes "sum") × GivesSearch words strategy × GivesSumStyle words style
-AsksBy words Compare = AsksFor words (codes "compare")
-AsksBy words (Json order) = AsksFor words (codes "json") × GivesOrder words order
-AsksBy words Lint = AsksFor words (codes "lint")
+AsksBy words (Time trace) = AsksFor words (codes "time") work.Plain × GivesFlag (codes "trace") words trace
+AsksBy words Deps = AsksFor words (codes "deps") work.Plain
+AsksBy words (Chart text) = AsksFor words (codes "chart") work.Plain × GivesFlag (codes "text") words text
+AsksBy words (Why order text) = AsksFor words (codes "why") work.Search × GivesOrder words order × GivesFlag (codes "text") words text
+AsksBy words (Page strategy) = AsksFor words (codes "page") work.Search × GivesSearch words strategy
+AsksBy words (Order strategy style) = AsksFor words (codes "order") work.Search × GivesSearch words strategy × GivesStyle words style
+AsksBy words (Prove strategy) = AsksFor words (codes "prove") work.Search × GivesSearch words strategy
+AsksBy words (Check text) = AsksFor words (codes "check") work.Check × GivesFlag (codes "text") words text
+AsksBy words (Sum strategy style) = AsksFor words (codes "sum") work.Search × GivesSearch words strategy × GivesSumStyle words style
+AsksBy words Compare = AsksFor words (codes "compare") work.Plain
+AsksBy words (Json order) = AsksFor words (codes "json") work.Search × GivesOrder words order
+AsksBy words Lint = AsksFor words (codes "lint") work.Plain
 
 -- they ask for the command; what a subcommand doesn't take, no words give it
 abbrev pub Asks : List Text → Command → Type 0
@@ -248,10 +256,6 @@ abbrev pub usage_code : Usage → ℕ
 usage_code (Help text) = 0
 usage_code (Bad text) = 2
 usage_code OutOfMemory = 4
-
--- the subcommand of this name
-abbrev pub subcommand_named : Text → Option Subcommand
-subcommand_named name = find (λ s. bytes_eq s.name name) subcommands
 
 -- the calls of a subcommand that works so go deep: those of a search and of a check do
 abbrev pub is_deep : Work → Bool

@@ -2,7 +2,7 @@
 
 ghost use Rattle.std.specs.Prelude.{◌≡◌, IfOk};
 ghost use Rattle.clap.specs.Words.{App, app_of, new_app};
-ghost use Rattle.s66_command.specs.Rows.{in_row, in_rows};
+ghost use Rattle.s66_command.specs.Rows.{AreCalledByName, in_row, in_rows};
 ghost use Rattle.s66_command.specs.Usage.{IsArgumentOf, IsCommandOf, app_of_subcommand, named_rule, option_rule, s66_app, with_options};
 
 use crate::help;
@@ -87,7 +87,8 @@ pub(crate) fn subcommand_line<'a>(
 
 /// The command line of the program, which usage and help call s66 whatever the program's file is named.
 pub(crate) fn program<'a>(alloc: Global) -> Result<Command<'a>, AllocError>
-    ensures { IfOk result (λ c. app_of c ≡ s66_app) }
+    ensures app { IfOk result (λ c. app_of c ≡ s66_app) }
+    ensures called { AreCalledByName }
 {
     let mut program = Command::new(alloc, "s66")
         .bin_name("s66")?

@@ -3,7 +3,7 @@ ghost use Rattle.clap.specs.Words.{Text, found_of, kind_of};
 ghost use Rattle.clap.specs.declared.error.kind.ErrorKind.TheVariants.{UnknownArgument};
 ghost use Rattle.s66_command.specs.FoundOptions.{IsFoundBy, IsTaken};
 ghost use Rattle.s66_command.specs.Rows.{IsSubcommand};
-ghost use Rattle.s66_command.specs.Usage.{Asks, AsksBy, AsksFor, IsUsageOf, Refuses, go_deep};
+ghost use Rattle.s66_command.specs.Usage.{Asks, AsksBy, Calls, IsUsageOf, Refuses, go_deep};
 ghost use Rattle.s66_command.specs.declared.usage.Usage.TheVariants.{OutOfMemory};
 
 use crate::app::{program, subcommand_line};
@@ -98,7 +98,7 @@ fn mistake(alloc: Global, name: &str, kind: ErrorKind, message: &str) -> Usage
 /// What the subcommand of this name writes, by what clap found of its options.
 fn asked_by(name: &str, given: &ArgMatches) -> Asked
     requires { IsSubcommand name.now }
-    ensures { (words : List Text) → IsFoundBy (found_of given.now) words → AsksFor words name.now → AsksBy words result }
+    ensures { (words : List Text) → IsFoundBy (found_of given.now) words → Calls words name.now → AsksBy words result }
 {
     let text = flag_in(given, "text");
     let trace = flag_in(given, "trace");
@@ -138,7 +138,7 @@ fn asked_by(name: &str, given: &ArgMatches) -> Asked
 /// The command of the subcommand of this name, by what clap found of its options.
 fn command_by<'a>(name: &str, given: &ArgMatches<'a>) -> Command<'a>
     requires { IsSubcommand name.now }
-    ensures { (words : List Text) → IsFoundBy (found_of given.now) words → AsksFor words name.now → Asks words result }
+    ensures { (words : List Text) → IsFoundBy (found_of given.now) words → Calls words name.now → Asks words result }
 {
     Command {
         cut: flag_in(given, "cut"),
