@@ -114,18 +114,4 @@ pub(crate) const ROWS: &[Row] = &[
         0,
         "Prints what each instruction depends on\n\nUsage: s66 deps [OPTIONS] < SOURCE\n\nOptions:\n      --cut        Leaves alone, rather than refuses, lines that can't be\n                   read, and code that directives, macros or counts cover\n      --block <N>  Prints only the block of this number, 1 to 20000\n  -h, --help       Print help\n\nExample: s66 deps < SOURCE\n\nStatus: 0 done, 2 usage, 3 the source was refused,\n        4 out of memory, 6 a read or write failed\n",
     ),
-    (
-        "help of prove",
-        &["s66", "prove", "-h"],
-        "",
-        0,
-        "Writes a certificate for each block: order, time, bound, and proof\n\nUsage: s66 prove [OPTIONS] < SOURCE\n\nOptions:\n      --deep            Looks first for facts that show that no order is faster:\n                        always, unless the search itself is what you study\n      --cut             Leaves alone, rather than refuses, lines that can't be\n                        read, and code that directives, macros or counts cover\n      --profile <TEXT>  The timing profile, a JSON object [default: {}]\n      --nodes <N>       The most splits of a block's search, 0 to 1000000\n                        [default: 100000]\n      --workers <N>     How many workers search, 1 to 16 [default: 4]\n      --dominate        For studying searches: leaves out beginnings of orders\n                        that an earlier one dominates\n      --dominate-tree   For studying searches: leaves out beginnings of orders\n                        that any other one dominates\n      --block <N>       Prints only the block of this number, 1 to 20000\n  -h, --help            Print help (see more with '--help')\n\nExample: s66 prove --deep < SOURCE > CERTIFICATES\n\nStatus: 0 done, 2 usage, 3 the source or the profile was refused,\n        4 out of memory, 6 a read or write failed,\n        7 some block is only bounded\n",
-    ),
-    (
-        "help of sum",
-        &["s66", "sum", "-h"],
-        "",
-        0,
-        "Prints what order saves in each block, and in all\n\nUsage: s66 sum [OPTIONS] < SOURCE\n\nOptions:\n      --deep            Looks first for facts that show that no order is faster:\n                        always, unless the search itself is what you study\n      --cut             Leaves alone, rather than refuses, lines that can't be\n                        read, and code that directives, macros or counts cover\n      --profile <TEXT>  The timing profile, a JSON object [default: {}]\n      --nodes <N>       The most splits of a block's search, 0 to 1000000\n                        [default: 100000]\n      --workers <N>     How many workers search, 1 to 16 [default: 4]\n      --dominate        For studying searches: leaves out beginnings of orders\n                        that an earlier one dominates\n      --dominate-tree   For studying searches: leaves out beginnings of orders\n                        that any other one dominates\n      --trace           Prints the number of splits of each block, and of all\n      --words           Prints the words of each block, as written and in the\n                        best order found\n      --block <N>       Prints only the block of this number, 1 to 20000\n  -h, --help            Print help (see more with '--help')\n\nExample: s66 sum --deep < SOURCE\n\nStatus: 0 done, 2 usage, 3 the source or the profile was refused,\n        4 out of memory, 6 a read or write failed,\n        7 some block is only bounded\n",
-    ),
 ];
