@@ -55,9 +55,9 @@ TO_BELIEVE = [
     ("status 0 of `check` (`done_law`)", [BOUND, DOCUMENT, CLAIMED, "s66_cert/Document/IsText"]),
     ("that an order keeps the meaning (`meaning_law`)", ["s66_model/Meaning/KeepsMeaning"]),
     ("status 0 of `compare` (`same_meaning_law`)", ["s66_source/Halves/halves_of", "s66_compare/Meant/IsReordered", "s66_compare/Meant/KeepsSource"]),
-    ("what `time` says of a source", [TOTAL, "s66_output/TimeText/time_lines", SOURCE]),
-    ("`BEST` and `AT LEAST` in what `order` writes (`reported_law`)", ["s66_output/Reports/ReportsBlocks"]),
-    ("`BEST` and `AT LEAST` of an answer (`answered_law`)", [BOUND, SOURCE, "s66_output/OrderText/all_placed", "s66_source/Printed/printed"]),
+    ("what `time` says of a source", ["s66_program/TimeText/IsTimeOutput"]),
+    ("`BEST` and `AT LEAST` in what `order` writes (`reported_law`)", ["s66_program/Reports/ReportsBlocks"]),
+    ("`BEST` and `AT LEAST` of an answer (`answered_law`)", [BOUND, SOURCE, "s66_program/OrderText/all_placed", "s66_source/Printed/printed"]),
 ]
 
 

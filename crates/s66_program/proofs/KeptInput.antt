@@ -11,11 +11,11 @@ use Rattle.s66_command.specs.declared.command.Command.{Command}
 use Rattle.s66_command.specs.declared.command.OrderStyle.{OrderStyle}
 use Rattle.s66_command.specs.declared.command.Asked.{Asked}
 use Rattle.s66_command.specs.declared.command.Asked.TheVariants.{Time, Deps, Chart, Why, Page, Json, Order, Prove, Check, Lint, Sum, Compare}
-use Rattle.s66_output.specs.KeptText.{IsOrderedBy, is_other}
+use Rattle.s66_answer.specs.declared.outcome.Status.{Status}
+use Rattle.s66_program.specs.OrderText.{IsOrderedBy, is_other}
 use Rattle.s66_program.specs.declared.limits.TheConstants.{SOURCE_FRONT}
 use Rattle.s66_program.specs.declared.fault.Fault.{Fault}
 use Rattle.s66_program.specs.declared.fault.Fault.TheVariants as fault
-use Rattle.s66_output.specs.declared.outcome.Status.{Status}
 use Rattle.s66_program.specs.declared.remark.Remark.{Remark}
 use Rattle.s66_program.specs.KeptInput.{IsFull, IsKeptInput}
 use Rattle.s66_program.specs.Output.{IsAskedOutput, IsOutput, reads_documents, reads_source, reads_two, source_in}
@@ -35,13 +35,13 @@ ordered-accepted false strategy p style only source text status (blocks, ok, is)
 
 accepted-by : (p : Profile) (asked : Asked) (only : Option ℕ) (source : Reading) (text : List ℕ) (status : Status) → reads_source asked ≡ true → IsAskedOutput p asked only source text status →
     (blocks : List Block) × (source_of source ≡ Ok blocks)
-accepted-by p (Time trace) only source text status reads ((blocks, ok, is), done) = (blocks, ok)
-accepted-by p Deps only source text status reads ((blocks, ok, is), done) = (blocks, ok)
-accepted-by p (Chart texts) only source text status reads ((blocks, ok, is), done) = (blocks, ok)
-accepted-by p (Why None texts) only source text status reads ((blocks, ok, is), done) = (blocks, ok)
+accepted-by p (Time trace) only source text status reads (blocks, ok, is, done) = (blocks, ok)
+accepted-by p Deps only source text status reads (blocks, ok, is, done) = (blocks, ok)
+accepted-by p (Chart texts) only source text status reads (blocks, ok, is, done) = (blocks, ok)
+accepted-by p (Why None texts) only source text status reads (blocks, ok, is, done) = (blocks, ok)
 accepted-by p (Why (Some strategy) texts) only source text status reads (blocks, ok, is) = (blocks, ok)
 accepted-by p (Page strategy) only source text status reads (blocks, ok, is) = (blocks, ok)
-accepted-by p (Json None) only source text status reads ((blocks, ok, is), done) = (blocks, ok)
+accepted-by p (Json None) only source text status reads (blocks, ok, is, done) = (blocks, ok)
 accepted-by p (Json (Some strategy)) only source text status reads (blocks, ok, is) = (blocks, ok)
 accepted-by p (Order strategy style) only source text status reads is =
     ordered-accepted (is_other style only) strategy p style only source text status is

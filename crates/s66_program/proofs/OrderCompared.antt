@@ -6,9 +6,11 @@ use Rattle.s66_isa.specs.Lists.{Among, every}
 use Rattle.s66_isa.specs.declared.profile.Profile.{Profile}
 use Rattle.s66_line.specs.Block.{Block, Entry, instrs_of}
 use Rattle.s66_command.specs.declared.strategy.Strategy.{Strategy}
-use Rattle.s66_output.specs.declared.outcome.Status.{Status}
-use Rattle.s66_output.specs.declared.outcome.Status.TheVariants.{Done, Denied}
-use Rattle.s66_program.specs.Output.{IsCompareOutput}
+use Rattle.s66_answer.specs.declared.outcome.Status.{Status}
+use Rattle.s66_answer.specs.declared.outcome.Status.TheVariants.{Done, Denied}
+use Rattle.s66_answer.specs.Answers.{Answer, AreAnswers}
+use Rattle.s66_answer.proofs.EveryAnswer.{answer-legal}
+use Rattle.s66_program.specs.CompareText.{IsCompareOutput}
 use Rattle.s66_source.specs.Frame.{frame_of}
 use Rattle.s66_source.specs.Halves.{Halves, halves_of}
 use Rattle.s66_source.specs.LeftAlone.{Reading}
@@ -25,11 +27,9 @@ use Rattle.s66_compare.specs.declared.difference.Difference.{Difference}
 use Rattle.s66_compare.proofs.FrameAgain.{frame-again, same-none}
 use Rattle.s66_compare.proofs.Meanings.{IsSpelled}
 use Rattle.s66_compare.proofs.PlacedPairs.{AreLegal, placed-legal}
-use Rattle.s66_output.specs.Answers.{Answer, AreAnswers}
-use Rattle.s66_output.specs.OrderText.{IsOrderOutput, all_placed}
-use Rattle.s66_output.proofs.Answered.{answer-legal}
-use Rattle.s66_output.proofs.OrderedAgain.{all-complete}
-use Rattle.s66_output.proofs.PlacedAnswers.{all-within, legal-within}
+use Rattle.s66_program.specs.OrderText.{IsOrderOutput, all_placed}
+use Rattle.s66_program.proofs.OrderedAgain.{all-complete}
+use Rattle.s66_program.proofs.PlacedAnswers.{all-within, legal-within}
 
 all-legal : (strategy : Strategy) (p : Profile) (trace : Bool) (blocks : List Block) (answers : List Answer) → ((block : Block) → Among block blocks → IsSpelled block) → AreAnswers strategy p blocks answers → AreLegal blocks (all_placed p trace blocks answers)
 all-legal strategy p trace [] [] spells are = tt

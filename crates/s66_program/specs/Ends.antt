@@ -3,6 +3,7 @@ use Rattle.std.specs.Prelude.{◌≡◌, ◌≢◌, ◌⊎◌, ℕ, List, ◌++�
 use Rattle.std.specs.declared.io.ErrorKind.{ErrorKind}
 use Rattle.std.specs.declared.io.ErrorKind.TheVariants as kind
 use Rattle.s66_device.specs.Devices.{IsUntouched, WriteFails, Writer, Writes}
+use Rattle.s66_answer.specs.StatusCode.{status_code}
 use Rattle.s66_program.specs.declared.fault.Fault.{Fault}
 use Rattle.s66_program.specs.declared.fault.Fault.TheVariants.{Memory, Profile, Write}
 use Rattle.s66_program.specs.declared.remark.Ended.{Ended}
@@ -12,7 +13,6 @@ use Rattle.s66_command.specs.Usage.{usage_code}
 use Rattle.s66_program.specs.Device.{Tells}
 use Rattle.s66_program.specs.Hints.{hint_of}
 use Rattle.s66_program.specs.Fault.{fault_code, fault_line}
-use Rattle.s66_output.specs.StatusCode.{status_code}
 use Rattle.s66_program.specs.Remarks.{IsTold, remark_text}
 
 -- the line of a fault was printed, and the status is the fault's

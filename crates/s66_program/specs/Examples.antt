@@ -8,7 +8,7 @@ use Rattle.s66_source.specs.Source.{blocks_of, classed_lines}
 use Rattle.s66_model.specs.Leaves.{Chain}
 use Rattle.s66_model.specs.Tree.{Alone}
 use Rattle.s66_model.specs.DominatedLeaves.{Bounding}
-use Rattle.s66_output.specs.Answers.{Answer}
+use Rattle.s66_answer.specs.Answers.{Answer}
 
 abbrev pub one_load_source : List ℕ
 one_load_source = codes "  SA1 A1+B1\n" ++ codes "  BX6 X1\n" ++ codes "  BX7 X2\n"

@@ -9,9 +9,9 @@ use Rattle.s66_source.specs.Source.{source_of}
 use Rattle.s66_cert.specs.Faults.{IsFault}
 use Rattle.s66_command.specs.declared.command.Command.{Command}
 use Rattle.s66_command.specs.CommandParts.{profile_text}
+use Rattle.s66_answer.specs.declared.outcome.Status.{Status}
 use Rattle.s66_program.specs.declared.fault.Fault.{Fault}
 use Rattle.s66_program.specs.declared.fault.Fault.TheVariants as fault
-use Rattle.s66_output.specs.declared.outcome.Status.{Status}
 use Rattle.s66_program.specs.declared.remark.Ended.{Ended}
 use Rattle.s66_program.specs.Device.{ReadFails, ReadsAll, ReadsSome}
 use Rattle.s66_program.specs.Output.{IsOutput, IsUnder, profile_asked, reads_documents, reads_source, reads_two, source_in}

@@ -1,13 +1,13 @@
 ghost use Rattle.std.specs.Prelude.{◌≡◌, if◌then◌else◌, Bool, IfOk, IfErr};
 ghost use Rattle.s66_compare.specs.Compared.{IsCompared};
-ghost use Rattle.s66_output.specs.declared.outcome.Status.TheVariants.{Denied, Done};
+ghost use Rattle.s66_answer.specs.declared.outcome.Status.TheVariants.{Denied, Done};
 ghost use Rattle.s66_program.specs.Comparing.{IsCompareRefusal, IsNewRefusal};
-ghost use Rattle.s66_program.specs.Output.{IsCompareOutput};
+ghost use Rattle.s66_program.specs.CompareText.{IsCompareOutput};
 
 use crate::fault::Fault;
+use s66_answer::{Output, Status};
 use s66_compare::{Compared, compare};
 use s66_isa::Profile;
-use s66_output::{Output, Status};
 use s66_source::{Source, halves_of, read_source_with};
 use std::alloc::{AllocError, Global};
 
@@ -43,7 +43,7 @@ fn read_new(alloc: Global, cut: bool, text: &[u8]) -> Result<Source<'_>, Fault>
 }
 
 /// What is written of the two sources of an input under a profile, or why these were refused.
-pub fn compare_output(
+pub(crate) fn compare_output(
     alloc: Global,
     cut: bool,
     profile: &Profile,

@@ -23,16 +23,16 @@ ghost use Rattle.s66_checker.specs.declared.verdict.Verdict.TheVariants.{Yes};
 ghost use Rattle.s66_checker.specs.TrueClaims.{IsTrueClaim};
 ghost use Rattle.s66_checker.specs.Verdict as checker;
 ghost use Rattle.s66_checker.specs.Verdict.{verdict};
+ghost use Rattle.s66_answer.specs.declared.outcome.Status.{Status};
+ghost use Rattle.s66_answer.specs.declared.outcome.Status.TheVariants.{Done, Denied};
+ghost use Rattle.s66_answer.specs.Answers.{Answer, IsAnswer, document_under, problem_of};
 ghost use Rattle.s66_program.specs.declared.limits.TheConstants.{SOURCE_FRONT};
-ghost use Rattle.s66_output.specs.declared.outcome.Status.{Status};
-ghost use Rattle.s66_output.specs.declared.outcome.Status.TheVariants.{Done, Denied};
-ghost use Rattle.s66_output.specs.CheckText.{IsCheckOutput, verdict_lines, verdicts_status};
-ghost use Rattle.s66_output.specs.CheckedAnswers.{AreYesLines, yes_lines};
+ghost use Rattle.s66_program.specs.CheckText.{IsCheckOutput, verdict_lines, verdicts_status};
+ghost use Rattle.s66_program.specs.CheckedAnswers.{AreYesLines, yes_lines};
 ghost use Rattle.s66_program.specs.Examples.{blocks_in, one_load_answer, one_load_ordered, one_load_source};
-ghost use Rattle.s66_output.specs.Answers.{Answer, IsAnswer, document_under, problem_of};
-ghost use Rattle.s66_output.specs.OrderText.{IsOrderOutput, all_placed};
-ghost use Rattle.s66_output.specs.OrderedAgain.{TakePrintedTimes, written_time};
-ghost use Rattle.s66_output.specs.ProveText.{IsProveOutput, all_documents};
+ghost use Rattle.s66_program.specs.OrderText.{IsOrderOutput, all_placed};
+ghost use Rattle.s66_program.specs.OrderedAgain.{TakePrintedTimes, written_time};
+ghost use Rattle.s66_program.specs.ProveText.{IsProveOutput, all_documents};
 
 /// A text of at least `SOURCE_FRONT` bytes is refused as a source, for the same whatever follows.
 pub fn front_law()

@@ -1,32 +1,37 @@
 //! The program but for its process: what is read for a command, and what is written.
 #![tactic(auto)]
 
-mod answered;
-mod answers;
+mod best_reasons;
+mod block_head;
+mod chart_text;
+mod check_text;
 mod compare_text;
-mod documents;
+mod deps_text;
 mod examples;
 mod fault;
 mod hint;
-mod kept;
+mod json_text;
 mod laws;
 mod limits;
+mod lint_text;
+mod listing;
+mod moved;
 mod order_laws;
 mod order_text;
 mod output;
 mod page_text;
-mod parts;
 mod program;
 mod progress;
+mod prove_text;
 mod reading;
 mod remark;
 mod run;
-mod share;
 mod sum_text;
 mod telling;
-mod turns;
+mod time_text;
+mod why_text;
+mod words;
 
-pub use documents::document_of;
 pub use examples::remark_examples;
 pub use fault::Fault;
 pub use laws::{
@@ -39,10 +44,9 @@ pub use program::run_program;
 pub use progress::Progress;
 pub use remark::{Ended, Remark};
 pub use run::{run_command, run_observed};
+pub use s66_answer::{Observer, Silent, Status, Task, document_of, make_each};
 pub use s66_command::{
     Asked, Command, NODES_DEFAULT, OrderStyle, Strategy, SumStyle, Usage, VERSION, WORKERS_DEFAULT,
     command_of, goes_deep,
 };
-pub use s66_output::{Observer, Silent, Status};
 pub use telling::refuse_words;
-pub use turns::{Task, make_each};

@@ -6,14 +6,14 @@ ghost use Rattle.s66_compare.specs.Compared.{IsCompared};
 ghost use Rattle.s66_isa.specs.declared.profile.Profile.{Profile};
 ghost use Rattle.s66_line.specs.Block.{Block};
 ghost use Rattle.s66_model.specs.declared.limits.TheConstants.{BUDGET_LIMIT};
-ghost use Rattle.s66_output.specs.declared.outcome.Status.{Status};
-ghost use Rattle.s66_output.specs.declared.outcome.Status.TheVariants.{Done};
-ghost use Rattle.s66_program.specs.Output.{IsCompareOutput};
+ghost use Rattle.s66_answer.specs.declared.outcome.Status.{Status};
+ghost use Rattle.s66_answer.specs.declared.outcome.Status.TheVariants.{Done};
+ghost use Rattle.s66_program.specs.CompareText.{IsCompareOutput};
 ghost use Rattle.s66_source.specs.Halves.{Halves, halves_of};
 ghost use Rattle.s66_source.specs.LeftAlone.{Reading};
 ghost use Rattle.s66_source.specs.Source.{source_of};
-ghost use Rattle.s66_output.specs.OrderText.{IsOrderOutput};
-ghost use Rattle.s66_output.specs.Reports.{ReportsBlocks};
+ghost use Rattle.s66_program.specs.OrderText.{IsOrderOutput};
+ghost use Rattle.s66_program.specs.Reports.{ReportsBlocks};
 
 /// What `order` wrote for a source has in the place of each block its instructions in a legal order, after a line that tells what this
 /// order takes. If the line ends in BEST, no legal order of the block takes less; if in AT LEAST and a number, none takes less than that.

@@ -1,17 +1,91 @@
 ghost use Rattle.std.specs.Prelude.{◌≡◌, IfOk};
-ghost use Rattle.s66_output.specs.KeptText.{IsKeptOutput, IsOrdered, columns_by};
-ghost use Rattle.s66_output.specs.OrderText.{IsOrderOutput};
-ghost use Rattle.s66_program.specs.Output.{IsSearchWithin};
+ghost use Rattle.s66_isa.specs.declared.profile.Profile.{Profile as ProfileOf};
+ghost use Rattle.s66_line.specs.Block.{Block as BlockOf};
+ghost use Rattle.s66_command.specs.declared.strategy.Strategy.{Strategy as StrategyOf};
+ghost use Rattle.s66_answer.specs.SearchWithin.{IsSearchWithin};
+ghost use Rattle.s66_answer.specs.Stored.{IsFor, answer_in};
+ghost use Rattle.s66_program.specs.OrderText.{IsKeptOutput, IsOrderOutput, IsOrdered, columns_by, given_by, given_part, placed_by, placed_part, rise_from};
 
-use crate::answered::keep_answers;
-use crate::parts::{Givings, Placings};
+use arrayvec::ArrayVec;
+use s66_answer::{BlockAnswer, Found, Keep, Observer, Output, blocks_before, keep_answers};
 use s66_command::{OrderStyle, Strategy};
 use s66_isa::Profile;
-use s66_output::{Observer, Output, blocks_before};
-use s66_source::{Columns, Source, print_keeping, print_source};
+use s66_source::{Columns, Placed, Source, print_keeping, print_source};
 use std::alloc::AllocError;
 use std::sync::Wait;
 use std::thread::Threads;
+
+/// How an answer's block is to be printed.
+fn placing(answer: &Found, trace: bool) -> Placed
+    ensures { (strategy : StrategyOf) (p : ProfileOf) (block : BlockOf) → IsFor strategy p block answer.now →
+        result ≡ placed_by p trace block (answer_in answer.now) }
+{
+    let Ok(order) = ArrayVec::try_from(answer.order().numbers()) else {
+        unreachable!()
+    };
+    Placed {
+        order,
+        source: answer.source(),
+        time: answer.time(),
+        bound: answer.bound(),
+        splits: if trace { Some(answer.splits()) } else { None },
+    }
+}
+
+/// How blocks are to be printed.
+#[derive(Drop)]
+pub(crate) struct Placings {
+    pub trace: bool,
+}
+
+impl Keep<Placed> for Placings {
+    ghost part = { λ placings strategy p. placed_part p placings.trace };
+
+    fn keep(&self, parts: &mut Vec<Placed>, answer: BlockAnswer) -> Result<(), AllocError> {
+        parts.push(placing(&answer.found, self.trace))?;
+        Ok(())
+    }
+}
+
+/// Whether an order's numbers are those from 1 on, one after the other, as in the source.
+fn keeps_order(order: &[u8]) -> bool
+    ensures { result ≡ rise_from 1 order.now }
+{
+    for (i, number) in order.iter().enumerate() {
+        if *number as usize != i + 1 {
+            return false;
+        }
+    }
+    true
+}
+
+/// How an answer's block is to be printed, or `None` if it stands.
+fn given(answer: &Found, style: OrderStyle) -> Option<Placed>
+    ensures { (strategy : StrategyOf) (p : ProfileOf) (block : BlockOf) → IsFor strategy p block answer.now →
+        result ≡ given_by p style block (answer_in answer.now) }
+{
+    let placed = placing(answer, style.trace);
+    if style.keep && keeps_order(placed.order.as_slice()) {
+        None
+    } else {
+        Some(placed)
+    }
+}
+
+/// How blocks are to be printed, some of which stand.
+#[derive(Drop)]
+struct Givings {
+    style: OrderStyle,
+}
+
+impl Keep<Option<Placed>> for Givings {
+    ghost part = { λ givings strategy p. given_part p givings.style };
+
+    fn keep(&self, parts: &mut Vec<Option<Placed>>, answer: BlockAnswer) -> Result<(), AllocError> {
+        parts.push(given(&answer.found, self.style))?;
+        Ok(())
+    }
+}
 
 /// In which columns the operations of a block stand that is put in order.
 fn columns_by(own: bool) -> Columns
@@ -29,7 +103,7 @@ fn order_output<R: AllocGlobal + Threads + Wait + Sync, O: Observer>(
     trace: bool,
     observer: &mut O,
 ) -> Result<Output, AllocError>
-    requires { IsSearchWithin strategy.search.workers strategy.search.nodes }
+    requires { IsSearchWithin strategy.search }
     ensures { IfOk result (λ output.
         IsOrderOutput strategy profile.now trace source.now output.text.items output.status) }
 {
@@ -52,13 +126,10 @@ fn kept_output<R: AllocGlobal + Threads + Wait + Sync, O: Observer>(
     style: OrderStyle,
     observer: &mut O,
 ) -> Result<Output, AllocError>
-    requires { IsSearchWithin strategy.search.workers strategy.search.nodes }
+    requires { IsSearchWithin strategy.search }
     ensures { IfOk result (λ output. IsKeptOutput strategy profile.now style only source.now output.text.items output.status) }
 {
-    let givings = Givings {
-        trace: style.trace,
-        keep: style.keep,
-    };
+    let givings = Givings { style };
     let all = keep_answers(rt, &givings, source, only, profile, strategy, observer)?;
     Ok(Output {
         text: print_keeping(
@@ -74,7 +145,7 @@ fn kept_output<R: AllocGlobal + Threads + Wait + Sync, O: Observer>(
 }
 
 /// A source with its blocks in the best orders that a search finds under a profile, printed in this way.
-pub fn ordered_output<R: AllocGlobal + Threads + Wait + Sync, O: Observer>(
+pub(crate) fn ordered_output<R: AllocGlobal + Threads + Wait + Sync, O: Observer>(
     rt: &R,
     source: &Source,
     only: Option<u32>,
@@ -83,7 +154,7 @@ pub fn ordered_output<R: AllocGlobal + Threads + Wait + Sync, O: Observer>(
     style: OrderStyle,
     observer: &mut O,
 ) -> Result<Output, AllocError>
-    requires { IsSearchWithin strategy.search.workers strategy.search.nodes }
+    requires { IsSearchWithin strategy.search }
     ensures { IfOk result (λ output. IsOrdered strategy profile.now style only source.now output.text.items output.status) }
 {
     if style.keep || style.quiet || only.is_some() {

@@ -1,22 +1,46 @@
 ghost use Rattle.std.specs.Prelude.{IfOk};
-ghost use Rattle.s66_program.specs.Output.{IsSearchWithin};
-ghost use Rattle.s66_output.specs.PageText.{IsPageOutput};
+ghost use Rattle.s66_answer.specs.SearchWithin.{IsSearchWithin};
+ghost use Rattle.s66_program.specs.PageText.{IsPageOutput, found_part};
 
-use crate::answered::keep_answers;
-use crate::parts::Views;
+use crate::best_reasons::push_best_reasons;
+use s66_answer::{BlockAnswer, Keep, Observer, Output, blocks_before, keep_answers, shown};
 use s66_command::Strategy;
 use s66_isa::Profile;
-use s66_output::{Observer, Output, blocks_before, shown};
-use s66_page::push_page;
+use s66_page::{FoundOrder, push_page};
 use s66_source::Source;
 use s66_time::Timer;
 use std::alloc::AllocError;
 use std::sync::Wait;
 use std::thread::Threads;
 
+/// What a page shows of blocks beside their source orders.
+#[derive(Drop)]
+struct Views;
+
+impl Keep<FoundOrder> for Views {
+    ghost part = { λ _. found_part };
+
+    fn prints_documents(&self) -> bool {
+        true
+    }
+
+    fn keep(&self, parts: &mut Vec<FoundOrder>, answer: BlockAnswer) -> Result<(), AllocError> {
+        let order = answer.found.order().duplicate();
+        let bound = answer.found.bound();
+        let mut reasons = Vec::new(answer.alloc);
+        push_best_reasons(&mut reasons, answer)?;
+        parts.push(FoundOrder {
+            order,
+            bound,
+            reasons,
+        })?;
+        Ok(())
+    }
+}
+
 /// A page that shows each block of a source, or the only one that is printed, as it was written and in the best order that a search
 /// finds under a profile.
-pub fn page_output<R: AllocGlobal + Threads + Wait + Sync, O: Observer>(
+pub(crate) fn page_output<R: AllocGlobal + Threads + Wait + Sync, O: Observer>(
     rt: &R,
     source: &Source,
     only: Option<u32>,
@@ -24,7 +48,7 @@ pub fn page_output<R: AllocGlobal + Threads + Wait + Sync, O: Observer>(
     strategy: Strategy,
     observer: &mut O,
 ) -> Result<Output, AllocError>
-    requires { IsSearchWithin strategy.search.workers strategy.search.nodes }
+    requires { IsSearchWithin strategy.search }
     ensures { IfOk result (λ output.
         IsPageOutput strategy profile.now only source.now output.text.items output.status) }
 {

@@ -3,9 +3,9 @@ ghost use Rattle.s66_program.specs.Program.{IsRun};
 
 use crate::run::run_observed;
 use crate::telling::{show_usage, tell_end, tell_failure};
+use s66_answer::Observer;
 use s66_command::command_of;
 use s66_device::{Feed, Sink};
-use s66_output::Observer;
 use std::convert::AsStr;
 use std::sync::Wait;
 use std::thread::Threads;

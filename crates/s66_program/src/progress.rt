@@ -1,4 +1,4 @@
-use s66_output::Observer;
+use s66_answer::Observer;
 use std::io::Write;
 use std::time::{Clock, Duration, Instant};
 

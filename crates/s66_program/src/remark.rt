@@ -6,9 +6,9 @@ ghost use Rattle.s66_program.specs.Remarks.{IsCount, IsRemark, block_line, has_n
 use crate::limits::REMARK_ROOM;
 use arrayvec::ArrayString;
 use itoa::Buffer;
+use s66_answer::{Output, Status};
 use s66_command::Command;
 use s66_lint::count_findings;
-use s66_output::{Output, Status};
 use s66_source::Source;
 use std::alloc::{AllocError, Global};
 

@@ -1,6 +1,6 @@
 ghost use Rattle.std.specs.Prelude.{◌≡◌, ◌-◌, ◌^◌, ◌<◌, ◌++◌, Err, IfOk, codes, option_map, string_bytes};
 ghost use Rattle.s66_command.specs.ProfileHint.{hint_in_text};
-ghost use Rattle.s66_output.specs.StatusCode.{status_code};
+ghost use Rattle.s66_answer.specs.StatusCode.{status_code};
 ghost use Rattle.std.specs.IoError.{error_kind};
 ghost use Rattle.s66_program.specs.Device.{Tells};
 ghost use Rattle.s66_program.specs.Ends.{EndsAt, EndsBy, EndsWith, LacksWords, ShowsUsage};

@@ -1,5 +1,6 @@
 ghost use Rattle.std.specs.Prelude.{◌≡◌};
-ghost use Rattle.s66_program.specs.Output.{IsSearchWithin, IsWithinLimits};
+ghost use Rattle.s66_answer.specs.SearchWithin.{IsSearchWithin};
+ghost use Rattle.s66_program.specs.Output.{IsWithinLimits};
 
 use s66_device::{OverRead, OverWrite};
 use s66_model::{Options, Rule};
@@ -46,8 +47,8 @@ pub fn plain(asked: Asked) -> Command<'static>
 
 /// A search by workers, of at most so many splits, by a rule.
 fn search_by(workers: u8, nodes: u32, rule: Rule) -> Strategy
-    requires { IsSearchWithin workers nodes }
-    ensures { IsSearchWithin result.search.workers result.search.nodes }
+    requires { IsSearchWithin (record { workers = workers; nodes = nodes; rule = rule }) }
+    ensures { IsSearchWithin result.search }
 {
     Strategy {
         search: Options {
@@ -61,7 +62,7 @@ fn search_by(workers: u8, nodes: u32, rule: Rule) -> Strategy
 
 /// `order --trace` by such a search.
 pub fn order_by(workers: u8, nodes: u32, rule: Rule) -> Command<'static>
-    requires { IsSearchWithin workers nodes }
+    requires { IsSearchWithin (record { workers = workers; nodes = nodes; rule = rule }) }
     ensures { IsWithinLimits result }
 {
     let style = TRACED;
@@ -71,7 +72,7 @@ pub fn order_by(workers: u8, nodes: u32, rule: Rule) -> Command<'static>
 
 /// `prove` by such a search.
 pub fn prove_by(workers: u8, nodes: u32, rule: Rule) -> Command<'static>
-    requires { IsSearchWithin workers nodes }
+    requires { IsSearchWithin (record { workers = workers; nodes = nodes; rule = rule }) }
     ensures { IsWithinLimits result }
 {
     let strategy = search_by(workers, nodes, rule);

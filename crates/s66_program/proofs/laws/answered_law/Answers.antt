@@ -1,6 +1,6 @@
 use Rattle.std.proofs.Common.{arith}
-use Rattle.s66_output.proofs.AnswerVerdicts.{spelled-block}
-use Rattle.s66_output.proofs.Answered.{answer-alone, answer-bound, answer-few, answer-legal, answer-spent, answer-time}
+use Rattle.s66_answer.proofs.AnswerVerdicts.{spelled-block}
+use Rattle.s66_answer.proofs.EveryAnswer.{answer-alone, answer-bound, answer-few, answer-legal, answer-spent, answer-time}
 use Rattle.s66_program.proofs.laws.answered_law.Goals as goal
 
 pub returns-clause-legal : goal.returns-clause-legal

@@ -1,5 +1,5 @@
 use Rattle.std.proofs.Common.{arith}
-use Rattle.s66_output.proofs.CheckedAnswers.{checked-alone, checked-yes}
+use Rattle.s66_program.proofs.CheckedAnswers.{checked-alone, checked-yes}
 use Rattle.s66_program.proofs.laws.checked_law.Goals as goal
 
 pub returns-clause-yes : goal.returns-clause-yes

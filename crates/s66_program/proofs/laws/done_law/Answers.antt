@@ -9,8 +9,8 @@ use Rattle.s66_checker.specs.declared.verdict.Verdict.TheVariants.{Yes, No}
 use Rattle.s66_checker.specs.TrueClaims.{IsTrueClaim}
 use Rattle.s66_checker.specs.Verdict.{verdict}
 use Rattle.s66_checker.proofs.GrantedClaims.{verdict-claims, claim-bound}
-use Rattle.s66_output.specs.declared.outcome.Status.TheVariants.{Done, Denied}
-use Rattle.s66_output.specs.CheckText.{is_yes}
+use Rattle.s66_answer.specs.declared.outcome.Status.TheVariants.{Done, Denied}
+use Rattle.s66_program.specs.CheckText.{is_yes}
 use Rattle.s66_program.proofs.laws.done_law.Goals as goal
 
 of-them : (ds : List Document) (d : Document) → AreDocumentsWithin BLOCK_LIMIT SPLIT_LIMIT ds → Among d ds → IsDocumentWithin BLOCK_LIMIT SPLIT_LIMIT d

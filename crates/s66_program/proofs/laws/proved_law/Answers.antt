@@ -1,6 +1,6 @@
 use Rattle.std.proofs.Common.{arith}
-use Rattle.s66_output.proofs.AnswerVerdicts.{same-problem, spelled-block}
-use Rattle.s66_output.proofs.Answered.{answer-document, answer-verdict}
+use Rattle.s66_answer.proofs.AnswerVerdicts.{same-problem, spelled-block}
+use Rattle.s66_answer.proofs.EveryAnswer.{answer-document, answer-verdict}
 use Rattle.s66_program.proofs.laws.proved_law.Goals as goal
 
 pub returns-clause-same : goal.returns-clause-same

@@ -1,5 +1,5 @@
 use Rattle.std.proofs.Common.{arith}
-use Rattle.s66_output.proofs.Reports.{blocks-reported}
+use Rattle.s66_program.proofs.Reports.{blocks-reported}
 use Rattle.s66_program.proofs.order_laws.reported_law.Goals as goal
 
 pub returns : goal.returns

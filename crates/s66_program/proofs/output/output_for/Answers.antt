@@ -1,7 +1,8 @@
 use Rattle.std.proofs.Common.{subst, sym}
 use Rattle.s66_command.specs.declared.command.Asked.{Asked}
-use Rattle.s66_output.specs.declared.outcome.Output.{Output}
-use Rattle.s66_program.specs.Output.{IsAskedOutput, IsCompareOutput, source_in}
+use Rattle.s66_answer.specs.declared.outcome.Output.{Output}
+use Rattle.s66_program.specs.Output.{IsAskedOutput, source_in}
+use Rattle.s66_program.specs.CompareText.{IsCompareOutput}
 use Rattle.s66_program.proofs.output.output_for.Goals as goal
 
 pub returns-in_ok-check_output-in-Check-clause-remark : goal.returns-in_ok-check_output-in-Check-clause-remark

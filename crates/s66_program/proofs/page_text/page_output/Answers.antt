@@ -7,15 +7,15 @@ use Rattle.s66_source.specs.LeftAlone.{Reading}
 use Rattle.s66_source.specs.declared.limits.TheConstants.{SOURCE_LINES_LIMIT}
 use Rattle.s66_source.specs.Source.{source_of}
 use Rattle.s66_command.specs.declared.strategy.Strategy.{Strategy}
-use Rattle.s66_output.specs.declared.outcome.Status.{Status}
-use Rattle.s66_output.specs.Answers.{Answer, AreAnswers}
-use Rattle.s66_output.specs.OfAnswers.{status_of}
-use Rattle.s66_output.specs.PageText.{all_found}
-use Rattle.s66_output.specs.Shown.{before, shown}
-use Rattle.s66_output.proofs.FoundAnswers.{found-of}
+use Rattle.s66_answer.specs.declared.outcome.Status.{Status}
+use Rattle.s66_answer.specs.Answers.{Answer, AreAnswers}
+use Rattle.s66_answer.specs.OfAnswers.{status_of}
+use Rattle.s66_answer.specs.Shown.{before, shown}
+use Rattle.s66_answer.specs.Kept.{AreAnswered}
+use Rattle.s66_answer.proofs.KeptParts.{kept-whole, of-read}
+use Rattle.s66_program.specs.PageText.{all_found, found_part}
+use Rattle.s66_program.proofs.FoundAnswers.{found-of}
 use Rattle.s66_source.proofs.FewBlocks.{few-blocks}
-use Rattle.s66_program.specs.Kept.{AreAnswered, found_part}
-use Rattle.s66_program.proofs.KeptParts.{kept-whole, of-read}
 use Rattle.s66_program.proofs.page_text.page_output.Goals as goal
 
 few-one : (blocks : List Block) → length (take 1 blocks) ≤ 1

@@ -6,26 +6,25 @@ use Rattle.s66_source.specs.declared.limits.TheConstants.{SOURCE_LINES_LIMIT}
 use Rattle.s66_source.specs.Printed.{ArePlaced, Placed}
 use Rattle.s66_source.specs.Source.{source_of}
 use Rattle.s66_command.specs.declared.strategy.Strategy.{Strategy}
-use Rattle.s66_output.specs.declared.outcome.Status.{Status}
-use Rattle.s66_output.specs.declared.sum_rows.Row.{Row}
-use Rattle.s66_output.specs.Answers.{Answer, AreAnswers}
-use Rattle.s66_output.specs.OfAnswers.{status_of}
-use Rattle.s66_output.specs.OrderText.{all_placed}
-use Rattle.s66_output.specs.Shown.{before, shown}
-use Rattle.s66_output.specs.SumRows.{AreNumbered}
-use Rattle.s66_output.specs.SumText.{IsSumText, rows_of}
-use Rattle.s66_output.proofs.PlacedAnswers.{all-within}
-use Rattle.s66_output.proofs.SumRows.{few-rows, length-placed, rows-numbered}
-use Rattle.s66_program.specs.Kept.{AreAnswered, placed_part}
-use Rattle.s66_program.proofs.KeptParts.{kept-whole, of-read}
+use Rattle.s66_answer.specs.declared.outcome.Status.{Status}
+use Rattle.s66_answer.specs.Answers.{Answer, AreAnswers}
+use Rattle.s66_answer.specs.OfAnswers.{status_of}
+use Rattle.s66_answer.specs.Shown.{before, shown}
+use Rattle.s66_answer.specs.Kept.{AreAnswered}
+use Rattle.s66_answer.proofs.KeptParts.{kept-whole, of-read}
+use Rattle.s66_program.specs.declared.sum_text.Row.{Row}
+use Rattle.s66_program.specs.OrderText.{all_placed, placed_part}
+use Rattle.s66_program.specs.SumText.{AreNumbered, IsSumText, rows_of}
+use Rattle.s66_program.proofs.PlacedAnswers.{all-within}
+use Rattle.s66_program.proofs.SumRows.{few-rows, length-placed, rows-numbered}
 use Rattle.s66_program.proofs.sum_text.sum_output.Goals as goal
 
 module _ (strategy : Strategy) (p : Profile) (trace : Bool) (only : Option ℕ) (source : Reading) (status : Status) (blocks : List Block) (ps : List Placed)
-    (read : source_of source ≡ Ok blocks) (kept : AreAnswered (placed_part trace p) strategy p only source ps status) where
+    (read : source_of source ≡ Ok blocks) (kept : AreAnswered (placed_part p trace) strategy p only source ps status) where
   placed : (answers : List Answer) × AreAnswers strategy p (shown only blocks) answers × (ps ≡ all_placed p trace (shown only blocks) answers) × (status ≡ status_of answers)
   placed =
       of-read (λ bs answers. ps ≡ all_placed p trace bs answers) strategy p only source status blocks read
-      (kept-whole (placed_part trace p) strategy p (λ n. all_placed p trace) (λ n. refl) (λ n b bs a more. refl) only source ps status kept)
+      (kept-whole (placed_part p trace) strategy p (λ n. all_placed p trace) (λ n. refl) (λ n b bs a more. refl) only source ps status kept)
 
   placed-shown : ArePlaced (shown only blocks) ps
   placed-shown =

@@ -1,0 +1,9 @@
+mod AnswerDocuments
+pub mod AnswerVerdicts
+pub mod EveryAnswer
+pub mod BlockTexts
+mod ByFacts
+mod FactDocuments
+pub mod KeptParts
+mod Places
+mod SearchAnswers

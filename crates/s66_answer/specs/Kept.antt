@@ -1,0 +1,42 @@
+-- Used by contracts: what is kept of answers to blocks, a part of each, one after the other.
+use Rattle.std.specs.Prelude.{ℕ, ◌+◌, ◌≡◌, ◌==◌, ◌&&◌, Bool, true, List, [], ◌∷◌, ◌++◌, Option, slice_index_or}
+use Rattle.s66_isa.specs.declared.profile.Profile.{Profile}
+use Rattle.s66_line.specs.Block.{Block}
+use Rattle.s66_source.specs.LeftAlone.{Reading}
+use Rattle.s66_command.specs.declared.strategy.Strategy.{Strategy}
+use Rattle.s66_answer.specs.Answers.{Answer, AreAnswers, IsAnswer}
+use Rattle.s66_answer.specs.declared.outcome.Status.{Status}
+use Rattle.s66_answer.specs.OfAnswers.{IsOfAnswers, all_best, all_parts}
+use Rattle.s66_answer.specs.Shown.{before}
+use Rattle.s66_answer.specs.declared.kept.Kept.{Kept}
+
+-- WHAT IS KEPT
+
+-- the part of an answer to the n-th block was appended, and the answer is best or not
+abbrev pub IsKept : {X : Type 0} → (ℕ → Block → Answer → List X) → Strategy → Profile → ℕ → Block → (old new : List X) → Bool → Type 0
+IsKept part strategy p n block old new best = (a : Answer) × IsAnswer strategy p block a × (new ≡ old ++ part n block a) × (best ≡ (a.bound == a.time))
+
+-- these are the parts of answers to the blocks, before which n come, and all answers are best or not
+abbrev pub AreKept : {X : Type 0} → (ℕ → Block → Answer → List X) → Strategy → Profile → ℕ → List Block → List X → Bool → Type 0
+AreKept part strategy p n blocks kept best =
+    (answers : List Answer) × AreAnswers strategy p blocks answers × (kept ≡ all_parts part n blocks answers) × (best ≡ all_best answers)
+
+-- and of the blocks of a source that are shown, with the status of the answers
+abbrev pub AreAnswered : {X : Type 0} → (ℕ → Block → Answer → List X) → Strategy → Profile → (only : Option ℕ) (source : Reading) → List X → Status → Type 0
+AreAnswered part strategy p only source parts status =
+    IsOfAnswers (λ blocks answers. parts ≡ all_parts part (before only) blocks answers) strategy p only source status
+
+-- EACH BY ITSELF
+
+-- it was kept of the block at a place of these, before which n come
+abbrev pub IsKeptAt : {X : Type 0} → (ℕ → Block → Answer → List X) → Strategy → Profile → ℕ → List Block → ℕ → Kept X → Type 0
+IsKeptAt part strategy p n blocks i kept = (d : Block) → IsKept part strategy p (n + i + 1) (slice_index_or blocks i d) [] kept.parts.items kept.all_best
+
+-- what was kept of each, one after the other
+abbrev pub parts_in : {X : Type 0} → List (Kept X) → List X
+parts_in [] = []
+parts_in (kept ∷ each) = kept.parts.items ++ parts_in each
+
+abbrev pub are_best : {X : Type 0} → List (Kept X) → Bool
+are_best [] = true
+are_best (kept ∷ each) = kept.all_best && are_best each

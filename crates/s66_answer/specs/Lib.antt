@@ -1,0 +1,9 @@
+pub mod StatusCode
+pub mod Shown
+pub mod SearchWithin
+pub mod Answers
+pub mod OfAnswers
+pub mod ProvedAnswers
+pub mod Stored
+pub mod Turns
+pub mod Kept

@@ -1,0 +1,94 @@
+-- Used by contracts: an answer as code stores it.
+use Rattle.std.specs.Prelude.{ℕ, ◌*◌, ◌≡◌, ◌≤◌, ◌⊎◌, false, List, Some}
+use Rattle.s66_isa.specs.declared.limits.TheConstants.{BLOCK_LIMIT}
+use Rattle.s66_isa.specs.Table.{entries}
+use Rattle.s66_isa.specs.declared.profile.Profile.{Profile}
+use Rattle.s66_line.specs.Block.{instrs_of, Block}
+use Rattle.s66_model.specs.declared.rule.Rule.TheVariants.{ClampedStanding}
+use Rattle.s66_model.specs.Answer.{source_time}
+use Rattle.s66_model.specs.Tree.{splits}
+use Rattle.s66_ledger.specs.Answers.{AnswerOf, answer_of}
+use Rattle.s66_ledger.specs.Ledgers.{LedgerOf}
+use Rattle.s66_cert.specs.Document.{IsDocument}
+use Rattle.s66_cert.specs.DocumentParts.{Parts, document_of, tree_of_lines}
+use Rattle.s66_cert.specs.Evidence.{EvidenceOf}
+use Rattle.s66_checker.specs.declared.verdict.Verdict.TheVariants.{Yes}
+use Rattle.s66_checker.specs.Verdict.{verdict}
+use Rattle.s66_command.specs.declared.strategy.Strategy.{Strategy}
+use Rattle.s66_answer.specs.declared.answers.Found.{Found}
+use Rattle.s66_answer.specs.declared.answers.Found.TheVariants.{Searched, Shown}
+use Rattle.s66_answer.specs.declared.answers.ByFacts.{ByFacts}
+use Rattle.s66_answer.specs.declared.answers.Candidate.{Candidate}
+use Rattle.s66_answer.specs.Answers.{Answer, AreAll, IsAnswer, document_under, problem_of, searched, texts_of}
+
+-- A SEARCH of the block's orders for an answer
+
+abbrev pub IsSearchOf : Strategy → Profile → Block → LedgerOf → Type 0
+IsSearchOf strategy p block l = (l.rule ≡ strategy.search.rule) × (l.problem ≡ problem_of p block) × (l.budget ≡ strategy.search.nodes)
+
+-- splits that other searches made beside it
+abbrev pub AreBeside : Strategy → ℕ → Type 0
+AreBeside strategy n = (2 * n ≤ 5 * strategy.search.nodes) × (strategy.deep ≡ false → n ≡ 0)
+
+-- FACT LINES
+
+-- the document of an order that takes this time, and of what is to show a bound
+abbrev pub parts_by : Profile → Block → (order : List ℕ) (time : ℕ) → EvidenceOf → Parts
+parts_by p block order time e =
+    record {
+      rule = ClampedStanding;
+      facts = Some e.lines;
+      profile = entries p;
+      block = texts_of block;
+      time = time;
+      bound = e.bound;
+      numbers = order;
+      vertices = e.vertices;
+    }
+
+-- it passes the checker
+pub record IsAccepted (d : Parts) : Type 0 where
+  pub document : IsDocument BLOCK_LIMIT (document_of d)
+  pub yes : verdict (document_of d) ≡ Yes d.time d.bound
+
+-- ANSWERS
+
+-- what a document claims, after so many splits
+abbrev pub claimed_by : Parts → ℕ → Answer
+claimed_by d splits = record { order = d.numbers; time = d.time; bound = d.bound; splits = splits; facts = d.facts; tree = (document_of d).tree }
+
+abbrev pub claimed : ByFacts → Answer
+claimed s = claimed_by s.document s.splits
+
+abbrev pub answer_in : Found → Answer
+answer_in (Searched s) = record (searched (answer_of s.answer)) { splits = s.splits }
+answer_in (Shown s) = claimed s
+
+-- an answer with this candidate's order, by a document that has this evidence and passes the checker
+pub record IsShownBy (p : Profile) (block : Block) (c : Candidate) (e : EvidenceOf) (s : ByFacts) : Type 0 where
+  pub document : s.document ≡ parts_by p block c.order.numbers c.time e
+  pub accepted : IsAccepted s.document
+  pub order : s.order ≡ c.order
+  pub source : s.source ≡ c.source
+  pub splits : s.splits ≡ c.splits
+
+-- an answer to the block, with its document, which passes the checker, and its order
+pub record IsClaimed (strategy : Strategy) (p : Profile) (block : Block) (s : ByFacts) : Type 0 where
+  pub answer : IsAnswer strategy p block (claimed s)
+  pub document : document_of s.document ≡ document_under strategy.search.rule p block (claimed s)
+  pub accepted : IsAccepted s.document
+  pub order : s.order ≡ record { block = instrs_of block; numbers = s.document.numbers }
+  pub source : s.source ≡ source_time (problem_of p block)
+
+-- of a search of this block
+abbrev pub IsFound : Strategy → Profile → Block → AnswerOf → Type 0
+IsFound strategy p block found = (found.rule ≡ strategy.search.rule) × (found.problem ≡ problem_of p block) × (found.budget ≡ strategy.search.nodes)
+
+abbrev pub IsFor : Strategy → Profile → Block → Found → Type 0
+IsFor strategy p block (Searched s) = IsFound strategy p block s.answer × AreAll strategy (answer_of s.answer).splits s.splits
+IsFor strategy p block (Shown s) = IsClaimed strategy p block s
+
+-- facts show that the answer's order is best, by a tree of no more splits than a search may have, or as much of the answer as its
+-- search did
+abbrev pub IsWorth : (nodes : ℕ) → AnswerOf → EvidenceOf → Type 0
+IsWorth nodes found e = ((e.bound ≡ (answer_of found).time) × (splits (tree_of_lines e.vertices) ≤ nodes)) ⊎ ((answer_of found).bound ≤ e.bound)

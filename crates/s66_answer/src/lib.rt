@@ -1,0 +1,22 @@
+//! What is answered for a block, and for the blocks of a source; of each answer only what is asked for is kept.
+#![tactic(auto)]
+
+mod answered;
+mod answers;
+mod block_texts;
+mod documents;
+mod kept;
+mod observer;
+mod outcome;
+mod selection;
+mod share;
+mod turns;
+
+pub use answered::{Answered, keep_answers, text_of_answers};
+pub use answers::Found;
+pub use documents::document_of;
+pub use kept::{BlockAnswer, Keep};
+pub use observer::{Observer, Silent};
+pub use outcome::{Output, Status};
+pub use selection::{blocks_before, shown};
+pub use turns::{Task, make_each};

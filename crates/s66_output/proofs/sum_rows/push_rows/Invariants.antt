@@ -1,6 +1,0 @@
-use Rattle.std.proofs.Common.{◌≡◌, ◌++◌, drop}
-use Rattle.s66_output.specs.SumText.{row_lines}
-use Rattle.s66_output.proofs.sum_rows.push_rows.Given as goal
-
-abbrev pub invariant-loop-row : goal.invariant-loop-row
-invariant-loop-row l = l.out.items ++ row_lines l.words (drop l.row-index l.rows) ≡ l.fn.out.items ++ row_lines l.words l.rows

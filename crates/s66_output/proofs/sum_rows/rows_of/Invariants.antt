@@ -1,6 +1,0 @@
-use Rattle.std.proofs.Common.{◌≡◌, ◌+◌, ◌++◌, drop}
-use Rattle.s66_output.specs.SumText.{rows_of}
-use Rattle.s66_output.proofs.sum_rows.rows_of.Given as goal
-
-abbrev pub invariant-loop-i : goal.invariant-loop-i
-invariant-loop-i l = l.rows.items ++ rows_of (l.before + l.i) (drop l.i l.blocks) (drop l.i l.found) ≡ rows_of l.before l.blocks l.found

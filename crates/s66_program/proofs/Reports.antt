@@ -1,0 +1,170 @@
+-- What the line of a report says by its bytes: if it ends in BEST, it is of an answer that is best, and no other bound is read in it than the answer's.
+use Rattle.std.proofs.Common.{ℕ, suc, ◌^◌, ◌≡◌, ◌≤◌, ◌<◌, ◌==◌, ◌∙◌, Bool, true, false, if◌then◌else◌, List, [], ◌∷◌, ◌++◌, length, Some, None, codes, refl, sym, ap, subst, arith, inl, inr, append_assoc, eqb, leb, leb-true}
+use Rattle.std.specs.Prelude.{◌⊎◌, decimal}
+use Rattle.std.proofs.lemmas.Bool.{and_parts, eqb-true, not-true}
+use Rattle.std.proofs.lemmas.List.{append-nil}
+use Rattle.s66_isa.specs.Lists.{Among, every}
+use Rattle.s66_isa.specs.declared.profile.Profile.{Profile}
+use Rattle.s66_line.specs.Block.{Block}
+use Rattle.s66_line.proofs.Wholes.{every-append, is_inside}
+use Rattle.s66_model.specs.Answer.{source_time}
+use Rattle.s66_model.specs.BestAndBound.{IsBound}
+use Rattle.s66_model.specs.Timing.{Problem, total_of}
+use Rattle.s66_model.proofs.Growth.{total-le}
+use Rattle.s66_cert.specs.Lines.{is_digit, value_after}
+use Rattle.s66_cert.specs.declared.limits.TheConstants.{SPLIT_LIMIT}
+use Rattle.s66_cert.proofs.NumberTexts.{decimal-clear, decimal-digits, decimal-value, is_other}
+use Rattle.s66_command.specs.declared.strategy.Strategy.{Strategy}
+use Rattle.s66_answer.specs.declared.outcome.Status.{Status}
+use Rattle.s66_source.specs.LeftAlone.{Reading}
+use Rattle.s66_source.specs.Merged.{block_texts}
+use Rattle.s66_source.specs.Printed.{Placed, block_text, bound_text, instruction_lines, notes_text, splits_line, times_text}
+use Rattle.s66_source.specs.Source.{Line, classed_lines}
+use Rattle.s66_source.proofs.MergedLines.{printed-merged}
+use Rattle.s66_source.proofs.ReadComments.{inside-decimal, inside-times}
+use Rattle.s66_answer.specs.Answers.{Answer, AreAnswers, IsAnswer, problem_of}
+use Rattle.s66_answer.specs.ProvedAnswers.{IsSpelledBlock}
+use Rattle.s66_answer.proofs.AnswerVerdicts.{spelled-block}
+use Rattle.s66_answer.proofs.EveryAnswer.{answer-bound, answer-legal, answer-time}
+use Rattle.s66_program.specs.OrderText.{IsOrderOutput, all_placed, placed_by}
+use Rattle.s66_program.specs.Reports.{AreReported, EndsIn, IsReported, ReportsBlocks}
+use Rattle.s66_program.proofs.PlacedAnswers.{all-within}
+
+-- THE LAST BYTE
+
+abbrev last_of : ℕ → List ℕ → ℕ
+last_of d [] = d
+last_of d (b ∷ bytes) = last_of b bytes
+
+last_of-append : (d : ℕ) (xs ys : List ℕ) → last_of d (xs ++ ys) ≡ last_of (last_of d xs) ys
+last_of-append d [] ys = refl
+last_of-append d (x ∷ xs) ys = last_of-append x xs ys
+
+last-digit : (d : ℕ) (ds : List ℕ) → d < 58 → every is_digit ds ≡ true → last_of d ds < 58
+last-digit d [] below h = below
+last-digit d (e ∷ ds) below h =
+    let both = and_parts (is_digit e) (every is_digit ds) h in
+    let range = and_parts (leb 48 e) (leb e 57) both.0 in
+    last-digit e ds (omega (arith, leb-true e 57 range.1)) both.1
+
+-- a number doesn't end in a letter
+best-no_number : (xs ys : List ℕ) (n : ℕ) → n < 2 ^ 64 → xs ++ codes " BEST" ≡ ys ++ (codes " AT LEAST " ++ decimal n) → ⊥
+best-no_number xs ys n fits same =
+    let ends : 84 ≡ last_of 32 (decimal n) = sym (last_of-append 0 xs (codes " BEST")) ∙ ap (last_of 0) same ∙ last_of-append 0 ys (codes " AT LEAST " ++ decimal n) in
+    omega (arith, ends, last-digit 32 (decimal n) (omega arith) (decimal-digits n fits))
+
+-- THE LAST WORD, after the last blank
+
+abbrev last_word : List ℕ → List ℕ → List ℕ
+last_word word [] = word
+last_word word (b ∷ bytes) = last_word (if eqb b 32 then [] else word ++ b ∷ []) bytes
+
+last_word-append : (word xs ys : List ℕ) → last_word word (xs ++ ys) ≡ last_word (last_word word xs) ys
+last_word-append word [] ys = refl
+last_word-append word (x ∷ xs) ys = last_word-append (if eqb x 32 then [] else word ++ x ∷ []) xs ys
+
+last_word-clear : (word bytes : List ℕ) → every (is_other 32) bytes ≡ true → last_word word bytes ≡ word ++ bytes
+last_word-clear word [] h = sym (append-nil word)
+last_word-clear word (b ∷ bytes) h =
+    let both = and_parts (is_other 32 b) (every (is_other 32) bytes) h in
+    let other : eqb b 32 ≡ false = not-true (eqb b 32) both.0 in
+    rw other (last_word-clear (word ++ b ∷ []) bytes both.1 ∙ append_assoc word (b ∷ []) bytes)
+
+number-word : (front : List ℕ) (n : ℕ) → n < 2 ^ 64 → last_word [] (front ++ (codes " AT LEAST " ++ decimal n)) ≡ decimal n
+number-word front n fits =
+    last_word-append [] front (codes " AT LEAST " ++ decimal n) ∙ last_word-clear [] (decimal n) (decimal-clear 32 n (λ range. absurd (omega (arith, range.0))) fits)
+
+same-number : (xs ys : List ℕ) (m n : ℕ) → m < 2 ^ 64 → n < 2 ^ 64 → xs ++ (codes " AT LEAST " ++ decimal m) ≡ ys ++ (codes " AT LEAST " ++ decimal n) → m ≡ n
+same-number xs ys m n fits within same =
+    let words : decimal m ≡ decimal n = sym (number-word xs m fits) ∙ ap (last_word []) same ∙ number-word ys n within in
+    sym (decimal-value m fits) ∙ ap (value_after 0) words ∙ decimal-value n within
+
+-- THE LINE of an answer, by whether it is best
+
+abbrev ending : Bool → ℕ → List ℕ
+ending true bound = codes " BEST"
+ending false bound = codes " AT LEAST " ++ decimal bound
+
+abbrev after_blank : Bool → ℕ → List ℕ
+after_blank true bound = codes "BEST"
+after_blank false bound = codes "AT LEAST " ++ decimal bound
+
+ending-inside : (best : Bool) (bound : ℕ) → every is_inside (ending best bound) ≡ true
+ending-inside true bound = refl
+ending-inside false bound = every-append is_inside (codes " AT LEAST ") (decimal bound) refl (inside-decimal bound)
+
+ending-blank : (best : Bool) (bound : ℕ) (front : List ℕ) → front ++ ending best bound ≡ (front ++ codes " ") ++ after_blank best bound
+ending-blank true bound front = sym (append_assoc front (codes " ") (codes "BEST"))
+ending-blank false bound front = sym (append_assoc front (codes " ") (codes "AT LEAST " ++ decimal bound))
+
+bound-line : (front : List ℕ) (p : Placed) → front ++ bound_text p ≡ (front ++ ending (p.bound == p.time) p.bound) ++ codes "\n"
+bound-line front p =
+    elim (p.bound == p.time) as (λ t. front ++ (if t then codes " BEST\n" else (codes " AT LEAST " ++ decimal p.bound ++ codes "\n")) ≡ (front ++ ending t p.bound) ++ codes "\n") [
+      | true ↦ sym (append_assoc front (codes " BEST") (codes "\n"))
+      | false ↦ sym (append_assoc front (codes " AT LEAST " ++ decimal p.bound) (codes "\n"))
+    ]
+
+ending-either : (best : Bool) (front : List ℕ) (bound : ℕ) → bound < 2 ^ 64 →
+    EndsIn (front ++ ending best bound) (codes " BEST") ⊎ ((n : ℕ) × (n < 2 ^ 64) × EndsIn (front ++ ending best bound) (codes " AT LEAST " ++ decimal n))
+ending-either true front bound fits = inl (front, refl)
+ending-either false front bound fits = inr (bound, fits, (front, refl))
+
+-- that the line ends so says that the answer is best, or that this is its bound
+best-read : (best : Bool) (front : List ℕ) (bound : ℕ) → bound < 2 ^ 64 → EndsIn (front ++ ending best bound) (codes " BEST") → best ≡ true
+best-read true front bound fits ends = refl
+best-read false front bound fits (before, ends) = absurd (best-no_number before front bound fits (sym ends))
+
+least-read : (best : Bool) (front : List ℕ) (bound n : ℕ) → bound < 2 ^ 64 → n < 2 ^ 64 → EndsIn (front ++ ending best bound) (codes " AT LEAST " ++ decimal n) → bound ≡ n
+least-read true front bound n fits within (before, ends) = absurd (best-no_number front before n within ends)
+least-read false front bound n fits within (before, ends) = same-number front before bound n fits within ends
+
+-- A BLOCK
+
+block-reported : (strategy : Strategy) (p : Profile) (trace : Bool) (all : List Line) (n : ℕ) (block : Block) (a : Answer) → IsSpelledBlock block → strategy.search.nodes ≤ SPLIT_LIMIT → IsAnswer strategy p block a →
+    IsReported p trace all n block (block_text all n block (placed_by p trace block a))
+block-reported strategy p trace all n block a spelled within is =
+    let b : Problem = problem_of p block in
+    let legal = answer-legal strategy p block a is in
+    let time : a.time ≡ total_of b a.order = answer-time strategy p block a is in
+    let bound : IsBound b a.bound = answer-bound strategy p block a spelled within is in
+    let small : a.time < 2 ^ 64 = omega (arith, time, total-le b a.order, legal.whole, spelled.1) in
+    let fits : a.bound < 2 ^ 64 = omega (arith, bound a.order legal, time, small) in
+    let front : List ℕ = times_text n (length block.entries) (source_time b) a.time in
+    let best : Bool = a.bound == a.time in
+    record {
+      line = front ++ ending best a.bound;
+      splits = a.splits;
+      order = a.order;
+      whole = ap (λ head. head ++ splits_line (if trace then Some a.splits else None) ++ notes_text block all ++ instruction_lines block block.label a.order) (bound-line front (placed_by p trace block a));
+      legal = legal;
+      one = every-append is_inside front (ending best a.bound) (inside-times n (length block.entries) (source_time b) a.time) (ending-inside best a.bound);
+      times = (after_blank best a.bound, ending-blank best a.bound front ∙ ap (λ t. times_text n (length block.entries) (source_time b) t ++ codes " " ++ after_blank best a.bound) time);
+      ends = ending-either best front a.bound fits;
+      best = λ ends. subst (IsBound b) (eqb-true a.bound a.time (best-read best front a.bound fits ends) ∙ time) bound;
+      least = λ k small ends. subst (IsBound b) (least-read best front a.bound k fits small ends) bound;
+    }
+
+-- ALL BLOCKS
+
+all-reported : (strategy : Strategy) (p : Profile) (trace : Bool) (all : List Line) (n : ℕ) (blocks : List Block) (answers : List Answer) → ((block : Block) → Among block blocks → IsSpelledBlock block) →
+    strategy.search.nodes ≤ SPLIT_LIMIT → AreAnswers strategy p blocks answers → AreReported p trace all n blocks (block_texts all n blocks (all_placed p trace blocks answers))
+all-reported strategy p trace all n [] [] spelled within are = tt
+all-reported strategy p trace all n [] (a ∷ answers) spelled within are = absurd are
+all-reported strategy p trace all n (block ∷ blocks) [] spelled within are = absurd are
+all-reported strategy p trace all n (block ∷ blocks) (a ∷ answers) spelled within are = (
+  block-reported strategy p trace all n block a (spelled block (inl refl)) within are.0,
+  all-reported strategy p trace all (suc n) blocks answers (λ other among. spelled other (inr among)) within are.1,
+)
+
+pub blocks-reported : (strategy : Strategy) (p : Profile) (trace : Bool) (source : Reading) (text : List ℕ) (status : Status) → strategy.search.nodes ≤ SPLIT_LIMIT → IsOrderOutput strategy p trace source text status → ReportsBlocks p trace source text
+blocks-reported strategy p trace source text status within (blocks, accepted, (answers, are, is, ends)) =
+    let all : List Line = classed_lines source in
+    let ps : List Placed = all_placed p trace blocks answers in (
+      blocks,
+      accepted,
+      (
+        block_texts all 1 blocks ps,
+        is ∙ printed-merged source blocks ps accepted (all-within strategy p trace blocks answers are),
+        all-reported strategy p trace all 1 blocks answers (spelled-block source blocks accepted) within are,
+      ),
+    )

@@ -1,0 +1,10 @@
+use Rattle.std.proofs.Common.{IfOk, Option, subst, sym}
+use Rattle.s66_command.specs.declared.strategy.Strategy.{Strategy}
+use Rattle.s66_answer.specs.declared.outcome.Output.{Output}
+use Rattle.s66_program.specs.JsonText.{IsJsonOutput}
+use Rattle.s66_program.proofs.json_text.json_output.Goals as goal
+
+pub returns-in-Some : goal.returns-in-Some
+returns-in-Some g c =
+    subst (λ (order : Option Strategy). IfOk c.text_of_answers.result (λ (output : Output). IsJsonOutput c.args.profile.now order c.args.only c.args.source.now output.text.items output.status)) (sym c.in-Some.is)
+    c.text_of_answers.ensures

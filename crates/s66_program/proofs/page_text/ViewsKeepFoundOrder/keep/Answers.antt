@@ -1,0 +1,18 @@
+use Rattle.std.proofs.Common.{ℕ, ◌≡◌, ◌∙◌, ◌++◌, List, [], ◌∷◌, ap, ap₂}
+use Rattle.s66_dep.specs.Ordered.{Ordered}
+use Rattle.s66_line.specs.Block.{instrs_of}
+use Rattle.s66_page.specs.FoundOrders.{FoundOrder}
+use Rattle.s66_answer.specs.Stored.{answer_in}
+use Rattle.s66_program.specs.BestReasons.{best_reasons}
+use Rattle.s66_program.proofs.page_text.ViewsKeepFoundOrder.keep.Goals as goal
+
+pub returns : goal.returns
+returns c =
+    let block = c.args.answer.block.now in
+    let a = answer_in c.args.answer.found in
+    let order : c.duplicate-order.result ≡ record { block = instrs_of block; numbers = a.order } = c.duplicate-order.ensures ∙ c.order.ensures c.args.answer.strategy c.args.answer.profile.now block c.requires in
+    let best = best_reasons c.args.answer.strategy.search.rule c.args.answer.profile.now block a in
+    let reasons : c.push_best_reasons.new.out.items ≡ best = c.in_ok-push_best_reasons.ensures ∙ ap (λ xs. xs ++ best) c.new-reasons.ensures.items in
+    let kept : Ordered → ℕ → List ℕ → List FoundOrder = λ o n xs. c.args.parts.now.items ++ record { order = o; bound = n; reasons = xs } ∷ [] in
+    c.in_ok-push.ensures.items ∙ ap₂ (λ (o : Ordered) (n : ℕ). kept o n c.push_best_reasons.new.out.items) order c.bound-bound.ensures
+    ∙ ap (kept (record { block = instrs_of block; numbers = a.order }) a.bound) reasons

@@ -1,0 +1,40 @@
+-- To be believed: what `deps` writes of a source, and how it ends: for each block a line, and a line for each instruction that
+-- depends on some.
+use Rattle.std.specs.Prelude.{ℕ, List, [], ◌∷◌, ◌++◌, length, Option, codes, decimal}
+use Rattle.s66_isa.specs.declared.instr.Instr.{Instr}
+use Rattle.s66_isa.specs.Lists.{after_blanks, weigh}
+use Rattle.s66_isa.specs.Table.{numbers}
+use Rattle.s66_model.specs.Dependence.{needs, all_needs}
+use Rattle.s66_line.specs.Block.{instrs_of, Block}
+use Rattle.s66_source.specs.LeftAlone.{Reading}
+use Rattle.s66_answer.specs.declared.outcome.Status.{Status}
+use Rattle.s66_program.specs.BlockHead.{block_head}
+use Rattle.s66_program.specs.Listing.{IsListing}
+
+-- how many pairs of instructions depend
+abbrev pub dependences_in : List Instr → ℕ
+dependences_in block = weigh (λ (ns : List ℕ). length ns) (all_needs block)
+
+-- the line of the n-th block, from 1
+abbrev pub deps_line : ℕ → Block → List ℕ
+deps_line n block =
+    block_head n block ++ codes " COUNT " ++ decimal (length (instrs_of block))
+    ++ codes " DEPENDENCES " ++ decimal (dependences_in (instrs_of block)) ++ codes "\n"
+
+-- the line of an instruction, by the numbers on which it depends
+abbrev pub needs_line : ℕ → List ℕ → List ℕ
+needs_line n [] = []
+needs_line n (m ∷ ms) = decimal n ++ codes " AFTER" ++ after_blanks (m ∷ ms) ++ codes "\n"
+
+-- the lines of the instructions of these numbers
+abbrev pub needs_lines : List Instr → List ℕ → List ℕ
+needs_lines block [] = []
+needs_lines block (n ∷ ns) = needs_line n (needs block n) ++ needs_lines block ns
+
+-- the lines of the n-th block, from 1
+abbrev pub deps_lines : ℕ → Block → List ℕ
+deps_lines n block = deps_line n block ++ needs_lines (instrs_of block) (numbers (instrs_of block))
+
+-- the lines of the blocks that are shown
+abbrev pub IsDepsOutput : (only : Option ℕ) (source : Reading) (text : List ℕ) → Status → Type 0
+IsDepsOutput only source text status = IsListing deps_lines only source text status

@@ -1,0 +1,78 @@
+-- To be believed: what `order` writes for a source, and how it ends: for each block an answer, of which there may be several. With
+-- `--keep`, `--quiet` or `--block` some blocks stand, or no report is printed.
+use Rattle.std.specs.Prelude.{ℕ, suc, ◌≡◌, ◌==◌, ◌&&◌, ◌||◌, if◌then◌else◌, Bool, true, false, List, [], ◌∷◌, ◌++◌, Option, Some, None, replicate}
+use Rattle.std.specs.Option.{is_some}
+use Rattle.s66_isa.specs.declared.profile.Profile.{Profile}
+use Rattle.s66_line.specs.Block.{Block}
+use Rattle.s66_source.specs.LeftAlone.{Reading}
+use Rattle.s66_source.specs.Printed.{Placed, printed}
+use Rattle.s66_source.specs.Replaced.{printed_in}
+use Rattle.s66_source.specs.declared.columns.Columns.{Columns}
+use Rattle.s66_source.specs.declared.columns.Columns.TheVariants.{Own, Usual}
+use Rattle.s66_model.specs.Answer.{source_time}
+use Rattle.s66_command.specs.declared.command.OrderStyle.{OrderStyle}
+use Rattle.s66_command.specs.declared.strategy.Strategy.{Strategy}
+use Rattle.s66_answer.specs.Answers.{Answer, problem_of}
+use Rattle.s66_answer.specs.OfAnswers.{IsOfAnswers}
+use Rattle.s66_answer.specs.Shown.{before}
+use Rattle.s66_answer.specs.declared.outcome.Status.{Status}
+
+-- EACH BLOCK IN ORDER
+
+-- a block in the order of its answer; with the trace its splits are printed
+abbrev pub placed_by : Profile → Bool → Block → Answer → Placed
+placed_by p trace block a =
+    record { order = a.order; source = source_time (problem_of p block); time = a.time; bound = a.bound; splits = if trace then Some a.splits else None }
+
+abbrev pub all_placed : Profile → Bool → List Block → List Answer → List Placed
+all_placed p trace (block ∷ blocks) (a ∷ answers) = placed_by p trace block a ∷ all_placed p trace blocks answers
+all_placed p trace blocks answers = []
+
+-- what is kept of an answer to the n-th block, from 1
+abbrev pub placed_part : Profile → (trace : Bool) → ℕ → Block → Answer → List Placed
+placed_part p trace n block a = placed_by p trace block a ∷ []
+
+-- the source printed in the orders of answers to its blocks
+abbrev pub IsOrderOutput : Strategy → Profile → (trace : Bool) (source : Reading) (text : List ℕ) → Status → Type 0
+IsOrderOutput strategy p trace source text status =
+    IsOfAnswers (λ blocks answers. text ≡ printed source (all_placed p trace blocks answers)) strategy p None source status
+
+-- WHERE SOME BLOCKS STAND
+
+-- the numbers are those from n on, one after the other
+abbrev pub rise_from : ℕ → List ℕ → Bool
+rise_from n [] = true
+rise_from n (m ∷ ms) = m == n && rise_from (suc n) ms
+
+-- how a block is printed by its answer; with `--keep` it stands if its order is the source's
+abbrev pub given_by : Profile → OrderStyle → Block → Answer → Option Placed
+given_by p style block a = if style.keep && rise_from 1 a.order then None else Some (placed_by p style.trace block a)
+
+abbrev pub all_given : Profile → OrderStyle → List Block → List Answer → List (Option Placed)
+all_given p style (block ∷ blocks) (a ∷ answers) = given_by p style block a ∷ all_given p style blocks answers
+all_given p style blocks answers = []
+
+-- what is kept of an answer to the n-th block, from 1
+abbrev pub given_part : Profile → OrderStyle → ℕ → Block → Answer → List (Option Placed)
+given_part p style n block a = given_by p style block a ∷ []
+
+-- in which columns the operations of a block stand that is put in order, with `--columns` or without it
+abbrev pub columns_by : Bool → Columns
+columns_by own = if own then Own else Usual
+
+-- the source printed by answers to the blocks that are shown, all other blocks of which stand
+abbrev pub IsKeptOutput : Strategy → Profile → OrderStyle → (only : Option ℕ) (source : Reading) (text : List ℕ) → Status → Type 0
+IsKeptOutput strategy p style only source text status =
+    IsOfAnswers (λ blocks answers. text ≡ printed_in style.quiet (columns_by style.columns) source (replicate (before only) None ++ all_given p style blocks answers)) strategy p only source status
+
+-- one of the options is there
+abbrev pub is_other : OrderStyle → Option ℕ → Bool
+is_other style only = style.keep || (style.quiet || is_some only)
+
+abbrev pub IsOrderedBy : Bool → Strategy → Profile → OrderStyle → (only : Option ℕ) (source : Reading) (text : List ℕ) → Status → Type 0
+IsOrderedBy true strategy p style only source text status = IsKeptOutput strategy p style only source text status
+IsOrderedBy false strategy p style only source text status = IsOrderOutput strategy p style.trace source text status
+
+-- what `order` writes with these options or without them
+abbrev pub IsOrdered : Strategy → Profile → OrderStyle → (only : Option ℕ) (source : Reading) (text : List ℕ) → Status → Type 0
+IsOrdered strategy p style only source text status = IsOrderedBy (is_other style only) strategy p style only source text status

@@ -1,0 +1,117 @@
+-- To be believed: what `sum` writes for a source, and how it ends. There is a row for each block, those first whose orders save
+-- most time, what all blocks take, and how many instructions their orders move, for answers of searches as those of `order`. With the trace each line has its splits, and with
+-- `--words` the words that a block takes.
+use Rattle.std.specs.Prelude.{ℕ, ◌+◌, ◌-◌, ◌≡◌, ◌≤◌, ◌<◌, ◌⊎◌, ◌==◌, if◌then◌else◌, Bool, List, [], ◌∷◌, ◌++◌, Option, None, Some, IsPermutation, codes, decimal, length, slice_index_or, unwrap_or}
+use Rattle.s66_isa.specs.Lists.{tally, weigh}
+use Rattle.s66_isa.specs.Table.{numbers}
+use Rattle.s66_isa.specs.declared.profile.Profile.{Profile}
+use Rattle.s66_line.specs.Block.{instrs_of, line_of, Block}
+use Rattle.s66_source.specs.Printed.{Placed}
+use Rattle.s66_source.specs.LeftAlone.{Reading}
+use Rattle.s66_command.specs.declared.command.SumStyle.{SumStyle}
+use Rattle.s66_command.specs.declared.strategy.Strategy.{Strategy}
+use Rattle.s66_answer.specs.OfAnswers.{IsOfAnswers}
+use Rattle.s66_answer.specs.Shown.{before, shown}
+use Rattle.s66_answer.specs.declared.outcome.Status.{Status}
+use Rattle.s66_program.specs.Moved.{moved}
+use Rattle.s66_program.specs.Words.{words_of}
+use Rattle.s66_program.specs.OrderText.{all_placed}
+use Rattle.s66_program.specs.declared.sum_text.Row.{Row}
+
+-- ROWS
+
+-- of the n-th block, from 1, as `order` prints it
+abbrev pub row_of : ℕ → Block → Placed → Row
+row_of n block p =
+    record {
+      number = n;
+      line = line_of block 1;
+      count = length (instrs_of block);
+      source = p.source;
+      time = p.time;
+      saved = p.source - p.time;
+      bound = p.bound;
+      moved = moved p.order;
+      splits = p.splits;
+      source_words = words_of (instrs_of block) (numbers (instrs_of block));
+      words = words_of (instrs_of block) p.order;
+    }
+
+-- of these blocks, before which n come
+abbrev pub rows_of : ℕ → List Block → List Placed → List Row
+rows_of n (block ∷ blocks) (p ∷ ps) = row_of (n + 1) block p ∷ rows_of (n + 1) blocks ps
+rows_of n blocks ps = []
+
+-- in the order of their blocks
+abbrev pub AreNumbered : List Row → Type 0
+AreNumbered rows = (k : ℕ) (d : Row) → k + 1 < length rows → (slice_index_or rows k d).number ≤ (slice_index_or rows (k + 1) d).number
+
+abbrev pub is_best : Row → Bool
+is_best r = r.bound == r.time
+
+-- the first saves more, or as much with a number that is no greater
+abbrev pub MayPrecede : Row → Row → Type 0
+MayPrecede r s = (s.saved < r.saved) ⊎ ((s.saved ≡ r.saved) × (r.number ≤ s.number))
+
+abbrev pub AreInOrder : List Row → Type 0
+AreInOrder rows = (k : ℕ) (d : Row) → k + 1 < length rows → MayPrecede (slice_index_or rows k d) (slice_index_or rows (k + 1) d)
+
+-- THE TEXT
+
+abbrev pub bound_text : Row → List ℕ
+bound_text r = if is_best r then codes " BEST" else (codes " AT LEAST " ++ decimal r.bound)
+
+-- how many splits there are, if that is to be printed
+abbrev pub splits_text : Option ℕ → List ℕ
+splits_text None = []
+splits_text (Some splits) = codes " SPLITS " ++ decimal splits
+
+-- how many words are taken as written and as ordered, if that is to be printed
+abbrev pub words_text : Bool → (source found : ℕ) → List ℕ
+words_text shown source found = if shown then (codes " WORDS " ++ decimal source ++ codes " FOUND " ++ decimal found) else []
+
+-- the end of a line: how many instructions the orders move, those splits and those words
+abbrev pub line_end : (words : Bool) (moved source found : ℕ) → Option ℕ → List ℕ
+line_end words moved source found splits =
+    codes " MOVED " ++ decimal moved ++ splits_text splits ++ words_text words source found ++ codes "\n"
+
+abbrev pub row_line : (words : Bool) → Row → List ℕ
+row_line words r =
+    codes "BLOCK " ++ decimal r.number ++ codes " LINE " ++ decimal r.line ++ codes " COUNT " ++ decimal r.count ++ codes " SOURCE "
+    ++ decimal r.source ++ codes " TIME " ++ decimal r.time ++ bound_text r
+    ++ line_end words r.moved r.source_words r.words r.splits
+
+abbrev pub row_lines : (words : Bool) → List Row → List ℕ
+row_lines words [] = []
+row_lines words (r ∷ rows) = row_line words r ++ row_lines words rows
+
+-- how many blocks there are, and what they take as written and as ordered
+abbrev pub total_times : (blocks source time : ℕ) → List ℕ
+total_times blocks source time = codes "TOTAL BLOCKS " ++ decimal blocks ++ codes " SOURCE " ++ decimal source ++ codes " TIME " ++ decimal time
+
+-- and how many orders are best, and the end of the line
+abbrev pub total_text : (blocks source time best : ℕ) (ending : List ℕ) → List ℕ
+total_text blocks source time best ending = total_times blocks source time ++ codes " BEST " ++ decimal best ++ ending
+
+-- the splits of a row
+abbrev pub splits_in : Row → ℕ
+splits_in r = unwrap_or r.splits 0
+
+-- of all rows, with the trace
+abbrev pub all_splits : Bool → List Row → Option ℕ
+all_splits trace rows = if trace then Some (weigh splits_in rows) else None
+
+abbrev pub total_line : SumStyle → List Row → List ℕ
+total_line style rows =
+    total_text (length rows) (weigh (λ (r : Row). r.source) rows) (weigh (λ (r : Row). r.time) rows) (tally is_best rows)
+    (line_end style.words (weigh (λ (r : Row). r.moved) rows) (weigh (λ (r : Row). r.source_words) rows) (weigh (λ (r : Row). r.words) rows) (all_splits style.trace rows))
+
+-- the rows in their order, and their sums
+abbrev pub IsSumText : SumStyle → (rows : List Row) (text : List ℕ) → Type 0
+IsSumText style rows text =
+    (ordered : List Row) × IsPermutation rows ordered × AreInOrder ordered × (text ≡ row_lines style.words ordered ++ total_line style rows)
+
+-- the rows of what `order` would print of the blocks that are shown
+abbrev pub IsSumOutput : Strategy → Profile → SumStyle → (only : Option ℕ) (source : Reading) (text : List ℕ) → Status → Type 0
+IsSumOutput strategy p style only source text status =
+    IsOfAnswers (λ blocks answers. IsSumText style (rows_of (before only) blocks (all_placed p style.trace blocks answers)) text) strategy p only source status

@@ -1,0 +1,86 @@
+ghost use Rattle.std.specs.Prelude.{◌≡◌, ◌++◌, IfOk, OnOk};
+ghost use Rattle.s66_why.specs.Chart.{chart_text};
+ghost use Rattle.s66_program.specs.ChartText.{IsChartOutput, chart_lines};
+
+use crate::block_head::push_timed_line;
+use crate::listing::{Listing, listing_output};
+use s66_answer::Output;
+use s66_dep::Order;
+use s66_device::OverWrite;
+use s66_isa::Profile;
+use s66_line::Block;
+use s66_source::Source;
+use s66_time::{Timed, Timer};
+use s66_why::{chart, push_text_chart};
+use std::alloc::{AllocError, Global};
+use std::mem;
+
+/// The chart of a timed order.
+fn push_chart(alloc: Global, out: &mut Vec<u8>, timed: &Timed) -> Result<(), AllocError>
+    ensures { OnOk result (out.new.items ≡ out.old.items ++ chart_text timed.now) }
+{
+    let mut page = OverWrite::new(mem::replace(out, Vec::new(alloc)));
+    let drawn = chart(timed, &mut page);
+    *out = page.into_inner();
+    match drawn {
+        Ok(()) => Ok(()),
+        Err(_) => Err(AllocError),
+    }
+}
+
+/// The lines of a block, whose number is from 1, under the timer's profile: its chart, with its texts or without.
+fn push_chart_lines(
+    alloc: Global,
+    out: &mut Vec<u8>,
+    timer: &mut Timer,
+    text: bool,
+    number: usize,
+    block: &Block,
+) -> Result<(), AllocError>
+    ensures profile { timer.new ≡ timer.old }
+    ensures lines { OnOk result (out.new.items ≡ out.old.items ++ chart_lines timer.old text number block.now) }
+{
+    let timed = timer.time(block, &Order::source(block));
+    push_timed_line(out, number, block, &timed)?;
+    if text {
+        push_text_chart(out, block, &timed)
+    } else {
+        push_chart(alloc, out, &timed)
+    }
+}
+
+/// The charts of blocks as they were written.
+#[derive(Drop)]
+struct Charts {
+    /// Whether each row comes after the text of its instruction.
+    text: bool,
+}
+
+impl Listing for Charts {
+    ghost lines = { λ charts p. chart_lines p charts.text };
+
+    fn push_lines(
+        &self,
+        alloc: Global,
+        out: &mut Vec<u8>,
+        timer: &mut Timer,
+        number: usize,
+        block: &Block,
+    ) -> Result<(), AllocError> {
+        push_chart_lines(alloc, out, timer, self.text, number, block)
+    }
+}
+
+/// A chart of each block of a source, or of the only one that is printed, with its texts or without. `Err` is out of memory.
+pub(crate) fn chart_output(
+    alloc: Global,
+    profile: &Profile,
+    text: bool,
+    only: Option<u32>,
+    source: &Source,
+) -> Result<Output, AllocError>
+    ensures { IfOk result (λ output.
+        IsChartOutput profile.now text only source.now output.text.items output.status) }
+{
+    listing_output(alloc, profile, &Charts { text }, only, source)
+}

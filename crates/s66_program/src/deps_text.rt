@@ -1,0 +1,131 @@
+ghost use Rattle.std.specs.Prelude.{ℕ, List, ◌≡◌, ◌≤◌, ◌++◌, length, IfOk, OnOk};
+ghost use Rattle.s66_isa.specs.declared.limits.TheConstants.{BLOCK_LIMIT};
+ghost use Rattle.s66_isa.specs.Lists.{after_blanks, weigh};
+ghost use Rattle.s66_isa.specs.Table.{numbers};
+ghost use Rattle.s66_line.specs.Block.{instrs_of};
+ghost use Rattle.s66_model.specs.Dependence.{all_needs};
+ghost use Rattle.s66_dep.specs.Members.{numbers_in};
+ghost use Rattle.s66_program.specs.DepsText.{IsDepsOutput, dependences_in, deps_line, needs_line, needs_lines, deps_lines};
+
+use crate::block_head::push_block_head;
+use crate::listing::{Listing, listing_output};
+use s66_answer::Output;
+use s66_dep::{Dependences, Set};
+use s66_device::push_field;
+use s66_isa::Profile;
+use s66_line::Block;
+use s66_source::Source;
+use s66_time::Timer;
+use std::alloc::{AllocError, Global};
+
+/// How many pairs depend in a block of `count` instructions.
+fn pairs(dependences: &Dependences, count: usize) -> u32
+    requires count { count ≡ length dependences.now }
+    requires few { count ≤ BLOCK_LIMIT }
+    ensures { result ≡ weigh (λ (ns : List ℕ). length ns) dependences.now }
+{
+    let mut sum = 0;
+    for position in 0..count {
+        sum += dependences.needs((position + 1) as u8).count();
+    }
+    sum
+}
+
+/// The line of a block, whose number is from 1.
+fn push_deps_line(
+    out: &mut Vec<u8>,
+    number: usize,
+    block: &Block,
+    pairs: u32,
+) -> Result<(), AllocError>
+    requires { pairs ≡ dependences_in (instrs_of block.now) }
+    ensures { OnOk result (out.new.items ≡ out.old.items ++ deps_line number block.now) }
+{
+    let count = block.count();
+    push_block_head(out, number, block)?;
+    push_field(out, b" COUNT ", count)?;
+    push_field(out, b" DEPENDENCES ", pairs as usize)?;
+    out.extend_from_slice(b"\n")
+}
+
+/// The numbers of a set, each after a blank.
+fn push_set(out: &mut Vec<u8>, set: &Set) -> Result<(), AllocError>
+    ensures { OnOk result (out.new.items ≡ out.old.items ++ after_blanks (numbers_in set.now)) }
+{
+    let mut rest = *set;
+    while let Some(number) = rest.pop_first() {
+        push_field(out, b" ", number as usize)?;
+    }
+    Ok(())
+}
+
+/// The line of an instruction, if it depends on some.
+fn push_needs_line(out: &mut Vec<u8>, number: usize, needs: &Set) -> Result<(), AllocError>
+    ensures { OnOk result (out.new.items ≡ out.old.items ++ needs_line number (numbers_in needs.now)) }
+{
+    if needs.count() == 0 {
+        return Ok(());
+    }
+    push_field(out, b"", number)?;
+    out.extend_from_slice(b" AFTER")?;
+    push_set(out, needs)?;
+    out.extend_from_slice(b"\n")
+}
+
+/// The lines of the instructions of a block that depend on some.
+fn push_needs_lines(
+    out: &mut Vec<u8>,
+    block: &Block,
+    dependences: &Dependences,
+) -> Result<(), AllocError>
+    requires { dependences.now ≡ all_needs (instrs_of block.now) }
+    ensures { OnOk result (out.new.items ≡ out.old.items ++
+        needs_lines (instrs_of block.now) (numbers (instrs_of block.now))) }
+{
+    for position in 0..block.count() {
+        let needs = dependences.needs((position + 1) as u8);
+        push_needs_line(out, position + 1, &needs)?;
+    }
+    Ok(())
+}
+
+/// The lines of a block, whose number is from 1.
+fn push_deps_lines(out: &mut Vec<u8>, number: usize, block: &Block) -> Result<(), AllocError>
+    ensures { OnOk result (out.new.items ≡ out.old.items ++ deps_lines number block.now) }
+{
+    let dependences = Dependences::of(block);
+    let pairs = pairs(&dependences, block.count());
+    push_deps_line(out, number, block, pairs)?;
+    push_needs_lines(out, block, &dependences)
+}
+
+/// On which instructions those of blocks depend.
+#[derive(Drop)]
+struct Needs;
+
+impl Listing for Needs {
+    ghost lines = { λ _ p. deps_lines };
+
+    fn push_lines(
+        &self,
+        _alloc: Global,
+        out: &mut Vec<u8>,
+        _timer: &mut Timer,
+        number: usize,
+        block: &Block,
+    ) -> Result<(), AllocError> {
+        push_deps_lines(out, number, block)
+    }
+}
+
+/// On which instructions those of each block of a source depend, or of the only one that is printed. `Err` is out of memory.
+pub(crate) fn deps_output(
+    alloc: Global,
+    profile: &Profile,
+    only: Option<u32>,
+    source: &Source,
+) -> Result<Output, AllocError>
+    ensures { IfOk result (λ output. IsDepsOutput only source.now output.text.items output.status) }
+{
+    listing_output(alloc, profile, &Needs, only, source)
+}

@@ -1,0 +1,115 @@
+ghost use Rattle.std.specs.Prelude.{◌≡◌, ◌++◌, IfOk, IfSome, OnOk};
+ghost use Rattle.s66_line.specs.Block.{instrs_of};
+ghost use Rattle.s66_json.specs.Json.{found_data, json_line};
+ghost use Rattle.s66_answer.specs.SearchWithin.{IsSearchWithin};
+ghost use Rattle.s66_program.specs.AsWritten.{as_written};
+ghost use Rattle.s66_program.specs.JsonText.{IsJsonOutput, answer_line, written_line};
+
+use crate::listing::{Listing, listing_output};
+use s66_answer::{BlockAnswer, Keep, Observer, Output, text_of_answers};
+use s66_command::Strategy;
+use s66_dep::Order;
+use s66_isa::Profile;
+use s66_json::{push_found_line, push_written_line};
+use s66_line::Block;
+use s66_source::Source;
+use s66_time::Timer;
+use std::alloc::{AllocError, Global};
+use std::sync::Wait;
+use std::thread::Threads;
+
+/// The line of a block, whose number is from 1, as it was written, under the timer's profile.
+fn push_json_line(
+    out: &mut Vec<u8>,
+    timer: &mut Timer,
+    number: usize,
+    block: &Block,
+) -> Result<(), AllocError>
+    ensures profile { timer.new ≡ timer.old }
+    ensures line { OnOk result (out.new.items ≡ out.old.items ++ written_line timer.old number block.now) }
+{
+    let written = timer.time(block, &Order::source(block));
+    push_written_line(out, number, block, &written)
+}
+
+/// The line of a block also in an order that was found by so many splits, when every order takes the bound at least.
+fn push_json_found(
+    out: &mut Vec<u8>,
+    timer: &mut Timer,
+    number: usize,
+    block: &Block,
+    order: &Order,
+    bound: u32,
+    splits: u32,
+) -> Result<(), AllocError>
+    requires { order.now.block ≡ instrs_of block.now }
+    ensures profile { timer.new ≡ timer.old }
+    ensures line { OnOk result (out.new.items ≡ out.old.items ++
+        json_line number block.now (as_written timer.old (instrs_of block.now))
+        (found_data
+        (record { problem = record { block = instrs_of block.now; profile = timer.old }; numbers = order.now.numbers })
+        bound splits)) }
+{
+    let written = timer.time(block, &Order::source(block));
+    let found = timer.time(block, order);
+    push_found_line(out, number, block, &written, &found, bound, splits)
+}
+
+/// The lines of JSON of blocks, as they were written, or also with the orders of answers.
+#[derive(Drop)]
+struct JsonLines;
+
+impl Listing for JsonLines {
+    ghost lines = { λ _. written_line };
+
+    fn push_lines(
+        &self,
+        _alloc: Global,
+        out: &mut Vec<u8>,
+        timer: &mut Timer,
+        number: usize,
+        block: &Block,
+    ) -> Result<(), AllocError> {
+        push_json_line(out, timer, number, block)
+    }
+}
+
+impl Keep<u8> for JsonLines {
+    ghost part = { λ _ strategy. answer_line };
+
+    fn keep(&self, parts: &mut Vec<u8>, answer: BlockAnswer) -> Result<(), AllocError> {
+        let mut timer = Timer::new(answer.profile);
+        let found = &answer.found;
+        push_json_found(
+            parts,
+            &mut timer,
+            answer.number,
+            answer.block,
+            found.order(),
+            found.bound(),
+            found.splits(),
+        )?;
+        Ok(())
+    }
+}
+
+/// A line of JSON for each block of a source, or for the only one that is printed: as it was written, or also in the best order that is
+/// found so.
+pub(crate) fn json_output<R: AllocGlobal + Threads + Wait + Sync, O: Observer>(
+    rt: &R,
+    source: &Source,
+    order: Option<Strategy>,
+    only: Option<u32>,
+    profile: &Profile,
+    observer: &mut O,
+) -> Result<Output, AllocError>
+    requires { IfSome order (λ strategy. IsSearchWithin strategy.search) }
+    ensures { IfOk result (λ output. IsJsonOutput profile.now order only source.now output.text.items output.status) }
+{
+    match order {
+        None => listing_output(rt.alloc(), profile, &JsonLines, only, source),
+        Some(strategy) => {
+            text_of_answers(rt, &JsonLines, source, only, profile, strategy, observer)
+        }
+    }
+}
