@@ -1,5 +1,5 @@
 -- What is kept of an input decides what becomes of it.
-use Rattle.std.proofs.Common.{◌≡◌, ◌≤◌, ℕ, Bool, true, false, List, ◌++◌, length, Option, None, Some, IfSome, Ok, Err, inl, inr, ap, sym, subst, ◌∙◌}
+use Rattle.std.proofs.Common.{◌≡◌, ◌≤◌, ℕ, Bool, true, false, true≢false, List, ◌++◌, length, Option, None, Some, IfSome, Ok, Err, inl, inr, refl, ap, sym, subst, ◌∙◌}
 use Rattle.std.proofs.lemmas.List.{append-nil}
 use Rattle.s66_isa.specs.declared.profile.Profile.{Profile}
 use Rattle.s66_line.specs.Block.{Block}
@@ -11,6 +11,9 @@ use Rattle.s66_command.specs.declared.command.Command.{Command}
 use Rattle.s66_command.specs.declared.command.OrderStyle.{OrderStyle}
 use Rattle.s66_command.specs.declared.command.Asked.{Asked}
 use Rattle.s66_command.specs.declared.command.Asked.TheVariants.{Time, Deps, Chart, Why, Page, Json, Order, Prove, Check, Lint, Sum, Compare}
+use Rattle.s66_command.specs.declared.command.Reads.{Reads}
+use Rattle.s66_command.specs.declared.command.Reads.TheVariants.{Documents, Sources}
+use Rattle.s66_command.specs.CommandParts.{reads_of}
 use Rattle.s66_answer.specs.declared.outcome.Status.{Status}
 use Rattle.s66_program.specs.OrderText.{IsOrderedBy, is_other}
 use Rattle.s66_program.specs.declared.limits.TheConstants.{SOURCE_FRONT}
@@ -18,7 +21,7 @@ use Rattle.s66_program.specs.declared.fault.Fault.{Fault}
 use Rattle.s66_program.specs.declared.fault.Fault.TheVariants as fault
 use Rattle.s66_program.specs.declared.remark.Remark.{Remark}
 use Rattle.s66_program.specs.KeptInput.{IsFull, IsKeptInput}
-use Rattle.s66_program.specs.Output.{IsAskedOutput, IsOutput, reads_documents, reads_source, reads_two, source_in}
+use Rattle.s66_program.specs.Output.{IsAskedOutput, IsOutput, is_source, reads_source, source_in}
 use Rattle.s66_program.specs.Remarks.{IsRemark}
 use Rattle.s66_program.specs.Run.{IsRefusal}
 use Rattle.s66_program.proofs.Fronts.{front-refused}
@@ -77,20 +80,16 @@ pub whole-remark : (p : Profile) (command : Command) (most : Option ℕ) (input 
 whole-remark p command most input held text status r most-is kept output remark =
     subst (λ i. IsRemark command i r) (kept-whole p command most input held text status most-is kept output) remark
 
-no-documents : (asked : Asked) → reads_source asked ≡ true → reads_documents asked ≡ true → ⊥
-no-documents (Check texts) reads documents = absurd (cc)
-no-documents asked reads documents = absurd (cc)
-
-not-two : (asked : Asked) → reads_source asked ≡ true → reads_two asked ≡ true → ⊥
-not-two Compare reads two = absurd (cc)
-not-two asked reads two = absurd (cc)
+-- what is read for it is one source, so it isn't this
+no-other : (asked : Asked) (other : Reads) → is_source other ≡ false → reads_source asked ≡ true → reads_of asked ≡ other → ⊥
+no-other asked other not-source reads is = true≢false (sym reads ∙ ap is_source is ∙ not-source)
 
 refused-for : (command : Command) (input held : List ℕ) (f : Fault) → reads_source command.asked ≡ true → source_of (source_in command input) ≡ source_of (source_in command held) → IsRefusal command held f → IsRefusal command input f
 refused-for command input held (fault.Source e) reads same (other, inl (is, refused)) = (other, inl (is, same ∙ refused))
-refused-for command input held (fault.Source e) reads same (other, inr (two, halves)) = absurd (not-two command.asked reads two)
-refused-for command input held (fault.NewSource e) reads same (two, other, halves) = absurd (not-two command.asked reads two)
-refused-for command input held fault.NoNewSource reads same (two, none) = absurd (not-two command.asked reads two)
-refused-for command input held (fault.Document e) reads same (is, refused) = absurd (no-documents command.asked reads is)
+refused-for command input held (fault.Source e) reads same (other, inr (two, halves)) = absurd (no-other command.asked Sources refl reads two)
+refused-for command input held (fault.NewSource e) reads same (two, other, halves) = absurd (no-other command.asked Sources refl reads two)
+refused-for command input held fault.NoNewSource reads same (two, none) = absurd (no-other command.asked Sources refl reads two)
+refused-for command input held (fault.Document e) reads same (is, refused) = absurd (no-other command.asked Documents refl reads is)
 refused-for command input held fault.Profile reads same h = h
 refused-for command input held fault.Memory reads same h = h
 refused-for command input held fault.Read reads same h = h

@@ -8,7 +8,9 @@ use Rattle.s66_command.specs.ProfileText.{profile_in_text}
 use Rattle.s66_command.specs.declared.command.Command.{Command}
 use Rattle.s66_command.specs.declared.command.Asked.{Asked}
 use Rattle.s66_command.specs.declared.command.Asked.TheVariants.{Time, Deps, Chart, Why, Page, Json, Order, Prove, Check, Lint, Sum, Compare}
-use Rattle.s66_command.specs.CommandParts.{profile_text, strategy_of}
+use Rattle.s66_command.specs.CommandParts.{profile_text, reads_of, strategy_of}
+use Rattle.s66_command.specs.declared.command.Reads.{Reads}
+use Rattle.s66_command.specs.declared.command.Reads.TheVariants.{Source}
 use Rattle.s66_answer.specs.SearchWithin.{IsSearchWithin}
 use Rattle.s66_answer.specs.declared.outcome.Status.{Status}
 use Rattle.s66_program.specs.TimeText.{IsTimeOutput}
@@ -68,19 +70,10 @@ IsAskedOutput p Compare only source text status = IsCompareOutput p source.cut s
 abbrev pub IsOutput : Profile → Command → (input text : List ℕ) → Status → Type 0
 IsOutput p command input text status = IsAskedOutput p command.asked command.block (source_in command input) text status
 
--- it is of one source, and some are refused
+abbrev pub is_source : Reads → Bool
+is_source Source = true
+is_source reads = false
+
+-- one source is read for it, which may be refused
 abbrev pub reads_source : Asked → Bool
-reads_source (Check texts) = false
-reads_source Lint = false
-reads_source Compare = false
-reads_source asked = true
-
--- it is of documents, and some are refused
-abbrev pub reads_documents : Asked → Bool
-reads_documents (Check texts) = true
-reads_documents asked = false
-
--- it is of two sources, of which the second begins after a line that marks it, and some are refused
-abbrev pub reads_two : Asked → Bool
-reads_two Compare = true
-reads_two asked = false
+reads_source asked = is_source (reads_of asked)

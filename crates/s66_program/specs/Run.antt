@@ -8,20 +8,21 @@ use Rattle.s66_device.specs.Devices.{IsUntouched, Reader, WriteFails, Writer, Wr
 use Rattle.s66_source.specs.Source.{source_of}
 use Rattle.s66_cert.specs.Faults.{IsFault}
 use Rattle.s66_command.specs.declared.command.Command.{Command}
-use Rattle.s66_command.specs.CommandParts.{profile_text}
+use Rattle.s66_command.specs.declared.command.Reads.TheVariants.{Documents, Sources}
+use Rattle.s66_command.specs.CommandParts.{profile_text, reads_of}
 use Rattle.s66_answer.specs.declared.outcome.Status.{Status}
 use Rattle.s66_program.specs.declared.fault.Fault.{Fault}
 use Rattle.s66_program.specs.declared.fault.Fault.TheVariants as fault
 use Rattle.s66_program.specs.declared.remark.Ended.{Ended}
 use Rattle.s66_program.specs.Device.{ReadFails, ReadsAll, ReadsSome}
-use Rattle.s66_program.specs.Output.{IsOutput, IsUnder, profile_asked, reads_documents, reads_source, reads_two, source_in}
+use Rattle.s66_program.specs.Output.{IsOutput, IsUnder, profile_asked, reads_source, source_in}
 use Rattle.s66_program.specs.Remarks.{IsRemark}
 
 -- the only source of an input is refused, or the first of two
 abbrev pub RefusesSource : Command → List ℕ → SourceError → Type 0
 RefusesSource command input e =
     ((reads_source command.asked ≡ true) × (source_of (source_in command input) ≡ Err e))
-    ⊎ ((reads_two command.asked ≡ true) × ((halves : Halves) × (halves_of input ≡ Some halves) × (source_of (source_in command halves.old) ≡ Err e)))
+    ⊎ ((reads_of command.asked ≡ Sources) × ((halves : Halves) × (halves_of input ≡ Some halves) × (source_of (source_in command halves.old) ≡ Err e)))
 
 -- the second of two is refused, and the first is not
 abbrev pub RefusesNewSource : Command → List ℕ → SourceError → Type 0
@@ -31,9 +32,9 @@ RefusesNewSource command input e =
 -- why a command writes nothing for an input
 abbrev pub IsRefusal : Command → List ℕ → Fault → Type 0
 IsRefusal command input (fault.Source e) = (e ≢ OutOfMemory) × RefusesSource command input e
-IsRefusal command input (fault.NewSource e) = (reads_two command.asked ≡ true) × (e ≢ OutOfMemory) × RefusesNewSource command input e
-IsRefusal command input fault.NoNewSource = (reads_two command.asked ≡ true) × (halves_of input ≡ None)
-IsRefusal command input (fault.Document e) = (reads_documents command.asked ≡ true) × IsFault input e
+IsRefusal command input (fault.NewSource e) = (reads_of command.asked ≡ Sources) × (e ≢ OutOfMemory) × RefusesNewSource command input e
+IsRefusal command input fault.NoNewSource = (reads_of command.asked ≡ Sources) × (halves_of input ≡ None)
+IsRefusal command input (fault.Document e) = (reads_of command.asked ≡ Documents) × IsFault input e
 IsRefusal command input fault.Profile = ⊥
 IsRefusal command input fault.Memory = Unit {0}
 IsRefusal command input fault.Read = ⊥

@@ -9,7 +9,7 @@ use crate::output::output_for;
 use crate::reading::read_all;
 use crate::remark::Ended;
 use s66_answer::{Observer, Silent, Status};
-use s66_command::{Asked, Command, read_profile};
+use s66_command::{Command, Reads, read_profile};
 use s66_device::{Feed, Sink, write_all};
 use s66_isa::Profile;
 use std::alloc::Global;
@@ -32,9 +32,9 @@ fn profile_of(alloc: Global, command: Command) -> Result<Profile, Fault>
 fn most_kept(command: Command) -> Option<usize>
     ensures { IfSome result (λ most. (most ≡ SOURCE_FRONT) × (reads_source command.entry.asked ≡ true)) }
 {
-    match command.asked {
-        Asked::Check { .. } | Asked::Lint | Asked::Compare => None,
-        _ => Some(SOURCE_FRONT),
+    match command.asked.reads() {
+        Reads::Source => Some(SOURCE_FRONT),
+        _ => None,
     }
 }
 
