@@ -1,9 +1,10 @@
 -- To be believed: what comes back from the workers.
 use Rattle.std.specs.Prelude.{ℕ, ◌≡◌, ◌<◌, ◌≤◌, All, List, Vec, length, map, slice_index_or}
 use Rattle.std.specs.declared.alloc.Global.{Global}
-use Rattle.s66_model.specs.Timing.{Problem}
+use Rattle.s66_model.specs.Timing.{Problem, total_of}
 use Rattle.s66_machine.specs.Ledger.{best_time}
 use Rattle.s66_share.specs.Lanes.{LaneId, LaneOf}
+use Rattle.s66_time.specs.TimedOrder.{TimedOrder}
 use Rattle.s66_ledger.specs.Ledgers.{LedgerOf}
 use Rattle.s66_pool.specs.Hubs.{SeatOf}
 use Rattle.s66_pool.specs.Victims.{VictimOf}
@@ -28,6 +29,10 @@ abbrev pub GoesOn : LedgerOf → LedgerOf → Type 0
 GoesOn old new =
     (new.problem ≡ old.problem) × (new.budget ≡ old.budget) × (new.workers ≡ old.workers) × (new.rule ≡ old.rule)
     × (best_time new.problem new.state ≤ best_time old.problem old.state)
+
+-- if the order is one of the ledger's problem, the best time isn't above its total
+abbrev pub HasTaken : LedgerOf → TimedOrder → Type 0
+HasTaken l timed = timed.problem ≡ l.problem → best_time l.problem l.state ≤ total_of timed.problem timed.numbers
 
 -- a search of one thread, with a walk and marks of these problems
 pub record IsLone (l : LedgerOf) (walked marked : Problem) : Type 0 where

@@ -39,13 +39,13 @@ impl<'a> Model for LoneSearch<'a> {
 }
 
 impl<'a> LoneSearch<'a> {
-    ghost use Rattle.std.specs.Prelude.{◌≡◌, ◌≤◌, ◌↔◌, IsTrue, IfOk};
+    ghost use Rattle.std.specs.Prelude.{◌≡◌, ◌≤◌, ◌↔◌, IsTrue, IfOk, OnOk};
     ghost use Rattle.s66_line.specs.Block.{instrs_of};
     ghost use Rattle.s66_machine.specs.Ledger.{best_time};
     ghost use Rattle.s66_machine.specs.Coverage.{IsFinished, bound_of};
     ghost use Rattle.s66_model.specs.declared.limits.TheConstants.{BUDGET_LIMIT};
     ghost use Rattle.s66_ledger.specs.Answers.{answer_of};
-    ghost use Rattle.s66_pool.specs.Workers.{GoesOn};
+    ghost use Rattle.s66_pool.specs.Workers.{GoesOn, HasTaken};
 
     /// Before the first split: its best order is the best of the source order and two list schedules. Of the options the number of
     /// workers isn't read. `Err` is out of memory.
@@ -83,7 +83,8 @@ impl<'a> LoneSearch<'a> {
 
     /// Offers an order: it is the best from then on if it is faster, and is one of the block under the profile. `Err` is out of memory.
     pub fn offer(&mut self, timed: &Timed) -> Result<(), AllocError>
-        ensures { GoesOn self.old self.new }
+        ensures on { GoesOn self.old self.new }
+        ensures order { OnOk result (HasTaken self.new timed.now) }
     {
         self.ledger.offer_order(timed.duplicate())?;
         Ok(())
