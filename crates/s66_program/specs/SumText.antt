@@ -16,7 +16,9 @@ use Rattle.s66_answer.specs.declared.outcome.Status.{Status}
 use Rattle.s66_program.specs.Moved.{moved}
 use Rattle.s66_program.specs.Words.{words_of}
 use Rattle.s66_program.specs.OrderText.{all_placed}
+use Rattle.s66_program.specs.declared.sum_text.LineEnd.{LineEnd}
 use Rattle.s66_program.specs.declared.sum_text.Row.{Row}
+use Rattle.s66_program.specs.declared.sum_text.Total.{Total}
 
 -- ROWS
 
@@ -67,31 +69,26 @@ splits_text None = []
 splits_text (Some splits) = codes " SPLITS " ++ decimal splits
 
 -- how many words are taken as written and as ordered, if that is to be printed
-abbrev pub words_text : Bool → (source found : ℕ) → List ℕ
-words_text shown source found = if shown then (codes " WORDS " ++ decimal source ++ codes " FOUND " ++ decimal found) else []
+abbrev pub words_text : (shown : Bool) → LineEnd → List ℕ
+words_text shown e = if shown then (codes " WORDS " ++ decimal e.source_words ++ codes " FOUND " ++ decimal e.words) else []
 
--- the end of a line: how many instructions the orders move, those splits and those words
-abbrev pub line_end : (words : Bool) (moved source found : ℕ) → Option ℕ → List ℕ
-line_end words moved source found splits =
-    codes " MOVED " ++ decimal moved ++ splits_text splits ++ words_text words source found ++ codes "\n"
+-- the end of a line: how many instructions the orders move, splits and words
+abbrev pub line_end : (words : Bool) → LineEnd → List ℕ
+line_end words e = codes " MOVED " ++ decimal e.moved ++ splits_text e.splits ++ words_text words e ++ codes "\n"
+
+-- that of a row
+abbrev pub ending_of : Row → LineEnd
+ending_of r = record { moved = r.moved; splits = r.splits; source_words = r.source_words; words = r.words }
 
 abbrev pub row_line : (words : Bool) → Row → List ℕ
 row_line words r =
     codes "BLOCK " ++ decimal r.number ++ codes " LINE " ++ decimal r.line ++ codes " COUNT " ++ decimal r.count ++ codes " SOURCE "
     ++ decimal r.source ++ codes " TIME " ++ decimal r.time ++ bound_text r
-    ++ line_end words r.moved r.source_words r.words r.splits
+    ++ line_end words (ending_of r)
 
 abbrev pub row_lines : (words : Bool) → List Row → List ℕ
 row_lines words [] = []
 row_lines words (r ∷ rows) = row_line words r ++ row_lines words rows
-
--- how many blocks there are, and what they take as written and as ordered
-abbrev pub total_times : (blocks source time : ℕ) → List ℕ
-total_times blocks source time = codes "TOTAL BLOCKS " ++ decimal blocks ++ codes " SOURCE " ++ decimal source ++ codes " TIME " ++ decimal time
-
--- and how many orders are best, and the end of the line
-abbrev pub total_text : (blocks source time best : ℕ) (ending : List ℕ) → List ℕ
-total_text blocks source time best ending = total_times blocks source time ++ codes " BEST " ++ decimal best ++ ending
 
 -- the splits of a row
 abbrev pub splits_in : Row → ℕ
@@ -101,15 +98,29 @@ splits_in r = unwrap_or r.splits 0
 abbrev pub all_splits : Bool → List Row → Option ℕ
 all_splits trace rows = if trace then Some (weigh splits_in rows) else None
 
-abbrev pub total_line : SumStyle → List Row → List ℕ
-total_line style rows =
-    total_text (length rows) (weigh (λ (r : Row). r.source) rows) (weigh (λ (r : Row). r.time) rows) (tally is_best rows)
-    (line_end style.words (weigh (λ (r : Row). r.moved) rows) (weigh (λ (r : Row). r.source_words) rows) (weigh (λ (r : Row). r.words) rows) (all_splits style.trace rows))
+-- what all rows come to, with the trace also in splits
+abbrev pub total_of : (trace : Bool) → List Row → Total
+total_of trace rows =
+    record {
+      blocks = length rows;
+      source = weigh (λ (r : Row). r.source) rows;
+      time = weigh (λ (r : Row). r.time) rows;
+      best = tally is_best rows;
+      ending = record { moved = weigh (λ (r : Row). r.moved) rows; splits = all_splits trace rows; source_words = weigh (λ (r : Row). r.source_words) rows; words = weigh (λ (r : Row). r.words) rows };
+    }
+
+-- how many blocks there are, and what they take as written and as ordered
+abbrev pub total_times : Total → List ℕ
+total_times t = codes "TOTAL BLOCKS " ++ decimal t.blocks ++ codes " SOURCE " ++ decimal t.source ++ codes " TIME " ++ decimal t.time
+
+-- and how many orders are best, and the end of the line
+abbrev pub total_line : (words : Bool) → Total → List ℕ
+total_line words t = total_times t ++ codes " BEST " ++ decimal t.best ++ line_end words t.ending
 
 -- the rows in their order, and their sums
 abbrev pub IsSumText : SumStyle → (rows : List Row) (text : List ℕ) → Type 0
 IsSumText style rows text =
-    (ordered : List Row) × IsPermutation rows ordered × AreInOrder ordered × (text ≡ row_lines style.words ordered ++ total_line style rows)
+    (ordered : List Row) × IsPermutation rows ordered × AreInOrder ordered × (text ≡ row_lines style.words ordered ++ total_line style.words (total_of style.trace rows))
 
 -- the rows of what `order` would print of the blocks that are shown
 abbrev pub IsSumOutput : Strategy → Profile → SumStyle → (only : Option ℕ) (source : Reading) (text : List ℕ) → Status → Type 0

@@ -11,7 +11,7 @@ returns c =
     let head = codes "BLOCK " ++ decimal r.number ++ codes " LINE " ++ decimal r.line ++ codes " COUNT " ++ decimal r.count in
     let times = head ++ codes " SOURCE " ++ decimal r.source ++ codes " TIME " ++ decimal r.time ++ bound_text r in
     IfOk-equal c.push_line_end.result _ _ _ c.push_line_end.ensures
-    (ap (λ text. text ++ line_end c.args.words r.moved r.source_words r.words c.splits.result)
+    (ap (λ text. text ++ line_end c.args.words c.ending.result)
     (c.in_ok-push_bound.ensures ∙ ap (λ text. text ++ bound_text r)
     (c.in_ok-push_field-5.ensures ∙ ap (λ text. text ++ codes " TIME " ++ decimal r.time)
     (c.in_ok-push_field-4.ensures ∙ ap (λ text. text ++ codes " SOURCE " ++ decimal r.source)
@@ -19,5 +19,5 @@ returns c =
     (c.in_ok-push_field-2.ensures ∙ ap (λ text. text ++ codes " LINE " ++ decimal r.line) c.in_ok-push_field.ensures)
     ∙ regrouped out (codes "BLOCK ") (decimal r.number) (codes " LINE ") (decimal r.line) (codes " COUNT ") (decimal r.count))))
     ∙ regrouped out head (codes " SOURCE ") (decimal r.source) (codes " TIME ") (decimal r.time) (bound_text r))
-    ∙ append_assoc out times (line_end c.args.words r.moved r.source_words r.words c.splits.result)
-    ∙ ap (λ splits. out ++ (times ++ line_end c.args.words r.moved r.source_words r.words splits)) c.splits.ensures)
+    ∙ append_assoc out times (line_end c.args.words c.ending.result)
+    ∙ ap (λ ending. out ++ (times ++ line_end c.args.words ending)) c.ending.ensures)
