@@ -127,7 +127,8 @@ fn kept_output<R: AllocGlobal + Threads + Wait + Sync, O: Observer>(
     observer: &mut O,
 ) -> Result<Output, AllocError>
     requires { IsSearchWithin strategy.search }
-    ensures { IfOk result (λ output. IsKeptOutput strategy profile.now style only source.now output.text.items output.status) }
+    ensures { IfOk result (λ output.
+        IsKeptOutput strategy profile.now style only source.now output.text.items output.status) }
 {
     let givings = Givings { style };
     let all = keep_answers(rt, &givings, source, only, profile, strategy, observer)?;
@@ -155,7 +156,8 @@ pub(crate) fn ordered_output<R: AllocGlobal + Threads + Wait + Sync, O: Observer
     observer: &mut O,
 ) -> Result<Output, AllocError>
     requires { IsSearchWithin strategy.search }
-    ensures { IfOk result (λ output. IsOrdered strategy profile.now style only source.now output.text.items output.status) }
+    ensures { IfOk result (λ output.
+        IsOrdered strategy profile.now style only source.now output.text.items output.status) }
 {
     if style.keep || style.quiet || only.is_some() {
         kept_output(rt, source, only, profile, strategy, style, observer)
