@@ -1,13 +1,16 @@
 -- The text of an instruction: its words are the operation and the operand that it is made of.
-use Rattle.std.proofs.Common.{◌≡◌, ◌≤◌, ◌<◌, ◌+◌, ℕ, Bool, true, false, not, true≢false, List, [], ◌∷◌, ◌++◌, length, Option, None, Some, is_some, refl, sym, ap, ap₂, ◌∙◌, arith, length-append}
+use Rattle.std.proofs.Common.{◌≡◌, ◌≤◌, ◌<◌, ◌+◌, ◌-◌, ℕ, Bool, true, false, not, true≢false, List, [], ◌∷◌, ◌++◌, length, take, Option, None, Some, is_some, refl, sym, ap, ap₂, ◌∙◌, arith, length-append}
 use Rattle.std.proofs.lemmas.Bool.{and_parts, not-true}
 use Rattle.s66_isa.specs.declared.instr.Instr.{Instr}
 use Rattle.s66_isa.specs.Lists.{every}
 use Rattle.s66_line.specs.declared.limits.TheConstants.{TEXT_LIMIT}
-use Rattle.s66_line.specs.Fields.{is_blank, upper, word, after_word, skip_blanks}
+use Rattle.s66_line.specs.Fields.{is_blank, is_trailing, trim, upper, word, after_word, skip_blanks}
 use Rattle.s66_line.specs.Operand.{instr_of}
 use Rattle.s66_line.specs.InstructionText.{spelling, operation_in, operand_in, Spells, IsTextOf, IsInstruction}
-use Rattle.s66_line.proofs.LineFields.{word-length, skip_blanks-no, spelling-fits}
+use Rattle.s66_line.specs.Characters.{characters_in, cut, rest_in, taken_in}
+use Rattle.s66_line.proofs.LineFields.{word-length, skip_blanks-no, spelling-fits, rest-fits, trim-length}
+use Rattle.std.proofs.lemmas.List.{length-take}
+use Rattle.std.proofs.Math.Nat.{min-le_right}
 use Rattle.s66_line.proofs.UpperCase.{length-upper, blank-kept, upper-twice}
 
 abbrev pub is_no_blank : ℕ → Bool
@@ -96,6 +99,28 @@ spelling-within bytes =
     let w = word-length bytes in
     spelling-length (operation_in bytes) (operand_in bytes) (length bytes) (omega (arith, o, w))
     (λ some. let fits = spelling-fits bytes (omega (arith, some, p)) in omega (arith, fits, o, p))
+
+-- with the characters that go on behind the operand's blank, too
+
+characters-length : (taken : Option ℕ) (rest : List ℕ) → length (cut taken rest) ≤ length rest
+characters-length None rest = omega arith
+characters-length (Some n) rest =
+    let up = length-upper (trim is_trailing (take n rest)) in
+    let kept = trim-length is_trailing (take n rest) in
+    let part = length-take n rest in
+    let least = min-le_right n (length rest) in
+    omega (arith, up, kept, part, least)
+
+pub characters_fit : (bytes : List ℕ) → length (spelling (operation_in bytes) (operand_in bytes)) + length (characters_in bytes) ≤ length bytes
+characters_fit bytes =
+    let o = length-upper (word bytes) in
+    let p = length-upper (word (skip_blanks (after_word bytes))) in
+    let fits = rest-fits bytes in
+    let rest = length (rest_in bytes) in
+    let c = characters-length (taken_in bytes) (rest_in bytes) in
+    let spelled = spelling-length (operation_in bytes) (operand_in bytes) (length bytes - rest) (omega (arith, o, fits.0))
+    (λ some. (let more = fits.1 (omega (arith, some, p)) in omega (arith, more, o, p))) in
+    omega (arith, spelled, c, fits.0)
 
 -- so it is the text of the instruction that these bytes spell
 pub text-of_bytes : (bytes : List ℕ) (n : Instr) → Spells bytes n → length bytes ≤ TEXT_LIMIT → IsTextOf (spelling (operation_in bytes) (operand_in bytes)) n

@@ -1,6 +1,7 @@
 pub mod BlockEntries
 pub mod LineFields
 pub mod LineCuts
+pub mod Strings
 pub mod Gathered
 pub mod SignCuts
 pub mod Expression

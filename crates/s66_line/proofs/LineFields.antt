@@ -8,7 +8,6 @@ use Rattle.std.specs.Prelude.{◌&&◌, ◌||◌, ◌==◌, nat_le}
 use Rattle.std.specs.List.{prefix_len}
 use Rattle.s66_isa.specs.Lists.{every}
 use Rattle.s66_line.specs.Fields.{is_blank, blanks, skip_blanks, word, after_word, trim, from_location, label_bytes}
-use Rattle.s66_line.specs.InstructionText.{spelling}
 use Rattle.std.proofs.lemmas.List.{take_rest}
 use Rattle.std.proofs.lemmas.List.Sums.{prefix_len-le-length}
 
@@ -123,6 +122,41 @@ fits-from false b bytes stated ih h = let rest = ih h in omega (arith, rest)
 pub spelling-fits : (bytes : List ℕ) → 0 < length (word (skip_blanks (after_word bytes))) → length (word bytes) + length (word (skip_blanks (after_word bytes))) < length bytes
 spelling-fits [] h = h
 spelling-fits (b ∷ bytes) h = fits-from (is_blank b) b bytes refl (spelling-fits bytes) h
+
+-- a word and what follows it are all
+pub word-cut : (bytes : List ℕ) → length (word bytes) + length (after_word bytes) ≡ length bytes
+word-cut [] = refl
+word-cut (b ∷ bytes) =
+    elim (is_blank b) as (λ t. length (cond t [] (b ∷ word bytes)) + length (cond t (b ∷ bytes) (after_word bytes)) ≡ suc (length bytes))
+    [ true ↦ omega arith | false ↦ (let h = word-cut bytes in omega (arith, h)) ]
+
+-- a blank at least is between a word and what follows it
+blank-cut : (bytes : List ℕ) → 0 < length (skip_blanks (after_word bytes)) → length (skip_blanks (after_word bytes)) < length (after_word bytes)
+blank-cut [] some = some
+blank-cut (b ∷ bytes) some = by_blank (is_blank b) refl some (blank-cut bytes)
+  where
+    by_blank : (t : Bool) → is_blank b ≡ t → 0 < length (skip_blanks (cond t (b ∷ bytes) (after_word bytes))) →
+        (0 < length (skip_blanks (after_word bytes)) → length (skip_blanks (after_word bytes)) < length (after_word bytes)) →
+        length (skip_blanks (cond t (b ∷ bytes) (after_word bytes))) < length (cond t (b ∷ bytes) (after_word bytes))
+    by_blank true stated some ih = let s = skip_blanks-length bytes in rw (skip_blanks-yes b bytes stated) (omega (arith, s))
+    by_blank false stated some ih = ih some
+
+-- operation, operand and what follows it, with a blank before the operand
+pub rest-fits : (bytes : List ℕ) →
+    (length (word bytes) + length (after_word (skip_blanks (after_word bytes))) ≤ length bytes)
+    × (0 < length (word (skip_blanks (after_word bytes))) → length (word bytes) + length (word (skip_blanks (after_word bytes))) + length (after_word (skip_blanks (after_word bytes))) < length bytes)
+rest-fits bytes =
+    let all = word-cut bytes in
+    let operand = word-cut (skip_blanks (after_word bytes)) in
+    let blanks = skip_blanks-length (after_word bytes) in
+    (omega (arith, all, operand, blanks), λ some. (let blank = blank-cut bytes (omega (arith, some, operand)) in omega (arith, all, operand, blank)))
+
+-- what is left of bytes
+pub trim-length : (test : ℕ → Bool) (bytes : List ℕ) → length (trim test bytes) ≤ length bytes
+trim-length test [] = omega arith
+trim-length test (b ∷ bytes) =
+    elim (every test (b ∷ bytes)) as (λ t. length (cond t [] (b ∷ trim test bytes)) ≤ suc (length bytes))
+    [ true ↦ omega arith | false ↦ (let h = trim-length test bytes in omega (arith, h)) ]
 
 -- the operation begins after column 1
 

@@ -1,7 +1,8 @@
 -- To be believed: a block, and what it shows by the numbers of its instructions, from 1.
-use Rattle.std.specs.Prelude.{ℕ, zero, suc, List, [], ◌∷◌, map, Option, None, Some, slice_get}
+use Rattle.std.specs.Prelude.{ℕ, zero, suc, List, [], ◌∷◌, ◌++◌, map, Option, None, Some, slice_get}
 use Rattle.s66_isa.specs.declared.instr.Instr.{Instr}
 use Rattle.s66_isa.specs.Table.{instr_at}
+use Rattle.s66_line.specs.Characters.{characters_in}
 use Rattle.s66_line.specs.Operand.{constant_of}
 use Rattle.s66_line.specs.InstructionText.{spelling, operation_in, operand_in, instr_in_text}
 
@@ -42,6 +43,10 @@ bytes_of block n = bytes (entry_at block n)
 -- its operation and its operand in upper case
 abbrev pub text_of : Block → ℕ → List ℕ
 text_of block n = spelling (operation_in (bytes_of block n)) (operand_in (bytes_of block n))
+
+-- with the characters of the operand that go on behind its blank
+abbrev pub whole_text_of : Block → ℕ → List ℕ
+whole_text_of block n = text_of block n ++ characters_in (bytes_of block n)
 
 -- the text of the constant of an instruction, in upper case: the whole operand of a shift count or a mask, the constant terms of
 -- a set instruction, each with its sign, and nothing of any other

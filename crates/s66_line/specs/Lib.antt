@@ -4,5 +4,6 @@ pub mod Choices
 pub mod Spelling
 pub mod Terms
 pub mod InstructionText
+pub mod Characters
 pub mod Class
 pub mod Block

@@ -2,7 +2,7 @@ ghost use Rattle.std.specs.Prelude.{◌≡◌};
 ghost use Rattle.s66_line.specs.InstructionText.{instr_in_text, IsInstruction};
 
 use crate::entry::Entry;
-use crate::instruction_text::{instruction_in, spell};
+use crate::instruction_text::{instruction_in, spell, spell_whole};
 use crate::limits::TEXT_LIMIT;
 use arrayvec::ArrayVec;
 use s66_isa::Instr;
@@ -53,7 +53,7 @@ impl<'a> Block<'a> {
     ghost use Rattle.s66_isa.specs.Table.{instr_at, parcels_of};
     ghost use Rattle.s66_isa.specs.declared.instr.Instr.{Instr};
     ghost use Rattle.s66_line.specs.InstructionText.{Spells, IsTextOf, IsInstruction};
-    ghost use Rattle.s66_line.specs.Block.{instrs_of, entry_at, line_of, bytes_of, text_of, block_of_texts};
+    ghost use Rattle.s66_line.specs.Block.{instrs_of, entry_at, line_of, bytes_of, text_of, whole_text_of, block_of_texts};
     ghost use Rattle.s66_isa.specs.declared.limits.TheConstants.{BLOCK_LIMIT};
     ghost use Rattle.s66_line.specs.declared.limits.TheConstants.{TEXT_LIMIT};
 
@@ -144,6 +144,15 @@ impl<'a> Block<'a> {
         ensures is_text { IsTextOf result.items (instr_at (instrs_of self.now) number) }
     {
         spell(self.bytes(number))
+    }
+
+    /// The text of an instruction with all characters of its operand: a blank may be among them, as in `SA1 =10HREAD ERROR`.
+    pub fn whole_text(&self, number: usize) -> ArrayVec<u8, TEXT_LIMIT>
+        requires first { 1 ≤ number }
+        requires last { number ≤ length (instrs_of self.now) }
+        ensures { result.items ≡ whole_text_of self.now number }
+    {
+        spell_whole(self.bytes(number))
     }
 
     /// The parcels of 15 bits of its instructions, `NO`s not counted: at most two an instruction.

@@ -1,6 +1,6 @@
 ghost use Rattle.std.specs.Prelude.{◌≡◌, ◌≤◌, ◌<◌, ◌+◌, ◌-◌, ◌==◌, ◌||◌, nat_le, not, length};
 ghost use Rattle.std.specs.List.{prefix_len};
-ghost use Rattle.s66_line.specs.Fields.{is_blank, upper_byte, body, skip_blanks, word, after_word, blanks, is_comment, from_location, location, from_operation, from_operand, label_bytes, continues};
+ghost use Rattle.s66_line.specs.Fields.{is_blank, is_trailing, trim, upper_byte, body, skip_blanks, word, after_word, blanks, is_comment, from_location, location, from_operation, from_operand, label_bytes, continues};
 
 /// The fields of a line that is no comment; a field that is not there is empty.
 #[derive(Clone, Copy)]
@@ -12,7 +12,7 @@ pub struct Fields<'a> {
     pub from_operation: &'a [u8],
 }
 
-fn is_blank_byte(byte: u8) -> bool
+pub(crate) fn is_blank_byte(byte: u8) -> bool
     ensures { result ≡ is_blank byte }
 {
     byte == b' ' || byte == b'\t'
@@ -150,6 +150,35 @@ pub fn operation_and_operand(bytes: &[u8]) -> (&[u8], &[u8])
 {
     let (operation, rest) = split_word(bytes);
     (operation, next_word(rest))
+}
+
+/// The operand of bytes that begin with an operation, and what follows it.
+pub(crate) fn operand_and_rest(bytes: &[u8]) -> (&[u8], &[u8])
+    ensures operand { result.0.now ≡ word (skip_blanks (after_word bytes.now)) }
+    ensures rest { result.1.now ≡ after_word (skip_blanks (after_word bytes.now)) }
+    ensures operand_within { length result.0.now ≤ length bytes.now }
+    ensures rest_within { length result.1.now ≤ length bytes.now }
+{
+    let (_, rest) = split_word(bytes);
+    split_word(without_blanks(rest))
+}
+
+fn is_trailing_byte(byte: u8) -> bool
+    ensures { result ≡ is_trailing byte }
+{
+    is_blank_byte(byte) || byte == b'\r'
+}
+
+/// The bytes without the blanks and carriage returns at their end.
+pub fn without_trailing(bytes: &[u8]) -> &[u8]
+    ensures value { result.now ≡ trim is_trailing bytes.now }
+    ensures within { length result.now ≤ length bytes.now }
+{
+    let mut end = bytes.len();
+    while end > 0 && is_trailing_byte(bytes[end - 1]) {
+        end -= 1;
+    }
+    &bytes[..end]
 }
 
 pub(crate) fn upper_case_byte(byte: u8) -> u8

@@ -1,9 +1,11 @@
 ghost use Rattle.std.specs.Prelude.{◌≡◌, ◌≤◌, ◌+◌, ◌++◌, ◌↔◌, true, length, IfSome, IfNone};
+ghost use Rattle.s66_line.specs.Characters.{characters_in};
 ghost use Rattle.s66_line.specs.Fields.{upper};
 ghost use Rattle.s66_line.specs.Operand.{instr_of};
 ghost use Rattle.s66_line.specs.InstructionText.{spelling, operation_in, operand_in, IsTextOf, IsInstruction};
 ghost use Rattle.s66_line.specs.declared.limits.TheConstants.{TEXT_LIMIT};
 
+use crate::characters::characters_in;
 use crate::fields::{operation_and_operand, upper_case_byte};
 use crate::limits::TEXT_LIMIT;
 use crate::operand::{decode, operation_of};
@@ -43,6 +45,16 @@ pub(crate) fn spell(bytes: &[u8]) -> ArrayVec<u8, TEXT_LIMIT>
         letters.push(b' ');
         push_upper_case(&mut letters, operand);
     }
+    letters
+}
+
+/// What `spell` gives, and the characters of the operand that go on behind its blank.
+pub(crate) fn spell_whole(bytes: &[u8]) -> ArrayVec<u8, TEXT_LIMIT>
+    requires { length bytes.now ≤ TEXT_LIMIT }
+    ensures { result.items ≡ spelling (operation_in bytes.now) (operand_in bytes.now) ++ characters_in bytes.now }
+{
+    let mut letters = spell(bytes);
+    push_upper_case(&mut letters, characters_in(bytes));
     letters
 }
 

@@ -1,4 +1,5 @@
-ghost use Rattle.std.specs.Prelude.{◌≡◌, ◌≤◌, ℕ, List, ◌∷◌, ◌++◌, Some, Bool, false, map, codes, [], not, ◌==◌};
+ghost use Rattle.std.specs.Prelude.{◌≡◌, ◌≤◌, ℕ, List, ◌∷◌, ◌++◌, Some, Bool, true, false, map, codes, [], not, ◌==◌, replicate};
+ghost use Rattle.s66_line.specs.Characters.{characters_in, runs_on};
 ghost use Rattle.std.specs.List.{filter};
 ghost use Rattle.s66_isa.specs.declared.instr.Instr.{Instr};
 ghost use Rattle.s66_isa.specs.declared.reg.Bank.{Bank};
@@ -57,6 +58,21 @@ pub fn constant_examples()
     ensures shift_count { constant_of 0o20 (codes "-N") ≡ codes "-N" }
     ensures registers { constant_of 0o54 (codes "A1+B1") ≡ [] }
     ensures boolean { constant_of 0o11 (codes "X2*X3") ≡ [] }
+{}
+
+/// Characters of operands: which go on behind the operand's blank, by the bytes from the operation on, and where the operand goes on
+/// behind these, so that a register would be lost.
+pub fn character_examples()
+    ensures taken { map characters_in (codes "SA1 =10HREAD ERROR" ∷ codes "SA1 =10HLONGNAM     GET NAME" ∷
+        codes "SA2 =C/A B/" ∷ codes "SX4 3R X1" ∷ codes "SX5 3R A  +" ∷ codes "SA1 =10Hread ok" ∷ []) ≡
+        codes " ERROR" ∷ [] ∷ codes " B/" ∷ codes " X1" ∷ codes " A" ∷ codes " OK" ∷ [] }
+    ensures none { map characters_in (codes "SX3 X1-1R    CHECK" ∷ codes "SX3 0R X" ∷ codes "SX3 N1R X" ∷ codes "SX3 10B X" ∷
+        codes "SX3 1RA X" ∷ codes "SX3 =C X/" ∷ codes "NX1" ∷ []) ≡ replicate 7 [] }
+    ensures ended { map runs_on (codes "SX3 X1-1R " ∷ codes "SX3 X1-1R    CHECK" ∷ codes "SX5 3R A  +" ∷
+        codes "SA1 =10HREAD ERROR" ∷ codes "SA1 =10HLONGNAM     GET NAME" ∷ codes "SA2 =C/A B/" ∷ codes "SX4 3R X1" ∷
+        codes "SX4 =C/A/+X1 B/" ∷ []) ≡ replicate 8 false }
+    ensures cut { map runs_on (codes "SX3 1R +X1" ∷ codes "SX3 1r +X1" ∷ codes "SA1 =C/A B/+X1" ∷ codes "SA1 =L*A B C" ∷
+        codes "SA1 =10H   X1+B1 IS" ∷ codes "SX1 2RAB+1R +X1" ∷ []) ≡ replicate 6 true }
 {}
 
 /// Texts of instructions, and texts that are none.

@@ -2,6 +2,7 @@
 #![tactic(auto)]
 
 mod block;
+mod characters;
 mod class;
 mod entry;
 mod fields;
@@ -11,16 +12,17 @@ mod limits;
 mod operand;
 
 pub use block::Block;
+pub use characters::is_decimal_digit;
 pub use class::{Class, Classified, classify};
 pub use entry::Entry;
 pub use fields::{
     Fields, body_of, fields_of, from_operand, is_comment_line, is_continuation,
-    operation_and_operand, split_word,
+    operation_and_operand, split_word, without_trailing,
 };
 pub use instruction_text::{instruction_of_text, is_instruction, upper_case};
 pub use laws::{
-    byte_examples, code_law, constant_examples, instruction_examples, operation_law, set_form_law,
-    term_law, whole_law,
+    byte_examples, character_examples, code_law, constant_examples, instruction_examples,
+    operation_law, set_form_law, term_law, whole_law,
 };
 pub use limits::{LINE_BYTES_LIMIT, TEXT_LIMIT};
 pub use operand::{is_octal_digit, is_table_name};
