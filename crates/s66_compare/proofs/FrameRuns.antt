@@ -8,12 +8,11 @@ use Rattle.s66_isa.specs.Lists.{some_of}
 use Rattle.s66_isa.specs.declared.limits.TheConstants.{BLOCK_LIMIT}
 use Rattle.s66_line.specs.Block.{Block, line_of}
 use Rattle.s66_line.specs.Class.{is_instruction}
-use Rattle.s66_line.specs.Fields.{body, from_location, label_bytes, trim}
+use Rattle.s66_line.specs.Fields.{body, from_location, label_bytes, trim, is_trailing}
 use Rattle.s66_line.specs.declared.class.Class.{Class}
 use Rattle.s66_line.specs.declared.class.Class.TheVariants.{Comment, Other, Refused, Pad, Instruction}
 use Rattle.s66_source.specs.Frame.{FramePart, block_part, frame_of, frame_of_lines, is_beside, line_part, part_beside}
 use Rattle.s66_source.specs.LeftAlone.{Flagged, Reading, class_at, flagged_lines}
-use Rattle.s66_source.specs.Printed.{is_trailing}
 use Rattle.s66_source.specs.Roles.{has_block}
 use Rattle.s66_source.specs.Source.{Line, begins_block, block_of, blocks_of, classed_lines, classes_from, instructions, parts_of, put_before, refusal, source_of}
 use Rattle.s66_source.proofs.LineLaw.{no_refusal}

@@ -8,17 +8,17 @@ use Rattle.s66_isa.specs.declared.instr.Instr.{Instr}
 use Rattle.s66_isa.specs.declared.limits.TheConstants.{BLOCK_LIMIT}
 use Rattle.s66_line.specs.Block.{Block, bytes_of, instrs_of}
 use Rattle.s66_line.specs.Class.{is_code}
-use Rattle.s66_line.specs.Fields.{body, continues, is_blank, is_comment, is_return, label_bytes, lines_of, operand, operation, trim, upper}
+use Rattle.s66_line.specs.Fields.{body, continues, is_blank, is_comment, is_return, from_operation, label_bytes, lines_of, trim, is_trailing}
 use Rattle.s66_line.specs.Class.{by_operation, is_located}
-use Rattle.s66_line.specs.InstructionText.{Spells}
 use Rattle.s66_line.specs.Operand.{is_filled}
 use Rattle.s66_line.specs.declared.class.Class.{Class}
 use Rattle.s66_line.specs.declared.class.Class.TheVariants.{Comment, Other, Refused, Pad, Instruction}
 use Rattle.s66_line.proofs.Wholes.{is_inside}
 use Rattle.s66_source.specs.LeftAlone.{Flagged, after_line, class_at, flagged_from, is_alone, is_refused}
-use Rattle.s66_source.specs.Printed.{Placed, block_text, instruction_line, instruction_lines, is_trailing, label_field, notes_text, report}
+use Rattle.s66_source.specs.Printed.{Placed, block_text, instruction_line, instruction_lines, label_field, notes_text, report}
 use Rattle.s66_source.specs.Source.{Line, classes_from, label_after, label_at, operand_refusal, place_after, place_at, refusal, run_after, run_at}
 use Rattle.s66_source.specs.declared.standing.Standing.{Standing}
+use Rattle.s66_source.proofs.CharactersRead.{SpellsAll}
 use Rattle.s66_source.proofs.FlaggedLines.{continued-next}
 use Rattle.s66_source.proofs.ReadAgain.{none-refused, rest-taken}
 use Rattle.s66_source.proofs.ReadBack.{lines_of-line, trim-twice}
@@ -134,7 +134,7 @@ gives-copied cut s r after continued line text number c x inside quiet stated ac
     ap (λ is. class_at r.after (record { alone = is; bytes = there })) switch ∙ class_at-body r.after alone line in
     let same : class_at r.after (flagged_at cut s there (continues text)) ≢ Refused → class_at r.after (flagged_at cut s there (continues text)) ≡ c =
     λ clean. again
-    ∙ same-class alone (is_comment there) (continues there) after r.after (by_operation (is_located there) (upper (operation there)) (upper (operand there))) number (ap (operand_refusal number) stated ∙ accepted) (λ is. clean (again ∙ is))
+    ∙ same-class alone (is_comment there) (continues there) after r.after (by_operation (is_located there) (from_operation there)) number (ap (operand_refusal number) stated ∙ accepted) (λ is. clean (again ∙ is))
     ∙ stated in
     let rest : Clean (is_code c) (flagged_from cut (after_line cut s there) (lines_of text)) → runs (next r c there) (flagged_from cut (after_line cut s there) (lines_of text)) ≡ x =
     subst (λ stands. Clean (is_code c) (flagged_from cut stands (lines_of text)) → runs (next r c there) (flagged_from cut stands (lines_of text)) ≡ x) (sym (after-body cut s line))
@@ -177,7 +177,7 @@ skips-comments cut s bytes free comments = subst (Skips cut s) (sym comments.who
 
 -- AN INSTRUCTION LINE
 
-gives-instruction : (cut : Bool) (s : Standing) (label bytes : List ℕ) (i : Instr) (r : Reached) (text : List ℕ) (x : List Shape) → is_holding cut s ≡ false → IsQuiet cut text → IsLabel label → Spells bytes i → every is_inside bytes ≡ true →
+gives-instruction : (cut : Bool) (s : Standing) (label bytes : List ℕ) (i : Instr) (r : Reached) (text : List ℕ) (x : List Shape) → is_holding cut s ≡ false → IsQuiet cut text → IsLabel label → SpellsAll bytes i → every is_inside bytes ≡ true →
     (Clean true (flagged_from cut s (lines_of text)) → runs (next r (Instruction (is_filled label) i) (label_field label ++ trim is_trailing bytes)) (flagged_from cut s (lines_of text)) ≡ x) →
     gives_at cut s r (instruction_line label bytes ++ text) (emit r (Instruction (is_filled label) i) (label_field label ++ trim is_trailing bytes) ++ x)
 gives-instruction cut s label bytes i r text x free quiet is spells inside later =

@@ -6,12 +6,12 @@ use Rattle.s66_isa.specs.Lists.{Among, every, rising}
 use Rattle.s66_isa.specs.Table.{instr_at}
 use Rattle.s66_isa.specs.declared.profile.Profile.{Profile}
 use Rattle.s66_line.specs.Block.{Block, Entry, bytes_of, instrs_of, text_of}
-use Rattle.s66_line.specs.Fields.{trim, upper}
+use Rattle.s66_line.specs.Fields.{trim, upper, is_trailing}
 use Rattle.s66_line.specs.InstructionText.{IsTextOf, Spells, operand_in, operation_in, spelling}
 use Rattle.s66_line.specs.Operand.{instr_of}
 use Rattle.s66_line.proofs.InstructionTexts.{operand_in-spelling, operation_in-spelling}
 use Rattle.s66_model.specs.LegalOrder.{IsLegal}
-use Rattle.s66_source.specs.Printed.{Placed, is_trailing}
+use Rattle.s66_source.specs.Printed.{Placed}
 use Rattle.s66_source.specs.ReadAgain.{ArePlacedAgain, IsPlacedAgain}
 use Rattle.s66_source.proofs.ReadLine.{operand-again, operation-again}
 use Rattle.s66_compare.specs.Pairing.{paired, texts_of}

@@ -1,9 +1,10 @@
 -- To be believed: the class of a line.
-use Rattle.std.specs.Prelude.{◌&&◌, ◌≡◌, ◌==◌, if◌then◌else◌, ℕ, Bool, true, false, List, [], ◌∷◌, Option, None, Some, nat_lt, length, is_some}
+use Rattle.std.specs.Prelude.{◌&&◌, ◌==◌, if◌then◌else◌, ℕ, Bool, true, false, List, [], ◌∷◌, Option, None, Some, nat_lt, length, is_some}
 use Rattle.s66_isa.specs.declared.instr.Instr.{Instr}
 use Rattle.s66_isa.specs.Table.{idle_instr}
-use Rattle.s66_line.specs.Fields.{upper, body, is_comment, location, operation, operand, continues}
-use Rattle.s66_line.specs.InstructionText.{Spells}
+use Rattle.s66_line.specs.Fields.{body, is_comment, location, from_operation, continues}
+use Rattle.s66_line.specs.Characters.{runs_on}
+use Rattle.s66_line.specs.InstructionText.{Spells, operand_in, operation_in}
 use Rattle.s66_line.specs.Operand.{operation_of, instr_of}
 use Rattle.s66_line.specs.declared.class.Class.{Class}
 use Rattle.s66_line.specs.declared.class.Class.TheVariants.{Comment, Other, Refused, Pad, Instruction}
@@ -19,18 +20,22 @@ is_pad word = false
 abbrev pub is_located : List ℕ → Bool
 is_located line = nat_lt 0 (length (location line))
 
--- the operation, in upper case, decides
-abbrev pub by_operation : Bool → List ℕ → List ℕ → Class
-by_operation located operation operand =
-    if is_pad operation then Pad located
-    else (if is_some (operation_of operation) then class_of_operand located (instr_of operation operand) else Other)
+-- the instruction of bytes that begin with an operation, unless its operand is cut where it goes on
+abbrev pub whole_instr : List ℕ → Option Instr
+whole_instr bytes = if runs_on bytes then None else instr_of (operation_in bytes) (operand_in bytes)
+
+-- of a line that has these bytes from its operation on, which decides
+abbrev pub by_operation : Bool → List ℕ → Class
+by_operation located bytes =
+    if is_pad (operation_in bytes) then Pad located
+    else (if is_some (operation_of (operation_in bytes)) then class_of_operand located (whole_instr bytes) else Other)
 
 -- after: the line directly before is an Instruction or a Pad, so that a comma in column 1 would continue it
 abbrev pub class_of : Bool → List ℕ → Class
 class_of after line =
     if is_comment (body line) then Comment
     else (if continues (body line) then (if after then Refused else Other)
-    else by_operation (is_located (body line)) (upper (operation (body line))) (upper (operand (body line))))
+    else by_operation (is_located (body line)) (from_operation (body line)))
 
 abbrev pub is_instruction : Class → Bool
 is_instruction (Instruction located n) = true

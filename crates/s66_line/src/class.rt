@@ -1,9 +1,9 @@
 ghost use Rattle.std.specs.Prelude.{◌≡◌, ◌≤◌, true, length};
-ghost use Rattle.s66_line.specs.Fields.{upper, body, operation, operand, from_operation, label_bytes};
-ghost use Rattle.s66_line.specs.InstructionText.{operation_in, operand_in};
+ghost use Rattle.s66_line.specs.Fields.{upper, body, from_operation, label_bytes};
 ghost use Rattle.s66_line.specs.Class.{IsSpelled, class_of, by_operation, is_code, is_located, is_pad};
 ghost use Rattle.s66_line.specs.declared.limits.TheConstants.{LINE_BYTES_LIMIT, TEXT_LIMIT};
 
+use crate::characters::runs_on;
 use crate::fields::{
     body_of, fields_of, is_comment_line, is_continuation, next_word, split_word, upper_case_byte,
 };
@@ -17,8 +17,8 @@ pub enum Class {
     Comment,
     /// A line that is copied as it stands, and ends a run.
     Other,
-    /// An operation of the table with an operand that it does not take, or a line with a comma in column 1 directly after
-    /// an instruction or a `NO`.
+    /// An operation of the table with an operand that it does not take, or that goes on behind characters with a blank; or a line
+    /// with a comma in column 1 directly after an instruction or a `NO`.
     Refused,
     /// A `NO`.
     Pad { located: bool },
@@ -51,7 +51,7 @@ fn is_pad_name(word: &[u8]) -> bool
 /// The class of a line of which these are the bytes from its operation on.
 fn class_by_operation(located: bool, bytes: &[u8]) -> Class
     requires { length bytes.now ≤ TEXT_LIMIT }
-    ensures class { result ≡ by_operation located (operation_in bytes.now) (operand_in bytes.now) }
+    ensures class { result ≡ by_operation located bytes.now }
     ensures spelled { IsSpelled result bytes.now }
 {
     let (operation, rest) = split_word(bytes);
@@ -61,6 +61,9 @@ fn class_by_operation(located: bool, bytes: &[u8]) -> Class
     let Some((syntax, digit)) = operation_of(operation) else {
         return Class::Other;
     };
+    if runs_on(bytes) {
+        return Class::Refused;
+    }
     match decode(syntax, digit, upper_case(next_word(rest)).as_slice()) {
         Some(instr) => Class::Instruction { located, instr },
         None => Class::Refused,
@@ -78,8 +81,7 @@ pub struct Classified<'a> {
 /// A body that is neither a comment nor a continuation, with its class.
 fn class_by_fields(line: &[u8]) -> Classified<'_>
     requires { length line.now ≤ LINE_BYTES_LIMIT }
-    ensures class { result.class ≡
-        by_operation (is_located line.now) (upper (operation line.now)) (upper (operand line.now)) }
+    ensures class { result.class ≡ by_operation (is_located line.now) (from_operation line.now) }
     ensures label { result.label.now ≡ label_bytes line.now }
     ensures bytes { result.bytes.now ≡ from_operation line.now }
     ensures spelled { IsSpelled result.class result.bytes.now }

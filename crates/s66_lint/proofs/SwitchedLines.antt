@@ -5,7 +5,7 @@ use Rattle.std.proofs.lemmas.Bool.{and_parts, and_from, or_parts}
 use Rattle.s66_isa.specs.Lists.{every}
 use Rattle.s66_line.specs.Block.{Entry, Block}
 use Rattle.s66_line.specs.Class.{by_operation, class_of, is_code, is_instruction, is_located}
-use Rattle.s66_line.specs.Fields.{body, continues, is_comment, is_newline, lines_of, operand, operation, upper, with_newlines}
+use Rattle.s66_line.specs.Fields.{body, continues, is_comment, is_newline, lines_of, operand, operation, upper, with_newlines, from_operation}
 use Rattle.s66_line.specs.declared.class.Class.{Class}
 use Rattle.s66_line.specs.declared.class.Class.TheVariants.{Comment, Other, Refused}
 use Rattle.s66_line.proofs.Wholes.{AreLines-lines_of}
@@ -106,7 +106,7 @@ same-by after false false c h = refl
 
 same-class : (after : Bool) (line : List ℕ) → is_refused (class_of true line) ≡ false → class_of after line ≡ class_of true line
 same-class after line h =
-    same-by after (is_comment (body line)) (continues (body line)) (by_operation (is_located (body line)) (upper (operation (body line))) (upper (operand (body line)))) h
+    same-by after (is_comment (body line)) (continues (body line)) (by_operation (is_located (body line)) (from_operation (body line))) h
 
 not-refused : (s : Standing) (line : List ℕ) (continued : Bool) → is_alone true s line continued ≡ false → is_refused (class_of true line) ≡ false
 not-refused s line continued h = (or_parts (is_held true s line continued) (is_refused (class_of true line)) h).1

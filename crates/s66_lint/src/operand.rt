@@ -1,5 +1,6 @@
 use crate::spelling::is_register;
-use s66_source::{are_digits, is_decimal_digit};
+use s66_line::is_decimal_digit;
+use s66_source::are_digits;
 use std::alloc::{AllocError, Global};
 
 fn is_sign(byte: u8) -> bool {

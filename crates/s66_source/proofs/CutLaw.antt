@@ -5,7 +5,7 @@ use Rattle.std.proofs.lemmas.Bool.{and_parts, and_from, not-true}
 use Rattle.s66_isa.specs.Lists.{every}
 use Rattle.s66_line.specs.Block.{Block}
 use Rattle.s66_line.specs.Class.{by_operation, class_of, is_code, is_located}
-use Rattle.s66_line.specs.Fields.{body, continues, is_comment, lines_of, operand, operation, upper}
+use Rattle.s66_line.specs.Fields.{body, continues, is_comment, lines_of, from_operation}
 use Rattle.s66_line.specs.declared.class.Class.{Class}
 use Rattle.s66_line.specs.declared.class.Class.TheVariants.{Comment, Other, Refused, Pad, Instruction}
 use Rattle.s66_source.specs.LeftAlone.{Flagged, after_line, at_first, class_at, flagged_from, is_alone, is_continued, is_held, is_off_switch, is_on_switch, is_refused}
@@ -33,7 +33,7 @@ by-fields number false false after c = by-refused number c
 none-held : (number : ℕ) (held after : Bool) (line : List ℕ) → operand_refusal number (if held || is_refused (class_of true line) then Other else class_of after line) ≡ None
 none-held number true after line = refl
 none-held number false after line =
-    by-fields number (is_comment (body line)) (continues (body line)) after (by_operation (is_located (body line)) (upper (operation (body line))) (upper (operand (body line))))
+    by-fields number (is_comment (body line)) (continues (body line)) after (by_operation (is_located (body line)) (from_operation (body line)))
 
 pub none-refused : (number : ℕ) (after continued : Bool) (s : Standing) (line : List ℕ) → operand_refusal number (class_at after (record { alone = is_alone true s line continued; bytes = line })) ≡ None
 none-refused number after continued s line = none-held number (is_held true s line continued) after line

@@ -1,5 +1,5 @@
 -- The lines of a text, each flagged as left alone or not.
-use Rattle.std.proofs.Common.{◌≡◌, ◌+◌, ◌==◌, ℕ, suc, true, false, Bool, if◌then◌else◌, List, [], ◌∷◌, ◌++◌, length, map, refl, ap, ◌∙◌}
+use Rattle.std.proofs.Common.{◌≡◌, ◌==◌, ℕ, suc, true, false, Bool, if◌then◌else◌, List, [], ◌∷◌, ◌++◌, length, map, refl, ap, ◌∙◌}
 use Rattle.std.proofs.lemmas.Bool.{eqb-true, cond_both}
 use Rattle.s66_line.specs.Fields.{continues, lines_from}
 use Rattle.s66_source.specs.LeftAlone.{Flagged, after_line, is_alone, is_continued, flagged_from}

@@ -3,13 +3,13 @@ use Rattle.std.proofs.Common.{◌≡◌, ◌≤◌, ◌<◌, ◌-◌, ◌==◌, 
 use Rattle.std.proofs.lemmas.List.{take-replicate}
 use Rattle.s66_isa.specs.Lists.{Among}
 use Rattle.s66_line.specs.Block.{Block, Entry, bytes_of}
-use Rattle.s66_line.specs.Fields.{body, from_operation, trim}
+use Rattle.s66_line.specs.Fields.{body, from_operation, trim, is_trailing}
 use Rattle.s66_isa.specs.declared.instr.Instr.{Instr}
 use Rattle.s66_line.specs.Class.{class_of}
-use Rattle.s66_line.specs.InstructionText.{Spells}
+use Rattle.s66_source.proofs.CharactersRead.{SpellsAll}
 use Rattle.s66_line.specs.declared.class.Class.TheVariants.{Instruction}
 use Rattle.s66_source.specs.Columns.{bytes_on, indent, indented_lines, indents, line_start}
-use Rattle.s66_source.specs.Printed.{instruction_lines, is_trailing, label_field}
+use Rattle.s66_source.specs.Printed.{instruction_lines, label_field}
 use Rattle.s66_source.specs.Source.{Line}
 use Rattle.s66_source.specs.declared.columns.Columns.TheVariants.{Own, Usual}
 use Rattle.s66_source.proofs.ReadLine.{IsRead, read-indented}
@@ -46,13 +46,13 @@ usual-indents all block order within =
 own-indent : (line : List ℕ) → (k : ℕ) × (k ≤ 26) × (indent Own line ≡ suc (suc k))
 own-indent line = let all = indent Own line in (all - 2, omega (arith), omega arith)
 
-own-read : (line bytes : List ℕ) (n : Instr) → Spells bytes n → IsRead (replicate (indent Own line) 32 ++ trim is_trailing bytes) [] bytes n
+own-read : (line bytes : List ℕ) (n : Instr) → SpellsAll bytes n → IsRead (replicate (indent Own line) 32 ++ trim is_trailing bytes) [] bytes n
 own-read line bytes n spells =
     let (k, few, is) = own-indent line in
     subst (λ m. IsRead (replicate m 32 ++ trim is_trailing bytes) [] bytes n) (sym is) (read-indented k bytes n few spells)
 
-pub own-class : (after : Bool) (line bytes : List ℕ) (n : Instr) → Spells bytes n → class_of after (replicate (indent Own line) 32 ++ trim is_trailing bytes) ≡ Instruction false n
+pub own-class : (after : Bool) (line bytes : List ℕ) (n : Instr) → SpellsAll bytes n → class_of after (replicate (indent Own line) 32 ++ trim is_trailing bytes) ≡ Instruction false n
 own-class after line bytes n spells = (own-read line bytes n spells).classed after
 
-pub own-left : (line bytes : List ℕ) (n : Instr) → Spells bytes n → from_operation (body (replicate (indent Own line) 32 ++ trim is_trailing bytes)) ≡ trim is_trailing bytes
+pub own-left : (line bytes : List ℕ) (n : Instr) → SpellsAll bytes n → from_operation (body (replicate (indent Own line) 32 ++ trim is_trailing bytes)) ≡ trim is_trailing bytes
 own-left line bytes n spells = (own-read line bytes n spells).left

@@ -16,6 +16,7 @@ pub mod BlocksBefore
 pub mod FewBlocks
 pub mod MergedLines
 pub mod ReadBack
+pub mod CharactersRead
 pub mod ReadStanding
 pub mod ReadLine
 pub mod ReadComments

@@ -1,7 +1,7 @@
 -- A line that is not left alone for what stands before it, by whether it would be refused.
 use Rattle.std.proofs.Common.{◌≡◌, ◌∙◌, ◌&&◌, ◌||◌, Bool, true, false, if◌then◌else◌, List, ℕ, refl, sym, ap}
 use Rattle.s66_line.specs.Class.{by_operation, class_of, is_located}
-use Rattle.s66_line.specs.Fields.{body, continues, is_comment, operand, operation, upper}
+use Rattle.s66_line.specs.Fields.{body, continues, is_comment, from_operation}
 use Rattle.s66_line.specs.declared.class.Class.{Class}
 use Rattle.s66_line.specs.declared.class.Class.TheVariants.{Comment, Other, Refused}
 use Rattle.s66_source.specs.LeftAlone.{class_at, is_alone, is_held, is_refused}
@@ -19,7 +19,7 @@ same-or-other after false false c h = ap (λ t. if t then Other else c) h
 
 accepted : (after : Bool) (line : List ℕ) → is_refused (class_of after line) ≡ false → (if is_refused (class_of true line) then Other else class_of after line) ≡ class_of after line
 accepted after line h =
-    same-or-other after (is_comment (body line)) (continues (body line)) (by_operation (is_located (body line)) (upper (operation (body line))) (upper (operand (body line)))) h
+    same-or-other after (is_comment (body line)) (continues (body line)) (by_operation (is_located (body line)) (from_operation (body line))) h
 
 pub open-line : (cut after continued : Bool) (s : Standing) (line : List ℕ) → is_held cut s line continued ≡ false → (cut && is_refused (class_of after line)) ≡ false →
     class_of after line ≡ class_at after (record { alone = is_alone cut s line continued; bytes = line })

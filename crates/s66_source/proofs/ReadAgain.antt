@@ -11,7 +11,7 @@ use Rattle.s66_line.specs.Operand.{is_filled}
 use Rattle.s66_source.specs.Source.{Line, run_at, run_after, place_at, place_after, label_at, label_after, classes_from, classed_lines, operand_refusal, refusal_at, refusal, instructions, begins_block, put_before, parts_of, entry_of, block_of, blocks_of, source_of}
 use Rattle.s66_line.specs.Block.{Block}
 use Rattle.s66_line.specs.Class.{class_of, is_code, begins_run, instr_in}
-use Rattle.s66_line.specs.InstructionText.{Spells}
+use Rattle.s66_source.proofs.CharactersRead.{SpellsAll}
 use Rattle.s66_source.specs.LeftAlone.{Reading, Flagged, after_line, at_first, class_at, is_alone, is_continued, flagged_from, flagged_lines}
 use Rattle.s66_source.specs.Roles.{is_copied, is_comment_class}
 use Rattle.s66_source.specs.Printed.{Placed, ArePlaced, copied_line, copied_text, text_of_lines, printed}
@@ -23,7 +23,7 @@ use Rattle.s66_isa.specs.declared.limits.TheConstants.{BLOCK_LIMIT}
 use Rattle.s66_source.specs.declared.error.SourceError.{SourceError}
 use Rattle.s66_source.proofs.LineLaw.{no_refusal, neither, operand-none}
 use Rattle.s66_source.proofs.PrintedLines.{text-first, instruction-not_copied, same-blocks, accepted-is}
-use Rattle.s66_source.proofs.ReadLine.{IsLabel, label-of_code, spells-of_class, every-from_operation, every-trimmed}
+use Rattle.s66_source.proofs.ReadLine.{IsLabel, label-of_code, whole-of_class, every-from_operation, every-trimmed}
 use Rattle.s66_source.specs.declared.standing.Standing.{Standing}
 use Rattle.s66_source.proofs.Standings.{code-stays}
 use Rattle.s66_source.proofs.ReadStanding.{flagged_at, is_holding, taken, comma-alone, comment-stays, continues-copied, text-quiet, IsQuiet}
@@ -162,7 +162,7 @@ sound-instructions cut s (line ∷ lines) number run index label after h =
     by_class (Pad located) stated inside rest = rest
     by_class (Instruction located n) stated inside rest =
         let is = (taken-by (is_alone cut s line (is_continued lines)) (class_of after line) located n stated).1 in
-        ((spells-of_class after line located n is, every-from_operation is_inside (body line) (every-trimmed is_inside is_return line inside)), rest)
+        ((whole-of_class after line located n is, every-from_operation is_inside (body line) (every-trimmed is_inside is_return line inside)), rest)
 
 pub sound-left : (lines : List Line) → AreSoundLines lines → AreSoundLines (left (parts_of lines))
 sound-left [] h = tt
@@ -459,7 +459,7 @@ ready-more lines number run index count label t inside one ready = by_full (eqb 
 
 pub sound-line : (after : Bool) (l : Line) (located : Bool) (i : Instr) → l.class ≡ Instruction located i → class_of after l.bytes ≡ Instruction located i → every is_inside l.bytes ≡ true → AreSoundLines (l ∷ [])
 sound-line after l located i is stated inside =
-    let spelled : Spells (from_operation (body l.bytes)) (instr_in l.class) = subst (λ c. Spells (from_operation (body l.bytes)) (instr_in c)) (sym is) (spells-of_class after l.bytes located i stated) in
+    let spelled : SpellsAll (from_operation (body l.bytes)) (instr_in l.class) = subst (λ c. SpellsAll (from_operation (body l.bytes)) (instr_in c)) (sym is) (whole-of_class after l.bytes located i stated) in
     ((spelled, every-from_operation is_inside (body l.bytes) (every-trimmed is_inside is_return l.bytes inside)), tt)
 
 -- one instruction, whether its block begins with it or before

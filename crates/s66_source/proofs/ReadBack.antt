@@ -3,7 +3,7 @@ use Rattle.std.proofs.Common.{◌≡◌, ◌&&◌, not, ℕ, Bool, true, false, 
 use Rattle.std.proofs.lemmas.Bool.{and_parts, not-true}
 use Rattle.std.proofs.lemmas.List.{append-nil}
 use Rattle.s66_isa.specs.Lists.{every}
-use Rattle.s66_line.specs.Fields.{trim, body, is_return, is_newline, is_comment, continues, upper, operation, operand, lines_from, lines_of}
+use Rattle.s66_line.specs.Fields.{trim, body, is_return, is_newline, is_comment, continues, lines_from, lines_of, from_operation}
 use Rattle.s66_line.specs.Class.{class_of, by_operation, is_located}
 use Rattle.s66_line.specs.declared.class.Class.{Class}
 use Rattle.s66_line.specs.declared.class.Class.TheVariants.{Comment, Other, Refused}
@@ -35,7 +35,7 @@ trim-twice test (b ∷ bytes) = trim-by (every test (b ∷ bytes)) test b bytes 
 abbrev pub class_of_body : Bool → List ℕ → Class
 class_of_body after line =
     if is_comment line then Comment
-    else (if continues line then (if after then Refused else Other) else by_operation (is_located line) (upper (operation line)) (upper (operand line)))
+    else (if continues line then (if after then Refused else Other) else by_operation (is_located line) (from_operation line))
 
 -- a line without the carriage returns at its end is of the same class
 pub class_of-body : (after : Bool) (line : List ℕ) → class_of after (body line) ≡ class_of after line

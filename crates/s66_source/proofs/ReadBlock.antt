@@ -5,13 +5,13 @@ use Rattle.std.proofs.lemmas.Bool.{and_right, ne_eqb, eqb-false}
 use Rattle.s66_isa.specs.declared.instr.Instr.{Instr}
 use Rattle.s66_isa.specs.Lists.{Among, every}
 use Rattle.s66_isa.specs.Table.{instr_at}
-use Rattle.s66_line.specs.Fields.{trim, body, continues, from_operation, label_bytes}
+use Rattle.s66_line.specs.Fields.{trim, body, continues, from_operation, label_bytes, is_trailing}
 use Rattle.s66_line.specs.Class.{is_code}
 use Rattle.s66_line.specs.Operand.{is_filled}
-use Rattle.s66_line.specs.InstructionText.{Spells}
+use Rattle.s66_source.proofs.CharactersRead.{SpellsAll}
 use Rattle.s66_source.specs.Source.{Line}
 use Rattle.s66_line.specs.Block.{Entry, Block, instrs_of, entry_at, bytes_of}
-use Rattle.s66_source.specs.Printed.{Placed, is_trailing, label_field, instruction_line, instruction_lines, report, notes_text, block_text}
+use Rattle.s66_source.specs.Printed.{Placed, label_field, instruction_line, instruction_lines, report, notes_text, block_text}
 use Rattle.s66_source.specs.ReadAgain.{IsPlacedAgain}
 use Rattle.s66_source.specs.Reader.{SourceState, with_open, end_block, begin_run_if, with_entry, count_line}
 use Rattle.s66_line.specs.declared.class.Class.{Class}
@@ -30,7 +30,7 @@ use Rattle.s66_line.proofs.Wholes.{is_inside}
 -- ENTRIES that were read
 
 abbrev pub IsSound : Entry → Type 0
-IsSound e = Spells e.bytes e.instr × (every is_inside e.bytes ≡ true)
+IsSound e = SpellsAll e.bytes e.instr × (every is_inside e.bytes ≡ true)
 
 abbrev pub AreSound : List Entry → Type 0
 AreSound [] = Unit {0}
@@ -38,7 +38,7 @@ AreSound (e ∷ es) = IsSound e × AreSound es
 
 -- the bytes of a number spell its instruction
 abbrev pub IsSoundAt : Block → ℕ → Type 0
-IsSoundAt block n = Spells (bytes_of block n) (instr_at (instrs_of block) n) × (every is_inside (bytes_of block n) ≡ true)
+IsSoundAt block n = SpellsAll (bytes_of block n) (instr_at (instrs_of block) n) × (every is_inside (bytes_of block n) ≡ true)
 
 record Found (entries : List Entry) (n : ℕ) : Type 0 where
   entry : Entry
@@ -61,7 +61,7 @@ sound-at block (suc n) h some few =
     let there = found block.entries n h (omega (arith, few)) in
     let bytes = bytes_of-entry block (suc n) there.entry there.here in
     let instr = instr_at-entry block (suc n) there.entry there.here in
-    (subst (λ i. Spells (bytes_of block (suc n)) i) instr (subst (λ bs. Spells bs there.entry.instr) (sym bytes) there.sound.0), ap (every is_inside) bytes ∙ there.sound.1)
+    (subst (λ i. SpellsAll (bytes_of block (suc n)) i) instr (subst (λ bs. SpellsAll bs there.entry.instr) (sym bytes) there.sound.0), ap (every is_inside) bytes ∙ there.sound.1)
 
 -- AN INSTRUCTION LINE
 
@@ -74,14 +74,14 @@ same-run true label other s h = ap (λ l. begin_run_if true l s) (h refl)
 same-run false label other s h = refl
 
 -- it begins with no comma
-pub quiet-instruction : (cut : Bool) (label bytes : List ℕ) (n : Instr) (text : List ℕ) → IsLabel label → Spells bytes n → IsQuiet cut (instruction_line label bytes ++ text)
+pub quiet-instruction : (cut : Bool) (label bytes : List ℕ) (n : Instr) (text : List ℕ) → IsLabel label → SpellsAll bytes n → IsQuiet cut (instruction_line label bytes ++ text)
 quiet-instruction cut label bytes n text is spells =
     let line : List ℕ = label_field label ++ trim is_trailing bytes in
     let parts = code-line false line (ap is_code ((read-line label bytes n is spells).classed false)) in
     and_right cut (continues (instruction_line label bytes ++ text))
     (ap continues (append_assoc line (codes "\n") text) ∙ continues-line line text ∙ sym (continues-body line) ∙ parts.1)
 
-read-instruction : (cut : Bool) (s : Standing) (label bytes : List ℕ) (n : Instr) (t : SourceState) (text : List ℕ) (again : List Block) → is_holding cut s ≡ false → IsQuiet cut text → IsLabel label → Spells bytes n → every is_inside bytes ≡ true →
+read-instruction : (cut : Bool) (s : Standing) (label bytes : List ℕ) (n : Instr) (t : SourceState) (text : List ℕ) (again : List Block) → is_holding cut s ≡ false → IsQuiet cut text → IsLabel label → SpellsAll bytes n → every is_inside bytes ≡ true →
     read_at cut s t (instruction_line label bytes ++ text) ≡ Ok again → read_at cut s (count_line true (with_entry n (trim is_trailing bytes) (begun label t))) text ≡ Ok again
 read-instruction cut s label bytes n t text again free quiet is spells inside h =
     let line : List ℕ = label_field label ++ trim is_trailing bytes in

@@ -1,16 +1,17 @@
 -- The lines of a printed text read one by one; the report of a block and its notes change nothing.
 use Rattle.std.proofs.Common.{◌≡◌, ◌+◌, ◌%◌, ◌/◌, ◌==◌, ◌&&◌, ℕ, zero, suc, Bool, true, false, if◌then◌else◌, true≢false, List, [], ◌∷◌, ◌++◌, Option, None, Some, is_some, codes, decimal, length, refl, sym, ap, ap₂, ◌∙◌, subst, arith, nat_le, nat_lt, append_assoc}
+use Rattle.s66_line.specs.InstructionText.{operation_in}
 use Rattle.std.specs.Prelude.{Result, Ok, Err}
 use Rattle.std.specs.Fmt.{digits, digits_onto, digit_glyph}
 use Rattle.std.proofs.lemmas.Bool.{and_parts, and_right, ne_eqb}
 use Rattle.std.proofs.lemmas.List.{append-nil}
 use Rattle.s66_isa.specs.Lists.{every}
 use Rattle.s66_isa.specs.declared.instr.Instr.{Instr}
-use Rattle.s66_line.specs.Fields.{is_return, lines_of, body, upper, is_comment, continues, operation, operand, from_operation, label_bytes}
-use Rattle.s66_line.specs.Operand.{operation_of, instr_of}
+use Rattle.s66_line.specs.Fields.{is_return, lines_of, body, is_comment, continues, from_operation, label_bytes}
+use Rattle.s66_line.specs.Operand.{operation_of}
 use Rattle.s66_source.specs.Source.{Line, run_after, place_after, label_after, classes_from, operand_refusal}
 use Rattle.s66_line.specs.Block.{Block, line_of}
-use Rattle.s66_line.specs.Class.{class_of, class_of_operand, is_pad, is_located, by_operation, is_code}
+use Rattle.s66_line.specs.Class.{class_of, class_of_operand, is_pad, is_located, by_operation, is_code, whole_instr}
 use Rattle.s66_source.specs.LeftAlone.{Flagged, after_line, class_at, is_alone, is_continued, is_refused, flagged_from}
 use Rattle.s66_source.specs.Roles.{is_comment_class, is_note_of}
 use Rattle.s66_source.specs.Printed.{Placed, splits_line, bound_text, times_text, report, copied_line, notes_text}
@@ -95,7 +96,7 @@ read-copied cut s t after continued line text number again inside next accepted 
     ∙ ap (λ bs. and_then (by_class t (class_at t.after (flagged_at cut s line continued)) (label_bytes bs) (from_operation bs)) (λ u. read_at cut (after_line cut s there) u text)) (sym (trim-twice is_return line))
     ∙ read-class cut s t there text (class_at t.after (flagged_at cut s line continued)) again (every-trimmed is_inside is_return line inside) stated h in
     let same : class_at t.after (flagged_at cut s line continued) ≡ class_at after (flagged_at cut s line continued) =
-    same-class alone (is_comment there) (continues there) after t.after (by_operation (is_located there) (upper (operation there)) (upper (operand there))) number accepted
+    same-class alone (is_comment there) (continues there) after t.after (by_operation (is_located there) (from_operation there)) number accepted
     (λ is. refused t (label_bytes there) (from_operation there) rest again (ap (λ c. and_then (by_class t c (label_bytes there) (from_operation there)) rest) (sym is) ∙ step)) in
     ap (λ c. and_then (by_class t c (label_bytes there) (from_operation there)) rest) (sym same) ∙ step
 
@@ -277,9 +278,9 @@ comment-parts false false false after c none h = absurd (true≢false (sym h ∙
 pub comment-line : (after alone : Bool) (line : List ℕ) → is_comment_class (class_at after (record { alone = alone; bytes = line })) ≡ true → (alone ≡ false) × (is_comment (body line) ≡ true)
 comment-line after alone line h =
     let there : List ℕ = body line in
-    let words : List ℕ = upper (operation there) in
-    comment-parts alone (is_comment there) (continues there) after (by_operation (is_located there) words (upper (operand there)))
-    (no-comment (is_pad words) (is_some (operation_of words)) (is_located there) (instr_of words (upper (operand there)))) h
+    let bytes : List ℕ = from_operation there in
+    comment-parts alone (is_comment there) (continues there) after (by_operation (is_located there) bytes)
+    (no-comment (is_pad (operation_in bytes)) (is_some (operation_of (operation_in bytes))) (is_located there) (whole_instr bytes)) h
 
 comments-note : (cut : Bool) (l : Line) → IsOfSource cut l → is_comment_class l.class ≡ true → Comments cut (body l.bytes ++ codes "\n")
 comments-note cut l is comment =

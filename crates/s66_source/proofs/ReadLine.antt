@@ -1,20 +1,22 @@
 -- An instruction line that is printed, read again.
-use Rattle.std.proofs.Common.{◌≡◌, ◌<◌, ◌≤◌, ◌+◌, ◌-◌, ◌==◌, ◌&&◌, ◌||◌, ℕ, zero, suc, Bool, true, false, not, if◌then◌else◌, true≢false, List, [], ◌∷◌, ◌++◌, Option, None, Some, is_some, option_and_then, length, replicate, refl, sym, ap, ◌∙◌, subst, arith, eqb-true, nat_le, nat_lt, append_assoc, length-append}
+use Rattle.std.proofs.Common.{◌≡◌, ◌<◌, ◌≤◌, ◌+◌, ◌-◌, ◌==◌, ◌&&◌, ◌||◌, ℕ, zero, suc, Bool, true, false, not, if◌then◌else◌, true≢false, List, [], ◌∷◌, ◌++◌, Option, None, Some, is_some, option_and_then, length, replicate, refl, sym, ap, ap₂, ◌∙◌, subst, arith, eqb-true, nat_le, nat_lt, append_assoc, length-append}
 use Rattle.std.proofs.lemmas.Bool.{and_parts, and_from, or_parts, not-true, ne_eqb, lt-ltb, ltb-true, lt-leb}
 use Rattle.std.proofs.lemmas.List.{length-replicate}
 use Rattle.std.proofs.Math.Bool.{and-false}
 use Rattle.s66_isa.specs.declared.instr.Instr.{Instr}
 use Rattle.s66_isa.specs.Lists.{every}
-use Rattle.s66_line.specs.Fields.{is_blank, is_newline, is_return, trim, body, upper, skip_blanks, word, after_word, blanks, is_comment, from_location, from_operation, operation, operand, continues, label_bytes}
+use Rattle.s66_line.specs.Fields.{is_blank, is_newline, is_return, trim, body, upper, skip_blanks, word, after_word, blanks, is_comment, from_location, from_operation, continues, label_bytes, is_trailing}
 use Rattle.s66_line.specs.Operand.{is_filled, operation_of, decode, instr_of}
 use Rattle.s66_line.specs.InstructionText.{operation_in, operand_in, Spells}
-use Rattle.s66_line.specs.Class.{class_of, class_of_operand, is_pad, is_located, by_operation, begins_run}
-use Rattle.s66_source.specs.Printed.{is_trailing, label_field}
+use Rattle.s66_line.specs.Class.{class_of, class_of_operand, is_pad, is_located, by_operation, begins_run, whole_instr}
+use Rattle.s66_source.specs.Printed.{label_field}
 use Rattle.s66_line.specs.declared.class.Class.{Class}
 use Rattle.s66_line.specs.declared.class.Class.TheVariants.{Comment, Other, Refused, Pad, Instruction}
 use Rattle.s66_line.proofs.InstructionTexts.{is_no_blank, no_blank-word, filled-parts, word-before, after-before}
 use Rattle.s66_line.proofs.LineFields.{skip_blanks-no, from_location-no, label-no, indented_no}
 use Rattle.s66_line.proofs.NoLineEnds.{ends_no_line, EndsNoLine, spelled-ends_no_line, ends_no_line-upper}
+use Rattle.s66_source.proofs.CharactersRead.{SpellsAll, characters_in-trimmed, whole-trimmed}
+use Rattle.s66_line.specs.Characters.{characters_in, rest_in, runs_on}
 use Rattle.s66_source.proofs.ReadBack.{trim-kept, class_of_body}
 use Rattle.s66_line.proofs.Wholes.{is_inside, every-append}
 
@@ -85,6 +87,21 @@ spells-again bytes n spells =
     ap (λ w. instr_of (upper w) (operand_in (trim is_trailing bytes))) (operation-again bytes n spells)
     ∙ ap (λ w. instr_of (operation_in bytes) (upper w)) (operand-again bytes n spells)
     ∙ spells
+
+rest-again : (bytes : List ℕ) (n : Instr) → Spells bytes n → rest_in (trim is_trailing bytes) ≡ trim is_trailing (rest_in bytes)
+rest-again bytes n spells =
+    let clean = spelled-ends_no_line (operation_in bytes) (operand_in bytes) n spells in
+    ap (λ w. after_word (skip_blanks w)) (after_word-trimmed bytes (ends_no_line-word (word bytes) clean.0.0))
+    ∙ ap after_word (skip_blanks-trimmed (after_word bytes))
+    ∙ after_word-trimmed (skip_blanks (after_word bytes)) (ends_no_line-word (word (skip_blanks (after_word bytes))) clean.1)
+
+-- with all characters of its operand
+all-again : (bytes : List ℕ) (n : Instr) → SpellsAll bytes n → SpellsAll (trim is_trailing bytes) n
+all-again bytes n is =
+    (spells-again bytes n is.0, whole-trimmed bytes (trim is_trailing bytes) (ap upper (operand-again bytes n is.0)) (rest-again bytes n is.0) is.1)
+
+pub characters-again : (bytes : List ℕ) (n : Instr) → Spells bytes n → characters_in (trim is_trailing bytes) ≡ characters_in bytes
+characters-again bytes n spells = characters_in-trimmed bytes (trim is_trailing bytes) (ap upper (operand-again bytes n spells)) (rest-again bytes n spells)
 
 filled-upper : (bytes : List ℕ) → is_filled (upper bytes) ≡ is_filled bytes
 filled-upper [] = refl
@@ -165,18 +182,15 @@ pad-none (a ∷ []) h = refl
 pad-none (a ∷ b ∷ []) h = absurd (true≢false (sym h))
 pad-none (a ∷ b ∷ c ∷ more) h = refl
 
-spelled-class : (located : Bool) (operation operand : List ℕ) (n : Instr) → instr_of operation operand ≡ Some n → by_operation located operation operand ≡ Instruction located n
-spelled-class located operation operand n h =
-    let some = operation-some (operation_of operation) (λ o. decode o.0 o.1 operand) n h in
-    rw (pad-none operation some, some, h) refl
+spelled-class : (located : Bool) (bytes : List ℕ) (n : Instr) → Spells bytes n → runs_on bytes ≡ false → by_operation located bytes ≡ Instruction located n
+spelled-class located bytes n h whole =
+    let some = operation-some (operation_of (operation_in bytes)) (λ o. decode o.0 o.1 (operand_in bytes)) n h in
+    rw (pad-none (operation_in bytes) some, some, whole, h) refl
 
-class-spelled : (after : Bool) (line bytes : List ℕ) (located : Bool) (n : Instr) → body line ≡ line → is_comment line ≡ false → continues line ≡ false → is_located line ≡ located → from_operation line ≡ bytes → Spells bytes n →
+class-spelled : (after : Bool) (line bytes : List ℕ) (located : Bool) (n : Instr) → body line ≡ line → is_comment line ≡ false → continues line ≡ false → is_located line ≡ located → from_operation line ≡ bytes → SpellsAll bytes n →
     class_of after line ≡ Instruction located n
 class-spelled after line bytes located n whole code first here at spells =
-    ap (class_of_body after) whole ∙ (rw (code, first) (parts ∙ spelled-class located (operation_in bytes) (operand_in bytes) n spells))
-  where
-    parts : by_operation (is_located line) (upper (operation line)) (upper (operand line)) ≡ by_operation located (operation_in bytes) (operand_in bytes)
-    parts = ap (λ t. by_operation t (upper (operation line)) (upper (operand line))) here ∙ ap (λ bs. by_operation located (operation_in bs) (operand_in bs)) at
+    ap (class_of_body after) whole ∙ (rw (code, first) (ap₂ by_operation here at ∙ spelled-class located bytes n spells.0 spells.1))
 
 -- LABELS
 
@@ -195,10 +209,10 @@ pub record IsRead (line label bytes : List ℕ) (n : Instr) : Type 0 where
   pub left : from_operation (body line) ≡ trim is_trailing bytes
 
 -- if a line is whole without returns at its end
-read-by : (line label bytes : List ℕ) (n : Instr) → Spells bytes n → body line ≡ line → is_comment line ≡ false → continues line ≡ false → is_located line ≡ is_filled label →
+read-by : (line label bytes : List ℕ) (n : Instr) → SpellsAll bytes n → body line ≡ line → is_comment line ≡ false → continues line ≡ false → is_located line ≡ is_filled label →
     from_operation line ≡ trim is_trailing bytes → (is_filled label ≡ true → label_bytes line ≡ label) → IsRead line label bytes n
 read-by line label bytes n spells whole code first here at name = record {
-  classed = λ after. class-spelled after line (trim is_trailing bytes) (is_filled label) n whole code first here at (spells-again bytes n spells);
+  classed = λ after. class-spelled after line (trim is_trailing bytes) (is_filled label) n whole code first here at (all-again bytes n spells);
   labelled = λ some. ap label_bytes whole ∙ name some;
   left = ap from_operation whole ∙ at;
 }
@@ -215,28 +229,28 @@ skip-padding zero bytes = refl
 skip-padding (suc k) bytes = skip-padding k bytes
 
 -- without a label
-pub read-indented : (k : ℕ) (bytes : List ℕ) (n : Instr) → k ≤ 26 → Spells bytes n → IsRead (replicate (suc (suc k)) 32 ++ trim is_trailing bytes) [] bytes n
+pub read-indented : (k : ℕ) (bytes : List ℕ) (n : Instr) → k ≤ 26 → SpellsAll bytes n → IsRead (replicate (suc (suc k)) 32 ++ trim is_trailing bytes) [] bytes n
 read-indented k bytes n few spells =
     let tail : List ℕ = trim is_trailing bytes in
     let front : List ℕ = replicate (suc (suc k)) 32 in
-    let filled = filled-again bytes n spells in
+    let filled = filled-again bytes n spells.0 in
     let at : skip_blanks (front ++ tail) ≡ tail = skip-padding (suc (suc k)) tail ∙ skip_blanks-word tail filled in
     let some = some-length tail filled in
     let wide : length front ≡ suc (suc k) = length-replicate (suc (suc k)) 32 in
     let many : length (front ++ tail) ≡ length front + length tail = length-append front tail in
     let count : blanks (front ++ tail) ≡ suc (suc k) = ap (λ bs. length (front ++ tail) - length bs) at ∙ omega (arith, many, wide) in
-    read-by (front ++ tail) [] bytes n spells (body-again front bytes n spells)
+    read-by (front ++ tail) [] bytes n spells (body-again front bytes n spells.0)
     (few-blanks 32 (replicate (suc k) 32 ++ tail) (suc (suc k)) refl count (omega (arith, many, wide, some)) (omega (arith, few)))
     refl refl at (λ none. absurd (true≢false (sym none)))
 
 -- with one in column 2
-in-second : (name bytes : List ℕ) (k : ℕ) (n : Instr) → is_filled name ≡ true → every is_no_blank name ≡ true → Spells bytes n → body (32 ∷ (name ++ 32 ∷ (replicate k 32 ++ trim is_trailing bytes))) ≡ 32 ∷ (name ++ 32 ∷ (replicate k 32 ++ trim is_trailing bytes)) →
+in-second : (name bytes : List ℕ) (k : ℕ) (n : Instr) → is_filled name ≡ true → every is_no_blank name ≡ true → SpellsAll bytes n → body (32 ∷ (name ++ 32 ∷ (replicate k 32 ++ trim is_trailing bytes))) ≡ 32 ∷ (name ++ 32 ∷ (replicate k 32 ++ trim is_trailing bytes)) →
     IsRead (32 ∷ (name ++ 32 ∷ (replicate k 32 ++ trim is_trailing bytes))) (32 ∷ name) bytes n
 in-second [] bytes k n some words spells whole = absurd (true≢false (sym some))
 in-second (c ∷ name) bytes k n some words spells whole =
     let tail : List ℕ = trim is_trailing bytes in
     let rest : List ℕ = replicate k 32 ++ tail in
-    let at : skip_blanks tail ≡ tail = skip_blanks-word tail (filled-again bytes n spells) in
+    let at : skip_blanks tail ≡ tail = skip_blanks-word tail (filled-again bytes n spells.0) in
     let front : blanks (32 ∷ c ∷ (name ++ 32 ∷ rest)) ≡ 1 = ap (λ bs. length (32 ∷ c ∷ (name ++ 32 ∷ rest)) - length bs) (skip_blanks-no c (name ++ 32 ∷ rest) (filled-parts c name words).0) ∙ omega arith in
     read-by (32 ∷ c ∷ (name ++ 32 ∷ rest)) (32 ∷ c ∷ name) bytes n spells whole
     (few-blanks 32 (c ∷ (name ++ 32 ∷ rest)) 1 refl front (omega arith) (omega arith))
@@ -246,14 +260,14 @@ in-second (c ∷ name) bytes k n some words spells whole =
     (λ some. ap (λ w. 32 ∷ w) (word-before (c ∷ name) rest words))
 
 -- with one in column 1
-in-first : (b : ℕ) (name bytes : List ℕ) (k : ℕ) (n : Instr) → (b == 32) ≡ false → (b == 42) ≡ false → (b == 44) ≡ false → every is_no_blank (b ∷ name) ≡ true → Spells bytes n →
+in-first : (b : ℕ) (name bytes : List ℕ) (k : ℕ) (n : Instr) → (b == 32) ≡ false → (b == 42) ≡ false → (b == 44) ≡ false → every is_no_blank (b ∷ name) ≡ true → SpellsAll bytes n →
     body (b ∷ (name ++ 32 ∷ (replicate k 32 ++ trim is_trailing bytes))) ≡ b ∷ (name ++ 32 ∷ (replicate k 32 ++ trim is_trailing bytes)) →
     IsRead (b ∷ (name ++ 32 ∷ (replicate k 32 ++ trim is_trailing bytes))) (b ∷ name) bytes n
 in-first b name bytes k n space star comma words spells whole =
     let tail : List ℕ = trim is_trailing bytes in
     let rest : List ℕ = replicate k 32 ++ tail in
     let line : List ℕ = b ∷ (name ++ 32 ∷ rest) in
-    let at : skip_blanks tail ≡ tail = skip_blanks-word tail (filled-again bytes n spells) in
+    let at : skip_blanks tail ≡ tail = skip_blanks-word tail (filled-again bytes n spells.0) in
     let here : from_location line ≡ line = from_location-no b (name ++ 32 ∷ rest) space in
     let first : word line ≡ b ∷ name = word-before (b ∷ name) rest words in
     read-by line (b ∷ name) bytes n spells whole
@@ -271,13 +285,13 @@ padding count = by_width (nat_lt count 10) refl
     by_width true stated = (9 - count, let less = ltb-true count 10 stated in let one : 10 - count ≡ suc (9 - count) = omega (arith, less) in ap (λ m. replicate {A = ℕ} m 32) one)
     by_width false stated = (0, refl)
 
-with-label : (b : ℕ) (name bytes : List ℕ) (n : Instr) → is_label (b ∷ name) ≡ true → Spells bytes n → IsRead (label_field (b ∷ name) ++ trim is_trailing bytes) (b ∷ name) bytes n
+with-label : (b : ℕ) (name bytes : List ℕ) (n : Instr) → is_label (b ∷ name) ≡ true → SpellsAll bytes n → IsRead (label_field (b ∷ name) ++ trim is_trailing bytes) (b ∷ name) bytes n
 with-label b name bytes n is spells =
     let pad = padding (length (b ∷ name)) in
     let whole : label_field (b ∷ name) ++ trim is_trailing bytes ≡ b ∷ (name ++ 32 ∷ (replicate pad.0 32 ++ trim is_trailing bytes)) =
     ap (λ ps. ((b ∷ name) ++ ps) ++ trim is_trailing bytes) pad.1 ∙ append_assoc (b ∷ name) (32 ∷ replicate pad.0 32) (trim is_trailing bytes) in
     subst (λ line. IsRead line (b ∷ name) bytes n) (sym whole)
-    (by_column pad.0 (b == 32) refl is (sym (ap body whole) ∙ body-again (label_field (b ∷ name)) bytes n spells ∙ whole))
+    (by_column pad.0 (b == 32) refl is (sym (ap body whole) ∙ body-again (label_field (b ∷ name)) bytes n spells.0 ∙ whole))
   where
     by_column : (k : ℕ) (t : Bool) → (b == 32) ≡ t → (if t then is_filled name && every is_no_blank name else (every is_no_blank (b ∷ name) && not (b == 42) && not (b == 44))) ≡ true →
         body (b ∷ (name ++ 32 ∷ (replicate k 32 ++ trim is_trailing bytes))) ≡ b ∷ (name ++ 32 ∷ (replicate k 32 ++ trim is_trailing bytes)) →
@@ -292,7 +306,7 @@ with-label b name bytes n is spells =
         let inner = and_parts (every is_no_blank (b ∷ name)) (not (b == 42)) outer.0 in
         in-first b name bytes k n stated (not-true (b == 42) inner.1) (not-true (b == 44) outer.1) inner.0 spells kept
 
-pub read-line : (label bytes : List ℕ) (n : Instr) → IsLabel label → Spells bytes n → IsRead (label_field label ++ trim is_trailing bytes) label bytes n
+pub read-line : (label bytes : List ℕ) (n : Instr) → IsLabel label → SpellsAll bytes n → IsRead (label_field label ++ trim is_trailing bytes) label bytes n
 read-line [] bytes n is spells = read-indented 8 bytes n (omega arith) spells
 read-line (b ∷ name) bytes n is spells = with-label b name bytes n is.0 spells
 
@@ -339,9 +353,9 @@ no-run false false n = refl
 no-run false true None = refl
 no-run false true (Some n) = refl
 
-located-of : (located : Bool) (operation operand : List ℕ) → begins_run (by_operation located operation operand) ≡ true → located ≡ true
-located-of true operation operand h = refl
-located-of false operation operand h = absurd (true≢false (sym h ∙ no-run (is_pad operation) (is_some (operation_of operation)) (instr_of operation operand)))
+located-of : (located : Bool) (bytes : List ℕ) → begins_run (by_operation located bytes) ≡ true → located ≡ true
+located-of true bytes h = refl
+located-of false bytes h = absurd (true≢false (sym h ∙ no-run (is_pad (operation_in bytes)) (is_some (operation_of (operation_in bytes))) (whole_instr bytes)))
 
 code-parts : (comment comma after : Bool) (c : Class) → begins_run (if comment then Comment else (if comma then (if after then Refused else Other) else c)) ≡ true → (comment ≡ false) × (comma ≡ false) × (begins_run c ≡ true)
 code-parts true comma after c h = absurd (true≢false (sym h))
@@ -377,8 +391,8 @@ label-of_body (b ∷ bytes) code first here = by_column (b == 32) (is_blank b) r
 pub label-of_code : (after : Bool) (line : List ℕ) → begins_run (class_of after line) ≡ true → every is_inside line ≡ true → IsLabel (label_bytes (body line)) × (is_filled (label_bytes (body line)) ≡ true)
 label-of_code after line begins inside =
     let line_body : List ℕ = body line in
-    let parts = code-parts (is_comment line_body) (continues line_body) after (by_operation (is_located line_body) (upper (operation line_body)) (upper (operand line_body))) begins in
-    let label = label-of_body line_body parts.0 parts.1 (located-of (is_located line_body) (upper (operation line_body)) (upper (operand line_body)) parts.2) in
+    let parts = code-parts (is_comment line_body) (continues line_body) after (by_operation (is_located line_body) (from_operation line_body)) begins in
+    let label = label-of_body line_body parts.0 parts.1 (located-of (is_located line_body) (from_operation line_body) parts.2) in
     ((label.0, inside-label line_body (every-trimmed is_inside is_return line inside)), label.1)
 
 -- WHAT AN INSTRUCTION LINE SPELLS
@@ -395,13 +409,18 @@ class-parts false true true c located n h = cc
 class-parts false true false c located n h = cc
 class-parts false false after c located n h = h
 
-pub spells-of_class : (after : Bool) (line : List ℕ) (located : Bool) (n : Instr) → class_of after line ≡ Instruction located n → Spells (from_operation (body line)) n
-spells-of_class after line located n h =
+whole-spelled : (runs : Bool) (o : Option Instr) (n : Instr) → (if runs then None else o) ≡ Some n → (o ≡ Some n) × (runs ≡ false)
+whole-spelled true o n h = cc
+whole-spelled false o n h = (h, refl)
+
+-- and is not cut where its operand goes on
+pub whole-of_class : (after : Bool) (line : List ℕ) (located : Bool) (n : Instr) → class_of after line ≡ Instruction located n → SpellsAll (from_operation (body line)) n
+whole-of_class after line located n h =
     let line_body : List ℕ = body line in
-    let operation_there : List ℕ = upper (operation line_body) in
-    let operand_there : List ℕ = upper (operand line_body) in
-    spelled-parts (is_pad operation_there) (is_some (operation_of operation_there)) (instr_of operation_there operand_there) located (is_located line_body) n
-    (class-parts (is_comment line_body) (continues line_body) after (by_operation (is_located line_body) operation_there operand_there) located n h)
+    let bytes : List ℕ = from_operation line_body in
+    whole-spelled (runs_on bytes) (instr_of (operation_in bytes) (operand_in bytes)) n
+    (spelled-parts (is_pad (operation_in bytes)) (is_some (operation_of (operation_in bytes))) (whole_instr bytes) located (is_located line_body) n
+    (class-parts (is_comment line_body) (continues line_body) after (by_operation (is_located line_body) bytes) located n h))
 
 -- NO NEWLINE in what is printed
 

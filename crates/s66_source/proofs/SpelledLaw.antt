@@ -79,7 +79,7 @@ few-entry l few =
 spelled-by : (block : Block) (n : ℕ) (l : Line) → slice_get block.entries n ≡ Some (entry_of l) → IsSound (entry_of l) → length l.bytes ≤ LINE_BYTES_LIMIT → IsTextOf (text_of block (suc n)) (instr_at (instrs_of block) (suc n))
 spelled-by block n l here sound few =
     let e : Entry = entry_of l in
-    rw (bytes_of-entry block (suc n) e here, ← instr_at-entry block (suc n) e here) (text-of_bytes e.bytes e.instr sound.0 (few-entry l few))
+    rw (bytes_of-entry block (suc n) e here, ← instr_at-entry block (suc n) e here) (text-of_bytes e.bytes e.instr sound.0.0 (few-entry l few))
 
 -- OF A SOURCE
 

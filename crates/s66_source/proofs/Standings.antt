@@ -1,5 +1,6 @@
 -- What stands from one line to the next, and what leaves it as it is.
 use Rattle.std.proofs.Common.{◌≡◌, ◌==◌, ◌-◌, ◌&&◌, ◌||◌, inl, inr, not, ℕ, zero, suc, min, Bool, true, false, if◌then◌else◌, List, [], ◌∷◌, ◌≤◌, Option, None, Some, nat_lt, length, get_or, take, codes, refl, sym, ap, ap₂, subst, ◌∙◌, arith}
+use Rattle.s66_line.specs.InstructionText.{operation_in}
 use Rattle.std.specs.Prelude.{◌⊎◌, bytes_eq, is_some}
 use Rattle.std.specs.Char.{to_ascii_uppercase}
 use Rattle.std.specs.List.{prefix_len}
@@ -8,11 +9,11 @@ use Rattle.std.proofs.lemmas.Bool.{and_parts, eqb-true, ltb-false, or_cases, or_
 use Rattle.std.proofs.lemmas.List.{length-take, take-take, take_all}
 use Rattle.s66_isa.specs.declared.instr.Instr.{Instr}
 use Rattle.s66_isa.specs.Lists.{every, some_of}
-use Rattle.s66_line.specs.Class.{class_of, class_of_operand, by_operation, is_code, is_located, is_pad}
-use Rattle.s66_line.specs.Fields.{after_word, body, continues, is_blank, is_comment, is_return, operand, operation, skip_blanks, trim, upper, upper_byte, word}
+use Rattle.s66_line.specs.Class.{class_of, class_of_operand, by_operation, is_code, is_located, is_pad, whole_instr}
+use Rattle.s66_line.specs.Fields.{after_word, body, continues, is_blank, is_comment, is_return, operand, operation, skip_blanks, trim, upper, upper_byte, word, from_operation}
 use Rattle.s66_line.proofs.LineFields.{word-length, word-take}
 use Rattle.s66_line.proofs.UpperCase.{length-upper}
-use Rattle.s66_line.specs.Operand.{is_octal, operation_of, instr_of}
+use Rattle.s66_line.specs.Operand.{is_octal, operation_of}
 use Rattle.s66_line.specs.declared.class.Class.{Class}
 use Rattle.s66_line.specs.declared.class.Class.TheVariants.{Comment, Other, Refused, Pad}
 use Rattle.s66_source.specs.Counts.{count_down, counted_after_one, counted_after_two, counted_alone, counting_text, cover_of, covered_after, is_covering, is_one_of, nothing_covered, range_ends, repetitions_after}
@@ -169,24 +170,25 @@ bodies-grow cut s line =
 
 -- A LINE OF CODE
 
-operation-of-code : (located : Bool) (operation operand : List ℕ) (pad in_table : Bool) (n : Option Instr) → is_pad operation ≡ pad → is_some (operation_of operation) ≡ in_table →
+operation-of-code : (located : Bool) (operation : List ℕ) (pad in_table : Bool) (n : Option Instr) → is_pad operation ≡ pad → is_some (operation_of operation) ≡ in_table →
     is_code (if pad then Pad located else (if in_table then class_of_operand located n else Other)) ≡ true → may_be_code operation ≡ true
-operation-of-code located operation operand true in_table n is_no table h = code-pad operation is_no
-operation-of-code located operation operand false true n is_no table h = code-operation operation table
-operation-of-code located operation operand false false n is_no table h = cc
+operation-of-code located operation true in_table n is_no table h = code-pad operation is_no
+operation-of-code located operation false true n is_no table h = code-operation operation table
+operation-of-code located operation false false n is_no table h = cc
 
 -- it has an operation, which is one of the instruction table or NO
-code-line-by : (after located comment continued : Bool) (line operation operand : List ℕ) → is_comment line ≡ comment → continues line ≡ continued →
-    is_code (if comment then Comment else (if continued then (if after then Refused else Other) else by_operation located operation operand)) ≡ true →
-    (comment ≡ false) × (continued ≡ false) × (may_be_code operation ≡ true)
-code-line-by after located true continued line operation operand c d h = cc
-code-line-by true located false true line operation operand c d h = cc
-code-line-by false located false true line operation operand c d h = cc
-code-line-by after located false false line operation operand c d h = (refl, refl, operation-of-code located operation operand (is_pad operation) (is_some (operation_of operation)) (instr_of operation operand) refl refl h)
+code-line-by : (after located comment continued : Bool) (line bytes : List ℕ) → is_comment line ≡ comment → continues line ≡ continued →
+    is_code (if comment then Comment else (if continued then (if after then Refused else Other) else by_operation located bytes)) ≡ true →
+    (comment ≡ false) × (continued ≡ false) × (may_be_code (operation_in bytes) ≡ true)
+code-line-by after located true continued line bytes c d h = cc
+code-line-by true located false true line bytes c d h = cc
+code-line-by false located false true line bytes c d h = cc
+code-line-by after located false false line bytes c d h =
+    (refl, refl, operation-of-code located (operation_in bytes) (is_pad (operation_in bytes)) (is_some (operation_of (operation_in bytes))) (whole_instr bytes) refl refl h)
 
 pub code-line : (after : Bool) (line : List ℕ) → is_code (class_of after line) ≡ true → (is_comment (body line) ≡ false) × (continues (body line) ≡ false) × (may_be_code (upper (operation (body line))) ≡ true)
 code-line after line h =
-    code-line-by after (is_located (body line)) (is_comment (body line)) (continues (body line)) (body line) (upper (operation (body line))) (upper (operand (body line))) refl refl h
+    code-line-by after (is_located (body line)) (is_comment (body line)) (continues (body line)) (body line) (from_operation (body line)) refl refl h
 
 none-over : (n : ℕ) → nat_lt 0 n ≡ false → n ≡ 0
 none-over n h = let none = ltb-false 0 n h in omega (arith, none)
@@ -257,9 +259,9 @@ comment-line-by after false false c other h = absurd (true≢false (sym h ∙ ot
 
 comment-line : (after : Bool) (line : List ℕ) → is_comment_class (class_of after line) ≡ true → is_comment (body line) ≡ true
 comment-line after line h =
-    let operation : List ℕ = upper (operation (body line)) in
+    let bytes : List ℕ = from_operation (body line) in
     comment-line-by after (is_comment (body line)) (continues (body line)) _
-    (not-comment (is_located (body line)) (is_pad operation) (is_some (operation_of operation)) (instr_of operation (upper (operand (body line))))) h
+    (not-comment (is_located (body line)) (is_pad (operation_in bytes)) (is_some (operation_of (operation_in bytes))) (whole_instr bytes)) h
 
 has-no-operation : (line : List ℕ) → is_comment line ≡ true → has_operation line ≡ false
 has-no-operation line comment = ap (λ is. not (is || continues line)) comment

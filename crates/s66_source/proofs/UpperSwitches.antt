@@ -1,11 +1,13 @@
 -- Letters in upper case leave what is left alone as it is.
 use Rattle.std.proofs.Common.{◌≡◌, ◌==◌, ◌-◌, ◌&&◌, ◌||◌, ℕ, Bool, true, false, if◌then◌else◌, List, [], ◌∷◌, codes, length, map, nat_lt, refl, sym, ap, ap₂, ◌∙◌, lit<}
-use Rattle.std.specs.Prelude.{bytes_eq}
-use Rattle.s66_line.specs.Class.{class_of}
+use Rattle.std.specs.Prelude.{None, bytes_eq, is_some}
+use Rattle.s66_line.specs.Class.{by_operation, class_of, class_of_operand, is_pad, is_located}
+use Rattle.s66_line.specs.Operand.{instr_of, operation_of}
+use Rattle.s66_source.proofs.CharactersRead.{same-operand_in, same-operation_in, same-runs_on}
 use Rattle.s66_line.specs.Fields.{after_word, body, from_operand, from_operation, skip_blanks, upper, upper_byte, word}
 use Rattle.s66_line.specs.declared.class.Class.{Class}
-use Rattle.s66_line.specs.declared.class.Class.TheVariants.{Other}
-use Rattle.s66_line.proofs.UpperCase.{kept, length-upper, same-comment, same-continues, same-location, same-operand, same-operation, upper-after_word, upper-from_operation, upper-if, upper-skip_blanks, upper-trim, upper-twice, upper-word}
+use Rattle.s66_line.specs.declared.class.Class.TheVariants.{Other, Pad}
+use Rattle.s66_line.proofs.UpperCase.{kept, length-upper, same-comment, same-continues, same-location, same-operation, upper-after_word, upper-from_operation, upper-if, upper-skip_blanks, upper-trim, upper-twice, upper-word}
 use Rattle.s66_source.proofs.ReadBack.{class_of_body}
 use Rattle.s66_source.specs.Counts.{before_comma, counting_text, is_covering}
 use Rattle.s66_source.specs.LeftAlone.{Flagged, after_body, after_line, class_at, is_alone, is_continued, is_directive, is_switch, is_off_switch, is_on_switch, is_refused, flagged_from, with_operation}
@@ -13,8 +15,14 @@ use Rattle.s66_source.specs.declared.standing.Standing.{Standing}
 
 -- CLASSES
 
+same-by_operation : (located : Bool) (bytes : List ℕ) → by_operation located (upper bytes) ≡ by_operation located bytes
+same-by_operation located bytes =
+    ap₂ (λ operation whole. if is_pad operation then Pad located else (if is_some (operation_of operation) then class_of_operand located whole else Other))
+    (same-operation_in bytes)
+    (ap₂ (λ runs n. if runs then None else n) (same-runs_on bytes) (ap₂ instr_of (same-operation_in bytes) (same-operand_in bytes)))
+
 same-body : (after : Bool) (line : List ℕ) → class_of_body after (upper line) ≡ class_of_body after line
-same-body after line = rw (same-comment line, same-continues line, same-location line, same-operation line, same-operand line) refl
+same-body after line = rw (same-comment line, same-continues line, same-location line, upper-from_operation line, same-by_operation (is_located line) (from_operation line)) refl
 
 same-class : (after : Bool) (line : List ℕ) → class_of after (upper line) ≡ class_of after line
 same-class after line = ap (class_of_body after) (upper-trim line) ∙ same-body after (body line)

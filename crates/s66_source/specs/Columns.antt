@@ -1,8 +1,8 @@
 -- To be believed: in which columns the operations of a block begin that is printed.
 use Rattle.std.specs.Prelude.{ℕ, ◌-◌, ◌==◌, if◌then◌else◌, min, max, List, [], ◌∷◌, ◌++◌, codes, get_or, length, map, replicate}
 use Rattle.s66_line.specs.Block.{Block, Entry, bytes_of}
-use Rattle.s66_line.specs.Fields.{body, from_operation, trim}
-use Rattle.s66_source.specs.Printed.{is_trailing, label_field}
+use Rattle.s66_line.specs.Fields.{body, from_operation, trim, is_trailing}
+use Rattle.s66_source.specs.Printed.{label_field}
 use Rattle.s66_source.specs.Source.{Line}
 use Rattle.s66_source.specs.declared.columns.Columns.{Columns}
 use Rattle.s66_source.specs.declared.columns.Columns.TheVariants.{Usual, Own}

@@ -1,6 +1,7 @@
 -- To be believed: which lines an operation of the assembler covers that counts the lines after it.
-use Rattle.std.specs.Prelude.{ℕ, zero, suc, Bool, true, false, not, ◌&&◌, ◌||◌, ◌==◌, ◌+◌, ◌*◌, ◌-◌, if◌then◌else◌, min, max, List, [], ◌∷◌, Option, None, Some, codes, length, nat_le, nat_lt, bytes_eq, is_some}
+use Rattle.std.specs.Prelude.{ℕ, zero, suc, Bool, true, false, not, ◌&&◌, ◌||◌, ◌==◌, ◌+◌, ◌*◌, ◌-◌, if◌then◌else◌, min, max, List, [], ◌∷◌, Option, None, Some, codes, length, nat_lt, bytes_eq, is_some}
 use Rattle.s66_isa.specs.Lists.{every, some_of}
+use Rattle.s66_line.specs.Characters.{is_decimal}
 use Rattle.s66_line.specs.Fields.{from_operand, is_blank, word}
 use Rattle.s66_source.specs.declared.cover.Cover.{Cover}
 use Rattle.s66_source.specs.declared.cover.Cover.TheVariants.{Nothing, Lines, ToItsEnd}
@@ -31,9 +32,6 @@ counted_after_two =
     codes "IF" ∷ codes "IFEQ" ∷ codes "IFNE" ∷ codes "IFGT" ∷ codes "IFGE" ∷ codes "IFLT" ∷ codes "IFLE" ∷ []
 
 -- COUNTS
-
-abbrev pub is_decimal : ℕ → Bool
-is_decimal b = nat_le 48 b && nat_le b 57
 
 -- one digit or more, and nothing else
 abbrev pub is_numeral : List ℕ → Bool

@@ -2,9 +2,8 @@
 -- are no part of it.
 use Rattle.std.specs.Prelude.{ℕ, Bool, true, false, ◌&&◌, ◌||◌, ◌==◌, not, if◌then◌else◌, List, [], ◌∷◌, ◌++◌}
 use Rattle.s66_line.specs.Block.{Block, line_of}
-use Rattle.s66_line.specs.Fields.{from_location, trim}
+use Rattle.s66_line.specs.Fields.{from_location, trim, is_trailing}
 use Rattle.s66_source.specs.LeftAlone.{Reading}
-use Rattle.s66_source.specs.Printed.{is_trailing}
 use Rattle.s66_source.specs.Roles.{has_block, is_other_class, is_pad_class}
 use Rattle.s66_source.specs.Source.{Line, blocks_of, classed_lines}
 

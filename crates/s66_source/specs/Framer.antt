@@ -1,16 +1,14 @@
 -- Used by contracts within the crate alone: the frame of a source read line by line.
-use Rattle.std.specs.Prelude.{ℕ, suc, Bool, true, false, ◌&&◌, ◌||◌, ◌==◌, not, if◌then◌else◌, List, [], ◌∷◌, ◌++◌, length, nat_le}
-use Rattle.s66_isa.specs.Lists.{every}
+use Rattle.std.specs.Prelude.{ℕ, suc, Bool, false, ◌&&◌, ◌||◌, ◌==◌, not, if◌then◌else◌, List, [], ◌∷◌, ◌++◌, length, nat_le}
 use Rattle.s66_line.specs.Block.{Block, line_of}
 use Rattle.s66_line.specs.Class.{is_code}
-use Rattle.s66_line.specs.Fields.{trim}
+use Rattle.s66_line.specs.Fields.{trim, is_trailing}
 use Rattle.s66_line.specs.declared.class.Class.{Class}
 use Rattle.s66_line.specs.declared.limits.TheConstants.{LINE_BYTES_LIMIT}
 use Rattle.s66_source.specs.Frame.{FramePart, block_part}
 use Rattle.s66_source.specs.Keeper.{begins_with}
 use Rattle.s66_source.specs.Keeping.{others}
 use Rattle.s66_source.specs.LeftAlone.{Flagged, after_line, class_at, flagged_from, is_alone}
-use Rattle.s66_source.specs.Printed.{is_trailing}
 use Rattle.s66_source.specs.Roles.{is_other_class, is_pad_class}
 use Rattle.s66_source.specs.declared.standing.Standing.{Standing}
 

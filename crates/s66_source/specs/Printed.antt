@@ -1,9 +1,9 @@
 -- To be believed: a source printed with its blocks in other orders.
-use Rattle.std.specs.Prelude.{ℕ, Bool, ◌≤◌, ◌||◌, ◌-◌, ◌==◌, suc, if◌then◌else◌, List, [], ◌∷◌, ◌++◌, length, replicate, codes, decimal, nat_lt, Option, None, Some}
+use Rattle.std.specs.Prelude.{ℕ, ◌≤◌, ◌-◌, ◌==◌, suc, if◌then◌else◌, List, [], ◌∷◌, ◌++◌, length, replicate, codes, decimal, nat_lt, Option, None, Some}
 -- what `decimal` computes by
 unfoldable pub use Rattle.std.specs.Fmt.{digits}
 use Rattle.s66_isa.specs.Lists.{Among}
-use Rattle.s66_line.specs.Fields.{body, is_blank, is_return, trim}
+use Rattle.s66_line.specs.Fields.{body, trim, is_trailing}
 use Rattle.s66_source.specs.Source.{Line, blocks_of, classed_lines}
 use Rattle.s66_line.specs.Block.{Block, line_of, bytes_of}
 use Rattle.s66_source.specs.LeftAlone.{Reading}
@@ -51,10 +51,6 @@ report n count p = times_text n count p.source p.time ++ bound_text p ++ splits_
 -- a label filled with blanks to ten bytes, or followed by one blank if it has ten or more; ten blanks if there is none
 abbrev pub label_field : List ℕ → List ℕ
 label_field label = label ++ (if nat_lt (length label) 10 then replicate (10 - length label) 32 else (32 ∷ []))
-
--- a blank or a carriage return
-abbrev pub is_trailing : ℕ → Bool
-is_trailing b = is_blank b || is_return b
 
 -- an instruction, by the bytes of its line from its operation on, after this label
 abbrev pub instruction_line : List ℕ → List ℕ → List ℕ

@@ -1,9 +1,9 @@
 -- To be believed: what the blocks of a printed source are when it is read again.
 use Rattle.std.specs.Prelude.{◌≡◌, ℕ, List, [], ◌∷◌, length, map}
 use Rattle.s66_isa.specs.Table.{instr_at}
-use Rattle.s66_line.specs.Fields.{trim}
+use Rattle.s66_line.specs.Fields.{trim, is_trailing}
 use Rattle.s66_line.specs.Block.{Entry, Block, instrs_of, bytes_of}
-use Rattle.s66_source.specs.Printed.{Placed, is_trailing}
+use Rattle.s66_source.specs.Printed.{Placed}
 
 -- each order has as many numbers as its block has instructions
 abbrev pub AreComplete : List Block → List Placed → Type 0

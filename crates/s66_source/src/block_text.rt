@@ -1,14 +1,14 @@
 ghost use Rattle.std.specs.Prelude.{ℕ, ◌≡◌, ◌≤◌, ◌++◌, codes, decimal, length, OnOk};
 ghost use Rattle.s66_isa.specs.Lists.{Among};
-ghost use Rattle.s66_line.specs.Fields.{body, trim};
+ghost use Rattle.s66_line.specs.Fields.{body, trim, is_trailing};
 ghost use Rattle.s66_source.specs.Columns.{indented_line, indented_lines, line_start};
-ghost use Rattle.s66_source.specs.Printed.{is_trailing, bound_text, splits_line, times_text, report, label_field};
+ghost use Rattle.s66_source.specs.Printed.{bound_text, splits_line, times_text, report, label_field};
 ghost use Rattle.s66_isa.specs.declared.limits.TheConstants.{BLOCK_LIMIT};
 
 use crate::columns::USUAL_INDENT;
 use crate::placed::Placed;
 use s66_device::push_field;
-use s66_line::{Block, body_of};
+use s66_line::{Block, body_of, without_trailing};
 use std::alloc::AllocError;
 
 /// The bytes to which a label is filled.
@@ -80,23 +80,6 @@ fn push_label(out: &mut Vec<u8>, label: &[u8]) -> Result<(), AllocError>
     } else {
         out.extend_from_slice(b" ")
     }
-}
-
-fn is_trailing_byte(byte: u8) -> bool
-    ensures { result ≡ is_trailing byte }
-{
-    byte == b' ' || byte == b'\t' || byte == b'\r'
-}
-
-/// The bytes without the blanks and carriage returns at their end.
-pub(crate) fn without_trailing(bytes: &[u8]) -> &[u8]
-    ensures { result.now ≡ trim is_trailing bytes.now }
-{
-    let mut end = bytes.len();
-    while end > 0 && is_trailing_byte(bytes[end - 1]) {
-        end -= 1;
-    }
-    &bytes[..end]
 }
 
 /// What comes before the operation of an instruction: its label, or so many blanks if it has none.

@@ -1,14 +1,15 @@
 ghost use Rattle.std.specs.Prelude.{ℕ, List, ◌≡◌, ◌≤◌, map, min, true, Some, None, option_map, length};
 ghost use Rattle.std.specs.Borrow.{Bor};
 ghost use Rattle.s66_isa.specs.Lists.{every};
+ghost use Rattle.s66_line.specs.Characters.{is_decimal};
 ghost use Rattle.s66_line.specs.Fields.{is_blank};
-ghost use Rattle.s66_source.specs.Counts.{after_byte, after_comma, before_comma, counting_text, cover_after_string, cover_after_strings, cover_after_third, cover_by_count, cover_by_strings, cover_of, is_decimal, is_numeral, is_one_of, spelled_after, strings_in};
+ghost use Rattle.s66_source.specs.Counts.{after_byte, after_comma, before_comma, counting_text, cover_after_string, cover_after_strings, cover_after_third, cover_by_count, cover_by_strings, cover_of, is_numeral, is_one_of, spelled_after, strings_in};
 ghost use Rattle.s66_source.specs.declared.limits.TheConstants.{SOURCE_LINES_LIMIT};
 
 use crate::cover::Cover;
 use crate::limits::SOURCE_LINES_LIMIT;
 use memchr::memchr;
-use s66_line::{from_operand, split_word};
+use s66_line::{from_operand, is_decimal_digit, split_word};
 
 /// The operations that end a part which an `IF`, a `SKIP`, an `ELSE`, a `DUP` or an `ECHO` covers.
 pub const RANGE_ENDS: [&[u8]; 4] = [b"ENDD", b"ENDIF", b"END", b"IDENT"];
@@ -38,12 +39,6 @@ pub fn is_one_of(names: &[&[u8]], word: &[u8]) -> bool
         }
     }
     false
-}
-
-pub fn is_decimal_digit(byte: u8) -> bool
-    ensures { result ≡ is_decimal byte }
-{
-    byte >= b'0' && byte <= b'9'
 }
 
 /// Whether all bytes are digits.

@@ -3,11 +3,10 @@ ghost use Rattle.s66_line.specs.Fields.{from_location};
 ghost use Rattle.s66_source.specs.Frame.{block_part, frame_of};
 ghost use Rattle.s66_source.specs.Roles.{is_other_class, is_pad_class};
 
-use crate::block_text::without_trailing;
 use crate::lines::cut_line;
 use crate::source::Source;
 use crate::standing::Standing;
-use s66_line::{Block, Class, is_continuation};
+use s66_line::{Block, Class, is_continuation, without_trailing};
 use std::alloc::{AllocError, Global};
 use std::marker::Model;
 

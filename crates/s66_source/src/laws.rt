@@ -2,7 +2,7 @@ ghost use Rattle.std.specs.Prelude.{◌≡◌, ◌≤◌, ℕ, List, ◌∷◌, 
 ghost use Rattle.s66_isa.specs.Table.{instr, instr_at};
 ghost use Rattle.s66_isa.specs.Lists.{Among, tally, every};
 ghost use Rattle.s66_isa.specs.declared.instr.Instr.{Instr};
-ghost use Rattle.s66_line.specs.Fields.{is_newline, upper, body, from_operation, lines_of, trim};
+ghost use Rattle.s66_line.specs.Fields.{is_newline, upper, body, from_operation, lines_of, trim, is_trailing};
 ghost use Rattle.s66_line.specs.InstructionText.{IsTextOf, Spells};
 ghost use Rattle.s66_line.specs.declared.class.Class.TheVariants.{Instruction};
 ghost use Rattle.s66_source.specs.Columns.{indent, indented_lines, indents};
@@ -14,10 +14,11 @@ ghost use Rattle.s66_source.specs.declared.error.SourceError.TheVariants.{BadOpe
 ghost use Rattle.s66_source.specs.declared.cover.Cover.TheVariants.{Nothing, Lines, ToItsEnd};
 ghost use Rattle.s66_source.specs.Source.{Line, classed_lines, instructions, parts_of, blocks_of, source_of};
 ghost use Rattle.s66_line.specs.Block.{Block, instrs_of, text_of, constants_in};
+ghost use Rattle.s66_line.specs.Characters.{runs_on};
 ghost use Rattle.s66_line.specs.Class.{class_of, is_instruction};
 ghost use Rattle.s66_isa.specs.declared.limits.TheConstants.{BLOCK_LIMIT};
 ghost use Rattle.s66_source.specs.BlockParts.{AreParts};
-ghost use Rattle.s66_source.specs.Printed.{Placed, ArePlaced, instruction_lines, is_trailing, label_field, printed};
+ghost use Rattle.s66_source.specs.Printed.{Placed, ArePlaced, instruction_lines, label_field, printed};
 ghost use Rattle.s66_source.specs.ReadAgain.{AreComplete, ArePlacedAgain};
 ghost use Rattle.s66_source.specs.Replaced.{printed_in};
 ghost use Rattle.s66_source.specs.Roles.{is_note, is_note_of, is_dropped, is_copied, roles, lines_that, mixed_source, outside_source};
@@ -76,14 +77,14 @@ pub fn none_stands_law()
 {}
 
 /// An operation in the usual column is printed as without the option. A line whose operation keeps its column is read as the
-/// instruction that it spells.
+/// instruction that it spells, unless its operand goes on behind characters with a blank.
 pub fn columns_law()
     ensures usual { (all : List Line) (block : Block) (order : List ℕ) →
         ((n : ℕ) → Among n order → (1 ≤ n) × (n ≤ length block.entries)) →
         indented_lines (indents Usual all block) block block.label order ≡ instruction_lines block block.label order }
-    ensures class { (after : Bool) (line bytes : List ℕ) (n : Instr) → Spells bytes n →
+    ensures class { (after : Bool) (line bytes : List ℕ) (n : Instr) → Spells bytes n → runs_on bytes ≡ false →
         class_of after (replicate (indent Own line) 32 ++ trim is_trailing bytes) ≡ Instruction false n }
-    ensures bytes { (line bytes : List ℕ) (n : Instr) → Spells bytes n →
+    ensures bytes { (line bytes : List ℕ) (n : Instr) → Spells bytes n → runs_on bytes ≡ false →
         from_operation (body (replicate (indent Own line) 32 ++ trim is_trailing bytes)) ≡ trim is_trailing bytes }
 {}
 

@@ -22,7 +22,7 @@ mod source;
 mod standing;
 
 pub use columns::Columns;
-pub use counts::{are_digits, counting_text, cover_of, is_decimal_digit, is_one_of};
+pub use counts::{are_digits, counting_text, cover_of, is_one_of};
 pub use cover::{Cover, Covered};
 pub use error::SourceError;
 pub use frame::{FramePart, frame_of};

@@ -1,5 +1,5 @@
 use Rattle.std.proofs.Common.{◌∙◌, arith}
-use Rattle.s66_source.specs.Counts.{is_decimal}
+use Rattle.s66_line.specs.Characters.{is_decimal}
 use Rattle.s66_source.specs.declared.limits.TheConstants.{SOURCE_LINES_LIMIT}
 use Rattle.s66_source.proofs.Counted.{next-digit, every-next}
 use Rattle.s66_source.proofs.counts.capped_number.Goals as goal

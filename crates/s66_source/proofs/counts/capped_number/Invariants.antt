@@ -1,6 +1,7 @@
 use Rattle.std.proofs.Common.{◌≡◌, ◌≤◌, drop, min, true}
 use Rattle.s66_isa.specs.Lists.{every}
-use Rattle.s66_source.specs.Counts.{is_decimal, spelled_after}
+use Rattle.s66_line.specs.Characters.{is_decimal}
+use Rattle.s66_source.specs.Counts.{spelled_after}
 use Rattle.s66_source.specs.declared.limits.TheConstants.{SOURCE_LINES_LIMIT}
 use Rattle.s66_source.proofs.counts.capped_number.Given as goal
 
