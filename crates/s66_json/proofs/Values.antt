@@ -6,7 +6,7 @@ use Rattle.serde_json.specs.Data.{Data, null, boolean, Items, no_items, item, Me
 use Rattle.serde_json.specs.Written.{comma_if, compact_text, items_text, members_text}
 use Rattle.s66_isa.specs.declared.profile.Profile.{Profile}
 use Rattle.s66_isa.specs.Table.{Reg, Row, Write, numbers}
-use Rattle.s66_line.specs.Block.{Block, instrs_of, line_of, text_of}
+use Rattle.s66_line.specs.Block.{Block, instrs_of, line_of, whole_text_of}
 use Rattle.s66_model.specs.Dependence.{needs}
 use Rattle.s66_model.specs.Timing.{Point, ResultAt, latest_result, total_of}
 use Rattle.s66_time.specs.TimedOrder.{TimedOrder}
@@ -134,7 +134,7 @@ instruction-text p block n =
     let r : Row = row_of p block n in
     let after = needs (instrs_of block) n in
     let source : List ℕ → List ℕ =
-    λ t. codes "{\"n\":" ++ (decimal n ++ (codes ",\"line\":" ++ (decimal (line_of block n) ++ (codes ",\"text\":" ++ (string_text (text_of block n) ++ t))))) in
+    λ t. codes "{\"n\":" ++ (decimal n ++ (codes ",\"line\":" ++ (decimal (line_of block n) ++ (codes ",\"text\":" ++ (string_text (whole_text_of block n) ++ t))))) in
     let work : List ℕ → List ℕ =
     λ t. codes ",\"unit\":" ++ (unit_text r.kind ++ (codes ",\"parcels\":" ++ (decimal r.parcels ++ (codes ",\"works\":" ++ (decimal r.hold ++ t))))) in
     let operands : List ℕ → List ℕ → List ℕ → List ℕ = λ reads writes t. codes ",\"reads\":" ++ (reads ++ (codes ",\"writes\":" ++ (writes ++ t))) in
@@ -143,7 +143,7 @@ instruction-text p block n =
     ap₂ (λ reads writes. source (work (operands reads writes (last (compact_text (list_of num after)))))) (registers-text r.reads) (writes-text r.writes)
     ∙ ap (λ ns. source (work (operands (registers_text r.reads) (writes_text r.writes) (last ns)))) (numbers-text after)
     ∙ sym
-    (ap (λ t. codes "{\"n\":" ++ t) (three (decimal n) (codes ",\"line\":") (decimal (line_of block n)) (codes ",\"text\":") (string_text (text_of block n)) (work_text r ++ (operands_text r ++ rest)))
+    (ap (λ t. codes "{\"n\":" ++ t) (three (decimal n) (codes ",\"line\":") (decimal (line_of block n)) (codes ",\"text\":") (string_text (whole_text_of block n)) (work_text r ++ (operands_text r ++ rest)))
     ∙ ap (λ t. source (codes ",\"unit\":" ++ t)) (three (unit_text r.kind) (codes ",\"parcels\":") (decimal r.parcels) (codes ",\"works\":") (decimal r.hold) (operands_text r ++ rest))
     ∙ ap (λ t. source (work (codes ",\"reads\":" ++ t))) (two (registers_text r.reads) (codes ",\"writes\":") (writes_text r.writes) rest))
 

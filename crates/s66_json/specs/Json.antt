@@ -10,7 +10,7 @@ use Rattle.s66_isa.specs.declared.instr.Memory.TheVariants as memory
 use Rattle.s66_isa.specs.declared.profile.Profile.{Profile}
 use Rattle.s66_isa.specs.Lists.{weigh}
 use Rattle.s66_isa.specs.Table.{Reg, Row, Write, instr_at, numbers, parcels_of, row}
-use Rattle.s66_line.specs.Block.{Block, instrs_of, line_of, text_of}
+use Rattle.s66_line.specs.Block.{Block, instrs_of, line_of, whole_text_of}
 use Rattle.s66_model.specs.Dependence.{needs}
 use Rattle.s66_model.specs.Packing.{fillers, len_at}
 use Rattle.s66_model.specs.Timing.{Point, ResultAt, latest_result, points_of, total_of}
@@ -150,7 +150,7 @@ row_of p block n = row p (instr_at (instrs_of block) n)
 
 abbrev pub instruction_data : Profile → Block → ℕ → Data
 instruction_data p block n =
-    object (member (codes "n") (num n) (member (codes "line") (num (line_of block n)) (member (codes "text") (text_data (text_of block n))
+    object (member (codes "n") (num n) (member (codes "line") (num (line_of block n)) (member (codes "text") (text_data (whole_text_of block n))
     (member (codes "unit") (unit_data (row_of p block n).kind) (member (codes "parcels") (num (row_of p block n).parcels) (member (codes "works") (num (row_of p block n).hold)
     (member (codes "reads") (list_of register_data (row_of p block n).reads) (member (codes "writes") (list_of result_register (row_of p block n).writes)
     (member (codes "memory") (memory_data (row_of p block n).memory) (member (codes "after") (list_of num (needs (instrs_of block) n)) no_members))))))))))

@@ -5,7 +5,7 @@ use Rattle.s66_isa.specs.declared.instr.Kind.{Kind}
 use Rattle.s66_isa.specs.declared.instr.Memory.{Memory}
 use Rattle.s66_isa.specs.declared.profile.Profile.{Profile}
 use Rattle.s66_isa.specs.Table.{Reg, Row, Write, numbers}
-use Rattle.s66_line.specs.Block.{Block, instrs_of, line_of, text_of}
+use Rattle.s66_line.specs.Block.{Block, instrs_of, line_of, whole_text_of}
 use Rattle.s66_model.specs.Dependence.{needs}
 use Rattle.s66_model.specs.Timing.{Point, ResultAt, latest_result, total_of}
 use Rattle.s66_time.specs.TimedOrder.{TimedOrder}
@@ -140,7 +140,7 @@ bound_text bound splits best = codes ",\"bound\":" ++ (decimal bound ++ (codes "
 -- INSTRUCTIONS
 
 unfoldable pub source_text : Block → ℕ → List ℕ
-source_text block n = codes "{\"n\":" ++ (decimal n ++ (codes ",\"line\":" ++ (decimal (line_of block n) ++ (codes ",\"text\":" ++ string_text (text_of block n)))))
+source_text block n = codes "{\"n\":" ++ (decimal n ++ (codes ",\"line\":" ++ (decimal (line_of block n) ++ (codes ",\"text\":" ++ string_text (whole_text_of block n)))))
 
 unfoldable pub work_text : Row → List ℕ
 work_text r = codes ",\"unit\":" ++ (unit_text r.kind ++ (codes ",\"parcels\":" ++ (decimal r.parcels ++ (codes ",\"works\":" ++ decimal r.hold))))

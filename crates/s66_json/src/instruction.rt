@@ -24,7 +24,7 @@ fn push_source(out: &mut Vec<u8>, block: &Block, number: usize) -> Result<(), Al
     push_field(out, b"{\"n\":", number)?;
     push_field(out, b",\"line\":", block.line(number) as usize)?;
     push_text(out, b",\"text\":")?;
-    push_string(out, block.text(number).as_slice())
+    push_string(out, block.whole_text(number).as_slice())
 }
 
 /// Its unit, and for how long that works.
