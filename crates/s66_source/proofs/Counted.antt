@@ -5,7 +5,7 @@ use Rattle.s66_line.specs.Fields.{after_word, from_operand, from_operation, is_b
 use Rattle.s66_line.proofs.LineFields.{from_operation_within}
 use Rattle.memchr.specs.Find.{IsFirstByte, is_byte}
 use Rattle.s66_isa.specs.Lists.{every}
-use Rattle.s66_source.specs.Counts.{after_byte, after_comma, before_comma, counting_text, spelled_after}
+use Rattle.s66_source.specs.Counts.{after_byte, after_comma, before_byte, counting_text, spelled_after}
 
 -- THE FIRST OF SOME BYTE
 
@@ -33,14 +33,14 @@ pub after_byte-none : (d : ℕ) (bytes : List ℕ) → IsFirstByte (is_byte d) b
 after_byte-none d [] h = refl
 after_byte-none d (b ∷ bytes) h = rw (not-first d b bytes h) (after_byte-none d bytes (nowhere d b bytes h))
 
-pub before_comma-found : (bytes : List ℕ) (k : ℕ) → IsFirstByte (is_byte 44) bytes (Some k) → before_comma bytes ≡ take k bytes
-before_comma-found [] k h = absurd (let high = h.0.high in omega (arith, high))
-before_comma-found (b ∷ bytes) zero h = rw h.1 refl
-before_comma-found (b ∷ bytes) (suc k) h = rw (not-here 44 b bytes k h) (ap (λ more. b ∷ more) (before_comma-found bytes k (later 44 b bytes k h)))
+pub before_byte-found : (d : ℕ) (bytes : List ℕ) (k : ℕ) → IsFirstByte (is_byte d) bytes (Some k) → before_byte d bytes ≡ take k bytes
+before_byte-found d [] k h = absurd (let high = h.0.high in omega (arith, high))
+before_byte-found d (b ∷ bytes) zero h = rw h.1 refl
+before_byte-found d (b ∷ bytes) (suc k) h = rw (not-here d b bytes k h) (ap (λ more. b ∷ more) (before_byte-found d bytes k (later d b bytes k h)))
 
-pub before_comma-none : (bytes : List ℕ) → IsFirstByte (is_byte 44) bytes None → before_comma bytes ≡ bytes
-before_comma-none [] h = refl
-before_comma-none (b ∷ bytes) h = rw (not-first 44 b bytes h) (ap (λ more. b ∷ more) (before_comma-none bytes (nowhere 44 b bytes h)))
+pub before_byte-none : (d : ℕ) (bytes : List ℕ) → IsFirstByte (is_byte d) bytes None → before_byte d bytes ≡ bytes
+before_byte-none d [] h = refl
+before_byte-none d (b ∷ bytes) h = rw (not-first d b bytes h) (ap (λ more. b ∷ more) (before_byte-none d bytes (nowhere d b bytes h)))
 
 -- nothing, if there is none
 abbrev or_nothing : Option (List ℕ) → List ℕ

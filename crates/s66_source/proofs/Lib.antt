@@ -23,6 +23,7 @@ pub mod ReadComments
 pub mod ReadBlock
 pub mod ReadAgain
 pub mod SpelledLaw
+pub mod Directives
 pub mod Standings
 pub mod CutLaw
 pub mod Counted

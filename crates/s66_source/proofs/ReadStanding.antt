@@ -1,5 +1,6 @@
 -- What stands before a line that is read again, and whether the line is left alone again.
-use Rattle.std.proofs.Common.{◌≡◌, ◌==◌, ◌-◌, ◌&&◌, ◌||◌, not, ℕ, suc, Bool, true, false, if◌then◌else◌, true≢false, List, [], ◌∷◌, ◌++◌, codes, nat_le, nat_lt, refl, sym, ap, ap₂, ◌∙◌, subst, arith, append_assoc}
+use Rattle.std.proofs.Common.{◌≡◌, ◌==◌, ◌-◌, ◌&&◌, ◌||◌, not, ℕ, suc, Bool, true, false, if◌then◌else◌, true≢false, List, [], ◌∷◌, ◌++◌, codes, nat_le, nat_lt, refl, sym, ap, ap₂, ◌∙◌, subst, arith, append_assoc, drop}
+use Rattle.s66_source.proofs.Directives.{no-star}
 use Rattle.std.specs.Prelude.{bytes_eq}
 use Rattle.std.proofs.lemmas.Bool.{eqb-true, leb-true, ne_eqb, and_parts, and_right, or_parts, or_from, or_right}
 use Rattle.s66_isa.specs.Lists.{every}
@@ -10,7 +11,7 @@ use Rattle.s66_line.specs.declared.class.Class.TheVariants.{Other, Refused}
 use Rattle.s66_line.specs.Block.{Block, line_of}
 use Rattle.s66_line.proofs.LineFields.{indented_no}
 use Rattle.s66_source.specs.Counts.{counting_text, is_covering}
-use Rattle.s66_source.specs.LeftAlone.{Flagged, after_body, after_line, after_operation, class_at, has_operation, is_alone, is_continued, is_directive, is_held, is_switch, is_off_switch, is_on_switch, is_refused, flagged_from, off_after, with_operation}
+use Rattle.s66_source.specs.LeftAlone.{Flagged, after_body, after_line, after_operation, class_at, has_operation, is_alone, is_continued, is_directive, is_held, is_switch, is_off_switch, is_on_switch, is_refused, flagged_from, off_after, with_operation, after_directive, directive_cover, with_directive}
 use Rattle.s66_source.specs.Printed.{Placed, block_text, copied_text, text_of_lines}
 use Rattle.s66_source.specs.Roles.{is_copied, is_other_class}
 use Rattle.s66_source.specs.Source.{Line, run_at, run_after, place_at, place_after, label_at, label_after, classes_from}
@@ -153,14 +154,11 @@ no_switch second b line other =
     elim (is_blank b) as (λ t. (bytes_eq (upper (if t then [] else b ∷ word line)) (codes "*S66") && bytes_eq (upper (word (skip_blanks (if t then b ∷ line else after_word line)))) second) ≡ false)
     [ true ↦ refl | false ↦ rw (no_star b other) refl ]
 
-no_directive : (b : ℕ) (line : List ℕ) → (b == 42) ≡ false → is_directive (b ∷ line) ≡ false
-no_directive b line other = rw other refl
-
 unflagged-by : (cut : Bool) (line : List ℕ) → is_comment line ≡ false → (is_off_switch line || (cut && is_directive line)) ≡ false
 unflagged-by cut [] h = absurd (true≢false h)
 unflagged-by cut (b ∷ line) h =
     let other = (or_parts (b == 42) _ h).0 in
-    or_from (is_off_switch (b ∷ line)) (cut && is_directive (b ∷ line)) (no_switch (codes "OFF") b line other) (and_right cut (is_directive (b ∷ line)) (no_directive b line other))
+    or_from (is_off_switch (b ∷ line)) (cut && is_directive (b ∷ line)) (no_switch (codes "OFF") b line other) (and_right cut (is_directive (b ∷ line)) (no-star b line other))
 
 -- what is no comment is neither a switch nor a directive
 pub code-unflagged : (cut : Bool) (line : List ℕ) → is_comment (body line) ≡ false → is_flagged cut line ≡ false
@@ -169,8 +167,10 @@ code-unflagged cut line h = unflagged-by cut (body line) h
 pub comment-stays : (cut : Bool) (s : Standing) (line : List ℕ) → is_holding cut s ≡ false → is_flagged cut line ≡ false → is_comment (body line) ≡ true → after_line cut s line ≡ s
 comment-stays cut s line free unflagged comment =
     let none : has_operation (body line) ≡ false = ap (λ is. not (is || continues (body line))) comment in
+    let directed : with_directive cut s (body line) ≡ s =
+    ap (λ t. if t then after_directive s (directive_cover (upper (drop 1 (body line)))) else s) (or_parts (is_off_switch (body line)) _ unflagged).1 in
     let same : with_operation cut s (body line) ≡ s =
-    ap (λ t. if t then after_operation s (upper (operation (body line))) (upper (counting_text (body line))) else s) (and_right cut (has_operation (body line)) none) in
+    ap (λ t. if t then after_operation s (upper (operation (body line))) (upper (counting_text (body line))) else with_directive cut s (body line)) (and_right cut (has_operation (body line)) none) ∙ directed in
     let off : off_after s.off (body line) ≡ s.off =
     same-off (is_on_switch (body line)) s.off (is_off_switch (body line)) (or_parts s.off _ free).0 (or_parts (is_off_switch (body line)) _ unflagged).0 in
     ap₂ (λ (t : Standing) (off : Bool). record t { off = off }) same off

@@ -1,5 +1,5 @@
 -- What stands from one line to the next, and what leaves it as it is.
-use Rattle.std.proofs.Common.{◌≡◌, ◌==◌, ◌-◌, ◌&&◌, ◌||◌, inl, inr, not, ℕ, zero, suc, min, Bool, true, false, if◌then◌else◌, List, [], ◌∷◌, ◌≤◌, Option, None, Some, nat_lt, length, get_or, take, codes, refl, sym, ap, ap₂, subst, ◌∙◌, arith}
+use Rattle.std.proofs.Common.{◌≡◌, ◌==◌, ◌-◌, ◌&&◌, ◌||◌, inl, inr, not, ℕ, zero, suc, min, Bool, true, false, if◌then◌else◌, List, [], ◌∷◌, ◌≤◌, Option, None, Some, nat_lt, length, drop, get_or, take, codes, refl, sym, ap, ap₂, subst, ◌∙◌, arith}
 use Rattle.s66_line.specs.InstructionText.{operation_in}
 use Rattle.std.specs.Prelude.{◌⊎◌, bytes_eq, is_some}
 use Rattle.std.specs.Char.{to_ascii_uppercase}
@@ -16,9 +16,10 @@ use Rattle.s66_line.proofs.UpperCase.{length-upper}
 use Rattle.s66_line.specs.Operand.{is_octal, operation_of}
 use Rattle.s66_line.specs.declared.class.Class.{Class}
 use Rattle.s66_line.specs.declared.class.Class.TheVariants.{Comment, Other, Refused, Pad}
-use Rattle.s66_source.specs.Counts.{count_down, counted_after_one, counted_after_two, counted_alone, counting_text, cover_of, covered_after, is_covering, is_one_of, nothing_covered, range_ends, repetitions_after}
-use Rattle.s66_source.specs.LeftAlone.{after_line, after_operation, bodies_after, class_at, definitions, has_operation, is_alone, is_directive, is_held, is_switch, is_off_switch, is_on_switch, is_refused, with_operation}
+use Rattle.s66_source.specs.Counts.{count_down, counted_after_one, counted_after_two, counted_alone, counting_text, cover_of, covered_after, is_covering, is_one_of, nothing_covered, range_ends, repetitions_after, with_cover}
+use Rattle.s66_source.specs.LeftAlone.{after_directive, after_line, directive_cover, with_directive, after_operation, bodies_after, class_at, definitions, has_operation, is_alone, is_directive, is_held, is_switch, is_off_switch, is_on_switch, is_refused, with_operation}
 use Rattle.s66_source.specs.Roles.{is_comment_class}
+use Rattle.s66_source.specs.declared.cover.Cover.{Cover}
 use Rattle.s66_source.specs.declared.cover.Cover.TheVariants.{Nothing}
 use Rattle.s66_source.specs.declared.cover.Covered.{Covered}
 use Rattle.s66_source.specs.declared.standing.Standing.{Standing}
@@ -161,12 +162,16 @@ one-more (suc n) name =
     elim (is_one_of definitions name) as (λ t. (if t then suc (suc n) else (if bytes_eq name (codes "ENDM") then n else suc n)) ≤ suc (suc n))
     [ true ↦ omega arith | false ↦ elim (bytes_eq name (codes "ENDM")) as (λ t. (if t then n else suc n) ≤ suc (suc n)) [ true ↦ omega arith | false ↦ omega arith ] ]
 
+directive-bodies : (is : Bool) (s : Standing) (cover : Cover) → (if is then after_directive s cover else s).bodies ≤ suc s.bodies
+directive-bodies true s cover = elim (s.bodies == 0) as (λ t. (if t then record s { cover = with_cover s.cover cover } else s).bodies ≤ suc s.bodies) [ true ↦ omega arith | false ↦ omega arith ]
+directive-bodies false s cover = omega arith
+
 pub bodies-grow : (cut : Bool) (s : Standing) (line : List ℕ) → (after_line cut s line).bodies ≤ suc s.bodies
 bodies-grow cut s line =
     let name : List ℕ = upper (operation (body line)) in
     let operand : List ℕ = upper (counting_text (body line)) in
-    elim (cut && has_operation (body line)) as (λ t. (if t then after_operation s name operand else s).bodies ≤ suc s.bodies)
-    [ true ↦ one-more s.bodies name | false ↦ omega arith ]
+    elim (cut && has_operation (body line)) as (λ t. (if t then after_operation s name operand else with_directive cut s (body line)).bodies ≤ suc s.bodies)
+    [ true ↦ one-more s.bodies name | false ↦ directive-bodies (cut && is_directive (body line)) s (directive_cover (upper (drop 1 (body line)))) ]
 
 -- A LINE OF CODE
 
@@ -205,6 +210,12 @@ record IsPlain (cut : Bool) (s : Standing) (line : List ℕ) : Type 0 where
   on : s.off ≡ false
   no_switch : is_off_switch (body line) ≡ false
   uncovered : cut ≡ true → s.cover ≡ nothing_covered
+  no_directive : (cut && is_directive (body line)) ≡ false
+
+undirected : (cut bodies cover continued directive : Bool) → (cut && (bodies || (cover || (continued || directive)))) ≡ false → (cut && directive) ≡ false
+undirected true bodies cover continued directive h =
+    (or_parts continued directive (or_parts cover _ (or_parts bodies _ h).1).1).1
+undirected false bodies cover continued directive h = refl
 
 plain-line : (cut continued : Bool) (s : Standing) (line : List ℕ) → is_alone cut s line continued ≡ false → IsPlain cut s line
 plain-line cut continued s line h =
@@ -220,6 +231,7 @@ plain-line cut continued s line h =
           let none_held : held ≡ false = subst (λ t. (t && held) ≡ false) cuts none in
           let (_, rest) = or_parts (nat_lt 0 s.bodies) cover_on none_held in
           no-cover s.cover (or_parts (is_covering s.cover) (continued || is_directive (body line)) rest).0;
+      no_directive = undirected cut (nat_lt 0 s.bodies) (is_covering s.cover) continued (is_directive (body line)) none;
     }
 
 pub same-off : (on_switch off off_switch : Bool) → off ≡ false → off_switch ≡ false → (if on_switch then false else (off || off_switch)) ≡ off
@@ -231,17 +243,18 @@ same-open s name operand code nothing =
     only-counts s name operand (none-in (λ word. not (may_be_code word)) all_names name (not_from_true (may_be_code name) code) refl)
     ∙ ap (λ cover. record s { cover = cover }) (ap (λ cover. count_down cover false) nothing ∙ sym nothing)
 
-same-operation : (cut has : Bool) (s : Standing) (name operand : List ℕ) → (has ≡ true → may_be_code name ≡ true) → (cut ≡ true → s.cover ≡ nothing_covered) →
-    (if cut && has then after_operation s name operand else s) ≡ s
-same-operation false has s name operand code none = refl
-same-operation true false s name operand code none = refl
-same-operation true true s name operand code none = same-open s name operand (code refl) (none refl)
+same-operation : (cut has : Bool) (s other : Standing) (name operand : List ℕ) → (has ≡ true → may_be_code name ≡ true) → (cut ≡ true → s.cover ≡ nothing_covered) → other ≡ s →
+    (if cut && has then after_operation s name operand else other) ≡ s
+same-operation false has s other name operand code none same = same
+same-operation true false s other name operand code none same = same
+same-operation true true s other name operand code none same = same-open s name operand (code refl) (none refl)
 
 -- a line that has no operation but an instruction
 stays-plain : (cut : Bool) (s : Standing) (line : List ℕ) → IsPlain cut s line → (has_operation (body line) ≡ true → may_be_code (upper (operation (body line))) ≡ true) → after_line cut s line ≡ s
 stays-plain cut s line h code =
     let same : with_operation cut s (body line) ≡ s =
-    same-operation cut (has_operation (body line)) s (upper (operation (body line))) (upper (counting_text (body line))) code h.uncovered in
+    same-operation cut (has_operation (body line)) s (with_directive cut s (body line)) (upper (operation (body line))) (upper (counting_text (body line))) code h.uncovered
+    (ap (λ t. if t then after_directive s (directive_cover (upper (drop 1 (body line)))) else s) h.no_directive) in
     ap₂ (λ (t : Standing) (off : Bool). record t { off = off }) same (same-off (is_on_switch (body line)) s.off (is_off_switch (body line)) h.on h.no_switch)
 
 -- a comment has no operation

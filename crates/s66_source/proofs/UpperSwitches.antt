@@ -1,16 +1,17 @@
 -- Letters in upper case leave what is left alone as it is.
-use Rattle.std.proofs.Common.{◌≡◌, ◌==◌, ◌-◌, ◌&&◌, ◌||◌, ℕ, Bool, true, false, if◌then◌else◌, List, [], ◌∷◌, codes, length, map, nat_lt, refl, sym, ap, ap₂, ◌∙◌, lit<}
+use Rattle.std.proofs.Common.{◌≡◌, ◌-◌, ◌&&◌, ◌||◌, ℕ, Bool, true, false, if◌then◌else◌, List, [], ◌∷◌, codes, length, map, nat_lt, refl, sym, ap, ap₂, ◌∙◌}
 use Rattle.std.specs.Prelude.{None, bytes_eq, is_some}
 use Rattle.s66_line.specs.Class.{by_operation, class_of, class_of_operand, is_pad, is_located}
 use Rattle.s66_line.specs.Operand.{instr_of, operation_of}
 use Rattle.s66_source.proofs.CharactersRead.{same-operand_in, same-operation_in, same-runs_on}
-use Rattle.s66_line.specs.Fields.{after_word, body, from_operand, from_operation, skip_blanks, upper, upper_byte, word}
+use Rattle.s66_line.specs.Fields.{after_word, body, operation, from_operand, from_operation, skip_blanks, upper, word}
 use Rattle.s66_line.specs.declared.class.Class.{Class}
 use Rattle.s66_line.specs.declared.class.Class.TheVariants.{Other, Pad}
-use Rattle.s66_line.proofs.UpperCase.{kept, length-upper, same-comment, same-continues, same-location, same-operation, upper-after_word, upper-from_operation, upper-if, upper-skip_blanks, upper-trim, upper-twice, upper-word}
+use Rattle.s66_line.proofs.UpperCase.{length-upper, same-comment, same-continues, same-location, same-operation, upper-after_word, upper-from_operation, upper-if, upper-skip_blanks, upper-trim, upper-twice, upper-word}
 use Rattle.s66_source.proofs.ReadBack.{class_of_body}
-use Rattle.s66_source.specs.Counts.{before_comma, counting_text, is_covering}
-use Rattle.s66_source.specs.LeftAlone.{Flagged, after_body, after_line, class_at, is_alone, is_continued, is_directive, is_switch, is_off_switch, is_on_switch, is_refused, flagged_from, with_operation}
+use Rattle.s66_source.specs.Counts.{counting_text, is_covering}
+use Rattle.s66_source.proofs.Directives.{same-directive, same-text}
+use Rattle.s66_source.specs.LeftAlone.{Flagged, after_body, after_directive, after_operation, directive_cover, has_operation, with_directive, after_line, class_at, is_alone, is_continued, is_directive, is_switch, is_off_switch, is_on_switch, is_refused, flagged_from, with_operation}
 use Rattle.s66_source.specs.declared.standing.Standing.{Standing}
 
 -- CLASSES
@@ -39,20 +40,6 @@ same-switch : (second line : List ℕ) → is_switch second (upper line) ≡ is_
 same-switch second line =
     ap₂ (λ first next. bytes_eq first (codes "*S66") && bytes_eq next second) (same-word line) (ap (λ l. upper (word l)) (upper-next_word line) ∙ same-word (skip_blanks (after_word line)))
 
-upper-before_comma : (bytes : List ℕ) → before_comma (upper bytes) ≡ upper (before_comma bytes)
-upper-before_comma [] = refl
-upper-before_comma (b ∷ bytes) =
-    ap (λ t. if t then [] else upper_byte b ∷ before_comma (upper bytes)) (kept b 44 (lit< tt))
-    ∙ ap (λ more. if b == 44 then [] else upper_byte b ∷ more) (upper-before_comma bytes)
-    ∙ sym (upper-if (b == 44) [] (b ∷ before_comma bytes))
-
-same-directive : (line : List ℕ) → is_directive (upper line) ≡ is_directive line
-same-directive [] = refl
-same-directive (s ∷ line) =
-    let name : upper (before_comma (word (upper line))) ≡ upper (before_comma (word line)) =
-    ap (λ w. upper (before_comma w)) (upper-word line) ∙ ap upper (upper-before_comma (word line)) ∙ upper-twice (before_comma (word line)) in
-    rw (kept s 42 (lit< tt), name) refl
-
 -- WHAT AN OPERATION COVERS
 
 upper-from_operand : (line : List ℕ) → from_operand (upper line) ≡ upper (from_operand line)
@@ -68,8 +55,14 @@ same-counting line =
     ∙ ap (λ text. if near then text else []) (upper-twice rest)
     ∙ sym (upper-if near rest [])
 
+same-with_directive : (cut : Bool) (s : Standing) (line : List ℕ) → with_directive cut s (upper line) ≡ with_directive cut s line
+same-with_directive cut s line =
+    ap₂ (λ is text. if cut && is then after_directive s (directive_cover text) else s) (same-directive line) (same-text line)
+
 same-with_operation : (cut : Bool) (s : Standing) (line : List ℕ) → with_operation cut s (upper line) ≡ with_operation cut s line
-same-with_operation cut s line = rw (same-comment line, same-continues line, same-operation line, same-counting line) refl
+same-with_operation cut s line =
+    rw (same-comment line, same-continues line, same-operation line, same-counting line)
+    (ap (λ (t : Standing). if cut && has_operation line then after_operation s (upper (operation line)) (upper (counting_text line)) else t) (same-with_directive cut s line))
 
 -- WHAT STANDS after a line
 

@@ -53,12 +53,16 @@ cover_by_count [] = Nothing
 cover_by_count (b ∷ bytes) =
     if is_numeral (b ∷ bytes) then lines_covered (min (spelled_after 0 (b ∷ bytes)) SOURCE_LINES_LIMIT) else ToItsEnd
 
+-- what is no numeral covers nothing
+abbrev pub cover_by_numeral : List ℕ → Cover
+cover_by_numeral count = if is_numeral count then cover_by_count count else Nothing
+
 -- PARTS OF AN OPERAND
 
--- the bytes before the first comma
-abbrev pub before_comma : List ℕ → List ℕ
-before_comma [] = []
-before_comma (b ∷ bytes) = if b == 44 then [] else b ∷ before_comma bytes
+-- those before the first such byte, or all
+abbrev pub before_byte : ℕ → List ℕ → List ℕ
+before_byte d [] = []
+before_byte d (b ∷ bytes) = if b == d then [] else b ∷ before_byte d bytes
 
 -- those after the first comma
 abbrev pub after_comma : List ℕ → List ℕ
@@ -105,7 +109,7 @@ cover_of name text =
     if is_one_of counted_alone name then cover_by_count (word text)
     else (if is_one_of counted_after_one name then cover_by_count (after_comma (word text))
     else (if is_one_of counted_after_two name then cover_by_count (after_comma (after_comma (word text)))
-    else (if bytes_eq name (codes "ECHO") then cover_by_count (before_comma (word text))
+    else (if bytes_eq name (codes "ECHO") then cover_by_count (before_byte 44 (word text))
     else (if bytes_eq name (codes "IFC") then cover_by_strings (strings_in text)
     else Nothing))))
 

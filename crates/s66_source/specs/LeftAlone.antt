@@ -1,10 +1,16 @@
 -- To be believed: which lines of a source are left alone. Such a line is an Other line, whatever it holds.
-use Rattle.std.specs.Prelude.{ℕ, zero, suc, Bool, true, false, not, ◌&&◌, ◌||◌, ◌==◌, if◌then◌else◌, List, [], ◌∷◌, codes, nat_lt, bytes_eq}
+use Rattle.std.specs.Prelude.{ℕ, zero, suc, Bool, true, false, not, ◌&&◌, ◌||◌, ◌==◌, if◌then◌else◌, List, [], ◌∷◌, Option, None, Some, codes, drop, length, nat_le, nat_lt, bytes_eq, take}
 use Rattle.s66_line.specs.Class.{class_of}
-use Rattle.s66_line.specs.Fields.{after_word, body, continues, is_comment, lines_of, operation, skip_blanks, upper, word}
+use Rattle.s66_line.specs.Fields.{after_word, body, continues, from_operand, is_blank, is_comment, lines_of, operation, skip_blanks, upper, word}
 use Rattle.s66_line.specs.declared.class.Class.{Class}
 use Rattle.s66_line.specs.declared.class.Class.TheVariants.{Other, Refused}
-use Rattle.s66_source.specs.Counts.{before_comma, count_down, counting_text, cover_of, covered_after, is_covering, is_one_of, nothing_covered, range_ends}
+use Rattle.s66_line.specs.Characters.{is_decimal}
+use Rattle.s66_line.specs.Operand.{is_filled}
+use Rattle.s66_isa.specs.Lists.{every}
+use Rattle.s66_source.specs.Counts.{after_byte, after_comma, before_byte, count_down, counting_text, cover_by_numeral, cover_of, covered_after, is_covering, is_numeral, is_one_of, nothing_covered, range_ends, with_cover}
+use Rattle.s66_source.specs.declared.cover.Cover.{Cover}
+use Rattle.s66_source.specs.declared.cover.Cover.TheVariants.{Nothing}
+use Rattle.s66_source.specs.declared.limits.TheConstants.{DIRECTIVE_LIMIT}
 use Rattle.s66_source.specs.declared.standing.Standing.{Standing}
 
 -- a text, and whether it is read with `--cut`
@@ -28,17 +34,85 @@ is_off_switch line = is_switch (codes "OFF") line
 abbrev pub is_on_switch : List ℕ → Bool
 is_on_switch line = is_switch (codes "ON") line
 
--- the directives to programs that keep libraries of sources, as UPDATE and MODIFY
+-- DIRECTIVES to programs that keep libraries of sources, as UPDATE and MODIFY, by what follows the star of a comment in upper case
+
+-- their names and short forms; a directive that isn't among them is told by its form
 abbrev pub directives : List (List ℕ)
 directives =
-    codes "ADDFILE" ∷ codes "BEFORE" ∷ codes "CALL" ∷ codes "CALLALL" ∷ codes "CALLC" ∷ codes "COMDECK" ∷ codes "COPY" ∷ codes "CWEOR" ∷ codes "DECK"
-    ∷ codes "DEFINE" ∷ codes "DELETE" ∷ codes "DO" ∷ codes "DONT" ∷ codes "ELSE" ∷ codes "ENDIF" ∷ codes "ENDTEXT" ∷ codes "IDENT" ∷ codes "IF"
-    ∷ codes "IFCALL" ∷ codes "INSERT" ∷ codes "MOVE" ∷ codes "NIFCALL" ∷ codes "READ" ∷ codes "RESTORE" ∷ codes "TEXT" ∷ codes "WEOR" ∷ codes "YANK" ∷ []
+    codes "ADDFILE" ∷ codes "BEFORE" ∷ codes "CALL" ∷ codes "CALLALL" ∷ codes "CALLC" ∷ codes "CHANGE" ∷ codes "COMDECK" ∷ codes "COMPILE"
+    ∷ codes "COPY" ∷ codes "CSET" ∷ codes "CWEOR" ∷ codes "DECK" ∷ codes "DECLARE" ∷ codes "DEFINE" ∷ codes "DELETE" ∷ codes "DO" ∷ codes "DONT"
+    ∷ codes "EDIT" ∷ codes "ELSE" ∷ codes "ENDIF" ∷ codes "ENDTEXT" ∷ codes "IDENT" ∷ codes "IF" ∷ codes "IFCALL" ∷ codes "IFDEF"
+    ∷ codes "INSERT" ∷ codes "LIMIT" ∷ codes "LIST" ∷ codes "MOVE" ∷ codes "NIFCALL" ∷ codes "NOABBREV" ∷ codes "NOLIST" ∷ codes "PULLMOD"
+    ∷ codes "PURDECK" ∷ codes "PURGE" ∷ codes "READ" ∷ codes "RESTORE" ∷ codes "REWIND" ∷ codes "SELPURGE" ∷ codes "SELYANK" ∷ codes "SEQUENCE"
+    ∷ codes "SKIP" ∷ codes "TEXT" ∷ codes "UNYANK" ∷ codes "WEOR" ∷ codes "WIDTH" ∷ codes "YANK" ∷ codes "YANKDECK" ∷ codes "AF" ∷ codes "CA"
+    ∷ codes "CD" ∷ codes "CH" ∷ codes "CW" ∷ codes "CY" ∷ codes "DC" ∷ codes "DF" ∷ codes "DK" ∷ codes "DT" ∷ codes "EI" ∷ codes "ET"
+    ∷ codes "ID" ∷ codes "LT" ∷ codes "NA" ∷ codes "NL" ∷ codes "PD" ∷ codes "PM" ∷ codes "RD" ∷ codes "RW" ∷ codes "SK" ∷ codes "SP"
+    ∷ codes "SY" ∷ codes "YD" ∷ []
 
--- a comment whose star one of them directly follows, in upper or in lower case, and then a blank, a comma or nothing
+abbrev pub is_letter : ℕ → Bool
+is_letter b = nat_le 65 b && nat_le b 90
+
+-- the name of a correction
+abbrev pub is_correction : List ℕ → Bool
+is_correction [] = false
+is_correction (b ∷ bytes) = is_letter b && every (λ c. is_letter c || (is_decimal c || c == 61)) bytes
+
+-- such a name and the number of a line, behind a period
+abbrev pub is_numbered : List ℕ → Option (List ℕ) → Bool
+is_numbered name None = false
+is_numbered name (Some number) = is_correction name && is_numeral number
+
+-- where to correct: `83`, `COMCRDW.41`
+abbrev pub is_place : List ℕ → Bool
+is_place word = is_numeral word || is_numbered (before_byte 46 word) (after_byte 46 word)
+
+abbrev pub is_place_if : Option (List ℕ) → Bool
+is_place_if None = true
+is_place_if (Some word) = is_place word
+
+-- one place, or two with a comma between
+abbrev pub are_places : List ℕ → Bool
+are_places word = is_place (before_byte 44 word) && is_place_if (after_byte 44 word)
+
+abbrev pub separates : ℕ → Bool
+separates b = is_blank b || b == 44
+
+-- without the blanks and commas in front
+abbrev pub skip_separators : List ℕ → List ℕ
+skip_separators [] = []
+skip_separators (b ∷ bytes) = if separates b then skip_separators bytes else b ∷ bytes
+
+-- `*I 83`, `*D COMCRDW.41,COMCRDW.43`: a letter, and where to correct
+abbrev pub corrects : List ℕ → Bool
+corrects (letter ∷ b ∷ bytes) = separates b && are_places (word (skip_separators bytes))
+corrects text = false
+
+-- two words at most: prose has more, so that as a line it would have an operand
+abbrev pub is_brief : List ℕ → Bool
+is_brief text = not (is_filled (from_operand text))
+
+-- a letter directly behind the star, and a directive's name, form or length; but not the star of a switch
+abbrev pub directs : List ℕ → Bool
+directs [] = false
+directs (b ∷ text) =
+    is_letter b
+    && (not (bytes_eq (word (b ∷ text)) (codes "S66")) && (is_one_of directives (before_byte 44 (word (b ∷ text))) || (corrects (b ∷ text) || is_brief (b ∷ text))))
+
+-- a comment with a star in column 1 is one, by its first 72 bytes
 abbrev pub is_directive : List ℕ → Bool
 is_directive [] = false
-is_directive (s ∷ line) = s == 42 && is_one_of directives (upper (before_comma (word line)))
+is_directive (s ∷ line) = s == 42 && directs (upper (take DIRECTIVE_LIMIT line))
+
+-- the operand behind a name
+abbrev pub operand_behind : List ℕ → List ℕ → List ℕ
+operand_behind name text = word (skip_separators (drop (length name) text))
+
+-- `*IF ATTRIBUTE,NAME,COUNT` and `*ELSE COUNT` cover lines, too
+abbrev pub directive_cover : List ℕ → Cover
+directive_cover text =
+    let name = before_byte 44 (word text) in
+    if bytes_eq name (codes "IF") then cover_by_numeral (after_comma (after_comma (operand_behind name text)))
+    else (if bytes_eq name (codes "ELSE") then cover_by_numeral (operand_behind name text) else Nothing)
 
 -- neither a comment nor a continuation, so that it may have an operation
 abbrev pub has_operation : List ℕ → Bool
@@ -75,10 +149,18 @@ after_operation s name text =
 abbrev pub off_after : Bool → List ℕ → Bool
 off_after off line = if is_on_switch line then false else (off || is_off_switch line)
 
+-- after a directive outside of definitions
+abbrev pub after_directive : Standing → Cover → Standing
+after_directive s cover = if s.bodies == 0 then record s { cover = with_cover s.cover cover } else s
+
+-- after a line without an operation
+abbrev pub with_directive : Bool → Standing → List ℕ → Standing
+with_directive cut s line = if cut && is_directive line then after_directive s (directive_cover (upper (drop 1 line))) else s
+
 -- after the operation of a line; the text after it is in upper case too, since letters may end the strings of an IFC
 abbrev pub with_operation : Bool → Standing → List ℕ → Standing
 with_operation cut s line =
-    if cut && has_operation line then after_operation s (upper (operation line)) (upper (counting_text line)) else s
+    if cut && has_operation line then after_operation s (upper (operation line)) (upper (counting_text line)) else with_directive cut s line
 
 -- after a line without the carriage returns at its end
 abbrev pub after_body : Bool → Standing → List ℕ → Standing

@@ -3,7 +3,7 @@ ghost use Rattle.std.specs.Borrow.{Bor};
 ghost use Rattle.s66_isa.specs.Lists.{every};
 ghost use Rattle.s66_line.specs.Characters.{is_decimal};
 ghost use Rattle.s66_line.specs.Fields.{is_blank};
-ghost use Rattle.s66_source.specs.Counts.{after_byte, after_comma, before_comma, counting_text, cover_after_string, cover_after_strings, cover_after_third, cover_by_count, cover_by_strings, cover_of, is_numeral, is_one_of, spelled_after, strings_in};
+ghost use Rattle.s66_source.specs.Counts.{after_byte, after_comma, before_byte, counting_text, cover_after_string, cover_after_strings, cover_after_third, cover_by_count, cover_by_numeral, cover_by_strings, cover_of, is_numeral, is_one_of, spelled_after, strings_in};
 ghost use Rattle.s66_source.specs.declared.limits.TheConstants.{SOURCE_LINES_LIMIT};
 
 use crate::cover::Cover;
@@ -53,7 +53,7 @@ pub fn are_digits(bytes: &[u8]) -> bool
     true
 }
 
-fn is_numeral(bytes: &[u8]) -> bool
+pub(crate) fn is_numeral(bytes: &[u8]) -> bool
     ensures { result ≡ is_numeral bytes.now }
 {
     !bytes.is_empty() && are_digits(bytes)
@@ -71,7 +71,7 @@ fn capped_number(digits: &[u8]) -> u32
     number
 }
 
-fn is_blank(byte: u8) -> bool
+pub(crate) fn is_blank(byte: u8) -> bool
     ensures { result ≡ is_blank byte }
 {
     byte == b' ' || byte == b'\t'
@@ -89,8 +89,19 @@ fn cover_by_count(count: &[u8]) -> Cover
     }
 }
 
+/// What is no numeral covers nothing.
+pub(crate) fn cover_by_numeral(count: &[u8]) -> Cover
+    ensures { result ≡ cover_by_numeral count.now }
+{
+    if is_numeral(count) {
+        cover_by_count(count)
+    } else {
+        Cover::Nothing
+    }
+}
+
 /// The bytes after the first such byte, if there is one.
-fn after_byte(delimiter: u8, bytes: &[u8]) -> Option<&[u8]>
+pub(crate) fn after_byte(delimiter: u8, bytes: &[u8]) -> Option<&[u8]>
     ensures { option_map (λ rest. rest.now) result ≡ after_byte delimiter bytes.now }
 {
     let at = memchr(delimiter, bytes)?;
@@ -98,7 +109,7 @@ fn after_byte(delimiter: u8, bytes: &[u8]) -> Option<&[u8]>
 }
 
 /// The bytes after the first comma; none if there is no comma.
-fn after_comma(bytes: &[u8]) -> &[u8]
+pub(crate) fn after_comma(bytes: &[u8]) -> &[u8]
     ensures { result.now ≡ after_comma bytes.now }
 {
     match after_byte(b',', bytes) {
@@ -107,12 +118,13 @@ fn after_comma(bytes: &[u8]) -> &[u8]
     }
 }
 
-/// The bytes before the first comma, or all.
-pub(crate) fn before_comma(bytes: &[u8]) -> &[u8]
-    ensures { result.now ≡ before_comma bytes.now }
+/// The bytes before the first such byte, or all.
+pub(crate) fn before_byte(delimiter: u8, bytes: &[u8]) -> &[u8]
+    ensures value { result.now ≡ before_byte delimiter bytes.now }
+    ensures within { length result.now ≤ length bytes.now }
 {
-    match memchr(b',', bytes) {
-        Some(comma) => &bytes[..comma],
+    match memchr(delimiter, bytes) {
+        Some(at) => &bytes[..at],
         None => bytes,
     }
 }
@@ -192,7 +204,7 @@ pub fn cover_of(name: &[u8], text: &[u8]) -> Cover
     } else if is_one_of(&COUNTED_AFTER_TWO, name) {
         cover_by_count(after_comma(after_comma(operand)))
     } else if name == b"ECHO".as_slice() {
-        cover_by_count(before_comma(operand))
+        cover_by_count(before_byte(b',', operand))
     } else if name == b"IFC".as_slice() {
         cover_by_strings(strings_in(text))
     } else {

@@ -82,7 +82,7 @@ impl Covered {
     }
 
     /// With what an operation covers.
-    fn with(&self, cover: &Cover) -> Covered
+    pub(crate) fn with(&self, cover: &Cover) -> Covered
         ensures { result ≡ with_cover self.now cover.now }
     {
         match cover {

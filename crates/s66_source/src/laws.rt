@@ -9,7 +9,7 @@ ghost use Rattle.s66_source.specs.Columns.{indent, indented_lines, indents};
 ghost use Rattle.s66_source.specs.declared.columns.Columns.TheVariants.{Own, Usual};
 ghost use Rattle.s66_source.specs.UpperRead.{upper_read};
 ghost use Rattle.s66_source.specs.Counts.{cover_of};
-ghost use Rattle.s66_source.specs.LeftAlone.{Flagged, Reading, flagged_lines, is_off_switch, plain};
+ghost use Rattle.s66_source.specs.LeftAlone.{Flagged, Reading, flagged_lines, is_directive, is_off_switch, plain};
 ghost use Rattle.s66_source.specs.declared.error.SourceError.TheVariants.{BadOperand};
 ghost use Rattle.s66_source.specs.declared.cover.Cover.TheVariants.{Nothing, Lines, ToItsEnd};
 ghost use Rattle.s66_source.specs.Source.{Line, classed_lines, instructions, parts_of, blocks_of, source_of};
@@ -186,7 +186,14 @@ pub fn left_alone_examples()
     ensures directives { map (λ (m : Flagged). m.alone)
         (flagged_lines
         (record { cut = true; text = codes "*call COMX\n*IF,DEF,A\n*ENDIF\r\n*CALLS X\n*THE NEXT\n* IF A\n*\n" })) ≡
-        true ∷ true ∷ true ∷ false ∷ false ∷ false ∷ false ∷ [] }
+        true ∷ true ∷ true ∷ true ∷ true ∷ false ∷ false ∷ [] }
+    ensures directive_forms { map is_directive (codes "*I 83" ∷ codes "*D COMCRDW.41,COMCRDW.43" ∷ codes "*CA COMCX READ A WORD" ∷ codes "*EI" ∷
+        codes "*D 90,COMCX.5 OLD CODE GOES" ∷ codes "*PLUGIN COMCX" ∷ codes "*NEXT WORD" ∷ codes "*d,x.1 OLD CODE" ∷ []) ≡ replicate 8 true }
+    ensures prose { map is_directive (codes "*I AM THE NEXT" ∷ codes "*THE NEXT WORD" ∷ codes "* I 83" ∷ codes "*/ NOTE" ∷ codes "** A" ∷
+        codes "*-A" ∷ codes "*S66 HALLO" ∷ codes "*I83 A B" ∷ codes "*D 8X A B" ∷ codes "*D A.1, B C" ∷ []) ≡ replicate 10 false }
+    ensures counting_directive { map (λ (m : Flagged). m.alone)
+        (flagged_lines (record { cut = true; text = codes "*IF DEF,TRACE,1\n* NOTE\n  BX6 X1\n  BX7 X1\n*ELSE 1\n  BX6 X1\n*IF DEF,A\n  BX7 X1\n" })) ≡
+        true ∷ true ∷ true ∷ false ∷ true ∷ true ∷ true ∷ false ∷ [] }
     ensures directive { map (λ (m : Flagged). m.alone)
         (flagged_lines (record { cut = true; text = codes "  BX6 X1\n*IF DEF,A\n  BX6 X2\n" })) ≡ false ∷ true ∷
         false ∷ [] }

@@ -1,2 +1,5 @@
 /// The most lines of a source.
 pub const SOURCE_LINES_LIMIT: u32 = 20_000;
+
+/// The most bytes of a line behind its star in which a directive is looked for.
+pub const DIRECTIVE_LIMIT: usize = 71;

@@ -1,14 +1,15 @@
-ghost use Rattle.std.specs.Prelude.{◌≡◌, ◌≤◌, ◌<◌, ◌&&◌, ◌||◌, suc, true, bytes_eq, codes, length, take};
+ghost use Rattle.std.specs.Prelude.{◌≡◌, ◌≤◌, ◌<◌, ◌&&◌, ◌||◌, suc, false, if◌then◌else◌, true, bytes_eq, codes, length, take};
 ghost use Rattle.s66_line.specs.Class.{IsSpelled, class_of, is_code};
 ghost use Rattle.s66_line.specs.Fields.{body, from_operation, is_comment, label_bytes, operation, upper};
 ghost use Rattle.s66_source.specs.Counts.{counting_text};
 ghost use Rattle.s66_source.specs.Roles.{is_comment_class};
-ghost use Rattle.s66_source.specs.LeftAlone.{after_line, after_operation, at_first, bodies_after, class_at, is_alone, is_directive, is_held, is_refused, is_switch, with_operation};
+ghost use Rattle.s66_source.specs.LeftAlone.{after_line, has_operation, after_operation, at_first, bodies_after, class_at, is_alone, is_directive, is_held, is_refused, is_switch, with_directive, with_operation};
 ghost use Rattle.s66_line.specs.declared.limits.TheConstants.{LINE_BYTES_LIMIT, TEXT_LIMIT};
 ghost use Rattle.s66_source.specs.declared.limits.TheConstants.{SOURCE_LINES_LIMIT};
 
-use crate::counts::{RANGE_ENDS, before_comma, counting_text, cover_of, is_one_of};
+use crate::counts::{RANGE_ENDS, counting_text, cover_of, is_one_of};
 use crate::cover::Covered;
+use crate::directive::{directive_cover, is_directive};
 use crate::operation::{has_operation, is_ordinary, is_upper_case};
 use s66_line::{
     Class, Classified, body_of, classify, fields_of, operation_and_operand, split_word, upper_case,
@@ -34,27 +35,6 @@ fn is_name(word: &[u8], name: &[u8]) -> bool
     ensures { result ≡ bytes_eq (upper word.now) name.now }
 {
     word.len() == name.len() && upper_case(word).as_slice() == name
-}
-
-/// The directives to programs that keep libraries of sources.
-const DIRECTIVES: [&[u8]; 27] = [
-    b"ADDFILE", b"BEFORE", b"CALL", b"CALLALL", b"CALLC", b"COMDECK", b"COPY", b"CWEOR", b"DECK",
-    b"DEFINE", b"DELETE", b"DO", b"DONT", b"ELSE", b"ENDIF", b"ENDTEXT", b"IDENT", b"IF",
-    b"IFCALL", b"INSERT", b"MOVE", b"NIFCALL", b"READ", b"RESTORE", b"TEXT", b"WEOR", b"YANK",
-];
-
-/// Whether a body is a directive: a comment whose star is directly followed by the name of one.
-pub fn is_directive(body: &[u8]) -> bool
-    requires { length body.now ≤ LINE_BYTES_LIMIT }
-    ensures { result ≡ is_directive body.now }
-{
-    match body {
-        [b'*', rest @ ..] => {
-            let (word, _) = split_word(rest);
-            is_one_of(&DIRECTIVES, upper_case(before_comma(word)).as_slice())
-        }
-        _ => false,
-    }
 }
 
 /// Whether a line begins as a switch does. Other comments are told from one without a copy of their first word.
@@ -131,7 +111,8 @@ const COMMENT: Classified<'static> = Classified {
 /// Whether a line is empty or begins with a star, and so is a comment.
 #[inline(always)]
 fn is_plain_comment(line: &[u8]) -> bool
-    ensures { result ≡ true → is_comment (body line.now) ≡ true }
+    ensures comment { result ≡ true → is_comment (body line.now) ≡ true }
+    ensures other { result ≡ false → is_directive (body line.now) ≡ false }
 {
     matches!(line, [] | [b'*', ..])
 }
@@ -257,7 +238,8 @@ impl Standing {
     fn pass_body(&mut self, body: &[u8])
         requires few { length body.now ≤ LINE_BYTES_LIMIT }
         requires bodies { self.old.bodies < SOURCE_LINES_LIMIT }
-        ensures { self.new ≡ with_operation true self.old body.now }
+        ensures { self.new ≡ (if has_operation body.now then
+            after_operation self.old (upper (operation body.now)) (upper (counting_text body.now)) else self.old) }
     {
         let bytes = fields_of(body).from_operation;
         if !is_ordinary(bytes) {
@@ -269,16 +251,42 @@ impl Standing {
         }
     }
 
+    /// After a comment with a star in column 1, as a body.
+    fn pass_comment(&mut self, body: &[u8])
+        requires { length body.now ≤ LINE_BYTES_LIMIT }
+        ensures { self.new ≡ with_directive true self.old body.now }
+    {
+        if self.bodies == 0 && is_directive(body) {
+            self.cover = self.cover.with(&directive_cover(&body[1..]));
+        }
+    }
+
+    /// After a line, but for its switch.
+    #[tactic(auto, using(crate::proofs::Directives::by_operation, crate::proofs::Directives::by_directive))]
+    fn pass_statement(&mut self, line: &[u8])
+        requires few { length line.now ≤ LINE_BYTES_LIMIT }
+        requires bodies { self.old.bodies < SOURCE_LINES_LIMIT }
+        ensures { self.new ≡ with_operation true self.old (body line.now) }
+    {
+        let body = body_of(line);
+        if is_plain_comment(line) {
+            self.pass_comment(body);
+        } else {
+            self.pass_body(body);
+        }
+    }
+
     /// Passes a line.
     pub fn pass(&mut self, cut: bool, line: &[u8])
         requires few { length line.now ≤ LINE_BYTES_LIMIT }
         requires bodies { self.old.bodies < SOURCE_LINES_LIMIT }
         ensures { self.new ≡ after_line cut self.old line.now }
     {
-        if cut && !is_plain_comment(line) {
-            self.pass_body(body_of(line));
+        let off = !is_switch_line(line, b"ON") && (self.off || is_switch_line(line, b"OFF"));
+        if cut {
+            self.pass_statement(line);
         }
-        self.off = !is_switch_line(line, b"ON") && (self.off || is_switch_line(line, b"OFF"));
+        self.off = off;
     }
 
     /// Whether a line may be left alone, or change what stands.
