@@ -7,7 +7,7 @@ use Rattle.std.proofs.lemmas.Slice.Eq.{bytes_eq-Decides}
 use Rattle.s66_isa.specs.Lists.{first_that, has, rising, tally}
 use Rattle.s66_isa.specs.Table.{instr_at, numbers}
 use Rattle.s66_isa.specs.declared.instr.Instr.{Instr}
-use Rattle.s66_line.specs.Block.{Block, instrs_of, line_of, text_of}
+use Rattle.s66_line.specs.Block.{Block, instrs_of, line_of, whole_text_of}
 use Rattle.s66_line.specs.InstructionText.{instr_in_text}
 use Rattle.s66_model.specs.Dependence.{conflict, depends}
 use Rattle.s66_model.specs.LegalOrder.{GoesOn, IsLegal, IsOrder, is_ready}
@@ -19,7 +19,7 @@ use Rattle.s66_compare.specs.declared.verdict.Verdict.{Verdict}
 use Rattle.s66_compare.specs.declared.verdict.Verdict.TheVariants.{NotLegal, OtherNew, OtherOld, Reordered, Same}
 use Rattle.s66_compare.proofs.Firsts.{first_passes, none_passes}
 use Rattle.s66_compare.proofs.Legal.{length-texts, needed}
-use Rattle.s66_compare.proofs.Meanings.{IsSpelled, in-text}
+use Rattle.s66_compare.proofs.Meanings.{IsSpelled, instr-text}
 
 -- HOW MANY NUMBERS PASS
 
@@ -118,23 +118,23 @@ none-first test (suc k) low none =
 -- TEXTS
 
 abbrev has_text : Block → List ℕ → ℕ → Bool
-has_text old text n = bytes_eq (text_of old n) text
+has_text old text n = bytes_eq (whole_text_of old n) text
 
 -- how many of these numbers have the text
 abbrev count_in : Block → List ℕ → List ℕ → ℕ
 count_in old ns text = tally (λ k. has k ns && has_text old text k) (numbers (instrs_of old))
 
-text-same : (old : Block) (text : List ℕ) (n : ℕ) → has_text old text n ≡ true → text_of old n ≡ text
-text-same old text n is = (bytes_eq-Decides (text_of old n) text).0 is
+text-same : (old : Block) (text : List ℕ) (n : ℕ) → has_text old text n ≡ true → whole_text_of old n ≡ text
+text-same old text n is = (bytes_eq-Decides (whole_text_of old n) text).0 is
 
-same-text : (old : Block) (text : List ℕ) (n : ℕ) → text_of old n ≡ text → has_text old text n ≡ true
-same-text old text n same = (bytes_eq-Decides (text_of old n) text).1 same
+same-text : (old : Block) (text : List ℕ) (n : ℕ) → whole_text_of old n ≡ text → has_text old text n ≡ true
+same-text old text n same = (bytes_eq-Decides (whole_text_of old n) text).1 same
 
 -- WHAT WAS PAIRED: the numbers of the new block's instructions in its order, and their partners. Of each text there are as many, and of the
 -- partners the first ones
 record State (old : Block) (placed taken : List ℕ) : Type 0 where
   same : (text : List ℕ) → count_in old taken text ≡ count_in old placed text
-  first : (a b : ℕ) → 1 ≤ a → a < b → text_of old a ≡ text_of old b → has b taken ≡ true → has a taken ≡ true
+  first : (a b : ℕ) → 1 ≤ a → a < b → whole_text_of old a ≡ whole_text_of old b → has b taken ≡ true → has a taken ≡ true
   -- what they depend on is placed
   met : (a n : ℕ) → has n placed ≡ true → depends (instrs_of old) a n ≡ true → has a placed ≡ true
 
@@ -153,12 +153,12 @@ pushed m n ns h =
     ]
 
 module _ (old : Block) (spelled : IsSpelled old) where
-  same-instr : (a b : ℕ) → 1 ≤ a → a ≤ length (instrs_of old) → 1 ≤ b → b ≤ length (instrs_of old) → text_of old a ≡ text_of old b → instr_at (instrs_of old) a ≡ instr_at (instrs_of old) b
+  same-instr : (a b : ℕ) → 1 ≤ a → a ≤ length (instrs_of old) → 1 ≤ b → b ≤ length (instrs_of old) → whole_text_of old a ≡ whole_text_of old b → instr_at (instrs_of old) a ≡ instr_at (instrs_of old) b
   same-instr a b least most some few same =
-      in-text (text_of old a) (instr_at (instrs_of old) a) (spelled a least most).spells ∙ ap instr_in_text same ∙ sym (in-text (text_of old b) (instr_at (instrs_of old) b) (spelled b some few).spells)
+      instr-text old a (spelled a least most) ∙ ap instr_in_text same ∙ sym (instr-text old b (spelled b some few))
 
   same-depends : (a m x k : ℕ) → depends (instrs_of old) a m ≡ true → 1 ≤ a → a ≤ length (instrs_of old) → 1 ≤ m → m ≤ length (instrs_of old) → 1 ≤ x → x ≤ length (instrs_of old) → 1 ≤ k → k ≤ length (instrs_of old) →
-      text_of old x ≡ text_of old a → text_of old k ≡ text_of old m → x < k → depends (instrs_of old) x k ≡ true
+      whole_text_of old x ≡ whole_text_of old a → whole_text_of old k ≡ whole_text_of old m → x < k → depends (instrs_of old) x k ≡ true
   same-depends a m x k is a_some a_few m_some m_few x_some x_few k_some k_few earlier later lt =
       let both = and_parts (nat_lt a m) (conflict (instr_at (instrs_of old) a) (instr_at (instrs_of old) m)) is in
       and_from (nat_lt x k) (conflict (instr_at (instrs_of old) x) (instr_at (instrs_of old) k)) (lt-ltb x k lt)
@@ -175,9 +175,9 @@ module _ (old : Block) (spelled : IsSpelled old) where
     needs-all a k (inr there) is = state.met a k there is
 
     -- if all placed numbers of the text, and n too, were taken, too many would be
-    too-many : ((k : ℕ) → 1 ≤ k → k ≤ length (instrs_of old) → text_of old k ≡ text_of old n → (k ≡ n) ⊎ (has k placed ≡ true) → has k taken ≡ true) → ⊥
+    too-many : ((k : ℕ) → 1 ≤ k → k ≤ length (instrs_of old) → whole_text_of old k ≡ whole_text_of old n → (k ≡ n) ⊎ (has k placed ≡ true) → has k taken ≡ true) → ⊥
     too-many all =
-        let text = text_of old n in
+        let text = whole_text_of old n in
         let parts = ready-parts (instrs_of old) placed n ready in
         let lt : count_in old placed text < count_in old taken text =
         tally-lt (λ k. has k placed && has_text old text k) (λ k. has k taken && has_text old text k) (length (instrs_of old)) 1 n
@@ -188,9 +188,9 @@ module _ (old : Block) (spelled : IsSpelled old) where
         omega (arith, lt, state.same text)
 
     -- m is the first of the text that isn't taken
-    module _ (m : ℕ) (some : 1 ≤ m) (few : m ≤ length (instrs_of old)) (same : text_of old m ≡ text_of old n) (least : (j : ℕ) → 1 ≤ j → j < m → text_of old j ≡ text_of old n → has j taken ≡ true) where
+    module _ (m : ℕ) (some : 1 ≤ m) (few : m ≤ length (instrs_of old)) (same : whole_text_of old m ≡ whole_text_of old n) (least : (j : ℕ) → 1 ≤ j → j < m → whole_text_of old j ≡ whole_text_of old n → has j taken ≡ true) where
       -- nothing on which it depends isn't placed
-      none-missing : (a x : ℕ) → depends (instrs_of old) a m ≡ true → 1 ≤ x → x ≤ a → text_of old x ≡ text_of old a → has x placed ≡ false → ⊥
+      none-missing : (a x : ℕ) → depends (instrs_of old) a m ≡ true → 1 ≤ x → x ≤ a → whole_text_of old x ≡ whole_text_of old a → has x placed ≡ false → ⊥
       none-missing a x is low up_to text missing =
           let a_some = depends-from (instrs_of old) a m is in
           let a_below = depends-lt (instrs_of old) a m is in
@@ -204,10 +204,10 @@ module _ (old : Block) (spelled : IsSpelled old) where
       -- nor isn't taken
       none-left : (a : ℕ) → depends (instrs_of old) a m ≡ true → has a taken ≡ false → ⊥
       none-left a is missing =
-          let text = text_of old a in
+          let text = whole_text_of old a in
           let a_some = depends-from (instrs_of old) a m is in
           let a_below = depends-lt (instrs_of old) a m is in
-          let all : (x : ℕ) → 1 ≤ x → x ≤ a → text_of old x ≡ text → has x placed ≡ true =
+          let all : (x : ℕ) → 1 ≤ x → x ≤ a → whole_text_of old x ≡ text → has x placed ≡ true =
           λ x low up_to of_text. elim (cases_Bool (has x placed)) [
             | inl there ↦ there
             | inr not_there ↦ absurd (none-missing a x is low up_to of_text not_there)
@@ -242,7 +242,7 @@ module _ (old : Block) (spelled : IsSpelled old) where
                 ∙ ap₂ (λ (t : List ℕ) (c : ℕ). cond {A = ℕ} (bytes_eq t text) 1 0 + c) same (state.same text)
                 ∙ sym (push-within (has_text old text) placed n (length (instrs_of old)) 1 parts.0 (omega (arith, parts.1)) parts.2);
             first = λ a b low lt text there. elim (pushed b m taken there) [
-              | inl here ↦ had a m taken (least a low (omega (arith, lt, here)) (text ∙ ap (text_of old) here ∙ same))
+              | inl here ↦ had a m taken (least a low (omega (arith, lt, here)) (text ∙ ap (whole_text_of old) here ∙ same))
               | inr before ↦ had a m taken (state.first a b low lt text before)
             ];
             met = λ a k there is. had a n placed (needs-all a k (pushed k n placed there) is);
@@ -250,22 +250,22 @@ module _ (old : Block) (spelled : IsSpelled old) where
 
     -- ITS PARTNER
 
-    open-taken : (j : ℕ) → is_open old taken (text_of old n) j ≡ false → text_of old j ≡ text_of old n → has j taken ≡ true
-    open-taken j closed text = needed (has_text old (text_of old n) j) (has j taken) closed (same-text old (text_of old n) j text)
+    open-taken : (j : ℕ) → is_open old taken (whole_text_of old n) j ≡ false → whole_text_of old j ≡ whole_text_of old n → has j taken ≡ true
+    open-taken j closed text = needed (has_text old (whole_text_of old n) j) (has j taken) closed (same-text old (whole_text_of old n) j text)
 
-    some-open : partner old taken (text_of old n) ≡ 0 → ⊥
+    some-open : partner old taken (whole_text_of old n) ≡ 0 → ⊥
     some-open none =
-        too-many (λ k least most text there. open-taken k (none_passes (is_open old taken (text_of old n)) (length (instrs_of old)) 1 (omega arith) none k least (omega (arith, most))) text)
+        too-many (λ k least most text there. open-taken k (none_passes (is_open old taken (whole_text_of old n)) (length (instrs_of old)) 1 (omega arith) none k least (omega (arith, most))) text)
 
 -- a partner, which is ready after those that are taken
 record Step (old : Block) (placed taken : List ℕ) (n : ℕ) : Type 0 where
-  some : (partner old taken (text_of old n) == 0) ≡ false
-  ready : is_ready (instrs_of old) taken (partner old taken (text_of old n)) ≡ true
-  next : State old (placed ++ n ∷ []) (taken ++ partner old taken (text_of old n) ∷ [])
+  some : (partner old taken (whole_text_of old n) == 0) ≡ false
+  ready : is_ready (instrs_of old) taken (partner old taken (whole_text_of old n)) ≡ true
+  next : State old (placed ++ n ∷ []) (taken ++ partner old taken (whole_text_of old n) ∷ [])
 
 step : (old : Block) (placed taken : List ℕ) (n : ℕ) → IsSpelled old → State old placed taken → is_ready (instrs_of old) placed n ≡ true → Step old placed taken n
 step old placed taken n spelled state ready =
-    let text = text_of old n in
+    let text = whole_text_of old n in
     let m = partner old taken text in
     let other = some-open old spelled placed taken state n ready in
     let passes = first_passes (is_open old taken text) (length (instrs_of old)) 1 m (omega arith) refl other in
@@ -273,7 +273,7 @@ step old placed taken n spelled state ready =
     let few : m ≤ length (instrs_of old) = omega (arith, passes.1) in
     let fresh : has m taken ≡ false = not-true (has m taken) stated.1 in
     let same = text-same old text m stated.0 in
-    let least : (j : ℕ) → 1 ≤ j → j < m → text_of old j ≡ text → has j taken ≡ true =
+    let least : (j : ℕ) → 1 ≤ j → j < m → whole_text_of old j ≡ text → has j taken ≡ true =
     λ j low below is. open-taken old spelled placed taken state n ready j (first-least (is_open old taken text) (length (instrs_of old)) 1 m j refl low below) is in
     record {
       some = ne_eqb m 0 other;
@@ -289,16 +289,16 @@ record Walked (old : Block) (taken : List ℕ) (texts : List (List ℕ)) : Type 
   goes : GoesOn (instrs_of old) taken more
   size : length more ≡ length texts
 
-walk-next : (old : Block) (placed taken : List ℕ) (n : ℕ) (texts : List (List ℕ)) → Step old placed taken n → Walked old (taken ++ partner old taken (text_of old n) ∷ []) texts → Walked old taken (text_of old n ∷ texts)
+walk-next : (old : Block) (placed taken : List ℕ) (n : ℕ) (texts : List (List ℕ)) → Step old placed taken n → Walked old (taken ++ partner old taken (whole_text_of old n) ∷ []) texts → Walked old taken (whole_text_of old n ∷ texts)
 walk-next old placed taken n texts paired later =
-    let m = partner old taken (text_of old n) in
+    let m = partner old taken (whole_text_of old n) in
     record { more = m ∷ later.more; all = rw paired.some (later.all ∙ append_assoc taken (m ∷ []) later.more); goes = (paired.ready, later.goes); size = ap suc later.size }
 
-walk : (old : Block) (placed taken ns : List ℕ) → IsSpelled old → State old placed taken → GoesOn (instrs_of old) placed ns → Walked old taken (map (text_of old) ns)
+walk : (old : Block) (placed taken ns : List ℕ) → IsSpelled old → State old placed taken → GoesOn (instrs_of old) placed ns → Walked old taken (map (whole_text_of old) ns)
 walk old placed taken [] spelled state goes = record { more = []; all = sym (append-nil taken); goes = tt; size = refl }
 walk old placed taken (n ∷ ns) spelled state goes =
     let next = step old placed taken n spelled state goes.0 in
-    walk-next old placed taken n (map (text_of old) ns) next (walk old (placed ++ n ∷ []) (taken ++ partner old taken (text_of old n) ∷ []) ns spelled next.next goes.1)
+    walk-next old placed taken n (map (whole_text_of old) ns) next (walk old (placed ++ n ∷ []) (taken ++ partner old taken (whole_text_of old n) ∷ []) ns spelled next.next goes.1)
 
 -- THE VERDICT
 
@@ -333,14 +333,14 @@ by-pairs old new ns enough none kept =
     ap (λ few. is_kept (if few then OtherNew (line_of new (length ns + 1)) else (if first_left old ns == 0 then order else OtherOld (line_of old (first_left old ns))))) enough
     ∙ ap (λ k. is_kept (if k == 0 then order else OtherOld (line_of old k))) none ∙ ap is_kept kept ∙ kept-is (bytes_eq ns (numbers (instrs_of old)))
 
-pub order-kept : (old new : Block) (order : List ℕ) → IsSpelled old → IsLegal (instrs_of old) order → texts_of new ≡ map (text_of old) order → is_kept (verdict_of old new (paired old new)) ≡ true
+pub order-kept : (old new : Block) (order : List ℕ) → IsSpelled old → IsLegal (instrs_of old) order → texts_of new ≡ map (whole_text_of old) order → is_kept (verdict_of old new (paired old new)) ≡ true
 order-kept old new order spelled legal texts =
     let block : List Instr = instrs_of old in
     let completes = legal-order block order legal in
     let w = walk old [] [] order spelled (start old) completes.0 in
     let same : paired old new ≡ w.more = ap (partners old []) texts ∙ w.all in
-    let size : length w.more ≡ length order = w.size ∙ length-map order (text_of old) in
-    let own : length (instrs_of new) ≡ length order = sym (length-texts new) ∙ ap (λ (ts : List (List ℕ)). length ts) texts ∙ length-map order (text_of old) in
+    let size : length w.more ≡ length order = w.size ∙ length-map order (whole_text_of old) in
+    let own : length (instrs_of new) ≡ length order = sym (length-texts new) ∙ ap (λ (ts : List (List ℕ)). length ts) texts ∙ length-map order (whole_text_of old) in
     let is : IsOrder block w.more = (w.goes, size ∙ completes.1) in
     subst (λ ns. is_kept (verdict_of old new ns) ≡ true) (sym same)
     (by-pairs old new w.more (le-ltb (length w.more) (length (instrs_of new)) (omega (arith, size, own))) (none-left_out old w.more is) (order-stays block (kept_verdict block w.more) [] w.more w.goes))

@@ -7,7 +7,7 @@ use Rattle.std.proofs.lemmas.Slice.Eq.{bytes_eq-Decides}
 use Rattle.s66_isa.specs.Lists.{first_that, has, rising}
 use Rattle.s66_isa.specs.Table.{numbers}
 use Rattle.s66_isa.specs.declared.instr.Instr.{Instr}
-use Rattle.s66_line.specs.Block.{Block, instrs_of, line_of, text_of}
+use Rattle.s66_line.specs.Block.{Block, instrs_of, line_of, whole_text_of}
 use Rattle.s66_model.specs.Dependence.{depends}
 use Rattle.s66_model.specs.LegalOrder.{GoesOn, IsLegal}
 use Rattle.s66_model.proofs.Beginnings.{beginning-front, length-rising}
@@ -34,7 +34,7 @@ record Takes (old : Block) (taken : List ℕ) (texts : List (List ℕ)) : Type 0
   more : List ℕ
   all : partners old taken texts ≡ taken ++ more
   fresh : Fresh (length (instrs_of old)) taken more
-  same : length texts ≤ length more → map (text_of old) more ≡ texts
+  same : length texts ≤ length more → map (whole_text_of old) more ≡ texts
 
 no_more : (old : Block) (taken : List ℕ) (text : List ℕ) (texts : List (List ℕ)) → (partner old taken text == 0) ≡ true → Takes old taken (text ∷ texts)
 no_more old taken text texts none =
@@ -51,12 +51,12 @@ takes-next old taken text texts some later =
     let count = length (instrs_of old) in
     let other : n ≢ 0 = λ none. true≢false (sym (ap (λ k. k == 0) none) ∙ some) in
     let first = first_passes (is_open old taken text) count 1 n (omega arith) refl other in
-    let stated = and_parts (bytes_eq (text_of old n) text) (not (has n taken)) first.2 in
+    let stated = and_parts (bytes_eq (whole_text_of old n) text) (not (has n taken)) first.2 in
     record {
       more = n ∷ later.more;
       all = rw some (later.all ∙ append_assoc taken (n ∷ []) later.more);
       fresh = (first.0, omega (arith, first.1), not-true (has n taken) stated.1, later.fresh);
-      same = (λ enough. ap₂ (λ t ts. t ∷ ts) ((bytes_eq-Decides (text_of old n) text).0 stated.0) (later.same (omega (arith, enough))));
+      same = (λ enough. ap₂ (λ t ts. t ∷ ts) ((bytes_eq-Decides (whole_text_of old n) text).0 stated.0) (later.same (omega (arith, enough))));
     }
 
 takes : (old : Block) (taken : List ℕ) (texts : List (List ℕ)) → Takes old taken texts
@@ -71,12 +71,12 @@ pub paired-fresh : (old new : Block) → Fresh (length (instrs_of old)) [] (pair
 paired-fresh old new = (let all = takes old [] (texts_of new) in subst (Fresh (length (instrs_of old)) []) (sym all.all) all.fresh)
 
 pub length-texts : (block : Block) → length (texts_of block) ≡ length (instrs_of block)
-length-texts block = length-map (numbers (instrs_of block)) (text_of block) ∙ length-rising (length (instrs_of block)) 1
+length-texts block = length-map (numbers (instrs_of block)) (whole_text_of block) ∙ length-rising (length (instrs_of block)) 1
 
-pub paired-texts : (old new : Block) → length (instrs_of new) ≤ length (paired old new) → map (text_of old) (paired old new) ≡ texts_of new
+pub paired-texts : (old new : Block) → length (instrs_of new) ≤ length (paired old new) → map (whole_text_of old) (paired old new) ≡ texts_of new
 paired-texts old new enough =
     let all = takes old [] (texts_of new) in
-    ap (map (text_of old)) all.all ∙ all.same (omega (arith, enough, length-texts new, ap (λ (ns : List ℕ). length ns) all.all))
+    ap (map (whole_text_of old)) all.all ∙ all.same (omega (arith, enough, length-texts new, ap (λ (ns : List ℕ). length ns) all.all))
 
 -- NOTHING IS MISSING
 
@@ -130,7 +130,7 @@ old-not_kept : (line : ℕ) → is_kept (OtherOld line) ≡ true → ⊥
 old-not_kept line h = true≢false (sym h)
 
 -- by which a new block is the old one in a legal order
-pub kept-legal : (old new : Block) → is_kept (verdict_of old new (paired old new)) ≡ true → IsLegal (instrs_of old) (paired old new) × (texts_of new ≡ map (text_of old) (paired old new))
+pub kept-legal : (old new : Block) → is_kept (verdict_of old new (paired old new)) ≡ true → IsLegal (instrs_of old) (paired old new) × (texts_of new ≡ map (whole_text_of old) (paired old new))
 kept-legal old new is =
     elim (cases_Bool (nat_lt (length (paired old new)) (length (instrs_of new)))) [
       | inl few ↦ absurd (new-not_kept (line_of new (length (paired old new) + 1)) (rw few at is))
@@ -139,7 +139,7 @@ kept-legal old new is =
   where
     by_left : (t : Bool) → (first_left old (paired old new) == 0) ≡ t → length (instrs_of new) ≤ length (paired old new) →
         is_kept (if t then by_order (instrs_of old) (kept_verdict (instrs_of old) (paired old new)) [] (paired old new) else OtherOld (line_of old (first_left old (paired old new)))) ≡ true →
-        IsLegal (instrs_of old) (paired old new) × (texts_of new ≡ map (text_of old) (paired old new))
+        IsLegal (instrs_of old) (paired old new) × (texts_of new ≡ map (whole_text_of old) (paired old new))
     by_left false some enough is = absurd (old-not_kept (line_of old (first_left old (paired old new))) is)
     by_left true none enough is =
         let block = instrs_of old in

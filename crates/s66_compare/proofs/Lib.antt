@@ -3,6 +3,7 @@ pub mod Pairs
 pub mod RowSteps
 pub mod Differences
 pub mod Legal
+pub mod WholeTexts
 pub mod Meanings
 pub mod Accepted
 pub mod FrameAgain

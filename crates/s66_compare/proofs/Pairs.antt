@@ -5,7 +5,7 @@ use Rattle.std.proofs.lemmas.Bool.{ne_eqb}
 use Rattle.std.proofs.lemmas.List.{append-nil, drop_all, drop_more, take_all, take_more}
 use Rattle.s66_isa.specs.Lists.{rising}
 use Rattle.s66_isa.specs.declared.instr.Instr.{Instr}
-use Rattle.s66_line.specs.Block.{Block, instrs_of, text_of}
+use Rattle.s66_line.specs.Block.{Block, instrs_of, whole_text_of}
 use Rattle.s66_compare.specs.Pairing.{AreWithin, partner, partners}
 use Rattle.s66_compare.specs.Verdict.{by_order, first_missing}
 use Rattle.s66_compare.specs.declared.verdict.Verdict.{Verdict}
@@ -26,20 +26,20 @@ within_at count (n ∷ ns) (suc i) d within below = within_at count ns i d withi
 -- ONE TEXT after the other
 
 abbrev pub texts_from : Block → ℕ → List (List ℕ)
-texts_from block i = map (text_of block) (rising (length (instrs_of block) - i) (i + 1))
+texts_from block i = map (whole_text_of block) (rising (length (instrs_of block) - i) (i + 1))
 
-pub partners_next : (old new : Block) (taken : List ℕ) (i n : ℕ) → i < length (instrs_of new) → n ≡ partner old taken (text_of new (i + 1)) → 1 ≤ n →
+pub partners_next : (old new : Block) (taken : List ℕ) (i n : ℕ) → i < length (instrs_of new) → n ≡ partner old taken (whole_text_of new (i + 1)) → 1 ≤ n →
     partners old taken (texts_from new i) ≡ partners old (taken ++ n ∷ []) (texts_from new (i + 1))
 partners_next old new taken i n below is some =
-    let other : (partner old taken (text_of new (i + 1)) == 0) ≡ false = ne_eqb _ 0 (λ none. absurd (omega (arith, is, none, some))) in
-    ap (λ ns. partners old taken (map (text_of new) ns)) (rising_next (length (instrs_of new)) i below)
+    let other : (partner old taken (whole_text_of new (i + 1)) == 0) ≡ false = ne_eqb _ 0 (λ none. absurd (omega (arith, is, none, some))) in
+    ap (λ ns. partners old taken (map (whole_text_of new) ns)) (rising_next (length (instrs_of new)) i below)
     ∙ rw other (ap (λ k. partners old (taken ++ k ∷ []) (texts_from new (i + 1))) (sym is))
 
-pub partners_stop : (old new : Block) (taken : List ℕ) (i : ℕ) → i < length (instrs_of new) → partner old taken (text_of new (i + 1)) ≡ 0 → partners old taken (texts_from new i) ≡ taken
-partners_stop old new taken i below none = ap (λ ns. partners old taken (map (text_of new) ns)) (rising_next (length (instrs_of new)) i below) ∙ rw none refl
+pub partners_stop : (old new : Block) (taken : List ℕ) (i : ℕ) → i < length (instrs_of new) → partner old taken (whole_text_of new (i + 1)) ≡ 0 → partners old taken (texts_from new i) ≡ taken
+partners_stop old new taken i below none = ap (λ ns. partners old taken (map (whole_text_of new) ns)) (rising_next (length (instrs_of new)) i below) ∙ rw none refl
 
 pub partners_end : (old new : Block) (taken : List ℕ) (i : ℕ) → length (instrs_of new) ≤ i → partners old taken (texts_from new i) ≡ taken
-partners_end old new taken i past = ap (λ ns. partners old taken (map (text_of new) ns)) (rising_none (length (instrs_of new)) i past)
+partners_end old new taken i past = ap (λ ns. partners old taken (map (whole_text_of new) ns)) (rising_none (length (instrs_of new)) i past)
 
 -- ONE NUMBER after the other
 

@@ -1,66 +1,61 @@
 -- The blocks of a printed source that is read again are found to be the source's in legal orders.
-use Rattle.std.proofs.Common.{ℕ, zero, suc, ◌≡◌, ◌≤◌, ◌∙◌, true, List, [], ◌∷◌, length, map, refl, ap, ap₂, sym, inl, inr}
+use Rattle.std.proofs.Common.{ℕ, zero, suc, ◌≡◌, ◌≤◌, ◌∙◌, true, List, [], ◌∷◌, ◌++◌, length, map, refl, ap, ap₂, sym, inl, inr}
 use Rattle.std.proofs.lemmas.Bool.{and_from}
 use Rattle.std.proofs.lemmas.Simd.{map-map}
 use Rattle.s66_isa.specs.Lists.{Among, every, rising}
 use Rattle.s66_isa.specs.Table.{instr_at}
+use Rattle.s66_isa.specs.declared.instr.Instr.{Instr}
 use Rattle.s66_isa.specs.declared.profile.Profile.{Profile}
-use Rattle.s66_line.specs.Block.{Block, Entry, bytes_of, instrs_of, text_of}
+use Rattle.s66_line.specs.Block.{Block, Entry, bytes_of, instrs_of, text_of, whole_text_of}
 use Rattle.s66_line.specs.Fields.{trim, upper, is_trailing}
-use Rattle.s66_line.specs.InstructionText.{IsTextOf, Spells, operand_in, operation_in, spelling}
-use Rattle.s66_line.specs.Operand.{instr_of}
-use Rattle.s66_line.proofs.InstructionTexts.{operand_in-spelling, operation_in-spelling}
+use Rattle.s66_line.specs.InstructionText.{IsTextOf, spelling}
 use Rattle.s66_model.specs.LegalOrder.{IsLegal}
 use Rattle.s66_source.specs.Printed.{Placed}
 use Rattle.s66_source.specs.ReadAgain.{ArePlacedAgain, IsPlacedAgain}
-use Rattle.s66_source.proofs.ReadLine.{operand-again, operation-again}
+use Rattle.s66_source.proofs.ReadLine.{characters-again, operand-again, operation-again}
 use Rattle.s66_compare.specs.Pairing.{paired, texts_of}
 use Rattle.s66_compare.specs.Rows.{is_legal, rows_of}
 use Rattle.s66_compare.specs.Verdict.{is_kept, verdict_of}
 use Rattle.s66_compare.proofs.KeptPairs.{order-kept}
-use Rattle.s66_compare.proofs.Meanings.{IsSpelled}
+use Rattle.s66_compare.proofs.Meanings.{IsSpelled, spells-bytes}
+use Rattle.s66_compare.proofs.WholeTexts.{whole_text_in}
 
 -- THE TEXTS of a block are those of its bytes
 
-abbrev text_in : List ℕ → List ℕ
-text_in bytes = spelling (operation_in bytes) (operand_in bytes)
-
 -- without the first instruction each number is one less
 texts-behind : (label : List ℕ) (e : Entry) (entries : List Entry) (k low : ℕ) →
-    map (text_of (record { label = label; entries = e ∷ entries })) (rising k (suc (suc low))) ≡ map (text_of (record { label = label; entries = entries })) (rising k (suc low))
+    map (whole_text_of (record { label = label; entries = e ∷ entries })) (rising k (suc (suc low))) ≡ map (whole_text_of (record { label = label; entries = entries })) (rising k (suc low))
 texts-behind label e entries zero low = refl
-texts-behind label e entries (suc k) low = ap (λ ts. text_of (record { label = label; entries = entries }) (suc low) ∷ ts) (texts-behind label e entries k (suc low))
+texts-behind label e entries (suc k) low = ap (λ ts. whole_text_of (record { label = label; entries = entries }) (suc low) ∷ ts) (texts-behind label e entries k (suc low))
 
-texts-entries : (label : List ℕ) (entries : List Entry) → texts_of (record { label = label; entries = entries }) ≡ map (λ (e : Entry). text_in e.bytes) entries
+texts-entries : (label : List ℕ) (entries : List Entry) → texts_of (record { label = label; entries = entries }) ≡ map (λ (e : Entry). whole_text_in e.bytes) entries
 texts-entries label [] = refl
 texts-entries label (e ∷ entries) =
-    ap (λ ts. text_in e.bytes ∷ ts) (texts-behind label e entries (length (map (λ (x : Entry). x.instr) entries)) 0 ∙ texts-entries label entries)
+    ap (λ ts. whole_text_in e.bytes ∷ ts) (texts-behind label e entries (length (map (λ (x : Entry). x.instr) entries)) 0 ∙ texts-entries label entries)
 
 -- READ AGAIN, without what ends its line, an instruction has the text that it had
 
-spells-bytes : (block : Block) (n : ℕ) → IsTextOf (text_of block n) (instr_at (instrs_of block) n) → Spells (bytes_of block n) (instr_at (instrs_of block) n)
-spells-bytes block n is =
-    let bytes : List ℕ = bytes_of block n in
-    ap₂ instr_of (sym (operation_in-spelling bytes)) (sym (operand_in-spelling bytes)) ∙ is.spells
-
-text-again : (block : Block) (n : ℕ) → IsTextOf (text_of block n) (instr_at (instrs_of block) n) → text_in (trim is_trailing (bytes_of block n)) ≡ text_of block n
+text-again : (block : Block) (n : ℕ) → IsTextOf (text_of block n) (instr_at (instrs_of block) n) → whole_text_in (trim is_trailing (bytes_of block n)) ≡ whole_text_of block n
 text-again block n is =
+    let bytes : List ℕ = bytes_of block n in
+    let instr : Instr = instr_at (instrs_of block) n in
     let spells = spells-bytes block n is in
-    ap₂ spelling (ap upper (operation-again (bytes_of block n) (instr_at (instrs_of block) n) spells)) (ap upper (operand-again (bytes_of block n) (instr_at (instrs_of block) n) spells))
+    ap₂ (λ text characters. text ++ characters)
+    (ap₂ spelling (ap upper (operation-again bytes instr spells)) (ap upper (operand-again bytes instr spells))) (characters-again bytes instr spells)
 
 texts-placed : (block : Block) (order : List ℕ) → IsSpelled block → ((n : ℕ) → Among n order → (1 ≤ n) × (n ≤ length (instrs_of block))) →
-    map (λ n. text_in (trim is_trailing (bytes_of block n))) order ≡ map (text_of block) order
+    map (λ n. whole_text_in (trim is_trailing (bytes_of block n))) order ≡ map (whole_text_of block) order
 texts-placed block [] spelled within = refl
 texts-placed block (n ∷ order) spelled within =
     let here = within n (inl refl) in
     ap₂ (λ t ts. t ∷ ts) (text-again block n (spelled n here.0 here.1)) (texts-placed block order spelled (λ m among. within m (inr among)))
 
-placed-texts : (block again : Block) (order : List ℕ) → IsSpelled block → ((n : ℕ) → Among n order → (1 ≤ n) × (n ≤ length (instrs_of block))) → IsPlacedAgain block again order → texts_of again ≡ map (text_of block) order
+placed-texts : (block again : Block) (order : List ℕ) → IsSpelled block → ((n : ℕ) → Among n order → (1 ≤ n) × (n ≤ length (instrs_of block))) → IsPlacedAgain block again order → texts_of again ≡ map (whole_text_of block) order
 placed-texts block again order spelled within placed =
     texts-entries again.label again.entries
-    ∙ sym (map-map text_in (λ (e : Entry). e.bytes) again.entries)
-    ∙ ap (map text_in) placed.bytes
-    ∙ map-map text_in (λ n. trim is_trailing (bytes_of block n)) order
+    ∙ sym (map-map whole_text_in (λ (e : Entry). e.bytes) again.entries)
+    ∙ ap (map whole_text_in) placed.bytes
+    ∙ map-map whole_text_in (λ n. trim is_trailing (bytes_of block n)) order
     ∙ texts-placed block order spelled within
 
 -- BLOCK BY BLOCK

@@ -1,7 +1,7 @@
 -- To be believed: what an accepted comparison says of two sources.
 use Rattle.std.specs.Prelude.{ℕ, ◌≡◌, List, [], ◌∷◌, Ok, map}
 use Rattle.s66_isa.specs.Table.{numbers}
-use Rattle.s66_line.specs.Block.{Block, constants_in, instrs_of, text_of}
+use Rattle.s66_line.specs.Block.{Block, constants_in, instrs_of, whole_text_of}
 use Rattle.s66_model.specs.LegalOrder.{IsLegal}
 use Rattle.s66_model.specs.Meaning.{meaning}
 use Rattle.s66_source.specs.Frame.{frame_of}
@@ -14,7 +14,7 @@ use Rattle.s66_compare.specs.Pairing.{texts_of}
 pub record IsReordered (old new : Block) : Type 0 where
   pub order : List ℕ
   pub legal : IsLegal (instrs_of old) order
-  pub texts : texts_of new ≡ map (text_of old) order
+  pub texts : texts_of new ≡ map (whole_text_of old) order
   -- so it leaves the same in all registers and in memory
   pub meaning : meaning (instrs_of new) (constants_in new) (numbers (instrs_of new)) ≡ meaning (instrs_of old) (constants_in old) (numbers (instrs_of old))
 

@@ -1,16 +1,16 @@
--- To be believed: which instruction of an old block each instruction of a new one is: instructions are the same if their texts are, and equal
--- texts are the same in order.
+-- To be believed: which instruction of an old block each instruction of a new one is: instructions are the same if their texts are, with all
+-- characters of their operands, and equal texts are the same in order.
 use Rattle.std.specs.Prelude.{ℕ, ◌≤◌, Bool, ◌&&◌, ◌==◌, not, if◌then◌else◌, List, [], ◌∷◌, ◌++◌, bytes_eq, map}
 use Rattle.s66_isa.specs.Lists.{first_that, has}
 use Rattle.s66_isa.specs.Table.{numbers}
-use Rattle.s66_line.specs.Block.{Block, instrs_of, text_of}
+use Rattle.s66_line.specs.Block.{Block, instrs_of, whole_text_of}
 
 abbrev pub texts_of : Block → List (List ℕ)
-texts_of block = map (text_of block) (numbers (instrs_of block))
+texts_of block = map (whole_text_of block) (numbers (instrs_of block))
 
 -- of a number: it isn't among these, and its instruction has this text
 abbrev pub is_open : Block → (taken : List ℕ) (text : List ℕ) → ℕ → Bool
-is_open old taken text n = bytes_eq (text_of old n) text && not (has n taken)
+is_open old taken text n = bytes_eq (whole_text_of old n) text && not (has n taken)
 
 -- the first number that is so; 0 if none is
 abbrev pub partner : Block → (taken : List ℕ) (text : List ℕ) → ℕ

@@ -13,8 +13,9 @@ ghost use Rattle.s66_compare.specs.Verdict.{judged};
 ghost use Rattle.s66_compare.specs.declared.difference.Difference.{Difference};
 ghost use Rattle.s66_compare.specs.declared.verdict.Verdict.TheVariants.{NotLegal, OtherNew, OtherOld, Reordered, Same};
 
-/// If the new source is accepted, each of its blocks has the instructions of the old one in a legal order, and so leaves the same in
-/// all registers and in memory; and what stands beside the blocks is the same.
+/// If the new source is accepted, each of its blocks has the instructions of the old one, with all characters of their operands, in a
+/// legal order, and so leaves the same in all registers and in memory; and what stands beside the blocks is the same. Comments and
+/// remarks are no part of that, whatever reads them.
 pub fn same_meaning_law()
     ensures { (p : Profile) (old new : Reading) (text : List ℕ) → IsCompared p old new text true → KeepsSource old new }
 {}
@@ -26,8 +27,8 @@ pub fn difference_law()
         DifferFirst old new d }
 {}
 
-/// What is said of blocks of three instructions, of which the second reads what the first loads; and of equal instructions, of which
-/// each depends on the one before it.
+/// What is said of blocks of three instructions, of which the second reads what the first loads; of equal instructions, of which each
+/// depends on the one before it; and of characters that go on behind an operand's blank, and a remark behind these.
 #[tactic(auto, unfolding(s66_model::specs::Dependence::conflict))]
 pub fn verdict_examples()
     ensures same { judged (block_of_texts (codes "SA1 A1+B1" ∷ codes "BX6 X1" ∷ codes "BX7 X2" ∷ []))
@@ -48,6 +49,12 @@ pub fn verdict_examples()
     ensures equal_texts { judged (block_of_texts (codes "LX1 1" ∷ codes "LX1 1" ∷ codes "BX2 X1" ∷ []))
         (block_of_texts (codes "LX1 1" ∷ codes "BX2 X1" ∷ codes "LX1 1" ∷ [])) ≡
         record { verdict = NotLegal 3 2; order = 1 ∷ 3 ∷ 2 ∷ [] } }
+    ensures other_characters { judged (block_of_texts (codes "SA1 =10HREAD ERROR" ∷ []))
+        (block_of_texts (codes "SA1 =10HREAD OK" ∷ [])) ≡
+        record { verdict = OtherNew 1; order = [] } }
+    ensures other_remark { judged (block_of_texts (codes "SA1 =10HREAD ERROR" ∷ []))
+        (block_of_texts (codes "SA1 =10HREAD ERROR  OK" ∷ [])) ≡
+        record { verdict = Same; order = 1 ∷ [] } }
 {}
 
 /// What stands beside the blocks of a small source: a label on a `NO`, a comment, a branch, a `NO` that stands alone, and a switch; and

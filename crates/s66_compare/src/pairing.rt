@@ -25,7 +25,7 @@ fn is_open(old: &Block, taken: &[u8], text: &[u8], number: u8) -> bool
     requires { (1 ≤ number) × (number ≤ length (instrs_of old.now)) }
     ensures { result ≡ is_open old.now taken.now text.now number }
 {
-    old.text(number as usize).as_slice() == text && !is_among(number, taken)
+    old.whole_text(number as usize).as_slice() == text && !is_among(number, taken)
 }
 
 /// The first instruction of the old block that has this text and isn't taken.
@@ -53,7 +53,7 @@ pub(crate) fn paired(old: &Block, new: &Block) -> ArrayVec<u8, BLOCK_LIMIT>
 {
     let mut taken = ArrayVec::new();
     for position in 0..new.count() {
-        let text = new.text(position + 1);
+        let text = new.whole_text(position + 1);
         match partner(old, taken.as_slice(), text.as_slice()) {
             Some(number) => taken.push(number),
             None => return taken,

@@ -49,9 +49,9 @@ abbrev pub whole_text_of : Block → ℕ → List ℕ
 whole_text_of block n = text_of block n ++ characters_in (bytes_of block n)
 
 -- the text of the constant of an instruction, in upper case: the whole operand of a shift count or a mask, the constant terms of
--- a set instruction, each with its sign, and nothing of any other
+-- a set instruction, each with its sign, and nothing of any other; and such characters
 abbrev pub constants_in : Block → ℕ → List ℕ
-constants_in block n = constant_of (instr_at (instrs_of block) n).op.code (operand_in (bytes_of block n))
+constants_in block n = constant_of (instr_at (instrs_of block) n).op.code (operand_in (bytes_of block n)) ++ characters_in (bytes_of block n)
 
 -- THE BLOCK OF TEXTS, each that of an instruction, without a label
 

@@ -24,6 +24,13 @@ pub(crate) const ROWS: &[Row] = &[
         "BLOCK 1 LINE 1 COUNT 3 TIME 16 NEW LINE 1 COUNT 3 TIME 12 OTHER CODE NEW LINE 2\nTOTAL BLOCKS 1 TIME 16 NEW BLOCKS 1 TIME 12 LEGAL 0\n",
     ),
     (
+        "changed characters",
+        COMPARE,
+        "  SA1 =10HREAD ERROR\n*S66 NEW\n  SA1 =10HREAD OK\n",
+        5,
+        "BLOCK 1 LINE 1 COUNT 1 TIME 8 NEW LINE 1 COUNT 1 TIME 8 OTHER CODE NEW LINE 1\nTOTAL BLOCKS 1 TIME 8 NEW BLOCKS 1 TIME 8 LEGAL 0\n",
+    ),
+    (
         "changed branch",
         COMPARE,
         "L   SA1 A1+B1\n  BX6 X1\n  BX7 X2\n  ZR X1,L\n*S66 NEW\nL SA1 A1+B1\n  BX7 X2\n  BX6 X1\n  NZ X1,L\n",

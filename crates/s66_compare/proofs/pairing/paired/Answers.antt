@@ -1,6 +1,6 @@
 use Rattle.std.proofs.Common.{◌≡◌, ◌+◌, ◌++◌, ◌∷◌, ◌∙◌, List, ℕ, [], length, ap, sym, subst, arith}
 use Rattle.std.proofs.lemmas.List.{length-append}
-use Rattle.s66_line.specs.Block.{instrs_of, text_of}
+use Rattle.s66_line.specs.Block.{instrs_of, whole_text_of}
 use Rattle.s66_compare.specs.Pairing.{AreWithin, partner, partners}
 use Rattle.s66_compare.proofs.Pairs.{partners_next, texts_from, within_push}
 use Rattle.s66_compare.proofs.pairing.paired.Goals as goal
@@ -12,8 +12,8 @@ loop-position-preserved c =
     let i = c.loop-position.position in
     let n = c.in-Some.number in
     let taken = c.loop-position.taken.items in
-    let text = c.as_slice-in-loop-position.ensures.value ∙ c.text-text.ensures.value in
-    let is : n ≡ partner old taken (text_of new (i + 1)) =
+    let text = c.as_slice-in-loop-position.ensures.value ∙ c.whole_text-text.ensures in
+    let is : n ≡ partner old taken (whole_text_of new (i + 1)) =
     c.in-Some.ensures.some ∙ ap (λ ns. partner old ns c.as_slice-in-loop-position.result.now) c.as_slice.ensures.value ∙ ap (partner old taken) text
     in
     let pushed : c.push.new.self.items ≡ taken ++ n ∷ [] = c.push.ensures.items in
