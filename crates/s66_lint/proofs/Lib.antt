@@ -1,3 +1,5 @@
 mod AloneLines
+mod GuardPrinting
+mod GuardedLines
 mod Listings
 mod SwitchedLines

@@ -36,7 +36,7 @@ no-switch s line continued h =
     (or_parts (is_off_switch (body line)) _ more).0
 
 -- what stands outside of definitions and counts, after a switch or not
-abbrev standing : Bool → Standing
+abbrev pub standing : Bool → Standing
 standing off = record at_first { off = off }
 
 -- after the line, by whether it is a switch ON
@@ -70,10 +70,10 @@ flags-from s (line ∷ lines) = flags-line (is_alone true s line (is_continued l
 
 -- THE TEXT has these lines
 
-abbrev is_one_line : List ℕ → Bool
+abbrev pub is_one_line : List ℕ → Bool
 is_one_line line = every (λ b. not (is_newline b)) line
 
-lines_of-with_newlines : (lines : List (List ℕ)) → every is_one_line lines ≡ true → lines_of (with_newlines lines) ≡ lines
+pub lines_of-with_newlines : (lines : List (List ℕ)) → every is_one_line lines ≡ true → lines_of (with_newlines lines) ≡ lines
 lines_of-with_newlines [] h = refl
 lines_of-with_newlines (line ∷ lines) h =
     let (here, rest) = and_parts (is_one_line line) (every is_one_line lines) h in

@@ -1,3 +1,5 @@
+pub mod Guarded
+pub mod LineMarks
 pub mod Listing
 pub mod Marks
 pub mod Switched

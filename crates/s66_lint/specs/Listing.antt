@@ -7,21 +7,27 @@ use Rattle.s66_source.specs.declared.limits.TheConstants.{SOURCE_LINES_LIMIT}
 use Rattle.s66_lint.specs.Marks.{alone_lines, is_marked}
 use Rattle.s66_lint.specs.declared.finding.Finding.{Finding}
 use Rattle.s66_lint.specs.declared.finding.Rule.{Rule}
-use Rattle.s66_lint.specs.declared.finding.Rule.TheVariants.{TooLong, BadOperand, NotAnInstruction, InColumn1, InColumn2, Directive, HasABody, Redefines, LoadsCode, StoresIntoCode, JoinsAWord, CountsWords, CountsLines}
+use Rattle.s66_lint.specs.declared.finding.Rule.TheVariants.{TooLong, BadOperand, FarOperand, Redefined, NotAnInstruction, InColumn1, InColumn2, Directive, HasABody, LoadsCode, StoresIntoCode, TakesCode, PassesCode, SkipsWords, JoinsAWord, CountsWords, FallsIntoData, RowOfNo, CountsLines}
 
 abbrev pub rule_words : Rule → List ℕ
 rule_words TooLong = codes " TOO LONG"
 rule_words BadOperand = codes " BAD OPERAND"
+rule_words FarOperand = codes " FAR OPERAND"
+rule_words Redefined = codes " REDEFINED"
 rule_words NotAnInstruction = codes " NOT AN INSTRUCTION"
 rule_words InColumn1 = codes " IN COLUMN 1"
 rule_words InColumn2 = codes " IN COLUMN 2"
 rule_words Directive = codes " DIRECTIVE"
 rule_words HasABody = codes " HAS A BODY"
-rule_words Redefines = codes " REDEFINES"
 rule_words LoadsCode = codes " LOADS CODE"
 rule_words StoresIntoCode = codes " STORES INTO CODE"
+rule_words TakesCode = codes " TAKES CODE"
+rule_words PassesCode = codes " PASSES CODE"
+rule_words SkipsWords = codes " SKIPS WORDS"
 rule_words JoinsAWord = codes " JOINS A WORD"
 rule_words CountsWords = codes " COUNTS WORDS"
+rule_words FallsIntoData = codes " FALLS INTO DATA"
+rule_words RowOfNo = codes " ROW OF NO"
 rule_words CountsLines = codes " COUNTS LINES"
 
 abbrev pub after_blank : List ℕ → List ℕ

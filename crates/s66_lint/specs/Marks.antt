@@ -7,7 +7,7 @@ use Rattle.s66_source.specs.declared.standing.Standing.{Standing}
 use Rattle.s66_source.specs.declared.limits.TheConstants.{SOURCE_LINES_LIMIT}
 use Rattle.s66_lint.specs.declared.finding.Finding.{Finding}
 use Rattle.s66_lint.specs.declared.finding.Rule.{Rule}
-use Rattle.s66_lint.specs.declared.finding.Rule.TheVariants.{BadOperand, CountsLines, Directive, HasABody}
+use Rattle.s66_lint.specs.declared.finding.Rule.TheVariants.{BadOperand, CountsLines, Directive, FarOperand, HasABody, Redefined}
 
 -- a line up to the limit of its bytes
 abbrev pub front : List ℕ → List ℕ
@@ -25,10 +25,13 @@ alone_lines text = take SOURCE_LINES_LIMIT (alone_from at_first (lines_of text))
 abbrev pub is_alone_at : List Bool → ℕ → Bool
 is_alone_at alone place = slice_index_or alone place false
 
--- what a finding of this rule means is left alone: a refused line or a directive itself, the line after one that covers others; any
+-- what a finding of this rule means is left alone: a refused line, one with an operand that
+-- isn't seen, a redefined one or a directive itself, the line after one that covers others; any
 -- other means no line
 abbrev pub means_alone : Rule → (here next : Bool) → Bool
 means_alone BadOperand here next = here
+means_alone FarOperand here next = here
+means_alone Redefined here next = here
 means_alone Directive here next = here
 means_alone HasABody here next = next
 means_alone CountsLines here next = next

@@ -18,8 +18,6 @@ pub(crate) struct After {
     pub(crate) covers_code: bool,
     /// The word of code that begins with it can't change.
     pub(crate) is_held: bool,
-    /// A line may change from it to the next with a name.
-    pub(crate) leads_to_change: bool,
 }
 
 impl After {
@@ -30,7 +28,6 @@ impl After {
             has_body: false,
             covers_code: false,
             is_held: false,
-            leads_to_change: false,
         }
     }
 }
@@ -44,7 +41,6 @@ pub(crate) struct Rest {
     repetitions: Bodies,
     reach: Reach,
     word: Word,
-    leads_to_change: bool,
 }
 
 impl Rest {
@@ -57,18 +53,11 @@ impl Rest {
             repetitions: Bodies::none(),
             reach: Reach::none(),
             word: Word::at_end(),
-            leads_to_change: false,
         }
     }
 
     /// What is known of the line before, which has this index.
-    pub(crate) fn take(
-        &mut self,
-        at: usize,
-        line: &Line,
-        before: &Before,
-        may_change: bool,
-    ) -> After {
+    pub(crate) fn take(&mut self, at: usize, line: &Line, before: &Before) -> After {
         let cover = cover_by(line);
         let word = self.word.with(line);
         let after = After {
@@ -77,11 +66,8 @@ impl Rest {
             has_body: self.has_body(line, before.in_definition, cover.is_counting()),
             covers_code: !before.in_definition && self.reach.is_covered(cover),
             is_held: word.is_held(),
-            leads_to_change: may_change || self.leads_to_change,
         };
         self.pass_bodies(line, before.in_definition, cover.is_counting());
-        self.leads_to_change = after.leads_to_change
-            && (line.name().is_empty() || line.is_wordless());
         if line.is_statement() {
             self.word = word.before(line);
             self.reach = self.reach.before(line);

@@ -8,6 +8,8 @@ pub(crate) struct Before {
     pub(crate) in_definition: bool,
     /// It is in a program for a peripheral processor.
     pub(crate) in_peripheral: bool,
+    /// How many programs have begun, with it.
+    pub(crate) program: usize,
     /// The last statement that makes a word.
     pub(crate) last: Option<usize>,
     /// The last statement is an instruction whose location field forces a word.
@@ -19,6 +21,7 @@ impl Before {
         Before {
             in_definition: false,
             in_peripheral: false,
+            program: 0,
             last: None,
             follows_forced: false,
         }
@@ -30,6 +33,7 @@ impl Before {
 pub(crate) struct Standing {
     definitions: usize,
     in_peripheral: bool,
+    program: usize,
     last: Option<usize>,
     follows_forced: bool,
 }
@@ -40,6 +44,7 @@ impl Standing {
         Standing {
             definitions: 0,
             in_peripheral: false,
+            program: 0,
             last: None,
             follows_forced: false,
         }
@@ -54,6 +59,7 @@ impl Standing {
         let before = Before {
             in_definition,
             in_peripheral: self.in_peripheral,
+            program: self.program,
             last: self.last,
             follows_forced: self.follows_forced,
         };
@@ -67,7 +73,11 @@ impl Standing {
         }
         match operation {
             b"ENDM" => self.definitions = self.definitions.saturating_sub(1),
-            b"IDENT" | b"END" => self.in_peripheral = false,
+            b"IDENT" => {
+                self.in_peripheral = false;
+                self.program = self.program.saturating_add(1);
+            }
+            b"END" => self.in_peripheral = false,
             b"PERIPH" | b"PPU" => self.in_peripheral = true,
             _ => {}
         }

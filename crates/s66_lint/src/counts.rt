@@ -1,9 +1,21 @@
 use crate::line::Line;
 use crate::operations::ends_range;
+use crate::reading::directive_count;
 use s66_source::{Cover, counting_text, cover_of};
 
-/// The lines that the operation of a line counts.
+/// The lines that a directive counts.
+fn cover_by_directive(line: &Line) -> Cover {
+    match directive_count(line.letters) {
+        0 => Cover::Nothing,
+        count => Cover::Lines { count },
+    }
+}
+
+/// The lines that the operation of a line counts, or the directive that it is.
 pub(crate) fn cover_by(line: &Line) -> Cover {
+    if line.is_comment() {
+        return cover_by_directive(line);
+    }
     if line.is_instruction_or_pad() || line.operation().is_empty() {
         return Cover::Nothing;
     }

@@ -1,9 +1,11 @@
 use crate::after::{After, Rest};
 use crate::before::{Before, Standing};
+use crate::changing::Changing;
 use crate::joining::{Joining, OpenWord};
 use crate::line::Line;
 use crate::operand::is_before;
 use crate::run::Runs;
+use crate::words::{Span, Words};
 use s66_line::body_of;
 use s66_source::{SOURCE_LINES_LIMIT, is_switch};
 use std::alloc::{AllocError, Global};
@@ -71,16 +73,27 @@ impl<'a> Lines<'a> {
 pub(crate) struct Deck<'a> {
     lines: &'a [Line<'a>],
     runs: Runs,
+    pub(crate) changing: Changing,
+    pub(crate) words: Words,
     before: Vec<Before>,
     after: Vec<After>,
     joining: Vec<Joining>,
 }
 
 impl<'a> Deck<'a> {
-    pub(crate) fn of(alloc: Global, lines: &'a [Line<'a>]) -> Result<Deck<'a>, AllocError> {
+    /// Of these lines, of which some, by index, are left alone besides those between switches.
+    pub(crate) fn of(
+        alloc: Global,
+        lines: &'a [Line<'a>],
+        alone: &[bool],
+    ) -> Result<Deck<'a>, AllocError> {
+        let runs = Runs::of(alloc, lines, alone)?;
+        let changing = Changing::of(alloc, lines, &runs)?;
         let mut deck = Deck {
             lines,
-            runs: Runs::of(alloc, lines)?,
+            runs,
+            changing,
+            words: Words::of(alloc, lines)?,
             before: Vec::new(alloc),
             after: Vec::new(alloc),
             joining: Vec::new(alloc),
@@ -106,7 +119,7 @@ impl<'a> Deck<'a> {
         for line in self.lines.iter().rev() {
             at = at.saturating_sub(1);
             let before = self.before(at);
-            let after = rest.take(at, line, &before, self.may_change(at, line));
+            let after = rest.take(at, line, &before);
             self.after.push(after)?;
         }
         self.after.reverse();
@@ -118,9 +131,10 @@ impl<'a> Deck<'a> {
         for line in self.lines {
             let at = self.joining.len();
             let joining = word.take(
+                at,
                 line,
                 self.line(self.after(at).next),
-                self.may_change(at, line),
+                self.changing.holds(at),
             );
             self.joining.push(joining)?;
         }
@@ -129,6 +143,10 @@ impl<'a> Deck<'a> {
 
     pub(crate) fn lines(&self) -> &'a [Line<'a>] {
         self.lines
+    }
+
+    pub(crate) fn runs(&self) -> &Runs {
+        &self.runs
     }
 
     /// What is known of the line at this index by those before it.
@@ -146,11 +164,6 @@ impl<'a> Deck<'a> {
         self.joining.get(at).copied().unwrap_or(Joining::none())
     }
 
-    /// Whether the line at this index is of a run, and may come into another word, or go.
-    pub(crate) fn may_change(&self, at: usize, line: &Line) -> bool {
-        line.is_in_run() && self.runs.may_change(at)
-    }
-
     /// Whether the comment at this index is within a block, or between the label of one and it.
     pub(crate) fn is_within_block(&self, at: usize) -> bool {
         self.runs.is_within_block(at)
@@ -161,9 +174,29 @@ impl<'a> Deck<'a> {
         self.lines.get(at?)
     }
 
-    /// The index of the line of code, be it between switches, in whose word the name stands that the line at this index may have.
+    /// The statement at a place among all statements.
+    pub(crate) fn statement(&self, place: usize) -> Option<&'a Line<'a>> {
+        self.line(self.words.line_of(place))
+    }
+
+    /// The lines of some statements, by index, with the comments between.
+    pub(crate) fn lines_of(&self, statements: Span) -> Span {
+        if statements.first >= statements.end {
+            return Span::none();
+        }
+        Span {
+            first: self.index_of(statements.first),
+            end: self.index_of(statements.end),
+        }
+    }
+
+    fn index_of(&self, place: usize) -> usize {
+        self.words.line_of(place).unwrap_or(self.lines.len())
+    }
+
+    /// The index of the line of code in whose word the name stands that the line at this index may have.
     pub(crate) fn code_named(&self, at: usize, line: &Line) -> Option<usize> {
-        if line.makes_code() {
+        if line.is_code() {
             return Some(at);
         }
         let is_before = match line.operation() {
@@ -176,18 +209,10 @@ impl<'a> Deck<'a> {
         } else {
             self.after(at).next
         };
-        if self.line(near)?.makes_code() {
+        if self.line(near)?.is_code() {
             near
         } else {
             None
-        }
-    }
-
-    /// Whether the line at this index, if there is one, is code and not between switches.
-    pub(crate) fn is_code(&self, at: Option<usize>) -> bool {
-        match self.line(at) {
-            Some(line) => line.is_code(),
-            None => false,
         }
     }
 }

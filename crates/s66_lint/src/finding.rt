@@ -1,4 +1,5 @@
 use crate::line::Line;
+use crate::words::Span;
 use s66_line::split_word;
 
 /// What may be wrong with a line, in the order in which the findings of one line are listed.
@@ -8,6 +9,10 @@ pub enum Rule {
     TooLong,
     /// It is refused.
     BadOperand,
+    /// Its operand isn't seen.
+    FarOperand,
+    /// The source redefines its operation, or its form.
+    Redefined,
     /// Its operation begins like one of the instruction table, and is none.
     NotAnInstruction,
     /// An instruction stands in its location field, in column 1 or 2.
@@ -17,52 +22,72 @@ pub enum Rule {
     Directive,
     /// It begins a definition, or an `ECHO`, that holds an instruction.
     HasABody,
-    /// It defines an operation that the table has.
-    Redefines,
     /// It loads the word of an instruction.
     LoadsCode,
     /// It stores into the word of an instruction.
     StoresIntoCode,
+    /// It takes the address of code into a register.
+    TakesCode,
+    /// It passes the address of code to a macro.
+    PassesCode,
+    /// It calls a routine that may skip words behind the call.
+    SkipsWords,
     /// It stands for its place in the word of the line before it; or the line after it stands in its word, and may come into the
     /// other half of it.
     JoinsAWord,
     /// It counts words of code.
     CountsWords,
+    /// It is code directly before data.
+    FallsIntoData,
+    /// It is the first of more pads than are needed.
+    RowOfNo,
     /// It counts lines after it, of which one is an instruction.
     CountsLines,
 }
 
-/// What was found in a line, without the line's number: the rule, and up to two words of the line.
-#[derive(Clone, Copy)]
+/// What was found in a line, without the line's number: the rule, up to two words of the line, and what it harms.
+#[derive(Drop)]
 pub(crate) struct LineFinding<'a> {
     pub(crate) rule: Rule,
     pub(crate) first: &'a [u8],
     pub(crate) second: &'a [u8],
+    pub(crate) harm: Harm,
+}
+
+/// What a finding harms.
+#[derive(Drop)]
+pub(crate) enum Harm {
+    /// It doesn't concern the order of code.
+    Nothing,
+    /// Its own line.
+    Itself,
+    /// Runs that may change, as parts of a list of them.
+    Runs(Vec<Span>),
 }
 
 impl<'a> LineFinding<'a> {
     /// With the words of the line that are shown, as they are written.
-    pub(crate) fn of(rule: Rule, line: &Line<'a>) -> LineFinding<'a> {
-        let written = line.written();
-        let (first, second) = match rule {
-            Rule::TooLong => (&[][..], &[][..]),
-            Rule::Directive => (split_word(line.body).0, &[][..]),
-            Rule::InColumn1 | Rule::InColumn2 => (written.location, written.operation),
-            Rule::Redefines => (written.location, &[][..]),
-            Rule::NotAnInstruction | Rule::HasABody | Rule::CountsLines => {
-                (written.operation, &[][..])
-            }
-            Rule::BadOperand
-            | Rule::LoadsCode
-            | Rule::StoresIntoCode
-            | Rule::JoinsAWord
-            | Rule::CountsWords => (written.operation, written.operand),
-        };
+    pub(crate) fn of(rule: Rule, line: &Line<'a>, harm: Harm) -> LineFinding<'a> {
+        let (first, second) = shown(rule, line);
         LineFinding {
             rule,
             first,
             second,
+            harm,
         }
+    }
+}
+
+/// The words of a line that are shown with a finding.
+fn shown<'a>(rule: Rule, line: &Line<'a>) -> (&'a [u8], &'a [u8]) {
+    let none: &'a [u8] = &[];
+    let written = line.written();
+    match rule {
+        Rule::TooLong | Rule::RowOfNo => (none, none),
+        Rule::Directive | Rule::CountsLines if line.is_comment() => (split_word(line.body).0, none),
+        Rule::InColumn1 | Rule::InColumn2 => (written.location, written.operation),
+        Rule::NotAnInstruction | Rule::HasABody | Rule::CountsLines => (written.operation, none),
+        _ => (written.operation, written.operand),
     }
 }
 

@@ -1,4 +1,4 @@
-ghost use Rattle.std.specs.Prelude.{ℕ, suc, ◌≡◌, ◌≤◌, ◌++◌, true, length, IfOk, OnOk};
+ghost use Rattle.std.specs.Prelude.{ℕ, suc, ◌≡◌, ◌≤◌, ◌++◌, Bool, true, false, List, length, IfOk, OnOk};
 ghost use Rattle.s66_source.specs.declared.limits.TheConstants.{SOURCE_LINES_LIMIT};
 ghost use Rattle.s66_isa.specs.Lists.{tally};
 ghost use Rattle.s66_lint.specs.Listing.{AreCounted, AreFindings, IsFindings, is_in_order, is_listed, past_line};
@@ -6,10 +6,11 @@ ghost use Rattle.s66_lint.specs.Marks.{alone_lines};
 
 use crate::cut::alone_lines;
 use crate::deck::{Deck, Lines};
-use crate::finding::{Finding, LineFinding, Rule};
+use crate::finding::{Finding, Harm, LineFinding, Rule};
 use crate::line::Line;
 use crate::listing::{count_listed, push_listing};
 use crate::rules::Rules;
+use crate::tracker::Tracker;
 use s66_line::LINE_BYTES_LIMIT;
 use s66_source::SOURCE_LINES_LIMIT;
 use std::alloc::{AllocError, Global};
@@ -43,6 +44,7 @@ fn push_long(all: &mut Vec<Finding>, past: Option<usize>) -> Result<(), AllocErr
         rule: Rule::TooLong,
         first: &[],
         second: &[],
+        harm: Harm::Nothing,
     };
     match past {
         Some(length) if length > LINE_BYTES_LIMIT => {
@@ -52,23 +54,30 @@ fn push_long(all: &mut Vec<Finding>, past: Option<usize>) -> Result<(), AllocErr
     }
 }
 
-/// All that is found in a source, of which these are the lines up to the limit.
+/// All that is found in a source, of which these are the lines up to the limit, and some, by index, are left alone.
 fn found_in<'a>(
     alloc: Global,
     lines: &'a [Line<'a>],
     past: Option<usize>,
+    alone: &[bool],
 ) -> Result<Vec<Finding<'a>>, AllocError>
     requires { length lines.now ≤ SOURCE_LINES_LIMIT }
     ensures { IfOk result (λ all. AreFindings all.items) }
 {
-    let rules = Rules::of(alloc, Deck::of(alloc, lines)?)?;
+    let rules = Rules::of(alloc, Deck::of(alloc, lines, alone)?)?;
+    let mut tracker = Tracker::new(alloc, false);
     let mut all = Vec::new(alloc);
     for (at, line) in lines.iter().enumerate() {
-        let found = rules.findings_of(at, line)?;
+        let found = rules.findings_of(&mut tracker, at, line)?;
         push_findings(&mut all, at as u32 + 1, found.as_slice())?;
     }
     push_long(&mut all, past)?;
     Ok(all)
+}
+
+/// The lines that are left alone where the order of code is asked for: with `--cut` alone.
+fn left_alone(alone: &[bool], cut: bool) -> &[bool] {
+    if cut { alone } else { &[] }
 }
 
 /// That a source has too many lines, if it has.
@@ -88,23 +97,24 @@ pub fn findings_in(alloc: Global, text: &[u8], cut: bool) -> Result<Vec<u8>, All
 {
     let letters = text.to_ascii_uppercase(alloc)?;
     let lines = Lines::of(alloc, text, letters.as_slice(), true)?;
-    let all = found_in(alloc, lines.lines.as_slice(), lines.past)?;
     let alone = alone_lines(alloc, text)?;
+    let all = found_in(
+        alloc,
+        lines.lines.as_slice(),
+        lines.past,
+        left_alone(alone.as_slice(), cut),
+    )?;
     let mut out = Vec::new(alloc);
     push_listing(&mut out, alone.as_slice(), all.as_slice(), cut)?;
     push_past(&mut out, lines.past.is_some())?;
     Ok(out)
 }
 
-/// How many findings are listed, with `--cut` or without. What is left alone matters only with it.
-fn count_in(alloc: Global, text: &[u8], all: &[Finding], cut: bool) -> Result<usize, AllocError>
-    ensures { IfOk result (λ count. count ≡ tally (is_listed cut (alone_lines text.now)) all.now) }
+/// How many findings are listed without `--cut`.
+fn count_all(all: &[Finding]) -> usize
+    ensures { (alone : List Bool) → result ≡ tally (is_listed false alone) all.now }
 {
-    if !cut {
-        return Ok(all.len());
-    }
-    let alone = alone_lines(alloc, text)?;
-    Ok(count_listed(alone.as_slice(), all))
+    all.len()
 }
 
 /// How many lines `findings_in` has for a source that is accepted, with `--cut` or without. So without it no line is refused.
@@ -113,6 +123,11 @@ pub fn count_findings(alloc: Global, text: &[u8], cut: bool) -> Result<usize, Al
 {
     let letters = text.to_ascii_uppercase(alloc)?;
     let lines = Lines::of(alloc, text, letters.as_slice(), cut)?;
-    let all = found_in(alloc, lines.lines.as_slice(), lines.past)?;
-    count_in(alloc, text, all.as_slice(), cut)
+    if !cut {
+        let all = found_in(alloc, lines.lines.as_slice(), lines.past, &[])?;
+        return Ok(count_all(all.as_slice()));
+    }
+    let alone = alone_lines(alloc, text)?;
+    let all = found_in(alloc, lines.lines.as_slice(), lines.past, alone.as_slice())?;
+    Ok(count_listed(alone.as_slice(), all.as_slice()))
 }

@@ -48,15 +48,15 @@ struct Last {
 pub(crate) struct Joining {
     /// It stands for its place in the word of the line before it.
     pub(crate) joins: bool,
-    /// The next line is in its word, and what comes before it may move it in that.
-    pub(crate) slides: bool,
+    /// If the next line is in its word, and what comes before it may move it in that, the first of that, by the index of its line.
+    pub(crate) slides_from: Option<usize>,
 }
 
 impl Joining {
     pub(crate) fn none() -> Joining {
         Joining {
             joins: false,
-            slides: false,
+            slides_from: None,
         }
     }
 }
@@ -66,6 +66,8 @@ impl Joining {
 pub(crate) struct OpenWord {
     last: Last,
     sizes: Sizes,
+    /// The first line of code in it, by index.
+    begin: Option<usize>,
 }
 
 impl OpenWord {
@@ -78,11 +80,18 @@ impl OpenWord {
                 is_half_filled: false,
             },
             sizes: Sizes::none(),
+            begin: None,
         }
     }
 
-    /// How the next line stands in a word, by the next statement after it that makes one.
-    pub(crate) fn take(&mut self, line: &Line, next: Option<&Line>, may_change: bool) -> Joining {
+    /// How the next line, which has this index, stands in a word, by the next statement after it that makes one.
+    pub(crate) fn take(
+        &mut self,
+        at: usize,
+        line: &Line,
+        next: Option<&Line>,
+        may_change: bool,
+    ) -> Joining {
         if !line.is_statement() {
             return Joining::none();
         }
@@ -91,7 +100,11 @@ impl OpenWord {
         let stands = line.is_instruction_or_pad() && !line.is_off;
         let joining = Joining {
             joins: stands && may_change && (joins || line.operation() == b"SB0".as_slice()),
-            slides: self.sizes.are_several() && shares_word(line, next),
+            slides_from: if self.sizes.are_several() && shares_word(line, next) {
+                self.begin
+            } else {
+                None
+            },
         };
         if !line.is_wordless() {
             self.last = Last {
@@ -99,7 +112,7 @@ impl OpenWord {
                 is_transfer: is_transfer(line),
                 is_half_filled: stands && joins && !follows && !line.has_two_parcels(),
             };
-            self.pass_word(line, may_change);
+            self.pass_word(at, line, may_change);
         }
         joining
     }
@@ -108,9 +121,13 @@ impl OpenWord {
         line.joins() && self.last.is_other || line.may_join() && self.last.is_transfer
     }
 
-    fn pass_word(&mut self, line: &Line, may_change: bool) {
+    fn pass_word(&mut self, at: usize, line: &Line, may_change: bool) {
         if !line.is_code() || line.begins_word() {
             self.sizes = Sizes::none();
+            self.begin = None;
+        }
+        if line.is_code() && self.begin.is_none() {
+            self.begin = Some(at);
         }
         if may_change {
             self.sizes = self.sizes.with(line);

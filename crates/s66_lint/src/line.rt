@@ -1,11 +1,12 @@
-use crate::operand::has_registers_alone;
-use crate::operations::{falls_through, has_address, is_wordless};
+use crate::operand::{decimal, has_registers_alone};
+use crate::operations::{falls_through, has_address, is_wordless, makes_words, renames};
+use crate::reading::is_far_operand;
 use crate::spelling::{is_instruction_name, is_register};
 use s66_line::{
     Class, LINE_BYTES_LIMIT, body_of, classify, fields_of, is_comment_line, is_continuation,
     operation_and_operand,
 };
-use s66_source::is_directive;
+use s66_source::{is_directive, is_switch};
 
 /// What a line is by its operation, refused or not.
 #[derive(Clone, Copy)]
@@ -89,6 +90,11 @@ impl<'a> Line<'a> {
         }
     }
 
+    /// Whether its operand isn't seen, though it is accepted.
+    pub(crate) fn is_far(&self) -> bool {
+        self.is_instruction() && is_far_operand(self.body)
+    }
+
     /// Whether it is refused, as it is written, by whether a comma in column 1 would continue the line directly before.
     pub(crate) fn is_refused_after(&self, after: bool, line: &[u8]) -> bool {
         !self.is_off
@@ -108,6 +114,11 @@ impl<'a> Line<'a> {
     /// Whether it is a directive.
     pub(crate) fn is_directive(&self) -> bool {
         self.body.len() <= LINE_BYTES_LIMIT && is_directive(self.body)
+    }
+
+    /// Whether it is the switch after which lines aren't left alone any more.
+    pub(crate) fn is_on_switch(&self) -> bool {
+        is_switch(self.body, b"ON")
     }
 
     /// Whether it is neither a comment nor a continuation.
@@ -132,6 +143,16 @@ impl<'a> Line<'a> {
     /// Whether it is an instruction or a pad of a run.
     pub(crate) fn is_in_run(&self) -> bool {
         self.is_instruction_or_pad() && !(self.is_off || self.is_refused || self.is_long)
+    }
+
+    /// Whether it may be the call of a macro.
+    pub(crate) fn may_call(&self) -> bool {
+        matches!(self.kind, Kind::Other) && !self.operation().is_empty()
+    }
+
+    /// Whether it is a set instruction, refused or not.
+    pub(crate) fn is_set(&self) -> bool {
+        matches!(self.kind, Kind::Instruction) && matches!(self.operation(), [b'S', ..])
     }
 
     /// Whether it is an instruction of a run.
@@ -168,11 +189,23 @@ impl<'a> Line<'a> {
         !self.is_off && self.makes_code()
     }
 
-    /// Whether it is a statement that makes no word.
-    pub(crate) fn is_wordless(&self) -> bool {
+    /// Whether it makes words of code, be it between switches: code, another branch, or the entry of a subroutine.
+    pub(crate) fn has_words(&self) -> bool {
+        !self.is_long
+            && !self.continues
+            && (self.is_instruction_or_pad() || makes_words(self.operation()))
+    }
+
+    /// Whether it makes no word, be it between switches.
+    pub(crate) fn is_bare(&self) -> bool {
         matches!(self.kind, Kind::Other)
             && !self.is_long
             && (self.is_mark() || is_wordless(self.operation()))
+    }
+
+    /// Whether it is a statement that makes no word, and not between switches.
+    pub(crate) fn is_wordless(&self) -> bool {
+        !self.is_off && self.is_bare()
     }
 
     /// Whether it is there for its name alone.
@@ -200,14 +233,54 @@ impl<'a> Line<'a> {
         }
     }
 
+    /// Whether it is data of one word.
+    pub(crate) fn is_data_word(&self) -> bool {
+        match self.operation() {
+            b"BSS" | b"BSSZ" => self.words.operand == b"1".as_slice(),
+            b"CON" | b"DATA" => !self.has_comma(),
+            _ => false,
+        }
+    }
+
+    /// Whether it is data that may stand in line with code.
+    pub(crate) fn is_data_part(&self) -> bool {
+        self.may_join() && matches!(self.operation(), b"VFD" | b"CON" | b"DATA")
+    }
+
     /// Whether it makes one word, in which nothing else stands.
     pub(crate) fn is_one_word(&self) -> bool {
-        self.is_jump()
-            || match self.operation() {
-                b"BSS" | b"BSSZ" => self.words.operand == b"1".as_slice(),
-                b"CON" | b"DATA" => !self.has_comma(),
-                _ => false,
-            }
+        self.is_jump() || self.is_data_word()
+    }
+
+    /// Whether a word begins behind it.
+    pub(crate) fn halts(&self) -> bool {
+        self.is_one_word() || self.operation() == b"XJ".as_slice()
+    }
+
+    /// How many parcels its code has.
+    pub(crate) fn parcels(&self) -> usize {
+        match self.kind {
+            Kind::Pad => 1,
+            Kind::Instruction if !self.has_two_parcels() => 1,
+            _ => 2,
+        }
+    }
+
+    /// Whether it gives another name to an address.
+    pub(crate) fn renames(&self) -> bool {
+        renames(self.operation())
+    }
+
+    /// How many words further than the line itself the address is that its operand gives its name.
+    pub(crate) fn words_from_here(&self) -> i64 {
+        if !matches!(self.operation(), b"EQU" | b"=") {
+            return 0;
+        }
+        match self.words.operand {
+            [b'*', b'+', digits @ ..] => decimal(digits),
+            [b'*', b'-', digits @ ..] => 0i64.saturating_sub(decimal(digits)),
+            _ => 0,
+        }
     }
 
     /// Whether it has a location field.

@@ -13,16 +13,22 @@ fn words_of(rule: Rule) -> &'static [u8]
     match rule {
         Rule::TooLong => b" TOO LONG",
         Rule::BadOperand => b" BAD OPERAND",
+        Rule::FarOperand => b" FAR OPERAND",
+        Rule::Redefined => b" REDEFINED",
         Rule::NotAnInstruction => b" NOT AN INSTRUCTION",
         Rule::InColumn1 => b" IN COLUMN 1",
         Rule::InColumn2 => b" IN COLUMN 2",
         Rule::Directive => b" DIRECTIVE",
         Rule::HasABody => b" HAS A BODY",
-        Rule::Redefines => b" REDEFINES",
         Rule::LoadsCode => b" LOADS CODE",
         Rule::StoresIntoCode => b" STORES INTO CODE",
+        Rule::TakesCode => b" TAKES CODE",
+        Rule::PassesCode => b" PASSES CODE",
+        Rule::SkipsWords => b" SKIPS WORDS",
         Rule::JoinsAWord => b" JOINS A WORD",
         Rule::CountsWords => b" COUNTS WORDS",
+        Rule::FallsIntoData => b" FALLS INTO DATA",
+        Rule::RowOfNo => b" ROW OF NO",
         Rule::CountsLines => b" COUNTS LINES",
     }
 }
@@ -34,12 +40,13 @@ fn is_alone_at(alone: &[bool], place: usize) -> bool
     alone.get(place).copied().unwrap_or(false)
 }
 
-/// Whether `--cut` leaves alone what a finding means: a refused line or a directive itself, or the lines after one that covers these.
+/// Whether `--cut` leaves alone what a finding means: a refused or redefined line, one with an operand that isn't seen, or a
+/// directive, itself, or the lines after one that covers these.
 fn is_marked(alone: &[bool], found: &Finding) -> bool
     ensures { result ≡ is_marked alone.now found.now }
 {
     match found.rule {
-        Rule::BadOperand | Rule::Directive => {
+        Rule::BadOperand | Rule::FarOperand | Rule::Redefined | Rule::Directive => {
             is_alone_at(alone, (found.number as usize).saturating_sub(1))
         }
         Rule::HasABody | Rule::CountsLines => is_alone_at(alone, found.number as usize),
@@ -55,7 +62,7 @@ fn ending_of(is_marked: bool) -> &'static [u8]
 }
 
 /// A word after a blank, if there is one.
-fn push_word(out: &mut Vec<u8>, word: &[u8]) -> Result<(), AllocError>
+pub(crate) fn push_word(out: &mut Vec<u8>, word: &[u8]) -> Result<(), AllocError>
     ensures { OnOk result (out.new.items ≡ out.old.items ++ after_blank word.now) }
 {
     if word.is_empty() {
@@ -63,6 +70,18 @@ fn push_word(out: &mut Vec<u8>, word: &[u8]) -> Result<(), AllocError>
     }
     out.extend_from_slice(b" ")?;
     out.extend_from_slice(word)
+}
+
+/// The words of a finding, as they are listed.
+pub(crate) fn push_text(
+    out: &mut Vec<u8>,
+    rule: Rule,
+    first: &[u8],
+    second: &[u8],
+) -> Result<(), AllocError> {
+    out.extend_from_slice(words_of(rule).get(1..).unwrap_or(&[]))?;
+    push_word(out, first)?;
+    push_word(out, second)
 }
 
 /// The line that states what was found. `alone` says of each line whether `--cut` leaves it alone.

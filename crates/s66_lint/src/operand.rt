@@ -1,9 +1,9 @@
-use crate::spelling::is_register;
+use crate::spelling::{is_index, is_register};
 use s66_line::is_decimal_digit;
 use s66_source::are_digits;
 use std::alloc::{AllocError, Global};
 
-fn is_sign(byte: u8) -> bool {
+pub(crate) fn is_sign(byte: u8) -> bool {
     byte == b'+' || byte == b'-'
 }
 
@@ -25,17 +25,13 @@ pub(crate) struct Term<'a> {
 }
 
 impl<'a> Term<'a> {
-    /// Whether it adds words to an address: it is a symbol, or a number other than 0; and neither a register nor an address of
-    /// its own, as `*` and the literal `=1` are.
-    pub(crate) fn counts(&self) -> bool {
-        match self.bytes {
-            [] | [b'=' | b'*' | b'$', ..] => false,
-            _ => !is_register(self.bytes) && !is_zero(digits_of(self.bytes)),
-        }
+    pub(crate) fn is_register(&self) -> bool {
+        is_register(self.bytes)
     }
 
-    pub(crate) fn is_one(&self) -> bool {
-        is_one(digits_of(self.bytes))
+    /// Whether it may add words to an address: it is neither a register nor an address of its own, as `*` and the literal `=1` are.
+    pub(crate) fn counts(&self) -> bool {
+        !matches!(self.bytes, [] | [b'=' | b'*' | b'$', ..]) && !self.is_register()
     }
 
     /// Whether it is the address of the line itself.
@@ -47,25 +43,48 @@ impl<'a> Term<'a> {
     pub(crate) fn is_high(&self) -> bool {
         matches!(self.bytes, b"1S17" | b"400000B")
     }
+
+    /// A number with its sign.
+    pub(crate) fn signed(&self, number: i64) -> i64 {
+        if self.is_subtracted {
+            0i64.saturating_sub(number)
+        } else {
+            number
+        }
+    }
 }
 
-/// The digits of a number, which the letter of its base may follow; none of what is no number.
-fn digits_of(bytes: &[u8]) -> &[u8] {
-    let digits = match bytes {
-        [digits @ .., b'B' | b'D' | b'O'] => digits,
-        _ => bytes,
+fn is_octal_digit(digit: &u8) -> bool {
+    *digit != b'8' && *digit != b'9'
+}
+
+/// The number that digits spell to a base, or as much as fits.
+fn number_to_base(base: i64, digits: &[u8]) -> i64 {
+    let mut number: i64 = 0;
+    for digit in digits {
+        number = number
+            .saturating_mul(base)
+            .saturating_add(digit.saturating_sub(b'0') as i64);
+    }
+    number
+}
+
+/// The number that decimal digits spell.
+pub(crate) fn decimal(digits: &[u8]) -> i64 {
+    number_to_base(10, digits)
+}
+
+/// The number that a term is: digits, which the letter of their base may follow.
+pub(crate) fn number_of(term: &[u8]) -> Option<i64> {
+    let (base, digits) = match term {
+        [digits @ .., b'B' | b'O'] if digits.iter().all(is_octal_digit) => (8, digits),
+        [digits @ .., b'B' | b'D' | b'O'] => (10, digits),
+        _ => (10, term),
     };
-    if are_digits(digits) { digits } else { &[] }
-}
-
-fn is_zero(digits: &[u8]) -> bool {
-    !digits.is_empty() && digits.iter().all(|digit| *digit == b'0')
-}
-
-fn is_one(digits: &[u8]) -> bool {
-    match digits {
-        [zeros @ .., b'1'] => zeros.iter().all(|digit| *digit == b'0'),
-        _ => false,
+    if is_numeral(digits) {
+        Some(number_to_base(base, digits))
+    } else {
+        None
     }
 }
 
@@ -142,6 +161,29 @@ fn is_numeral(bytes: &[u8]) -> bool {
         [first, ..] => is_decimal_digit(*first) && are_digits(bytes),
         [] => false,
     }
+}
+
+/// Whether these bytes of an operand are a name, and no literal.
+pub(crate) fn is_name(bytes: &[u8]) -> bool {
+    !matches!(bytes, [] | [b'=', ..])
+}
+
+/// Whether an operand has another term than the first: a sign that isn't in front.
+pub(crate) fn has_other_term(operand: &[u8]) -> bool {
+    match operand.iter().position(|byte| !is_sign(*byte)) {
+        Some(first) => operand.iter().skip(first).any(|byte| is_sign(*byte)),
+        None => false,
+    }
+}
+
+/// Whether an operand in upper case names a B register.
+pub(crate) fn names_index(operand: &[u8]) -> bool {
+    for name in operand.split(|byte| ends_name(*byte)) {
+        if is_index(name) {
+            return true;
+        }
+    }
+    false
 }
 
 /// An operand without the plus signs in front.

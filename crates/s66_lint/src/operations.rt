@@ -46,6 +46,9 @@ const DATA: [&[u8]; 8] = [
     b"PS", b"BSS", b"BSSZ", b"CON", b"DATA", b"DIS", b"USE", b"END",
 ];
 
+/// Words of data, and the entry of a subroutine.
+const BEHIND_CODE: [&[u8]; 7] = [b"VFD", b"CON", b"DATA", b"BSS", b"BSSZ", b"DIS", b"PS"];
+
 pub(crate) fn is_branch(operation: &[u8]) -> bool {
     is_one_of(&BRANCHES, operation)
 }
@@ -53,6 +56,26 @@ pub(crate) fn is_branch(operation: &[u8]) -> bool {
 /// Whether a branch is conditional, but for an `EQ`, which its operand tells, or central memory is transferred.
 pub(crate) fn falls_through(operation: &[u8]) -> bool {
     is_one_of(&FALL_THROUGH, operation)
+}
+
+/// Whether an operation is a branch, a transfer of central memory, or the entry of a subroutine.
+pub(crate) fn makes_words(operation: &[u8]) -> bool {
+    matches!(operation, b"PS" | b"SUBR" | b"RE" | b"WE") || is_branch(operation)
+}
+
+/// Whether data, or the entry of a subroutine, stands behind code that runs into it.
+pub(crate) fn is_data(operation: &[u8]) -> bool {
+    is_one_of(&BEHIND_CODE, operation)
+}
+
+/// Whether an operation ends the search for a use of a register.
+pub(crate) fn ends_program(operation: &[u8]) -> bool {
+    matches!(operation, b"END" | b"IDENT")
+}
+
+/// Whether an operation gives another name to an address.
+pub(crate) fn renames(operation: &[u8]) -> bool {
+    matches!(operation, b"EQU" | b"=" | b"SET")
 }
 
 pub(crate) fn begins_definition(operation: &[u8]) -> bool {

@@ -1,50 +1,81 @@
 use crate::deck::Deck;
-use crate::finding::{LineFinding, Rule};
-use crate::form::{is_in_column, redefines};
-use crate::labels::{Label, Labels};
-use crate::line::{Kind, Line};
-use crate::operand::{Term, ends_name, ends_sum, names_nothing, terms_of, without_plus};
-use crate::operations::{evaluates, is_branch};
-use crate::spelling::{is_index, is_slip};
+use crate::finding::{Harm, LineFinding, Rule};
+use crate::form::is_in_column;
+use crate::lengths::Lengths;
+use crate::line::Line;
+use crate::macros::Macros;
+use crate::names::Names;
+use crate::operand::names_nothing;
+use crate::operations::is_data;
+use crate::reading::Redefinitions;
+use crate::renaming::rename;
+use crate::rows::rows_of;
+use crate::skipping::mark_skipping;
+use crate::spelling::is_slip;
+use crate::tracker::Tracker;
+use crate::way::Way;
+use crate::words::Span;
 use std::alloc::{AllocError, Global};
 
 /// A source, and the names in it.
 #[derive(Drop)]
 pub(crate) struct Rules<'a> {
-    alloc: Global,
-    deck: Deck<'a>,
-    labels: Labels<'a>,
+    pub(crate) alloc: Global,
+    pub(crate) deck: Deck<'a>,
+    pub(crate) names: Names<'a>,
+    pub(crate) lengths: Lengths,
+    pub(crate) macros: Macros<'a>,
+    redefinitions: Redefinitions<'a>,
+    /// The first lines, by index, of too many pads.
+    rows: Vec<usize>,
 }
 
-/// Adds a finding in a line, if it is there.
-fn push_if<'a>(
-    found: &mut Vec<LineFinding<'a>>,
-    there: bool,
-    rule: Rule,
-    line: &Line<'a>,
-) -> Result<(), AllocError> {
-    if there {
-        found.push(LineFinding::of(rule, line))?;
+/// What was found in a line, and the harm that is being found.
+#[derive(Drop)]
+struct Sheet<'a, 't> {
+    found: Vec<LineFinding<'a>>,
+    tracker: &'t mut Tracker,
+}
+
+impl<'a, 't> Sheet<'a, 't> {
+    /// Adds a finding that doesn't concern the order of code, if it is there.
+    fn push_if(&mut self, there: bool, rule: Rule, line: &Line<'a>) -> Result<(), AllocError> {
+        if there {
+            self.found.push(LineFinding::of(rule, line, Harm::Nothing))?;
+        }
+        Ok(())
     }
-    Ok(())
+
+    /// Adds a finding, if it is there, which harms its own line if that may change.
+    fn push_itself(
+        &mut self,
+        there: bool,
+        may_change: bool,
+        rule: Rule,
+        line: &Line<'a>,
+    ) -> Result<(), AllocError> {
+        if there {
+            let harm = if may_change {
+                Harm::Itself
+            } else {
+                Harm::Nothing
+            };
+            self.found.push(LineFinding::of(rule, line, harm))?;
+        }
+        Ok(())
+    }
+
+    /// Adds a finding, if it has a harm.
+    fn push_harm(&mut self, rule: Rule, line: &Line<'a>) -> Result<(), AllocError> {
+        if !self.tracker.is_empty() {
+            let harm = Harm::Runs(self.tracker.take());
+            self.found.push(LineFinding::of(rule, line, harm))?;
+        }
+        Ok(())
+    }
 }
 
-/// Whether these bytes of an operand are a name, and no literal.
-fn is_name(bytes: &[u8]) -> bool {
-    !matches!(bytes, [] | [b'=', ..])
-}
-
-/// Whether the sum is the next word, which begins anew behind an unconditional jump.
-fn is_next_word(sum: &[u8]) -> bool {
-    matches!(sum, b"*+1" | b"1+*")
-}
-
-/// Whether the sum is the word of the line itself.
-fn is_own_word(sum: &[u8]) -> bool {
-    matches!(sum, b"*" | b"*+0" | b"*-0")
-}
-
-fn is_load(operation: &[u8]) -> bool {
+pub(crate) fn is_load(operation: &[u8]) -> bool {
     matches!(operation, [b'S', b'A', b'1'..=b'5'])
 }
 
@@ -52,255 +83,246 @@ fn is_store(operation: &[u8]) -> bool {
     matches!(operation, [b'S', b'A', b'6' | b'7'])
 }
 
-/// Whether a term counts words from a name, of entries alone or also of code. A word directly behind an entry stays where it is.
-fn counts_from(label: &Label, term: &Term, of_entries: bool) -> bool {
-    if label.is_code {
-        return !of_entries;
-    }
-    label.is_entry(term.is_subtracted) && (term.is_subtracted || of_entries || !term.is_one())
-}
-
 impl<'a> Rules<'a> {
     pub(crate) fn of(alloc: Global, deck: Deck<'a>) -> Result<Rules<'a>, AllocError> {
-        let labels = Labels::of(alloc, &deck)?;
+        let mut names = Names::of(alloc, &deck)?;
+        rename(alloc, &deck, &mut names)?;
+        mark_skipping(&deck, &mut names);
+        let lengths = Lengths::of(alloc, &deck, &names)?;
+        let macros = Macros::of(alloc, &deck, &names)?;
+        let redefinitions = Redefinitions::of(alloc, deck.lines())?;
+        let rows = rows_of(alloc, &deck)?;
         Ok(Rules {
             alloc,
             deck,
-            labels,
+            names,
+            lengths,
+            macros,
+            redefinitions,
+            rows,
         })
     }
 
     /// What may be wrong with the line at this index.
     pub(crate) fn findings_of(
         &self,
+        tracker: &mut Tracker,
         at: usize,
         line: &Line<'a>,
     ) -> Result<Vec<LineFinding<'a>>, AllocError> {
-        let mut found = Vec::new(self.alloc);
+        let mut sheet = Sheet {
+            found: Vec::new(self.alloc),
+            tracker,
+        };
         if line.is_long {
-            push_if(&mut found, true, Rule::TooLong, line)?;
+            sheet.push_if(true, Rule::TooLong, line)?;
         } else if line.is_comment() && !line.is_off {
-            let there = line.is_directive() && self.deck.is_within_block(at);
-            push_if(&mut found, there, Rule::Directive, line)?;
+            self.push_comment(&mut sheet, at, line)?;
         } else if !line.is_off {
-            self.push_statement(&mut found, at, line)?;
+            self.push_statement(&mut sheet, at, line)?;
         }
+        let Sheet { found, tracker: _ } = sheet;
         Ok(found)
+    }
+
+    fn push_comment(
+        &self,
+        sheet: &mut Sheet<'a, '_>,
+        at: usize,
+        line: &Line<'a>,
+    ) -> Result<(), AllocError> {
+        let is_directive = line.is_directive() && self.deck.is_within_block(at);
+        sheet.push_if(is_directive, Rule::Directive, line)?;
+        let covers = self.deck.after(at).covers_code;
+        sheet.push_if(covers, Rule::CountsLines, line)
     }
 
     fn push_statement(
         &self,
-        found: &mut Vec<LineFinding<'a>>,
+        sheet: &mut Sheet<'a, '_>,
         at: usize,
         line: &Line<'a>,
     ) -> Result<(), AllocError> {
-        push_if(found, line.is_refused, Rule::BadOperand, line)?;
+        sheet.push_if(line.is_refused, Rule::BadOperand, line)?;
         if line.continues {
             return Ok(());
         }
+        let is_redefined = self.is_redefined(at, line)?;
+        let is_far = line.is_far() && !self.deck.before(at).in_definition;
+        let may_change = self.deck.changing.run_at(at).is_some();
+        sheet.push_itself(is_far, may_change, Rule::FarOperand, line)?;
+        sheet.push_itself(is_redefined, may_change, Rule::Redefined, line)?;
         if !line.is_instruction_or_pad() {
-            self.push_form(found, at, line)?;
+            self.push_form(sheet, at, line)?;
         }
-        self.push_words(found, at, line)
+        if !names_nothing(line.words.operand) {
+            self.push_named(sheet, at, line)?;
+        }
+        self.push_joining(sheet, at, line, is_redefined)?;
+        if !names_nothing(line.words.operand) {
+            self.harm_counted(sheet.tracker, at, line)?;
+            sheet.push_harm(Rule::CountsWords, line)?;
+        }
+        self.push_order(sheet, at, line)
+    }
+
+    /// Whether the source redefines the instruction or the pad at this index.
+    fn is_redefined(&self, at: usize, line: &Line<'a>) -> Result<bool, AllocError> {
+        Ok(!self.deck.before(at).in_definition && self.redefinitions.has(self.alloc, line)?)
     }
 
     /// What a statement is itself that is no instruction.
     fn push_form(
         &self,
-        found: &mut Vec<LineFinding<'a>>,
+        sheet: &mut Sheet<'a, '_>,
         at: usize,
         line: &Line<'a>,
     ) -> Result<(), AllocError> {
         let slips = !self.deck.before(at).in_peripheral && is_slip(line.operation());
-        push_if(found, slips, Rule::NotAnInstruction, line)?;
+        sheet.push_if(slips, Rule::NotAnInstruction, line)?;
         if is_in_column(self.alloc, line.words)? {
             let rule = if matches!(line.body, [b' ', ..]) {
                 Rule::InColumn2
             } else {
                 Rule::InColumn1
             };
-            push_if(found, true, rule, line)?;
+            sheet.push_if(true, rule, line)?;
         }
         let has_body = self.deck.after(at).has_body;
-        push_if(found, has_body, Rule::HasABody, line)?;
-        let there = line.operation() == b"OPDEF".as_slice()
-            && redefines(self.alloc, line.words.location)?;
-        push_if(found, there, Rule::Redefines, line)
+        sheet.push_if(has_body, Rule::HasABody, line)
     }
 
-    /// What a statement does to words of code, and to the lines after it.
-    fn push_words(
+    /// What a statement does to the words of code that it names.
+    fn push_named(
         &self,
-        found: &mut Vec<LineFinding<'a>>,
+        sheet: &mut Sheet<'a, '_>,
         at: usize,
         line: &Line<'a>,
     ) -> Result<(), AllocError> {
-        let names_nothing = names_nothing(line.words.operand);
-        if !names_nothing {
-            self.push_touched(found, line)?;
+        let operation = line.operation();
+        if is_load(operation) {
+            self.harm_referenced(sheet.tracker, at, line)?;
+            return sheet.push_harm(Rule::LoadsCode, line);
         }
-        let joining = self.deck.joining(at);
-        let is_outside = !self.deck.before(at).in_definition;
-        let joins = is_outside && (joining.joins || joining.slides);
-        push_if(found, joins, Rule::JoinsAWord, line)?;
-        let counts = !names_nothing && self.counts_words(at, line)?;
-        push_if(found, counts, Rule::CountsWords, line)?;
-        let covers = self.deck.after(at).covers_code;
-        push_if(found, covers, Rule::CountsLines, line)
+        if is_store(operation) {
+            self.harm_referenced(sheet.tracker, at, line)?;
+            return sheet.push_harm(Rule::StoresIntoCode, line);
+        }
+        if operation == b"RJ".as_slice() {
+            self.harm_called(sheet.tracker, at, line)?;
+            return sheet.push_harm(Rule::StoresIntoCode, line);
+        }
+        self.harm_taken(sheet.tracker, at, line)?;
+        sheet.push_harm(Rule::TakesCode, line)?;
+        self.harm_passed(sheet.tracker, at, line)?;
+        sheet.push_harm(Rule::PassesCode, line)
     }
 
-    /// Whether it loads or stores a word of code.
-    fn push_touched(
+    /// Harms the word into which a return jump stores.
+    fn harm_called(
         &self,
-        found: &mut Vec<LineFinding<'a>>,
+        tracker: &mut Tracker,
+        at: usize,
         line: &Line<'a>,
     ) -> Result<(), AllocError> {
-        if is_load(line.operation()) && self.touches_code(line)? {
-            push_if(found, true, Rule::LoadsCode, line)?;
+        let before = self.deck.before(at);
+        if before.in_definition || before.in_peripheral {
+            return Ok(());
         }
-        if is_store(line.operation()) && self.touches_code(line)? {
-            push_if(found, true, Rule::StoresIntoCode, line)?;
+        match self.names.code_of(line.words.operand, before.program) {
+            Some(code) => {
+                let way = Way::Words {
+                    words: 0,
+                    with_own: true,
+                };
+                self.harm_loose(tracker, &code, &way)
+            }
+            None => Ok(()),
+        }
+    }
+
+    /// How a statement stands in a word with others.
+    fn push_joining(
+        &self,
+        sheet: &mut Sheet<'a, '_>,
+        at: usize,
+        line: &Line<'a>,
+        is_redefined: bool,
+    ) -> Result<(), AllocError> {
+        if line.operation() == b"RJ".as_slice() {
+            self.harm_skipped(sheet.tracker, at, line)?;
+            sheet.push_harm(Rule::SkipsWords, line)?;
+        }
+        if self.deck.before(at).in_definition {
+            return Ok(());
+        }
+        let joining = self.deck.joining(at);
+        if joining.joins && !is_redefined {
+            let finding = LineFinding::of(Rule::JoinsAWord, line, Harm::Itself);
+            sheet.found.push(finding)?;
+        }
+        if let Some(first) = joining.slides_from {
+            let slid = Span { first, end: at };
+            sheet.tracker.harm(&self.deck.changing, slid)?;
+            sheet.push_harm(Rule::JoinsAWord, line)?;
         }
         Ok(())
     }
 
-    /// Whether a load or a store is of a word of code that may change.
-    fn touches_code(&self, line: &Line<'a>) -> Result<bool, AllocError> {
-        let operand = line.words.operand;
-        let alone = self.labels.get(without_plus(operand));
-        let names_code = if alone.is_code {
-            !alone.is_held
-        } else {
-            self.names_code(operand)
-        };
-        Ok(names_code || self.counts_from_label(operand, true)?)
-    }
-
-    /// Whether a name of an operand is a label of code.
-    fn names_code(&self, operand: &'a [u8]) -> bool {
-        for name in operand.split(|byte| ends_name(*byte)) {
-            if is_name(name) && self.labels.get(name).is_code {
-                return true;
-            }
+    /// What depends on the order of code and of lines.
+    fn push_order(
+        &self,
+        sheet: &mut Sheet<'a, '_>,
+        at: usize,
+        line: &Line<'a>,
+    ) -> Result<(), AllocError> {
+        self.harm_falling(sheet.tracker, at, line)?;
+        sheet.push_harm(Rule::FallsIntoData, line)?;
+        if self.rows.as_slice().binary_search(&at).is_ok() {
+            self.harm(sheet.tracker, self.own(at))?;
+            sheet.push_harm(Rule::RowOfNo, line)?;
         }
-        false
+        let covers = self.deck.after(at).covers_code;
+        sheet.push_if(covers, Rule::CountsLines, line)
     }
 
-    /// Whether a line counts words of code.
-    fn counts_words(&self, at: usize, line: &Line<'a>) -> Result<bool, AllocError> {
+    /// The statement in the line at this index.
+    fn own(&self, at: usize) -> Span {
+        let first = self.deck.words.place_of(at);
+        Span {
+            first,
+            end: first.saturating_add(1),
+        }
+    }
+
+    /// Harms the code that runs from the line at this index into data.
+    fn harm_falling(
+        &self,
+        tracker: &mut Tracker,
+        at: usize,
+        line: &Line<'a>,
+    ) -> Result<(), AllocError> {
         let before = self.deck.before(at);
-        let is_read = !before.in_definition && !before.in_peripheral;
-        Ok(
-            self.counts_from_label(line.words.operand, false)?
-                || is_read && self.counts_from_here(at, line)?
-                || line.operation() == b"JP".as_slice() && self.jumps_into_code(line.words.operand),
-        )
+        if before.in_definition || before.in_peripheral || !line.is_code() {
+            return Ok(());
+        }
+        if self.is_before_data(at) {
+            let own = self.own(at);
+            let first = self.deck.words.falling_into(own.first).first;
+            self.harm(tracker, Span { first, ..own })?;
+        }
+        Ok(())
     }
 
-    /// Whether a sum in an operand counts words from a label, of entries alone or also of code.
-    fn counts_from_label(&self, operand: &'a [u8], of_entries: bool) -> Result<bool, AllocError> {
-        for sum in operand.split(|byte| ends_sum(*byte)) {
-            let terms = terms_of(self.alloc, sum)?;
-            if self.counts_in(terms.as_slice(), of_entries) {
-                return Ok(true);
+    /// Whether data, or an entry with a name, stands directly behind the line at this index.
+    fn is_before_data(&self, at: usize) -> bool {
+        match self.deck.line(self.deck.after(at).next) {
+            Some(next) => {
+                !next.joins()
+                    && is_data(next.operation())
+                    && !(next.operation() == b"PS".as_slice() && next.name().is_empty())
             }
+            None => false,
         }
-        Ok(false)
-    }
-
-    /// Whether one of these terms counts words from the only address among them.
-    fn counts_in(&self, terms: &[Term<'a>], of_entries: bool) -> bool {
-        let Some(label) = self.only_address(terms) else {
-            return false;
-        };
-        for term in terms {
-            if !self.labels.get(term.bytes).is_address
-                && term.counts()
-                && counts_from(&label, term, of_entries)
-            {
-                return true;
-            }
-        }
-        false
-    }
-
-    /// What is known of the only address among these terms.
-    fn only_address(&self, terms: &[Term<'a>]) -> Option<Label> {
-        let mut only = None;
-        for term in terms {
-            let label = self.labels.get(term.bytes);
-            if term.is_high() || label.is_address && only.is_some() {
-                return None;
-            }
-            if label.is_address {
-                only = Some(label);
-            }
-        }
-        only
-    }
-
-    /// Whether a line counts words from its own.
-    fn counts_from_here(&self, at: usize, line: &Line<'a>) -> Result<bool, AllocError> {
-        let operation = line.operation();
-        let operand = line.words.operand;
-        if matches!(operation, b"EQU" | b"=") {
-            let is_code = self.deck.is_code(self.deck.code_named(at, line));
-            return Ok(is_code && operand != b"*".as_slice());
-        }
-        if !matches!(line.kind, Kind::Instruction)
-            && !is_branch(operation)
-            && !evaluates(operation)
-        {
-            return Ok(false);
-        }
-        for sum in operand.split(|byte| *byte == b',') {
-            if self.is_counted_from_here(sum)? && !self.stays(at, line, sum) {
-                return Ok(true);
-            }
-        }
-        Ok(false)
-    }
-
-    /// Whether a sum is of the address of its line.
-    fn is_counted_from_here(&self, sum: &'a [u8]) -> Result<bool, AllocError> {
-        let mut is_here = false;
-        let terms = terms_of(self.alloc, sum)?;
-        for term in terms.as_slice() {
-            if term.is_high() {
-                return Ok(false);
-            }
-            is_here = is_here || term.is_here();
-        }
-        Ok(is_here)
-    }
-
-    /// Whether the word to which a branch goes stays where it is: the next one behind an unconditional jump, or its own, if that
-    /// can't change before it.
-    fn stays(&self, at: usize, line: &Line, sum: &[u8]) -> bool {
-        let operation = line.operation();
-        if matches!(operation, b"RJ" | b"EQ" | b"JP")
-            && is_next_word(sum)
-            && sum.len() == line.words.operand.len()
-        {
-            return match self.deck.line(self.deck.after(at).next) {
-                Some(next) => !next.joins(),
-                None => true,
-            };
-        }
-        is_branch(operation)
-            && is_own_word(sum)
-            && (line.is_forced() || self.deck.before(at).follows_forced)
-    }
-
-    /// Whether a jump of this operand is computed, and goes to code that may change.
-    fn jumps_into_code(&self, operand: &'a [u8]) -> bool {
-        let mut has_index = false;
-        let mut leads_to_change = false;
-        for name in operand.split(|byte| ends_name(*byte)) {
-            has_index = has_index || is_index(name);
-            leads_to_change = leads_to_change
-                || is_name(name) && self.labels.get(name).leads_to_change;
-        }
-        has_index && leads_to_change
     }
 }

@@ -1,4 +1,5 @@
 use crate::line::Line;
+use crate::registers::Access;
 use s66_isa::BLOCK_LIMIT;
 use std::alloc::{AllocError, Global};
 
@@ -8,13 +9,17 @@ pub(crate) struct Run {
     /// Its first line has a location field.
     is_located: bool,
     instructions: usize,
-    pads: usize,
+    has_pads: bool,
+    /// What the last instruction reads and writes.
+    last: Option<Access>,
+    /// An instruction doesn't depend on that before it.
+    is_loose: bool,
 }
 
 impl Run {
     /// Whether an instruction or a pad of it may come into another word, or go.
     fn may_change(&self) -> bool {
-        self.instructions > 1 || self.instructions == 1 && self.pads > 0
+        self.instructions > 0 && (self.has_pads || self.is_loose)
     }
 
     /// Whether a line before which `index` of its instructions come is within one of its blocks, or between the pad with its label
@@ -29,6 +34,11 @@ impl Run {
 struct RunPlace {
     run: usize,
     index: usize,
+}
+
+/// Whether `--cut` or a switch leaves the line at this index alone.
+fn is_left_alone(alone: &[bool], at: usize, line: &Line) -> bool {
+    line.is_off || alone.get(at).copied().unwrap_or(false)
 }
 
 /// The runs of a source as `lint` reads it.
@@ -46,19 +56,22 @@ fn begun(is_located: bool) -> Run {
     Run {
         is_located,
         instructions: 0,
-        pads: 0,
+        has_pads: false,
+        last: None,
+        is_loose: false,
     }
 }
 
 impl Runs {
-    pub(crate) fn of(alloc: Global, lines: &[Line]) -> Result<Runs, AllocError> {
+    /// The runs that remain where these lines, by index, are left alone, and those between switches.
+    pub(crate) fn of(alloc: Global, lines: &[Line], alone: &[bool]) -> Result<Runs, AllocError> {
         let mut runs = Runs {
             runs: Vec::new(alloc),
             open: None,
             places: Vec::new(alloc),
         };
-        for line in lines {
-            runs.take(line)?;
+        for (at, line) in lines.iter().enumerate() {
+            runs.take(line, is_left_alone(alone, at, line))?;
         }
         runs.end()?;
         Ok(runs)
@@ -72,14 +85,16 @@ impl Runs {
         Ok(())
     }
 
-    fn take(&mut self, line: &Line) -> Result<(), AllocError> {
-        if line.is_in_run() {
+    fn take(&mut self, line: &Line, is_alone: bool) -> Result<(), AllocError> {
+        if is_alone {
+            self.end()?;
+        } else if line.is_in_run() {
             if line.is_located() {
                 self.end()?;
             }
             let run = self.open.unwrap_or(begun(line.is_located()));
-            self.open = Some(run.with(line.is_instruction()));
-        } else if !(line.is_comment() && !line.is_off && !line.is_long || line.is_refused) {
+            self.open = Some(run.with(line));
+        } else if !(line.is_comment() && !line.is_long || line.is_refused) {
             self.end()?;
         }
         let place = self.place();
@@ -108,6 +123,11 @@ impl Runs {
         }
     }
 
+    /// The number of the run in which the line at this index stands.
+    pub(crate) fn number_at(&self, line: usize) -> Option<usize> {
+        Some(self.places.get(line).copied()??.run)
+    }
+
     /// Whether the comment at this index is within a block, or between the label of one and it.
     pub(crate) fn is_within_block(&self, line: usize) -> bool {
         match self.at(line) {
@@ -119,17 +139,23 @@ impl Runs {
 
 impl Run {
     /// With one instruction or one pad more.
-    fn with(&self, is_instruction: bool) -> Run {
-        if is_instruction {
-            Run {
-                instructions: self.instructions.saturating_add(1),
+    fn with(&self, line: &Line) -> Run {
+        if !line.is_instruction() {
+            return Run {
+                has_pads: true,
                 ..*self
-            }
-        } else {
-            Run {
-                pads: self.pads.saturating_add(1),
-                ..*self
-            }
+            };
+        }
+        let access = Access::of(line);
+        let depends = match self.last {
+            Some(last) => last.is_needed_by(&access),
+            None => true,
+        };
+        Run {
+            instructions: self.instructions.saturating_add(1),
+            last: Some(access),
+            is_loose: self.is_loose || !depends,
+            ..*self
         }
     }
 }

@@ -17,6 +17,8 @@ enum End {
 pub(crate) struct Word {
     instructions: usize,
     has_pads: bool,
+    /// A pad comes before the first of them.
+    begins_with_pad: bool,
     end: End,
 }
 
@@ -24,6 +26,7 @@ fn empty(end: End) -> Word {
     Word {
         instructions: 0,
         has_pads: false,
+        begins_with_pad: false,
         end,
     }
 }
@@ -34,9 +37,12 @@ impl Word {
         empty(End::Forced)
     }
 
-    /// Whether their order can't change what the word holds: there is one of them at most, and pads only where they are filled in
-    /// again.
+    /// Whether their order can't change what the word holds: there is one of them at most, and pads only behind it, where they are
+    /// filled in again.
     pub(crate) fn is_held(&self) -> bool {
+        if self.begins_with_pad && self.instructions > 0 {
+            return false;
+        }
         match self.end {
             End::Forced => self.instructions <= 1,
             End::Closed => self.instructions == 0 || self.instructions == 1 && !self.has_pads,
@@ -50,12 +56,14 @@ impl Word {
             Word {
                 instructions: self.instructions,
                 has_pads: true,
+                begins_with_pad: true,
                 end: self.end,
             }
         } else if line.makes_code() {
             Word {
                 instructions: self.instructions.saturating_add(1),
                 has_pads: self.has_pads,
+                begins_with_pad: self.begins_with_pad && self.instructions > 0,
                 end: self.end,
             }
         } else if closes_word(line.operation()) {

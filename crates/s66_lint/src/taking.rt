@@ -1,0 +1,130 @@
+use crate::line::{Kind, Line};
+use crate::names::Code;
+use crate::operand::{Term, has_other_term, terms_of};
+use crate::operations::ends_program;
+use crate::references::has_register;
+use crate::registers::Registers;
+use crate::rules::Rules;
+use crate::tracker::Tracker;
+use crate::way::Way;
+use std::alloc::AllocError;
+
+/// What a statement does with registers that hold the address of code.
+enum Use {
+    /// It is the address of other code, or of data, then.
+    WithAnother,
+    /// These registers hold one after it.
+    Held(Registers),
+}
+
+/// The register that a set instruction sets which may hold an address, if it is one.
+fn set_address(operation: &[u8]) -> Option<Registers> {
+    match operation {
+        [b'S', b'B', digit] => Some(Registers::one(b'B', *digit)),
+        [b'S', b'X', digit] => Some(Registers::one(b'X', *digit)),
+        _ => None,
+    }
+}
+
+/// The X register that an instruction sets, but for `SX`: a load or what computes.
+fn set_word(operation: &[u8]) -> Option<Registers> {
+    match operation {
+        [b'S', b'A', digit] if *digit >= b'1' && *digit <= b'5' => {
+            Some(Registers::one(b'X', *digit))
+        }
+        [b'S', ..] => None,
+        [_, b'X', digit] => Some(Registers::one(b'X', *digit)),
+        _ => None,
+    }
+}
+
+/// What a statement does with the registers that hold an address; a jump by one alone uses it if other registers are in it too.
+fn use_of(line: &Line, held: Registers, has_index: bool) -> Use {
+    let operand = line.words.operand;
+    let reads = Registers::in_operand(operand).meets(&held);
+    let has_other = has_other_term(operand);
+    let jumps = line.operation() == b"JP".as_slice() && (has_other || has_index);
+    let touches = matches!(line.operation(), [b'S', b'A', b'1'..=b'7']);
+    if reads && (jumps || touches) {
+        return Use::WithAnother;
+    }
+    if !matches!(line.kind, Kind::Instruction) || line.is_long {
+        return Use::Held(held);
+    }
+    if let Some(set) = set_address(line.operation()) {
+        if !reads {
+            return Use::Held(held.without(&set));
+        }
+        if has_other {
+            return Use::WithAnother;
+        }
+        return Use::Held(held.with(&set));
+    }
+    match set_word(line.operation()) {
+        Some(set) if !reads => Use::Held(held.without(&set)),
+        _ => Use::Held(held),
+    }
+}
+
+impl<'a> Rules<'a> {
+    /// Harms the code whose address the line at this index takes into a register, if it is then used with another term.
+    pub(crate) fn harm_taken(
+        &self,
+        tracker: &mut Tracker,
+        at: usize,
+        line: &Line<'a>,
+    ) -> Result<(), AllocError> {
+        let before = self.deck.before(at);
+        let Some(set) = set_address(line.operation()) else {
+            return Ok(());
+        };
+        if before.in_definition {
+            return Ok(());
+        }
+        let terms = terms_of(self.alloc, line.words.operand)?;
+        let has_index = has_register(terms.as_slice());
+        if terms.len() != 1 && !has_index {
+            return Ok(());
+        }
+        let Some(code) = self.only_code(terms.as_slice(), before.program) else {
+            return Ok(());
+        };
+        if self.is_used(at, set, has_index) {
+            self.harm_code(tracker, &code, &Way::Around)?;
+        }
+        Ok(())
+    }
+
+    /// The only label of code among these terms.
+    fn only_code(&self, terms: &[Term<'a>], program: usize) -> Option<Code> {
+        let mut only = None;
+        for term in terms {
+            let code = self.names.code_of(term.bytes, program);
+            if code.is_some() {
+                if only.is_some() {
+                    return None;
+                }
+                only = code;
+            }
+        }
+        only
+    }
+
+    /// Whether the address in a register that the line at this index sets is used with another term.
+    fn is_used(&self, at: usize, set: Registers, has_index: bool) -> bool {
+        let mut held = set;
+        for place in self.places_behind(at) {
+            let Some(line) = self.deck.statement(place) else {
+                return false;
+            };
+            if held.is_empty() || ends_program(line.operation()) {
+                return false;
+            }
+            match use_of(line, held, has_index) {
+                Use::WithAnother => return true,
+                Use::Held(after) => held = after,
+            }
+        }
+        false
+    }
+}
