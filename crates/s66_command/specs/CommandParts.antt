@@ -1,7 +1,7 @@
 -- To be believed: what a command has of a profile and of a search, and what it reads.
-use Rattle.std.specs.Prelude.{ℕ, List, Option, None, Some, option_map}
+use Rattle.std.specs.Prelude.{ℕ, Bool, true, List, Option, None, Some, option_map}
 use Rattle.s66_command.specs.declared.command.Asked.{Asked}
-use Rattle.s66_command.specs.declared.command.Asked.TheVariants.{Why, Page, Order, Prove, Check, Sum, Compare, Json, Lint}
+use Rattle.s66_command.specs.declared.command.Asked.TheVariants.{Why, Page, Order, Prove, Check, Sum, Compare, Json, Lint, Guard}
 use Rattle.s66_command.specs.declared.command.Command.{Command}
 use Rattle.s66_command.specs.declared.command.Reads.{Reads}
 use Rattle.s66_command.specs.declared.command.Reads.TheVariants.{Source, Sources, Documents, Text}
@@ -27,3 +27,11 @@ reads_of Lint = Text
 reads_of Compare = Sources
 reads_of (Check text) = Documents
 reads_of asked = Source
+
+-- a source is read for it as with `--cut`, if that is given: always for `guard`
+abbrev pub cuts : Asked → (cut : Bool) → Bool
+cuts Guard cut = true
+cuts asked cut = cut
+
+abbrev pub reads_cut : Command → Bool
+reads_cut command = cuts command.asked command.cut

@@ -28,7 +28,7 @@ use Rattle.s66_command.specs.declared.command.Command.{Command}
 use Rattle.s66_command.specs.declared.command.OrderStyle.{OrderStyle}
 use Rattle.s66_command.specs.declared.command.SumStyle.{SumStyle}
 use Rattle.s66_command.specs.declared.command.Asked.{Asked}
-use Rattle.s66_command.specs.declared.command.Asked.TheVariants.{Time, Deps, Chart, Why, Page, Order, Prove, Check, Sum, Compare, Json, Lint}
+use Rattle.s66_command.specs.declared.command.Asked.TheVariants.{Time, Deps, Chart, Why, Page, Order, Prove, Check, Sum, Compare, Json, Lint, Guard}
 use Rattle.s66_command.specs.declared.options.SearchFlags.{SearchFlags}
 use Rattle.s66_command.specs.declared.strategy.Strategy.{Strategy}
 use Rattle.s66_command.specs.declared.usage.Usage.{Usage}
@@ -225,6 +225,7 @@ AsksBy words (Sum strategy style) = AsksFor words (codes "sum") work.Search × G
 AsksBy words Compare = AsksFor words (codes "compare") work.Plain
 AsksBy words (Json order) = AsksFor words (codes "json") work.Search × GivesOrder words order
 AsksBy words Lint = AsksFor words (codes "lint") work.Plain
+AsksBy words Guard = AsksFor words (codes "guard") work.Plain
 
 -- they ask for the command; what a subcommand doesn't take, no words give it
 abbrev pub Asks : List Text → Command → Type 0

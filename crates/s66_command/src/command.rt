@@ -74,6 +74,8 @@ pub enum Asked {
     /// The lines of a source, which may be any text, that are refused or that may not do what was meant; with `--cut` only what remains
     /// to be done by hand.
     Lint,
+    /// A source with switches around the code that `order --cut` could harm.
+    Guard,
 }
 
 /// What a command reads.
@@ -109,6 +111,21 @@ pub struct SumStyle {
     pub trace: bool,
     /// Whether the words that each block takes are printed, as it was written and in the best order that was found.
     pub words: bool,
+}
+
+impl Command<'_> {
+    ghost use Rattle.std.specs.Prelude.{◌≡◌};
+    ghost use Rattle.s66_command.specs.CommandParts.{reads_cut};
+
+    /// Whether it reads a source as with `--cut`: always for `guard`.
+    pub fn reads_cut(&self) -> bool
+        ensures { result ≡ reads_cut self.now }
+    {
+        match self.asked {
+            Asked::Guard => true,
+            _ => self.cut,
+        }
+    }
 }
 
 impl Asked {

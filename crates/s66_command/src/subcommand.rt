@@ -132,6 +132,16 @@ pub(crate) const SUBCOMMANDS: &[SubcommandRow] = &[
          6 a read or write failed, 8 other lines alone are listed",
     ),
     (
+        "guard",
+        Plain,
+        &[],
+        "Writes the source with switches around code that order could harm",
+        "s66 guard < SOURCE",
+        "Example: s66 guard < SOURCE | s66 order --cut --keep --deep\n\n\
+         Status: 0 done, 2 usage, 3 input refused, 4 out of memory,\n        \
+         6 a read or write failed",
+    ),
+    (
         "order",
         Search,
         &[

@@ -106,6 +106,7 @@ fn asked_by(name: &str, given: &ArgMatches) -> Asked
     let order = order_in(given);
     match name {
         "lint" => Asked::Lint,
+        "guard" => Asked::Guard,
         "order" => {
             let style = OrderStyle {
                 trace,

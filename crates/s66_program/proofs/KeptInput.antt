@@ -10,10 +10,10 @@ use Rattle.s66_command.specs.declared.strategy.Strategy.{Strategy}
 use Rattle.s66_command.specs.declared.command.Command.{Command}
 use Rattle.s66_command.specs.declared.command.OrderStyle.{OrderStyle}
 use Rattle.s66_command.specs.declared.command.Asked.{Asked}
-use Rattle.s66_command.specs.declared.command.Asked.TheVariants.{Time, Deps, Chart, Why, Page, Json, Order, Prove, Check, Lint, Sum, Compare}
+use Rattle.s66_command.specs.declared.command.Asked.TheVariants.{Time, Deps, Chart, Why, Page, Json, Order, Prove, Check, Lint, Sum, Compare, Guard}
 use Rattle.s66_command.specs.declared.command.Reads.{Reads}
 use Rattle.s66_command.specs.declared.command.Reads.TheVariants.{Documents, Sources}
-use Rattle.s66_command.specs.CommandParts.{reads_of}
+use Rattle.s66_command.specs.CommandParts.{reads_cut, reads_of}
 use Rattle.s66_answer.specs.declared.outcome.Status.{Status}
 use Rattle.s66_program.specs.OrderText.{IsOrderedBy, is_other}
 use Rattle.s66_program.specs.declared.limits.TheConstants.{SOURCE_FRONT}
@@ -51,6 +51,7 @@ accepted-by p (Order strategy style) only source text status reads is =
 accepted-by p (Prove strategy) only source text status reads (blocks, ok, is) = (blocks, ok)
 accepted-by p (Check texts) only source text status reads is = absurd (cc)
 accepted-by p Lint only source text status reads is = absurd (cc)
+accepted-by p Guard only source text status reads (blocks, ok, is, done) = (blocks, ok)
 accepted-by p (Sum strategy style) only source text status reads (blocks, ok, is) = (blocks, ok)
 accepted-by p Compare only source text status reads is = absurd (cc)
 
@@ -61,7 +62,7 @@ accepted p command input text status reads is = accepted-by p command.asked comm
 full-refused : (command : Command) (most : Option ℕ) (held rest : List ℕ) → IsMost command most → IsFull most held →
     (reads_source command.asked ≡ true) × ((e : SourceError) × (source_of (source_in command (held ++ rest)) ≡ Err e) × (source_of (source_in command held) ≡ Err e))
 full-refused command None held rest is full = absurd full
-full-refused command (Some n) held rest (limit, reads) full = (reads, front-refused command.cut held rest (subst (λ k. k ≤ length held) limit full))
+full-refused command (Some n) held rest (limit, reads) full = (reads, front-refused (reads_cut command) held rest (subst (λ k. k ≤ length held) limit full))
 
 -- what is kept is the whole input, if the command writes something for it
 kept-whole : (p : Profile) (command : Command) (most : Option ℕ) (input held text : List ℕ) (status : Status) → IsMost command most → IsKeptInput most input held → IsOutput p command held text status → held ≡ input
@@ -76,9 +77,9 @@ whole-output p command most input held text status most-is kept output =
     subst (λ i. IsOutput p command i text status) (kept-whole p command most input held text status most-is kept output) output
 
 pub whole-remark : (p : Profile) (command : Command) (most : Option ℕ) (input held text : List ℕ) (status : Status) (r : Remark) → IsMost command most → IsKeptInput most input held → IsOutput p command held text status →
-    IsRemark command held r → IsRemark command input r
+    IsRemark command held text r → IsRemark command input text r
 whole-remark p command most input held text status r most-is kept output remark =
-    subst (λ i. IsRemark command i r) (kept-whole p command most input held text status most-is kept output) remark
+    subst (λ i. IsRemark command i text r) (kept-whole p command most input held text status most-is kept output) remark
 
 -- what is read for it is one source, so it isn't this
 no-other : (asked : Asked) (other : Reads) → is_source other ≡ false → reads_source asked ≡ true → reads_of asked ≡ other → ⊥

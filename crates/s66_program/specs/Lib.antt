@@ -12,6 +12,7 @@ pub mod PageText
 pub mod ProveText
 pub mod CheckText
 pub mod LintText
+pub mod GuardText
 pub mod Moved
 pub mod Words
 pub mod SumText

@@ -7,8 +7,8 @@ use Rattle.s66_command.specs.declared.limits.TheConstants.{BLOCK_NUMBER_LIMIT}
 use Rattle.s66_command.specs.ProfileText.{profile_in_text}
 use Rattle.s66_command.specs.declared.command.Command.{Command}
 use Rattle.s66_command.specs.declared.command.Asked.{Asked}
-use Rattle.s66_command.specs.declared.command.Asked.TheVariants.{Time, Deps, Chart, Why, Page, Json, Order, Prove, Check, Lint, Sum, Compare}
-use Rattle.s66_command.specs.CommandParts.{profile_text, reads_of, strategy_of}
+use Rattle.s66_command.specs.declared.command.Asked.TheVariants.{Time, Deps, Chart, Why, Page, Json, Order, Prove, Check, Lint, Sum, Compare, Guard}
+use Rattle.s66_command.specs.CommandParts.{reads_cut, profile_text, reads_of, strategy_of}
 use Rattle.s66_command.specs.declared.command.Reads.{Reads}
 use Rattle.s66_command.specs.declared.command.Reads.TheVariants.{Source}
 use Rattle.s66_answer.specs.SearchWithin.{IsSearchWithin}
@@ -23,6 +23,7 @@ use Rattle.s66_program.specs.OrderText.{IsOrdered}
 use Rattle.s66_program.specs.ProveText.{IsProveOutput}
 use Rattle.s66_program.specs.CheckText.{IsCheckOutput}
 use Rattle.s66_program.specs.LintText.{IsLintOutput}
+use Rattle.s66_program.specs.GuardText.{IsGuardOutput}
 use Rattle.s66_program.specs.SumText.{IsSumOutput}
 use Rattle.s66_program.specs.CompareText.{IsCompareOutput}
 
@@ -49,7 +50,7 @@ IsUnder command p = profile_asked (profile_text command) ≡ Some p
 
 -- an input, as a command reads it
 abbrev pub source_in : Command → List ℕ → Reading
-source_in command input = record { cut = command.cut; text = input }
+source_in command input = record { cut = reads_cut command; text = input }
 
 -- what is asked for writes the text for a source under a profile, of all blocks or of one, and ends so
 abbrev pub IsAskedOutput : Profile → Asked → (only : Option ℕ) (source : Reading) (text : List ℕ) → Status → Type 0
@@ -63,6 +64,7 @@ IsAskedOutput p (Order strategy style) only source text status = IsOrdered strat
 IsAskedOutput p (Prove strategy) only source text status = IsProveOutput strategy p only source text status
 IsAskedOutput p (Check texts) only source text status = IsCheckOutput texts source.text text status
 IsAskedOutput p Lint only source text status = IsLintOutput source text status
+IsAskedOutput p Guard only source text status = IsGuardOutput source text status
 IsAskedOutput p (Sum strategy style) only source text status = IsSumOutput strategy p style only source text status
 IsAskedOutput p Compare only source text status = IsCompareOutput p source.cut source.text text status
 
@@ -77,3 +79,8 @@ is_source reads = false
 -- one source is read for it, which may be refused
 abbrev pub reads_source : Asked → Bool
 reads_source asked = is_source (reads_of asked)
+
+-- what is written for it is of the blocks of one source
+abbrev pub shows_blocks : Asked → Bool
+shows_blocks Guard = false
+shows_blocks asked = reads_source asked

@@ -6,27 +6,44 @@ use Rattle.s66_line.specs.Block.{Block}
 use Rattle.s66_source.specs.declared.error.SourceError.{SourceError}
 use Rattle.s66_source.specs.LeftAlone.{Reading}
 use Rattle.s66_source.specs.Source.{source_of}
+use Rattle.s66_lint.specs.Guarded.{IsGuard}
 use Rattle.s66_lint.specs.Listing.{AreCounted}
 use Rattle.s66_command.specs.declared.command.Command.{Command}
-use Rattle.s66_command.specs.CommandParts.{strategy_of}
+use Rattle.s66_command.specs.declared.command.Asked.{Asked}
+use Rattle.s66_command.specs.declared.command.Asked.TheVariants.{Guard}
+use Rattle.s66_command.specs.CommandParts.{reads_cut, strategy_of}
 use Rattle.s66_program.specs.declared.remark.Remark.{Remark}
 use Rattle.s66_program.specs.Device.{Tells}
-use Rattle.s66_program.specs.Output.{reads_source, source_in}
+use Rattle.s66_program.specs.Output.{shows_blocks, source_in}
 
 -- WHAT STANDARD ERROR GETS
-
--- how `lint` is called that lists what is counted
-abbrev pub lint_words : (cut : Bool) → List ℕ
-lint_words false = codes "s66 lint"
-lint_words true = codes "s66 lint --cut"
 
 abbrev pub lines_word : ℕ → List ℕ
 lines_word count = if count == 1 then codes " line" else codes " lines"
 
+-- what `lint` lists: with `--cut`, what `guard` puts switches around
+abbrev pub found_words : (cut : Bool) (count : ℕ) → List ℕ
+found_words false count = lines_word count ++ codes " that order may harm\n"
+found_words true count =
+    (if count == 1 then codes " finding" else codes " findings") ++ codes "; s66 guard puts switches around the code\n"
+
+-- how `lint` is called that lists what is counted
+abbrev pub lint_words : (cut : Bool) → List ℕ
+lint_words false = codes "s66 lint lists "
+lint_words true = codes "s66 lint --cut lists "
+
 -- how many lines it lists; nothing if there is none
 abbrev pub listed_line : (cut : Bool) (count : ℕ) → List ℕ
-listed_line cut count =
-    if count == 0 then [] else (lint_words cut ++ codes " lists " ++ decimal count ++ lines_word count ++ codes " that order may harm\n")
+listed_line cut count = if count == 0 then [] else (lint_words cut ++ decimal count ++ found_words cut count)
+
+-- how many regions `guard` put between switches, and how many lines they have; nothing if there is none
+abbrev pub regions_line : (regions lines : ℕ) → List ℕ
+regions_line regions lines =
+    if regions == 0 then []
+    else (
+    decimal regions ++ (if regions == 1 then codes " place with " else codes " places with ") ++ decimal lines ++ lines_word lines
+    ++ (if regions == 1 then codes " is left alone\n" else codes " are left alone\n")
+    )
 
 -- that a source has no block
 abbrev pub block_line : (has_no_block : Bool) → List ℕ
@@ -34,7 +51,7 @@ block_line false = []
 block_line true = codes "no block: an instruction's operation begins in column 3 or later\n"
 
 abbrev pub remark_text : Remark → List ℕ
-remark_text r = block_line r.has_no_block ++ listed_line r.cut r.listed
+remark_text r = block_line r.has_no_block ++ listed_line r.cut r.listed ++ regions_line r.regions r.lines
 
 -- a text was printed; without one the writer isn't called
 abbrev pub IsTold : List ℕ → Writer → Writer → Type 0
@@ -57,8 +74,14 @@ abbrev pub IsCount : (prints_orders : Bool) (source : Reading) (listed : ℕ) �
 IsCount true source listed = AreCounted source listed
 IsCount false source listed = listed ≡ 0
 
--- what is told after a command has written its text for this input
-abbrev pub IsRemark : Command → (input : List ℕ) → Remark → Type 0
-IsRemark command input r =
-    (r.has_no_block ≡ (reads_source command.asked && has_no_block (source_of (source_in command input))))
-    × (r.cut ≡ command.cut) × IsCount (prints_orders command) (source_in command input) r.listed
+-- how many regions of an input `guard` put between switches in the text that it wrote, and how many lines they have; of others none
+abbrev pub AreRegions : Asked → (input text : List ℕ) → (regions lines : ℕ) → Type 0
+AreRegions Guard input text regions lines = IsGuard input text regions lines
+AreRegions asked input text regions lines = (regions ≡ 0) × (lines ≡ 0)
+
+-- what is told after a command has written this text for this input
+abbrev pub IsRemark : Command → (input text : List ℕ) → Remark → Type 0
+IsRemark command input text r =
+    (r.has_no_block ≡ (shows_blocks command.asked && has_no_block (source_of (source_in command input))))
+    × (r.cut ≡ reads_cut command) × IsCount (prints_orders command) (source_in command input) r.listed
+    × AreRegions command.asked input text r.regions r.lines

@@ -45,8 +45,7 @@ IsRefusal command input fault.Write = ⊥
 abbrev pub IsOutcomeUnder : Profile → Command → Reader → Reader → Writer → Writer → Result Ended Fault → Type 0
 IsOutcomeUnder p command reader reader' writer writer' (Ok ended) =
     (input : List ℕ) × ReadsAll reader reader' input
-    × ((text : List ℕ) × IsOutput p command input text ended.status × Writes writer writer' text)
-    × IsRemark command input ended.remark
+    × ((text : List ℕ) × IsOutput p command input text ended.status × Writes writer writer' text × IsRemark command input text ended.remark)
 IsOutcomeUnder p command reader reader' writer writer' (Err (fault.Source e)) =
     ((input : List ℕ) × ReadsAll reader reader' input × IsRefusal command input (fault.Source e)) × IsUntouched writer writer'
 IsOutcomeUnder p command reader reader' writer writer' (Err (fault.NewSource e)) =

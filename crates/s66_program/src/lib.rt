@@ -9,6 +9,7 @@ mod compare_text;
 mod deps_text;
 mod examples;
 mod fault;
+mod guard_text;
 mod hint;
 mod json_text;
 mod laws;

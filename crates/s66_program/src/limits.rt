@@ -12,7 +12,7 @@ pub const FEED_CALLS: u32 = 16_777_216;
 pub const FEED_ROOM: usize = 65_536;
 
 /// How many bytes there is room for of what is told after a success.
-pub(crate) const REMARK_ROOM: usize = 192;
+pub(crate) const REMARK_ROOM: usize = 256;
 
 // a block has a line of its own at least
 const _: () = prove!(SOURCE_LINES_LIMIT == BLOCK_NUMBER_LIMIT);

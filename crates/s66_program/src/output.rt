@@ -1,5 +1,5 @@
 ghost use Rattle.std.specs.Prelude.{◌≡◌, true, IfOk, IfErr};
-ghost use Rattle.s66_program.specs.Output.{IsAskedOutput, IsOutput, IsWithinLimits, reads_source};
+ghost use Rattle.s66_program.specs.Output.{IsAskedOutput, IsOutput, IsWithinLimits, reads_source, shows_blocks};
 ghost use Rattle.s66_program.specs.Remarks.{IsRemark};
 ghost use Rattle.s66_program.specs.Run.{IsRefusal};
 
@@ -8,6 +8,7 @@ use crate::check_text::check_output;
 use crate::compare_text::compare_output;
 use crate::deps_text::deps_output;
 use crate::fault::Fault;
+use crate::guard_text::guard_output;
 use crate::json_text::json_output;
 use crate::lint_text::lint_output;
 use crate::order_text::ordered_output;
@@ -34,7 +35,7 @@ fn output_of<R: AllocGlobal + Threads + Wait + Sync, O: Observer>(
     observer: &mut O,
 ) -> Result<Output, AllocError>
     requires within { IsWithinLimits command }
-    requires reads { reads_source command.asked ≡ true }
+    requires shows { shows_blocks command.asked ≡ true }
     ensures { IfOk result (λ output.
         IsAskedOutput profile.now command.entry.asked command.entry.block source.now output.text.items output.status) }
 {
@@ -54,11 +55,12 @@ fn output_of<R: AllocGlobal + Threads + Wait + Sync, O: Observer>(
         Asked::Sum { strategy, style } => {
             sum_output(rt, source, profile, strategy, style, only, observer)
         }
-        Asked::Check { .. } | Asked::Lint | Asked::Compare => unreachable!(),
+        Asked::Check { .. } | Asked::Lint | Asked::Compare | Asked::Guard => unreachable!(),
     }
 }
 
-/// What a command that reads a source writes for an input under a profile, and what is told after that, or why the input was refused.
+/// What a command that shows the blocks of a source writes for an input under a profile, and what is told after that, or why the input
+/// was refused.
 fn source_output<R: AllocGlobal + Threads + Wait + Sync, O: Observer>(
     rt: &R,
     command: Command,
@@ -68,12 +70,14 @@ fn source_output<R: AllocGlobal + Threads + Wait + Sync, O: Observer>(
 ) -> Result<Finished, Fault>
     requires within { IsWithinLimits command }
     requires reads { reads_source command.asked ≡ true }
+    requires shows { shows_blocks command.asked ≡ true }
     ensures ok { IfOk result (λ finished.
         IsOutput profile.now command.entry input.now finished.output.text.items finished.output.status) }
-    ensures remark { IfOk result (λ finished. IsRemark command.entry input.now finished.remark) }
+    ensures remark { IfOk result (λ finished.
+        IsRemark command.entry input.now finished.output.text.items finished.remark) }
     ensures err { IfErr result (IsRefusal command.entry input.now) }
 {
-    let source = read_source_with(rt.alloc(), command.cut, input)?;
+    let source = read_source_with(rt.alloc(), command.reads_cut(), input)?;
     let remark = remark_of(rt.alloc(), command, &source, input)?;
     let output = output_of(rt, command, profile, &source, observer)?;
     Ok(Finished { output, remark })
@@ -91,7 +95,8 @@ pub(crate) fn output_for<R: AllocGlobal + Threads + Wait + Sync, O: Observer>(
     requires { IsWithinLimits command }
     ensures ok { IfOk result (λ finished.
         IsOutput profile.now command.entry input.now finished.output.text.items finished.output.status) }
-    ensures remark { IfOk result (λ finished. IsRemark command.entry input.now finished.remark) }
+    ensures remark { IfOk result (λ finished.
+        IsRemark command.entry input.now finished.output.text.items finished.remark) }
     ensures err { IfErr result (IsRefusal command.entry input.now) }
 {
     let alloc = rt.alloc();
@@ -99,8 +104,12 @@ pub(crate) fn output_for<R: AllocGlobal + Threads + Wait + Sync, O: Observer>(
         Asked::Check { text } => {
             Ok(untold(command, check_output(alloc, text, input, observer)?))
         }
-        Asked::Lint => Ok(untold(command, lint_output(alloc, input, command.cut)?)),
-        Asked::Compare => Ok(untold(command, compare_output(alloc, command.cut, profile, input)?)),
+        Asked::Lint => Ok(untold(command, lint_output(alloc, input, command.reads_cut())?)),
+        Asked::Compare => Ok(untold(
+            command,
+            compare_output(alloc, command.reads_cut(), profile, input)?,
+        )),
+        Asked::Guard => guard_output(alloc, command, input),
         _ => source_output(rt, command, profile, input, observer),
     }
 }

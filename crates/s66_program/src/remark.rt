@@ -1,7 +1,7 @@
-ghost use Rattle.std.specs.Prelude.{ℕ, List, ◌≡◌, ◌<◌, ◌≤◌, true, false, IfOk, length};
+ghost use Rattle.std.specs.Prelude.{ℕ, List, ◌≡◌, ◌==◌, ◌<◌, ◌≤◌, ◌++◌, true, false, if◌then◌else◌, codes, IfOk, length};
 ghost use Rattle.s66_source.specs.Source.{source_of};
-ghost use Rattle.s66_program.specs.Output.{reads_source, source_in};
-ghost use Rattle.s66_program.specs.Remarks.{IsCount, IsRemark, block_line, has_no_block, lines_word, lint_words, prints_orders};
+ghost use Rattle.s66_program.specs.Output.{shows_blocks, source_in};
+ghost use Rattle.s66_program.specs.Remarks.{AreRegions, IsCount, IsRemark, block_line, found_words, has_no_block, lines_word, lint_words, listed_line, prints_orders, regions_line};
 
 use crate::limits::REMARK_ROOM;
 use arrayvec::ArrayString;
@@ -21,6 +21,9 @@ pub struct Remark {
     pub cut: bool,
     /// How many lines `lint` then lists.
     pub listed: usize,
+    /// How many regions `guard` put between switches, and how many lines they have.
+    pub regions: usize,
+    pub lines: usize,
 }
 
 /// How a command that wrote all its text ended, and what is told of that.
@@ -43,9 +46,26 @@ fn block_line(has_no_block: bool) -> &'static str
 
 fn lint_words(cut: bool) -> &'static str
     ensures text { result.now ≡ lint_words cut }
-    ensures short { length result.now ≤ 14 }
+    ensures short { length result.now ≤ 21 }
 {
-    if cut { "s66 lint --cut" } else { "s66 lint" }
+    if cut {
+        "s66 lint --cut lists "
+    } else {
+        "s66 lint lists "
+    }
+}
+
+/// What `lint` lists.
+fn found_words(cut: bool, count: usize) -> &'static str
+    ensures text { result.now ≡ found_words cut count }
+    ensures short { length result.now ≤ 51 }
+{
+    match (cut, count == 1) {
+        (false, true) => " line that order may harm\n",
+        (false, false) => " lines that order may harm\n",
+        (true, true) => " finding; s66 guard puts switches around the code\n",
+        (true, false) => " findings; s66 guard puts switches around the code\n",
+    }
 }
 
 fn lines_word(count: usize) -> &'static str
@@ -53,6 +73,60 @@ fn lines_word(count: usize) -> &'static str
     ensures short { length result.now ≤ 6 }
 {
     if count == 1 { " line" } else { " lines" }
+}
+
+fn places_word(count: usize) -> &'static str
+    ensures text { result.now ≡ (if count == 1 then codes " place with " else codes " places with ") }
+    ensures short { length result.now ≤ 13 }
+{
+    if count == 1 {
+        " place with "
+    } else {
+        " places with "
+    }
+}
+
+/// What becomes of these places.
+fn places_end(count: usize) -> &'static str
+    ensures text { result.now ≡ (if count == 1 then codes " is left alone\n" else codes " are left alone\n") }
+    ensures short { length result.now ≤ 16 }
+{
+    if count == 1 {
+        " is left alone\n"
+    } else {
+        " are left alone\n"
+    }
+}
+
+/// How many lines `lint` lists, if it lists some.
+fn push_listed(text: &mut ArrayString<REMARK_ROOM>, cut: bool, count: usize)
+    requires { length text.old.bytes ≤ 66 }
+    ensures text { text.new.bytes ≡ text.old.bytes ++ listed_line cut count }
+    ensures short { length text.new.bytes ≤ 158 }
+{
+    if count == 0 {
+        return;
+    }
+    let mut digits = Buffer::new();
+    text.push_str(lint_words(cut));
+    text.push_str(digits.format(count));
+    text.push_str(found_words(cut, count));
+}
+
+/// How many regions `guard` put between switches, if it did so, and how many lines they have.
+fn push_regions(text: &mut ArrayString<REMARK_ROOM>, regions: usize, lines: usize)
+    requires { length text.old.bytes ≤ 158 }
+    ensures { text.new.bytes ≡ text.old.bytes ++ regions_line regions lines }
+{
+    if regions == 0 {
+        return;
+    }
+    let mut digits = Buffer::new();
+    text.push_str(digits.format(regions));
+    text.push_str(places_word(regions));
+    text.push_str(digits.format(lines));
+    text.push_str(lines_word(lines));
+    text.push_str(places_end(regions));
 }
 
 impl Remark {
@@ -63,16 +137,10 @@ impl Remark {
     pub fn text(&self) -> ArrayString<REMARK_ROOM>
         ensures { result.bytes ≡ remark_text self.now }
     {
-        let mut digits = Buffer::new();
         let mut text = ArrayString::new();
         text.push_str(block_line(self.has_no_block));
-        if self.listed != 0 {
-            text.push_str(lint_words(self.cut));
-            text.push_str(" lists ");
-            text.push_str(digits.format(self.listed));
-            text.push_str(lines_word(self.listed));
-            text.push_str(" that order may harm\n");
-        }
+        push_listed(&mut text, self.cut, self.listed);
+        push_regions(&mut text, self.regions, self.lines);
         text
     }
 }
@@ -108,7 +176,7 @@ fn listed_of(alloc: Global, command: Command, input: &[u8]) -> Result<usize, All
     if !prints_orders(command) {
         return Ok(0);
     }
-    count_findings(alloc, input, command.cut)
+    count_findings(alloc, input, command.reads_cut())
 }
 
 /// What is told after a command has written its text for a source, which was read from this input.
@@ -118,31 +186,36 @@ pub(crate) fn remark_of(
     source: &Source,
     input: &[u8],
 ) -> Result<Remark, AllocError>
-    requires reads { reads_source command.asked ≡ true }
+    requires shows { shows_blocks command.asked ≡ true }
     requires source { source.now ≡ source_in command input.now }
-    ensures { IfOk result (IsRemark command.entry input.now) }
+    ensures { (text : List ℕ) → IfOk result (IsRemark command.entry input.now text) }
 {
     let listed = listed_of(alloc, command, input)?;
     Ok(Remark {
         has_no_block: has_no_block(source),
-        cut: command.cut,
+        cut: command.reads_cut(),
         listed,
+        regions: 0,
+        lines: 0,
     })
 }
 
 /// What a command writes that reads no source, or has nothing to tell of it.
 pub(crate) fn untold(command: Command, output: Output) -> Finished
-    requires reads { reads_source command.asked ≡ false }
+    requires shows { shows_blocks command.asked ≡ false }
     requires prints { prints_orders command ≡ false }
+    requires regions { (input text : List ℕ) → AreRegions command.asked input text 0 0 }
     ensures output { result.output ≡ output }
-    ensures remark { (input : List ℕ) → IsRemark command.entry input result.remark }
+    ensures remark { (input text : List ℕ) → IsRemark command.entry input text result.remark }
 {
     Finished {
         output,
         remark: Remark {
             has_no_block: false,
-            cut: command.cut,
+            cut: command.reads_cut(),
             listed: 0,
+            regions: 0,
+            lines: 0,
         },
     }
 }
