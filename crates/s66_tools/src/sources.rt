@@ -12,10 +12,10 @@ use std::alloc::{AllocError, Global};
 const SOURCE: &str =
     "  SA1 A1+B1\n  BX6 X1\n* NOTE\n  BX7 X2\nLOOP  NO\n  FX1 X2*X3\n  ZR X1,LOOP\n";
 
-/// Lines in which something is found: an operand that is refused, what isn't an instruction, what counts lines and words, and
-/// what redefines an instruction.
+/// Lines in which something is found: an operand that is refused, what isn't an instruction, what counts lines and words, what stores
+/// into code, and what is redefined.
 const SLIPS: &str =
-    "L SA1 A1+B1\n  IX1 X2*X3\n  BX8 X1\n  DUP 3,2\n  SA6 L+1\n  BX6 X1\nRXX*X OPDEF I\n";
+    "L SA1 A1+B1\n  BX6 X2\n  IX1 X2*X3\n  BX8 X1\n  DUP 3,2\n  SA6 L+1\n  BX6 X1\n  BX7 X2\nRXX*X OPDEF I\n  ENDM\n  RX1 X2*X3\n";
 
 /// A source that isn't refused.
 pub fn source_of<'t>(alloc: Global, code: &'t str) -> Result<Source<'t>, AllocError> {
