@@ -1,4 +1,4 @@
-use crate::running::{LINT, ORDER, ORDER_TRACE, PAGE, TIME, check, check_told, run};
+use crate::running::{GUARD, LINT, ORDER, ORDER_TRACE, PAGE, TIME, check, check_told, run};
 use crate::verdicts::altered;
 use s66_test_search::{ONE_LOAD, PACKING_GAP};
 use std::process::Abort;
@@ -8,6 +8,7 @@ use std::thread::Threads;
 mod chart;
 mod compare;
 mod deps;
+mod guard;
 mod json;
 mod kept;
 mod left_alone;
@@ -100,6 +101,14 @@ const REPEATED: &[(&str, &[&str], &str, usize, u8, &str)] = &[
         "LINE 1 TOO LONG\na line has at most 200 bytes; s66 lint lists all that have more\n",
     ),
     ("201 bytes, listed", LINT, "*", 201, 5, "LINE 1 TOO LONG\n"),
+    (
+        "201 bytes, guarded",
+        GUARD,
+        "*",
+        201,
+        3,
+        "LINE 1 TOO LONG\na line has at most 200 bytes; s66 lint lists all that have more\n",
+    ),
     ("20,000 lines", TIME, "*\n", 20_000, 0, ""),
     (
         "20,001 lines",
@@ -117,6 +126,14 @@ const REPEATED: &[(&str, &[&str], &str, usize, u8, &str)] = &[
         20_001,
         5,
         "TOO MANY LINES\n",
+    ),
+    (
+        "20,001 lines, guarded",
+        GUARD,
+        "*\n",
+        20_001,
+        3,
+        "TOO MANY LINES\na source has at most 20000 lines\n",
     ),
     (
         "17,039,360 lines",
@@ -159,6 +176,7 @@ fn runs_rows(rt: HostRuntime) {
     check_rows(&rt, kept::ROWS);
     check_rows(&rt, left_alone::ROWS);
     check_rows(&rt, lint::ROWS);
+    check_rows(&rt, guard::ROWS);
     check_rows(&rt, sum::ROWS);
     check_rows(&rt, compare::ROWS);
     check_rows(&rt, profile::ROWS);

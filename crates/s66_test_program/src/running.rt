@@ -24,6 +24,8 @@ pub(crate) const CHECK: &[&str] = &["s66", "check"];
 
 pub(crate) const LINT: &[&str] = &["s66", "lint"];
 
+pub(crate) const GUARD: &[&str] = &["s66", "guard"];
+
 pub(crate) const COMPARE: &[&str] = &["s66", "compare"];
 
 pub(crate) const COMPARE_CUT: &[&str] = &["s66", "compare", "--cut"];

@@ -35,6 +35,13 @@ pub(crate) const ROWS: &[Row] = &[
         "{\"schema\":1,\"block\":1,\"label\":\"A\\\"\\\\\",\"line\":2,\"last_line\":2,\"count\":1,\"parcels\":1,\"instructions\":[{\"n\":1,\"line\":2,\"text\":\"SA6 B1\",\"unit\":\"increment\",\"parcels\":1,\"works\":3,\"reads\":[\"B1\",\"X6\"],\"writes\":[\"A6\"],\"memory\":\"store\",\"after\":[]}],\"written\":{\"time\":4,\"no\":0,\"order\":[1],\"at\":[{\"n\":1,\"parcel\":0,\"issue\":0,\"start\":0,\"done\":3,\"free\":4,\"results\":[{\"register\":\"A6\",\"done\":3}],\"waits\":[]}],\"path\":[1],\"steps\":[4],\"lost\":{\"first\":0,\"second\":0,\"third\":0}},\"found\":null}\n",
     ),
     (
+        "characters behind an operand's blank, with a quote and a backslash",
+        JSON,
+        "* NOTE\n A  sa6 b1+4ha \"\\  REMARK\n",
+        0,
+        "{\"schema\":1,\"block\":1,\"label\":\"A\",\"line\":2,\"last_line\":2,\"count\":1,\"parcels\":2,\"instructions\":[{\"n\":1,\"line\":2,\"text\":\"SA6 B1+4HA \\\"\\\\\",\"unit\":\"increment\",\"parcels\":2,\"works\":3,\"reads\":[\"B1\",\"X6\"],\"writes\":[\"A6\"],\"memory\":\"store\",\"after\":[]}],\"written\":{\"time\":4,\"no\":0,\"order\":[1],\"at\":[{\"n\":1,\"parcel\":0,\"issue\":0,\"start\":0,\"done\":3,\"free\":4,\"results\":[{\"register\":\"A6\",\"done\":3}],\"waits\":[]}],\"path\":[1],\"steps\":[4],\"lost\":{\"first\":0,\"second\":0,\"third\":0}},\"found\":null}\n",
+    ),
+    (
         "a refused operand, json",
         JSON,
         "  BX6 X1\n  BX6 X1/X2\n",

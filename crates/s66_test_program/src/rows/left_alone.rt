@@ -96,6 +96,34 @@ pub(crate) const ROWS: &[Row] = &[
         "* BLOCK 1 COUNT 2 SOURCE 12 TIME 12 BEST\n          SA1 A1+B1\n          BX6 X1\n  SA2 *+2\n* BLOCK 2 COUNT 1 SOURCE 4 TIME 4 BEST\n          BX1 X2\n  BX2 X3\n,  X4\n* BLOCK 3 COUNT 3 SOURCE 16 TIME 12 BEST\n          SA1 A1+B1\n          BX7 X2\n          BX6 X1\n",
     ),
     (
+        "an operand that goes on behind its characters",
+        CUT,
+        "  SX1 B2\n  SX3 1R +X1\n  SX4 B3\n",
+        0,
+        "* BLOCK 1 COUNT 1 SOURCE 4 TIME 4 BEST\n          SX1 B2\n  SX3 1R +X1\n* BLOCK 2 COUNT 1 SOURCE 4 TIME 4 BEST\n          SX4 B3\n",
+    ),
+    (
+        "it is refused otherwise",
+        ORDER,
+        "  SX1 X1-1R    CHECK\n  SA1 =10HREAD ERROR\n  SA1 =C/A B/+X1\n",
+        3,
+        "LINE 3 BAD OPERAND\ns66 lint lists all such lines, --cut leaves them alone\n",
+    ),
+    (
+        "a correction, and prose",
+        CUT,
+        "  SX1 B2\n*I AM THE NEXT\n  BX6 X1\n*I 83\n  SA2 B3\n  BX7 X2\n",
+        0,
+        "* BLOCK 1 COUNT 2 SOURCE 7 TIME 7 BEST\n*I AM THE NEXT\n          SX1 B2\n          BX6 X1\n*I 83\n* BLOCK 2 COUNT 2 SOURCE 12 TIME 12 BEST\n          SA2 B3\n          BX7 X2\n",
+    ),
+    (
+        "lines that a directive counts",
+        CUT,
+        "  ZR X2,L\n*IF DEF,TRACE,1\n  SX6 B1\n  SA1 A1+B1\n  BX7 X1\n",
+        0,
+        "  ZR X2,L\n*IF DEF,TRACE,1\n  SX6 B1\n* BLOCK 1 COUNT 2 SOURCE 12 TIME 12 BEST\n          SA1 A1+B1\n          BX7 X1\n",
+    ),
+    (
         "switches, in lower case and with remarks",
         ORDER,
         "  SA1 A1+B1\n*s66 off  READ ONLY\n  SX1 *+2\n*S66 ONE\n  BX6 X1\n*S66\ton\n  SA1 A1+B1\n  BX6 X1\n  BX7 X2\n",
@@ -161,7 +189,7 @@ pub(crate) const ROWS: &[Row] = &[
     (
         "a line with two findings",
         LINT,
-        "loop SA6 Loop+1\n  BX6 X1\n",
+        "loop SA6 Loop+1\n  BX7 X1\n",
         8,
         "LINE 1 STORES INTO CODE SA6 Loop+1\nLINE 1 COUNTS WORDS SA6 Loop+1\n",
     ),

@@ -5,7 +5,7 @@ use s66_test_search::ONE_LOAD;
 const NO_BLOCK: &str = "no block: an instruction's operation begins in column 3 or later\n";
 
 /// Two lines that `lint` lists, one of which `--cut` leaves alone.
-const HARMED: &str = "  SA1 A1+B1\n*CALL COMXAMP\n  BX6 X1\n  NZ X1,*-1\n";
+const HARMED: &str = "  SA1 A1+B1\n*CALL COMXAMP\n  BX6 X1\n  BX7 X2\n  NZ X1,*-1\n";
 
 /// What standard error gets of rows that succeed: name, subcommand, lines. Of other such rows it gets nothing.
 pub(crate) const TOLD: &[(&str, &str, &str)] = &[
@@ -34,13 +34,28 @@ pub(crate) const TOLD: &[(&str, &str, &str)] = &[
     (
         "bad operands and continued lines",
         "order",
-        "s66 lint --cut lists 1 line that order may harm\n",
+        "s66 lint --cut lists 1 finding; s66 guard puts switches around the code\n",
     ),
     ("B0", "order", "s66 lint lists 1 line that order may harm\n"),
     ("a comment of 200 bytes", "order", NO_BLOCK),
     ("no block", "sum", NO_BLOCK),
     ("no block has no word", "sum", NO_BLOCK),
     ("no block, with the trace", "sum", NO_BLOCK),
+    (
+        "mixed source",
+        "order",
+        "s66 lint lists 1 line that order may harm\n",
+    ),
+    (
+        "mixed source",
+        "sum",
+        "s66 lint lists 1 line that order may harm\n",
+    ),
+    (
+        "operations in columns 5, 2 by a tab, and 29",
+        "order",
+        "s66 lint lists 1 line that order may harm\n",
+    ),
     (
         "four blocks",
         "sum",
@@ -84,7 +99,37 @@ pub(crate) const TOLD: &[(&str, &str, &str)] = &[
     (
         "with --cut it is one",
         "order",
-        "s66 lint --cut lists 1 line that order may harm\n",
+        "s66 lint --cut lists 1 finding; s66 guard puts switches around the code\n",
+    ),
+    (
+        "code that is loaded",
+        "guard",
+        "1 place with 3 lines is left alone\n",
+    ),
+    (
+        "a sum of two labels of code",
+        "guard",
+        "2 places with 4 lines are left alone\n",
+    ),
+    (
+        "regions that a switch parts",
+        "guard",
+        "2 places with 2 lines are left alone\n",
+    ),
+    (
+        "a region with two reasons",
+        "guard",
+        "1 place with 9 lines is left alone\n",
+    ),
+    (
+        "lines that join a word",
+        "guard",
+        "1 place with 2 lines is left alone\n",
+    ),
+    (
+        "lines that may be something else",
+        "guard",
+        "1 place with 2 lines is left alone\n",
     ),
     (
         "one is told of a block that is only bounded",
@@ -105,7 +150,7 @@ pub(crate) const ROWS: &[Row] = &[
         &["s66", "lint", "--cut"],
         HARMED,
         8,
-        "LINE 4 COUNTS WORDS NZ X1,*-1\n",
+        "LINE 5 COUNTS WORDS NZ X1,*-1\n",
     ),
     (
         "nothing remains with --cut",
@@ -126,28 +171,28 @@ pub(crate) const ROWS: &[Row] = &[
         ORDER,
         HARMED,
         0,
-        "* BLOCK 1 COUNT 2 SOURCE 12 TIME 12 BEST\n*CALL COMXAMP\n          SA1 A1+B1\n          BX6 X1\n  NZ X1,*-1\n",
+        "* BLOCK 1 COUNT 3 SOURCE 16 TIME 12 BEST\n*CALL COMXAMP\n          SA1 A1+B1\n          BX7 X2\n          BX6 X1\n  NZ X1,*-1\n",
     ),
     (
         "two lines are told",
         &["s66", "why", "--order", "--workers", "1"],
         HARMED,
         0,
-        "BLOCK 1 LINE 1 TIME 12\n  2 SECOND 1 TO 8 REGISTER X1 BY 1\nPATH 1 2\nSTEPS 8 4 TIME 12\nLOST FIRST 0 SECOND 7 THIRD 0\nEvery order takes 12 or more:\n   8  X1 of 1 SA1 A1+B1 is there, which 2 BX6 X1 reads\n  12  the unit of 2 BX6 X1 is free, and that is the end\nSo the order of 12 is best.\n",
+        "BLOCK 1 LINE 1 TIME 12\n  2 FIRST 2 TO 5 UNIT BOOLEAN BY 3\n  2 SECOND 5 TO 8 REGISTER X1 BY 1\nPATH 1 2\nSTEPS 8 4 TIME 12\nLOST FIRST 3 SECOND 3 THIRD 0\nEvery order takes 12 or more:\n   8  X1 of 1 SA1 A1+B1 is there, which 2 BX6 X1 reads\n  12  the unit of 2 BX6 X1 is free, and that is the end\nSo the order of 12 is best.\n",
     ),
     (
         "none is told of a listing",
         WHY,
         HARMED,
         0,
-        "BLOCK 1 LINE 1 TIME 12\n  2 SECOND 1 TO 8 REGISTER X1 BY 1\nPATH 1 2\nSTEPS 8 4 TIME 12\nLOST FIRST 0 SECOND 7 THIRD 0\n",
+        "BLOCK 1 LINE 1 TIME 16\n  2 SECOND 1 TO 8 REGISTER X1 BY 1\n  3 FIRST 2 TO 12 UNIT BOOLEAN BY 2\nPATH 1 2 3\nSTEPS 8 4 4 TIME 16\nLOST FIRST 10 SECOND 7 THIRD 0\n",
     ),
     (
         "with --cut it is one",
         &["s66", "order", "--workers", "1", "--cut"],
         HARMED,
         0,
-        "* BLOCK 1 COUNT 1 SOURCE 8 TIME 8 BEST\n          SA1 A1+B1\n*CALL COMXAMP\n* BLOCK 2 COUNT 1 SOURCE 4 TIME 4 BEST\n          BX6 X1\n  NZ X1,*-1\n",
+        "* BLOCK 1 COUNT 1 SOURCE 8 TIME 8 BEST\n          SA1 A1+B1\n*CALL COMXAMP\n* BLOCK 2 COUNT 2 SOURCE 8 TIME 8 BEST\n          BX6 X1\n          BX7 X2\n  NZ X1,*-1\n",
     ),
     (
         "one is told of a block that is only bounded",

@@ -108,6 +108,13 @@ pub(crate) const ROWS: &[Row] = &[
         "s66 0.7.0\n",
     ),
     (
+        "help, of a subcommand without options",
+        &["a/b", "guard", "--help"],
+        "",
+        0,
+        "Writes the source with switches around code that order could harm\n\nUsage: s66 guard < SOURCE\n\nOptions:\n  -h, --help  Print help\n\nExample: s66 guard < SOURCE | s66 order --cut --keep --deep\n\nStatus: 0 done, 2 usage, 3 input refused, 4 out of memory,\n        6 a read or write failed\n",
+    ),
+    (
         "help",
         &["a/b", "deps", "--help"],
         "",

@@ -63,6 +63,7 @@ pub(crate) const COMMANDS: &[(&[&str], Command<'static>)] = &[
         Command { cut: true, profile: Some("{}"), asked: Asked::Json { order: None }, ..PLAIN }),
     (&["s66", "lint"], Command { asked: Asked::Lint, ..PLAIN }),
     (&["s66", "lint", "--cut"], Command { cut: true, asked: Asked::Lint, ..PLAIN }),
+    (&["s66", "guard"], Command { asked: Asked::Guard, ..PLAIN }),
     (&["s66", "compare"], Command { asked: Asked::Compare, ..PLAIN }),
     (&["s66", "compare", "--profile", "{}", "--cut"],
         Command { cut: true, profile: Some("{}"), asked: Asked::Compare, ..PLAIN }),
