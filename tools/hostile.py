@@ -195,7 +195,7 @@ def repeated(line, size):
 def long_sources():
     """Words, what is fed, its answer, and the most megabytes."""
     code = b"  BX1 X2*X3\n"
-    for word in ("time", "deps", "chart", "why", "page", "json", "order", "prove", "sum"):
+    for word in ("time", "deps", "chart", "why", "page", "json", "order", "prove", "sum", "guard"):
         yield [word], "a gigabyte of newlines", repeated(b"\n", GIGABYTE), (3, b"", b"TOO MANY LINES\n" + MANY), FRONT_MEGABYTES
     yield ["time"], "a gigabyte without a newline", repeated(b" ", GIGABYTE), (3, b"", b"LINE 1 TOO LONG\n" + LONG), FRONT_MEGABYTES
     yield ["time"], "a gigabyte of instructions", repeated(code, GIGABYTE), (3, b"", b"TOO MANY LINES\n" + MANY), FRONT_MEGABYTES

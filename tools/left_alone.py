@@ -1,14 +1,15 @@
 #!/usr/bin/env python3
-"""Compares which lines the program leaves alone, and what its `lint` lists, with a second opinion on random sources.
+"""Compares which lines the program leaves alone, what its `lint` lists and its `guard` prints, with a second opinion on random sources.
 
     tools/left_alone.py [--count N] [--seed N] -- PROGRAM
 
-The second opinion is tools/source_rules.py. For each of N sources, 1000 unless given, this compares with and without --cut what
-`lint` prints, the blocks of `deps`, the lines of `order`, the statuses, refusals, and what is told of a source after a success. It
-also puts the comments *S66 OFF and *S66 ON around what --cut leaves alone: then `deps` without --cut has to find the same blocks, and
-`lint` nothing that --cut leaves alone, nor anything that it didn't find before. Each mismatch is printed with a small source that
-shows it, which is left in /tmp, and at the end how often each finding was wanted. The status is 1 if something is wrong, in the table
-EXAMPLES or in the program.
+The second opinion is tools/source_rules.py and tools/lint_rules.py. For each of N sources, 1000 unless given, this compares with
+and without --cut what `lint` prints, the blocks of `deps`, the lines of `order`, the statuses, refusals, and what is told of a
+source after a success; and what `guard` prints, in which the lines of the source are left if those that it added are taken out,
+and to which it adds nothing. It also puts the comments *S66 OFF and *S66 ON around what --cut leaves alone: then `deps` without
+--cut has to find the same blocks, and `lint` nothing that --cut leaves alone, nor anything that it didn't find before. Each
+mismatch is printed with a small source that shows it, which is left in /tmp, and at the end how often each finding was wanted.
+The status is 1 if something is wrong, in the tables EXAMPLES and LISTED or in the program.
 """
 import argparse
 import collections
@@ -18,30 +19,61 @@ import sys
 from random import choice, choices, random, seed
 
 from compare_certificates import INSTRUCTIONS, WRONG
-from source_rules import COMMAS, COMMENT, INSTRUCTION, MOST, MOST_LINES, OTHER, PAD, Source, lint_of
+from lint_rules import guard_of, lint_of
+from source_rules import COMMAS, COMMENT, INSTRUCTION, MOST, MOST_LINES, OTHER, PAD, Source
 
 BRANCHES = "RJ JP ZR NZ PL NG MI IR OR DF ID EQ NE GE GT LT LE XJ".split()
 REFUSED = "refused"
-FINDINGS = (r"(?m)^(?:LINE \d+ )?(TOO LONG|TOO MANY LINES|BAD OPERAND|NOT AN INSTRUCTION|IN COLUMN|DIRECTIVE|HAS A BODY|REDEFINES|LOADS CODE"
-            "|STORES INTO CODE|JOINS A WORD|COUNTS WORDS|COUNTS LINES)")
+FINDINGS = (r"(?m)^(?:LINE \d+ )?(TOO LONG|TOO MANY LINES|BAD OPERAND|FAR OPERAND|REDEFINED|NOT AN INSTRUCTION|IN COLUMN|DIRECTIVE|HAS A BODY"
+            "|LOADS CODE|STORES INTO CODE|TAKES CODE|PASSES CODE|SKIPS WORDS|JOINS A WORD|COUNTS WORDS|FALLS INTO DATA|ROW OF NO|COUNTS LINES)")
+ADDED = re.compile(rb"(?m)^\*S66 (?:OFF|ON) GUARD.*\n")
 SWITCHED = [["switched", "by", "line"], ["switched", "by", "stretch"]]
-COMMANDS = [["lint"], ["lint", "--cut"], ["deps"], ["deps", "--cut"], ["order", "--nodes", "0"], ["order", "--nodes", "0", "--cut"]]
+GUARDED = [["guarded", "again"]]
+COMMANDS = [["lint"], ["lint", "--cut"], ["guard"], ["deps"], ["deps", "--cut"], ["order", "--nodes", "0"], ["order", "--nodes", "0", "--cut"]]
 
 # Sources, with | in the place of newlines, and for each line c if it is left alone with --cut, o if in any case.
 EXAMPLES = [
     ("  SKIP".ljust(28) + "1|  BX1 X2|" + "  SKIP".ljust(29) + "1|  BX1 X2", "-c--"), ("*S66 OFF|  MACROE|*S66 ON|  BX1 X2", "oooc"),
     ("  BX1 X2|* C|,X3|  BX8 X1|, X|  IX1 X2*X3|*CALL|* L", "-cccccc-"), ("  SKIP 4|  MACRO|  SKIP 9|  ENDM|  BX1 X2|  BX1 X2", "-cccc-"),
-    ("A MACRO P|  OPDEF|* C|  ENDM|  BX1 X2|  ENDM|  ENDM", "-ccccc-"), ("  BX1 X2|*S66 ONE| *S66 OFF|*S66OFF|* S66 OFF|*", "------"),
+    ("A MACRO P|  OPDEF|* C|  ENDM|  BX1 X2|  ENDM|  ENDM", "-ccccc-"), ("  BX1 X2|*S66 ONE| *S66 OFF|*S66OFF|* S66 OFF|*", "---c--"),
     ("  IFC EQ,/A/B/,1|  BX1 X2|  IFC EQ,/A/B/|  BX1 X2", "-c--"), ("  BX1 X2|*S66 OFF|  BX8 X1|*s66\t on  R|*S66 ON", "-ooo-"),
     ("  IFEQ A,B|  IFEQ A,B,0|  SKIP|  ELSE|  BX1 X2", "-----"), ("  IFC EQ,,A,B,,1|  BX1 X2|  IFC EQ,/A/|  BX1 X2", "-c-c"),
     ("  DUP 3,2|  BX1 X2|* C|  BX2 X3|* C|  BX3 X4", "-ccc--"), ("  SKIP 3|  SKIP 1|  BX1 X2|  BX1 X2|  BX1 X2", "-ccc-"),
     ("  SKIP 1|  SKIP 2|  BX1 X2|  BX1 X2|  BX1 X2", "-ccc-"), ("  ECHO N,A=(B)|  BX1 X2|* C|  endd|  BX3 X4", "-ccc-"),
     ("  SKIP 2|  SKIP N|  BX1 X2|  IDENT|  BX1 X2", "-ccc-"), ("  ENDM|  BX1 X2|*  MACRO|  BX1 X2|  MACROE", "-----"),
     ("A MACRO P|,MACRO|  BX1 X2|  ENDM|  BX1 X2", "cccc-"), ("  IFPL A,N|  SKIP 2|  END|  BX1 X2|  BX1 X2", "-ccc-"),
-    ("  DUP 2,4|  IFEQ A,B,N|  BX1 X2|  ENDIF|  BX1 X2|  BX1 X2", "-cccc-"), ("*IF,A|*endif|*CALLS|*IFX A|*THE IF|*READ X", "cc---c"),
+    ("  DUP 2,4|  IFEQ A,B,N|  BX1 X2|  ENDIF|  BX1 X2|  BX1 X2", "-cccc-"), ("*IF,A|*endif|*CALLS|*IFX A|*THE IF|*READ X", "cccccc"),
     ("  ECHO ,P=(A,B)|  DUP 2|  BX1 X2|  ENDD|  BX1 X2|  ENDD|  BX1 X2", "-ccccc-"), ("  DUP 2|  BX1 X2|  ECHO|  ENDD|  BX1 X2", "---c-"),
     ("  IFC EQ,* *A*,1|  BX1 X2|  IFC EQ,*A B* *,0|  BX1 X2", "-c--"), ("  IFC EQ,*A B*C,1|  BX1 X2|  END|  BX1 X2", "-cc-"),
     ("A MACRO P|  ECHO|  ENDM|  BX1 X2|  ENDD", "-cc--"), ("  ECHO|  MACRO|  ENDD|  ENDM|  ENDD|  BX1 X2", "-cccc-"),
+    ("*I 83|*d A.41,B=2.43 OLD CODE|*CA COMCX READ A WORD|*EI|*WIDGET|*PLUGIN X|*NEXT  WORD ", "ccccccc"), ("*I ,83 IS OLD|*I,8 IS OLD", "cc"),
+    ("*I AM THE NEXT|*THE NEXT WORD|* I 83|*/ NOTE|** A|*-A|*1 2|*S66 HALLO", "--------"), ("*I 8. IS OLD|*D 1,2,3 IS|*I 8.3 IS", "---"),
+    ("*A WORD" + " " * 63 + "AB C|*A WORD" + " " * 65 + "A B C", "-c"),
+    ("*IF DEF,A,1|  BX1 X2|* C|  BX1 X2|*ELSE 2|  BX1 X2|* C|  BX1 X2|  BX1 X2", "cc--cccc-"), ("*IF DEF,,1|  BX1 X2|*ELSE,1 X|  BX1 X2", "cccc"),
+    ("*IF DEF,A|  BX1 X2|*IF DEF,A,N|  BX1 X2|*ELSE|  BX1 X2|*ELSE 0|  BX1 X2|*if,def,A,01|  BX1 X2|  BX1 X2", "c-c-c-c-cc-"),
+    ("A MACRO P|*ELSE 3|  ENDM|  BX1 X2", "-cc-"), ("*S66 OFF|*ELSE 1|*S66 ON|  BX1 X2|  BX1 X2", "oooc-"), ("  SKIP 1|*ELSE 2|  BX1 X2|  BX1 X2|  BX1 X2", "-ccc-"),
+    ("  SX3 1R +X1|  SX3 X1-1R   C|  SA1 =10HREAD ERROR|  sa1 =c/A B/+X1|  SA1 =C/A B/ +X1|  SA1 =C/A B|  SA1 =10H   X1+B1 IS", "c--c-cc"),
+    ("  SX5 3R A  +|  SA1 =H*A  B*|  NO 1R +X1|  SX1 N1R +X1|  SX1 0R +X1|  SX1 1RA1R +X1|  SX1 =1R +X1|  EQ =C/A B", "-----cc-"),
+]
+
+# Sources, as above, and what `lint` lists of them, without LINE and with ; in the place of newlines; and the lines that `guard` switches off.
+LISTED = [
+    ("  SX6".ljust(26) + "B1|  SA1 B2", "1 FAR OPERAND SX6 B1", [1]), ("  NX1".ljust(70) + "B3|  SA1 B2", "1 FAR OPERAND NX1 B3", []),
+    ("  SX6".ljust(20) + "B1|  SA1 B2", "", []), ("  SX6".ljust(21) + "B1|  SA1 X6", "1 FAR OPERAND SX6 B1", []),
+    ("L".ljust(15) + "SX6".ljust(14) + "B1|  SA1 B2", "1 FAR OPERAND SX6 B1", [1]), ("L".ljust(14) + "SX6".ljust(14) + "B1|  SA1 B2", "", []),
+    ("  SX1 B1|  SX2 B2|" + "  SX6".ljust(26) + "B1|  SA1 B2|  SA3 B3", "3 FAR OPERAND SX6 B1", [3]), ("  NX6".ljust(29) + "|  SA1 B2", "", []),
+    ("  SX6".ljust(29) + "B1+|  SX1 B1|  BX2 X3", "1 BAD OPERAND SX6 B1+ (CUT)", []), ("  NO".ljust(29) + "REMARK|  SX1 B1|  BX2 X3", "", []),
+    ("N MACRO|" + "  SX6".ljust(29) + "B1|  ENDM", "1 HAS A BODY MACRO (CUT)", []),
+    ("RXX*X OPDEF I,J,K|  FX_I X_J*X_K|  ENDM|  RX5 X1*X2|  RX5 X1/X2|  SB7 X3", "4 REDEFINED RX5 X1*X2", [4]),
+    (" SXQ OPDEF I,Q|  ENDM|  SX1 N+1|  SX1 B1", "3 REDEFINED SX1 N+1", []), (" NO OPSYN NIL|  SX1 B1|  NO", "3 REDEFINED NO", [3]),
+    ("IXX*X OPDEF I,J,K|  ENDM|  IX6 X1+X2", "", []), ("CXX OPDEF I,K|  ENDM|  SX1 B1|  SX2 B2|  CX3 X5|  SB6 60", "5 REDEFINED CX3 X5", [5]),
+    ("SXX+Q OPDEF|  ENDM|  sx1 x2+n-1|  SX3 X2-N|  SX4 X2|  SX5 N+X2", "3 REDEFINED sx1 x2+n-1", [3]),
+    ("SXQ OPDEF|  ENDM|  SX1 N+X2", "3 REDEFINED SX1 N+X2", []),
+    ("  SX6 B1|  BX7 X1|  MACRO BX7,P|  SX6 P|  ENDM|*S66 OFF|BX6 CPSYN BX7|*S66 ON|  BX6 X1|  SX7 B2",
+     "2 REDEFINED BX7 X1;3 HAS A BODY MACRO (CUT);9 REDEFINED BX6 X1", [2, 6, 7, 8, 9]),
+    ("SX1 MACRO P|  ENDM|  SX1".ljust(49) + "P(|  SX2 B1", "3 BAD OPERAND SX1 P( (CUT);3 REDEFINED SX1 P( (CUT)", []),
+    ("  SKIP 1|" + "  SX6".ljust(26) + "B1|  SA1 B2|  SA3 B3", "1 COUNTS LINES SKIP (CUT);2 FAR OPERAND SX6 B1 (CUT)", []),
+    ("SB0 OPSYN SB1|  SX1 B1|  SB0 N|  SX2 B2", "3 REDEFINED SB0 N", [3]),
 ]
 
 
@@ -109,8 +141,11 @@ def remark_of(words, text, reading):
     told = "" if reading.blocks else "no block: an instruction's operation begins in column 3 or later\n"
     listed = lint_of(text, "--cut" in words)[0].count(b"\n") if words[0] == "order" else 0
     if listed:
-        lint = "s66 lint --cut" if "--cut" in words else "s66 lint"
-        told += f"{lint} lists {listed} line{'s' * (listed > 1)} that order may harm\n"
+        many = "s" * (listed > 1)
+        if "--cut" in words:
+            told += f"s66 lint --cut lists {listed} finding{many}; s66 guard puts switches around the code\n"
+        else:
+            told += f"s66 lint lists {listed} line{many} that order may harm\n"
     return told
 
 
@@ -120,6 +155,9 @@ def fault_of(words, text, seen):
     cut = "--cut" in words
     if words[0] == "lint":
         return "" if seen == (*lint_of(text, cut), b"") else f"wanted {lint_of(text, cut)}"
+    if words[0] == "guard":
+        seen = output, status, told if status == 0 else told.split(b"\n")[0]
+        return "" if seen == guard_of(text) else f"wanted {guard_of(text)}"
     reading, output, told = Reading(text, cut), output.decode("latin-1"), told.decode("latin-1")
     heads = [f"BLOCK {n} LINE {block[0] + 1} COUNT {len(block)}" for n, block in enumerate(reading.blocks, 1)]
     is_bounded = re.search(r"(?m)^\* BLOCK .* AT LEAST \d+$", output)
@@ -137,16 +175,21 @@ LABELS = ["LOOP", "TAG", "L1", "loop", "B1", "+", "-", "+", "-", " COL2", "CIO="
 CONSTANTS = ["1", "100B", "LOOP", "loop", "TAG+1", "L1-1B", "2*LOOP", "2*TAG+1", "=TAG", "LOOP+N", "N/TAG", "=LOOP+1", "COL2-1", "TAG", "L1", "CIO=",
              "CIO=+2", "1+LOOP", "TAG-N", "LOOP-TAG+1", "LOOP+0", "LOOP+1S17"]
 COUNTS = ["0", "1", "1", "2", "2", "5", "00", "N", "", "2B", "-1", "2,3", "9" * 30]
-SORTS = {  # lines, or operations and their operands, with # in the place of a count and K in that of a constant
+SORTS = {  # lines, or operations and their operands, with # in the place of a count, K in that of a constant, and ~ in that of characters
     COMMENT: f"* C|*||{' ' * 29}BX1 X2|{' ' * 28}\tBX1 X2| \t|* SKIP 2|*-MACRO|* S66 OFF| TAG",
-    "directive": "*CALL X|*CALL|*ENDIF|*COMDECK A|*ELSE|*c|*S66|*EQ,N|*if,DEF\tX|*S66OFF|*S66 ONE|*S66 OFF,|*S66,OFF|*S66 X OFF|*ENDIF|*Deck|*CALLS|*IFX A|*READ\tX|*DO",
+    "directive": "*CALL X|*CALL|*ENDIF|*COMDECK A|*ELSE|*c|*S66|*EQ,N|*if,DEF\tX|*S66OFF|*S66 ONE|*S66 OFF,|*S66,OFF|*S66 X OFF|*ENDIF|*Deck|*CALLS|*IFX A|*READ\tX|*DO"
+    "|*I 83|*d,8|*D COMCX.41,COMCX.43|*I A=1.5 OLD CODE|*D 8,9,1 OLD|*I 83. OLD CODE|*B\t,8|*I 8X OF IT|*CA COMCX READ A WORD|*EI|*WIDGET"
+    "|*PLUGIN COMCX|*NEXT  WORD|*THE NEXT WORD|*I AM THE NEXT|*LOOP UNTIL DONE, 2|*A\tB C|*-A|*/ NOTE|*1 2|*S66 HALLO|*Z=1|*skip 2",
+    "counting": "*IF DEF,A,#|*IF DEF,A,#|*IF -DEF,TRACE,#  OLD|*ELSE #|*else #|*IF,DEF,A,#|*ELSE,#|*IF DEF,A|*IF DEF,,#|*IF ,DEF,A,#|*IF\tEQ,A,#|*IFDEF A,B,#|*ENDIF #",
     "mark": "*S66 OFF|*S66 OFF|*S66 ON|*s66 off  remark|*S66\tON|*s66 \tOn ONE",
     "continuation": ",X1|, X2|,A BX6 X1|,|, SKIP 2|,Y MACRO|,Z ZR *|,N ENDM|,*LIST|, IFEQ LOOP+1,A,2",
     INSTRUCTION: "|".join(INSTRUCTIONS * 3) + "|SA6 K|SA7 K+Bj|SA6 Bj+K-K|SA7 Aj+K|SX1 K|SB1 Xj+K|SA1 K|SA5 Bj+K" * 8,
-    PAD: "NO|NO BX1|no LOOP+1",
+    "characters": "SXi ~|SXi Xj-~|SXi ~+Bj|SAi =~|SA6 Bj+~|SA7 =~+K|SBi Aj+~|SBi -~|LXi ~|MXi N-~|SXi K+~|SAi ~+~|SXi N~|BXi ~|NXi ~|SAi K,~",
+    PAD: "NO|NO BX1|no LOOP+1|NO ~",
     REFUSED: "|".join(wrong for wrong in WRONG if wrong[:2] not in ("NO", "BX")) + "|BX1|SA6 *+K|SA6 K-B1|SX2 K+*|NX1 K|SA7 *",
     "definition": "MACRO P,Q|MACROE|OPDEF P|ENDM|ENDM|ENDM|endm K|ENDMM|macro K|ECHO|ECHO ,R=(B2,B3)|ECHO 0|DUP 2|ENDD|ENDD",
-    "redefinition": "RXX*X OPDEF I|SXQ OPDEF I|IXX*X OPDEF I|BXX MACRO I|bxx opdef|SAA+Q OPDEF|OPDEF",
+    "redefinition": "RXX*X OPDEF I|SXQ OPDEF I|IXX*X OPDEF I|BX6 MACRO I|bxx opdef|SAA+Q OPDEF|OPDEF"
+    "|SX1 OPSYN SX2|BX7 CPSYN K|NO OPSYN NIL|no cpsyn|SA1 EQU 1",
     "end": "ENDD|ENDIF|END|IDENT K|ENDX|endif",
     "branch": "|".join(f"{word} *|{word} B1,B2,*+1|{word} X1,K|{word} X1,K-*|{word} X1,2**|{word} K,* X|{word}" for word in BRANCHES),
     OTHER: "BX8 X1|BX|SAl K|BX11 X1|BX99|SB1X X1|IX9X X1|N01|*S66 OFF|VFD 60/K,18/*|BSS K|DATA K|EQU K|X|EQU *|= *+1|EQU *-1|SET *|SBN 5",
@@ -156,7 +199,20 @@ SORTS = {  # lines, or operations and their operands, with # in the place of a c
     "count": "|".join(f"{word} {'A,' * commas}#" for word, commas in COMMAS.items()) + "|SKIP|DUP 2|IFEQ A,B|ECHO #|DUP K,#|IFEQ K,*,#"
     "|ECHO #,P=(A,B)|ECHO ,P|IFC EQ,/A/B/,#|IFC NE,$A$$,#|IFC EQ,/A/B/|IFC EQ,/A/#|IFC EQ,/A/B/#|IFC EQ,,A,B,,#|IFC EQ,/A B/C/,#"
     "|IFC EQ|IFC EQ,|IFC|IFC EQ,X1X1X,#|IF -DEF,K,#|SKIP #|ELSE #|IFC EQ,///,#|IFC EQ,* *A*,#|IFC EQ,*A B*C*|IFC EQ,*A*B* ,#",
+    "address": "SB7 K|SX1 K|SB7 B6+K|SX1 K-B7|SX2 X1|SB7 B7|SB6 B7+B1|JP B7|JP B7+K|JP B6|SA6 X1|SA1 X2+B1|SX1 B1|BX1 X2|BX2 X1|SA1 LOOP|SA6 A1|SX6 A1+B1"
+    "|SA2 TAG|SA2 A2+B1|SB2 *-K|EQU K|EQU L1-LOOP|SET TAG|= LOOP+1|IDENT K|END|EQ K|RJ K",
 }
+# Code that another line means, with | between lines and K in the place of a constant.
+MEANT = [
+    "  RJ L1|  BX6 X5|  SX7 X5+1|  SA1 K|  EQ K|L1 PS|  SA3 L1|  SB3 X3|  JP B3+B1", "  SA2 L1|  IX6 X2+X1|  SA6 A2|  RJ K|L1 SX3 0|  SA1 K|  BX6 X1",
+    "TAG MACRO P,Q|  CON P+Q|  ENDM|  TAG LOOP,1|LOOP SA1 B1|  SX7 X5", "TAG MACRO P,Q|  SX1 P-Q|  ENDM|  TAG LOOP|  TAG ,P=L1|LOOP SA1 B1|  SX7 X5",
+    "  SX1 LOOP|  SA6 X1|  EQ X|LOOP SX6 B1|  SA4 K|  BX5 X4", "  SB7 L1|  SB7 B7+B3|  JP B7|  SA6 A6+B1|  BX6 X1|  NO|L1 SA6 A6+B1|  EQ X",
+    "  SA1 LOOP|  SA2 A1+B1|TAG EQU L1-LOOP|LOOP SX6 B1|  SA4 K|L1 SX7 1|  SX6 3", "  SA6 TAG|  RJ K|TAG EQU LOOP+1|LOOP SX6 B1|  SA4 K|  BX5 X4",
+    "  EQ X|TAG SA1 0|  SX2 X5|  SA3 0|LOOP CON K", "  SX1 1|  SX2 2|+ RE B2|  SX3 1|  SX4 X1", "  NO|  NO|  NO|  NO|  SA1 B1",
+    "L1 SX1 B1|  SX2 B2|  IDENT|LOOP SX3 B3|  SX4 B4|  IDENT|  SA1 LOOP+L1+B1", "LOOP SX1 B1|  SX2 B2|  JP K|  CON K|  XJ X1,LOOP-*|  SX3 B3|  SX4 B4",
+    "BXX OPDEF|  ENDM", " SAA+Q OPDEF P|  SA1 P|  ENDM", "SXX+Q OPDEF|  ENDM|  SX1 X2+K", "SBQ OPDEF|  ENDM|  SB1 K|  SB2 K+B3", "LXQ OPDEF|  ENDM|MXQ OPDEF|  ENDM",
+    "  MACRO SX6,P|  ENDM", "BX1 MACRO|  BX6 X1|  ENDM|  BX1 X2", "SX1 OPSYN SX2|NO CPSYN NIL", "  SB4 B3+L1|  JP B4|L1 SX6 B1|  SX7 1",
+]
 
 
 def switched(text, by_line):
@@ -192,18 +248,40 @@ def switched_fault(program, text, words):
     return "" if (blocks, seen) == (heads, (*lint_of(lines), b"")) else f"{lines}: wanted {heads}, {lint_of(lines)}, and not {blocks}, {seen}"
 
 
+def characters():
+    """Characters with a count, or between two marks, of which the second may be missing; and what may stand behind them."""
+    held = choice("ABRX1 ") + "".join(choices("ABRX19 .+-*/,\t", [4, 4, 2, 2, 2, 1, 9, 1, 1, 1, 1, 1, 1, 1], k=choice([0, 1, 2, 3, 5, 8])))
+    mark, letter = choice("/*"), choice("ACHLRZCHLRB")
+    count = choice([len(held), len(held), len(held), 1, 2, 3, 10, 0, 150])
+    text = choice([f"{count}{letter}{held}", f"{count:02}{letter}{held}", f"={letter}{mark}{held}" + choice([mark, mark, mark, ""])])
+    return text + choice(["", "", "", " ", "  ", "+X1", " +X1", "-B2", " N", "  REMARK"])
+
+
+def guarded_fault(program, text, words):
+    """What is wrong with what `guard` prints, by itself, or nothing."""
+    output, status, _ = run(program, ["guard"], text)
+    if status:
+        return ""
+    if ADDED.sub(b"", output) != text + b"\n" * (text[-1:] not in (b"", b"\n")):
+        return f"{output}: without the lines that were added it isn't the source"
+    again = run(program, ["guard"], output)
+    is_whole = output.count(b"\n") > MOST_LINES or again == (output, 0, b"")
+    return "" if is_whole else f"{output}: guarded again it is {again}"
+
+
 def make_line(sort, labelled, lower, wide, returns):
     """A line of a sort: these are the chances of a label, of lower case, of some 200 bytes, and of carriage returns."""
-    text = choice(SORTS[sort].split("|")).replace("#", choice(COUNTS))
+    text = re.sub("~", lambda _: characters(), choice(SORTS[sort].split("|")).replace("#", choice(COUNTS)))
     if sort in ("column", "redefinition"):
         text = choice(["", "", " "]) + re.sub(r"\bK\b", lambda _: choice(CONSTANTS), text)
         text = text.lower() if random() < lower else text
     elif sort == OTHER or not re.match("[*, \t]|$", text):
-        text = re.sub("[ijk]", lambda _: choice("0123456767"), text) if sort in (INSTRUCTION, REFUSED, "word") else text
+        text = re.sub("[ijk]", lambda _: choice("0123456767"), text) if sort in (INSTRUCTION, REFUSED, "word", "characters") else text
         operation, _, operand = re.sub(r"\bK\b", lambda _: choice(CONSTANTS), text).partition(" ")
         label = choice(LABELS) if random() < labelled else ""
-        front = label + choice([" " * max(1, 10 - len(label)), "  ", "\t", "  \t "] * 4 + [" "] * bool(labelled)) + operation
-        front = front.ljust(choice([28, 29, 30])) if random() < 0.1 else front + choice([" ", " ", "\t", "   "])
+        begin = label + choice([" " * max(1, 10 - len(label)), "  ", "\t", "  \t "] * 4 + [" "] * bool(labelled))
+        front, far = begin + operation, choice([28, 29, 30, len(begin) + 18, len(begin) + 19])
+        front = front.ljust(far) if random() < 0.1 else front + choice([" ", " ", "\t", "   "])
         remark = choice(["", "", " ", " * LOOP+1", "  REMARK,2\t", "\tA\rB"]) if operand or sort != INSTRUCTION else ""
         text = (front + operand + remark).lower() if random() < lower else front + operand + remark
     more = choice([199, 200, 200, 201]) - len(text) if random() < wide else 0
@@ -213,13 +291,17 @@ def make_line(sort, labelled, lower, wide, returns):
 def make_source():
     """A source of some sorts of lines."""
     chances = choice([0, 0.2, 0.5]), choice([0, 0.2]), choice([0] * 7 + [0.05]), choice([0, 0, 0.3, 1])
-    sorts = choice([list(SORTS), ["count", "count", "definition", "end", "mark", "continuation", COMMENT]])
+    sorts = choice([list(SORTS), ["count", "count", "counting", "definition", "end", "mark", "continuation", COMMENT],
+                    [INSTRUCTION, PAD, "word", "address", "branch", "mark"]])
     weights = {INSTRUCTION: choice([2, 4, 8]), **{sort: choice([0, 1, 1, 2, 4]) for sort in sorts if sort != INSTRUCTION}}
     weights.update(dict.fromkeys(["continuation", REFUSED, "mark"][: choice([0, 0, 1, 2, 2, 3])], 0))
     lines = [make_line(sort, *chances) for sort in choices(list(weights), weights.values(), k=choice([3, 8, 20, 50]))]
     if random() < 0.04:  # blocks of about 128 instructions
         sorts, more = [INSTRUCTION] * 60 + choice([[], [PAD, COMMENT], [PAD, "directive"]]), choice([128, 128, 256])
         lines += [make_line(choice(sorts), 0, *chances[1:]) for _ in range(more + choice(range(-3, 9)))] + lines[:5]
+    if random() < 0.3:
+        at, meant = choice(range(len(lines))), choice(MEANT).split("|")
+        lines[at:at] = [re.sub(r"\bK\b", lambda _: choice(CONSTANTS), line) for line in meant if random() < 0.95]
     if random() < 0.006:
         lines += [" "] * (MOST_LINES - len(lines)) + choice([[], [""], ["*" * 201], [" ", "*" * 201]])
     return "\n".join(lines).encode("latin-1") + b"\n" * (random() < 0.7)
@@ -237,6 +319,18 @@ def command_fault(program, text, words):
     return fault and f"{seen}; {fault}"
 
 
+def listed_faults(program, text, rows, off):
+    """Prints what is listed or switched off of a source otherwise than its row says; returns 1 if something is, else 0."""
+    source = text.replace("|", "\n").encode()
+    wanted = "".join(f"LINE {row}\n" for row in rows.split(";") if row).encode()
+    guarded = guard_of(source)[0]
+    switched_off = [number for number, line in enumerate((line for line in Source(guarded).lines if "GUARD" not in line.text), 1) if line.is_off]
+    seen = lint_of(source)[0], run(program, ["lint"], source)[0], run(program, ["guard"], source)[0]
+    is_right = seen == (wanted, wanted, guarded) and switched_off == off
+    print("" if is_right else f"{text}: {seen}, {switched_off}, and not {wanted}, {off}\n", end="")
+    return int(not is_right)
+
+
 def smaller(lines, is_wrong):
     """Fewer lines that are wrong as well."""
     for size in (10_000, 1000, 100, 10, 1):
@@ -248,9 +342,10 @@ def smaller(lines, is_wrong):
 
 def mismatches(program, source):
     """What each command does otherwise than wanted, and without --cut a source with switches, with a small source that shows it."""
-    for words in COMMANDS + SWITCHED:
+    for words in COMMANDS + SWITCHED + GUARDED:
         def fault(lines):
-            return (switched_fault if words in SWITCHED else command_fault)(program, b"".join(lines), words)
+            find = switched_fault if words in SWITCHED else guarded_fault if words in GUARDED else command_fault
+            return find(program, b"".join(lines), words)
         if fault([source]):
             lines = smaller(re.findall(b"[^\n]*\n|[^\n]+", source), fault)
             yield words, b"".join(lines), fault(lines)
@@ -267,6 +362,8 @@ def main():
         told = "".join("-co"[off + cut] for off, cut in zip(source.left_alone(False), source.left_alone(True)))
         wrong += told != marks
         print(f"{text}: {told}, and not {marks}\n" if told != marks else "", end="")
+    for text, rows, off in LISTED:
+        wrong += listed_faults(asked.program, text, rows, off)
     seed(asked.seed)
     for number in range(1, asked.count + 1):
         source = make_source()
@@ -276,7 +373,7 @@ def main():
             with open(name, "wb") as file:
                 file.write(small)
             print(f"{' '.join(words)} < {name}: {small}: {fault}")
-    runs = len(EXAMPLES) + asked.count * len(COMMANDS + SWITCHED)
+    runs = len(EXAMPLES + LISTED) + asked.count * len(COMMANDS + SWITCHED + GUARDED)
     told = ", ".join(f"{what} {n}" for what, n in sorted(counts.items()))
     print(f"{runs - wrong} passed, {wrong} failed ({asked.count} sources; lint: {told})")
     return 1 if wrong else 0

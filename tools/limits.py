@@ -80,7 +80,7 @@ def spaces(is_quick):
 
 
 def check_memory(checks, program, pool, is_quick):
-    rows = [([word], SOURCE) for word in ("time", "deps", "chart", "lint")]
+    rows = [([word], SOURCE) for word in ("time", "deps", "chart", "lint", "guard")]
     rows += [(["check"], run([program, "prove", "--workers", "1"], SOURCE)[1])]
     rows += [([*words, "--workers", workers], SOURCE) for words in SEARCHES for workers in ("1", "4", "16")]
     for words, given in rows:
@@ -141,7 +141,7 @@ def check_devices(checks, program):
     for word in manual.commands_in(manual.kept()):
         for name, file in (("closed", None), ("a folder", folder), ("a pipe that says nothing yet", silent)):
             checks.look(f"{word}: input is {name}", "", with_files(program, [word], b"", {0: file}), UNREAD)
-    for word in ("time", "deps", "chart", "page", "json", "order", "prove", "sum", "--help"):
+    for word in ("time", "deps", "chart", "page", "json", "order", "prove", "sum", "guard", "--help"):
         for name, file in (("closed", None), ("full", full), ("a pipe without a reader", before)):
             for given in (SOURCE, LONG) if word == "chart" else (SOURCE,):
                 checks.look(f"{word}: output is {name}", "", with_files(program, [word], given, {1: file}), GONE if file == before else UNWRITTEN)

@@ -80,6 +80,8 @@ def rows():
     yield ["time", "--profile", '{"load":0}'], SOURCE, {3}
     yield ["lint"], SOURCE, {0}
     yield ["lint", "--cut"], SOURCE, {0}
+    yield ["guard"], SOURCE, {0}
+    yield ["guard"], REFUSED_SOURCE, {0}
     yield ["compare"], SOURCE + "*S66 NEW\n" + SOURCE, {0}
     yield ["compare"], SOURCE + "*S66 NEW\n" + REFUSED_SOURCE, {3}
     yield ["lint"], REFUSED_SOURCE, {5}
