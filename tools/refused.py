@@ -78,8 +78,8 @@ def rows():
         yield words, REFUSED_SOURCE, {3}
     yield ["time", "--profile", '{"load":2,"units_multiply":3}'], SOURCE, {0}
     yield ["time", "--profile", '{"load":0}'], SOURCE, {3}
-    yield ["lint"], SOURCE, {0}
-    yield ["lint", "--cut"], SOURCE, {0}
+    yield ["lint"], SOURCE, {8}
+    yield ["lint", "--cut"], SOURCE, {8}
     yield ["guard"], SOURCE, {0}
     yield ["guard"], REFUSED_SOURCE, {0}
     yield ["compare"], SOURCE + "*S66 NEW\n" + SOURCE, {0}
