@@ -1,7 +1,9 @@
 -- Letters in upper case leave the classes of lines, and so the blocks of a source, as they are.
 use Rattle.std.proofs.Common.{◌≡◌, ◌==◌, ℕ, suc, Bool, true, false, cond, if◌then◌else◌, List, [], ◌∷◌, ◌++◌, map, refl, sym, ap, ap₂, ◌∙◌, lit<, Option, None, Some}
 use Rattle.s66_line.specs.Fields.{last_line, lines_from, lines_of, upper, body, from_operation, label_bytes}
-use Rattle.s66_source.specs.LeftAlone.{Reading, Flagged, at_first, class_at, flagged_from, flagged_lines}
+use Rattle.s66_source.specs.LeftAlone.{Reading, Flagged, at_first, class_at, flagged_from, flagged_lines, redefined_by}
+use Rattle.s66_source.specs.Redefined.{nothing_redefined, redefined_in}
+use Rattle.s66_source.proofs.RedefinedCase.{redefined-upper_lines}
 use Rattle.s66_source.specs.Source.{Line, run_at, run_after, place_at, place_after, label_at, label_after, classes_from, classed_lines, refusal_at, refusal, instructions, begins_block, put_before, parts_of, entry_of, label_in, block_of, blocks_of, unless_refused, source_of}
 use Rattle.s66_line.specs.Block.{Entry, Block}
 use Rattle.s66_line.specs.Class.{is_instruction, is_code, begins_run, ends_run, instr_in}
@@ -121,10 +123,14 @@ same-blocks lines =
 abbrev upper_text : Reading → Reading
 upper_text source = record { cut = source.cut; text = upper source.text }
 
+same-redefined : (source : Reading) → redefined_by (upper_text source) ≡ redefined_by source
+same-redefined source = ap (λ known. if source.cut then known else nothing_redefined) (ap redefined_in (upper-lines [] source.text) ∙ redefined-upper_lines (lines_of source.text))
+
 same-lines : (source : Reading) → classed_lines (upper_text source) ≡ map upper_line (classed_lines source)
 same-lines source =
-    ap (λ lines. classes_from 1 0 0 [] false (flagged_from source.cut at_first lines)) (upper-lines [] source.text)
-    ∙ ap (classes_from 1 0 0 [] false) (upper-flagged source.cut at_first (lines_of source.text))
+    ap (λ lines. classes_from 1 0 0 [] false (flagged_from source.cut (at_first (redefined_by (upper_text source))) lines)) (upper-lines [] source.text)
+    ∙ ap (λ known. classes_from 1 0 0 [] false (flagged_from source.cut (at_first known) (map upper (lines_of source.text)))) (same-redefined source)
+    ∙ ap (classes_from 1 0 0 [] false) (upper-flagged source.cut (at_first (redefined_by source)) (lines_of source.text))
     ∙ upper-classed (flagged_lines source) 1 0 0 [] false
 
 same-read : (e : Option SourceError) (blocks : List Block) → unless_refused e (map upper_block blocks) ≡ upper_read (unless_refused e blocks)

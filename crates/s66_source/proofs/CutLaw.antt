@@ -8,35 +8,40 @@ use Rattle.s66_line.specs.Class.{by_operation, class_of, is_code, is_located}
 use Rattle.s66_line.specs.Fields.{body, continues, is_comment, lines_of, from_operation}
 use Rattle.s66_line.specs.declared.class.Class.{Class}
 use Rattle.s66_line.specs.declared.class.Class.TheVariants.{Comment, Other, Refused, Pad, Instruction}
-use Rattle.s66_source.specs.LeftAlone.{Flagged, after_line, at_first, class_at, flagged_from, is_alone, is_continued, is_held, is_off_switch, is_on_switch, is_refused}
+use Rattle.s66_source.specs.LeftAlone.{Flagged, after_line, at_first, class_at, flagged_from, is_alone, is_continued, is_held, is_doubtful, is_far, is_off_switch, is_on_switch, redefined_by}
+use Rattle.s66_source.specs.Redefined.{Redefined, is_redefined}
 use Rattle.s66_source.specs.Source.{blocks_of, classed_lines, classes_from, label_after, operand_refusal, or_else, place_after, refusal, run_after, source_of, unless_refused}
 use Rattle.s66_source.specs.declared.error.SourceError.{SourceError}
 use Rattle.s66_source.specs.declared.error.SourceError.TheVariants.{BadOperand, LineTooLong, TooLarge}
-use Rattle.s66_source.specs.declared.standing.Standing.{Standing}
+use Rattle.s66_source.specs.LeftAlone.{Standing}
 
 -- WITH `--cut` what would be refused is left alone
 
-by-refused : (number : ℕ) (c : Class) → operand_refusal number (if is_refused c then Other else c) ≡ None
-by-refused number Comment = refl
-by-refused number Other = refl
-by-refused number Refused = refl
-by-refused number (Pad located) = refl
-by-refused number (Instruction located n) = refl
+of-two : (number : ℕ) (first : Bool) (c : Class) → operand_refusal number c ≡ None → operand_refusal number (if first then Other else c) ≡ None
+of-two number true c taken = refl
+of-two number false c taken = taken
 
-by-fields : (number : ℕ) (comment comma after : Bool) (c : Class) →
-    operand_refusal number (if is_refused (if comment then Comment else (if comma then Refused else c)) then Other
+by-class : (number : ℕ) (known : Redefined) (c : Class) (line : List ℕ) → operand_refusal number (if is_doubtful known c line then Other else c) ≡ None
+by-class number known Comment line = refl
+by-class number known Other line = refl
+by-class number known Refused line = refl
+by-class number known (Pad located) line = of-two number (is_redefined known (from_operation line)) (Pad located) refl
+by-class number known (Instruction located n) line = of-two number (is_redefined known (from_operation line) || is_far line) (Instruction located n) refl
+
+by-fields : (number : ℕ) (known : Redefined) (comment comma after : Bool) (c : Class) (line : List ℕ) →
+    operand_refusal number (if is_doubtful known (if comment then Comment else (if comma then Refused else c)) line then Other
     else (if comment then Comment else (if comma then (if after then Refused else Other) else c))) ≡ None
-by-fields number true comma after c = refl
-by-fields number false true after c = refl
-by-fields number false false after c = by-refused number c
+by-fields number known true comma after c line = refl
+by-fields number known false true after c line = refl
+by-fields number known false false after c line = by-class number known c line
 
-none-held : (number : ℕ) (held after : Bool) (line : List ℕ) → operand_refusal number (if held || is_refused (class_of true line) then Other else class_of after line) ≡ None
-none-held number true after line = refl
-none-held number false after line =
-    by-fields number (is_comment (body line)) (continues (body line)) after (by_operation (is_located (body line)) (from_operation (body line)))
+none-held : (number : ℕ) (known : Redefined) (held after : Bool) (line : List ℕ) → operand_refusal number (if held || is_doubtful known (class_of true line) (body line) then Other else class_of after line) ≡ None
+none-held number known true after line = refl
+none-held number known false after line =
+    by-fields number known (is_comment (body line)) (continues (body line)) after (by_operation (is_located (body line)) (from_operation (body line))) (body line)
 
 pub none-refused : (number : ℕ) (after continued : Bool) (s : Standing) (line : List ℕ) → operand_refusal number (class_at after (record { alone = is_alone true s line continued; bytes = line })) ≡ None
-none-refused number after continued s line = none-held number (is_held true s line continued) after line
+none-refused number after continued s line = none-held number s.redefined (is_held true s line continued) after line
 
 -- it is refused, if at all, for another reason
 abbrev IsOther : Option SourceError → Type 0
@@ -66,7 +71,7 @@ not-operand (Some e') blocks line h e = cc
 
 pub no-operand : (text : List ℕ) (line : ℕ) → source_of (record { cut = true; text = text }) ≡ Err (BadOperand line) → ⊥
 no-operand text line e =
-    not-operand (refusal (classed_lines (record { cut = true; text = text }))) (blocks_of (classed_lines (record { cut = true; text = text }))) line (other-refusal (lines_of text) 1 0 0 [] false at_first) e
+    not-operand (refusal (classed_lines (record { cut = true; text = text }))) (blocks_of (classed_lines (record { cut = true; text = text }))) line (other-refusal (lines_of text) 1 0 0 [] false (at_first (redefined_by (record { cut = true; text = text })))) e
 
 -- WITHOUT IT, and without a switch
 

@@ -5,7 +5,7 @@ use Rattle.std.proofs.lemmas.List.{length-map}
 use Rattle.s66_line.specs.Block.{Block}
 use Rattle.s66_line.specs.Class.{is_code, is_instruction}
 use Rattle.s66_line.specs.Fields.{lines_of}
-use Rattle.s66_source.specs.LeftAlone.{Flagged, Reading, at_first, class_at, flagged_lines}
+use Rattle.s66_source.specs.LeftAlone.{Flagged, Reading, at_first, class_at, flagged_lines, redefined_by}
 use Rattle.s66_source.specs.Source.{Line, begins_block, block_of, classed_lines, classes_from, instructions, label_after, parts_of, place_after, put_before, run_after, source_of}
 use Rattle.s66_source.specs.declared.limits.TheConstants.{SOURCE_LINES_LIMIT}
 use Rattle.s66_source.proofs.FlaggedLines.{length-flagged}
@@ -40,4 +40,4 @@ few-blocks source blocks accepted =
     let all = classed_lines source in
     let parts = parts_of (instructions all) in
     let made : length blocks ≡ length parts = ap (λ (bs : List Block). length bs) (sym (accepted-is source blocks accepted)) ∙ length-map parts block_of in
-    omega (arith, made, length-parts (instructions all), length-kept all, length-classed (flagged_lines source) 1 0 0 [] false, length-flagged source.cut at_first (lines_of source.text), few-lines source blocks accepted)
+    omega (arith, made, length-parts (instructions all), length-kept all, length-classed (flagged_lines source) 1 0 0 [] false, length-flagged source.cut (at_first (redefined_by source)) (lines_of source.text), few-lines source blocks accepted)

@@ -1,9 +1,8 @@
 -- The lines of a text, each flagged as left alone or not.
-use Rattle.std.proofs.Common.{◌≡◌, ◌==◌, ℕ, suc, true, false, Bool, if◌then◌else◌, List, [], ◌∷◌, ◌++◌, length, map, refl, ap, ◌∙◌}
-use Rattle.std.proofs.lemmas.Bool.{eqb-true, cond_both}
-use Rattle.s66_line.specs.Fields.{continues, lines_from}
+use Rattle.std.proofs.Common.{◌≡◌, ◌&&◌, ℕ, suc, true, false, Bool, List, [], ◌∷◌, length, map, refl, sym, ap, ◌∙◌}
+use Rattle.s66_line.specs.Fields.{lines_from}
 use Rattle.s66_source.specs.LeftAlone.{Flagged, after_line, is_alone, is_continued, flagged_from}
-use Rattle.s66_source.specs.declared.standing.Standing.{Standing}
+use Rattle.s66_source.specs.LeftAlone.{Standing}
 
 -- THE LINES THEMSELVES are those of the text
 
@@ -15,23 +14,16 @@ pub length-flagged : (cut : Bool) (s : Standing) (lines : List (List ℕ)) → l
 length-flagged cut s [] = refl
 length-flagged cut s (line ∷ lines) = ap suc (length-flagged cut (after_line cut s line) lines)
 
--- THE NEXT LINE continues one if a comma comes next
+-- A LINE THAT IS CONTINUED
 
-begun-continues : (b : ℕ) (line rest : List ℕ) → is_continued (lines_from (b ∷ line) rest) ≡ (b == 44)
-begun-continues b line [] = refl
-begun-continues b line (c ∷ rest) =
-    elim (c == 10) as (λ t. is_continued (if t then (b ∷ line) ∷ lines_from [] rest else lines_from (b ∷ (line ++ c ∷ [])) rest) ≡ (b == 44))
-    [ true ↦ refl | false ↦ begun-continues b (line ++ c ∷ []) rest ]
-
-pub continued-next : (rest : List ℕ) → is_continued (lines_from [] rest) ≡ continues rest
-continued-next [] = refl
-continued-next (b ∷ rest) =
-    cond_both (b == 10) ([] ∷ lines_from [] rest) (lines_from (b ∷ []) rest) (λ lines. is_continued lines ≡ (b == 44))
-    (λ newline. rw (eqb-true b 10 newline) refl)
-    (λ later. begun-continues b [] rest)
+-- without `--cut` it is the same whether it is
+pub same-alone : (cut : Bool) (s : Standing) (line : List ℕ) (continued other : Bool) → (cut && continued) ≡ (cut && other) → is_alone cut s line continued ≡ is_alone cut s line other
+same-alone true s line continued other same = ap (is_alone true s line) same
+same-alone false s line continued other same = refl
 
 -- the first line of a text, and then those after it
-pub flagged-found : (cut : Bool) (s : Standing) (text line more : List ℕ) → lines_from [] text ≡ line ∷ lines_from [] more →
-    flagged_from cut s (lines_from [] text) ≡ record { alone = is_alone cut s line (continues more); bytes = line } ∷ flagged_from cut (after_line cut s line) (lines_from [] more)
-flagged-found cut s text line more is =
-    ap (flagged_from cut s) is ∙ ap (λ next. record { alone = is_alone cut s line next; bytes = line } ∷ flagged_from cut (after_line cut s line) (lines_from [] more)) (continued-next more)
+pub flagged-found : (cut : Bool) (s : Standing) (text line more : List ℕ) (continued : Bool) → lines_from [] text ≡ line ∷ lines_from [] more → (cut && continued) ≡ (cut && is_continued (lines_from [] more)) →
+    flagged_from cut s (lines_from [] text) ≡ record { alone = is_alone cut s line continued; bytes = line } ∷ flagged_from cut (after_line cut s line) (lines_from [] more)
+flagged-found cut s text line more continued is same =
+    ap (flagged_from cut s) is
+    ∙ ap (λ alone. record { alone = alone; bytes = line } ∷ flagged_from cut (after_line cut s line) (lines_from [] more)) (sym (same-alone cut s line continued (is_continued (lines_from [] more)) same))

@@ -10,14 +10,14 @@ use Rattle.s66_line.specs.declared.class.Class.{Class}
 use Rattle.s66_line.specs.declared.limits.TheConstants.{LINE_BYTES_LIMIT}
 use Rattle.s66_source.specs.Frame.{FramePart, block_part, frame_of, frame_of_lines, is_beside, line_part, part_beside}
 use Rattle.s66_source.specs.Framer.{Framer, after_framed, begins_block, first_part, flagged_next, frame_from, framed, is_short, part_at}
-use Rattle.s66_source.specs.LeftAlone.{Flagged, Reading, after_line, at_first, class_at, flagged_lines}
+use Rattle.s66_source.specs.LeftAlone.{Flagged, Reading, after_line, at_first, class_at, flagged_lines, is_continued, redefined_by}
 use Rattle.s66_source.specs.Keeper.{begins_with}
 use Rattle.s66_source.specs.Keeping.{others}
 use Rattle.s66_source.specs.Roles.{has_block, is_dropped, is_other_class, is_pad_class, lines_that}
 use Rattle.s66_source.specs.Source.{Line, blocks_of, classed_lines, classes_from, label_after, label_at, operand_refusal, place_after, place_at, refusal, run_after, run_at, source_of}
 use Rattle.s66_source.specs.declared.error.SourceError.{SourceError}
 use Rattle.s66_source.specs.declared.error.SourceError.TheVariants.{LineTooLong, TooLarge}
-use Rattle.s66_source.specs.declared.standing.Standing.{Standing}
+use Rattle.s66_source.specs.LeftAlone.{Standing}
 use Rattle.s66_source.specs.declared.limits.TheConstants.{SOURCE_LINES_LIMIT}
 use Rattle.s66_source.proofs.FlaggedLines.{bytes-flagged, flagged-found}
 use Rattle.s66_source.proofs.LineLaw.{neither, no_refusal}
@@ -27,11 +27,11 @@ use Rattle.s66_source.proofs.PrintedLines.{accepted-is}
 -- LINE BY LINE
 
 -- the first line, and then those after it
-pub framed-found : (f : Framer) (out : List FramePart) (text line more : List ℕ) → lines_from [] text ≡ line ∷ lines_from [] more →
-    (out ++ part_at f (flagged_next f (continues more) line)) ++ framed (after_framed f (flagged_next f (continues more) line)) (lines_from [] more) ≡ out ++ framed f (lines_from [] text)
-framed-found f out text line more cut =
-    let next = flagged_next f (continues more) line in
-    append_assoc out (part_at f next) (framed (after_framed f next) (lines_from [] more)) ∙ ap (λ lines. out ++ frame_from f lines) (sym (flagged-found f.cut f.standing text line more cut))
+pub framed-found : (f : Framer) (out : List FramePart) (text line more : List ℕ) (continued : Bool) → lines_from [] text ≡ line ∷ lines_from [] more → (f.cut && continued) ≡ (f.cut && is_continued (lines_from [] more)) →
+    (out ++ part_at f (flagged_next f continued line)) ++ framed (after_framed f (flagged_next f continued line)) (lines_from [] more) ≡ out ++ framed f (lines_from [] text)
+framed-found f out text line more continued cut same =
+    let next = flagged_next f continued line in
+    append_assoc out (part_at f next) (framed (after_framed f next) (lines_from [] more)) ∙ ap (λ lines. out ++ frame_from f lines) (sym (flagged-found f.cut f.standing text line more continued cut same))
 
 -- the first line is short, and so are those after it
 pub short-found : (text line more : List ℕ) → lines_from [] text ≡ line ∷ lines_from [] more → every is_short (lines_from [] text) ≡ true → (length line ≤ LINE_BYTES_LIMIT) × (every is_short (lines_from [] more) ≡ true)
@@ -56,7 +56,7 @@ short-from (line ∷ lines) number run index label after taken =
 
 pub short-lines : (source : Reading) (blocks : List Block) → source_of source ≡ Ok blocks → every is_short (lines_of source.text) ≡ true
 short-lines source blocks accepted =
-    ap (every is_short) (sym (bytes-flagged source.cut at_first (lines_of source.text)))
+    ap (every is_short) (sym (bytes-flagged source.cut (at_first (redefined_by source)) (lines_of source.text)))
     ∙ short-from (flagged_lines source) 1 0 0 [] false (no_refusal (refusal (classed_lines source)) (blocks_of (classed_lines source)) blocks accepted)
 
 -- a Pad with a block is no Pad without one
@@ -108,8 +108,8 @@ frame-lines all (line ∷ lines) cut standing blocks dropped after count run ind
         ]
 
 pub frame-read : (source : Reading) (blocks : List Block) → source_of source ≡ Ok blocks →
-    framed (record { cut = source.cut; standing = at_first; blocks = blocks; dropped = lines_that is_dropped source; after = false; lines = 0 }) (lines_of source.text) ≡ frame_of source
+    framed (record { cut = source.cut; standing = at_first (redefined_by source); blocks = blocks; dropped = lines_that is_dropped source; after = false; lines = 0 }) (lines_of source.text) ≡ frame_of source
 frame-read source blocks accepted =
     let all = classed_lines source in
-    frame-lines all (flagged_lines source) source.cut at_first blocks (lines_that is_dropped source) false 0 0 0 [] refl
+    frame-lines all (flagged_lines source) source.cut (at_first (redefined_by source)) blocks (lines_that is_dropped source) false 0 0 0 [] refl
     ∙ ap (λ bs. frame_of_lines all bs all) (sym (accepted-is source blocks accepted))

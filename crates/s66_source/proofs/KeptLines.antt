@@ -9,7 +9,7 @@ use Rattle.s66_isa.specs.Lists.{Among}
 use Rattle.s66_line.specs.Fields.{lines_from, lines_of}
 use Rattle.s66_line.specs.Block.{Block, Entry, line_of}
 use Rattle.s66_source.specs.Columns.{bytes_on, indent, indented_lines, indents}
-use Rattle.s66_source.specs.LeftAlone.{Reading, Flagged, at_first, class_at, flagged_lines}
+use Rattle.s66_source.specs.LeftAlone.{Reading, Flagged, at_first, class_at, flagged_lines, redefined_by}
 use Rattle.s66_source.specs.Source.{Line, run_after, place_after, label_after, classes_from, classed_lines, blocks_of, source_of}
 use Rattle.s66_line.specs.Class.{is_code}
 use Rattle.s66_source.specs.Roles.{is_dropped, is_leading, lines_that}
@@ -198,7 +198,7 @@ print-keeping quiet columns source blocks before given accepted =
     let numbered = numbered-classed (flagged_lines source) 1 0 0 [] false in
     ap (λ bs. kept_from (keeper quiet columns (at_start bs before given) [] (lines_that is_dropped source) (lines_that is_leading source) 0) (lines_of source.text)) (sym (accepted-is source blocks accepted))
     ∙ ap (λ lines. kept_from (keeper quiet columns (at_start (blocks_of all) before given) [] (lines_that is_dropped source) (lines_that is_leading source) 0) lines)
-    (sym (bytes-classed (flagged_lines source) 1 0 0 [] false ∙ bytes-flagged source.cut at_first (lines_of source.text)))
+    (sym (bytes-classed (flagged_lines source) 1 0 0 [] false ∙ bytes-flagged source.cut (at_first (redefined_by source)) (lines_of source.text)))
     ∙ kept-lines quiet columns all all (at_start (blocks_of all) before given) [] 0 numbered (theirs all 1 numbered) refl
 
 -- the text of a line up to a newline, and then of those after it

@@ -8,7 +8,7 @@ use Rattle.s66_isa.specs.Lists.{Among, some_of}
 use Rattle.s66_isa.specs.declared.instr.Instr.{Instr}
 use Rattle.s66_isa.proofs.Lists.{among-rest}
 use Rattle.s66_line.specs.Fields.{lines_of}
-use Rattle.s66_source.specs.LeftAlone.{Reading, Flagged, class_at, at_first, flagged_lines}
+use Rattle.s66_source.specs.LeftAlone.{Reading, Flagged, class_at, at_first, flagged_lines, redefined_by}
 use Rattle.s66_source.specs.Source.{Line, run_after, place_after, label_after, classes_from, classed_lines, refusal, refusal_at, operand_refusal, instructions, parts_of, entry_of, block_of, blocks_of, source_of}
 use Rattle.s66_line.specs.Block.{Entry, Block, line_of}
 use Rattle.s66_line.specs.Class.{is_instruction, is_code, ends_run}
@@ -758,4 +758,4 @@ few-from (line ∷ lines) count run index label after few taken =
 pub few-lines : (source : Reading) (blocks : List Block) → source_of source ≡ Ok blocks → length (lines_of source.text) ≤ SOURCE_LINES_LIMIT
 few-lines source blocks accepted =
     let few = few-from (flagged_lines source) 0 0 0 [] false (omega arith) (no_refusal (refusal (classed_lines source)) (blocks_of (classed_lines source)) blocks accepted) in
-    omega (arith, few, length-flagged source.cut at_first (lines_of source.text))
+    omega (arith, few, length-flagged source.cut (at_first (redefined_by source)) (lines_of source.text))

@@ -1,5 +1,5 @@
 -- The lines of a printed block, read again, are the block in its placed order.
-use Rattle.std.proofs.Common.{◌≡◌, ◌≤◌, ◌<◌, ◌+◌, ℕ, zero, suc, Bool, true, false, if◌then◌else◌, List, [], ◌∷◌, ◌++◌, Some, codes, length, map, refl, sym, ap, ◌∙◌, subst, inl, inr, arith, append_assoc, eqb}
+use Rattle.std.proofs.Common.{◌≡◌, ◌≤◌, ◌<◌, ◌+◌, ℕ, zero, suc, Bool, true, false, if◌then◌else◌, List, [], ◌∷◌, ◌++◌, Some, codes, length, map, refl, sym, ap, ◌∙◌, subst, inl, inr, arith, append_assoc, eqb, ap₂, ◌&&◌}
 use Rattle.std.specs.Prelude.{Ok, slice_get}
 use Rattle.std.proofs.lemmas.Bool.{and_right, ne_eqb, eqb-false}
 use Rattle.s66_isa.specs.declared.instr.Instr.{Instr}
@@ -19,49 +19,52 @@ use Rattle.s66_line.specs.declared.class.Class.TheVariants.{Instruction}
 use Rattle.s66_isa.specs.declared.limits.TheConstants.{BLOCK_LIMIT}
 use Rattle.s66_line.proofs.BlockEntries.{instr_at-entry}
 use Rattle.s66_source.proofs.ReadLine.{IsLabel, read-line, inside-line}
-use Rattle.s66_source.specs.LeftAlone.{is_alone, is_refused}
-use Rattle.s66_source.specs.declared.standing.Standing.{Standing}
+use Rattle.s66_source.specs.LeftAlone.{is_alone}
+use Rattle.s66_source.specs.Redefined.{Redefined}
+use Rattle.s66_source.proofs.FarOperands.{clear-printed, is_unclear}
+use Rattle.s66_source.specs.LeftAlone.{Standing}
 use Rattle.s66_source.proofs.Standings.{code-line, code-stays}
-use Rattle.s66_source.proofs.ReadStanding.{is_holding, not-alone, code-unflagged, continues-body, continues-line, IsQuiet}
-use Rattle.s66_source.proofs.ReadComments.{read_at, read-as, read-class, taken-class, Passes, passes-comments, comments-append, comments-report, AreLinesOfSource, comments-notes}
+use Rattle.s66_source.proofs.ReadStanding.{is_holding, not-alone, code-unflagged, continues-body, goes_on, goes-line, IsQuiet}
+use Rattle.s66_source.proofs.ReadComments.{read_at, read-as, read-class, taken-class, Comments, Passes, passes-comments, comments-append, comments-quiet, quiet-behind, comments-report, AreLinesOfSource, comments-notes}
 use Rattle.s66_source.proofs.ReaderBlocks.{labelled, length-push}
 use Rattle.s66_line.proofs.Wholes.{is_inside}
 
 -- ENTRIES that were read
 
-abbrev pub IsSound : Entry → Type 0
-IsSound e = SpellsAll e.bytes e.instr × (every is_inside e.bytes ≡ true)
+-- and aren't in doubt if a source redefines this
+abbrev pub IsSound : Bool → Redefined → Entry → Type 0
+IsSound cut known e = SpellsAll e.bytes e.instr × (every is_inside e.bytes ≡ true) × ((cut && is_unclear known e.bytes) ≡ false)
 
-abbrev pub AreSound : List Entry → Type 0
-AreSound [] = Unit {0}
-AreSound (e ∷ es) = IsSound e × AreSound es
+abbrev pub AreSound : Bool → Redefined → List Entry → Type 0
+AreSound cut known [] = Unit {0}
+AreSound cut known (e ∷ es) = IsSound cut known e × AreSound cut known es
 
 -- the bytes of a number spell its instruction
-abbrev pub IsSoundAt : Block → ℕ → Type 0
-IsSoundAt block n = SpellsAll (bytes_of block n) (instr_at (instrs_of block) n) × (every is_inside (bytes_of block n) ≡ true)
+abbrev pub IsSoundAt : Bool → Redefined → Block → ℕ → Type 0
+IsSoundAt cut known block n = SpellsAll (bytes_of block n) (instr_at (instrs_of block) n) × (every is_inside (bytes_of block n) ≡ true) × ((cut && is_unclear known (bytes_of block n)) ≡ false)
 
-record Found (entries : List Entry) (n : ℕ) : Type 0 where
+record Found (cut : Bool) (known : Redefined) (entries : List Entry) (n : ℕ) : Type 0 where
   entry : Entry
   here : slice_get entries n ≡ Some entry
-  sound : IsSound entry
+  sound : IsSound cut known entry
 
-found : (entries : List Entry) (n : ℕ) → AreSound entries → n < length entries → Found entries n
-found [] n h few = absurd (omega (arith, few))
-found (e ∷ es) zero h few = record { entry = e; here = refl; sound = h.0 }
-found (e ∷ es) (suc n) h few =
-    let later = found es n h.1 (omega (arith, few)) in
+found : (cut : Bool) (known : Redefined) (entries : List Entry) (n : ℕ) → AreSound cut known entries → n < length entries → Found cut known entries n
+found cut known [] n h few = absurd (omega (arith, few))
+found cut known (e ∷ es) zero h few = record { entry = e; here = refl; sound = h.0 }
+found cut known (e ∷ es) (suc n) h few =
+    let later = found cut known es n h.1 (omega (arith, few)) in
     record { entry = later.entry; here = later.here; sound = later.sound }
 
 pub bytes_of-entry : (block : Block) (n : ℕ) (e : Entry) → entry_at block n ≡ Some e → bytes_of block n ≡ e.bytes
 bytes_of-entry block n e here = rw here refl
 
-pub sound-at : (block : Block) (n : ℕ) → AreSound block.entries → 1 ≤ n → n ≤ length block.entries → IsSoundAt block n
-sound-at block zero h some few = absurd (omega (arith, some))
-sound-at block (suc n) h some few =
-    let there = found block.entries n h (omega (arith, few)) in
+pub sound-at : (cut : Bool) (known : Redefined) (block : Block) (n : ℕ) → AreSound cut known block.entries → 1 ≤ n → n ≤ length block.entries → IsSoundAt cut known block n
+sound-at cut known block zero h some few = absurd (omega (arith, some))
+sound-at cut known block (suc n) h some few =
+    let there = found cut known block.entries n h (omega (arith, few)) in
     let bytes = bytes_of-entry block (suc n) there.entry there.here in
     let instr = instr_at-entry block (suc n) there.entry there.here in
-    (subst (λ i. SpellsAll (bytes_of block (suc n)) i) instr (subst (λ bs. SpellsAll bs there.entry.instr) (sym bytes) there.sound.0), ap (every is_inside) bytes ∙ there.sound.1)
+    (subst (λ i. SpellsAll (bytes_of block (suc n)) i) instr (subst (λ bs. SpellsAll bs there.entry.instr) (sym bytes) there.sound.0), ap (every is_inside) bytes ∙ there.sound.1, ap (λ bs. cut && is_unclear known bs) bytes ∙ there.sound.2)
 
 -- AN INSTRUCTION LINE
 
@@ -73,24 +76,24 @@ same-run : (t : Bool) (label other : List ℕ) (s : SourceState) → (t ≡ true
 same-run true label other s h = ap (λ l. begin_run_if true l s) (h refl)
 same-run false label other s h = refl
 
--- it begins with no comma
-pub quiet-instruction : (cut : Bool) (label bytes : List ℕ) (n : Instr) (text : List ℕ) → IsLabel label → SpellsAll bytes n → IsQuiet cut (instruction_line label bytes ++ text)
-quiet-instruction cut label bytes n text is spells =
+-- it begins with no comma, and is no comment
+pub quiet-instruction : (cut : Bool) (label bytes : List ℕ) (n : Instr) (text : List ℕ) → IsLabel label → SpellsAll bytes n → every is_inside bytes ≡ true → IsQuiet cut (instruction_line label bytes ++ text)
+quiet-instruction cut label bytes n text is spells inside =
     let line : List ℕ = label_field label ++ trim is_trailing bytes in
     let parts = code-line false line (ap is_code ((read-line label bytes n is spells).classed false)) in
-    and_right cut (continues (instruction_line label bytes ++ text))
-    (ap continues (append_assoc line (codes "\n") text) ∙ continues-line line text ∙ sym (continues-body line) ∙ parts.1)
+    and_right cut (goes_on (instruction_line label bytes ++ text))
+    (goes-line line text (inside-line label bytes is.1 inside) ∙ ap₂ (λ comment comma. if comment then goes_on text else comma) parts.0 (sym (continues-body line) ∙ parts.1))
 
-read-instruction : (cut : Bool) (s : Standing) (label bytes : List ℕ) (n : Instr) (t : SourceState) (text : List ℕ) (again : List Block) → is_holding cut s ≡ false → IsQuiet cut text → IsLabel label → SpellsAll bytes n → every is_inside bytes ≡ true →
+read-instruction : (cut : Bool) (s : Standing) (label bytes : List ℕ) (n : Instr) (t : SourceState) (text : List ℕ) (again : List Block) → is_holding cut s ≡ false → IsQuiet cut text → IsLabel label → SpellsAll bytes n → every is_inside bytes ≡ true → (cut && is_unclear s.redefined bytes) ≡ false →
     read_at cut s t (instruction_line label bytes ++ text) ≡ Ok again → read_at cut s (count_line true (with_entry n (trim is_trailing bytes) (begun label t))) text ≡ Ok again
-read-instruction cut s label bytes n t text again free quiet is spells inside h =
+read-instruction cut s label bytes n t text again free quiet is spells inside clear h =
     let line : List ℕ = label_field label ++ trim is_trailing bytes in
     let c : Class = Instruction (is_filled label) n in
     let r = read-line label bytes n is spells in
-    let alone = not-alone cut s line (continues text) free (code-unflagged cut line (code-line false line (ap is_code (r.classed false))).0) quiet (ap is_refused (r.classed true)) in
-    let stated = taken-class t.after (is_alone cut s line (continues text)) line c alone (r.classed t.after) in
+    let alone = not-alone cut s line (goes_on text) free (code-unflagged cut line (code-line false line (ap is_code (r.classed false))).0) quiet (clear-printed cut s.redefined label bytes n is spells clear) in
+    let stated = taken-class t.after (is_alone cut s line (goes_on text)) line c alone (r.classed t.after) in
     let step = subst (λ stands. read_at cut stands (count_line true (with_entry n (from_operation (body line)) (begin_run_if (is_filled label) (label_bytes (body line)) t))) text ≡ Ok again)
-    (code-stays cut (continues text) t.after s line (ap is_code stated))
+    (code-stays cut (goes_on text) t.after s line (ap is_code stated))
     (read-class cut s t line text c again (inside-line label bytes is.1 inside) stated h) in
     ap (λ u. read_at cut s (count_line true (with_entry n (trim is_trailing bytes) u)) text) (sym (same-run (is_filled label) (label_bytes (body line)) label t r.labelled))
     ∙ ap (λ bs. read_at cut s (count_line true (with_entry n bs (begin_run_if (is_filled label) (label_bytes (body line)) t))) text) (sym r.left)
@@ -155,12 +158,12 @@ fed-more cut s block n ns t text again rest = record {
 }
 
 feed : (cut : Bool) (s : Standing) (block : Block) (n : ℕ) (ns : List ℕ) (label : List ℕ) (t : SourceState) (text : List ℕ) (again : List Block) → is_holding cut s ≡ false → IsQuiet cut text → IsLabel label →
-    ((k : ℕ) → Among k (n ∷ ns) → IsSoundAt block k) → length (begun label t).entries + length (n ∷ ns) ≤ BLOCK_LIMIT →
+    ((k : ℕ) → Among k (n ∷ ns) → IsSoundAt cut s.redefined block k) → length (begun label t).entries + length (n ∷ ns) ≤ BLOCK_LIMIT →
     read_at cut s t (instruction_lines block label (n ∷ ns) ++ text) ≡ Ok again → Fed cut s block (n ∷ ns) (begun label t) text again
 feed cut s block n [] label t text again free quiet is sound few h =
     let u : SourceState = begun label t in
     let here = sound n (inl refl) in
-    let next = read-instruction cut s label (bytes_of block n) (instr_at (instrs_of block) n) t text again free quiet is here.0 here.1
+    let next = read-instruction cut s label (bytes_of block n) (instr_at (instrs_of block) n) t text again free quiet is here.0 here.1 here.2
     (read-as cut s t _ _ again (append_assoc (instruction_line label (bytes_of block n)) [] text) h) in
     fed-last (eqb (length (u.entries ++ entry_now block n u ∷ [])) BLOCK_LIMIT) cut s block n u text again refl next
 feed cut s block n (m ∷ ns) label t text again free quiet is sound few h =
@@ -168,7 +171,11 @@ feed cut s block n (m ∷ ns) label t text again free quiet is sound few h =
     let e : Entry = entry_now block n u in
     let here = sound n (inl refl) in
     let later : List ℕ = instruction_lines block [] (m ∷ ns) ++ text in
-    let next = read-instruction cut s label (bytes_of block n) (instr_at (instrs_of block) n) t later again free (and_right cut (continues later) refl) is here.0 here.1
+    let after = sound m (inr (inl refl)) in
+    let quiet_later : IsQuiet cut later =
+    subst (IsQuiet cut) (sym (append_assoc (instruction_line [] (bytes_of block m)) (instruction_lines block [] ns) text))
+    (quiet-instruction cut [] (bytes_of block m) (instr_at (instrs_of block) m) (instruction_lines block [] ns ++ text) (refl, refl) after.0 after.1) in
+    let next = read-instruction cut s label (bytes_of block n) (instr_at (instrs_of block) n) t later again free quiet_later is here.0 here.1 here.2
     (read-as cut s t _ _ again (append_assoc (instruction_line label (bytes_of block n)) (instruction_lines block [] (m ∷ ns)) text) h) in
     let more : eqb (length (u.entries ++ e ∷ [])) BLOCK_LIMIT ≡ false = ne_eqb (length (u.entries ++ e ∷ [])) BLOCK_LIMIT (λ all. absurd (omega (arith, all, few, length-push u.entries e))) in
     let rest = feed cut s block m ns [] (count_line true (with_one e u)) text again free quiet (refl, refl) (λ k among. sound k (inr among)) (omega (arith, few, length-push u.entries e))
@@ -176,6 +183,27 @@ feed cut s block n (m ∷ ns) label t text again free quiet is sound few h =
     fed-more cut s block n (m ∷ ns) u text again rest
 
 -- A WHOLE BLOCK
+
+-- it isn't continued if the text after it isn't
+pub quiet-block : (cut : Bool) (known : Redefined) (all : List Line) (n : ℕ) (block : Block) (p : Placed) (text : List ℕ) → IsQuiet cut text → AreLinesOfSource cut all → IsLabel block.label → AreSound cut known block.entries →
+    ((k : ℕ) → Among k p.order → (1 ≤ k) × (k ≤ length block.entries)) → IsQuiet cut (block_text all n block p ++ text)
+quiet-block cut known all n block p text quiet source is sound numbers =
+    subst (IsQuiet cut) (sym (append_assoc head (instruction_lines block block.label p.order) text))
+    (quiet-behind cut head (instruction_lines block block.label p.order ++ text) (comments-quiet cut head (instruction_lines block block.label p.order ++ text) comments) (by_order p.order numbers))
+  where
+    head : List ℕ
+    head = report n (length block.entries) p ++ notes_text block all
+
+    comments : Comments cut head
+    comments = comments-append cut (report n (length block.entries) p) (notes_text block all) (comments-report cut n (length block.entries) p) (comments-notes cut block all source)
+
+    by_order : (order : List ℕ) → ((k : ℕ) → Among k order → (1 ≤ k) × (k ≤ length block.entries)) → IsQuiet cut (instruction_lines block block.label order ++ text)
+    by_order [] numbers = quiet
+    by_order (k ∷ ks) numbers =
+        let number = numbers k (inl refl) in
+        let first = sound-at cut known block k sound number.0 number.1 in
+        subst (IsQuiet cut) (sym (append_assoc (instruction_line block.label (bytes_of block k)) (instruction_lines block [] ks) text))
+        (quiet-instruction cut block.label (bytes_of block k) (instr_at (instrs_of block) k) (instruction_lines block [] ks ++ text) is first.0 first.1)
 
 -- read after state, with this block more
 pub record Again (cut : Bool) (s : Standing) (block : Block) (order : List ℕ) (t : SourceState) (text : List ℕ) (again : List Block) : Type 0 where
@@ -213,7 +241,7 @@ block-fed cut stands block order label t s text again is fed new =
     }
 
 pub read-block : (cut : Bool) (stands : Standing) (all : List Line) (n : ℕ) (block : Block) (p : Placed) (t : SourceState) (text : List ℕ) (again : List Block) → is_holding cut stands ≡ false → IsQuiet cut text → AreLinesOfSource cut all →
-    IsLabel block.label → (block.label ≡ [] → Ended t) → AreSound block.entries →
+    IsLabel block.label → (block.label ≡ [] → Ended t) → AreSound cut stands.redefined block.entries →
     ((k : ℕ) → Among k p.order → (1 ≤ k) × (k ≤ length block.entries)) → 1 ≤ length p.order → length p.order ≤ BLOCK_LIMIT →
     read_at cut stands t (block_text all n block p ++ text) ≡ Ok again → Again cut stands block p.order t text again
 read-block cut stands all n block p t text again free quiet source is new sound numbers some few h =
@@ -229,12 +257,12 @@ read-block cut stands all n block p t text again free quiet source is new sound 
         read_at cut stands t (head ++ (instruction_lines block block.label order ++ text)) ≡ Ok again → Again cut stands block order t text again
     by_order [] numbers some few h = absurd (omega (arith, some))
     by_order (k ∷ ks) numbers some few h =
-        let sound_at : (m : ℕ) → Among m (k ∷ ks) → IsSoundAt block m = λ m among. let number = numbers m among in sound-at block m sound number.0 number.1 in
+        let sound_at : (m : ℕ) → Among m (k ∷ ks) → IsSoundAt cut stands.redefined block m = λ m among. let number = numbers m among in sound-at cut stands.redefined block m sound number.0 number.1 in
         let first = sound_at k (inl refl) in
         let rest : List ℕ = instruction_lines block [] ks ++ text in
         let quiet_lines : IsQuiet cut (instruction_lines block block.label (k ∷ ks) ++ text) =
         subst (IsQuiet cut) (sym (append_assoc (instruction_line block.label (bytes_of block k)) (instruction_lines block [] ks) text))
-        (quiet-instruction cut block.label (bytes_of block k) (instr_at (instrs_of block) k) rest is first.0) in
+        (quiet-instruction cut block.label (bytes_of block k) (instr_at (instrs_of block) k) rest is first.0 first.1) in
         let passed = passes.passes t (instruction_lines block block.label (k ∷ ks) ++ text) again quiet_lines h in
         let s : SourceState = record t { count = passed.count; after = passed.after } in
         let begins = begun-new block.label s new in

@@ -12,7 +12,7 @@ use Rattle.s66_line.specs.Operand.{operation_of}
 use Rattle.s66_source.specs.Source.{Line, run_after, place_after, label_after, classes_from, operand_refusal}
 use Rattle.s66_line.specs.Block.{Block, line_of}
 use Rattle.s66_line.specs.Class.{class_of, class_of_operand, is_pad, is_located, by_operation, is_code, whole_instr}
-use Rattle.s66_source.specs.LeftAlone.{Flagged, after_line, class_at, is_alone, is_continued, is_refused, flagged_from}
+use Rattle.s66_source.specs.LeftAlone.{Flagged, after_line, class_at, is_alone, is_continued, is_doubtful, flagged_from}
 use Rattle.s66_source.specs.Roles.{is_comment_class, is_note_of}
 use Rattle.s66_source.specs.Printed.{Placed, splits_line, bound_text, times_text, report, copied_line, notes_text}
 use Rattle.s66_source.specs.Reader.{SourceState, with_open, count_line, by_class, line_step, lines_step, and_then, read_from}
@@ -22,10 +22,10 @@ use Rattle.s66_line.specs.declared.limits.TheConstants.{LINE_BYTES_LIMIT}
 use Rattle.s66_source.specs.declared.limits.TheConstants.{SOURCE_LINES_LIMIT}
 use Rattle.s66_source.specs.declared.error.SourceError.{SourceError}
 use Rattle.s66_source.specs.declared.error.SourceError.TheVariants.{LineTooLong, TooLarge}
-use Rattle.s66_source.specs.declared.standing.Standing.{Standing}
-use Rattle.s66_source.proofs.FlaggedLines.{continued-next}
+use Rattle.s66_source.specs.LeftAlone.{Standing}
+use Rattle.s66_source.proofs.FlaggedLines.{same-alone}
 use Rattle.s66_source.proofs.ReadBack.{trim-twice, lines_of-line}
-use Rattle.s66_source.proofs.ReadStanding.{flagged_at, is_holding, is_flagged, taken, not-alone, same-alone, alone-body, after-body, flagged-body, class_at-body, continues-body, continues-line, comment-quiet, comment-stays, IsQuiet, quiet-append}
+use Rattle.s66_source.proofs.ReadStanding.{flagged_at, is_holding, is_flagged, taken, not-alone, alone-body, after-body, flagged-body, class_at-body, continues-body, continues-line, comment-quiet, comment-stays, IsQuiet, goes_on, goes-line}
 use Rattle.s66_source.proofs.ReadLine.{every-trimmed}
 use Rattle.s66_source.proofs.ReaderBlocks.{then-then}
 use Rattle.s66_line.proofs.Wholes.{is_inside, every-append}
@@ -54,12 +54,12 @@ read-step t line lines again h =
     (sym (then-then (line_step t line) (λ u. lines_step u lines) (λ u. Ok (with_open u.blocks u.label u.entries))) ∙ h)
 
 -- a line of this class, and then the rest
-pub read-class : (cut : Bool) (s : Standing) (t : SourceState) (line text : List ℕ) (c : Class) (again : List Block) → every is_inside line ≡ true → class_at t.after (flagged_at cut s line (continues text)) ≡ c →
+pub read-class : (cut : Bool) (s : Standing) (t : SourceState) (line text : List ℕ) (c : Class) (again : List Block) → every is_inside line ≡ true → class_at t.after (flagged_at cut s line (goes_on text)) ≡ c →
     read_at cut s t ((line ++ codes "\n") ++ text) ≡ Ok again →
     and_then (by_class t c (label_bytes (body line)) (from_operation (body line))) (λ u. read_at cut (after_line cut s line) u text) ≡ Ok again
 read-class cut s t line text c again inside stated h =
     let rest : List Flagged = flagged_from cut (after_line cut s line) (lines_of text) in
-    ap (λ k. and_then (by_class t k (label_bytes (body line)) (from_operation (body line))) (λ u. read_from u rest)) (sym (ap (λ next. class_at t.after (flagged_at cut s line next)) (continued-next text) ∙ stated))
+    ap (λ k. and_then (by_class t k (label_bytes (body line)) (from_operation (body line))) (λ u. read_from u rest)) (sym stated)
     ∙ read-step t (flagged_at cut s line (is_continued (lines_of text))) rest again
     (ap (λ lines. read_from t (flagged_from cut s lines)) (sym (ap lines_of (append_assoc line (10 ∷ []) text) ∙ lines_of-line line text inside)) ∙ h)
 
@@ -81,15 +81,15 @@ refused : (t : SourceState) (label bytes : List ℕ) (next : SourceState → Res
 refused t label bytes next again h = cc
 
 -- if it is left alone as it was
-pub read-copied : (cut : Bool) (s : Standing) (t : SourceState) (after continued : Bool) (line text : List ℕ) (number : ℕ) (again : List Block) → every is_inside line ≡ true → (cut && continues text) ≡ (cut && continued) →
+pub read-copied : (cut : Bool) (s : Standing) (t : SourceState) (after continued : Bool) (line text : List ℕ) (number : ℕ) (again : List Block) → every is_inside line ≡ true → (cut && goes_on text) ≡ (cut && continued) →
     operand_refusal number (class_at after (flagged_at cut s line continued)) ≡ None → read_at cut s t ((body line ++ codes "\n") ++ text) ≡ Ok again →
     and_then (by_class t (class_at after (flagged_at cut s line continued)) (label_bytes (body line)) (from_operation (body line))) (λ u. read_at cut (after_line cut s line) u text) ≡ Ok again
 read-copied cut s t after continued line text number again inside next accepted h =
     let there : List ℕ = body line in
     let alone : Bool = is_alone cut s line continued in
     let rest : SourceState → Result (List Block) SourceError = λ u. read_at cut (after_line cut s line) u text in
-    let switch : is_alone cut s there (continues text) ≡ alone = alone-body cut s line (continues text) ∙ same-alone cut s line (continues text) continued next in
-    let stated : class_at t.after (flagged_at cut s there (continues text)) ≡ class_at t.after (flagged_at cut s line continued) =
+    let switch : is_alone cut s there (goes_on text) ≡ alone = alone-body cut s line (goes_on text) ∙ same-alone cut s line (goes_on text) continued next in
+    let stated : class_at t.after (flagged_at cut s there (goes_on text)) ≡ class_at t.after (flagged_at cut s line continued) =
     ap (λ is. class_at t.after (record { alone = is; bytes = there })) switch ∙ class_at-body t.after alone line in
     let step : and_then (by_class t (class_at t.after (flagged_at cut s line continued)) (label_bytes there) (from_operation there)) rest ≡ Ok again =
     ap (λ stands. and_then (by_class t (class_at t.after (flagged_at cut s line continued)) (label_bytes there) (from_operation there)) (λ u. read_at cut stands u text)) (sym (after-body cut s line))
@@ -100,6 +100,12 @@ read-copied cut s t after continued line text number again inside next accepted 
     (λ is. refused t (label_bytes there) (from_operation there) rest again (ap (λ c. and_then (by_class t c (label_bytes there) (from_operation there)) rest) (sym is) ∙ step)) in
     ap (λ c. and_then (by_class t c (label_bytes there) (from_operation there)) rest) (sym same) ∙ step
 
+-- a copied line, and then a text
+pub goes-copied : (line text : List ℕ) → every is_inside line ≡ true → goes_on ((body line ++ codes "\n") ++ text) ≡ (if is_comment (body line) then goes_on text else continues line)
+goes-copied line text inside =
+    goes-line (body line) text (every-trimmed is_inside is_return line inside)
+    ∙ ap₂ (λ comment comma. if comment then goes_on text else comma) (ap is_comment (trim-twice is_return line)) (continues-body line)
+
 -- TEXTS THAT CHANGE NOTHING but how many lines were read, and what the last was
 
 pub record Passed (cut : Bool) (s : Standing) (t : SourceState) (text : List ℕ) (again : List Block) : Type 0 where
@@ -108,20 +114,23 @@ pub record Passed (cut : Bool) (s : Standing) (t : SourceState) (text : List ℕ
   pub read : read_at cut s (record t { count = count; after = after }) text ≡ Ok again
 
 pub record Passes (cut : Bool) (s : Standing) (bytes : List ℕ) : Type 0 where
-  pub quiet : continues bytes ≡ false
+  pub quiet : (text : List ℕ) → goes_on (bytes ++ text) ≡ goes_on text
   pub passes : (t : SourceState) (text : List ℕ) (again : List Block) → IsQuiet cut text → read_at cut s t (bytes ++ text) ≡ Ok again → Passed cut s t text again
 
 passes-nothing : (cut : Bool) (s : Standing) → Passes cut s []
-passes-nothing cut s = record { quiet = refl; passes = λ t text again quiet h. record { count = t.count; after = t.after; read = h } }
+passes-nothing cut s = record { quiet = λ text. refl; passes = λ t text again quiet h. record { count = t.count; after = t.after; read = h } }
 
-quiet-both : (first second : List ℕ) → continues first ≡ false → continues second ≡ false → continues (first ++ second) ≡ false
-quiet-both first second h k = quiet-append true first second h k
+pub quiet-behind : (cut : Bool) (bytes text : List ℕ) → goes_on (bytes ++ text) ≡ goes_on text → IsQuiet cut text → IsQuiet cut (bytes ++ text)
+quiet-behind cut bytes text same quiet = ap (λ on. cut && on) same ∙ quiet
+
+pub quiet-both : (first second text : List ℕ) → goes_on (first ++ (second ++ text)) ≡ goes_on (second ++ text) → goes_on (second ++ text) ≡ goes_on text → goes_on ((first ++ second) ++ text) ≡ goes_on text
+quiet-both first second text p q = ap goes_on (append_assoc first second text) ∙ p ∙ q
 
 passes-append : (cut : Bool) (s : Standing) (first second : List ℕ) → Passes cut s first → Passes cut s second → Passes cut s (first ++ second)
 passes-append cut s first second p q = record {
-  quiet = quiet-both first second p.quiet q.quiet;
+  quiet = λ text. quiet-both first second text (p.quiet (second ++ text)) (q.quiet text);
   passes = λ t text again quiet h.
-      let one = p.passes t (second ++ text) again (quiet-append cut second text q.quiet quiet) (read-as cut s t _ _ again (append_assoc first second text) h) in
+      let one = p.passes t (second ++ text) again (quiet-behind cut second text (q.quiet text) quiet) (read-as cut s t _ _ again (append_assoc first second text) h) in
       let two = q.passes (record t { count = one.count; after = one.after }) text again quiet one.read in
       record { count = two.count; after = two.after; read = two.read };
 }
@@ -132,12 +141,19 @@ comment-class after line comment = rw comment refl
 pub taken-class : (after alone : Bool) (line : List ℕ) (c : Class) → alone ≡ false → class_of after line ≡ c → class_at after (record { alone = alone; bytes = line }) ≡ c
 taken-class after alone line c none stated = ap (λ t. if t then Other else class_of after line) none ∙ stated
 
+-- a comment is passed over where it is asked whether a text goes on
+pub quiet-comment : (line text : List ℕ) → every is_inside line ≡ true → is_comment (body line) ≡ true → goes_on ((line ++ codes "\n") ++ text) ≡ goes_on text
+quiet-comment line text inside comment = goes-line line text inside ∙ ap (λ is. if is then goes_on text else continues line) comment
+
+pub comment-clear : (cut : Bool) (s : Standing) (line : List ℕ) → is_comment (body line) ≡ true → (cut && is_doubtful s.redefined (class_of true line) (body line)) ≡ false
+comment-clear cut s line comment = and_right cut (is_doubtful s.redefined (class_of true line) (body line)) (ap (λ c. is_doubtful s.redefined c (body line)) (comment-class true line comment))
+
 passes-comment : (cut : Bool) (s : Standing) (line : List ℕ) → is_holding cut s ≡ false → is_flagged cut line ≡ false → every is_inside line ≡ true → is_comment (body line) ≡ true → Passes cut s (line ++ codes "\n")
 passes-comment cut s line free unflagged inside comment = record {
-  quiet = continues-line line [] ∙ sym (continues-body line) ∙ comment-quiet (body line) comment;
+  quiet = λ text. quiet-comment line text inside comment;
   passes = λ t text again quiet h.
-      let alone = not-alone cut s line (continues text) free unflagged quiet (ap is_refused (comment-class true line comment)) in
-      let step = read-class cut s t line text Comment again inside (taken-class t.after (is_alone cut s line (continues text)) line Comment alone (comment-class t.after line comment)) h in
+      let alone = not-alone cut s line (goes_on text) free unflagged quiet (comment-clear cut s line comment) in
+      let step = read-class cut s t line text Comment again inside (taken-class t.after (is_alone cut s line (goes_on text)) line Comment alone (comment-class t.after line comment)) h in
       record { count = suc t.count; after = false; read = subst (λ stands. read_at cut stands (count_line false t) text ≡ Ok again) (comment-stays cut s line free unflagged comment) step };
 }
 
@@ -184,6 +200,14 @@ passes-comments cut s bytes free comments = subst (Passes cut s) (sym comments.w
     by_line : (lines : List (List ℕ)) → ArePlainComments cut lines → Passes cut s (with_newlines lines)
     by_line [] are = passes-nothing cut s
     by_line (line ∷ lines) are = passes-append cut s (line ++ codes "\n") (with_newlines lines) (passes-comment cut s line free are.0.0 are.0.1 are.0.2) (by_line lines are.1)
+
+-- they are passed over where it is asked whether a text goes on
+pub comments-quiet : (cut : Bool) (bytes text : List ℕ) → Comments cut bytes → goes_on (bytes ++ text) ≡ goes_on text
+comments-quiet cut bytes text comments = ap (λ bs. goes_on (bs ++ text)) comments.whole ∙ by_line comments.lines comments.are
+  where
+    by_line : (lines : List (List ℕ)) → ArePlainComments cut lines → goes_on (with_newlines lines ++ text) ≡ goes_on text
+    by_line [] are = refl
+    by_line (line ∷ lines) are = quiet-both (line ++ codes "\n") (with_newlines lines) text (quiet-comment line (with_newlines lines ++ text) are.0.1 are.0.2) (by_line lines are.1)
 
 -- THE REPORT
 

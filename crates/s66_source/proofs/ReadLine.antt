@@ -22,7 +22,7 @@ use Rattle.s66_line.proofs.Wholes.{is_inside, every-append}
 
 -- WITHOUT THE TRAILING BYTES
 
-trim-all : (test : ℕ → Bool) (bytes : List ℕ) → every test bytes ≡ true → trim test bytes ≡ []
+pub trim-all : (test : ℕ → Bool) (bytes : List ℕ) → every test bytes ≡ true → trim test bytes ≡ []
 trim-all test [] h = refl
 trim-all test (b ∷ bytes) h = rw h refl
 
@@ -73,6 +73,11 @@ ends_no_line-word bytes h = sym (ends_no_line-upper bytes) ∙ h
 
 pub operation-again : (bytes : List ℕ) (n : Instr) → Spells bytes n → word (trim is_trailing bytes) ≡ word bytes
 operation-again bytes n spells = word-trimmed bytes (ends_no_line-word (word bytes) (spelled-ends_no_line (operation_in bytes) (operand_in bytes) n spells).0.0)
+
+pub operand-trimmed : (bytes : List ℕ) (n : Instr) → Spells bytes n → skip_blanks (after_word (trim is_trailing bytes)) ≡ trim is_trailing (skip_blanks (after_word bytes))
+operand-trimmed bytes n spells =
+    ap skip_blanks (after_word-trimmed bytes (ends_no_line-word (word bytes) (spelled-ends_no_line (operation_in bytes) (operand_in bytes) n spells).0.0))
+    ∙ skip_blanks-trimmed (after_word bytes)
 
 pub operand-again : (bytes : List ℕ) (n : Instr) → Spells bytes n → word (skip_blanks (after_word (trim is_trailing bytes))) ≡ word (skip_blanks (after_word bytes))
 operand-again bytes n spells =
@@ -133,7 +138,7 @@ not-all bytes h = by_test (every is_trailing bytes) refl
 
 -- NO CARRIAGE RETURN AT THE END
 
-every-behind : (test : ℕ → Bool) (front bytes : List ℕ) → every test bytes ≡ false → every test (front ++ bytes) ≡ false
+pub every-behind : (test : ℕ → Bool) (front bytes : List ℕ) → every test bytes ≡ false → every test (front ++ bytes) ≡ false
 every-behind test [] bytes h = h
 every-behind test (b ∷ front) bytes h = rw (every-behind test front bytes h) (and-false (test b))
 
@@ -165,7 +170,7 @@ ends-well (b ∷ bytes) h = subst EndsWell (sym (trim-kept is_trailing b bytes h
     by_rest true stated h later = subst (λ bs. EndsWell (b ∷ bs)) (sym (trim-all is_trailing bytes stated)) (ends-alone b (neither (is_blank b) (is_return b) h))
     by_rest false stated h later = ends-front b (trim is_trailing bytes) (later stated)
 
-body-again : (front bytes : List ℕ) (n : Instr) → Spells bytes n → body (front ++ trim is_trailing bytes) ≡ front ++ trim is_trailing bytes
+pub body-again : (front bytes : List ℕ) (n : Instr) → Spells bytes n → body (front ++ trim is_trailing bytes) ≡ front ++ trim is_trailing bytes
 body-again front bytes n spells =
     let well = ends-well bytes (not-all bytes (filled-again bytes n spells)) in
     trim-behind is_return front (trim is_trailing bytes) well.0 well.1

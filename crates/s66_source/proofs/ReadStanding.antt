@@ -5,19 +5,20 @@ use Rattle.std.specs.Prelude.{bytes_eq}
 use Rattle.std.proofs.lemmas.Bool.{eqb-true, leb-true, ne_eqb, and_parts, and_right, or_parts, or_from, or_right}
 use Rattle.s66_isa.specs.Lists.{every}
 use Rattle.s66_line.specs.Class.{class_of, is_code}
-use Rattle.s66_line.specs.Fields.{after_word, body, is_blank, is_comment, is_return, continues, operation, skip_blanks, upper, upper_byte, word}
+use Rattle.s66_line.specs.Fields.{after_word, body, is_blank, is_comment, is_return, continues, operation, skip_blanks, upper, upper_byte, word, lines_of}
 use Rattle.s66_line.specs.declared.class.Class.{Class}
 use Rattle.s66_line.specs.declared.class.Class.TheVariants.{Other, Refused}
 use Rattle.s66_line.specs.Block.{Block, line_of}
 use Rattle.s66_line.proofs.LineFields.{indented_no}
 use Rattle.s66_source.specs.Counts.{counting_text, is_covering}
-use Rattle.s66_source.specs.LeftAlone.{Flagged, after_body, after_line, after_operation, class_at, has_operation, is_alone, is_continued, is_directive, is_held, is_switch, is_off_switch, is_on_switch, is_refused, flagged_from, off_after, with_operation, after_directive, directive_cover, with_directive}
+use Rattle.s66_source.specs.LeftAlone.{Flagged, after_body, after_line, after_operation, class_at, has_operation, is_alone, is_continued, is_directive, is_held, is_switch, is_off_switch, is_on_switch, is_doubtful, flagged_from, off_after, with_operation, after_directive, directive_cover, with_directive}
 use Rattle.s66_source.specs.Printed.{Placed, block_text, copied_text, text_of_lines}
 use Rattle.s66_source.specs.Roles.{is_copied, is_other_class}
 use Rattle.s66_source.specs.Source.{Line, run_at, run_after, place_at, place_after, label_at, label_after, classes_from}
-use Rattle.s66_source.specs.declared.standing.Standing.{Standing}
-use Rattle.s66_source.proofs.ReadBack.{trim-twice, class_of-body}
+use Rattle.s66_source.specs.LeftAlone.{Standing}
+use Rattle.s66_source.proofs.ReadBack.{trim-twice, class_of-body, lines_of-line}
 use Rattle.s66_source.proofs.Standings.{same-off}
+use Rattle.s66_line.proofs.Wholes.{is_inside}
 
 -- a line with its switch, if it comes after what stands
 abbrev pub flagged_at : Bool → Standing → List ℕ → Bool → Flagged
@@ -41,7 +42,7 @@ pub record IsTaken (cut : Bool) (s : Standing) (line : List ℕ) (continued : Bo
 
 pub taken : (cut : Bool) (s : Standing) (line : List ℕ) (continued : Bool) → is_alone cut s line continued ≡ false → IsTaken cut s line continued
 taken true s line continued h =
-    let both = or_parts (is_held true s line continued) (is_refused (class_of true line)) h in
+    let both = or_parts (is_held true s line continued) (is_doubtful s.redefined (class_of true line) (body line)) h in
     let off = or_parts s.off _ both.0 in
     let switch = or_parts (is_off_switch (body line)) _ off.1 in
     let bodies = or_parts (nat_lt 0 s.bodies) _ switch.1 in
@@ -58,14 +59,14 @@ taken false s line continued h =
     let switch = or_parts (is_off_switch (body line)) false off.1 in
     record { free = or_from s.off false off.0 refl; unflagged = or_from (is_off_switch (body line)) false switch.0 refl; ended = refl }
 
--- the other way round, if it would not be refused
-pub not-alone : (cut : Bool) (s : Standing) (line : List ℕ) (continued : Bool) → is_holding cut s ≡ false → is_flagged cut line ≡ false → (cut && continued) ≡ false → is_refused (class_of true line) ≡ false →
-    is_alone cut s line continued ≡ false
+-- the other way round, if it isn't in doubt
+pub not-alone : (cut : Bool) (s : Standing) (line : List ℕ) (continued : Bool) → is_holding cut s ≡ false → is_flagged cut line ≡ false → (cut && continued) ≡ false →
+    (cut && is_doubtful s.redefined (class_of true line) (body line)) ≡ false → is_alone cut s line continued ≡ false
 not-alone true s line continued free unflagged ended accepted =
     let off = or_parts s.off _ free in
     let switch = or_parts (is_off_switch (body line)) (is_directive (body line)) unflagged in
     let both = or_parts (nat_lt 0 s.bodies) (is_covering s.cover) off.1 in
-    or_from (is_held true s line continued) (is_refused (class_of true line))
+    or_from (is_held true s line continued) (is_doubtful s.redefined (class_of true line) (body line))
     (or_from s.off _ off.0 (or_from (is_off_switch (body line)) _ switch.0 (or_from (nat_lt 0 s.bodies) _ both.0 (or_from (is_covering s.cover) _ both.1 (or_from continued (is_directive (body line)) ended switch.1)))))
     accepted
 not-alone false s line continued free unflagged ended accepted =
@@ -73,16 +74,11 @@ not-alone false s line continued free unflagged ended accepted =
     let switch = or_parts (is_off_switch (body line)) false unflagged in
     or_from (is_held false s line continued) false (or_from s.off _ off.0 (or_from (is_off_switch (body line)) false switch.0 refl)) refl
 
--- without `--cut` it is the same whether the next line continues it
-pub same-alone : (cut : Bool) (s : Standing) (line : List ℕ) (continued other : Bool) → (cut && continued) ≡ (cut && other) → is_alone cut s line continued ≡ is_alone cut s line other
-same-alone true s line continued other same = ap (is_alone true s line) same
-same-alone false s line continued other same = refl
-
 -- A LINE WITHOUT THE RETURNS AT ITS END
 
 abbrev alone_body : Bool → Standing → Bool → List ℕ → Class → Bool
 alone_body cut s continued line c =
-    (s.off || (is_off_switch line || (cut && (nat_lt 0 s.bodies || (is_covering s.cover || (continued || is_directive line)))))) || (cut && is_refused c)
+    (s.off || (is_off_switch line || (cut && (nat_lt 0 s.bodies || (is_covering s.cover || (continued || is_directive line)))))) || (cut && is_doubtful s.redefined c line)
 
 pub alone-body : (cut : Bool) (s : Standing) (line : List ℕ) (continued : Bool) → is_alone cut s (body line) continued ≡ is_alone cut s line continued
 alone-body cut s line continued =
@@ -138,7 +134,7 @@ comma-refused line h =
 
 -- with `--cut` such a line is left alone
 pub comma-alone : (s : Standing) (line : List ℕ) (continued : Bool) → continues line ≡ true → is_alone true s line continued ≡ true
-comma-alone s line continued h = or_right (is_held true s line continued) (is_refused (class_of true line)) (ap is_refused (comma-refused line h))
+comma-alone s line continued h = or_right (is_held true s line continued) (is_doubtful s.redefined (class_of true line) (body line)) (ap (λ c. is_doubtful s.redefined c (body line)) (comma-refused line h))
 
 -- WHAT LEAVES THE STANDING AS IT IS
 
@@ -175,43 +171,15 @@ comment-stays cut s line free unflagged comment =
     same-off (is_on_switch (body line)) s.off (is_off_switch (body line)) (or_parts s.off _ free).0 (or_parts (is_off_switch (body line)) _ unflagged).0 in
     ap₂ (λ (t : Standing) (off : Bool). record t { off = off }) same off
 
--- A PRINTED TEXT begins with no comma if the lines that it is printed for don't
+-- A TEXT THAT GOES ON
+
+-- the first of its lines that is no comment has a comma in column 1
+abbrev pub goes_on : List ℕ → Bool
+goes_on text = is_continued (lines_of text)
 
 abbrev pub IsQuiet : Bool → List ℕ → Type 0
-IsQuiet cut text = (cut && continues text) ≡ false
+IsQuiet cut text = (cut && goes_on text) ≡ false
 
-pub quiet-append : (cut : Bool) (first text : List ℕ) → continues first ≡ false → IsQuiet cut text → IsQuiet cut (first ++ text)
-quiet-append cut [] text h quiet = quiet
-quiet-append cut (b ∷ first) text h quiet = and_right cut (b == 44) h
-
-pub continues-copied : (line text : List ℕ) → continues ((body line ++ codes "\n") ++ text) ≡ continues line
-continues-copied line text = ap continues (append_assoc (body line) (codes "\n") text) ∙ continues-line (body line) text ∙ continues-body line
-
-copied-quiet : (copied : Bool) (line text : List ℕ) → continues line ≡ false → (copied ≡ false → continues text ≡ false) → continues ((if copied then body line ++ codes "\n" else []) ++ text) ≡ false
-copied-quiet true line text h rest = continues-copied line text ∙ h
-copied-quiet false line text h rest = rest refl
-
-line-quiet : (all : List Line) (n : ℕ) (blocks : List Block) (ps : List Placed) (l : Line) (lines : List Line) → continues l.bytes ≡ false →
-    ((n : ℕ) (blocks : List Block) (ps : List Placed) → is_copied all l ≡ false → continues (text_of_lines all n blocks ps lines) ≡ false) → continues (text_of_lines all n blocks ps (l ∷ lines)) ≡ false
-line-quiet all n [] ps l lines h rest = copied-quiet (is_copied all l) l.bytes (text_of_lines all n [] ps lines) h (rest n [] ps)
-line-quiet all n (block ∷ blocks) [] l lines h rest = copied-quiet (is_copied all l) l.bytes (text_of_lines all n (block ∷ blocks) [] lines) h (rest n (block ∷ blocks) [])
-line-quiet all n (block ∷ blocks) (p ∷ ps) l lines h rest =
-    let text : List ℕ = copied_text all l ++ text_of_lines all n (block ∷ blocks) (p ∷ ps) lines in
-    elim (line_of block 1 == l.number) as (λ t. continues (if t then block_text all n block p ++ text_of_lines all (suc n) blocks ps lines else text) ≡ false)
-    [ true ↦ refl | false ↦ copied-quiet (is_copied all l) l.bytes (text_of_lines all n (block ∷ blocks) (p ∷ ps) lines) h (rest n (block ∷ blocks) (p ∷ ps)) ]
-
-no_other : (alone : Bool) (c : Class) → is_other_class (if alone then Other else c) ≡ false → alone ≡ false
-no_other true c h = absurd (true≢false h)
-no_other false c h = refl
-
--- with `--cut`
-pub text-quiet : (lines : List (List ℕ)) (s : Standing) (all : List Line) (n : ℕ) (blocks : List Block) (ps : List Placed) (number run index : ℕ) (label : List ℕ) (after : Bool) → is_continued lines ≡ false →
-    continues (text_of_lines all n blocks ps (classes_from number run index label after (flagged_from true s lines))) ≡ false
-text-quiet [] s all n blocks ps number run index label after h = refl
-text-quiet (line ∷ lines) s all n blocks ps number run index label after h =
-    let m : Flagged = flagged_at true s line (is_continued lines) in
-    let c : Class = class_at after m in
-    let l : Line = record { number = number; bytes = line; class = c; run = run_at run c; index = place_at index c; label = label_at label c line } in
-    line-quiet all n blocks ps l (classes_from (suc number) (run_after run c) (place_after index c) (label_after label c line) (is_code c) (flagged_from true (after_line true s line) lines)) h
-    (λ n blocks ps none. text-quiet lines (after_line true s line) all n blocks ps (suc number) (run_after run c) (place_after index c) (label_after label c line) (is_code c)
-    (taken true s line (is_continued lines) (no_other m.alone (class_of after line) (or_parts (is_other_class c) _ none).0)).ended)
+-- a line, and then a text
+pub goes-line : (line text : List ℕ) → every is_inside line ≡ true → goes_on ((line ++ codes "\n") ++ text) ≡ (if is_comment (body line) then goes_on text else continues line)
+goes-line line text inside = ap goes_on (append_assoc line (codes "\n") text) ∙ ap is_continued (lines_of-line line text inside)

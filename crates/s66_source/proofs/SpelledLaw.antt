@@ -8,7 +8,8 @@ use Rattle.s66_isa.specs.Table.{instr_at}
 use Rattle.s66_isa.proofs.Lists.{among-front, among-rest}
 use Rattle.s66_line.specs.Fields.{is_return, lines_of, trim, body}
 use Rattle.s66_line.specs.InstructionText.{IsTextOf}
-use Rattle.s66_source.specs.LeftAlone.{Reading, at_first}
+use Rattle.s66_source.specs.LeftAlone.{Reading, at_first, redefined_by}
+use Rattle.s66_source.specs.Redefined.{Redefined}
 use Rattle.s66_source.specs.Source.{Line, classed_lines, operand_refusal, refusal, instructions, parts_of, entry_of, block_of, blocks_of, source_of}
 use Rattle.s66_line.specs.Block.{Entry, Block, instrs_of, text_of}
 use Rattle.s66_source.specs.BlockParts.{all_of}
@@ -47,10 +48,10 @@ numbered (l ∷ part) (suc n) few = let there = numbered part n (omega (arith, f
 
 -- THE BYTES OF AN ENTRY
 
-sound-entry : (lines : List Line) (l : Line) → AreSound (map entry_of lines) → Among l lines → IsSound (entry_of l)
-sound-entry [] l sound among = absurd among
-sound-entry (m ∷ lines) l sound (inl same) = subst (λ line. IsSound (entry_of line)) (sym same) sound.0
-sound-entry (m ∷ lines) l sound (inr among) = sound-entry lines l sound.1 among
+sound-entry : (cut : Bool) (known : Redefined) (lines : List Line) (l : Line) → AreSound cut known (map entry_of lines) → Among l lines → IsSound cut known (entry_of l)
+sound-entry cut known [] l sound among = absurd among
+sound-entry cut known (m ∷ lines) l sound (inl same) = subst (λ line. IsSound cut known (entry_of line)) (sym same) sound.0
+sound-entry cut known (m ∷ lines) l sound (inr among) = sound-entry cut known lines l sound.1 among
 
 not-long : (long many : Bool) (e f : SourceError) (o : Option SourceError) → (if long then Some e else (if many then Some f else o)) ≡ None → long ≡ false
 not-long true many e f o h = cc
@@ -76,8 +77,8 @@ few-entry l few =
 
 -- AN INSTRUCTION OF A BLOCK
 
-spelled-by : (block : Block) (n : ℕ) (l : Line) → slice_get block.entries n ≡ Some (entry_of l) → IsSound (entry_of l) → length l.bytes ≤ LINE_BYTES_LIMIT → IsTextOf (text_of block (suc n)) (instr_at (instrs_of block) (suc n))
-spelled-by block n l here sound few =
+spelled-by : (cut : Bool) (known : Redefined) (block : Block) (n : ℕ) (l : Line) → slice_get block.entries n ≡ Some (entry_of l) → IsSound cut known (entry_of l) → length l.bytes ≤ LINE_BYTES_LIMIT → IsTextOf (text_of block (suc n)) (instr_at (instrs_of block) (suc n))
+spelled-by cut known block n l here sound few =
     let e : Entry = entry_of l in
     rw (bytes_of-entry block (suc n) e here, ← instr_at-entry block (suc n) e here) (text-of_bytes e.bytes e.instr sound.0.0 (few-entry l few))
 
@@ -117,6 +118,6 @@ spelled source blocks block accepted among (suc n) first last =
     let there = numbered made.0 n (omega (arith, last, count)) in
     let in_parts = among-part there.0 made.0 (parts_of (instructions lines)) there.1 made.1 in
     let in_source : Among there.0 (instructions lines) = subst (Among there.0) (parts source).whole in_parts in
-    let sound = sound-instructions source.cut at_first (lines_of source.text) 1 0 0 [] false (AreLines-lines_of source.text).no_newline in
-    spelled-by block n there.0 (ap (λ (b : Block). slice_get b.entries n) made.2 ∙ there.2) (sound-entry (instructions lines) there.0 sound in_source)
+    let sound = sound-instructions source.cut (at_first (redefined_by source)) (lines_of source.text) 1 0 0 [] false (AreLines-lines_of source.text).no_newline in
+    spelled-by source.cut (redefined_by source) block n there.0 (ap (λ (b : Block). slice_get b.entries n) made.2 ∙ there.2) (sound-entry source.cut (redefined_by source) (instructions lines) there.0 sound in_source)
     (few-bytes lines there.0 (no_refusal (refusal lines) (blocks_of lines) blocks accepted) (of-instructions lines there.0 in_source).0)

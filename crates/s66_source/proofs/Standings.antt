@@ -17,12 +17,12 @@ use Rattle.s66_line.specs.Operand.{is_octal, operation_of}
 use Rattle.s66_line.specs.declared.class.Class.{Class}
 use Rattle.s66_line.specs.declared.class.Class.TheVariants.{Comment, Other, Refused, Pad}
 use Rattle.s66_source.specs.Counts.{count_down, counted_after_one, counted_after_two, counted_alone, counting_text, cover_of, covered_after, is_covering, is_one_of, nothing_covered, range_ends, repetitions_after, with_cover}
-use Rattle.s66_source.specs.LeftAlone.{after_directive, after_line, directive_cover, with_directive, after_operation, bodies_after, class_at, definitions, has_operation, is_alone, is_directive, is_held, is_switch, is_off_switch, is_on_switch, is_refused, with_operation}
+use Rattle.s66_source.specs.LeftAlone.{after_directive, after_line, directive_cover, with_directive, after_operation, bodies_after, class_at, definitions, has_operation, is_alone, is_directive, is_held, is_switch, is_off_switch, is_on_switch, is_doubtful, with_operation}
 use Rattle.s66_source.specs.Roles.{is_comment_class}
 use Rattle.s66_source.specs.declared.cover.Cover.{Cover}
 use Rattle.s66_source.specs.declared.cover.Cover.TheVariants.{Nothing}
 use Rattle.s66_source.specs.declared.cover.Covered.{Covered}
-use Rattle.s66_source.specs.declared.standing.Standing.{Standing}
+use Rattle.s66_source.specs.LeftAlone.{Standing}
 
 -- THE NAMES of operations that cover lines, or begin or end something
 
@@ -80,7 +80,7 @@ only-counts s name operand none =
     let same : (if s.bodies == 0 then covered_after s.cover name (cover_of name operand) else count_down s.cover (is_one_of range_ends name)) ≡ count_down s.cover false =
     elim (s.bodies == 0) as (λ t. (if t then covered_after s.cover name (cover_of name operand) else count_down s.cover (is_one_of range_ends name)) ≡ count_down s.cover false)
     [ true ↦ outside | false ↦ within ] in
-    ap₂ (λ (bodies : ℕ) (cover : Covered). record { off = s.off; bodies = bodies; cover = cover }) bodies same
+    ap₂ (λ (bodies : ℕ) (cover : Covered). record s { bodies = bodies; cover = cover }) bodies same
 
 -- how they begin, but for those of IF and its kin
 abbrev beginnings : List (List ℕ)
@@ -111,7 +111,7 @@ not-named first second third bytes other =
     ]
 
 -- std's word for a letter in upper case
-upper-ascii : (b : ℕ) → to_ascii_uppercase b ≡ upper_byte b
+pub upper-ascii : (b : ℕ) → to_ascii_uppercase b ≡ upper_byte b
 upper-ascii b = grind arith
 
 -- the first word of bytes that begin otherwise counts a line down, and does no more
@@ -173,6 +173,17 @@ bodies-grow cut s line =
     elim (cut && has_operation (body line)) as (λ t. (if t then after_operation s name operand else with_directive cut s (body line)).bodies ≤ suc s.bodies)
     [ true ↦ one-more s.bodies name | false ↦ directive-bodies (cut && is_directive (body line)) s (directive_cover (upper (drop 1 (body line)))) ]
 
+-- WHAT THE SOURCE REDEFINES stays
+
+directive-redefined : (is : Bool) (s : Standing) (cover : Cover) → (if is then after_directive s cover else s).redefined ≡ s.redefined
+directive-redefined true s cover = elim (s.bodies == 0) as (λ t. (if t then record s { cover = with_cover s.cover cover } else s).redefined ≡ s.redefined) [ true ↦ refl | false ↦ refl ]
+directive-redefined false s cover = refl
+
+pub same-redefined : (cut : Bool) (s : Standing) (line : List ℕ) → (after_line cut s line).redefined ≡ s.redefined
+same-redefined cut s line =
+    elim (cut && has_operation (body line)) as (λ t. (if t then after_operation s (upper (operation (body line))) (upper (counting_text (body line))) else with_directive cut s (body line)).redefined ≡ s.redefined)
+    [ true ↦ refl | false ↦ directive-redefined (cut && is_directive (body line)) s (directive_cover (upper (drop 1 (body line)))) ]
+
 -- A LINE OF CODE
 
 operation-of-code : (located : Bool) (operation : List ℕ) (pad in_table : Bool) (n : Option Instr) → is_pad operation ≡ pad → is_some (operation_of operation) ≡ in_table →
@@ -221,7 +232,7 @@ plain-line : (cut continued : Bool) (s : Standing) (line : List ℕ) → is_alon
 plain-line cut continued s line h =
     let cover_on = is_covering s.cover || (continued || is_directive (body line)) in
     let held = nat_lt 0 s.bodies || cover_on in
-    let (not_held, _) = or_parts (is_held cut s line continued) (cut && is_refused (class_of true line)) h in
+    let (not_held, _) = or_parts (is_held cut s line continued) (cut && is_doubtful s.redefined (class_of true line) (body line)) h in
     let (on, more) = or_parts s.off (is_off_switch (body line) || (cut && held)) not_held in
     let (no_switch, none) = or_parts (is_off_switch (body line)) (cut && held) more in
     record {

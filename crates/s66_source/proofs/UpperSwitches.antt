@@ -1,18 +1,20 @@
 -- Letters in upper case leave what is left alone as it is.
-use Rattle.std.proofs.Common.{◌≡◌, ◌-◌, ◌&&◌, ◌||◌, ℕ, Bool, true, false, if◌then◌else◌, List, [], ◌∷◌, codes, length, map, nat_lt, refl, sym, ap, ap₂, ◌∙◌}
+use Rattle.std.proofs.Common.{◌≡◌, ◌-◌, ◌&&◌, ◌||◌, ℕ, Bool, true, false, if◌then◌else◌, List, [], ◌∷◌, codes, length, map, nat_lt, refl, sym, ap, ap₂, ◌∙◌, nat_le}
 use Rattle.std.specs.Prelude.{None, bytes_eq, is_some}
 use Rattle.s66_line.specs.Class.{by_operation, class_of, class_of_operand, is_pad, is_located}
-use Rattle.s66_line.specs.Operand.{instr_of, operation_of}
+use Rattle.s66_line.specs.Operand.{instr_of, operation_of, is_filled}
 use Rattle.s66_source.proofs.CharactersRead.{same-operand_in, same-operation_in, same-runs_on}
-use Rattle.s66_line.specs.Fields.{after_word, body, operation, from_operand, from_operation, skip_blanks, upper, word}
+use Rattle.s66_line.specs.Fields.{after_word, body, operation, from_operand, from_operation, skip_blanks, upper, word, continues, is_comment, label_bytes}
 use Rattle.s66_line.specs.declared.class.Class.{Class}
-use Rattle.s66_line.specs.declared.class.Class.TheVariants.{Other, Pad}
-use Rattle.s66_line.proofs.UpperCase.{length-upper, same-comment, same-continues, same-location, same-operation, upper-after_word, upper-from_operation, upper-if, upper-skip_blanks, upper-trim, upper-twice, upper-word}
+use Rattle.s66_line.specs.declared.class.Class.TheVariants.{Other, Pad, Comment, Refused, Instruction}
+use Rattle.s66_line.proofs.UpperCase.{length-upper, same-comment, same-continues, same-location, same-operation, upper-after_word, upper-from_operation, upper-if, upper-skip_blanks, upper-trim, upper-twice, upper-word, upper-label_bytes}
 use Rattle.s66_source.proofs.ReadBack.{class_of_body}
 use Rattle.s66_source.specs.Counts.{counting_text, is_covering}
 use Rattle.s66_source.proofs.Directives.{same-directive, same-text}
-use Rattle.s66_source.specs.LeftAlone.{Flagged, after_body, after_directive, after_operation, directive_cover, has_operation, with_directive, after_line, class_at, is_alone, is_continued, is_directive, is_switch, is_off_switch, is_on_switch, is_refused, flagged_from, with_operation}
-use Rattle.s66_source.specs.declared.standing.Standing.{Standing}
+use Rattle.s66_source.specs.LeftAlone.{Flagged, after_body, after_directive, after_operation, directive_cover, has_operation, with_directive, after_line, class_at, is_alone, is_continued, is_directive, is_switch, is_off_switch, is_on_switch, flagged_from, with_operation, is_doubtful, distance, is_far, redefined_by, is_held}
+use Rattle.s66_source.specs.LeftAlone.{Standing}
+use Rattle.s66_source.specs.Redefined.{Redefined, is_redefined}
+use Rattle.s66_source.proofs.RedefinedCase.{redefined-upper}
 
 -- CLASSES
 
@@ -80,16 +82,46 @@ abbrev held_by : Bool → Standing → Bool → Bool → Bool → Bool
 held_by cut s continued off directive = s.off || (off || (cut && (nat_lt 0 s.bodies || (is_covering s.cover || (continued || directive)))))
 
 abbrev body_alone : Bool → Standing → Bool → List ℕ → Class → Bool
-body_alone cut s continued line c = held_by cut s continued (is_off_switch line) (is_directive line) || (cut && is_refused c)
+body_alone cut s continued line c = held_by cut s continued (is_off_switch line) (is_directive line) || (cut && is_doubtful s.redefined c line)
+
+same-filled : (bytes : List ℕ) → is_filled (upper bytes) ≡ is_filled bytes
+same-filled [] = refl
+same-filled (b ∷ bytes) = refl
+
+same-distance : (bytes : List ℕ) → distance (upper bytes) ≡ distance bytes
+same-distance bytes = ap₂ (λ all rest. all - rest) (length-upper bytes) (ap length (upper-next_word bytes) ∙ length-upper (skip_blanks (after_word bytes)))
+
+abbrev far_by : Bool → ℕ → ℕ → ℕ → Bool
+far_by filled behind label place = filled && (nat_le 19 behind || (nat_lt label 10 && nat_le 29 place))
+
+same-far : (line : List ℕ) → is_far (upper line) ≡ is_far line
+same-far line =
+    ap₂ (λ filled behind. far_by filled behind (length (label_bytes (upper line))) (length (upper line) - length (from_operand (upper line)))) (ap is_filled (upper-from_operand line) ∙ same-filled (from_operand line))
+    (ap distance (upper-from_operation line) ∙ same-distance (from_operation line))
+    ∙ ap₂ (far_by (is_filled (from_operand line)) (distance (from_operation line))) (ap length (upper-label_bytes line) ∙ length-upper (label_bytes line))
+    (ap₂ (λ all rest. all - rest) (length-upper line) (ap length (upper-from_operand line) ∙ length-upper (from_operand line)))
+
+same-redefined : (known : Redefined) (line : List ℕ) → is_redefined known (from_operation (upper line)) ≡ is_redefined known (from_operation line)
+same-redefined known line = ap (is_redefined known) (upper-from_operation line) ∙ redefined-upper known (from_operation line)
+
+same-doubt : (known : Redefined) (c : Class) (line : List ℕ) → is_doubtful known c (upper line) ≡ is_doubtful known c line
+same-doubt known Comment line = refl
+same-doubt known Other line = refl
+same-doubt known Refused line = refl
+same-doubt known (Pad located) line = same-redefined known line
+same-doubt known (Instruction located n) line = ap₂ (λ again far. again || far) (same-redefined known line) (same-far line)
 
 same-alone : (cut : Bool) (s : Standing) (line : List ℕ) (continued : Bool) → is_alone cut s (upper line) continued ≡ is_alone cut s line continued
 same-alone cut s line continued =
     ap₂ (body_alone cut s continued) (upper-trim line) (same-class true line)
-    ∙ ap₂ (λ off directive. held_by cut s continued off directive || (cut && is_refused (class_of true line))) (same-switch (codes "OFF") (body line)) (same-directive (body line))
+    ∙ ap₂ (λ off directive. held_by cut s continued off directive || (cut && is_doubtful s.redefined (class_of true line) (upper (body line)))) (same-switch (codes "OFF") (body line)) (same-directive (body line))
+    ∙ ap (λ doubt. is_held cut s line continued || (cut && doubt)) (same-doubt s.redefined (class_of true line) (body line))
 
 same-continued : (lines : List (List ℕ)) → is_continued (map upper lines) ≡ is_continued lines
 same-continued [] = refl
-same-continued (line ∷ lines) = same-continues line
+same-continued (line ∷ lines) =
+    ap (λ comment. if comment then is_continued (map upper lines) else continues (upper line)) (ap is_comment (upper-trim line) ∙ same-comment (body line))
+    ∙ ap₂ (λ later here. if is_comment (body line) then later else here) (same-continued lines) (same-continues line)
 
 abbrev pub upper_flagged : Flagged → Flagged
 upper_flagged line = record { alone = line.alone; bytes = upper line.bytes }

@@ -10,7 +10,7 @@ use Rattle.s66_source.specs.Keeper.{begins_with}
 use Rattle.s66_source.specs.Keeping.{others}
 use Rattle.s66_source.specs.LeftAlone.{Flagged, after_line, class_at, flagged_from, is_alone}
 use Rattle.s66_source.specs.Roles.{is_other_class, is_pad_class}
-use Rattle.s66_source.specs.declared.standing.Standing.{Standing}
+use Rattle.s66_source.specs.LeftAlone.{Standing}
 
 pub record Framer : Type 0 where
   pub cut : Bool

@@ -1,9 +1,9 @@
 -- To be believed: which lines of a source are left alone. Such a line is an Other line, whatever it holds.
-use Rattle.std.specs.Prelude.{ℕ, zero, suc, Bool, true, false, not, ◌&&◌, ◌||◌, ◌==◌, if◌then◌else◌, List, [], ◌∷◌, Option, None, Some, codes, drop, length, nat_le, nat_lt, bytes_eq, take}
+use Rattle.std.specs.Prelude.{ℕ, zero, suc, Bool, true, false, not, ◌&&◌, ◌||◌, ◌==◌, ◌-◌, if◌then◌else◌, List, [], ◌∷◌, Option, None, Some, codes, drop, length, nat_le, nat_lt, bytes_eq, take}
 use Rattle.s66_line.specs.Class.{class_of}
-use Rattle.s66_line.specs.Fields.{after_word, body, continues, from_operand, is_blank, is_comment, lines_of, operation, skip_blanks, upper, word}
+use Rattle.s66_line.specs.Fields.{after_word, body, continues, from_operand, from_operation, is_blank, is_comment, label_bytes, lines_of, operation, skip_blanks, upper, word}
 use Rattle.s66_line.specs.declared.class.Class.{Class}
-use Rattle.s66_line.specs.declared.class.Class.TheVariants.{Other, Refused}
+use Rattle.s66_line.specs.declared.class.Class.TheVariants.{Instruction, Other, Pad, Refused}
 use Rattle.s66_line.specs.Characters.{is_decimal}
 use Rattle.s66_line.specs.Operand.{is_filled}
 use Rattle.s66_isa.specs.Lists.{every}
@@ -11,7 +11,8 @@ use Rattle.s66_source.specs.Counts.{after_byte, after_comma, before_byte, count_
 use Rattle.s66_source.specs.declared.cover.Cover.{Cover}
 use Rattle.s66_source.specs.declared.cover.Cover.TheVariants.{Nothing}
 use Rattle.s66_source.specs.declared.limits.TheConstants.{DIRECTIVE_LIMIT}
-use Rattle.s66_source.specs.declared.standing.Standing.{Standing}
+use Rattle.s66_source.specs.declared.cover.Covered.{Covered}
+use Rattle.s66_source.specs.Redefined.{Redefined, is_redefined, nothing_redefined, redefined_in}
 
 -- a text, and whether it is read with `--cut`
 pub record Reading : Type 0 where
@@ -118,15 +119,21 @@ directive_cover text =
 abbrev pub has_operation : List ℕ → Bool
 has_operation line = not (is_comment line || continues line)
 
-abbrev pub is_refused : Class → Bool
-is_refused Refused = true
-is_refused class = false
-
 -- WHAT STANDS from one line to the next
 
+pub record Standing : Type 0 where
+  -- a switch `*S66 OFF` came before, and no switch `*S66 ON` after it
+  pub off : Bool
+  -- how many definitions are open
+  pub bodies : ℕ
+  -- what is still covered by counts and repetitions
+  pub cover : Covered
+  -- what the source redefines, before or after
+  pub redefined : Redefined
+
 -- at the beginning of a source
-abbrev pub at_first : Standing
-at_first = record { off = false; bodies = 0; cover = nothing_covered }
+abbrev pub at_first : Redefined → Standing
+at_first redefined = record { off = false; bodies = 0; cover = nothing_covered; redefined = redefined }
 
 -- the operations that begin a definition
 abbrev pub definitions : List (List ℕ)
@@ -140,8 +147,7 @@ bodies_after (suc n) name = if is_one_of definitions name then suc (suc n) else 
 -- after an operation and the text from its operand on; what a definition holds covers nothing yet
 abbrev pub after_operation : Standing → List ℕ → List ℕ → Standing
 after_operation s name text =
-    record {
-      off = s.off;
+    record s {
       bodies = bodies_after s.bodies name;
       cover = if s.bodies == 0 then covered_after s.cover name (cover_of name text) else count_down s.cover (is_one_of range_ends name);
     }
@@ -172,10 +178,10 @@ after_line cut s line = after_body cut s (body line)
 
 -- LINES THAT ARE LEFT ALONE
 
--- the next line has a comma in column 1
+-- the next line that is no comment has a comma in column 1
 abbrev pub is_continued : List (List ℕ) → Bool
 is_continued [] = false
-is_continued (next ∷ lines) = continues next
+is_continued (next ∷ lines) = if is_comment (body next) then is_continued lines else continues next
 
 -- whatever it holds: from a switch `*S66 OFF` to a switch `*S66 ON`; with `--cut` also in a definition, covered by a count, continued, or
 -- a directive
@@ -183,9 +189,27 @@ abbrev pub is_held : Bool → Standing → List ℕ → Bool → Bool
 is_held cut s line continued =
     s.off || (is_off_switch (body line) || (cut && (nat_lt 0 s.bodies || (is_covering s.cover || (continued || is_directive (body line))))))
 
--- or, with `--cut`, what would be refused, at least after code
+-- how far behind the begin of an operation its operand begins, in bytes
+abbrev pub distance : List ℕ → ℕ
+distance bytes = length bytes - length (skip_blanks (after_word bytes))
+
+-- COMPASS sees no operand that begins in column 30 or later. This one does, or would where the operation is put into column 11. What
+-- has a label of ten bytes or more, for which there is no place before column 11, is told by the second alone
+abbrev pub is_far : List ℕ → Bool
+is_far line =
+    is_filled (from_operand line)
+    && (nat_le 19 (distance (from_operation line)) || (nat_lt (length (label_bytes line)) 10 && nat_le 29 (length line - length (from_operand line))))
+
+-- refused, at least after code; or COMPASS may take it for something else
+abbrev pub is_doubtful : Redefined → Class → List ℕ → Bool
+is_doubtful redefined Refused line = true
+is_doubtful redefined (Pad located) line = is_redefined redefined (from_operation line)
+is_doubtful redefined (Instruction located n) line = is_redefined redefined (from_operation line) || is_far line
+is_doubtful redefined class line = false
+
+-- or, with `--cut`, what is in doubt
 abbrev pub is_alone : Bool → Standing → List ℕ → Bool → Bool
-is_alone cut s line continued = is_held cut s line continued || (cut && is_refused (class_of true line))
+is_alone cut s line continued = is_held cut s line continued || (cut && is_doubtful s.redefined (class_of true line) (body line))
 
 -- a line, and whether it is left alone
 pub record Flagged : Type 0 where
@@ -196,9 +220,13 @@ abbrev pub flagged_from : Bool → Standing → List (List ℕ) → List Flagged
 flagged_from cut s [] = []
 flagged_from cut s (line ∷ lines) = record { alone = is_alone cut s line (is_continued lines); bytes = line } ∷ flagged_from cut (after_line cut s line) lines
 
+-- without `--cut` no line is asked for it
+abbrev pub redefined_by : Reading → Redefined
+redefined_by source = if source.cut then redefined_in (lines_of source.text) else nothing_redefined
+
 -- the lines of a source
 abbrev pub flagged_lines : Reading → List Flagged
-flagged_lines source = flagged_from source.cut at_first (lines_of source.text)
+flagged_lines source = flagged_from source.cut (at_first (redefined_by source)) (lines_of source.text)
 
 -- after: the line directly before is an Instruction or a Pad
 abbrev pub class_at : Bool → Flagged → Class

@@ -1,4 +1,6 @@
 pub mod Counts
+pub mod Redefined
+pub mod Redefining
 pub mod LeftAlone
 pub mod Source
 pub mod BlockParts

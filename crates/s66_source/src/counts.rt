@@ -34,7 +34,7 @@ pub fn is_one_of(names: &[&[u8]], word: &[u8]) -> bool
     ensures { result ≡ is_one_of (map (λ (name : Bor (List ℕ)). name.now) names.now) word.now }
 {
     for name in names {
-        if word == *name {
+        if word.len() == name.len() && word == *name {
             return true;
         }
     }

@@ -258,7 +258,7 @@ fn cover_of_text(text: &[u8]) -> Cover
 }
 
 /// Which lines a directive covers, by what follows its star.
-pub(crate) fn directive_cover(text: &[u8]) -> Cover
+pub fn directive_cover(text: &[u8]) -> Cover
     requires { length text.now ≤ LINE_BYTES_LIMIT - 1 }
     ensures { result ≡ directive_cover (upper text.now) }
 {

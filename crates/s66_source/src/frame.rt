@@ -3,10 +3,12 @@ ghost use Rattle.s66_line.specs.Fields.{from_location};
 ghost use Rattle.s66_source.specs.Frame.{block_part, frame_of};
 ghost use Rattle.s66_source.specs.Roles.{is_other_class, is_pad_class};
 
+use crate::continued::{is_continued, is_continued_at_first};
 use crate::lines::cut_line;
+use crate::redefined::Redefined;
 use crate::source::Source;
 use crate::standing::Standing;
-use s66_line::{Block, Class, is_continuation, without_trailing};
+use s66_line::{Block, Class, without_trailing};
 use std::alloc::{AllocError, Global};
 use std::marker::Model;
 
@@ -65,9 +67,9 @@ fn is_beside(class: &Class, is_dropped: bool) -> bool
 
 /// What is left of a source after some lines.
 #[derive(Drop)]
-struct Framer<'s, 'a> {
+struct Framer<'r, 's, 'a> {
     cut: bool,
-    standing: Standing,
+    standing: Standing<'r>,
     /// The blocks whose first instruction is among the lines to come.
     blocks: &'s [Block<'a>],
     /// Those of the lines to come that are left out when the source is printed.
@@ -78,7 +80,7 @@ struct Framer<'s, 'a> {
     lines: u32,
 }
 
-impl<'s, 'a> Model for Framer<'s, 'a> {
+impl<'r, 's, 'a> Model for Framer<'r, 's, 'a> {
     ghost use Rattle.s66_source.specs.Framer.{Framer};
 
     ghost Value = { Framer };
@@ -87,8 +89,8 @@ impl<'s, 'a> Model for Framer<'s, 'a> {
         record { cut = f.cut; standing = f.standing; blocks = f.blocks.now; dropped = f.dropped.now; after = f.after_code; lines = f.lines } };
 }
 
-impl<'s, 'a> Framer<'s, 'a> {
-    ghost use Rattle.std.specs.Prelude.{◌≡◌, ◌≤◌, ◌<◌, ◌+◌, ◌++◌, ◌∷◌, if◌then◌else◌, true, false, suc, [], length, IfSome, IfNone, OnOk};
+impl<'r, 's, 'a> Framer<'r, 's, 'a> {
+    ghost use Rattle.std.specs.Prelude.{◌≡◌, ◌≤◌, ◌<◌, ◌+◌, ◌&&◌, ◌++◌, ◌∷◌, if◌then◌else◌, true, false, suc, [], length, IfSome, IfNone, OnOk};
     ghost use Rattle.std.specs.Option.{option_to_list};
     ghost use Rattle.s66_isa.specs.Lists.{every};
     ghost use Rattle.s66_line.specs.Fields.{lines_from};
@@ -96,6 +98,7 @@ impl<'s, 'a> Framer<'s, 'a> {
     ghost use Rattle.s66_source.specs.Framer.{after_framed, begins_block, first_part, flagged_next, framed, is_short, part_at};
     ghost use Rattle.s66_source.specs.Keeper.{begins_with};
     ghost use Rattle.s66_source.specs.Keeping.{others};
+    ghost use Rattle.s66_source.specs.LeftAlone.{is_continued};
     ghost use Rattle.s66_source.specs.declared.limits.TheConstants.{SOURCE_LINES_LIMIT};
 
     /// Passes the next line of those that are left out, if it is the next line.
@@ -192,6 +195,14 @@ impl<'s, 'a> Framer<'s, 'a> {
         }
     }
 
+    /// Whether a line is continued by the text after it, if `here` tells this of the line before.
+    fn is_continued(&self, here: bool, line: &[u8], more: &[u8]) -> bool
+        requires { (self.now.cut && here) ≡ (self.now.cut && is_continued (line.now ∷ lines_from [] more.now)) }
+        ensures { (self.now.cut && result) ≡ (self.now.cut && is_continued (lines_from [] more.now)) }
+    {
+        is_continued(self.cut, here, line, more)
+    }
+
     /// Passes the lines of a text.
     fn put_all(&mut self, parts: &mut Vec<FramePart<'a>>, text: &'a [u8]) -> Result<(), AllocError>
         requires lines { self.old.lines + length (lines_from [] text.now) ≤ SOURCE_LINES_LIMIT }
@@ -200,8 +211,10 @@ impl<'s, 'a> Framer<'s, 'a> {
         ensures { OnOk result (parts.new.items ≡ parts.old.items ++ framed self.old (lines_from [] text.now)) }
     {
         let mut rest = text;
+        let mut continued = is_continued_at_first(self.cut, text);
         while let Some((line, more)) = cut_line(rest) {
-            self.put_line(parts, line, is_continuation(more))?;
+            continued = self.is_continued(continued, line, more);
+            self.put_line(parts, line, continued)?;
             rest = more;
         }
         Ok(())
@@ -213,9 +226,11 @@ impl<'s, 'a> Framer<'s, 'a> {
 pub fn frame_of<'a>(alloc: Global, source: &Source<'a>) -> Result<Vec<FramePart<'a>>, AllocError>
     ensures { IfOk result (λ parts. parts.items ≡ frame_of source.now) }
 {
+    let redefined = Redefined::by(alloc, source.is_cut(), source.text())?;
+    let standing = Standing::at_first(&redefined);
     let mut framer = Framer {
         cut: source.is_cut(),
-        standing: Standing::at_first(),
+        standing,
         blocks: source.blocks(),
         dropped: source.dropped(),
         after_code: false,

@@ -142,7 +142,8 @@ pub fn count_examples()
 
 /// Which lines of small sources are left alone: by switches, of which the last is to the end if no switch ends it; and with `--cut` in
 /// definitions, one in the other, under counts, of which a comment is none and each has its own end, in repetitions by `ECHO`,
-/// directives, lines with an operand that is not taken, and what is continued. An operand in column 30 or later is a remark.
+/// directives, lines with an operand that is not taken or not seen, uses of what the source redefines, and what is continued, behind comments
+/// too. An operand in column 30 or later is a remark.
 pub fn left_alone_examples()
     ensures switches { map (λ (m : Flagged). m.alone)
         (flagged_lines (plain (codes "*S66 OFF  BY HAND\n  BX6 X1\n*s66 on\n  BX6 X1\n"))) ≡ true ∷ true ∷ true ∷
@@ -201,6 +202,22 @@ pub fn left_alone_examples()
         (flagged_lines (record { cut = true; text = codes "  BX6 X1\n  BX6 Q1\n" })) ≡ false ∷ true ∷ [] }
     ensures continued { map (λ (m : Flagged). m.alone)
         (flagged_lines (record { cut = true; text = codes "  BX6 X1\n, X2\n  BX6 X3\n" })) ≡ true ∷ true ∷ false ∷ [] }
+    ensures continued_behind { map (λ (m : Flagged). m.alone)
+        (flagged_lines
+        (record { cut = true; text = codes "  SX1 B1\n  BX6 X1\n  BX7 X2\n* C\n\n,  +1\n* C\n  SX3 B1\n" })) ≡ false ∷ false ∷ true ∷ true ∷
+        true ∷ true ∷ false ∷ false ∷ [] }
+    ensures not_seen { map (λ (m : Flagged). m.alone)
+        (flagged_lines
+        (record { cut = true; text = codes "  SX6                     B1\n  SX6               B1\n             SX6             B1\n             SX6            B1\n" })) ≡
+        true ∷ false ∷ true ∷ false ∷ [] }
+    ensures not_seen_behind_label { map (λ (m : Flagged). m.alone)
+        (flagged_lines (record { cut = true; text = codes "LABELLED  SX6                B1\nLABELLEDTEN SX6              B1\n" })) ≡ true ∷ false ∷ [] }
+    ensures redefined { map (λ (m : Flagged). m.alone)
+        (flagged_lines
+        (record { cut = true; text = codes "  SX2 B2\n  CX3 X5\n  SB6 60\n  NO\nCXX OPDEF I,K\n  ENDM\nSB6 CPSYN SX6\n  SX3 X5\nno opsyn nil\n" })) ≡
+        false ∷ true ∷ true ∷ true ∷ false ∷ true ∷ false ∷ false ∷ false ∷ [] }
+    ensures plain_redefined { map (λ (m : Flagged). m.alone)
+        (flagged_lines (plain (codes "  CX3 X5\n  SX6                     B1\nCXX OPDEF I,K\n"))) ≡ false ∷ false ∷ false ∷ [] }
     ensures remark { map (λ (m : Flagged). m.alone)
         (flagged_lines (record { cut = true; text = codes "  ELSE                       2 LINES\n  BX6 X1\n" })) ≡
         false ∷ false ∷ [] }

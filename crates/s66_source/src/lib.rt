@@ -3,6 +3,7 @@
 
 mod block_text;
 mod columns;
+mod continued;
 mod counts;
 mod cover;
 mod directive;
@@ -19,13 +20,15 @@ mod operation;
 mod pads;
 mod placed;
 mod reader;
+mod redefined;
 mod source;
 mod standing;
 
 pub use columns::Columns;
+pub use continued::{is_continued, is_continued_at_first};
 pub use counts::{are_digits, counting_text, cover_of, is_one_of};
 pub use cover::{Cover, Covered};
-pub use directive::is_directive;
+pub use directive::{directive_cover, is_directive};
 pub use error::SourceError;
 pub use frame::{FramePart, frame_of};
 pub use halves::{Halves, halves_of};
@@ -39,5 +42,6 @@ pub use limits::SOURCE_LINES_LIMIT;
 pub use lines::cut_line;
 pub use merged_laws::{merged_examples, merged_law};
 pub use placed::Placed;
+pub use redefined::{Redefined, redefined_examples};
 pub use source::{Source, read_source, read_source_with};
-pub use standing::{Standing, is_switch};
+pub use standing::{Standing, is_far, is_switch};

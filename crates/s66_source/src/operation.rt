@@ -3,7 +3,7 @@ ghost use Rattle.s66_isa.specs.Lists.{every};
 ghost use Rattle.s66_line.specs.Fields.{upper, upper_byte, word};
 ghost use Rattle.s66_source.specs.Counts.{count_down, is_one_of};
 ghost use Rattle.s66_source.specs.LeftAlone.{after_operation, has_operation};
-ghost use Rattle.s66_source.specs.declared.standing.Standing.{Standing};
+ghost use Rattle.s66_source.specs.LeftAlone.{Standing};
 
 use s66_line::{is_comment_line, is_continuation};
 

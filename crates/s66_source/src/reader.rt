@@ -11,19 +11,20 @@ ghost use Rattle.s66_isa.specs.declared.limits.TheConstants.{BLOCK_LIMIT};
 ghost use Rattle.s66_source.specs.declared.limits.TheConstants.{SOURCE_LINES_LIMIT};
 ghost use Rattle.s66_line.specs.declared.limits.TheConstants.{TEXT_LIMIT};
 
+use crate::continued::{is_continued, is_continued_at_first};
 use crate::error::SourceError;
 use crate::limits::SOURCE_LINES_LIMIT;
 use crate::lines::cut_line;
 use crate::pads::Pads;
 use crate::standing::Standing;
 use s66_isa::{BLOCK_LIMIT, Instr};
-use s66_line::{Block, Class, Classified, Entry, LINE_BYTES_LIMIT, is_continuation};
+use s66_line::{Block, Class, Classified, Entry, LINE_BYTES_LIMIT};
 use std::alloc::{AllocError, Global};
 use std::mem;
 
 /// What was made of the lines of a source so far.
 #[derive(Drop)]
-pub struct Reader<'a> {
+pub struct Reader<'r, 'a> {
     pub blocks: Vec<Block<'a>>,
     /// The label of the run until its first block is ended, empty from then on.
     pub label: &'a [u8],
@@ -36,10 +37,10 @@ pub struct Reader<'a> {
     pub after_code: bool,
     /// Whether lines that are refused, or covered by a count, a definition or a directive, are left alone.
     pub cut: bool,
-    pub standing: Standing,
+    pub standing: Standing<'r>,
 }
 
-impl<'a> Reader<'a> {
+impl<'r, 'a> Reader<'r, 'a> {
     /// Ends the open block if it has an instruction.
     pub(crate) fn end_block(&mut self, alloc: Global) -> Result<(), AllocError>
         requires { length self.old.entries.items ≤ BLOCK_LIMIT }
@@ -148,7 +149,7 @@ impl<'a> Reader<'a> {
         Ok(())
     }
 
-    /// Reads the next line, which is continued if the line after it has a comma in column 1.
+    /// Reads the next line, which is continued or not.
     fn take_line(
         &mut self,
         alloc: Global,
@@ -197,8 +198,10 @@ impl<'a> Reader<'a> {
         ensures few { OnOk result (length self.new.entries.items < BLOCK_LIMIT) }
     {
         let mut rest = text;
+        let mut continued = is_continued_at_first(self.cut, text);
         while let Some((line, more)) = cut_line(rest) {
-            self.take_line(alloc, line, is_continuation(more))?;
+            continued = is_continued(self.cut, continued, line, more);
+            self.take_line(alloc, line, continued)?;
             rest = more;
         }
         Ok(())

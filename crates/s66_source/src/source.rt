@@ -6,6 +6,7 @@ ghost use Rattle.s66_source.specs.LeftAlone.{plain};
 use crate::error::SourceError;
 use crate::pads::Pads;
 use crate::reader::Reader;
+use crate::redefined::Redefined;
 use crate::standing::Standing;
 use s66_line::Block;
 use std::alloc::Global;
@@ -93,6 +94,8 @@ pub fn read_source_with(alloc: Global, cut: bool, text: &[u8]) -> Result<Source<
     ensures read { Gives (λ source. blocks_of (classed_lines source)) result
         (source_of (record { cut = cut; text = text.now })) }
 {
+    let redefined = Redefined::by(alloc, cut, text)?;
+    let standing = Standing::at_first(&redefined);
     let mut reader = Reader {
         blocks: Vec::new(alloc),
         label: &[],
@@ -101,7 +104,7 @@ pub fn read_source_with(alloc: Global, cut: bool, text: &[u8]) -> Result<Source<
         lines: 0,
         after_code: false,
         cut,
-        standing: Standing::at_first(),
+        standing,
     };
     reader.take_all(alloc, text)?;
     reader.end_block(alloc)?;

@@ -3,7 +3,7 @@ ghost use Rattle.s66_line.specs.Class.{IsSpelled, class_of, is_code};
 ghost use Rattle.s66_line.specs.Fields.{body, from_operation, is_comment, label_bytes, operation, upper};
 ghost use Rattle.s66_source.specs.Counts.{counting_text};
 ghost use Rattle.s66_source.specs.Roles.{is_comment_class};
-ghost use Rattle.s66_source.specs.LeftAlone.{after_line, has_operation, after_operation, at_first, bodies_after, class_at, is_alone, is_directive, is_held, is_refused, is_switch, with_directive, with_operation};
+ghost use Rattle.s66_source.specs.LeftAlone.{after_line, has_operation, after_operation, at_first, bodies_after, class_at, is_alone, is_directive, is_doubtful, is_far, is_held, is_switch, with_directive, with_operation};
 ghost use Rattle.s66_line.specs.declared.limits.TheConstants.{LINE_BYTES_LIMIT, TEXT_LIMIT};
 ghost use Rattle.s66_source.specs.declared.limits.TheConstants.{SOURCE_LINES_LIMIT};
 
@@ -11,22 +11,45 @@ use crate::counts::{RANGE_ENDS, counting_text, cover_of, is_one_of};
 use crate::cover::Covered;
 use crate::directive::{directive_cover, is_directive};
 use crate::operation::{has_operation, is_ordinary, is_upper_case};
+use crate::redefined::Redefined;
 use s66_line::{
-    Class, Classified, body_of, classify, fields_of, operation_and_operand, split_word, upper_case,
+    Class, Classified, body_of, classify, fields_of, from_operand, operation_and_operand,
+    split_word, upper_case,
 };
+use std::marker::Model;
 
 /// The operations that begin a definition.
 const DEFINITIONS: [&[u8]; 3] = [b"MACRO", b"MACROE", b"OPDEF"];
 
+/// As far behind the begin of its operation an operand begins in column 30, if the operation stands in column 11.
+const FAR: usize = 19;
+
+/// So many bytes come before column 30.
+const BEFORE_REMARK: usize = 29;
+
+/// So many bytes come before column 11.
+const LABEL_FIELD: usize = 10;
+
 /// What stands from one line of a source to the next.
-#[derive(Clone, Copy)]
-pub struct Standing {
+#[derive(Drop)]
+pub struct Standing<'r> {
     /// Whether a switch `*S66 OFF` came before, and no switch `*S66 ON` after it.
     pub off: bool,
     /// How many definitions are open.
     pub bodies: u32,
     /// What is still covered by counts and repetitions.
     pub cover: Covered,
+    /// What the source redefines, before or after.
+    redefined: &'r Redefined,
+}
+
+impl<'r> Model for Standing<'r> {
+    ghost use Rattle.s66_source.specs.LeftAlone.{Standing};
+
+    ghost Value = { Standing };
+
+    ghost view = { λ s.
+        record { off = s.off; bodies = s.bodies; cover = s.cover; redefined = s.redefined.now } };
 }
 
 /// Whether a word is this name, which is in upper case and short, but for the case of its letters.
@@ -141,22 +164,30 @@ fn is_settled(class: &Class) -> bool
     class.is_code() || matches!(class, Class::Comment)
 }
 
-/// Whether a line of this class is left alone rather than refused.
-fn is_passed_over(cut: bool, class: &Class) -> bool
-    ensures { result ≡ (cut && is_refused class.now) }
+/// Whether the operand of a body isn't seen, which begins in column 30 or later, or would where the operation is put into column 11.
+pub fn is_far(body: &[u8]) -> bool
+    ensures { result ≡ is_far body.now }
 {
-    cut && matches!(class, Class::Refused)
+    let fields = fields_of(body);
+    let operand = from_operand(body).len();
+    if operand == 0 {
+        return false;
+    }
+    fields.from_operation.len().saturating_sub(operand) >= FAR
+        || fields.label.len() < LABEL_FIELD && body.len().saturating_sub(operand) >= BEFORE_REMARK
 }
 
-impl Standing {
-    /// Before the first line.
-    pub fn at_first() -> Standing
-        ensures { result ≡ at_first }
+impl<'r> Standing<'r> {
+    ghost use Rattle.std.specs.Prelude.{◌≡◌, ◌≤◌, ◌<◌, ◌&&◌, ◌||◌, suc, false, if◌then◌else◌, true, bytes_eq, codes, length, take};
+    /// Before the first line of a source that redefines this.
+    pub fn at_first(redefined: &'r Redefined) -> Standing<'r>
+        ensures { result ≡ at_first redefined.now }
     {
         Standing {
             off: false,
             bodies: 0,
             cover: Covered::nothing(),
+            redefined,
         }
     }
 
@@ -172,6 +203,41 @@ impl Standing {
                     || self.cover.is_covering()
                     || continued
                     || is_directive_line(line))
+    }
+
+    /// Whether a line, which was classified, is refused, or COMPASS may take it for something else.
+    fn doubts(&self, classified: &Classified, line: &[u8]) -> bool
+        requires label { is_code classified.now.class ≡ true → classified.now.label.now ≡ label_bytes (body line.now) }
+        requires bytes { is_code classified.now.class ≡ true → classified.now.bytes.now ≡ from_operation (body line.now) }
+        requires few { length classified.now.bytes.now ≤ TEXT_LIMIT }
+        ensures { result ≡ is_doubtful self.now.redefined classified.now.class (body line.now) }
+    {
+        match classified.class {
+            Class::Refused => true,
+            Class::Pad { .. } => self.redefined.has(classified.bytes),
+            Class::Instruction { .. } => {
+                self.redefined.has(classified.bytes) || is_far(body_of(line))
+            }
+            _ => false,
+        }
+    }
+
+    /// Whether a line, which was classified, is left alone for a doubt.
+    fn passes_over(&self, cut: bool, classified: &Classified, line: &[u8]) -> bool
+        requires label { is_code classified.now.class ≡ true → classified.now.label.now ≡ label_bytes (body line.now) }
+        requires bytes { is_code classified.now.class ≡ true → classified.now.bytes.now ≡ from_operation (body line.now) }
+        requires few { length classified.now.bytes.now ≤ TEXT_LIMIT }
+        ensures { result ≡ (cut && is_doubtful self.now.redefined classified.now.class (body line.now)) }
+    {
+        cut && self.doubts(classified, line)
+    }
+
+    /// Whether the next line is left alone.
+    pub fn is_alone(&self, cut: bool, line: &[u8], continued: bool) -> bool
+        requires { length line.now ≤ LINE_BYTES_LIMIT }
+        ensures { result ≡ is_alone cut self.now line.now continued }
+    {
+        self.holds(cut, line, continued) || self.passes_over(cut, &classify_line(true, line), line)
     }
 
     /// The next line with its class, by whether the line directly before it is code, and whether the line after it continues it.
@@ -194,7 +260,7 @@ impl Standing {
             return LEFT_ALONE;
         }
         let classified = classify_line(after_code, line);
-        if is_passed_over(cut, &classified.class) {
+        if self.passes_over(cut, &classified, line) {
             return LEFT_ALONE;
         }
         classified

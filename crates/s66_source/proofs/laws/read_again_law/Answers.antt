@@ -1,4 +1,4 @@
-use Rattle.s66_source.proofs.ReadAgain.{read-again}
+use Rattle.s66_source.proofs.SourceAgain.{read-again}
 use Rattle.s66_source.proofs.laws.read_again_law.Goals as goal
 
 pub returns : goal.returns

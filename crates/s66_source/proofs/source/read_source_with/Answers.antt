@@ -12,15 +12,15 @@ use Rattle.s66_source.proofs.source.read_source_with.Goals as goal
 pub returns-in_err-take_all-clause-read : goal.returns-in_err-take_all-clause-read
 returns-in_err-take_all-clause-read c =
     let source : Reading = record { cut = c.args.cut; text = c.args.text.now } in
-    let p = err_from_is_err_and c.from_residual.result c.from_residual.ensures.1 in
-    let step = rw c.at_first.ensures at c.in_err-take_all.ensures.step in
+    let p = err_from_is_err_and c.from_residual-in_err-take_all.result c.from_residual-in_err-take_all.ensures.1 in
+    let step = rw (c.at_first-standing.ensures, c.in_ok-redefined.ensures) at c.in_err-take_all.ensures.step in
     rw (p.1, p.2) (Gives-refusal {X = Reading} (λ source. blocks_of (classed_lines source)) c.in_err-take_all.field-0.0 source _ (state c.take_all.new.self) (rw (c.new.ensures.items, c.new-2.ensures.items) refl) step)
 
 pub invariant_of-result : goal.invariant_of-result
 invariant_of-result c =
     let source : Reading = record { cut = c.args.cut; text = c.args.text.now } in
-    let step = rw c.at_first.ensures at c.in_ok-take_all.ensures.step in
-    let pads = rw c.at_first.ensures at c.in_ok-take_all.ensures.pads in (
+    let step = rw (c.at_first-standing.ensures, c.in_ok-redefined.ensures) at c.in_ok-take_all.ensures.step in
+    let pads = rw (c.at_first-standing.ensures, c.in_ok-redefined.ensures) at c.in_ok-take_all.ensures.pads in (
       source-blocks source _ (state c.take_all.new.self) (state c.end_block.new.self) (rw (c.new.ensures.items, c.new-2.ensures.items) refl) step c.in_ok-end_block.ensures.step,
       c.into_dropped_and_leading-dropped.ensures.dropped ∙ ap (λ (p : Pads). p.dropped) (c.end_block.ensures.pads ∙ pads ∙ ap (λ p. pads_of_lines 0 false p (flagged_lines source)) c.new-3.ensures) ∙ dropped-read source,
       c.into_dropped_and_leading-dropped.ensures.leading ∙ ap (λ (p : Pads). p.leading) (c.end_block.ensures.pads ∙ pads ∙ ap (λ p. pads_of_lines 0 false p (flagged_lines source)) c.new-3.ensures) ∙ leading-read source,
@@ -29,5 +29,5 @@ invariant_of-result c =
 pub returns-clause-read : goal.returns-clause-read
 returns-clause-read c =
     let source : Reading = record { cut = c.args.cut; text = c.args.text.now } in
-    let step = rw c.at_first.ensures at c.in_ok-take_all.ensures.step in
+    let step = rw (c.at_first-standing.ensures, c.in_ok-redefined.ensures) at c.in_ok-take_all.ensures.step in
     Gives-accepted source _ (source-blocks source _ (state c.take_all.new.self) (state c.end_block.new.self) (rw (c.new.ensures.items, c.new-2.ensures.items) refl) step c.in_ok-end_block.ensures.step)

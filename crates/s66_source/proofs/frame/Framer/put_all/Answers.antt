@@ -1,5 +1,6 @@
-use Rattle.std.proofs.Common.{◌≤◌, ◌+◌, ◌++◌, ◌∙◌, ℕ, List, length, subst, sym, ap, arith}
+use Rattle.std.proofs.Common.{◌≤◌, ◌&&◌, ◌+◌, ◌++◌, ◌∙◌, ℕ, List, length, subst, sym, ap, arith}
 use Rattle.std.proofs.lemmas.List.{append-nil}
+use Rattle.s66_source.specs.LeftAlone.{is_continued}
 use Rattle.s66_source.specs.Framer.{Framer, framed}
 use Rattle.s66_source.specs.declared.limits.TheConstants.{SOURCE_LINES_LIMIT}
 use Rattle.s66_source.proofs.Frames.{framed-found, short-found}
@@ -22,10 +23,11 @@ loop-line-preserved c =
     let few = subst (λ (lines : List (List ℕ)). c.loop-line.self.lines + length lines ≤ SOURCE_LINES_LIMIT) cut c.loop-line.invariant.lines in
     let put = c.in_ok-put_line.ensures in
     record {
-      parts = rw (put.parts, put.rest, c.is_continuation.ensures) (framed-found c.loop-line.self c.loop-line.parts.items rest line more cut ∙ c.loop-line.invariant.parts);
+      parts = rw (put.parts, put.rest) (framed-found c.loop-line.self c.loop-line.parts.items rest line more c.is_continued-continued.result cut c.is_continued-continued.ensures ∙ c.loop-line.invariant.parts);
       lines = omega (arith, few, ap (λ (f : Framer). f.lines) put.rest);
       short = (short-found rest line more cut c.loop-line.invariant.short).1;
       bodies = put.bodies;
+      continued = rw put.rest c.is_continued-continued.ensures;
       within = (let within = c.loop-line.invariant.within in omega (arith, within, c.in-Some.ensures.shorter));
     }
 

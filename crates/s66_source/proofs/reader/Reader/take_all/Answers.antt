@@ -1,6 +1,6 @@
-use Rattle.std.proofs.Common.{sym, ap, ◌∙◌, arith}
+use Rattle.std.proofs.Common.{◌&&◌, sym, ap, ◌∙◌, arith}
 use Rattle.std.proofs.lemmas.Result.{err_from_is_err_and}
-use Rattle.s66_source.specs.LeftAlone.{flagged_from}
+use Rattle.s66_source.specs.LeftAlone.{flagged_from, is_continued}
 use Rattle.s66_source.specs.Pads.{pads_of_lines}
 use Rattle.s66_source.specs.Reader.{lines_step}
 use Rattle.s66_source.specs.SourceReader.{state}
@@ -16,25 +16,25 @@ loop-line-preserved c =
     let more = c.in-Some.more.now in
     let cut = c.in-Some.ensures.line in
     let taken = c.in_ok-take_line.ensures in
-    let step = rw c.is_continuation.ensures at taken.step in
+    let next = c.is_continued-continued.ensures in
     record {
-      rest = rw (taken.cut, taken.standing) (lines_step-found self.cut self.standing (state self) (state c.take_line.new.self) rest line more _ cut step c.loop-line.invariant.rest);
-      pads = rw (taken.pads, taken.count, taken.after_code, taken.cut, taken.standing, c.is_continuation.ensures)
-          (sym (ap (pads_of_lines self.lines self.after_code self.pads) (flagged-found self.cut self.standing rest line more cut)) ∙ c.loop-line.invariant.pads);
+      rest = rw (taken.cut, taken.standing) (lines_step-found self.cut self.standing (state self) (state c.take_line.new.self) rest line more c.is_continued-continued.result _ cut next taken.step c.loop-line.invariant.rest);
+      pads = rw (taken.pads, taken.count, taken.after_code, taken.cut, taken.standing)
+          (sym (ap (pads_of_lines self.lines self.after_code self.pads) (flagged-found self.cut self.standing rest line more c.is_continued-continued.result cut next)) ∙ c.loop-line.invariant.pads);
       few = taken.few;
       lines = taken.lines;
       bodies = taken.bodies;
+      continued = rw taken.cut next;
       within = (let within = c.loop-line.invariant.within in omega (arith, within, c.in-Some.ensures.shorter));
     }
 
 pub returns-in_err-take_line-clause-step : goal.returns-in_err-take_line-clause-step
 returns-in_err-take_line-clause-step c =
     let self = c.loop-line.self in
-    let step = rw c.is_continuation.ensures at c.in_err-take_line.ensures.step in
     let p = err_from_is_err_and c.from_residual.result c.from_residual.ensures.1 in
     rw (p.1, p.2)
-    (Steps-found self.cut self.standing c.in_err-take_line.field-0.0 (state self) (state c.take_line.new.self) (state c.take_line.new.self) c.loop-line.rest.now c.in-Some.line.now c.in-Some.more.now _ c.in-Some.ensures.line step
-    c.loop-line.invariant.rest)
+    (Steps-found self.cut self.standing c.in_err-take_line.field-0.0 (state self) (state c.take_line.new.self) (state c.take_line.new.self) c.loop-line.rest.now c.in-Some.line.now c.in-Some.more.now c.is_continued-continued.result _ c.in-Some.ensures.line c.is_continued-continued.ensures
+    c.in_err-take_line.ensures.step c.loop-line.invariant.rest)
 
 pub returns-clause-pads : goal.returns-clause-pads
 returns-clause-pads c =

@@ -1,8 +1,8 @@
-use Rattle.std.proofs.Common.{◌≡◌, ◌≤◌, ◌<◌, [], length}
+use Rattle.std.proofs.Common.{◌≡◌, ◌&&◌, ◌≤◌, ◌<◌, [], length}
 use Rattle.s66_isa.specs.declared.limits.TheConstants.{BLOCK_LIMIT}
 use Rattle.s66_source.specs.declared.limits.TheConstants.{SOURCE_LINES_LIMIT}
 use Rattle.s66_line.specs.Fields.{lines_from}
-use Rattle.s66_source.specs.LeftAlone.{flagged_from}
+use Rattle.s66_source.specs.LeftAlone.{flagged_from, is_continued}
 use Rattle.s66_source.specs.Pads.{pads_of_lines}
 use Rattle.s66_source.specs.Reader.{lines_step}
 use Rattle.s66_source.specs.SourceReader.{state}
@@ -17,6 +17,7 @@ invariant-loop-line l = record {
   few : length l.self.entries.items < BLOCK_LIMIT;
   lines : l.self.lines ≤ SOURCE_LINES_LIMIT;
   bodies : l.self.standing.bodies ≤ l.self.lines;
+  continued : (l.self.cut && l.continued) ≡ (l.self.cut && is_continued (lines_from [] l.rest));
   within : length l.rest ≤ length l.text;
 }
 

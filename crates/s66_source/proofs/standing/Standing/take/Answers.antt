@@ -6,7 +6,7 @@ use Rattle.s66_line.specs.Fields.{upper}
 use Rattle.s66_line.specs.declared.class.Class.TheVariants.{Other}
 use Rattle.s66_source.specs.LeftAlone.{after_line, class_at, is_alone}
 use Rattle.s66_source.specs.Roles.{is_comment_class}
-use Rattle.s66_source.specs.declared.standing.Standing.{Standing}
+use Rattle.s66_source.specs.LeftAlone.{Standing}
 use Rattle.s66_source.proofs.Standings.{bodies-grow, outside-alone, outside-after, settled-stays}
 use Rattle.s66_source.proofs.standing.Standing.take.Goals as goal
 
