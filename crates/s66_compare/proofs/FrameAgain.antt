@@ -14,16 +14,17 @@ use Rattle.s66_line.specs.declared.class.Class.{Class}
 use Rattle.s66_line.specs.declared.class.Class.TheVariants.{Comment, Other, Refused, Pad, Instruction}
 use Rattle.s66_line.proofs.Wholes.{AreLines-lines_of, is_inside}
 use Rattle.s66_source.specs.Frame.{FramePart, frame_of}
-use Rattle.s66_source.specs.LeftAlone.{Flagged, Reading, after_line, at_first, class_at, flagged_from, flagged_lines, is_alone, is_continued}
+use Rattle.s66_source.specs.LeftAlone.{Flagged, Reading, after_line, at_first, class_at, flagged_from, flagged_lines, is_alone, is_continued, redefined_by}
 use Rattle.s66_source.specs.Printed.{ArePlaced, Placed, block_text, copied_line, printed, text_of_lines}
 use Rattle.s66_source.specs.ReadAgain.{AreComplete}
 use Rattle.s66_source.specs.Roles.{is_copied}
 use Rattle.s66_source.specs.Source.{Line, begins_block, block_of, blocks_of, classed_lines, classes_from, entry_of, instructions, parts_of, put_before, refusal, source_of}
-use Rattle.s66_source.specs.declared.standing.Standing.{Standing}
+use Rattle.s66_source.specs.LeftAlone.{Standing}
 use Rattle.s66_source.proofs.LineLaw.{no_refusal}
 use Rattle.s66_source.proofs.PrintedLines.{accepted-is, instruction-not_copied, ordered-classed, text-first}
-use Rattle.s66_source.proofs.ReadAgain.{AreSoundLines, IsLeft, behind, behind-begins, behind-put, class-taken, first-from, fits-all, label-or_none, left, lines_after, left-begins, left-by, left-put, located-label, next-same, none-left, none-refused, parts_after, parts_at, parts_by, parts_from, rest-taken, sound-instructions, sound-left, sound-line, stays-comment, text-copied}
+use Rattle.s66_source.proofs.ReadAgain.{AreSoundLines, IsLeft, behind, behind-begins, behind-put, first-from, fits-all, label-or_none, left, lines_after, left-begins, left-by, left-put, located-label, next-same, none-left, none-refused, parts_after, parts_at, parts_by, parts_from, rest-taken, sound-instructions, sound-left, sound-line, stays-comment, text-copied}
 use Rattle.s66_source.proofs.ReadComments.{AreLinesOfSource, lines-of_source}
+use Rattle.s66_source.proofs.SourceAgain.{redefined-again}
 use Rattle.s66_source.proofs.ReadLine.{IsLabel}
 use Rattle.s66_source.proofs.ReadStanding.{IsQuiet, flagged_at}
 use Rattle.s66_source.proofs.ReaderBlocks.{fresh, from_class, full-index, next-index}
@@ -106,7 +107,7 @@ walks-comment cut line lines walks s all before n number run index label after p
     let stays = stays-comment cut s after (is_continued lines) line stated in
     subst (λ t. gives_at cut s r t x) (sym (text-copied all n parts ps l rest (first-from flagged (suc number) run index label false)))
     (elim (is_copied all l) as (λ t. gives_at cut s r ((if t then copied_line l else []) ++ text) x) [
-      | true ↦ gives-copied cut s r after (is_continued lines) line text number Comment x inside (next-same cut stands lines all n ps (suc number) run index label false) stated refl (later false)
+      | true ↦ gives-copied cut s r after (is_continued lines) line text number Comment x inside (next-same cut stands lines all n ps (suc number) run index label false source insides is placed) stated refl (later false)
       | false ↦ subst (λ stand. gives_at cut stand r text x) stays (later r.after)
     ])
 
@@ -177,7 +178,7 @@ walks-pad cut line lines walks s all before n number run index label after pads 
         } in
         let owing : owed (has_run run rest) index now ≡ owed (has_run run (l ∷ rest)) index r.pads =
         ap (λ t. owed t index now) neither.1 ∙ nothing-owed index now ∙ sym (ap (λ t. owed t index r.pads) (ahead ∙ neither.1) ∙ nothing-owed index r.pads) in
-        gives-copied cut s r after (is_continued lines) line text number (Pad false) x inside (next-same cut stands lines all n ps (suc number) run index label true) stated refl
+        gives-copied cut s r after (is_continued lines) line text number (Pad false) x inside (next-same cut stands lines all n ps (suc number) run index label true source insides is placed) stated refl
         (subst (λ (ss : List Shape). gives_at cut stands (reached true now r.index r.label) text (ss ++ runs (reached true kept index label) flagged)) owing
         (walks stands all (before ++ l ∷ []) n (suc number) run index label true kept ps (reached true now r.index r.label) (within-same all before l rest run index within refl refl) source insides (rest-taken l rest taken) is placed complete fits))
     by_copied false same =
@@ -275,7 +276,7 @@ walks-labelled_pad cut line lines walks s all before n number run index label af
         } in
         let later = walks stands all (before ++ l ∷ []) n (suc number) (suc run) 0 new true own ps (reached true own 0 new) (within-new all before l rest run index within (omega arith) refl) source insides (rest-taken l rest taken) fresh_label.0 placed complete fits in
         subst (λ (ss : List Shape). gives_at cut s r ((copied_line l) ++ text) ss) flushed
-        (gives-copied cut s r after (is_continued lines) line text number (Pad true) more inside (next-same cut stands lines all n ps (suc number) (suc run) 0 new true) stated refl
+        (gives-copied cut s r after (is_continued lines) line text number (Pad true) more inside (next-same cut stands lines all n ps (suc number) (suc run) 0 new true source insides fresh_label.0 placed) stated refl
         (subst (λ t. gives_at cut stands (reached true own 0 new) text (owed t 0 own ++ more)) none later))
     by_copied false same =
         let some = lone-not (has_run (suc run) rest) (sym same) in
@@ -318,7 +319,7 @@ walks-other cut line lines walks s all before n number run index label after pad
     let later = walks stands all (before ++ l ∷ []) n (suc number) (suc run) 0 [] false [] ps (reached false [] 0 []) (within-new all before l rest run index within (omega arith) refl) source insides (rest-taken l rest taken) (refl, refl) placed complete fits in
     subst (λ t. gives_at cut s r t (owed (has_run run (l ∷ rest)) index r.pads ++ ((pads ++ own) ++ more))) (sym (text-copied all n parts ps l rest (first-from flagged (suc number) (suc run) 0 [] false)))
     (subst (λ (ss : List Shape). gives_at cut s r (copied_line l ++ text) ss) flushed
-    (gives-copied cut s r after (is_continued lines) line text number Other more inside (next-same cut stands lines all n ps (suc number) (suc run) 0 [] false) stated refl
+    (gives-copied cut s r after (is_continued lines) line text number Other more inside (next-same cut stands lines all n ps (suc number) (suc run) 0 [] false source insides (refl, refl) placed) stated refl
     (subst (λ (ss : List Shape). gives_at cut stands (reached false [] 0 []) text (ss ++ more)) (owed-nothing (has_run (suc run) rest) 0) later)))
 
 -- AN INSTRUCTION with which a block begins
@@ -343,7 +344,7 @@ later-label (suc n) label some = refl
 walks-first : (cut : Bool) (lines : List (List ℕ)) → Walks cut lines → (s stands : Standing) (all before : List Line) (n run : ℕ) (l : Line) (ps : List Placed) (r : Reached) →
     let flagged : List Flagged = flagged_from cut stands lines in
     IsLeft cut s stands lines → Within all before (lines_after run l flagged) run (suc l.index) → AreLinesOfSource cut all → every (every is_inside) lines ≡ true → refusal (lines_after run l flagged) ≡ None → IsLabel l.label →
-    l.index % BLOCK_LIMIT ≡ 0 → AreSoundLines (l ∷ []) → (first_label l.index l.label ≡ [] → Free r.index r.label) →
+    l.index % BLOCK_LIMIT ≡ 0 → AreSoundLines cut s.redefined (l ∷ []) → (first_label l.index l.label ≡ [] → Free r.index r.label) →
     ArePlaced (map block_of (parts_at run l flagged)) ps → AreComplete (map block_of (parts_at run l flagged)) ps →
     gives_at cut s r (text_of_lines all n (map block_of (parts_at run l flagged)) ps (l ∷ lines_after run l flagged))
     ((if is_filled (first_label l.index l.label) then r.pads else []) ++ block_shape (first_label l.index l.label) ∷ runs (reached true [] (suc l.index) l.label) flagged)
@@ -358,7 +359,7 @@ walks-first cut lines walks s stands all before n run l (p ∷ ps) r left_by wit
     let after : suc l.index % BLOCK_LIMIT ≡ 1 = next-index l.index 0 begins (λ same. omega (arith, same)) in
     let fits = fits-all flagged (suc l.number) run (suc l.index) l.label true in
     let count : length (map entry_of (left parts)) ≡ length (left parts) = length-map (left parts) entry_of in
-    let quiet : IsQuiet cut text = next-same cut stands lines all (suc n) ps (suc l.number) run (suc l.index) l.label true ∙ left_by.ended in
+    let quiet : IsQuiet cut text = next-same cut stands lines all (suc n) ps (suc l.number) run (suc l.index) l.label true source insides is placed.1 ∙ left_by.ended in
     let named : block.label ≡ first_label l.index l.label = first-label l.index l.label in
     let later : (index : ℕ) (name : List ℕ) → index % BLOCK_LIMIT ≡ 0 → gives_at cut s (reached true [] (index + length p.order) name) text more =
     λ index name at. subst (λ u. gives_at cut u (reached true [] (index + length p.order) name) text more) left_by.stays
@@ -377,8 +378,11 @@ walks-first cut lines walks s stands all before n run l (p ∷ ps) r left_by wit
     })) in
     subst (λ t. gives_at cut s r t ((if is_filled (first_label l.index l.label) then r.pads else []) ++ block_shape (first_label l.index l.label) ∷ more)) (sym (text-first all n block (map block_of (behind parts)) p ps l rest refl))
     (subst (λ label. gives_at cut s r (block_text all n block p ++ text) ((if is_filled label then r.pads else []) ++ block_shape label ∷ more)) named
-    (gives-block cut s all n block p r text more left_by.free quiet source (label-or_none (l.index == 0) l.label is) (λ empty. new (sym named ∙ empty))
-    (sound.0, sound-left (instructions rest) (sound-instructions cut stands lines (suc l.number) run (suc l.index) l.label true insides)) placed.0
+    (gives-block cut s all n block p r text more left_by.free quiet source (label-or_none (l.index == 0) l.label is) (λ empty. new (sym named ∙ empty)) (
+      sound.0,
+      sound-left cut s.redefined (instructions rest)
+          (subst (λ (t : Standing). AreSoundLines cut t.redefined (instructions rest)) left_by.stays (sound-instructions cut stands lines (suc l.number) run (suc l.index) l.label true insides)),
+    ) placed.0
     (omega (arith, complete.0)) (omega (arith, complete.0, fits, after, count)) later))
 
 -- what stood before comes with a label
@@ -448,7 +452,7 @@ walks-instruction cut i line lines walks s all before n number run index label a
     by_begins true here placed complete =
         let at = eqb-true (index % BLOCK_LIMIT) 0 here in
         let first = walks-first cut lines walks s stands all (before ++ l ∷ []) n run l ps r left_by within_rest source insides (rest-taken l rest taken) is at
-        (sound-line after l false i refl (class-taken cut s after line lines false i stated) inside) (λ empty. fit.ready.0 at empty) placed complete in
+        (sound-line cut s after l (is_continued lines) false i refl stated inside) (λ empty. fit.ready.0 at empty) placed complete in
         let same : (if is_filled (first_label index label) then r.pads else []) ++ block_shape (first_label index label) ∷ more ≡ x =
         ap₂ (λ (ss : List Shape) (ts : List Shape). ss ++ (ts ++ more))
         (with-owed index label r.pads (λ none empty. fit.owes none empty ahead) ∙ ap (λ t. owed t index r.pads) (sym ahead))
@@ -493,7 +497,7 @@ walks-labelled cut i line lines walks s all before n number run index label afte
     ∙ ap (λ t. owed t index r.pads ++ ((pads ++ here) ++ more)) (sym ended) in
     let cut_at = behind-put l parts in
     let first = walks-first cut lines walks s stands all (before ++ l ∷ []) n (suc run) l ps r (left-by cut s after line lines true i stated) (within-more all before l rest run (suc run) index 0 within (omega arith) refl refl)
-    source insides (rest-taken l rest taken) fresh_label.0 refl (sound-line after l true i refl (class-taken cut s after line lines true i stated) inside) (λ empty. absurd (filled-some new fresh_label.1 empty))
+    source insides (rest-taken l rest taken) fresh_label.0 refl (sound-line cut s after l (is_continued lines) true i refl stated inside) (λ empty. absurd (filled-some new fresh_label.1 empty))
     (subst (λ found. ArePlaced (map block_of found) ps) cut_at placed) (subst (λ found. AreComplete (map block_of found) ps) cut_at complete) in
     subst (λ found. gives_at cut s r (text_of_lines all n (map block_of found) ps (l ∷ rest)) x) (sym cut_at)
     (subst (λ (ss : List Shape). gives_at cut s r (text_of_lines all n (map block_of ((l ∷ left parts) ∷ behind parts)) ps (l ∷ rest)) ss) flushed first)
@@ -524,6 +528,7 @@ pub frame-again : (source : Reading) (blocks again : List Block) (ps : List Plac
     shapes (frame_of (record { cut = source.cut; text = printed source ps })) ≡ shapes (frame_of source)
 frame-again source blocks again ps accepted placed complete again_accepted =
     let new : Reading = record { cut = source.cut; text = printed source ps } in
+    let first : Standing = at_first (redefined_by source) in
     let lines : List (List ℕ) = lines_of source.text in
     let all : List Line = classed_lines source in
     let parts : List (List Line) = parts_of (instructions all) in
@@ -533,14 +538,16 @@ frame-again source blocks again ps accepted placed complete again_accepted =
     let none = ap (λ (ls : List Line). length ls) (left-begins parts fresh_parts) in
     let insides = (AreLines-lines_of source.text).no_newline in
     let clean : Clean false (flagged_lines new) = clean-classed (flagged_lines new) 1 0 0 [] false (no_refusal (refusal (classed_lines new)) (blocks_of (classed_lines new)) again again_accepted) in
-    let walked : gives_at source.cut at_first (reached false [] 0 []) (text_of_lines all 1 (map block_of (behind parts)) ps all) (owed (has_run 0 all) 0 [] ++ runs (reached false [] 0 []) (flagged_lines source)) =
-    walks-all source.cut lines at_first all [] 1 1 0 0 [] false [] ps (reached false [] 0 []) (record { whole = refl; past = tt; begins = refl })
-    (lines-of_source source.cut at_first lines 1 0 0 [] false insides) insides (no_refusal (refusal all) (blocks_of all) blocks accepted) (refl, refl)
+    let walked : gives_at source.cut first (reached false [] 0 []) (text_of_lines all 1 (map block_of (behind parts)) ps all) (owed (has_run 0 all) 0 [] ++ runs (reached false [] 0 []) (flagged_lines source)) =
+    walks-all source.cut lines first all [] 1 1 0 0 [] false [] ps (reached false [] 0 []) (record { whole = refl; past = tt; begins = refl })
+    (lines-of_source source.cut first lines 1 0 0 [] false insides) insides (no_refusal (refusal all) (blocks_of all) blocks accepted) (refl, refl)
     (subst (λ found. ArePlaced found ps) (sym cut) placed) (subst (λ found. AreComplete found ps) (sym cut) complete)
     (record { begins = λ h. no-begun h; alone = λ first no_more. (refl, refl); owes = λ first empty some. refl; ready = (λ at empty. (refl, refl), λ full. absurd (omega (arith, none, full))) }) in
-    let printed_so : gives_at source.cut at_first (reached false [] 0 []) (printed source ps) (owed (has_run 0 all) 0 [] ++ runs (reached false [] 0 []) (flagged_lines source)) =
-    subst (λ found. gives_at source.cut at_first (reached false [] 0 []) (text_of_lines all 1 (map block_of found) ps all) (owed (has_run 0 all) 0 [] ++ runs (reached false [] 0 []) (flagged_lines source))) whole walked in
-    sym (frame-runs new again again_accepted) ∙ printed_so clean ∙ ap (λ ss. ss ++ runs (reached false [] 0 []) (flagged_lines source)) (owed-nothing (has_run 0 all) 0) ∙ frame-runs source blocks accepted
+    let printed_so : gives_at source.cut first (reached false [] 0 []) (printed source ps) (owed (has_run 0 all) 0 [] ++ runs (reached false [] 0 []) (flagged_lines source)) =
+    subst (λ found. gives_at source.cut first (reached false [] 0 []) (text_of_lines all 1 (map block_of found) ps all) (owed (has_run 0 all) 0 [] ++ runs (reached false [] 0 []) (flagged_lines source))) whole walked in
+    let same : flagged_lines new ≡ flagged_from source.cut first (lines_of (printed source ps)) =
+    ap (λ known. flagged_from source.cut (at_first known) (lines_of (printed source ps))) (redefined-again source blocks ps accepted placed) in
+    sym (frame-runs new again again_accepted) ∙ ap (runs (reached false [] 0 [])) same ∙ printed_so (subst (Clean false) same clean) ∙ ap (λ ss. ss ++ runs (reached false [] 0 []) (flagged_lines source)) (owed-nothing (has_run 0 all) 0) ∙ frame-runs source blocks accepted
 
 first-shape : (x y : Shape) (xs ys : List Shape) → x ∷ xs ≡ y ∷ ys → (x ≡ y) × (xs ≡ ys)
 first-shape x y xs ys h = (cc, cc)

@@ -14,18 +14,20 @@ use Rattle.s66_line.specs.Operand.{is_filled}
 use Rattle.s66_line.specs.declared.class.Class.{Class}
 use Rattle.s66_line.specs.declared.class.Class.TheVariants.{Comment, Other, Refused, Pad, Instruction}
 use Rattle.s66_line.proofs.Wholes.{is_inside}
-use Rattle.s66_source.specs.LeftAlone.{Flagged, after_line, class_at, flagged_from, is_alone, is_refused}
+use Rattle.s66_source.specs.LeftAlone.{Flagged, after_line, class_at, flagged_from, is_alone}
 use Rattle.s66_source.specs.Printed.{Placed, block_text, instruction_line, instruction_lines, label_field, notes_text, report}
 use Rattle.s66_source.specs.Source.{Line, classes_from, label_after, label_at, operand_refusal, place_after, place_at, refusal, run_after, run_at}
-use Rattle.s66_source.specs.declared.standing.Standing.{Standing}
+use Rattle.s66_source.specs.LeftAlone.{Standing}
 use Rattle.s66_source.proofs.CharactersRead.{SpellsAll}
-use Rattle.s66_source.proofs.FlaggedLines.{continued-next}
+use Rattle.s66_source.proofs.FlaggedLines.{same-alone}
+use Rattle.s66_source.proofs.FarOperands.{clear-printed, is_unclear}
+use Rattle.s66_source.specs.Redefined.{Redefined}
 use Rattle.s66_source.proofs.ReadAgain.{none-refused, rest-taken}
 use Rattle.s66_source.proofs.ReadBack.{lines_of-line, trim-twice}
 use Rattle.s66_source.proofs.ReadBlock.{AreSound, IsSoundAt, quiet-instruction, sound-at}
-use Rattle.s66_source.proofs.ReadComments.{AreLinesOfSource, ArePlainComments, Comments, comment-class, comments-append, comments-notes, comments-report, same-class, taken-class, with_newlines}
+use Rattle.s66_source.proofs.ReadComments.{AreLinesOfSource, ArePlainComments, Comments, comment-class, comment-clear, comments-append, quiet-behind, quiet-both, quiet-comment, comments-notes, comments-report, same-class, taken-class, with_newlines}
 use Rattle.s66_source.proofs.ReadLine.{IsLabel, every-trimmed, inside-line, read-line}
-use Rattle.s66_source.proofs.ReadStanding.{IsQuiet, after-body, alone-body, class_at-body, code-unflagged, comment-quiet, comment-stays, continues-body, continues-line, flagged_at, is_flagged, is_holding, not-alone, quiet-append, same-alone}
+use Rattle.s66_source.proofs.ReadStanding.{IsQuiet, after-body, alone-body, class_at-body, code-unflagged, comment-stays, flagged_at, goes_on, is_flagged, is_holding, not-alone}
 use Rattle.s66_source.proofs.ReaderBlocks.{next-index}
 use Rattle.s66_source.proofs.Standings.{code-line, code-stays}
 use Rattle.s66_compare.specs.Difference.{Shape}
@@ -56,20 +58,19 @@ abbrev pub gives_at : Bool → Standing → Reached → List ℕ → List Shape 
 gives_at cut s r text x = Gives r (flagged_from cut s (lines_of text)) x
 
 flagged-line : (cut : Bool) (s : Standing) (line text : List ℕ) → every is_inside line ≡ true →
-    flagged_from cut s (lines_of ((line ++ codes "\n") ++ text)) ≡ flagged_at cut s line (continues text) ∷ flagged_from cut (after_line cut s line) (lines_of text)
+    flagged_from cut s (lines_of ((line ++ codes "\n") ++ text)) ≡ flagged_at cut s line (goes_on text) ∷ flagged_from cut (after_line cut s line) (lines_of text)
 flagged-line cut s line text inside =
     ap (flagged_from cut s) (ap lines_of (append_assoc line (10 ∷ []) text) ∙ lines_of-line line text inside)
-    ∙ ap (λ more. flagged_at cut s line more ∷ flagged_from cut (after_line cut s line) (lines_of text)) (continued-next text)
 
 -- a line of this class, and then the rest
 gives-line : (cut : Bool) (s : Standing) (r : Reached) (line text : List ℕ) (c : Class) (x : List Shape) → every is_inside line ≡ true →
-    (class_at r.after (flagged_at cut s line (continues text)) ≢ Refused → class_at r.after (flagged_at cut s line (continues text)) ≡ c) →
+    (class_at r.after (flagged_at cut s line (goes_on text)) ≢ Refused → class_at r.after (flagged_at cut s line (goes_on text)) ≡ c) →
     (Clean (is_code c) (flagged_from cut (after_line cut s line) (lines_of text)) → runs (next r c line) (flagged_from cut (after_line cut s line) (lines_of text)) ≡ x) →
     gives_at cut s r ((line ++ codes "\n") ++ text) (emit r c line ++ x)
 gives-line cut s r line text c x inside stated later clean =
     let there = flagged-line cut s line text inside in
     let rest : List Flagged = flagged_from cut (after_line cut s line) (lines_of text) in
-    let both : Clean r.after (flagged_at cut s line (continues text) ∷ rest) = subst (Clean r.after) there clean in
+    let both : Clean r.after (flagged_at cut s line (goes_on text) ∷ rest) = subst (Clean r.after) there clean in
     let is = stated both.0 in
     ap (runs r) there ∙ ap (λ k. emit r k line ++ runs (next r k line) rest) is ∙ ap (λ ss. emit r c line ++ ss) (later (subst (λ k. Clean (is_code k) rest) is both.1))
 
@@ -122,17 +123,17 @@ next-body r (Instruction false i) line = refl
 next-body r (Instruction true i) line = ap (λ label. reached true [] 1 label) (label-body line)
 
 -- it is of its class again
-pub gives-copied : (cut : Bool) (s : Standing) (r : Reached) (after continued : Bool) (line text : List ℕ) (number : ℕ) (c : Class) (x : List Shape) → every is_inside line ≡ true → (cut && continues text) ≡ (cut && continued) →
+pub gives-copied : (cut : Bool) (s : Standing) (r : Reached) (after continued : Bool) (line text : List ℕ) (number : ℕ) (c : Class) (x : List Shape) → every is_inside line ≡ true → (cut && goes_on text) ≡ (cut && continued) →
     class_at after (flagged_at cut s line continued) ≡ c → operand_refusal number c ≡ None →
     (Clean (is_code c) (flagged_from cut (after_line cut s line) (lines_of text)) → runs (next r c line) (flagged_from cut (after_line cut s line) (lines_of text)) ≡ x) →
     gives_at cut s r ((body line ++ codes "\n") ++ text) (emit r c line ++ x)
 gives-copied cut s r after continued line text number c x inside quiet stated accepted later =
     let there : List ℕ = body line in
     let alone : Bool = is_alone cut s line continued in
-    let switch : is_alone cut s there (continues text) ≡ alone = alone-body cut s line (continues text) ∙ same-alone cut s line (continues text) continued quiet in
-    let again : class_at r.after (flagged_at cut s there (continues text)) ≡ class_at r.after (flagged_at cut s line continued) =
+    let switch : is_alone cut s there (goes_on text) ≡ alone = alone-body cut s line (goes_on text) ∙ same-alone cut s line (goes_on text) continued quiet in
+    let again : class_at r.after (flagged_at cut s there (goes_on text)) ≡ class_at r.after (flagged_at cut s line continued) =
     ap (λ is. class_at r.after (record { alone = is; bytes = there })) switch ∙ class_at-body r.after alone line in
-    let same : class_at r.after (flagged_at cut s there (continues text)) ≢ Refused → class_at r.after (flagged_at cut s there (continues text)) ≡ c =
+    let same : class_at r.after (flagged_at cut s there (goes_on text)) ≢ Refused → class_at r.after (flagged_at cut s there (goes_on text)) ≡ c =
     λ clean. again
     ∙ same-class alone (is_comment there) (continues there) after r.after (by_operation (is_located there) (from_operation there)) number (ap (operand_refusal number) stated ∙ accepted) (λ is. clean (again ∙ is))
     ∙ stated in
@@ -145,26 +146,26 @@ gives-copied cut s r after continued line text number c x inside quiet stated ac
 -- COMMENTS add nothing
 
 pub record Skips (cut : Bool) (s : Standing) (bytes : List ℕ) : Type 0 where
-  pub quiet : continues bytes ≡ false
+  pub quiet : (text : List ℕ) → goes_on (bytes ++ text) ≡ goes_on text
   pub skips : (r : Reached) (text : List ℕ) (x : List Shape) → IsQuiet cut text → ((after : Bool) → gives_at cut s (reached after r.pads r.index r.label) text x) → gives_at cut s r (bytes ++ text) x
 
 skips-nothing : (cut : Bool) (s : Standing) → Skips cut s []
-skips-nothing cut s = record { quiet = refl; skips = λ r text x quiet later. later r.after }
+skips-nothing cut s = record { quiet = λ text. refl; skips = λ r text x quiet later. later r.after }
 
 skips-append : (cut : Bool) (s : Standing) (first second : List ℕ) → Skips cut s first → Skips cut s second → Skips cut s (first ++ second)
 skips-append cut s first second p q = record {
-  quiet = quiet-append true first second p.quiet q.quiet;
+  quiet = λ text. quiet-both first second text (p.quiet (second ++ text)) (q.quiet text);
   skips = λ r text x quiet later.
       subst (λ t. gives_at cut s r t x) (sym (append_assoc first second text))
-      (p.skips r (second ++ text) x (quiet-append cut second text q.quiet quiet) (λ after. q.skips (reached after r.pads r.index r.label) text x quiet (λ again. later again)));
+      (p.skips r (second ++ text) x (quiet-behind cut second text (q.quiet text) quiet) (λ after. q.skips (reached after r.pads r.index r.label) text x quiet (λ again. later again)));
 }
 
 skips-comment : (cut : Bool) (s : Standing) (line : List ℕ) → is_holding cut s ≡ false → is_flagged cut line ≡ false → every is_inside line ≡ true → is_comment (body line) ≡ true → Skips cut s (line ++ codes "\n")
 skips-comment cut s line free unflagged inside comment = record {
-  quiet = continues-line line [] ∙ sym (continues-body line) ∙ comment-quiet (body line) comment;
+  quiet = λ text. quiet-comment line text inside comment;
   skips = λ r text x quiet later.
-      let alone = not-alone cut s line (continues text) free unflagged quiet (ap is_refused (comment-class true line comment)) in
-      gives-line cut s r line text Comment x inside (λ clean. taken-class r.after (is_alone cut s line (continues text)) line Comment alone (comment-class r.after line comment))
+      let alone = not-alone cut s line (goes_on text) free unflagged quiet (comment-clear cut s line comment) in
+      gives-line cut s r line text Comment x inside (λ clean. taken-class r.after (is_alone cut s line (goes_on text)) line Comment alone (comment-class r.after line comment))
       (subst (λ stands. Clean false (flagged_from cut stands (lines_of text)) → runs (reached false r.pads r.index r.label) (flagged_from cut stands (lines_of text)) ≡ x) (sym (comment-stays cut s line free unflagged comment)) (later false));
 }
 
@@ -177,24 +178,27 @@ skips-comments cut s bytes free comments = subst (Skips cut s) (sym comments.who
 
 -- AN INSTRUCTION LINE
 
-gives-instruction : (cut : Bool) (s : Standing) (label bytes : List ℕ) (i : Instr) (r : Reached) (text : List ℕ) (x : List Shape) → is_holding cut s ≡ false → IsQuiet cut text → IsLabel label → SpellsAll bytes i → every is_inside bytes ≡ true →
+gives-instruction : (cut : Bool) (s : Standing) (label bytes : List ℕ) (i : Instr) (r : Reached) (text : List ℕ) (x : List Shape) → is_holding cut s ≡ false → IsQuiet cut text → IsLabel label → SpellsAll bytes i → every is_inside bytes ≡ true → (cut && is_unclear s.redefined bytes) ≡ false →
     (Clean true (flagged_from cut s (lines_of text)) → runs (next r (Instruction (is_filled label) i) (label_field label ++ trim is_trailing bytes)) (flagged_from cut s (lines_of text)) ≡ x) →
     gives_at cut s r (instruction_line label bytes ++ text) (emit r (Instruction (is_filled label) i) (label_field label ++ trim is_trailing bytes) ++ x)
-gives-instruction cut s label bytes i r text x free quiet is spells inside later =
+gives-instruction cut s label bytes i r text x free quiet is spells inside clear later =
     let line : List ℕ = label_field label ++ trim is_trailing bytes in
     let c : Class = Instruction (is_filled label) i in
     let read = read-line label bytes i is spells in
-    let alone = not-alone cut s line (continues text) free (code-unflagged cut line (code-line false line (ap is_code (read.classed false))).0) quiet (ap is_refused (read.classed true)) in
-    let stated = taken-class r.after (is_alone cut s line (continues text)) line c alone (read.classed r.after) in
+    let alone = not-alone cut s line (goes_on text) free (code-unflagged cut line (code-line false line (ap is_code (read.classed false))).0) quiet (clear-printed cut s.redefined label bytes i is spells clear) in
+    let stated = taken-class r.after (is_alone cut s line (goes_on text)) line c alone (read.classed r.after) in
     gives-line cut s r line text c x (inside-line label bytes is.1 inside) (λ clean. stated)
-    (subst (λ stands. Clean true (flagged_from cut stands (lines_of text)) → runs (next r c line) (flagged_from cut stands (lines_of text)) ≡ x) (sym (code-stays cut (continues text) r.after s line (ap is_code stated))) later)
+    (subst (λ stands. Clean true (flagged_from cut stands (lines_of text)) → runs (next r c line) (flagged_from cut stands (lines_of text)) ≡ x) (sym (code-stays cut (goes_on text) r.after s line (ap is_code stated))) later)
 
-quiet-lines : (cut : Bool) (block : Block) (ns text : List ℕ) → IsQuiet cut text → IsQuiet cut (instruction_lines block [] ns ++ text)
-quiet-lines cut block [] text quiet = quiet
-quiet-lines cut block (n ∷ ns) text quiet = and_right cut (continues (instruction_lines block [] (n ∷ ns) ++ text)) refl
+quiet-lines : (cut : Bool) (known : Redefined) (block : Block) (ns text : List ℕ) → IsQuiet cut text → ((k : ℕ) → Among k ns → IsSoundAt cut known block k) → IsQuiet cut (instruction_lines block [] ns ++ text)
+quiet-lines cut known block [] text quiet sound = quiet
+quiet-lines cut known block (n ∷ ns) text quiet sound =
+    let here = sound n (inl refl) in
+    subst (IsQuiet cut) (sym (append_assoc (instruction_line [] (bytes_of block n)) (instruction_lines block [] ns) text))
+    (quiet-instruction cut [] (bytes_of block n) (instr_at (instrs_of block) n) (instruction_lines block [] ns ++ text) (refl, refl) here.0 here.1)
 
 -- those of a block that is begun add nothing
-gives-more : (cut : Bool) (s : Standing) (block : Block) (ns : List ℕ) (index : ℕ) (label text : List ℕ) (x : List Shape) → is_holding cut s ≡ false → IsQuiet cut text → ((k : ℕ) → Among k ns → IsSoundAt block k) →
+gives-more : (cut : Bool) (s : Standing) (block : Block) (ns : List ℕ) (index : ℕ) (label text : List ℕ) (x : List Shape) → is_holding cut s ≡ false → IsQuiet cut text → ((k : ℕ) → Among k ns → IsSoundAt cut s.redefined block k) →
     (1 ≤ length ns → (1 ≤ index % BLOCK_LIMIT) × (index % BLOCK_LIMIT + length ns ≤ BLOCK_LIMIT)) → gives_at cut s (reached true [] (index + length ns) label) text x →
     gives_at cut s (reached true [] index label) (instruction_lines block [] ns ++ text) x
 gives-more cut s block [] index label text x free quiet sound within later =
@@ -209,7 +213,7 @@ gives-more cut s block (n ∷ ns) index label text x free quiet sound within lat
     let more = gives-more cut s block ns (suc index) label text x free quiet (λ k among. sound k (inr among))
     (λ some. (let after : suc index % BLOCK_LIMIT ≡ suc (index % BLOCK_LIMIT) = next-index index (index % BLOCK_LIMIT) refl (λ full. omega (arith, full, inside.1, some)) in (omega (arith, after), omega (arith, after, inside.1))))
     (subst (λ k. gives_at cut s (reached true [] k label) text x) same later) in
-    let step = gives-instruction cut s [] (bytes_of block n) (instr_at (instrs_of block) n) (reached true [] index label) rest x free (quiet-lines cut block ns text quiet) (refl, refl) here.0 here.1 more in
+    let step = gives-instruction cut s [] (bytes_of block n) (instr_at (instrs_of block) n) (reached true [] index label) rest x free (quiet-lines cut s.redefined block ns text quiet (λ k among. sound k (inr among))) (refl, refl) here.0 here.1 here.2 more in
     subst (λ t. gives_at cut s (reached true [] index label) t x) (sym (append_assoc (instruction_line [] (bytes_of block n)) (instruction_lines block [] ns) text))
     (subst (λ (ss : List Shape). gives_at cut s (reached true [] index label) (instruction_line [] (bytes_of block n) ++ rest) ss) (ap (λ t. (if t then block_shape (first_label index label) ∷ [] else []) ++ x) none) step)
 
@@ -220,7 +224,7 @@ abbrev pub Free : ℕ → List ℕ → Type 0
 Free index label = (index % BLOCK_LIMIT ≡ 0) × (first_label index label ≡ [])
 
 gives-first : (cut : Bool) (s : Standing) (block : Block) (label : List ℕ) (k : ℕ) (ks : List ℕ) (r : Reached) (text : List ℕ) (x : List Shape) → is_holding cut s ≡ false → IsQuiet cut text → IsLabel label → (label ≡ [] → Free r.index r.label) →
-    ((n : ℕ) → Among n (k ∷ ks) → IsSoundAt block n) → suc (length ks) ≤ BLOCK_LIMIT →
+    ((n : ℕ) → Among n (k ∷ ks) → IsSoundAt cut s.redefined block n) → suc (length ks) ≤ BLOCK_LIMIT →
     ((index : ℕ) (name : List ℕ) → index % BLOCK_LIMIT ≡ 0 → gives_at cut s (reached true [] (index + suc (length ks)) name) text x) →
     gives_at cut s r (instruction_lines block label (k ∷ ks) ++ text) ((if is_filled label then r.pads else []) ++ block_shape label ∷ x)
 gives-first cut s block [] k ks r text x free quiet is new sound few later =
@@ -231,7 +235,7 @@ gives-first cut s block [] k ks r text x free quiet is new sound few later =
     let same : r.index + suc (length ks) ≡ suc r.index + length ks = omega arith in
     let more = gives-more cut s block ks (suc r.index) r.label text x free quiet (λ n among. sound n (inr among)) (λ some. (omega (arith, one), omega (arith, one, few)))
     (subst (λ n. gives_at cut s (reached true [] n r.label) text x) same (later r.index r.label at.0)) in
-    let step = gives-instruction cut s [] (bytes_of block k) (instr_at (instrs_of block) k) r rest x free (quiet-lines cut block ks text quiet) (refl, refl) here.0 here.1 more in
+    let step = gives-instruction cut s [] (bytes_of block k) (instr_at (instrs_of block) k) r rest x free (quiet-lines cut s.redefined block ks text quiet (λ n among. sound n (inr among))) (refl, refl) here.0 here.1 here.2 more in
     subst (λ t. gives_at cut s r t (block_shape [] ∷ x)) (sym (append_assoc (instruction_line [] (bytes_of block k)) (instruction_lines block [] ks) text))
     (subst (λ (ss : List Shape). gives_at cut s r (instruction_line [] (bytes_of block k) ++ rest) ss)
     (ap (λ t. (if t then block_shape (first_label r.index r.label) ∷ [] else []) ++ x) (eq-eqb (r.index % BLOCK_LIMIT) 0 at.0) ∙ ap (λ name. block_shape name ∷ x) at.1) step)
@@ -245,13 +249,13 @@ gives-first cut s block (b ∷ name) k ks r text x free quiet is new sound few l
     let same : 0 + suc (length ks) ≡ 1 + length ks = omega arith in
     let more = gives-more cut s block ks 1 (label_bytes (body line)) text x free quiet (λ n among. sound n (inr among)) (λ some. (omega (arith, one), omega (arith, one, few)))
     (subst (λ n. gives_at cut s (reached true [] n (label_bytes (body line))) text x) same (later 0 (label_bytes (body line)) refl)) in
-    let step = gives-instruction cut s label (bytes_of block k) (instr_at (instrs_of block) k) r rest x free (quiet-lines cut block ks text quiet) is here.0 here.1 more in
+    let step = gives-instruction cut s label (bytes_of block k) (instr_at (instrs_of block) k) r rest x free (quiet-lines cut s.redefined block ks text quiet (λ n among. sound n (inr among))) is here.0 here.1 here.2 more in
     subst (λ t. gives_at cut s r t (r.pads ++ block_shape label ∷ x)) (sym (append_assoc (instruction_line label (bytes_of block k)) (instruction_lines block [] ks) text))
     (subst (λ (ss : List Shape). gives_at cut s r (instruction_line label (bytes_of block k) ++ rest) ss)
     (append_assoc r.pads (block_shape (label_bytes (body line)) ∷ []) x ∙ ap (λ found. r.pads ++ block_shape found ∷ x) (read.labelled refl)) step)
 
 pub gives-block : (cut : Bool) (s : Standing) (all : List Line) (n : ℕ) (block : Block) (p : Placed) (r : Reached) (text : List ℕ) (x : List Shape) → is_holding cut s ≡ false → IsQuiet cut text → AreLinesOfSource cut all → IsLabel block.label →
-    (block.label ≡ [] → Free r.index r.label) → AreSound block.entries → ((k : ℕ) → Among k p.order → (1 ≤ k) × (k ≤ length block.entries)) → 1 ≤ length p.order → length p.order ≤ BLOCK_LIMIT →
+    (block.label ≡ [] → Free r.index r.label) → AreSound cut s.redefined block.entries → ((k : ℕ) → Among k p.order → (1 ≤ k) × (k ≤ length block.entries)) → 1 ≤ length p.order → length p.order ≤ BLOCK_LIMIT →
     ((index : ℕ) (name : List ℕ) → index % BLOCK_LIMIT ≡ 0 → gives_at cut s (reached true [] (index + length p.order) name) text x) →
     gives_at cut s r (block_text all n block p ++ text) ((if is_filled block.label then r.pads else []) ++ block_shape block.label ∷ x)
 gives-block cut s all n block p r text x free quiet source is new sound numbers some few later =
@@ -268,11 +272,11 @@ gives-block cut s all n block p r text x free quiet source is new sound numbers 
         gives_at cut s r (head ++ (instruction_lines block block.label order ++ text)) ((if is_filled block.label then r.pads else []) ++ block_shape block.label ∷ x)
     by_order [] numbers some few later = absurd (omega (arith, some))
     by_order (k ∷ ks) numbers some few later =
-        let sound_at : (m : ℕ) → Among m (k ∷ ks) → IsSoundAt block m = λ m among. (let number = numbers m among in sound-at block m sound number.0 number.1) in
+        let sound_at : (m : ℕ) → Among m (k ∷ ks) → IsSoundAt cut s.redefined block m = λ m among. (let number = numbers m among in sound-at cut s.redefined block m sound number.0 number.1) in
         let first = sound_at k (inl refl) in
         let rest : List ℕ = instruction_lines block [] ks ++ text in
         let quiet_here : IsQuiet cut (instruction_lines block block.label (k ∷ ks) ++ text) =
         subst (IsQuiet cut) (sym (append_assoc (instruction_line block.label (bytes_of block k)) (instruction_lines block [] ks) text))
-        (quiet-instruction cut block.label (bytes_of block k) (instr_at (instrs_of block) k) rest is first.0) in
+        (quiet-instruction cut block.label (bytes_of block k) (instr_at (instrs_of block) k) rest is first.0 first.1) in
         skipped.skips r (instruction_lines block block.label (k ∷ ks) ++ text) ((if is_filled block.label then r.pads else []) ++ block_shape block.label ∷ x) quiet_here
         (λ after. gives-first cut s block block.label k ks (reached after r.pads r.index r.label) text x free quiet is new sound_at few later)
