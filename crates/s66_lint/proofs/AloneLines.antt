@@ -1,26 +1,20 @@
 -- Whether `--cut` leaves each line of a text alone, one line after the other.
-use Rattle.std.proofs.Common.{◌≡◌, ◌||◌, ◌<◌, ◌≤◌, ◌+◌, ◌-◌, ℕ, zero, suc, Bool, true, false, List, [], ◌∷◌, ◌++◌, length, map, take, nat_lt, refl, ap, ap₂, ◌∙◌, arith, append_assoc, length-append}
+use Rattle.std.proofs.Common.{◌≡◌, ◌||◌, ◌<◌, ◌≤◌, ◌+◌, ◌-◌, ℕ, zero, suc, Bool, true, false, List, [], ◌∷◌, ◌++◌, length, map, take, nat_lt, refl, ap, ap₂, ◌∙◌, arith, append_assoc, length-append, sym, if◌then◌else◌}
 use Rattle.std.proofs.lemmas.List.{append-nil, length-take}
 use Rattle.s66_line.specs.Class.{class_of}
 use Rattle.s66_line.specs.Fields.{body, continues, lines_from}
 use Rattle.s66_line.specs.declared.limits.TheConstants.{LINE_BYTES_LIMIT}
 use Rattle.s66_source.specs.Counts.{is_covering}
-use Rattle.s66_source.specs.LeftAlone.{after_line, is_alone, is_continued, is_directive, is_off_switch, is_refused}
-use Rattle.s66_source.specs.declared.standing.Standing.{Standing}
-use Rattle.s66_source.proofs.FlaggedLines.{continued-next}
-use Rattle.s66_lint.specs.Marks.{alone_from, front}
-
-continued-front : (lines : List (List ℕ)) → is_continued (map front lines) ≡ is_continued lines
-continued-front [] = refl
-continued-front ([] ∷ lines) = refl
-continued-front ((b ∷ line) ∷ lines) = refl
+use Rattle.s66_source.specs.LeftAlone.{after_line, is_alone, is_continued}
+use Rattle.s66_source.specs.LeftAlone.{Standing}
+use Rattle.s66_lint.specs.Marks.{alone_from, as_read}
+use Rattle.std.proofs.lemmas.Bool.{ltb-false}
 
 -- the first line of a text, and then those after it
-pub alone_from-found : (s : Standing) (text line more : List ℕ) → lines_from [] text ≡ line ∷ lines_from [] more →
-    alone_from s (lines_from [] text) ≡ is_alone true s (front line) (continues more) ∷ alone_from (after_line true s (front line)) (lines_from [] more)
-alone_from-found s text line more cut =
-    let rest : List (List ℕ) = lines_from [] more in
-    ap (alone_from s) cut ∙ ap (λ next. is_alone true s (front line) next ∷ alone_from (after_line true s (front line)) rest) (continued-front rest ∙ continued-next more)
+pub alone_from-found : (s : Standing) (text line more : List ℕ) (continued : Bool) → lines_from [] text ≡ line ∷ lines_from [] more → continued ≡ is_continued (lines_from [] more) →
+    alone_from s (lines_from [] text) ≡ is_alone true s (as_read line) continued ∷ alone_from (after_line true s (as_read line)) (lines_from [] more)
+alone_from-found s text line more continued cut same =
+    ap (alone_from s) cut ∙ ap (λ next. is_alone true s (as_read line) next ∷ alone_from (after_line true s (as_read line)) (lines_from [] more)) (sym same)
 
 -- ONE MORE of a list is taken, up to a limit
 
@@ -48,27 +42,10 @@ take-none (suc n) = refl
 pub none-left : (limit : ℕ) (taken : List Bool) → taken ++ take limit nothing ≡ taken
 none-left limit taken = ap (λ more. taken ++ more) (take-none limit) ∙ append-nil taken
 
--- A LINE UP TO THE LIMIT of its bytes is no longer than that
-pub length-front : (line : List ℕ) → length (front line) ≤ LINE_BYTES_LIMIT
-length-front line = let few = length-take LINE_BYTES_LIMIT line in omega (arith, few)
-
--- WHY A LINE IS LEFT ALONE: for what is around it, as an empty line would be, or for what it holds
-
-rearranged : (off switch bodies covered continued directive refused : Bool) →
-    ((off || (switch || (bodies || (covered || (continued || directive))))) || refused)
-    ≡ (((off || (false || (bodies || (covered || (continued || false))))) || false) || ((switch || directive) || refused))
-rearranged true switch bodies covered continued directive refused = refl
-rearranged false true true covered continued directive refused = refl
-rearranged false true false true continued directive refused = refl
-rearranged false true false false true directive refused = refl
-rearranged false true false false false directive refused = refl
-rearranged false false true covered continued directive refused = refl
-rearranged false false false true continued directive refused = refl
-rearranged false false false false true directive refused = refl
-rearranged false false false false false directive refused = refl
-
-pub alone-by : (s : Standing) (line : List ℕ) (continued around mark : Bool) → is_alone true s [] continued ≡ around → (is_off_switch (body line) || is_directive (body line)) ≡ mark →
-    is_alone true s line continued ≡ (around || (mark || is_refused (class_of true line)))
-alone-by s line continued around mark h k =
-    rearranged s.off (is_off_switch (body line)) (nat_lt 0 s.bodies) (is_covering s.cover) continued (is_directive (body line)) (is_refused (class_of true line))
-    ∙ ap₂ (λ around mark. around || (mark || is_refused (class_of true line))) h k
+-- A LINE AS IT IS READ isn't too long
+pub length-read : (line : List ℕ) → length (as_read line) ≤ LINE_BYTES_LIMIT
+length-read line = by_length (nat_lt LINE_BYTES_LIMIT (length line)) refl
+  where
+    by_length : (t : Bool) → nat_lt LINE_BYTES_LIMIT (length line) ≡ t → length {A = ℕ} (if t then [] else line) ≤ LINE_BYTES_LIMIT
+    by_length true stated = omega arith
+    by_length false stated = ltb-false LINE_BYTES_LIMIT (length line) stated

@@ -82,7 +82,7 @@ alone-plain true false false on = refl
 
 -- what is known of a line by the text after it
 abbrev pub next_line : Bool → List ℕ → List ℕ → Flagged
-next_line off line more = record { alone = is_alone false (standing off) line (continues more); bytes = line }
+next_line off line more = record { alone = is_alone false (standing off) line false; bytes = line }
 
 -- what comes of the rest
 abbrev pub written_rest : (inside off : Bool) (marks : List Mark) (rest : List ℕ) → List GuardedLine
@@ -95,7 +95,7 @@ written-line inside off here marks rest line more cut is =
     let flag : Flagged = next_line off line more in
     let lines : List Flagged = flagged_from false (standing (off_after off (body line))) (lines_from [] more) in
     let same : here ≡ (marked_line (first_mark marks) flag).is_guarded = is ∙ alone-plain (first_mark marks).is_harmed off (is_off_switch (body line)) (is_on_switch (body line)) in
-    ap (λ flags. written_from inside (marked_lines marks flags)) (flagged-found false (standing off) rest line more cut)
+    ap (λ flags. written_from inside (marked_lines marks flags)) (flagged-found false (standing off) rest line more false cut refl)
     ∙ ap (written_from inside) (places-first marks flag lines)
     ∙ ap (λ (h : Bool). between inside h (first_mark marks).reasons ++ Kept h flag ∷ written_from h (marked_lines (later_marks marks) lines)) (sym same)
 

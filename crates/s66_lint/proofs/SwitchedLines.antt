@@ -7,15 +7,16 @@ use Rattle.s66_line.specs.Block.{Entry, Block}
 use Rattle.s66_line.specs.Class.{by_operation, class_of, is_code, is_instruction, is_located}
 use Rattle.s66_line.specs.Fields.{body, continues, is_comment, is_newline, lines_of, operand, operation, upper, with_newlines, from_operation}
 use Rattle.s66_line.specs.declared.class.Class.{Class}
-use Rattle.s66_line.specs.declared.class.Class.TheVariants.{Comment, Other, Refused}
+use Rattle.s66_line.specs.declared.class.Class.TheVariants.{Comment, Other, Refused, Pad, Instruction}
 use Rattle.s66_line.proofs.Wholes.{AreLines-lines_of}
-use Rattle.s66_source.specs.LeftAlone.{Flagged, after_line, at_first, flagged_from, flagged_lines, is_alone, is_continued, is_held, is_off_switch, is_on_switch, is_refused, plain}
+use Rattle.s66_source.specs.LeftAlone.{Flagged, after_line, at_first, flagged_from, flagged_lines, is_alone, is_continued, is_held, is_doubtful, is_off_switch, is_on_switch, plain}
+use Rattle.s66_source.specs.Redefined.{Redefined, nothing_redefined, redefined_in}
 use Rattle.s66_source.specs.Source.{Line, begins_block, block_of, classed_lines, classes_from, entry_of, instructions, label_after, label_at, parts_of, place_after, place_at, put_before, run_after, run_at, source_of}
-use Rattle.s66_source.specs.declared.standing.Standing.{Standing}
+use Rattle.s66_source.specs.LeftAlone.{Standing}
 use Rattle.s66_source.proofs.FlaggedLines.{bytes-flagged}
 use Rattle.s66_source.proofs.PrintedLines.{accepted-is}
 use Rattle.s66_source.proofs.ReadBack.{lines_of-line}
-use Rattle.s66_lint.specs.Switched.{between_switches, switched, switched_lines, unnumbered, unnumbered_entry}
+use Rattle.s66_lint.specs.Switched.{between_switches, switched, switched_lines, unnumbered, unnumbered_entry, is_refused}
 
 abbrev off_line : List ℕ
 off_line = codes "*S66 OFF"
@@ -31,31 +32,35 @@ bytes_of lines = map (λ (m : Flagged). m.bytes) lines
 -- a line that isn't left alone is no switch OFF
 no-switch : (s : Standing) (line : List ℕ) (continued : Bool) → is_alone true s line continued ≡ false → is_off_switch (body line) ≡ false
 no-switch s line continued h =
-    let (not_held, _) = or_parts (is_held true s line continued) (is_refused (class_of true line)) h in
+    let (not_held, _) = or_parts (is_held true s line continued) (is_doubtful s.redefined (class_of true line) (body line)) h in
     let (_, more) = or_parts s.off _ not_held in
     (or_parts (is_off_switch (body line)) _ more).0
 
+-- what stands at first where nothing is redefined
+abbrev pub at_plain : Standing
+at_plain = at_first nothing_redefined
+
 -- what stands outside of definitions and counts, after a switch or not
 abbrev pub standing : Bool → Standing
-standing off = record at_first { off = off }
+standing off = record at_plain { off = off }
 
 -- after the line, by whether it is a switch ON
 after-on : (on : Bool) (more : List (List ℕ)) →
-    flagged_from false (standing (if on then false else true)) (on_line ∷ more) ≡ record { alone = not on; bytes = on_line } ∷ flagged_from false at_first more
+    flagged_from false (standing (if on then false else true)) (on_line ∷ more) ≡ record { alone = not on; bytes = on_line } ∷ flagged_from false at_plain more
 after-on true more = refl
 after-on false more = refl
 
 -- after a line that isn't left alone, by whether it is a switch ON or OFF
 after-plain : (on off : Bool) (line : List ℕ) (more : List (List ℕ)) → off ≡ false →
     record { alone = (off || false) || false; bytes = line } ∷ flagged_from false (standing (if on then false else off)) more
-    ≡ record { alone = false; bytes = line } ∷ flagged_from false at_first more
+    ≡ record { alone = false; bytes = line } ∷ flagged_from false at_plain more
 after-plain true false line more h = refl
 after-plain false false line more h = refl
 after-plain on true line more h = cc
 
 -- one line more, by whether it is left alone
-flags-line : (alone : Bool) (s : Standing) (line : List ℕ) (continued : Bool) (rest : List Flagged) → is_alone true s line continued ≡ alone → flagged_from false at_first (bytes_of rest) ≡ rest →
-    flagged_from false at_first (bytes_of (between_switches (record { alone = alone; bytes = line }) ++ rest)) ≡ between_switches (record { alone = alone; bytes = line }) ++ rest
+flags-line : (alone : Bool) (s : Standing) (line : List ℕ) (continued : Bool) (rest : List Flagged) → is_alone true s line continued ≡ alone → flagged_from false at_plain (bytes_of rest) ≡ rest →
+    flagged_from false at_plain (bytes_of (between_switches (record { alone = alone; bytes = line }) ++ rest)) ≡ between_switches (record { alone = alone; bytes = line }) ++ rest
 flags-line true s line continued rest is same =
     ap (λ ls. record { alone = true; bytes = off_line } ∷ record { alone = true; bytes = line } ∷ ls)
     (after-on (is_on_switch (body line)) (bytes_of rest) ∙ ap (λ ls. record { alone = not (is_on_switch (body line)); bytes = on_line } ∷ ls) same)
@@ -64,7 +69,7 @@ flags-line false s line continued rest is same =
     ∙ ap (λ ls. record { alone = false; bytes = line } ∷ ls) same
 
 flags-from : (s : Standing) (lines : List (List ℕ)) →
-    flagged_from false at_first (bytes_of (switched_lines (flagged_from true s lines))) ≡ switched_lines (flagged_from true s lines)
+    flagged_from false at_plain (bytes_of (switched_lines (flagged_from true s lines))) ≡ switched_lines (flagged_from true s lines)
 flags-from s [] = refl
 flags-from s (line ∷ lines) = flags-line (is_alone true s line (is_continued lines)) s line (is_continued lines) _ refl (flags-from (after_line true s line) lines)
 
@@ -93,8 +98,8 @@ one-line-each (line ∷ lines) h =
 pub same-flags : (text : List ℕ) → flagged_lines (plain (switched text)) ≡ switched_lines (flagged_lines (record { cut = true; text = text }))
 same-flags text =
     let flags : List Flagged = flagged_lines (record { cut = true; text = text }) in
-    let one : every is_one_line (bytes_of flags) ≡ true = ap (every is_one_line) (bytes-flagged true at_first (lines_of text)) ∙ (AreLines-lines_of text).no_newline in
-    ap (flagged_from false at_first) (lines_of-with_newlines (bytes_of (switched_lines flags)) (one-line-each flags one)) ∙ flags-from at_first (lines_of text)
+    let one : every is_one_line (bytes_of flags) ≡ true = ap (every is_one_line) (bytes-flagged true (at_first (redefined_in (lines_of text))) (lines_of text)) ∙ (AreLines-lines_of text).no_newline in
+    ap (flagged_from false at_plain) (lines_of-with_newlines (bytes_of (switched_lines flags)) (one-line-each flags one)) ∙ flags-from (at_first (redefined_in (lines_of text))) (lines_of text)
 
 -- THE CLASS of a line that isn't left alone is the same after each line, and not Refused
 
@@ -109,7 +114,14 @@ same-class after line h =
     same-by after (is_comment (body line)) (continues (body line)) (by_operation (is_located (body line)) (from_operation (body line))) h
 
 not-refused : (s : Standing) (line : List ℕ) (continued : Bool) → is_alone true s line continued ≡ false → is_refused (class_of true line) ≡ false
-not-refused s line continued h = (or_parts (is_held true s line continued) (is_refused (class_of true line)) h).1
+not-refused s line continued h = undoubted s.redefined (class_of true line) (body line) (or_parts (is_held true s line continued) (is_doubtful s.redefined (class_of true line) (body line)) h).1
+  where
+    undoubted : (known : Redefined) (c : Class) (line : List ℕ) → is_doubtful known c line ≡ false → is_refused c ≡ false
+    undoubted known Comment line h = refl
+    undoubted known Other line h = refl
+    undoubted known Refused line h = cc
+    undoubted known (Pad located) line h = refl
+    undoubted known (Instruction located n) line h = refl
 
 -- NO LINE IS REFUSED
 
@@ -139,7 +151,7 @@ all-taken s (line ∷ lines) =
     taken-line (is_alone true s line (is_continued lines)) s line (is_continued lines) (switched_lines (flagged_from true (after_line true s line) lines)) refl (all-taken (after_line true s line) lines)
 
 pub taken : (text : List ℕ) → every is_taken (classed_lines (plain (switched text))) ≡ true
-taken text = ap (λ lines. every is_taken (classes_from 1 0 0 [] false lines)) (same-flags text) ∙ all-taken at_first (lines_of text) 1 0 0 [] false
+taken text = ap (λ lines. every is_taken (classes_from 1 0 0 [] false lines)) (same-flags text) ∙ all-taken (at_first (redefined_in (lines_of text))) (lines_of text) 1 0 0 [] false
 
 -- THE INSTRUCTIONS, but for the numbers of their lines and runs
 
@@ -236,6 +248,6 @@ same-blocks text blocks again accepted accepted_again =
     ap (map unnumbered) (sym (accepted-is (plain (switched text)) again accepted_again))
     ∙ ap (λ lines. map unnumbered (map block_of (parts_of (code lines)))) (same-flags text)
     ∙ sym (blocks-unnumbered (code (switched_lines flags)))
-    ∙ ap (λ lines. map block_of (parts_of lines)) (same-code at_first (lines_of text) 1 0 1 0 0 [] false false)
+    ∙ ap (λ lines. map block_of (parts_of lines)) (same-code (at_first (redefined_in (lines_of text))) (lines_of text) 1 0 1 0 0 [] false false)
     ∙ blocks-unnumbered (code flags)
     ∙ ap (map unnumbered) (accepted-is (record { cut = true; text = text }) blocks accepted)

@@ -109,6 +109,18 @@ source_lines (Begins reason ∷ lines) = source_lines lines
 source_lines (Ends ∷ lines) = source_lines lines
 source_lines (Kept guarded line ∷ lines) = line ∷ source_lines lines
 
+-- these lines, by the flags of the source's lines: a line is left alone if it was added, or is so in the source, or is guarded
+abbrev pub read_flags : List GuardedLine → (source : List Flagged) → List Flagged
+read_flags [] source = []
+read_flags (Begins reason ∷ lines) source = record { alone = true; bytes = guarded_bytes (Begins reason) } ∷ read_flags lines source
+read_flags (Ends ∷ lines) source = record { alone = true; bytes = guarded_bytes Ends } ∷ read_flags lines source
+read_flags (Kept guarded line ∷ lines) [] = []
+read_flags (Kept guarded line ∷ lines) (flag ∷ source) = record { alone = flag.alone || guarded; bytes = line.bytes } ∷ read_flags lines source
+
+-- the lines of what is printed, read with `--cut` or without it: by the source, read in the same way
+abbrev pub guarded_flags : (cut : Bool) → List Mark → List ℕ → List Flagged
+guarded_flags cut marks text = read_flags (guarded_lines marks text) (flagged_lines (record { cut = cut; text = text }))
+
 -- a line is left alone without `--cut`: it was added, or it was left alone before, or is guarded
 abbrev pub is_left_alone : GuardedLine → Bool
 is_left_alone (Begins reason) = true
@@ -117,6 +129,3 @@ is_left_alone (Kept guarded line) = line.alone || guarded
 
 abbrev pub flag_of : GuardedLine → Flagged
 flag_of line = record { alone = is_left_alone line; bytes = guarded_bytes line }
-
-abbrev pub guarded_flags : List Mark → List ℕ → List Flagged
-guarded_flags marks text = map flag_of (guarded_lines marks text)

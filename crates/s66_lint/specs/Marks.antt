@@ -1,25 +1,26 @@
 -- To be believed: which findings of `lint` are marked by `(CUT)`: those of what `--cut` leaves alone.
-use Rattle.std.specs.Prelude.{ℕ, ◌-◌, Bool, true, false, List, map, slice_index_or, take}
+use Rattle.std.specs.Prelude.{ℕ, ◌-◌, Bool, true, false, List, [], ◌∷◌, if◌then◌else◌, length, nat_lt, slice_index_or, take}
 use Rattle.s66_line.specs.Fields.{lines_of}
 use Rattle.s66_line.specs.declared.limits.TheConstants.{LINE_BYTES_LIMIT}
-use Rattle.s66_source.specs.LeftAlone.{Flagged, at_first, flagged_from}
-use Rattle.s66_source.specs.declared.standing.Standing.{Standing}
+use Rattle.s66_source.specs.LeftAlone.{Standing, after_line, at_first, is_alone, is_continued}
+use Rattle.s66_source.specs.Redefined.{redefined_in}
 use Rattle.s66_source.specs.declared.limits.TheConstants.{SOURCE_LINES_LIMIT}
 use Rattle.s66_lint.specs.declared.finding.Finding.{Finding}
 use Rattle.s66_lint.specs.declared.finding.Rule.{Rule}
 use Rattle.s66_lint.specs.declared.finding.Rule.TheVariants.{BadOperand, CountsLines, Directive, FarOperand, HasABody, Redefined}
 
--- a line up to the limit of its bytes
-abbrev pub front : List ℕ → List ℕ
-front line = take LINE_BYTES_LIMIT line
+-- a line that is too long is read as an empty one
+abbrev pub as_read : List ℕ → List ℕ
+as_read line = if nat_lt LINE_BYTES_LIMIT (length line) then [] else line
 
 -- whether `--cut` leaves each of these lines alone, by what stands before them
 abbrev pub alone_from : Standing → List (List ℕ) → List Bool
-alone_from s lines = map (λ (m : Flagged). m.alone) (flagged_from true s (map front lines))
+alone_from s [] = []
+alone_from s (line ∷ lines) = is_alone true s (as_read line) (is_continued lines) ∷ alone_from (after_line true s (as_read line)) lines
 
 -- whether it leaves each line of a text alone, up to the limit of lines
 abbrev pub alone_lines : List ℕ → List Bool
-alone_lines text = take SOURCE_LINES_LIMIT (alone_from at_first (lines_of text))
+alone_lines text = take SOURCE_LINES_LIMIT (alone_from (at_first (redefined_in (lines_of text))) (lines_of text))
 
 -- the line at a place, from 0, is left alone
 abbrev pub is_alone_at : List Bool → ℕ → Bool

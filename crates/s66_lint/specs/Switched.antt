@@ -1,7 +1,9 @@
 -- To be believed: a source with the comments `*S66 OFF` and `*S66 ON` around each line that `--cut` leaves alone.
-use Rattle.std.specs.Prelude.{ℕ, true, not, if◌then◌else◌, List, [], ◌∷◌, ◌++◌, codes, map}
+use Rattle.std.specs.Prelude.{ℕ, Bool, true, false, not, if◌then◌else◌, List, [], ◌∷◌, ◌++◌, codes, map}
 use Rattle.s66_line.specs.Block.{Entry, Block}
 use Rattle.s66_line.specs.Fields.{body, with_newlines}
+use Rattle.s66_line.specs.declared.class.Class.{Class}
+use Rattle.s66_line.specs.declared.class.Class.TheVariants.{Refused}
 use Rattle.s66_source.specs.LeftAlone.{Flagged, flagged_lines, is_on_switch}
 
 -- a line as it is or, if it is left alone, between the two comments; the second is left alone too, but for one after a switch ON
@@ -18,6 +20,10 @@ switched_lines (line ∷ lines) = between_switches line ++ switched_lines lines
 -- a source with the two comments around each line that `--cut` leaves alone
 abbrev pub switched : List ℕ → List ℕ
 switched text = with_newlines (map (λ (m : Flagged). m.bytes) (switched_lines (flagged_lines (record { cut = true; text = text }))))
+
+abbrev pub is_refused : Class → Bool
+is_refused Refused = true
+is_refused class = false
 
 -- an instruction of a block but for the number of its line
 abbrev pub unnumbered_entry : Entry → Entry

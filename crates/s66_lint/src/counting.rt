@@ -1,5 +1,7 @@
+use crate::crowd::are_many;
 use crate::distance::Distance;
 use crate::line::{Kind, Line};
+use crate::names::Code;
 use crate::operand::{Term, ends_name, ends_sum, is_name, names_index, terms_of};
 use crate::operations::{evaluates, is_branch};
 use crate::references::has_register;
@@ -276,10 +278,26 @@ impl<'a> Rules<'a> {
             let Some(code) = self.names.code_of(term.bytes, self.deck.before(at).program) else {
                 continue;
             };
-            let span = self.names.reach_of(&code, here);
+            let span = self.reach_of(tracker, &code, here)?;
             self.harm(tracker, span)?;
         }
         Ok(())
+    }
+
+    /// All between the statement at a place and this code.
+    fn reach_of(
+        &self,
+        tracker: &mut Tracker,
+        code: &Code,
+        here: usize,
+    ) -> Result<Span, AllocError> {
+        if !are_many(code.places) {
+            return Ok(self.names.reach_of(code, here));
+        }
+        match tracker.crowd(&self.names, code.places)? {
+            Some(crowd) => Ok(crowd.reach(here)),
+            None => Ok(Span::none()),
+        }
     }
 
     /// Harms what a computed jump may reach.

@@ -1,13 +1,13 @@
 use crate::line::Line;
 use crate::operations::ends_range;
-use crate::reading::directive_count;
-use s66_source::{Cover, counting_text, cover_of};
+use s66_line::LINE_BYTES_LIMIT;
+use s66_source::{Cover, counting_text, cover_of, directive_cover};
 
 /// The lines that a directive counts.
 fn cover_by_directive(line: &Line) -> Cover {
-    match directive_count(line.letters) {
-        0 => Cover::Nothing,
-        count => Cover::Lines { count },
+    match line.letters {
+        [b'*', text @ ..] if text.len() < LINE_BYTES_LIMIT => directive_cover(text),
+        _ => Cover::Nothing,
     }
 }
 

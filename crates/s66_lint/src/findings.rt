@@ -12,7 +12,7 @@ use crate::listing::{count_listed, push_listing};
 use crate::rules::Rules;
 use crate::tracker::Tracker;
 use s66_line::LINE_BYTES_LIMIT;
-use s66_source::SOURCE_LINES_LIMIT;
+use s66_source::{Redefined, SOURCE_LINES_LIMIT};
 use std::alloc::{AllocError, Global};
 
 /// What was found in the line of this number, after what was found in those before it.
@@ -57,6 +57,7 @@ fn push_long(all: &mut Vec<Finding>, past: Option<usize>) -> Result<(), AllocErr
 /// All that is found in a source, of which these are the lines up to the limit, and some, by index, are left alone.
 fn found_in<'a>(
     alloc: Global,
+    text: &[u8],
     lines: &'a [Line<'a>],
     past: Option<usize>,
     alone: &[bool],
@@ -64,7 +65,8 @@ fn found_in<'a>(
     requires { length lines.now ≤ SOURCE_LINES_LIMIT }
     ensures { IfOk result (λ all. AreFindings all.items) }
 {
-    let rules = Rules::of(alloc, Deck::of(alloc, lines, alone)?)?;
+    let redefined = Redefined::of(alloc, text)?;
+    let rules = Rules::of(alloc, Deck::of(alloc, lines, alone)?, redefined)?;
     let mut tracker = Tracker::new(alloc, false);
     let mut all = Vec::new(alloc);
     for (at, line) in lines.iter().enumerate() {
@@ -100,6 +102,7 @@ pub fn findings_in(alloc: Global, text: &[u8], cut: bool) -> Result<Vec<u8>, All
     let alone = alone_lines(alloc, text)?;
     let all = found_in(
         alloc,
+        text,
         lines.lines.as_slice(),
         lines.past,
         left_alone(alone.as_slice(), cut),
@@ -124,10 +127,16 @@ pub fn count_findings(alloc: Global, text: &[u8], cut: bool) -> Result<usize, Al
     let letters = text.to_ascii_uppercase(alloc)?;
     let lines = Lines::of(alloc, text, letters.as_slice(), cut)?;
     if !cut {
-        let all = found_in(alloc, lines.lines.as_slice(), lines.past, &[])?;
+        let all = found_in(alloc, text, lines.lines.as_slice(), lines.past, &[])?;
         return Ok(count_all(all.as_slice()));
     }
     let alone = alone_lines(alloc, text)?;
-    let all = found_in(alloc, lines.lines.as_slice(), lines.past, alone.as_slice())?;
+    let all = found_in(
+        alloc,
+        text,
+        lines.lines.as_slice(),
+        lines.past,
+        alone.as_slice(),
+    )?;
     Ok(count_listed(alone.as_slice(), all.as_slice()))
 }

@@ -5,7 +5,7 @@ ghost use Rattle.s66_line.specs.Fields.{lines_of};
 ghost use Rattle.s66_source.specs.LeftAlone.{Flagged, flagged_lines, plain};
 ghost use Rattle.s66_source.specs.Roles.{is_copied};
 ghost use Rattle.s66_source.specs.Source.{Line, classed_lines};
-ghost use Rattle.s66_lint.specs.Guarded.{Begins, Mark, GuardedLine, guarded_bytes, guarded, guarded_flags, guarded_lines, is_left_alone, source_lines, unmarked};
+ghost use Rattle.s66_lint.specs.Guarded.{Begins, Mark, GuardedLine, flag_of, guarded_bytes, guarded, guarded_flags, guarded_lines, is_left_alone, source_lines, unmarked};
 
 /// The lines of what is printed are those of the source, in order and each once, and lines that were added.
 pub fn unguarded_law()
@@ -17,10 +17,13 @@ pub fn unguarded_law()
         source_lines (guarded_lines marks text) ≡ flagged_lines (plain text) }
 {}
 
-/// Read without `--cut`, a line of what is printed is left alone just if it was added, or was left alone in the source, or is guarded.
+/// Read with `--cut` or without it, a line of what is printed is left alone just if it was added, or is left alone in the source, read in the
+/// same way, or is guarded. Without `--cut` that is `is_left_alone` of each line.
 pub fn guarded_law()
-    ensures { (marks : List Mark) (text : List ℕ) →
-        flagged_lines (plain (guarded marks text)) ≡ guarded_flags marks text }
+    ensures flags { (marks : List Mark) (text : List ℕ) (cut : Bool) →
+        flagged_lines (record { cut = cut; text = guarded marks text }) ≡ guarded_flags cut marks text }
+    ensures plainly { (marks : List Mark) (text : List ℕ) →
+        flagged_lines (plain (guarded marks text)) ≡ map flag_of (guarded_lines marks text) }
 {}
 
 /// A line of what is printed that is left alone without `--cut` is copied by `order`, with `--cut` or without it, to the byte.
@@ -33,7 +36,8 @@ pub fn guard_kept_law()
 {}
 
 /// Small sources. Regions with two reasons, with one, and with none, of which the last is at the end; one that a switch ON parts; one that
-/// ends where switches of the source begin; and no region. A reason is one line, without blanks at its end and no longer than it may be.
+/// ends where switches of the source begin; and no region. A reason is one line, without blanks at its end and no longer than it may be. A
+/// region and a definition, read with `--cut` and without it.
 pub fn guarded_examples()
     ensures regions { guarded (record { is_harmed = true; reasons = codes "COUNTS WORDS NZ X1,*-1" ∷ codes "ROW OF NO" ∷ [] } ∷ record { is_harmed = true; reasons = [] } ∷ unmarked ∷ record { is_harmed = true; reasons = codes "LOADS CODE SA2 PLUG" ∷ [] } ∷ unmarked ∷ record { is_harmed = true; reasons = [] } ∷ []) (codes "  SX1 B1\n  SX2 B2\n  EQ X\nPLUG SX7 0\n  EQ Y\n  SX6 B1") ≡
         codes "*S66 OFF GUARD COUNTS WORDS NZ X1,*-1\n" ++
@@ -69,4 +73,8 @@ pub fn guarded_examples()
     ensures cut { guarded_bytes (Begins (codes "TAKES CODE SX1 " ++ replicate 41 65 ++ codes " BC")) ≡
         codes "*S66 OFF GUARD TAKES CODE SX1 " ++ replicate 41 65 }
     ensures few { length (guarded_bytes (Begins (replicate 99 65))) ≡ 72 }
+    ensures cut_flags { map (λ (m : Flagged). m.alone) (guarded_flags true (record { is_harmed = true; reasons = [] } ∷ []) (codes "  SX1 B1\nM MACRO\n  SX2 B2\nM ENDM\n  SX6 B1")) ≡
+        true ∷ true ∷ true ∷ false ∷ true ∷ true ∷ false ∷ [] }
+    ensures plain_flags { map (λ (m : Flagged). m.alone) (guarded_flags false (record { is_harmed = true; reasons = [] } ∷ []) (codes "  SX1 B1\nM MACRO\n  SX2 B2\nM ENDM\n  SX6 B1")) ≡
+        true ∷ true ∷ true ∷ false ∷ false ∷ false ∷ false ∷ [] }
 {}

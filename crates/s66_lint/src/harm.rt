@@ -1,3 +1,4 @@
+use crate::crowd::are_many;
 use crate::names::{Code, Place, Standing};
 use crate::rules::Rules;
 use crate::tracker::{Question, Tracker};
@@ -78,6 +79,10 @@ impl<'a> Rules<'a> {
         if tracker.recall(&question)? {
             return Ok(());
         }
+        if way.counts() && are_many(code.places) {
+            self.harm_crowd(tracker, code, way)?;
+            return tracker.keep(&question);
+        }
         for place in places {
             self.harm_place(tracker, place, code.words, way, is_loose)?;
             if tracker.is_done() {
@@ -85,6 +90,14 @@ impl<'a> Rules<'a> {
             }
         }
         tracker.keep(&question)
+    }
+
+    /// Harms what is meant near all the places of a name that has many, and all between, so that the time doesn't grow with their number.
+    fn harm_crowd(&self, tracker: &mut Tracker, code: &Code, way: &Way) -> Result<(), AllocError> {
+        match tracker.crowd(&self.names, code.places)? {
+            Some(crowd) => self.harm(tracker, crowd.near(&self.deck.words, way, code.words)),
+            None => Ok(()),
+        }
     }
 
     fn harm_place(
@@ -119,6 +132,10 @@ impl<'a> Rules<'a> {
         let question = way.question(&code, true, false);
         if tracker.recall(&question)? {
             return Ok(());
+        }
+        if way.counts() && are_many(entries) {
+            self.harm_crowd(tracker, &code, way)?;
+            return tracker.keep(&question);
         }
         for place in self.names.places_in(entries) {
             self.harm_entry(tracker, place, way)?;

@@ -7,6 +7,7 @@ use crate::listing::push_text;
 use crate::rules::Rules;
 use crate::tracker::Tracker;
 use crate::words::Span;
+use s66_source::Redefined;
 use std::alloc::{AllocError, Global};
 use std::collections::BTreeMap;
 
@@ -57,7 +58,7 @@ fn is_passed(line: &Line) -> bool {
     if line.is_comment() {
         return !line.is_directive() && !line.is_on_switch();
     }
-    !line.continues && (line.has_words() || line.is_bare())
+    line.has_words() || line.is_wordless()
 }
 
 /// Whether each of the runs that may change is in one of some ranges.
@@ -91,7 +92,8 @@ pub fn harms_in(alloc: Global, text: &[u8]) -> Result<Harms, AllocError> {
     let lines = Lines::of(alloc, text, letters.as_slice(), true)?;
     let alone = alone_lines(alloc, text)?;
     let lines = lines.lines.as_slice();
-    let rules = Rules::of(alloc, Deck::of(alloc, lines, alone.as_slice())?)?;
+    let redefined = Redefined::of(alloc, text)?;
+    let rules = Rules::of(alloc, Deck::of(alloc, lines, alone.as_slice())?, redefined)?;
     let mut tracker = Tracker::new(alloc, true);
     let mut findings = Vec::new(alloc);
     let mut texts = Vec::new(alloc);

@@ -97,7 +97,7 @@ impl OpenWord {
         }
         let follows = line.may_join() && self.last.is_half_filled;
         let joins = follows || self.is_joined_by(line);
-        let stands = line.is_instruction_or_pad() && !line.is_off;
+        let stands = line.is_instruction_or_pad();
         let joining = Joining {
             joins: stands && may_change && (joins || line.operation() == b"SB0".as_slice()),
             slides_from: if self.sizes.are_several() && shares_word(line, next) {

@@ -1,12 +1,11 @@
 use crate::operand::{decimal, has_registers_alone};
 use crate::operations::{falls_through, has_address, is_wordless, makes_words, renames};
-use crate::reading::is_far_operand;
 use crate::spelling::{is_instruction_name, is_register};
 use s66_line::{
-    Class, LINE_BYTES_LIMIT, body_of, classify, fields_of, is_comment_line, is_continuation,
-    operation_and_operand,
+    Class, LINE_BYTES_LIMIT, TEXT_LIMIT, body_of, classify, fields_of, is_comment_line,
+    is_continuation, operation_and_operand,
 };
-use s66_source::{is_directive, is_switch};
+use s66_source::{Redefined, is_directive, is_far, is_switch};
 
 /// What a line is by its operation, refused or not.
 #[derive(Clone, Copy)]
@@ -92,7 +91,20 @@ impl<'a> Line<'a> {
 
     /// Whether its operand isn't seen, though it is accepted.
     pub(crate) fn is_far(&self) -> bool {
-        self.is_instruction() && is_far_operand(self.body)
+        self.is_instruction() && is_far(self.body)
+    }
+
+    /// Whether it is one of the operations or instructions that a source redefines. The form of a refused operand isn't known.
+    pub(crate) fn is_one_of(&self, redefined: &Redefined) -> bool {
+        let bytes = fields_of(self.body).from_operation;
+        if self.is_long || bytes.len() > TEXT_LIMIT {
+            return false;
+        }
+        if self.is_refused {
+            redefined.has_operation(bytes)
+        } else {
+            redefined.has(bytes)
+        }
     }
 
     /// Whether it is refused, as it is written, by whether a comma in column 1 would continue the line directly before.
@@ -176,17 +188,12 @@ impl<'a> Line<'a> {
 
     /// Whether it is code, be it between switches: an instruction, also a refused one, a pad, a conditional branch, or a transfer of
     /// central memory.
-    pub(crate) fn makes_code(&self) -> bool {
+    pub(crate) fn is_code(&self) -> bool {
         !self.is_long
             && !self.continues
             && (self.is_instruction_or_pad()
                 || falls_through(self.operation())
                 || self.is_comparison())
-    }
-
-    /// Whether it is code, and not between switches.
-    pub(crate) fn is_code(&self) -> bool {
-        !self.is_off && self.makes_code()
     }
 
     /// Whether it makes words of code, be it between switches: code, another branch, or the entry of a subroutine.
@@ -196,16 +203,11 @@ impl<'a> Line<'a> {
             && (self.is_instruction_or_pad() || makes_words(self.operation()))
     }
 
-    /// Whether it makes no word, be it between switches.
-    pub(crate) fn is_bare(&self) -> bool {
+    /// Whether it is a statement that makes no word, be it between switches.
+    pub(crate) fn is_wordless(&self) -> bool {
         matches!(self.kind, Kind::Other)
             && !self.is_long
             && (self.is_mark() || is_wordless(self.operation()))
-    }
-
-    /// Whether it is a statement that makes no word, and not between switches.
-    pub(crate) fn is_wordless(&self) -> bool {
-        !self.is_off && self.is_bare()
     }
 
     /// Whether it is there for its name alone.

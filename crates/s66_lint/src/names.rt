@@ -28,7 +28,7 @@ pub(crate) struct Place {
     program: usize,
     /// The place of the statement with the name.
     pub(crate) at: usize,
-    /// That of the code in whose word it stands, switched off and defined code too.
+    /// That of the code in whose word it stands, defined code too.
     pub(crate) code: Option<usize>,
     pub(crate) standing: Standing,
     is_address: bool,
@@ -97,9 +97,9 @@ pub(crate) struct Names<'a> {
     counts: Vec<Counts>,
 }
 
-/// What stands where the line at this index has its name; and whether that is an address.
+/// What stands where the line at this index has its name.
 fn standing_of(deck: &Deck, at: usize, line: &Line, code: Option<usize>) -> Standing {
-    if line.is_off || deck.before(at).in_definition {
+    if deck.before(at).in_definition {
         return Standing::Nothing;
     }
     match code {

@@ -42,7 +42,7 @@ fn number_beside(terms: &[Term], name: &[u8]) -> Option<i64> {
 
 /// Whether the line at this index may give its name the address of another.
 fn may_rename(deck: &Deck, at: usize, line: &Line) -> bool {
-    line.renames() && !line.name().is_empty() && !line.is_off && !deck.before(at).in_definition
+    line.renames() && !line.name().is_empty() && !deck.before(at).in_definition
 }
 
 /// Gives each name that is the name of a label of code that label's address.

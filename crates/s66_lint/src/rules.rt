@@ -7,7 +7,6 @@ use crate::macros::Macros;
 use crate::names::Names;
 use crate::operand::names_nothing;
 use crate::operations::is_data;
-use crate::reading::Redefinitions;
 use crate::renaming::rename;
 use crate::rows::rows_of;
 use crate::skipping::mark_skipping;
@@ -15,6 +14,7 @@ use crate::spelling::is_slip;
 use crate::tracker::Tracker;
 use crate::way::Way;
 use crate::words::Span;
+use s66_source::Redefined;
 use std::alloc::{AllocError, Global};
 
 /// A source, and the names in it.
@@ -25,7 +25,7 @@ pub(crate) struct Rules<'a> {
     pub(crate) names: Names<'a>,
     pub(crate) lengths: Lengths,
     pub(crate) macros: Macros<'a>,
-    redefinitions: Redefinitions<'a>,
+    redefined: Redefined,
     /// The first lines, by index, of too many pads.
     rows: Vec<usize>,
 }
@@ -42,25 +42,6 @@ impl<'a, 't> Sheet<'a, 't> {
     fn push_if(&mut self, there: bool, rule: Rule, line: &Line<'a>) -> Result<(), AllocError> {
         if there {
             self.found.push(LineFinding::of(rule, line, Harm::Nothing))?;
-        }
-        Ok(())
-    }
-
-    /// Adds a finding, if it is there, which harms its own line if that may change.
-    fn push_itself(
-        &mut self,
-        there: bool,
-        may_change: bool,
-        rule: Rule,
-        line: &Line<'a>,
-    ) -> Result<(), AllocError> {
-        if there {
-            let harm = if may_change {
-                Harm::Itself
-            } else {
-                Harm::Nothing
-            };
-            self.found.push(LineFinding::of(rule, line, harm))?;
         }
         Ok(())
     }
@@ -84,13 +65,17 @@ fn is_store(operation: &[u8]) -> bool {
 }
 
 impl<'a> Rules<'a> {
-    pub(crate) fn of(alloc: Global, deck: Deck<'a>) -> Result<Rules<'a>, AllocError> {
+    /// Of a source that redefines this.
+    pub(crate) fn of(
+        alloc: Global,
+        deck: Deck<'a>,
+        redefined: Redefined,
+    ) -> Result<Rules<'a>, AllocError> {
         let mut names = Names::of(alloc, &deck)?;
         rename(alloc, &deck, &mut names)?;
         mark_skipping(&deck, &mut names);
         let lengths = Lengths::of(alloc, &deck, &names)?;
         let macros = Macros::of(alloc, &deck, &names)?;
-        let redefinitions = Redefinitions::of(alloc, deck.lines())?;
         let rows = rows_of(alloc, &deck)?;
         Ok(Rules {
             alloc,
@@ -98,7 +83,7 @@ impl<'a> Rules<'a> {
             names,
             lengths,
             macros,
-            redefinitions,
+            redefined,
             rows,
         })
     }
@@ -147,11 +132,10 @@ impl<'a> Rules<'a> {
         if line.continues {
             return Ok(());
         }
-        let is_redefined = self.is_redefined(at, line)?;
+        let is_redefined = self.is_redefined(at, line);
         let is_far = line.is_far() && !self.deck.before(at).in_definition;
-        let may_change = self.deck.changing.run_at(at).is_some();
-        sheet.push_itself(is_far, may_change, Rule::FarOperand, line)?;
-        sheet.push_itself(is_redefined, may_change, Rule::Redefined, line)?;
+        sheet.push_if(is_far, Rule::FarOperand, line)?;
+        sheet.push_if(is_redefined, Rule::Redefined, line)?;
         if !line.is_instruction_or_pad() {
             self.push_form(sheet, at, line)?;
         }
@@ -167,8 +151,10 @@ impl<'a> Rules<'a> {
     }
 
     /// Whether the source redefines the instruction or the pad at this index.
-    fn is_redefined(&self, at: usize, line: &Line<'a>) -> Result<bool, AllocError> {
-        Ok(!self.deck.before(at).in_definition && self.redefinitions.has(self.alloc, line)?)
+    fn is_redefined(&self, at: usize, line: &Line<'a>) -> bool {
+        line.is_instruction_or_pad()
+            && !self.deck.before(at).in_definition
+            && line.is_one_of(&self.redefined)
     }
 
     /// What a statement is itself that is no instruction.

@@ -1,4 +1,6 @@
 use crate::changing::{Changing, RunRange};
+use crate::crowd::Crowd;
+use crate::names::Names;
 use crate::words::Span;
 use std::alloc::{AllocError, Global};
 use std::collections::BTreeMap;
@@ -27,6 +29,8 @@ pub(crate) struct Tracker {
     parts: Vec<Span>,
     /// What was answered, as parts of the list.
     answers: BTreeMap<Question, Span>,
+    /// Where the places of names are that have many, by the first of these and the end.
+    crowds: BTreeMap<(usize, usize), Option<Crowd>>,
 }
 
 impl Tracker {
@@ -38,7 +42,23 @@ impl Tracker {
             begin: 0,
             parts: Vec::new(alloc),
             answers: BTreeMap::new(alloc),
+            crowds: BTreeMap::new(alloc),
         }
+    }
+
+    /// Where these places of a name are.
+    pub(crate) fn crowd(
+        &mut self,
+        names: &Names,
+        places: Span,
+    ) -> Result<Option<Crowd>, AllocError> {
+        let key = (places.first, places.end);
+        if let Some(known) = self.crowds.get(&key) {
+            return Ok(*known);
+        }
+        let crowd = Crowd::of(names.places_in(places));
+        let _before = self.crowds.insert(key, crowd)?;
+        Ok(crowd)
     }
 
     pub(crate) fn is_empty(&self) -> bool {
@@ -124,6 +144,7 @@ impl Tracker {
             begin: _,
             parts: _,
             answers: _,
+            crowds: _,
         } = self;
         runs
     }

@@ -47,6 +47,11 @@ impl Way {
         }
     }
 
+    /// Whether a number says how many words are meant.
+    pub(crate) fn counts(&self) -> bool {
+        matches!(self, Way::Words { .. } | Way::Forward { .. })
+    }
+
     /// Whether it leads back from an entry.
     pub(crate) fn leads_back(&self) -> bool {
         matches!(self, Way::BackToName | Way::Words { .. })

@@ -59,7 +59,7 @@ impl Word {
                 begins_with_pad: true,
                 end: self.end,
             }
-        } else if line.makes_code() {
+        } else if line.is_code() {
             Word {
                 instructions: self.instructions.saturating_add(1),
                 has_pads: self.has_pads,

@@ -28,7 +28,7 @@ impl Content {
             Content::Word
         } else if line.is_data_part() {
             Content::Part
-        } else if line.is_bare() {
+        } else if line.is_wordless() {
             Content::Nothing
         } else {
             Content::Unknown
