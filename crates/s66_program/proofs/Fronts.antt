@@ -4,8 +4,8 @@ use Rattle.std.specs.Prelude.{◌==◌}
 use Rattle.std.proofs.lemmas.List.{length-append}
 use Rattle.std.proofs.lemmas.Bool.{cases_lt, le-ltb, lt-ltb}
 use Rattle.s66_line.specs.Fields.{lines_from}
-use Rattle.s66_source.specs.LeftAlone.{Flagged, after_line, at_first, class_at, is_alone, is_continued, flagged_from}
-use Rattle.s66_source.specs.declared.standing.Standing.{Standing}
+use Rattle.s66_source.specs.LeftAlone.{Flagged, Reading, after_line, at_first, class_at, is_alone, is_continued, flagged_from, redefined_by}
+use Rattle.s66_source.specs.LeftAlone.{Standing}
 use Rattle.s66_source.proofs.CutLaw.{none-refused}
 use Rattle.s66_source.specs.Source.{blocks_of, classed_lines, classes_from, label_after, operand_refusal, or_else, place_after, refusal, run_after, source_of, unless_refused}
 use Rattle.s66_line.specs.Class.{is_code}
@@ -131,15 +131,15 @@ front-lines cut (b ∷ bytes) rest line number c c' same few enough =
     (λ short below. front-lines cut bytes rest [] (suc number) _ _ (same-after cut c c' _ _ line same) (omega (arith, below)) (omega (arith, short, enough))))
     (front-lines cut bytes rest (line ++ b ∷ []) number c c' same few (omega (arith, enough, longer line b)))
 
-abbrev begun : Carried
-begun = record { run = 0; index = 0; label = []; after = false; standing = at_first }
+abbrev begun : Reading → Carried
+begun source = record { run = 0; index = 0; label = []; after = false; standing = at_first (redefined_by source) }
 
-same-begun : (cut : Bool) → Same cut begun begun
-same-begun true = tt
-same-begun false = refl
+same-begun : (cut : Bool) (text front : List ℕ) → Same cut (begun (record { cut = cut; text = text })) (begun (record { cut = cut; text = front }))
+same-begun true text front = tt
+same-begun false text front = refl
 
 pub front-refused : (cut : Bool) (front rest : List ℕ) → SOURCE_FRONT ≤ length front →
     (e : SourceError) × (source_of (record { cut = cut; text = front ++ rest }) ≡ Err e) × (source_of (record { cut = cut; text = front }) ≡ Err e)
 front-refused cut front rest long =
-    let stated = front-lines cut front rest [] 1 begun begun (same-begun cut) (omega arith) (omega (arith, long)) in
+    let stated = front-lines cut front rest [] 1 (begun (record { cut = cut; text = front ++ rest })) (begun (record { cut = cut; text = front })) (same-begun cut (front ++ rest) front) (omega arith) (omega (arith, long)) in
     (stated.0, ap (λ r. unless_refused r (blocks_of (classed_lines (record { cut = cut; text = front ++ rest })))) stated.1, ap (λ r. unless_refused r (blocks_of (classed_lines (record { cut = cut; text = front })))) stated.2)

@@ -18,7 +18,7 @@ use Rattle.s66_source.specs.Printed.{Placed}
 use Rattle.s66_source.specs.ReadAgain.{ArePlacedAgain}
 use Rattle.s66_source.specs.Source.{source_of}
 use Rattle.s66_source.proofs.PrintedLines.{same-blocks}
-use Rattle.s66_source.proofs.ReadAgain.{read-again}
+use Rattle.s66_source.proofs.SourceAgain.{read-again}
 use Rattle.s66_source.proofs.SpelledLaw.{spelled}
 use Rattle.s66_compare.specs.Compared.{IsCompared, compared_text, is_accepted}
 use Rattle.s66_compare.specs.Difference.{first_difference, shapes}

@@ -7,7 +7,7 @@ use Rattle.s66_source.specs.ReadAgain.{AreComplete, ArePlacedAgain, IsPlacedAgai
 use Rattle.s66_line.specs.Block.{Entry, Block}
 use Rattle.s66_source.specs.LeftAlone.{Reading}
 use Rattle.s66_source.specs.Source.{source_of}
-use Rattle.s66_source.proofs.ReadAgain.{read-again}
+use Rattle.s66_source.proofs.SourceAgain.{read-again}
 use Rattle.s66_command.specs.declared.strategy.Strategy.{Strategy}
 use Rattle.s66_model.specs.Answer.{source_time}
 use Rattle.s66_model.proofs.WrittenOrders.{written-order}
