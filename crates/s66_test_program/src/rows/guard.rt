@@ -41,11 +41,11 @@ pub(crate) const ROWS: &[Row] = &[
         "  RJ SUB\n*S66 OFF GUARD JOINS A WORD SX0 A0\n*S66 OFF GUARD JOINS A WORD BX7 X7\n- SX0 A0\n  BX7 X7\n*S66 ON GUARD\n  SA1 A\n  BX6 X1\n",
     ),
     (
-        "lines that may be something else",
+        "what the reading leaves alone is in no danger",
         GUARD,
         "RXX*X OPDEF I,J,K\n  ENDM\n  RX5 X1*X2\n  SX6                         B1\n  BX7 X1\nL SX7                         B1\n",
         0,
-        "RXX*X OPDEF I,J,K\n  ENDM\n*S66 OFF GUARD REDEFINED RX5 X1*X2\n*S66 OFF GUARD FAR OPERAND SX6 B1\n  RX5 X1*X2\n  SX6                         B1\n*S66 ON GUARD\n  BX7 X1\nL SX7                         B1\n",
+        "RXX*X OPDEF I,J,K\n  ENDM\n  RX5 X1*X2\n  SX6                         B1\n  BX7 X1\nL SX7                         B1\n",
     ),
     (
         "a sum of two labels of code",

@@ -40,6 +40,27 @@ pub(crate) const ROWS: &[Row] = &[
         "*S66 OFF\n          SX4    X5+B1\n          SA2    X4          STATUS, FIRST\n          SA1    X3          IN, AFTER IT\n          LX1    3\n          IX7    X1+X2\n*S66 ON\n",
     ),
     (
+        "an operand that isn't seen",
+        CUT,
+        "  SX6                     B1\n  SA1 A1+B1\n  BX6 X1\n  BX7 X2\n",
+        0,
+        "  SX6                     B1\n* BLOCK 1 COUNT 3 SOURCE 16 TIME 12 BEST\n          SA1 A1+B1\n          BX7 X2\n          BX6 X1\n",
+    ),
+    (
+        "an instruction that is redefined behind it",
+        CUT,
+        "  SA1 A1+B1\n  BX6 X1\n  BX7 X2\n  CX3 X5\nCXX OPDEF I,K\n  ENDM\n",
+        0,
+        "* BLOCK 1 COUNT 3 SOURCE 16 TIME 12 BEST\n          SA1 A1+B1\n          BX7 X2\n          BX6 X1\n  CX3 X5\nCXX OPDEF I,K\n  ENDM\n",
+    ),
+    (
+        "a line that is continued behind a comment",
+        CUT,
+        "  SA1 A1+B1\n  BX6 X1\n  BX7 X2\n  BX5 X1\n* NOTE\n,  +1\n",
+        0,
+        "* BLOCK 1 COUNT 3 SOURCE 16 TIME 12 BEST\n          SA1 A1+B1\n          BX7 X2\n          BX6 X1\n  BX5 X1\n* NOTE\n,  +1\n",
+    ),
+    (
         "nested definitions",
         CUT,
         "A OPDEF X\n  BX1 X2\nB MACRO Y\n  SX6 Y\n  BX7 Y\n  ENDM\n  BX6 X1\n  ENDM\n  SA1 A1+B1\n  BX6 X1\n  BX7 X2\n",
