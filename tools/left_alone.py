@@ -7,8 +7,8 @@ The second opinion is tools/source_rules.py and tools/lint_rules.py. For each of
 and without --cut what `lint` prints, the blocks of `deps`, the lines of `order`, the statuses, refusals, and what is told of a
 source after a success; and what `guard` prints, in which the lines of the source are left if those that it added are taken out,
 and to which it adds nothing. It also puts the comments *S66 OFF and *S66 ON around what --cut leaves alone: then `deps` without
---cut has to find the same blocks, and `lint` nothing that --cut leaves alone, nor anything that it didn't find before. Each
-mismatch is printed with a small source that shows it, which is left in /tmp, and at the end how often each finding was wanted.
+--cut has to find the same blocks, and `lint` nothing that `lint --cut` didn't find before. Each mismatch is printed with a small
+source that shows it, which is left in /tmp, and at the end how often each finding was wanted.
 The status is 1 if something is wrong, in the tables EXAMPLES and LISTED or in the program.
 """
 import argparse
@@ -20,7 +20,7 @@ from random import choice, choices, random, seed
 
 from compare_certificates import INSTRUCTIONS, WRONG
 from lint_rules import guard_of, lint_of
-from source_rules import COMMAS, COMMENT, INSTRUCTION, MOST, MOST_LINES, OTHER, PAD, Source
+from source_rules import COMMAS, COMMENT, INSTRUCTION, MOST, MOST_LINES, OTHER, PAD, Line, Source, form_of
 
 BRANCHES = "RJ JP ZR NZ PL NG MI IR OR DF ID EQ NE GE GT LT LE XJ".split()
 REFUSED = "refused"
@@ -34,7 +34,7 @@ COMMANDS = [["lint"], ["lint", "--cut"], ["guard"], ["deps"], ["deps", "--cut"],
 # Sources, with | in the place of newlines, and for each line c if it is left alone with --cut, o if in any case.
 EXAMPLES = [
     ("  SKIP".ljust(28) + "1|  BX1 X2|" + "  SKIP".ljust(29) + "1|  BX1 X2", "-c--"), ("*S66 OFF|  MACROE|*S66 ON|  BX1 X2", "oooc"),
-    ("  BX1 X2|* C|,X3|  BX8 X1|, X|  IX1 X2*X3|*CALL|* L", "-cccccc-"), ("  SKIP 4|  MACRO|  SKIP 9|  ENDM|  BX1 X2|  BX1 X2", "-cccc-"),
+    ("  BX1 X2|* C|,X3|  BX8 X1|, X|  IX1 X2*X3|*CALL|* L", "ccccccc-"), ("  SKIP 4|  MACRO|  SKIP 9|  ENDM|  BX1 X2|  BX1 X2", "-cccc-"),
     ("A MACRO P|  OPDEF|* C|  ENDM|  BX1 X2|  ENDM|  ENDM", "-ccccc-"), ("  BX1 X2|*S66 ONE| *S66 OFF|*S66OFF|* S66 OFF|*", "---c--"),
     ("  IFC EQ,/A/B/,1|  BX1 X2|  IFC EQ,/A/B/|  BX1 X2", "-c--"), ("  BX1 X2|*S66 OFF|  BX8 X1|*s66\t on  R|*S66 ON", "-ooo-"),
     ("  IFEQ A,B|  IFEQ A,B,0|  SKIP|  ELSE|  BX1 X2", "-----"), ("  IFC EQ,,A,B,,1|  BX1 X2|  IFC EQ,/A/|  BX1 X2", "-c-c"),
@@ -54,26 +54,45 @@ EXAMPLES = [
     ("A MACRO P|*ELSE 3|  ENDM|  BX1 X2", "-cc-"), ("*S66 OFF|*ELSE 1|*S66 ON|  BX1 X2|  BX1 X2", "oooc-"), ("  SKIP 1|*ELSE 2|  BX1 X2|  BX1 X2|  BX1 X2", "-ccc-"),
     ("  SX3 1R +X1|  SX3 X1-1R   C|  SA1 =10HREAD ERROR|  sa1 =c/A B/+X1|  SA1 =C/A B/ +X1|  SA1 =C/A B|  SA1 =10H   X1+B1 IS", "c--c-cc"),
     ("  SX5 3R A  +|  SA1 =H*A  B*|  NO 1R +X1|  SX1 N1R +X1|  SX1 0R +X1|  SX1 1RA1R +X1|  SX1 =1R +X1|  EQ =C/A B", "-----cc-"),
+    ("  BX1 X2|  BX2 X3|*||   |,|* C|, X|*|  BX1 X2", "-ccccccc--"), ("  BX1 X2|*S66 OFF|,X|*S66 ON|  BX1 X2|*|*S66 OFF|*S66 ON|, X|  BX1 X2", "coooccooc-"),
+    (", X|* C|, X|* C", "ccc-"), ("  SX1".ljust(20) + "B1|" + "  SX1".ljust(21) + "B1|" + "L".ljust(11) + "SX1".ljust(17) + "B1", "-c-"),
+    ("L".ljust(11) + "SX1".ljust(18) + "B1|" + "NINE.WIDE  sx1".ljust(29) + "b1|" + " NINE.WI.  NX1".ljust(29) + "B1", "ccc"),
+    ("TENS.WIDE. SX1".ljust(29) + "B1|" + " TEN.WIDE. NX1".ljust(29) + "B1|" + "TENS.WIDE. SX1".ljust(30) + "B1", "--c"),
+    ("  NX1".ljust(70) + "|" + "  NO".ljust(40) + "REMARK|" + "  SX1".ljust(40) + "B1,X2", "--c"),
+    ("  BX6 X1|bx6 OPSYN BX7|  BX6 X2|  BX7 X2", "c-c-"), ("  MACRO NO,P|  ENDM|  NO", "-cc"), ("*S66 OFF|NO CPSYN NIL|*S66 ON|  no", "oooc"),
+    ("A MACRO P| BX6 MACROE|  ENDM|  ENDM|  BX6 X1|  BX7 X1", "-cccc-"), ("BX6 EQU 1|  OPSYN BX6|,  MACRO BX6|* BX6 MACRO|  BX6 X1", "-cc--"),
+    ("A MACRO BX6,P|  ENDM|  BX6 X1", "-c-"), ("RXX*X OPDEF I,J,K|  ENDM|  RX5 X1*X2|  RX5 X1/X2|  DX5 X1*X2", "-cc--"),
+    (" SXQ OPDEF|  ENDM|  SX1 N|  SX1 -N|  sx1 n+x2|  SX1 +X2+N|  SX1 X2+N|  SX1 X2|  SX1 10HA B", "-ccccc--c"),
+    ("SXX+Q OPDEF|  ENDM|  SX1 X2+N-1|  SX1 X2+AB|  SX1 X2+A|  SX1 X2-N|  SX1 X2+B+N|  SX1 +X2+N", "-ccc----"),
+    ("SXX*X OPDEF|  ENDM|  SX1 X2*X3", "-cc"),
+    ("lxb,x OPDEF|  ENDM|  LX1 B2,X3|  LX1 X3,B2|  AX1 B2,X3", "-cc--"), ("NX OPDEF|  ENDM|  NX1|  NX1 X1", "-cc-"),
+    ("NO OPDEF|  ENDM|  NO|  NO B1", "-cc-"), ("nob OPDEF|  ENDM|  NO|  no B1    REMARK", "-c-c"),
 ]
 
 # Sources, as above, and what `lint` lists of them, without LINE and with ; in the place of newlines; and the lines that `guard` switches off.
 LISTED = [
-    ("  SX6".ljust(26) + "B1|  SA1 B2", "1 FAR OPERAND SX6 B1", [1]), ("  NX1".ljust(70) + "B3|  SA1 B2", "1 FAR OPERAND NX1 B3", []),
-    ("  SX6".ljust(20) + "B1|  SA1 B2", "", []), ("  SX6".ljust(21) + "B1|  SA1 X6", "1 FAR OPERAND SX6 B1", []),
-    ("L".ljust(15) + "SX6".ljust(14) + "B1|  SA1 B2", "1 FAR OPERAND SX6 B1", [1]), ("L".ljust(14) + "SX6".ljust(14) + "B1|  SA1 B2", "", []),
-    ("  SX1 B1|  SX2 B2|" + "  SX6".ljust(26) + "B1|  SA1 B2|  SA3 B3", "3 FAR OPERAND SX6 B1", [3]), ("  NX6".ljust(29) + "|  SA1 B2", "", []),
+    ("  SX6".ljust(26) + "B1|  SA1 B2", "1 FAR OPERAND SX6 B1 (CUT)", []), ("  NX1".ljust(70) + "B3|  SA1 B2", "1 FAR OPERAND NX1 B3 (CUT)", []),
+    ("  SX6".ljust(20) + "B1|  SA1 B2", "", []), ("  SX6".ljust(21) + "B1|  SA1 X6", "1 FAR OPERAND SX6 B1 (CUT)", []),
+    ("L".ljust(15) + "SX6".ljust(14) + "B1|  SA1 B2", "1 FAR OPERAND SX6 B1 (CUT)", []), ("L".ljust(14) + "SX6".ljust(14) + "B1|  SA1 B2", "", []),
+    ("LONG.LABEL".ljust(15) + "sx6".ljust(18) + "b1|  SA1 B2", "", []), ("LONG.LABEL".ljust(15) + "sx6".ljust(19) + "b1", "1 FAR OPERAND sx6 b1 (CUT)", []),
+    (" NINE.WI.  SX6".ljust(29) + "B1", "1 FAR OPERAND SX6 B1 (CUT)", []), (" TEN.WIDE. SX6".ljust(29) + "B1", "", []),
+    ("  SX1 B1|  SX2 B2|" + "  SX6".ljust(26) + "B1|  SA1 B2|  SA3 B3", "3 FAR OPERAND SX6 B1 (CUT)", []), ("  NX6".ljust(29) + "|  SA1 B2", "", []),
     ("  SX6".ljust(29) + "B1+|  SX1 B1|  BX2 X3", "1 BAD OPERAND SX6 B1+ (CUT)", []), ("  NO".ljust(29) + "REMARK|  SX1 B1|  BX2 X3", "", []),
     ("N MACRO|" + "  SX6".ljust(29) + "B1|  ENDM", "1 HAS A BODY MACRO (CUT)", []),
-    ("RXX*X OPDEF I,J,K|  FX_I X_J*X_K|  ENDM|  RX5 X1*X2|  RX5 X1/X2|  SB7 X3", "4 REDEFINED RX5 X1*X2", [4]),
-    (" SXQ OPDEF I,Q|  ENDM|  SX1 N+1|  SX1 B1", "3 REDEFINED SX1 N+1", []), (" NO OPSYN NIL|  SX1 B1|  NO", "3 REDEFINED NO", [3]),
-    ("IXX*X OPDEF I,J,K|  ENDM|  IX6 X1+X2", "", []), ("CXX OPDEF I,K|  ENDM|  SX1 B1|  SX2 B2|  CX3 X5|  SB6 60", "5 REDEFINED CX3 X5", [5]),
-    ("SXX+Q OPDEF|  ENDM|  sx1 x2+n-1|  SX3 X2-N|  SX4 X2|  SX5 N+X2", "3 REDEFINED sx1 x2+n-1", [3]),
-    ("SXQ OPDEF|  ENDM|  SX1 N+X2", "3 REDEFINED SX1 N+X2", []),
+    ("RXX*X OPDEF I,J,K|  FX_I X_J*X_K|  ENDM|  RX5 X1*X2|  RX5 X1/X2|  SB7 X3", "4 REDEFINED RX5 X1*X2 (CUT)", []),
+    (" SXQ OPDEF I,Q|  ENDM|  SX1 N+1|  SX1 B1", "3 REDEFINED SX1 N+1 (CUT)", []), (" NO OPSYN NIL|  SX1 B1|  NO", "3 REDEFINED NO (CUT)", []),
+    ("IXX*X OPDEF I,J,K|  ENDM|  IX6 X1+X2", "", []), ("CXX OPDEF I,K|  ENDM|  SX1 B1|  SX2 B2|  CX3 X5|  SB6 60", "5 REDEFINED CX3 X5 (CUT)", []),
+    ("SXX+Q OPDEF|  ENDM|  sx1 x2+n-1|  SX3 X2-N|  SX4 X2|  SX5 N+X2", "3 REDEFINED sx1 x2+n-1 (CUT)", []),
+    ("SXX+Q OPDEF|  ENDM|  SX1 X2+A|  SX2 X3+AB|  SX3 X4+B+N", "4 REDEFINED SX2 X3+AB (CUT)", []), ("SX-Q OPDEF|  ENDM|  SX1 -N|  SX2 -B1", "", []),
+    ("SXX+A OPDEF|  ENDM|  SX1 X2+A|  SX2 X3+B", "3 REDEFINED SX1 X2+A (CUT)", []), ("SX-B OPDEF|  ENDM|  SX2 -B1", "3 REDEFINED SX2 -B1 (CUT)", []),
+    ("SXQ OPDEF|  ENDM|  SX1 -N|  SX2 +X3+N|  SX4 -B2", "3 REDEFINED SX1 -N (CUT);4 REDEFINED SX2 +X3+N (CUT)", []),
+    ("SXQ OPDEF|  ENDM|  SX1 N+X2|  SX2 -X2+N", "3 REDEFINED SX1 N+X2 (CUT);4 BAD OPERAND SX2 -X2+N (CUT)", []),
     ("  SX6 B1|  BX7 X1|  MACRO BX7,P|  SX6 P|  ENDM|*S66 OFF|BX6 CPSYN BX7|*S66 ON|  BX6 X1|  SX7 B2",
-     "2 REDEFINED BX7 X1;3 HAS A BODY MACRO (CUT);9 REDEFINED BX6 X1", [2, 6, 7, 8, 9]),
+     "2 REDEFINED BX7 X1 (CUT);3 HAS A BODY MACRO (CUT);9 REDEFINED BX6 X1 (CUT)", [6, 7, 8]),
     ("SX1 MACRO P|  ENDM|  SX1".ljust(49) + "P(|  SX2 B1", "3 BAD OPERAND SX1 P( (CUT);3 REDEFINED SX1 P( (CUT)", []),
     ("  SKIP 1|" + "  SX6".ljust(26) + "B1|  SA1 B2|  SA3 B3", "1 COUNTS LINES SKIP (CUT);2 FAR OPERAND SX6 B1 (CUT)", []),
-    ("SB0 OPSYN SB1|  SX1 B1|  SB0 N|  SX2 B2", "3 REDEFINED SB0 N", [3]),
+    ("SB0 OPSYN SB1|  SX1 B1|  SB0 N|  SX2 B2", "3 REDEFINED SB0 N (CUT)", []),
+    ("  SX1 B1|  SX2 B2|* C|, X", "", []), ("  SX1 B1|  SX2 B2|, X", "3 BAD OPERAND X (CUT)", []),
 ]
 
 
@@ -171,7 +190,8 @@ def fault_of(words, text, seen):
     return "" if re.findall(r"(?m)^(BLOCK.*) DEPENDENCES \d+$", output) == heads else f"wanted {heads}"
 
 
-LABELS = ["LOOP", "TAG", "L1", "loop", "B1", "+", "-", "+", "-", " COL2", "CIO=", "NINE.WIDE", "TENS.WIDE.", " TEN.WIDE."]
+LABELS = ["LOOP", "TAG", "L1", "loop", "B1", "+", "-", "+", "-", " COL2", "CIO=", "NINE.WIDE", "TENS.WIDE.", " TEN.WIDE.", " NINE.WI.",
+          "TENS.WIDE.", " TEN.WIDE.", "ELEVEN.WIDE", " VERY.WIDE.LOOP"]
 CONSTANTS = ["1", "100B", "LOOP", "loop", "TAG+1", "L1-1B", "2*LOOP", "2*TAG+1", "=TAG", "LOOP+N", "N/TAG", "=LOOP+1", "COL2-1", "TAG", "L1", "CIO=",
              "CIO=+2", "1+LOOP", "TAG-N", "LOOP-TAG+1", "LOOP+0", "LOOP+1S17"]
 COUNTS = ["0", "1", "1", "2", "2", "5", "00", "N", "", "2B", "-1", "2,3", "9" * 30]
@@ -183,12 +203,13 @@ SORTS = {  # lines, or operations and their operands, with # in the place of a c
     "counting": "*IF DEF,A,#|*IF DEF,A,#|*IF -DEF,TRACE,#  OLD|*ELSE #|*else #|*IF,DEF,A,#|*ELSE,#|*IF DEF,A|*IF DEF,,#|*IF ,DEF,A,#|*IF\tEQ,A,#|*IFDEF A,B,#|*ENDIF #",
     "mark": "*S66 OFF|*S66 OFF|*S66 ON|*s66 off  remark|*S66\tON|*s66 \tOn ONE",
     "continuation": ",X1|, X2|,A BX6 X1|,|, SKIP 2|,Y MACRO|,Z ZR *|,N ENDM|,*LIST|, IFEQ LOOP+1,A,2",
-    INSTRUCTION: "|".join(INSTRUCTIONS * 3) + "|SA6 K|SA7 K+Bj|SA6 Bj+K-K|SA7 Aj+K|SX1 K|SB1 Xj+K|SA1 K|SA5 Bj+K" * 8,
+    INSTRUCTION: "|".join(INSTRUCTIONS * 3) + "|SA6 K|SA7 K+Bj|SA6 Bj+K-K|SA7 Aj+K|SX1 K|SB1 Xj+K|SA1 K|SA5 Bj+K" * 8
+    + "|SXi -K|SXi -K+Bj|SBi +Xj-K|SXi +Aj|SAi Bj+A|SXi Xj+B-K|SXi A+Xj|LXi -X+K" * 4,
     "characters": "SXi ~|SXi Xj-~|SXi ~+Bj|SAi =~|SA6 Bj+~|SA7 =~+K|SBi Aj+~|SBi -~|LXi ~|MXi N-~|SXi K+~|SAi ~+~|SXi N~|BXi ~|NXi ~|SAi K,~",
     PAD: "NO|NO BX1|no LOOP+1|NO ~",
     REFUSED: "|".join(wrong for wrong in WRONG if wrong[:2] not in ("NO", "BX")) + "|BX1|SA6 *+K|SA6 K-B1|SX2 K+*|NX1 K|SA7 *",
     "definition": "MACRO P,Q|MACROE|OPDEF P|ENDM|ENDM|ENDM|endm K|ENDMM|macro K|ECHO|ECHO ,R=(B2,B3)|ECHO 0|DUP 2|ENDD|ENDD",
-    "redefinition": "RXX*X OPDEF I|SXQ OPDEF I|IXX*X OPDEF I|BX6 MACRO I|bxx opdef|SAA+Q OPDEF|OPDEF"
+    "redefinition": "RXX*X OPDEF I|SXQ OPDEF I|IXX*X OPDEF I|BX6 MACRO I|bxx opdef|SAA+Q OPDEF|OPDEF|NO OPDEF"
     "|SX1 OPSYN SX2|BX7 CPSYN K|NO OPSYN NIL|no cpsyn|SA1 EQU 1",
     "end": "ENDD|ENDIF|END|IDENT K|ENDX|endif",
     "branch": "|".join(f"{word} *|{word} B1,B2,*+1|{word} X1,K|{word} X1,K-*|{word} X1,2**|{word} K,* X|{word}" for word in BRANCHES),
@@ -227,9 +248,9 @@ def switched(text, by_line):
     return "".join(line + "\n" for line in lines).encode("latin-1"), places
 
 
-def found_in(text, places):
-    """What `lint` lists of a source, with the places of its lines in another one."""
-    rows = re.findall(r"(?m)^LINE (\d+) (.*)$", lint_of(text)[0].decode("latin-1"))
+def found_in(text, places, cut):
+    """What `lint` lists of a source, with or without --cut, with the places of its lines in another one."""
+    rows = re.findall(r"(?m)^LINE (\d+) (.*)$", lint_of(text, cut)[0].decode("latin-1"))
     return {(places[int(number) - 1], found) for number, found in rows}
 
 
@@ -239,9 +260,9 @@ def switched_fault(program, text, words):
     lines, places = ([], []) if reading.refusal else switched(text, "line" in words)
     if not lines or len(places) > MOST_LINES:
         return ""
-    had, found = found_in(text, range(MOST_LINES)), found_in(lines, places)
-    if found - had or any(row.endswith(" (CUT)") for _, row in found):
-        return f"{lines}: found {found}, and before {had}"
+    had, found = found_in(text, range(MOST_LINES), True), found_in(lines, places, False)
+    if found - had:
+        return f"{lines}: found {found}, and with --cut {had}"
     heads = [f"BLOCK {n} LINE {places.index(block[0]) + 1} COUNT {len(block)}" for n, block in enumerate(reading.blocks, 1)]
     blocks = re.findall(r"(?m)^(BLOCK.*) DEPENDENCES \d+$", run(program, ["deps"], lines)[0].decode("latin-1"))
     seen = run(program, ["lint"], lines)
@@ -269,8 +290,9 @@ def guarded_fault(program, text, words):
     return "" if is_whole else f"{output}: guarded again it is {again}"
 
 
-def make_line(sort, labelled, lower, wide, returns):
-    """A line of a sort: these are the chances of a label, of lower case, of some 200 bytes, and of carriage returns."""
+def make_line(sort, labelled, far, lower, wide, returns):
+    """A line of a sort: these are the chances of a label, of an operand far to the right, of lower case, of some 200 bytes, and of
+    carriage returns."""
     text = re.sub("~", lambda _: characters(), choice(SORTS[sort].split("|")).replace("#", choice(COUNTS)))
     if sort in ("column", "redefinition"):
         text = choice(["", "", " "]) + re.sub(r"\bK\b", lambda _: choice(CONSTANTS), text)
@@ -278,19 +300,35 @@ def make_line(sort, labelled, lower, wide, returns):
     elif sort == OTHER or not re.match("[*, \t]|$", text):
         text = re.sub("[ijk]", lambda _: choice("0123456767"), text) if sort in (INSTRUCTION, REFUSED, "word", "characters") else text
         operation, _, operand = re.sub(r"\bK\b", lambda _: choice(CONSTANTS), text).partition(" ")
-        label = choice(LABELS) if random() < labelled else ""
+        is_far = random() < far
+        label = choice(LABELS) if random() < labelled + is_far / 2 else ""
         begin = label + choice([" " * max(1, 10 - len(label)), "  ", "\t", "  \t "] * 4 + [" "] * bool(labelled))
-        front, far = begin + operation, choice([28, 29, 30, len(begin) + 18, len(begin) + 19])
-        front = front.ljust(far) if random() < 0.1 else front + choice([" ", " ", "\t", "   "])
+        front, place = begin + operation, choice([28, 29, 30, len(begin) + 18, len(begin) + 19])
+        front = front.ljust(place) if is_far else front + choice([" ", " ", "\t", "   "])
         remark = choice(["", "", " ", " * LOOP+1", "  REMARK,2\t", "\tA\rB"]) if operand or sort != INSTRUCTION else ""
         text = (front + operand + remark).lower() if random() < lower else front + operand + remark
     more = choice([199, 200, 200, 201]) - len(text) if random() < wide else 0
     return text + (" " + "R" * 200)[:more] + choice(["\r", "\r\r"]) * (random() < returns)
 
 
+def redefining(lines):
+    """Lines that redefine what one of these lines is, or something like it, perhaps in a definition or between switches."""
+    code = [line for line in map(Line, lines) if line.kind in (INSTRUCTION, PAD)] or [Line("  SX1 B1+N")]
+    line = max(choices(code, k=choice([1, 3])), key=lambda line: len(line.operand))
+    spelled = re.sub("[A-Z0-9=.]+", lambda name: choice([name[0][0], name[0][0], "Q", name[0]]), line.operand)
+    near = [line.operation[:2] + operand for operand in (spelled, re.sub("Q.*", "Q", spelled), "Q")]
+    form, name = choice([form_of(line.operation, line.operand)] * 3 + near), line.operation + choice([""] * 9 + ["X", "1"])
+    text = choice([f"{name} MACRO P", f"  MACRO {name}{choice(['', ',P'])}", f"{name} MACROE", *[f"{form} OPDEF{choice(['', ' P,Q'])}"] * 4,
+                   f"{name} OPSYN {choice(CONSTANTS)}", f"{name} CPSYN BX1", f"  OPSYN {name}", f"{form} EQU 1"])
+    text = choice([text, text, text, " " + text, text.lower(), f"TAG {text}"])
+    body = [choice(["  BX1 X2", "  CON P", "  SX6 P+Q", line.text])] * choice([0, 1]) + ["  ENDM"] if re.search("(?i)MACRO|OPDEF", text) else []
+    begin, end = choice([([], []), ([], []), (["*S66 OFF"], ["*S66 ON"]), (["N MACRO P"], ["  ENDM"]), (["  SKIP 2"], []), (["  ECHO"], ["  ENDD"])])
+    return [line for line in begin + [text] + body + end if random() < 0.98]
+
+
 def make_source():
     """A source of some sorts of lines."""
-    chances = choice([0, 0.2, 0.5]), choice([0, 0.2]), choice([0] * 7 + [0.05]), choice([0, 0, 0.3, 1])
+    chances = choice([0, 0.2, 0.5]), choice([0, 0.1, 0.4]), choice([0, 0.2]), choice([0] * 7 + [0.05]), choice([0, 0, 0.3, 1])
     sorts = choice([list(SORTS), ["count", "count", "counting", "definition", "end", "mark", "continuation", COMMENT],
                     [INSTRUCTION, PAD, "word", "address", "branch", "mark"]])
     weights = {INSTRUCTION: choice([2, 4, 8]), **{sort: choice([0, 1, 1, 2, 4]) for sort in sorts if sort != INSTRUCTION}}
@@ -302,6 +340,12 @@ def make_source():
     if random() < 0.3:
         at, meant = choice(range(len(lines))), choice(MEANT).split("|")
         lines[at:at] = [re.sub(r"\bK\b", lambda _: choice(CONSTANTS), line) for line in meant if random() < 0.95]
+    for _ in range(choice([0, 0, 1, 1, 2])):
+        at = choice(range(len(lines) + 1))
+        lines[at:at] = redefining(lines)
+    for _ in range(choice([0, 0, 0, 1, 2, len(lines) // 4])):  # commas behind comments
+        at, sorts = choice(range(len(lines) + 1)), choices([COMMENT, "mark", "directive"], [8, 1, 1], k=choice([1, 1, 2, 3]))
+        lines[at:at] = [make_line(sort, *chances) for sort in [*sorts, "continuation"]]
     if random() < 0.006:
         lines += [" "] * (MOST_LINES - len(lines)) + choice([[], [""], ["*" * 201], [" ", "*" * 201]])
     return "\n".join(lines).encode("latin-1") + b"\n" * (random() < 0.7)

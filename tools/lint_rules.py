@@ -13,6 +13,7 @@ from source_rules import (BRANCHES, FALL_THROUGH, INSTRUCTION, LETTERS, MOST, MO
 PARCELS = 4  # of a word
 AHEAD = 40  # statements in which the use of an address is looked for
 SKIPPED = 3  # words behind a call that its routine may skip
+FEW = 100  # places of a name that are looked at one by one
 MOST_MARK = 72  # bytes of a line that `guard` adds
 MARK = "*S66 %s GUARD"
 WITH_WORDS = BRANCHES | FALL_THROUGH | {"PS", "SUBR"}
@@ -234,7 +235,7 @@ class Names:
         self.places.setdefault(name, []).append(at)
         if line.word in ("EQU", "=") and number_of(line.operand) is not None:
             self.numbers[name] = number_of(line.operand)
-        if not (line.is_off or is_inside):
+        if not is_inside:
             if self.deck.is_code(code):
                 words = int(line.operand[1:] or 0) if line.word in ("EQU", "=") else 0
                 self.labels.setdefault(name, []).append(Label(program, at if words else code, words))
@@ -248,7 +249,7 @@ class Names:
     def code_named(self, at):
         """The place of the line of code, be it between switches, in whose word the name of a line stands, or None."""
         line, near = self.lines[at], self.deck.next
-        if line.makes_code():
+        if line.is_code():
             return at
         if line.word in ("EQU", "="):
             here = re.fullmatch(r"\*(?:([+-])[0-9]+)?", line.operand)
@@ -256,11 +257,11 @@ class Names:
         elif not line.is_mark():
             near = None
         place = near and near[at]
-        return place if place is not None and self.lines[place].makes_code() else None
+        return place if place is not None and self.lines[place].is_code() else None
 
     def take_other(self, at, line, name):
         """Takes a name that means the same word as a label of code, or so many words further."""
-        if line.word not in ("EQU", "=", "SET") or not name or line.is_off or self.deck.source.inside[at] or name in self.labels:
+        if line.word not in ("EQU", "=", "SET") or not name or self.deck.source.inside[at] or name in self.labels:
             return
         terms = terms_of(line.operand)
         named = [term for sign, term in terms if sign == "+" and self.code_at(term, at)]
@@ -310,7 +311,7 @@ class Findings:
 
     def __init__(self, source, cut):
         self.source, self.lines, self.deck = source, source.lines, Deck(source, cut)
-        self.names, self.within, self.left = Names(self.deck), set(), source.left_alone(True)
+        self.names, self.within = Names(self.deck), set()
         runs = self.deck.runs([line.is_off for line in self.lines])
         for run in runs:
             code = [at for at in run if self.deck.is_instruction(at)]
@@ -347,10 +348,10 @@ class Findings:
             before = None if last is None else self.lines[last]
             follows = line.may_join() and half is not None and half == last
             is_first = before and (line.location == "-" and before.kind == OTHER or line.may_join() and before.word in ("RE", "WE"))
-            if line.kind in (INSTRUCTION, PAD) and not line.is_off:
+            if line.kind in (INSTRUCTION, PAD):
                 joined.update([at] * bool(follows or is_first or line.word == "SB0"))
                 half = at if is_first and not follows and (line.kind == PAD or line.size() == 1) else half
-        return {at for at in joined & self.deck.changing if not self.source.inside[at]}
+        return {at for at in joined & self.deck.changing if not (self.source.inside[at] or self.source.is_redefined(at))}
 
     def sliding(self, at):
         """The code before RJ, RE or WE that may bring it into the other half of its word, which the next line shares."""
@@ -439,6 +440,13 @@ class Findings:
             found += self.deck.back(entry.at, None if words is None else -words)
         return found
 
+    def spread(self, places, near):
+        """What is meant near the places of a name, and of many all from the first of these to the last."""
+        if not near or len(places) <= FEW:
+            return near
+        near = near + [place.at for place in places]
+        return list(range(min(near), max(near) + 1))
+
     def referenced(self, at):
         """What SA1 to SA7 loads or stores."""
         is_chained, found = self.is_chained(at), []
@@ -447,14 +455,17 @@ class Findings:
             is_indexed = any(map(is_index, names))
             for name in names:
                 distance = self.names.distance([(sign, term) for sign, term in terms if term != name and not is_index(term)])
-                for label in self.names.code_at(name, at):
+                labels, near = self.names.code_at(name, at), []
+                for label in labels:
                     if text.lstrip("+") == name and label.words == 0 and self.deck.is_held(label.at) and not is_chained:
                         continue
-                    found += self.deck.around(label.at) if is_indexed else self.from_label(label, distance, True)
+                    near += self.deck.around(label.at) if is_indexed else self.from_label(label, distance, True)
                     found += self.stretch(label.at) if is_chained else []
+                found += near if is_indexed or distance[0] is None else self.spread(labels, near)
                 if name not in self.names.labels and not is_indexed and distance[0] is not None:
-                    for entry in self.names.of_program(self.names.entries, name, at):
-                        found += self.from_entry(entry, distance)
+                    entries = self.names.of_program(self.names.entries, name, at)
+                    found += self.spread(entries, [place for entry in entries for place in self.from_entry(entry, distance)])
+                    for entry in entries:
                         if distance[0] == 0 and entry.is_before and is_chained and entry.at in self.names.lengths:
                             found += self.stretch(entry.at)
         return found
@@ -475,9 +486,11 @@ class Findings:
             distance = self.names.distance(rest)
             labels = self.names.code_at(names[0], at)
             if rest and distance[0] != 0:
-                found += [place for label in labels for place in self.from_label(label, distance, False)]
+                near = [place for label in labels for place in self.from_label(label, distance, False)]
+                found += near if distance[0] is None else self.spread(labels, near)
                 entries = self.names.of_program(self.names.entries, names[0], at) if not labels and distance[0] != 1 else []
-                found += [place for entry in entries for place in self.from_entry(entry, distance)]
+                near = [place for entry in entries for place in self.from_entry(entry, distance)]
+                found += near if distance[0] is None else self.spread(entries, near)
         return found
 
     def counted_from_here(self, at):
@@ -603,6 +616,10 @@ class Findings:
     def of_form(self, at, line):
         """What a statement is itself, with the words that are shown."""
         is_other, column = line.kind == OTHER, re.fullmatch(LETTERS + "[0-7]", line.location)
+        if line.is_far() and not self.source.inside[at]:
+            yield "FAR OPERAND", line.written, line.written_operand, "(CUT)"
+        if self.source.is_redefined(at):
+            yield "REDEFINED", line.written, line.written_operand, "(CUT)"
         if is_other and not self.deck.peripheral[at] and re.fullmatch(LETTERS + "([^0-7]|[0-9]{2,})?", line.operation, re.DOTALL):
             yield "NOT AN INSTRUCTION", line.written
         if is_other and column and takes(line.location, line.operation) and not re.fullmatch("[A-Z]+|=", line.operation):
@@ -626,16 +643,11 @@ class Findings:
 
     def of_statement(self, at, line):
         """What is found in a statement, each with its harm."""
-        both, is_redefined = (line.written, line.written_operand), self.source.is_redefined(at)
-        mark, itself = ["(CUT)"] * self.left[at], {at} & self.deck.changing
-        if line.is_far() and not self.source.inside[at]:
-            yield ("FAR OPERAND", *both, *mark), itself
-        if is_redefined:
-            yield ("REDEFINED", *both, *mark), itself
+        both = line.written, line.written_operand
         for words in self.of_form(at, line):
             yield words, None
         for name, places in self.of_order(at, line):
-            if name == "JOINS A WORD" and at in self.joined and not is_redefined:
+            if name == "JOINS A WORD" and at in self.joined:
                 yield (name, *both), {at}
             if self.harm(places):
                 yield (name, *both) if name != "ROW OF NO" else (name,), self.harm(places)
@@ -683,7 +695,7 @@ def regions_of(findings):
     def joins(at):
         line = findings.lines[at]
         is_plain = line.is_comment and not line.directive and not line.mark
-        return at not in findings.deck.changing and not line.is_off and (is_plain or has_words(line) or line.is_wordless())
+        return at not in findings.deck.changing and not line.is_off and (is_plain or line.continues and not line.is_long or has_words(line) or line.is_wordless())
 
     regions = []
     for at in sorted(harmed):

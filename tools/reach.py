@@ -3,12 +3,13 @@
 
     tools/reach.py PROGRAM [--first N] [--count N] [--plain]
 
-Each of N numbers, 300 from 1 unless given, makes a source full of counts, plugs, data in line and NOs. It goes through `guard` and
-`order --cut`, with --keep for every second one. Before and after it is packed into words, as COMPASS does: a word begins at a
-location, behind RJ, PS, EQ without a comma and data, and where a line doesn't fit. Of a load or a store the word that it reaches is
-compared, without the NOs at its end; of a count or a jump the first instruction from its word on, or that this is where a location
-or what stands before forces a word: there a run begins. With --plain nothing is guarded, which shows how many sources `order` harms.
-Each mismatch is printed with its source. The status is 1 if there is one.
+Each of N numbers, 300 from 1 unless given, makes a source full of counts, plugs, data in line and NOs, in which some instructions are
+continued or redefined, or have an operand far to the right. It goes through `guard` and `order --cut`, with --keep for every second
+one. Before and after it is packed into words, as COMPASS does: a word begins at a location, behind RJ, PS, EQ without a comma and
+data, and where a line doesn't fit. Of a load or a store the word that it reaches is compared, without the NOs at its end; of a count
+or a jump the first instruction from its word on, or that this is where a location or what stands before forces a word: there a run
+begins. With --plain nothing is guarded, which shows how many sources `order` harms. Each mismatch is printed with its source. The
+status is 1 if there is one.
 """
 import argparse
 import re
@@ -23,20 +24,27 @@ JUMPS = ["ZR X1,OUT", "NG X2,OUT", "EQ OUT", "RJ SUB", "EQ B1,B2,OUT"]
 FROM_LABEL = ["EQ {label}{n:+}", "NZ X3,{label}{n:+}", "SA1 {label}{n:+}", "SA6 {label}{n:+}", "SB7 {label}{n:+}", "CON {label}{n:+}"]
 FROM_HERE = ["NZ X1,*-1", "NZ X1,*-2", "NZ X1,*+2", "EQ *+2", "NZ X1,*", "SB7 *+2", "SA1 *-1"]
 PLUGS = ["SA1 {label}", "SA6 {label}"]
+SYNONYMS = ["BX1", "SX3", "SA2", "MX4", "NO"]
 SORTS = [(60, PLAIN), (12, ["NO"]), (8, JUMPS), (13, FROM_LABEL), (4, FROM_HERE), (3, PLUGS)]
 
 
 def make_source(random):
     """Lines of a source; each label has a place."""
-    lines, left = [], LABELS[:]
+    left = LABELS[:]
+    lines = [name.ljust(10) + "OPSYN " + name for name in random.sample(SYNONYMS, random.choice([0, 0, 1, 2]))]
     for _ in range(random.randrange(8, 30)):
         forms = random.choices([forms for _, forms in SORTS], [weight for weight, _ in SORTS])[0]
         digits = {name: random.choice("01234567") for name in "ijk"}
         text = random.choice(forms).format(l=random.choice("12345"), label=random.choice(LABELS), n=random.choice([-2, -1, 1, 2, 3]), **digits)
         place = random.choices([left[:1], ["+"], []], [15, 6, 79])[0]
         left = left[1:] if place and place == left[:1] else left
-        lines.append("".join(place).ljust(10) + text)
+        lines.append("".join(place).ljust(10) + text.replace(" ", " " * random.choices([1, 19], [95, 5])[0], 1))
+        lines += ["* NOTE"] * random.randrange(3) + [",X1"] if random.random() < 0.04 else []
     return lines + [label.ljust(10) + "PS" for label in left]
+
+
+def without_comments(lines):
+    return [line for line in lines if not line.startswith("*")]
 
 
 def parcels_of(operation, operand):
@@ -50,10 +58,10 @@ def packed(lines):
     """The words of a source, each the lines in it; which of them are forced; the words of labels; and of each line its text, its
     number among equal ones and its word."""
     words, used, is_forced, forced, labels, own, seen = [], WORD, True, set(), {}, [], {}
-    for line in lines:
-        if not line.strip() or line.startswith("*"):
+    for line in without_comments(lines):
+        place, (operation, operand) = line[:10].strip(), (line[10:].split() + ["", ""])[:2]
+        if operation in ("", "OPSYN"):
             continue
-        place, (operation, operand) = line[:10].strip(), (line[10:].split() + [""])[:2]
         is_forced, text, parcels = is_forced or place != "", f"{operation} {operand}", parcels_of(operation, operand)
         if is_forced or used + parcels > WORD:
             forced.update([len(words)] * is_forced)
@@ -104,7 +112,7 @@ def main():
         words = ["order", "--cut", "--quiet", "--deep", "--nodes", "50", "--workers", "1"] + ["--keep"] * (number % 2)
         ordered = run(asked.program, words, guarded)
         before, after = reached(lines), reached(ordered)
-        changed += [line for line in ordered if not line.startswith("*")] != lines
+        changed += without_comments(ordered) != without_comments(lines)
         wrong += before != after
         if before != after:
             differs = {text: (there, after.get(text)) for text, there in before.items() if after.get(text) != there}

@@ -13,8 +13,8 @@ LETTERS = "(?:BX|LX|AX|NX|ZX|UX|PX|FX|DX|RX|IX|MX|CX|SA|SB|SX)"
 REGISTER = re.compile("[ABX][0-7]")
 IN_WORD = "[A-Z0-9=.]"
 ALONE = re.compile(f"(?<!{IN_WORD})([ABX])[0-7](?!{IN_WORD})")
-EXPRESSION = re.compile(f"(?<!{IN_WORD})(?:(?![ABX](?!{IN_WORD}))[A-Z0-9=.+*/-]+$|[0-9=]{IN_WORD}*)")
-REMARK, FAR = 29, 19  # the place from which on an operand is a remark, and how far that is behind the operations' column
+EXPRESSION = re.compile(f"(?<!{IN_WORD})(?![ABX](?!{IN_WORD})){IN_WORD}")
+REMARK, COLUMN = 29, 10  # the places from which on an operand is a remark, and where operations are put
 UPPER = bytes.maketrans(bytes(range(97, 123)), bytes(range(65, 91))).decode("latin-1")  # of ASCII alone
 
 BRANCHES = set("RJ JP ZR NZ PL NG MI IR OR DF ID EQ NE GE GT LT LE XJ".split())
@@ -53,15 +53,11 @@ def names_of(operand):
 
 
 def form_of(operation, operand):
-    """The form of an instruction, as the name of an OPDEF spells it; both are in upper case."""
+    """The form of an instruction or a pad, as the name of an OPDEF spells it; both are in upper case."""
     letters = ALONE.sub(r"\1", operand)
-    return operation[:2] + (letters if re.fullmatch("[-ABX+*/,]*", letters) else EXPRESSION.sub("Q", letters))
-
-
-def is_form(name):
-    """Whether an OPDEF of this name, in upper case, is of an instruction."""
-    operand = re.sub("[XABQ]", lambda letter: letter[0].replace("Q", "") + "1", name[2:])
-    return re.fullmatch(LETTERS, name[:2]) is not None and takes(name[:2] + "1", operand)
+    rest = EXPRESSION.search(letters)
+    front = letters if not rest else "" if letters[0] in "+-" else letters[: rest.start()]
+    return operation[:2] + front + "Q" * bool(rest)
 
 
 def is_directive(text):
@@ -139,13 +135,10 @@ class Line:
             count = operand.split(",")[0] if self.word == "ECHO" else "".join(operand.split(",", commas)[commas:])
         return int(count or "0") if re.fullmatch("[0-9]*", count) else UNKNOWN
 
-    def makes_code(self):
+    def is_code(self):
         """Whether it is code, be it between switches."""
         is_other = self.word in FALL_THROUGH or self.word == "EQ" and "," in self.operand
         return not self.is_long and (self.kind in (INSTRUCTION, PAD) or is_other)
-
-    def is_code(self):
-        return not self.is_off and self.makes_code()
 
     def is_mark(self):
         """Whether it is there for its name alone."""
@@ -177,7 +170,7 @@ class Line:
 
     def is_far(self):
         """Whether it is an accepted instruction with an operand that COMPASS doesn't see, or not if the operation is put into its column."""
-        is_behind = self.operand_at >= REMARK or self.operand_at - self.operation_at >= FAR
+        is_behind = self.operand_at >= REMARK and len(self.label) < COLUMN or self.operand_at - self.operation_at >= REMARK - COLUMN
         return self.kind == INSTRUCTION and self.is_in_run() and self.operand != "" and is_behind
 
     def redefined(self):
@@ -227,7 +220,7 @@ class Source:
         repeats = parts_of(lines, lambda line: line.word in ("DUP", "ECHO") and not line.count(), lambda line: line.word == "ENDD", outside.__getitem__)
         self.echoes = [(begin, end) for begin, end in repeats if lines[begin].word == "ECHO"]
         self.redefined = {line.redefined() for line in lines}
-        self.forms = {line.location for line in lines if line.word == "OPDEF" and is_form(line.location)}
+        self.forms = {line.location for line in lines if line.word == "OPDEF"}
         self.covered = {at: self.covered_by(at, line.count()) for at, line in enumerate(lines) if outside[at] and line.count()}
 
     def covered_by(self, at, count):
@@ -242,20 +235,21 @@ class Source:
         return places
 
     def is_redefined(self, at):
-        """Whether the source redefines the operation or the form of an instruction or a pad, outside of definitions."""
+        """Whether the source redefines the operation of an instruction or a pad, or the form of one that isn't refused, outside of definitions."""
         line = self.lines[at]
         if line.kind not in (INSTRUCTION, PAD) or line.is_long or line.is_off or self.inside[at]:
             return False
-        return line.operation in self.redefined or line.kind == INSTRUCTION and form_of(line.operation, line.operand) in self.forms
+        return line.operation in self.redefined or not line.is_bad and form_of(line.operation, line.operand) in self.forms
 
     def left_alone(self, cut):
         """Which lines are left alone."""
         lines = self.lines
         if not cut:
             return [line.is_off for line in lines]
-        left = [bool(line.is_off or line.is_bad or line.directive or line.continues) for line in lines]
-        for place, line in enumerate(lines[1:]):
-            left[place] |= line.continues
+        left = [bool(line.is_off or line.is_bad or line.is_far() or line.directive or self.is_redefined(at)) for at, line in enumerate(lines)]
+        for at in [at for at, line in enumerate(lines) if line.continues]:
+            begin = next((before for before in range(at - 1, -1, -1) if not lines[before].is_comment), 0)
+            left[begin : at + 1] = [True] * (at + 1 - begin)
         for begin, end in self.definitions + self.echoes:
             left[begin + 1 : end] = [True] * (end - begin - 1)
         for places in self.covered.values():
