@@ -19,7 +19,7 @@ import time
 
 LINES = 20_000
 RUNS = 10
-ENDED = (0, 7)  # statuses of a program that did its work: done; some block is only bounded
+ENDED = (0, 7, 8)  # statuses of a program that did its work: done; some block is only bounded; there is advice
 # the C library's fills and copies by one instruction, of which callgrind counts each byte, are switched off
 COUNTED = {**os.environ, "GLIBC_TUNABLES": "glibc.cpu.hwcaps=-ERMS"}
 TOP = os.path.dirname(os.path.dirname(os.path.abspath(__file__)))
@@ -120,8 +120,8 @@ def instructions(words, text):
 
 
 def tell_instructions(program):
-    for subcommand in ("time", "deps", "chart", "why"):
-        words = [program, subcommand]
+    for subcommand in ("time", "time --cut", "deps", "chart", "why", "lint", "guard"):
+        words = [program] + subcommand.split()
         start = instructions(words, b"")
         for name, text in BLOCKS.items():
             a_line = (instructions(words, text) - start) / LINES
