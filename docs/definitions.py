@@ -23,7 +23,7 @@ ROOT = os.path.dirname(os.path.dirname(os.path.abspath(__file__)))
 START, END = "<!-- made by docs/definitions.py -->\n", "<!-- end -->\n"
 BELIEVED = "To be believed: "
 HEAD = re.compile(r"^(?:abbrev |unfoldable )?pub (?:(record|data) )?([A-Za-z][\w'-]*)(.*)$")
-VARIABLE = re.compile(r"(?!(?:zero|true|false)$)[a-z]\w*")
+VARIABLE = re.compile(r"(?!(?:zero|true|false)$)[a-z][\w']*")
 TAIL = re.compile(r"\((?:suc|.* ∷) ([a-z]\w*)\)+")
 WORD = re.compile(r"(?<![\w.'-])[A-Za-z][\w']*(?:-\w+)*(?:\.[a-z]\w*)*")
 LABEL = re.compile(r"(^ +(?:pub )?|[{;] *)[A-Za-z][\w'-]*(?= [:=] )", re.MULTILINE)  # of a field
@@ -45,6 +45,9 @@ LONGEST_BODY = 110
 ONLY_SAFE = {"s66_deep"}
 ORDER, TOTAL, BOUND = "s66_model/LegalOrder/IsLegal", "s66_model/Timing/total_of", "s66_model/BestAndBound/IsBound"
 DOCUMENT, CLAIMED, SOURCE = "s66_cert/Document/Document", "s66_checker/Verdict/problem_of", "s66_source/Source/source_of"
+# what only a run of another subcommand writes, and what of `order` follows from its law
+OTHERS = [f"s66_program/{of}Text/Is{of}Output" for of in "Time Deps Chart Why Json Page Prove Check Lint Guard Sum Compare".split()]
+OTHERS += ["s66_program/OrderText/IsOrdered", "s66_program/Remarks/AreRegions", "s66_source/Halves/halves_of", "s66_cert/Faults/IsFault"]
 # what a reader who wants to believe this has to read: these definitions, with all that they use
 TO_BELIEVE = [
     ("that an order is legal", [ORDER]),
@@ -57,6 +60,7 @@ TO_BELIEVE = [
     ("status 0 of `compare` (`same_meaning_law`)", ["s66_source/Halves/halves_of", "s66_compare/Meant/IsReordered", "s66_compare/Meant/KeepsSource"]),
     ("what `time` says of a source", ["s66_program/TimeText/IsTimeOutput"]),
     ("`BEST` and `AT LEAST` in what `order` writes (`reported_law`)", ["s66_program/Reports/ReportsBlocks"]),
+    ("that the program, called with `order`, writes this (`run_program`)", ["s66_program/Program/IsRun", "s66_program/Reports/ReportsBlocks"]),
     ("`BEST` and `AT LEAST` of an answer (`answered_law`)", [BOUND, SOURCE, "s66_program/OrderText/all_placed", "s66_source/Printed/printed"]),
 ]
 
@@ -261,12 +265,13 @@ class House:
         return next((d for d in specs.definitions() if d.name == word), None) if specs else None
 
     def used_by(self, roots):
-        """These definitions and all that they use in turn, as crate, file and name."""
+        """These definitions and all that they use in turn but what other subcommands write, as crate, file and name."""
         todo, seen = [tuple(root.split("/")) for root in roots], {}
+        others = {tuple(other.split("/")) for other in OTHERS} - set(todo)
         while todo:
             crate, name, word = todo.pop()
             definition = self.find(crate, name, word)
-            if definition is None or (crate, name, definition.name) in seen:
+            if definition is None or (crate, name, definition.name) in seen or (crate, name, word) in others:
                 continue
             seen[crate, name, definition.name] = definition
             sources = map(self.specs[crate, name].source_of, sorted(definition.words()))

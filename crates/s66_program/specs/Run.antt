@@ -77,13 +77,3 @@ abbrev pub IsOutcome : Command → Reader → Reader → Writer → Writer → R
 IsOutcome command reader reader' writer writer' result =
     ((p : Profile) × IsUnder command p × IsOutcomeUnder p command reader reader' writer writer' result)
     ⊎ ((f : Fault) × (result ≡ Err f) × IsProfileFault command f × (reader' ≡ reader) × IsUntouched writer writer')
-
--- the status alone of one that has written its text
-abbrev pub status_of : Result Ended Fault → Result Status Fault
-status_of (Ok ended) = Ok ended.status
-status_of (Err fault) = Err fault
-
--- what is to be told is left out
-abbrev pub IsOutcomeUntold : Command → Reader → Reader → Writer → Writer → Result Status Fault → Type 0
-IsOutcomeUntold command reader reader' writer writer' result =
-    (whole : Result Ended Fault) × IsOutcome command reader reader' writer writer' whole × (result ≡ status_of whole)

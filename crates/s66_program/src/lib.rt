@@ -44,7 +44,7 @@ pub use order_laws::{compared_law, reported_law};
 pub use program::run_program;
 pub use progress::Progress;
 pub use remark::{Ended, Remark};
-pub use run::{run_command, run_observed};
+pub use run::run_command;
 pub use s66_answer::{Observer, Silent, Status, Task, document_of, make_each};
 pub use s66_command::{
     Asked, Command, NODES_DEFAULT, OrderStyle, Strategy, SumStyle, Usage, VERSION, WORKERS_DEFAULT,

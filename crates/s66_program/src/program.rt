@@ -1,7 +1,7 @@
 ghost use Rattle.std.specs.Prelude.{◌-◌, ◌^◌, ◌<◌, map};
 ghost use Rattle.s66_program.specs.Program.{IsRun};
 
-use crate::run::run_observed;
+use crate::run::run_command;
 use crate::telling::{show_usage, tell_end, tell_failure};
 use s66_answer::Observer;
 use s66_command::command_of;
@@ -32,7 +32,7 @@ pub fn run_program<
         Ok(command) => command,
         Err(usage) => return show_usage(&usage, writer, errors),
     };
-    match run_observed(rt, command, reader, writer, observer) {
+    match run_command(rt, command, reader, writer, observer) {
         Ok(ended) => tell_end(errors, &ended),
         Err(fault) => tell_failure(rt.alloc(), errors, command.profile, fault),
     }

@@ -1,14 +1,14 @@
 ghost use Rattle.std.specs.Prelude.{true, ◌≡◌, ◌-◌, ◌^◌, ◌<◌, IfOk, IfErr, IfSome};
 ghost use Rattle.s66_program.specs.Output.{IsUnder, IsWithinLimits, reads_source};
 ghost use Rattle.s66_program.specs.declared.limits.TheConstants.{SOURCE_FRONT};
-ghost use Rattle.s66_program.specs.Run.{IsOutcome, IsOutcomeUnder, IsOutcomeUntold, IsProfileFault};
+ghost use Rattle.s66_program.specs.Run.{IsOutcome, IsOutcomeUnder, IsProfileFault};
 
 use crate::fault::Fault;
 use crate::limits::SOURCE_FRONT;
 use crate::output::output_for;
 use crate::reading::read_all;
 use crate::remark::Ended;
-use s66_answer::{Observer, Silent, Status};
+use s66_answer::Observer;
 use s66_command::{Command, Reads, read_profile};
 use s66_device::{Feed, Sink, write_all};
 use s66_isa::Profile;
@@ -66,32 +66,16 @@ fn run_under<R: AllocGlobal + Threads + Wait + Sync, F: Feed, S: Sink, O: Observ
     }
 }
 
-/// Runs a command whose numbers are within their limits: reads to the end, builds all text, and only then writes. Returns
-/// `Bounded` if `order`, `sum` or `prove` left a block only bounded, `Denied` if `check` has a verdict that isn't yes, `lint`
+/// Runs a command whose numbers are within their limits: reads to the end, builds all text, and only then writes. Returns what is to be
+/// told, and `Bounded` if `order`, `sum` or `prove` left a block only bounded, `Denied` if `check` has a verdict that isn't yes, `lint`
 /// lists a line that is refused or `compare` finds more than legal orders, `Listed` if `lint` lists other lines alone, and else `Done`.
+/// An observer is called as the work goes on, and when it has ended, before anything is written; what it does changes nothing of what is
+/// written and returned.
 ///
 /// Errors: `Profile` if the text for the profile gives none, and then nothing was read; `Source` or `Document` if the source or
 /// the documents were refused, with the reason; `Memory` if memory ran out; `Read` if the reader failed or none of `FEED_CALLS`
 /// calls gave the end; `Write` if the writer failed. Nothing is written but at `Write`, which leaves a beginning of the text.
-pub fn run_command<R: AllocGlobal + Threads + Wait + Sync, F: Feed, S: Sink>(
-    rt: &R,
-    command: Command,
-    reader: &mut F,
-    writer: &mut S,
-) -> Result<Status, Fault>
-    requires within { IsWithinLimits command }
-    requires reads { (F.seen reader.old).failures < 2 ^ 64 - 1 }
-    requires writes { (S.seen writer.old).failures < 2 ^ 64 - 1 }
-    ensures { IsOutcomeUntold command.entry (F.seen reader.old) (F.seen reader.new) (S.seen writer.old)
-        (S.seen writer.new) result }
-{
-    let ended = run_observed(rt, command, reader, writer, &mut Silent)?;
-    Ok(ended.status)
-}
-
-/// As `run_command`, and says what is to be told after a success. An observer is called as the work goes on, and when it has ended,
-/// before anything is written. What it does changes nothing of what is written and returned. Errors are those of `run_command`.
-pub fn run_observed<R: AllocGlobal + Threads + Wait + Sync, F: Feed, S: Sink, O: Observer>(
+pub fn run_command<R: AllocGlobal + Threads + Wait + Sync, F: Feed, S: Sink, O: Observer>(
     rt: &R,
     command: Command,
     reader: &mut F,

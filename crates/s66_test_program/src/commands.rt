@@ -4,7 +4,9 @@ ghost use Rattle.s66_program.specs.Output.{IsWithinLimits};
 
 use s66_device::{OverRead, OverWrite};
 use s66_model::{Options, Rule};
-use s66_program::{Asked, Command, Fault, OrderStyle, Status, Strategy, run_command};
+use s66_program::{
+    Asked, Command, Fault, OrderStyle, Silent, Status, Strategy, run_command,
+};
 use std::process::Abort;
 use std::sync::Wait;
 use std::thread::Threads;
@@ -89,7 +91,10 @@ pub fn run<R: AllocGlobal + Threads + Wait + Sync>(
 {
     let mut reader = OverRead::new(text);
     let mut writer = OverWrite::new(Vec::new(rt.alloc()));
-    let result = run_command(rt, command, &mut reader, &mut writer);
+    let result = match run_command(rt, command, &mut reader, &mut writer, &mut Silent) {
+        Ok(ended) => Ok(ended.status),
+        Err(fault) => Err(fault),
+    };
     (result, writer.into_inner())
 }
 

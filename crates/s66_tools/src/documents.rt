@@ -8,7 +8,7 @@ use s66_device::{Failed, OverRead, Sink};
 use s66_isa::Profile;
 use s66_model::{Options, Rule};
 use s66_pool::{FIRST_SPLITS, Free, run};
-use s66_program::{Asked, Command, Fault, Strategy, SumStyle, document_of, run_command};
+use s66_program::{Asked, Command, Fault, Silent, Strategy, SumStyle, document_of, run_command};
 use s66_test_search::{MULTIPLIES, SEVEN_MULTIPLIES};
 use std::alloc::{AllocError, Global};
 use std::sync::Wait;
@@ -100,7 +100,7 @@ pub fn summed<R: AllocGlobal + Threads + Wait + Sync>(rt: &R) -> Result<Answered
     };
     let mut reader = OverRead::new(MULTIPLIES.as_bytes());
     let mut writer = Counts { bytes: 0 };
-    match run_command(rt, command, &mut reader, &mut writer) {
+    match run_command(rt, command, &mut reader, &mut writer, &mut Silent) {
         Err(Fault::Memory) if writer.bytes == 0 => Err(AllocError),
         ended => Ok([writer.bytes, ended.is_ok() as usize, 0, 0]),
     }
