@@ -77,7 +77,7 @@ pub(crate) const SEARCH: &[OptionRow] = &[
         "deep",
         Flag,
         "If some splits don't decide, looks for facts that rule\n\
-         out faster orders: always, unless you study searches",
+         out faster orders: give it always, unless you study searches",
     ),
     CUT,
     PROFILE,
