@@ -1,5 +1,5 @@
 -- The documents of answers to the blocks of a source are a text, in one way, and the verdict on each is yes.
-use Rattle.std.proofs.Common.{ℕ, zero, suc, ◌+◌, ◌-◌, ◌≡◌, ◌≤◌, ◌&&◌, ◌∙◌, true, false, if◌then◌else◌, Option, None, Some, List, [], ◌∷◌, ◌++◌, drop, take, refl, sym, ap, ap₂, arith, inl, inr}
+use Rattle.std.proofs.Common.{ℕ, zero, suc, ◌+◌, ◌-◌, ◌≡◌, ◌≤◌, ◌&&◌, ◌∙◌, Bool, true, false, if◌then◌else◌, Option, None, Some, List, [], ◌∷◌, ◌++◌, drop, take, refl, sym, ap, ap₂, arith, inl, inr}
 use Rattle.s66_isa.specs.declared.profile.Profile.{Profile}
 use Rattle.s66_isa.specs.Lists.{Among, every}
 use Rattle.s66_isa.specs.declared.limits.TheConstants.{BLOCK_LIMIT}
@@ -7,18 +7,20 @@ use Rattle.s66_line.specs.Block.{Block}
 use Rattle.s66_source.specs.LeftAlone.{Reading}
 use Rattle.s66_command.specs.declared.strategy.Strategy.{Strategy}
 use Rattle.s66_cert.specs.declared.limits.TheConstants.{SPLIT_LIMIT}
-use Rattle.s66_cert.specs.Document.{AreDocumentsWithin, IsText}
+use Rattle.s66_cert.specs.Document.{AreDocumentsWithin, Document, IsText}
 use Rattle.s66_cert.proofs.OneReading.{one-list}
+use Rattle.s66_checker.specs.declared.verdict.Verdict.{Verdict}
+use Rattle.s66_checker.specs.declared.verdict.Verdict.TheVariants.{Yes}
 use Rattle.s66_checker.specs.Verdict.{verdict}
-use Rattle.s66_answer.specs.Answers.{Answer, AreAnswers}
+use Rattle.s66_answer.specs.Answers.{Answer, AreAnswers, document_under}
 use Rattle.s66_answer.specs.declared.outcome.Status.{Status}
 use Rattle.s66_answer.specs.declared.outcome.Status.TheVariants.{Done, Denied}
 use Rattle.s66_answer.specs.ProvedAnswers.{IsSpelledBlock}
 use Rattle.s66_answer.specs.Shown.{shown}
 use Rattle.s66_answer.proofs.EveryAnswer.{answer-document, answer-verdict}
 use Rattle.s66_answer.proofs.AnswerVerdicts.{spelled-block}
-use Rattle.s66_program.specs.CheckText.{IsCheckOutput, is_yes, verdict_line, verdict_lines, verdicts_status}
-use Rattle.s66_program.specs.CheckedAnswers.{AreYesLines, yes_lines}
+use Rattle.s66_program.specs.CheckText.{IsCheckOutput, is_yes, reasons_by, verdict_line, verdict_lines, verdict_text, verdicts_status}
+use Rattle.s66_program.specs.CheckedAnswers.{AreYesLines, yes_lines, yes_text}
 use Rattle.s66_program.specs.ProveText.{IsProveOutput, all_documents}
 
 abbrev AreSpelled : List Block → Type 0
@@ -42,6 +44,10 @@ of-shown : (only : Option ℕ) (blocks : List Block) (block : Block) → Among b
 of-shown None blocks block among = among
 of-shown (Some n) blocks block among = of-later (n - 1) blocks block (of-first 1 (drop (n - 1) blocks) block among)
 
+text-is-yes : (texts : Bool) (n : ℕ) (a : Answer) (d : Document) → verdict d ≡ Yes a.time a.bound → verdict_text texts n d ≡ yes_text texts n a d
+text-is-yes false n a d yes = ap (verdict_line n) yes
+text-is-yes true n a d yes = ap (λ v. verdict_line n v ++ reasons_by v d) yes
+
 module _ (strategy : Strategy) (p : Profile) (within : strategy.search.nodes ≤ SPLIT_LIMIT) where
   documents-are : (blocks : List Block) (answers : List Answer) → AreSpelled blocks → AreAnswers strategy p blocks answers → AreDocumentsWithin BLOCK_LIMIT SPLIT_LIMIT (all_documents strategy.search.rule p blocks answers)
   documents-are [] [] spelled are = tt
@@ -50,13 +56,14 @@ module _ (strategy : Strategy) (p : Profile) (within : strategy.search.nodes ≤
   documents-are (block ∷ blocks) (a ∷ answers) spelled are =
       (answer-document strategy p block a (spelled block (inl refl)) within are.0, documents-are blocks answers (λ b among. spelled b (inr among)) are.1)
 
-  lines-are : (n : ℕ) (blocks : List Block) (answers : List Answer) → AreSpelled blocks → AreAnswers strategy p blocks answers → verdict_lines false n (all_documents strategy.search.rule p blocks answers) ≡ yes_lines n answers
-  lines-are n [] [] spelled are = refl
-  lines-are n [] (a ∷ answers) spelled are = absurd are
-  lines-are n (block ∷ blocks) [] spelled are = absurd are
-  lines-are n (block ∷ blocks) (a ∷ answers) spelled are =
-      ap₂ (λ v rest. verdict_line (n + 1) v ++ rest) (answer-verdict strategy p block a (spelled block (inl refl)) within are.0)
-      (lines-are (n + 1) blocks answers (λ b among. spelled b (inr among)) are.1)
+  lines-are : (texts : Bool) (n : ℕ) (blocks : List Block) (answers : List Answer) → AreSpelled blocks → AreAnswers strategy p blocks answers → verdict_lines texts n (all_documents strategy.search.rule p blocks answers) ≡ yes_lines texts n answers (all_documents strategy.search.rule p blocks answers)
+  lines-are texts n [] [] spelled are = refl
+  lines-are texts n [] (a ∷ answers) spelled are = absurd are
+  lines-are texts n (block ∷ blocks) [] spelled are = absurd are
+  lines-are texts n (block ∷ blocks) (a ∷ answers) spelled are =
+      ap₂ (λ (line rest : List ℕ). line ++ rest)
+      (text-is-yes texts (n + 1) a (document_under strategy.search.rule p block a) (answer-verdict strategy p block a (spelled block (inl refl)) within are.0))
+      (lines-are texts (n + 1) blocks answers (λ b among. spelled b (inr among)) are.1)
 
   all-yes : (blocks : List Block) (answers : List Answer) → AreSpelled blocks → AreAnswers strategy p blocks answers → every (λ d. is_yes (verdict d)) (all_documents strategy.search.rule p blocks answers) ≡ true
   all-yes [] [] spelled are = refl
@@ -65,27 +72,27 @@ module _ (strategy : Strategy) (p : Profile) (within : strategy.search.nodes ≤
   all-yes (block ∷ blocks) (a ∷ answers) spelled are =
       ap₂ (λ v rest. is_yes v && rest) (answer-verdict strategy p block a (spelled block (inl refl)) within are.0) (all-yes blocks answers (λ b among. spelled b (inr among)) are.1)
 
-  module _ (only : Option ℕ) (source : Reading) (text : List ℕ) (status : Status) where
-    pub checked-yes : IsProveOutput strategy p only source text status → (lines : List ℕ) × AreYesLines strategy p only source text lines × IsCheckOutput false text lines Done
+  module _ (texts : Bool) (only : Option ℕ) (source : Reading) (text : List ℕ) (status : Status) where
+    pub checked-yes : IsProveOutput strategy p only source text status → (lines : List ℕ) × AreYesLines texts strategy p only source text lines × IsCheckOutput texts text lines Done
     checked-yes (blocks, accepted, (answers, are, is, ends)) =
         let of_them : List Block = shown only blocks in
         let spelled : AreSpelled of_them = λ block among. spelled-block source blocks accepted block (of-shown only blocks block among) in (
-          yes_lines 0 answers,
+          yes_lines texts 0 answers (all_documents strategy.search.rule p of_them answers),
           (blocks, accepted, (answers, are, is, refl)),
           (
             all_documents strategy.search.rule p of_them answers,
             (documents-are of_them answers spelled are, is),
-            sym (lines-are 0 of_them answers spelled are),
+            sym (lines-are texts 0 of_them answers spelled are),
             sym (ap (λ yes. if yes then Done else Denied) (all-yes of_them answers spelled are)),
           ),
         )
 
-    pub checked-alone : (lines : List ℕ) (checked : Status) → IsProveOutput strategy p only source text status → IsCheckOutput false text lines checked → AreYesLines strategy p only source text lines × (checked ≡ Done)
+    pub checked-alone : (lines : List ℕ) (checked : Status) → IsProveOutput strategy p only source text status → IsCheckOutput texts text lines checked → AreYesLines texts strategy p only source text lines × (checked ≡ Done)
     checked-alone lines checked (blocks, accepted, (answers, are, is, ends)) (ds, read, are-verdicts, so) =
         let of_them : List Block = shown only blocks in
         let spelled : AreSpelled of_them = λ block among. spelled-block source blocks accepted block (of-shown only blocks block among) in
         let text-is : IsText BLOCK_LIMIT text (all_documents strategy.search.rule p of_them answers) = (documents-are of_them answers spelled are, is) in
         let same : ds ≡ all_documents strategy.search.rule p of_them answers = one-list BLOCK_LIMIT BLOCK_LIMIT SPLIT_LIMIT SPLIT_LIMIT text ds (all_documents strategy.search.rule p of_them answers) (omega arith) (omega arith) read text-is in (
-          (blocks, accepted, (answers, are, is, are-verdicts ∙ ap (verdict_lines false 0) same ∙ lines-are 0 of_them answers spelled are)),
+          (blocks, accepted, (answers, are, is, are-verdicts ∙ ap (verdict_lines texts 0) same ∙ lines-are texts 0 of_them answers spelled are)),
           so ∙ ap verdicts_status same ∙ ap (λ yes. if yes then Done else Denied) (all-yes of_them answers spelled are),
         )

@@ -1,24 +1,31 @@
--- To be believed: what `check` writes for what `prove` wrote.
-use Rattle.std.specs.Prelude.{ℕ, ◌+◌, ◌≡◌, List, [], ◌∷◌, ◌++◌, Ok, Option}
+-- To be believed: what `check` writes for what `prove` wrote, without `--text` or with it.
+use Rattle.std.specs.Prelude.{ℕ, ◌+◌, ◌≡◌, Bool, true, false, List, [], ◌∷◌, ◌++◌, Ok, Option}
 use Rattle.s66_isa.specs.declared.profile.Profile.{Profile}
 use Rattle.s66_line.specs.Block.{Block}
 use Rattle.s66_source.specs.LeftAlone.{Reading}
 use Rattle.s66_source.specs.Source.{source_of}
 use Rattle.s66_command.specs.declared.strategy.Strategy.{Strategy}
-use Rattle.s66_cert.specs.Document.{documents_text}
+use Rattle.s66_cert.specs.Document.{Document, documents_text}
 use Rattle.s66_checker.specs.declared.verdict.Verdict.TheVariants.{Yes}
 use Rattle.s66_answer.specs.Answers.{Answer, AreAnswers}
 use Rattle.s66_answer.specs.Shown.{shown}
+use Rattle.s66_reasons.specs.Reasons.{reasons_text}
 use Rattle.s66_program.specs.CheckText.{verdict_line}
 use Rattle.s66_program.specs.ProveText.{all_documents}
 
--- YES for each answer, with its time and its bound; before these answers n come
-abbrev pub yes_lines : ℕ → List Answer → List ℕ
-yes_lines n [] = []
-yes_lines n (a ∷ answers) = verdict_line (n + 1) (Yes a.time a.bound) ++ yes_lines (n + 1) answers
+-- YES for the n-th answer, with its time and its bound, and below it why no order is faster, by its document
+abbrev pub yes_text : (texts : Bool) → ℕ → Answer → Document → List ℕ
+yes_text false n a d = verdict_line n (Yes a.time a.bound)
+yes_text true n a d = verdict_line n (Yes a.time a.bound) ++ reasons_text d
+
+-- of each answer, with its document; before these answers n come
+abbrev pub yes_lines : (texts : Bool) → ℕ → List Answer → List Document → List ℕ
+yes_lines texts n (a ∷ answers) (d ∷ ds) = yes_text texts (n + 1) a d ++ yes_lines texts (n + 1) answers ds
+yes_lines texts n answers ds = []
 
 -- for some answers, of whose documents it is the text, these lines are YES for each
-abbrev pub AreYesLines : Strategy → Profile → (only : Option ℕ) (source : Reading) (text lines : List ℕ) → Type 0
-AreYesLines strategy p only source text lines =
+abbrev pub AreYesLines : (texts : Bool) → Strategy → Profile → (only : Option ℕ) (source : Reading) (text lines : List ℕ) → Type 0
+AreYesLines texts strategy p only source text lines =
     (blocks : List Block) × (source_of source ≡ Ok blocks)
-    × ((answers : List Answer) × AreAnswers strategy p (shown only blocks) answers × (text ≡ documents_text (all_documents strategy.search.rule p (shown only blocks) answers)) × (lines ≡ yes_lines 0 answers))
+    × ((answers : List Answer) × AreAnswers strategy p (shown only blocks) answers × (text ≡ documents_text (all_documents strategy.search.rule p (shown only blocks) answers))
+    × (lines ≡ yes_lines texts 0 answers (all_documents strategy.search.rule p (shown only blocks) answers)))

@@ -89,15 +89,16 @@ pub fn proved_law()
 {}
 
 /// What `prove` wrote for a source, under any profile, is a text of documents. For each of them `check` writes YES, with the
-/// answer's time and bound; it writes nothing else, and is done.
+/// answer's time and bound, and with `--text` the sentences below it; it writes nothing else, and is done.
 pub fn checked_law()
-    ensures yes { (strategy : Strategy) (p : Profile) (only : Option ℕ) (source : Reading) (text : List ℕ)
-        (status : Status) → strategy.search.nodes ≤ BUDGET_LIMIT → IsProveOutput strategy p only source text status →
-        (lines : List ℕ) × AreYesLines strategy p only source text lines × IsCheckOutput false text lines Done }
-    ensures alone { (strategy : Strategy) (p : Profile) (only : Option ℕ) (source : Reading) (text lines : List ℕ)
-        (status checked : Status) → strategy.search.nodes ≤ BUDGET_LIMIT →
-        IsProveOutput strategy p only source text status → IsCheckOutput false text lines checked →
-        AreYesLines strategy p only source text lines × (checked ≡ Done) }
+    ensures yes { (texts : Bool) (strategy : Strategy) (p : Profile) (only : Option ℕ) (source : Reading)
+        (text : List ℕ) (status : Status) → strategy.search.nodes ≤ BUDGET_LIMIT →
+        IsProveOutput strategy p only source text status →
+        (lines : List ℕ) × AreYesLines texts strategy p only source text lines × IsCheckOutput texts text lines Done }
+    ensures alone { (texts : Bool) (strategy : Strategy) (p : Profile) (only : Option ℕ) (source : Reading)
+        (text lines : List ℕ) (status checked : Status) → strategy.search.nodes ≤ BUDGET_LIMIT →
+        IsProveOutput strategy p only source text status → IsCheckOutput texts text lines checked →
+        AreYesLines texts strategy p only source text lines × (checked ≡ Done) }
 {}
 
 /// If `check` is done, each document of its input claims what is true: under its own profile its order is legal and takes its
@@ -116,7 +117,7 @@ pub fn again_examples()
     ensures time_again { map (written_time standard) (blocks_in one_load_ordered) ≡ 12 ∷ [] }
     ensures proved { all_documents NoneNamed standard (blocks_in one_load_source) (one_load_answer ∷ []) ≡ one_load ∷
         [] }
-    ensures yes { yes_lines 0 (one_load_answer ∷ []) ≡ codes "DOCUMENT 1 YES TIME 12 BOUND 12\n" }
+    ensures yes { yes_lines false 0 (one_load_answer ∷ []) (one_load ∷ []) ≡ codes "DOCUMENT 1 YES TIME 12 BOUND 12\n" }
     ensures checked { verdict_lines false 0 (one_load ∷ with_times 12 11 ∷ with_times 12 13 ∷ []) ≡
         codes "DOCUMENT 1 YES TIME 12 BOUND 12\n" ++ codes "DOCUMENT 2 YES TIME 12 BOUND 11\n" ++
         codes "DOCUMENT 3 NO LINE 8 REASON 8\n" }

@@ -3,7 +3,7 @@ use Rattle.s66_program.proofs.CheckedAnswers.{checked-alone, checked-yes}
 use Rattle.s66_program.proofs.laws.checked_law.Goals as goal
 
 pub returns-clause-yes : goal.returns-clause-yes
-returns-clause-yes c = λ strategy p only source text status within proved. checked-yes strategy p (omega (arith, within)) only source text status proved
+returns-clause-yes c = λ texts strategy p only source text status within proved. checked-yes strategy p (omega (arith, within)) texts only source text status proved
 
 pub returns-clause-alone : goal.returns-clause-alone
-returns-clause-alone c = λ strategy p only source text lines status checked within proved is. checked-alone strategy p (omega (arith, within)) only source text status lines checked proved is
+returns-clause-alone c = λ texts strategy p only source text lines status checked within proved is. checked-alone strategy p (omega (arith, within)) texts only source text status lines checked proved is
