@@ -71,7 +71,7 @@ fn run_alone(
 /// result whatever the number of workers. What is left then they search, each in a thread of its own if one can be made, and else
 /// one after the other. However their steps fall, it returns an answer for `options.nodes` splits.
 ///
-/// `Err` is out of memory in the caller's own part.
+/// `Err` is out of memory in the caller's own part, by which the search is dropped.
 pub fn run<R: AllocGlobal + Threads + Wait + Sync, G: Gate + Sync>(
     rt: &R,
     block: &Block,
@@ -90,11 +90,11 @@ pub fn run<R: AllocGlobal + Threads + Wait + Sync, G: Gate + Sync>(
         return run_alone(alloc, block, profile, options);
     }
     let mut walk = Walk::new(block, profile);
-    let mut ledger = Ledger::of_walk(alloc, &walk, options.rule, options.nodes, options.workers)?;
+    let mut ledger = Ledger::new(alloc, &walk, options.rule, options.nodes, options.workers)?;
     ledger.offer_schedules(&mut walk)?;
     let mut marks = MarkTable::new(alloc, block, profile);
     ledger.search(alloc, &mut walk, &mut marks, FIRST_SPLITS, 0)?;
     let rule = options.rule;
     let ledger = search_by_workers(rt, ledger, block, profile, rule, gate, &mut marks)?;
-    ledger.finish_with(alloc, &mut walk, &mut marks)
+    ledger.finish(alloc, &mut walk, &mut marks)
 }
