@@ -3,7 +3,7 @@ ghost use Rattle.s66_line.specs.Block.{instrs_of};
 ghost use Rattle.s66_model.specs.declared.limits.TheConstants.{BUDGET_LIMIT, WORKERS_LIMIT};
 ghost use Rattle.s66_pool.specs.Workers.{GoesOn};
 
-use crate::crew::work_by_marks;
+use crate::crew::work;
 use crate::gate::Gate;
 use crate::hub::Hub;
 use crate::limits::FIRST_SPLITS;
@@ -42,7 +42,7 @@ fn search_by_workers<'a, R: AllocGlobal + Threads + Wait + Sync, G: Gate + Sync>
         return Ok(ledger);
     }
     let (hub, mut seats) = Hub::new(rt.alloc(), ledger)?;
-    work_by_marks(rt, &hub, &mut seats, block, profile, rule, gate, marks)?;
+    work(rt, &hub, &mut seats, block, profile, rule, gate, marks)?;
     // every seat came back
     let Ok(ledger) = hub.close(seats) else {
         unreachable!()
