@@ -198,7 +198,9 @@ pub fn finished<R: AllocGlobal + Abort>(rt: &R, mut ledger: Ledger) -> (u32, u32
     let mut walk = Walk::new(ledger.block(), &profile);
     let mut marks = MarkTable::new(alloc, ledger.block(), &profile);
     assert!(rt; ledger.offer_schedules(&mut walk).is_ok());
-    let answer = ledger.finish(alloc, &mut walk, &mut marks).expect(rt, "memory");
+    let answer = ledger
+        .finish(alloc, &mut walk, &mut marks)
+        .expect(rt, "memory");
     (answer.time(), answer.bound(), answer.splits())
 }
 

@@ -26,13 +26,9 @@ fn open_ledger<'a, R: AllocGlobal + Abort>(rt: &R, block: &'a Block<'a>) -> Ledg
 {
     let profile = Profile::standard();
     let rule = Rule::ClampedStanding;
-    let mut ledger = Ledger::new(
-        rt.alloc(),
-        &Walk::new(block, &profile),
-        rule,
-        BUDGET,
-        1,
-    ).expect(rt, "memory");
+    let mut ledger = Ledger::new(rt.alloc(), &Walk::new(block, &profile), rule, BUDGET, 1).expect(
+        rt, "memory",
+    );
     check_grant(rt, &mut ledger, 1, BUDGET);
     ledger
 }

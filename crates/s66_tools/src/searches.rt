@@ -41,7 +41,13 @@ pub fn search_alone(
 ) -> Result<Counts, AllocError>
     requires { budget ≤ BUDGET_LIMIT }
 {
-    let ledger = Ledger::new(alloc, &Walk::new(block, profile), Rule::NoneNamed, budget, 1)?;
+    let ledger = Ledger::new(
+        alloc,
+        &Walk::new(block, profile),
+        Rule::NoneNamed,
+        budget,
+        1,
+    )?;
     let answer = finish(alloc, ledger)?;
     Ok(counts_of(&answer))
 }
