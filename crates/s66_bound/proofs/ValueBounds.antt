@@ -7,7 +7,7 @@ use Rattle.s66_isa.proofs.Lists.{le-greatest, greatest-le}
 use Rattle.s66_isa.proofs.SameRegister.{has_reg-le}
 use Rattle.s66_model.specs.Timing.{Problem, row_at, points_of, next, done_of, total_of}
 use Rattle.s66_model.specs.LegalOrder.{IsLegal, IsBeginning, IsIncomplete, IsComplete, is_remaining, remaining}
-use Rattle.s66_model.specs.Leaves.{Leaf, Chain, value, uses, chain, load, parcels, longest_chain, MayStand, floor, floor_value}
+use Rattle.s66_model.specs.Leaves.{Leaf, value, uses, chain, load, parcels, MayStand, floor, floor_value}
 use Rattle.s66_model.specs.Tails.{longest_tail, tail_remaining, chain_by, HasWritten}
 use Rattle.s66_model.proofs.Beginnings.{beginning-front}
 use Rattle.s66_model.proofs.ChainParts.{by-le, chain-parts}
@@ -16,7 +16,6 @@ use Rattle.s66_model.proofs.LateRegisters.{has-late}
 use Rattle.s66_model.proofs.FloorParts.{rest-some}
 use Rattle.s66_model.proofs.FloorWalk.{floor-sorts}
 use Rattle.s66_model.proofs.Floors.{some-remains, floor-stands}
-use Rattle.s66_model.proofs.LongestChain.{longest-is_chain}
 use Rattle.s66_model.proofs.Remaining.{legal-parts, order-has, remaining-among, remaining-parts}
 use Rattle.s66_model.proofs.Trees.{leaf-sound}
 use Rattle.s66_bound.specs.TableWords.{AreRegisters}
@@ -66,13 +65,6 @@ floor-greatest b prefix most loads last begins short e1 e2 e3 =
 
 pub leaf-bound : (b : Problem) (prefix rest : List ℕ) (leaf : Leaf) → MayStand b prefix leaf → IsLegal b.block (prefix ++ rest) → value b prefix leaf ≤ total_of b (prefix ++ rest)
 leaf-bound b prefix rest leaf may legal = (let (begins, completes) = legal-parts b.block prefix rest legal in leaf-sound b prefix rest leaf begins completes may)
-
-pub chain-bound : (b : Problem) (prefix rest : List ℕ) → IsIncomplete b.block prefix → IsLegal b.block (prefix ++ rest) → chain b prefix ≤ total_of b (prefix ++ rest)
-chain-bound b prefix rest short legal =
-    let (begins, completes) = legal-parts b.block prefix rest legal in
-    let (n, stays) = some-remains b.block prefix begins short in
-    let is = longest-is_chain b prefix n stays in
-    omega (arith, is.1, leaf-bound b prefix rest (Chain (longest_chain b prefix)) (short, is.0) legal)
 
 pub floor-bound : (b : Problem) (prefix rest : List ℕ) → IsLegal b.block (prefix ++ rest) → floor_value b prefix ≤ total_of b (prefix ++ rest)
 floor-bound b prefix rest legal =

@@ -1,11 +1,8 @@
 use crate::cost::{Cost, costs_of};
 use crate::floors::floor_of_value;
-use crate::leaf::{ChainLeaf, Leaf};
-use crate::printed::chain_numbers;
+use crate::leaf::Leaf;
 use crate::tables::Tables;
-use crate::values::{
-    chain_of, floor_value_of, load_of, parcels_of, remaining_numbers, remaining_ranks,
-};
+use crate::values::{floor_value_of, load_of, parcels_of, remaining_numbers};
 use arrayvec::ArrayVec;
 use s66_dep::Set;
 use s66_isa::{BLOCK_LIMIT, Kind, Profile};
@@ -41,7 +38,7 @@ impl<'a> Bounds<'a> {
     ghost use Rattle.s66_line.specs.Block.{instrs_of};
     ghost use Rattle.s66_model.specs.Timing.{total_of};
     ghost use Rattle.s66_model.specs.LegalOrder.{IsLegal};
-    ghost use Rattle.s66_model.specs.Leaves.{chain, longest_chain, load, parcels, floor, floor_value};
+    ghost use Rattle.s66_model.specs.Leaves.{load, parcels, floor, floor_value};
     ghost use Rattle.s66_model.specs.Tails.{longest_tail};
     ghost use Rattle.s66_time.specs.Ticking.{problem_of};
     ghost use Rattle.s66_bound.specs.LeafValues.{leaf_of, value_of};
@@ -108,21 +105,9 @@ impl<'a> Bounds<'a> {
         parcels_of(&self.tables, clock, &remaining_numbers(&self.tables, clock))
     }
 
-    /// The greatest of the chain, the loads and the parcels, in minor cycles; the total if nothing remains.
-    pub fn floor_value(&self, clock: &Clock<'_>) -> u32
-        requires same { self.now ≡ problem_of clock.now }
-        ensures value { result ≡ floor_value self.now clock.now.numbers }
-        ensures bound { (rest : List ℕ) → IsLegal self.now.block (clock.now.numbers ++ rest) →
-            result ≤ total_of self.now (clock.now.numbers ++ rest) }
-    {
-        let rest = remaining_numbers(&self.tables, clock);
-        let ranks = remaining_ranks(&self.tables, clock, &rest);
-        self.floor_value_by_ranks(clock, &ranks)
-    }
-
-    /// The same value as `floor_value`, in minor cycles, for a caller that keeps the ranks of what remains. The first rank has the
-    /// longest tail, so that the chain takes one look at each late register, and none at a number.
-    pub fn floor_value_by_ranks(&self, clock: &Clock<'_>, ranks: &Set) -> u32
+    /// The greatest of the chain, the loads and the parcels, in minor cycles; the total if nothing remains. The ranks are those of what
+    /// remains. The first has the longest tail, so that the chain takes one look at each late register, and none at a number.
+    pub fn floor_value(&self, clock: &Clock<'_>, ranks: &Set) -> u32
         requires same { self.now ≡ problem_of clock.now }
         requires ranks { AreRanksLeft self.now clock.now.numbers ranks.now }
         ensures value { result ≡ floor_value self.now clock.now.numbers }
@@ -134,24 +119,6 @@ impl<'a> Bounds<'a> {
             return clock.total();
         }
         floor_value_of(&self.tables, clock, &rest, ranks)
-    }
-
-    /// The greatest chain, and of equal ones the first in a dictionary.
-    pub fn chain(&self, clock: &Clock<'_>) -> ChainLeaf
-        requires same { self.now ≡ problem_of clock.now }
-        requires some { length clock.now.numbers < length self.now.block }
-        ensures numbers { result.numbers.items ≡ longest_chain self.now clock.now.numbers }
-        ensures value { result.value ≡ chain self.now clock.now.numbers }
-        ensures bound { (rest : List ℕ) → IsLegal self.now.block (clock.now.numbers ++ rest) →
-            result.value ≤ total_of self.now (clock.now.numbers ++ rest) }
-    {
-        let rest = remaining_numbers(&self.tables, clock);
-        let value = chain_of(&self.tables, clock, &rest);
-        let costs = self.costs.as_slice();
-        ChainLeaf {
-            numbers: chain_numbers(costs, &self.tables, clock, &rest, value),
-            value,
-        }
     }
 
     /// The floor, whose value this is: the first of the greatest bounds, or the total if nothing remains. A bound is worked out only

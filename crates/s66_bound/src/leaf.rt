@@ -40,10 +40,3 @@ impl Leaf {
         }
     }
 }
-
-/// A greatest chain: instructions that wait for one another, by rising number, and its value in minor cycles.
-#[derive(Drop)]
-pub struct ChainLeaf {
-    pub numbers: ArrayVec<u8, BLOCK_LIMIT>,
-    pub value: u32,
-}

@@ -7,11 +7,9 @@ mod floors;
 mod leaf;
 mod longest;
 mod numbers;
-mod once;
 mod printed;
 mod tables;
 mod values;
 
 pub use bounds::Bounds;
-pub use leaf::{ChainLeaf, Leaf};
-pub use once::{chain, floor, load, parcels};
+pub use leaf::Leaf;

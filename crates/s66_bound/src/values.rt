@@ -29,7 +29,7 @@ pub fn remaining_numbers(tables: &Tables, clock: &Clock<'_>) -> Set
 }
 
 /// The ranks of the numbers that remain: a step for each of them.
-pub fn remaining_ranks(tables: &Tables, clock: &Clock<'_>, rest: &Set) -> Set
+fn remaining_ranks(tables: &Tables, clock: &Clock<'_>, rest: &Set) -> Set
     requires tables { IsTables (problem_of clock.now) tables.now }
     requires rest { AreRemaining clock.now rest.now }
     ensures { AreRanksLeft (problem_of clock.now) clock.now.numbers result }

@@ -5,8 +5,7 @@ use Rattle.s66_isa.specs.Lists.{Among}
 use Rattle.s66_model.specs.declared.rule.Rule.{Rule}
 use Rattle.s66_model.specs.Timing.{Problem}
 use Rattle.s66_model.specs.LegalOrder.{IsBeginning}
-use Rattle.s66_model.specs.Answer.{Answer, IsAnswer}
-use Rattle.s66_machine.specs.Ledger.{Ledger, Node, Open, Out, Cut, Closed, State, is_open_state, is_live_state, best_time}
+use Rattle.s66_machine.specs.Ledger.{Node, Open, Out, Cut, Closed, State, is_open_state, is_live_state, best_time}
 use Rattle.s66_machine.specs.Coverage.{Covers, NodesHold, IsFinished, bound_of}
 use Rattle.s66_machine.specs.Reached.{IsReached}
 use Rattle.s66_machine.specs.Ended.{IsEnded, ended_answer}
@@ -16,10 +15,9 @@ use Rattle.s66_machine.proofs.EndedLedgers.{ended-finishes}
 use Rattle.s66_ledger.specs.Ledgers.{LedgerOf}
 use Rattle.s66_ledger.specs.LedgerMachine.{MachineOf, Stored, IsKeptMachine, ledger_of, machine_of}
 use Rattle.s66_ledger.specs.Answers.{IsKeptAnswer, ended_of}
-use Rattle.s66_ledger.specs.Finishing.{Leads, IsSearched, IsOffering}
+use Rattle.s66_ledger.specs.Finishing.{Leads, IsSearched}
 use Rattle.s66_ledger.proofs.Events.{kept-covers, kept-room}
 use Rattle.s66_ledger.proofs.SeenNodes.{length-nodes}
-use Rattle.s66_ledger.proofs.Leading.{leads-fall}
 
 -- WHAT LEADS
 
@@ -89,18 +87,3 @@ module _ (m : Stored) (kept : IsKeptMachine m) (l : MachineOf) (view : machine_o
 pub reached-end : (first last : LedgerOf) → IsReached first.rule first.problem first.budget first.workers first.state → Leads first last → IsSearched last.problem last.budget last.state → IsEnded last.problem last.budget last.state
 reached-end first last reached leads searched =
     has-ended last (reached-covers last.rule last.problem last.budget last.workers last.state (leads-reached first last reached leads)) searched
-
--- and if an offer came before
-pub finished-offered : (old new : LedgerOf) (a : Answer) → IsOffering old new → IsFinished new.rule new.problem new.budget new.state a → IsFinished old.rule old.problem old.budget old.state a
-finished-offered old new a offers done =
-    let (problem, budget, workers, run, by) = offers.leads in
-    let falls = leads-fall old new offers.leads in
-    let here : IsAnswer old.rule old.problem old.budget a =
-    subst (λ r. IsAnswer r old.problem old.budget a) by
-    (subst (λ (b : Problem). IsAnswer new.rule b old.budget a) problem
-    (subst (λ n. IsAnswer new.rule new.problem n a) budget done.answer)) in
-    record {
-      answer = here;
-      time = omega (arith, done.time, falls, ap (λ (b : Problem). best_time b old.state) problem);
-      kept = λ node among cut. done.kept node (subst (Among node) (sym (ap (λ (l : Ledger). l.nodes) offers.same)) among) cut;
-    }

@@ -1,5 +1,5 @@
 -- Each event keeps what a ledger's type keeps, and is a step of the machine.
-use Rattle.std.proofs.Common.{ℕ, zero, suc, ◌+◌, ◌-◌, ◌*◌, ◌≤◌, ◌<◌, ◌≡◌, Bool, true, false, List, [], ◌∷◌, length, get_or, set, refl, sym, ap, arith, subst, ◌∙◌, Some, None, IsTrue, ◌↔◌, min, replicate, length-append, inl, inr}
+use Rattle.std.proofs.Common.{ℕ, zero, suc, ◌+◌, ◌-◌, ◌*◌, ◌≤◌, ◌<◌, ◌≡◌, Bool, true, false, List, [], ◌∷◌, length, get_or, set, refl, sym, ap, arith, subst, ◌∙◌, Some, None, IsTrue, ◌↔◌, min, replicate, length-append}
 use Rattle.std.proofs.lemmas.List.{length-set, length-replicate}
 use Rattle.s66_isa.specs.Lists.{tally, weigh}
 use Rattle.s66_isa.specs.Table.{numbers}
@@ -29,8 +29,6 @@ use Rattle.s66_ledger.specs.OpenNodes.{StoresOut, ranked}
 use Rattle.s66_ledger.specs.LedgerMachine.{MachineOf, IsMove, Stored, ledger_from, ledger_of, machine_of, IsKeptMachine}
 use Rattle.s66_ledger.proofs.SeenNodes.{length-nodes, at-nodes, open-seen, open-nodes, out-seen, nodes-state}
 use Rattle.s66_ledger.proofs.NodeFloors.{floors-state}
-use Rattle.s66_ledger.proofs.NodePrefixes.{name-below, name-root}
-use Rattle.s66_isa.proofs.Lists.{cases_le}
 
 -- WHAT IS SEEN of nodes
 
@@ -74,15 +72,6 @@ module _ (m : Stored) (h : IsKeptMachine m) where
   kept-short i lt =
       let (rest, legal) = beginning-front b.block (get_or (prefixes m.nodes) i []) (kept-beginning i lt) in
       omega (arith, legal.whole, length-append (get_or (prefixes m.nodes) i []) rest)
-
-  -- nor is a name longer
-  pub name-short : (i : ℕ) → i < length m.nodes → length (name_at m.nodes i) ≤ length b.block
-  name-short i lt =
-      let v = (stored_at m.nodes i).value in
-      elim (cases_le i v) [
-        | inl le ↦ omega (arith, ap length (name-root m.nodes i v lt refl le), kept-short 0 (omega (arith, lt)))
-        | inr below ↦ omega (arith, ap length (name-below m.nodes i v lt refl below), kept-short v (omega (arith, lt, below)))
-      ]
 
   -- after a step
   pub kept-next : (nodes : List Node) (best : TimedOrder) (left : ℕ) (allowances : List ℕ) (spent : ℕ) (event : Event) (reply : Reply) → best.problem ≡ b → HaveFloors b nodes → length nodes ≤ 1 + BLOCK_LIMIT * spent → length allowances ≡ length m.allowances → Step m.rule b (ledger_of m) event reply (ledger_from b nodes best.numbers left allowances spent) →

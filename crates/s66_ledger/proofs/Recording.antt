@@ -27,7 +27,7 @@ use Rattle.s66_ledger.specs.Replies.{offered_reply}
 use Rattle.s66_ledger.specs.HistoryEntries.{byte_count, line_count, entry_of, entries_of, refusal_reply, error_of}
 use Rattle.s66_ledger.specs.LedgerMachine.{MachineOf, IsMove}
 use Rattle.s66_ledger.specs.GraftMoves.{IsGraftMove, IsRefusedMove, taken_event, IsTakenMove}
-use Rattle.s66_ledger.specs.Grafts.{IsGraftAt, IsRefusedGraftAt}
+use Rattle.s66_ledger.specs.Grafts.{IsGraft, IsRefusedGraft}
 use Rattle.s66_ledger.specs.Nodes.{no_stored, stored_at}
 use Rattle.s66_ledger.specs.Grafting.{opened_state, IsTakenAs}
 use Rattle.s66_ledger.proofs.NodePrefixes.{get_or-any}
@@ -169,7 +169,7 @@ module _ (m next : MachineOf) (w i : ℕ) (p : PieceOf) (count : ℕ) (counts : 
       without-tree refusal.OtherPrefix = refl
       without-tree refusal.OverAllowance = refl
 
-pub refused-at : (old new : LedgerOf) (w i : ℕ) (p : PieceOf) (why : Refusal) → IsGraftAt old w i p (refusal_reply why) new → IsRefusedGraftAt old w i p (error_of why) new
+pub refused-at : (old new : LedgerOf) (w i : ℕ) (p : PieceOf) (why : Refusal) → IsGraft old w i p (refusal_reply why) new → IsRefusedGraft old w i p (error_of why) new
 refused-at old new w i p refusal.NotOut h = h
 refused-at old new w i p refusal.OtherPrefix h = h
 refused-at old new w i p refusal.OverAllowance h = h

@@ -1,5 +1,5 @@
 -- An answer with another order that takes as long.
-use Rattle.std.proofs.Common.{ℕ, ◌≡◌, ◌≤◌, ◌<◌, List, [], ◌∷◌, arith, inr, refl, subst, sym}
+use Rattle.std.proofs.Common.{ℕ, ◌≡◌, ◌≤◌, ◌<◌, List, [], ◌∷◌, ap, arith, inr, refl, subst, sym}
 use Rattle.s66_isa.specs.Lists.{least}
 use Rattle.s66_model.specs.declared.rule.Rule.{Rule}
 use Rattle.s66_model.specs.Timing.{Problem, total_of}
@@ -7,12 +7,24 @@ use Rattle.s66_model.specs.LegalOrder.{IsLegal}
 use Rattle.s66_model.specs.Leaves.{Whole, value}
 use Rattle.s66_model.specs.Tree.{TreeHolds, tree_values}
 use Rattle.s66_model.specs.DominatedLeaves.{Bounding}
-use Rattle.s66_model.specs.Answer.{ending_values, source_time}
+use Rattle.s66_model.specs.Answer.{Answer, ending_values, source_time}
 use Rattle.s66_machine.specs.Coverage.{live_floors}
+use Rattle.s66_machine.specs.Ended.{ended_answer}
 use Rattle.s66_machine.specs.NodeTree.{node_tree}
 use Rattle.s66_node.specs.declared.node.Node.{Node}
 use Rattle.s66_ledger.specs.Answers.{IsKeptAnswer, ended_of}
+use Rattle.s66_ledger.specs.LedgerMachine.{ledger_from}
 use Rattle.s66_ledger.specs.Nodes.{nodes_of}
+
+abbrev answer_with : Problem → List Node → (spent : ℕ) → List ℕ → ℕ → Answer
+answer_with b nodes spent order time =
+    let all = nodes_of b nodes in
+    record { order = order; time = time; bound = least (λ v. v) (time ∷ live_floors b all); splits = spent; tree = node_tree b all }
+
+-- nothing but the order is another
+pub reordered-answer : (b : Problem) (nodes : List Node) (best other : List ℕ) (spent : ℕ) → total_of b other ≡ total_of b best →
+    ended_answer b (ledger_from b nodes other 0 [] spent) ≡ record (ended_answer b (ledger_from b nodes best 0 [] spent)) { order = other }
+reordered-answer b nodes best other spent same = ap (answer_with b nodes spent other) same
 
 module _ (rule : Rule) (b : Problem) (budget : ℕ) (nodes : List Node) (best other : List ℕ) (spent low first : ℕ) where
   pub reordered : IsKeptAnswer (ended_of rule b budget nodes best spent) nodes low first → IsLegal b.block other → total_of b other ≡ total_of b best → total_of b best < source_time b → IsKeptAnswer (ended_of rule b budget nodes other spent) nodes low first

@@ -21,7 +21,7 @@ use Rattle.s66_machine.specs.Coverage.{Covers}
 use Rattle.s66_node.specs.Pieces.{PieceOf, tree_of}
 use Rattle.s66_machine.specs.Tickets.{TicketOf}
 use Rattle.s66_ledger.specs.Ledgers.{LedgerOf, IsEvent}
-use Rattle.s66_ledger.specs.Grafts.{IsGraftAt}
+use Rattle.s66_ledger.specs.Grafts.{IsGraft}
 use Rattle.s66_ledger.proofs.Taken.{same-splits, same-wholes}
 use Rattle.s66_ledger.specs.Finishing.{Leads, NoneOut, IsIdle, IsBetweenRounds, IsWithinRound, IsOffering, IsTaken, still_to_go}
 use Rattle.s66_ledger.proofs.Leading.{leads-nowhere, event-leads, leads-on, leads-fall}
@@ -214,7 +214,7 @@ offer-to-go old new offers =
 
 -- A GRAFT
 
-pub graft-taken : (old new : LedgerOf) (i : ℕ) (piece : PieceOf) → IsGraftAt old 1 i piece Taken new → IsTaken old i piece new
+pub graft-taken : (old new : LedgerOf) (i : ℕ) (piece : PieceOf) → IsGraft old 1 i piece Taken new → IsTaken old i piece new
 graft-taken old new i piece (event, (own, part, owns, opens, is), h) =
     record { own = own; part = part; opens = opens; event = subst (λ (e : Event). IsEvent old e Taken new) is h }
 
@@ -222,7 +222,7 @@ pub taken-leads : (old new : LedgerOf) (i : ℕ) (piece : PieceOf) → IsTaken o
 taken-leads old new i piece h = event-leads old new (Graft 1 i h.own piece.prefix (splits h.part) (Some h.part)) Taken h.event
 
 -- a piece within the allowance isn't refused for its splits
-pub never-too_large : (old new : LedgerOf) (i : ℕ) (piece : PieceOf) → splits (tree_of piece) ≤ allowance old.state 1 → ¬ IsGraftAt old 1 i piece OverAllowance new
+pub never-too_large : (old new : LedgerOf) (i : ℕ) (piece : PieceOf) → splits (tree_of piece) ≤ allowance old.state 1 → ¬ IsGraft old 1 i piece OverAllowance new
 never-too_large old new i piece within (event, (own, part, owns, opens, is), h) =
     let moves = subst (λ (e : Event). Moves old.rule old.problem old.state e OverAllowance new.state) is h.3.1 in
     absurd (omega (arith, moves.2, same-splits (tree_of piece) part opens, within))

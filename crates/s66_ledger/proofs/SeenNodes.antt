@@ -1,18 +1,14 @@
 -- The nodes that are kept as the definition's nodes: one more, and one with another state.
-use Rattle.std.proofs.Common.{ℕ, zero, suc, ◌≤◌, ◌<◌, ◌≡◌, Option, Some, None, IfSome, IfNone, cond, List, [], ◌∷◌, ◌++◌, length, take, get_or, set, refl, sym, ap, arith, ◌∙◌, append_assoc}
+use Rattle.std.proofs.Common.{ℕ, zero, suc, ◌<◌, ◌≡◌, cond, List, [], ◌∷◌, ◌++◌, length, take, get_or, set, refl, sym, ap, arith, ◌∙◌, append_assoc}
 use Rattle.std.proofs.lemmas.List.{append-nil}
 use Rattle.s66_isa.specs.Lists.{tally}
 use Rattle.s66_model.specs.Timing.{Problem}
-use Rattle.s66_model.specs.DominatedLeaves.{Dominated}
-use Rattle.s66_model.specs.Tree.{Vertex, AtTerminal}
-use Rattle.s66_model.specs.Piece.{Terminal, Frontier}
 use Rattle.s66_machine.specs.Ledger as model
 use Rattle.s66_node.specs.declared.node.Node.{Node}
 use Rattle.s66_node.specs.declared.node.State.{State}
 use Rattle.s66_node.specs.declared.node.State.TheVariants as state
-use Rattle.s66_node.specs.Nodes.{is_stored_open, node_line}
+use Rattle.s66_node.specs.Nodes.{is_stored_open}
 use Rattle.s66_ledger.specs.Nodes.{prefixes, name_at, seen_state, seen_node, made_line, seen_at, nodes_of, made_lines, no_stored, stored_at, put_state, stores_open}
-use Rattle.s66_ledger.specs.LedgerMachine.{IsMadeAs}
 use Rattle.s66_ledger.proofs.NodePrefixes.{length-prefixes, prefixes-push, prefixes-set}
 
 -- ONE MORE
@@ -95,22 +91,6 @@ at-seen_at f before (a ∷ ats) (x ∷ xs) (suc i) d e lt =
 pub at-nodes : (b : Problem) (xs : List Node) (i : ℕ) → i < length xs → model.node_at (nodes_of b xs) i ≡ seen_node b (name_at xs i) (get_or (prefixes xs) i []) (stored_at xs i)
 at-nodes b xs i lt = at-seen_at (seen_node b) [] (prefixes xs) xs i model.no_node (length-prefixes xs) lt
 
-pub at-lines : (b : Problem) (xs : List Node) (i : ℕ) (d : Vertex Terminal) → i < length xs → get_or (made_lines b xs) i d ≡ made_line b (name_at xs i) (get_or (prefixes xs) i []) (stored_at xs i)
-at-lines b xs i d lt = at-seen_at (made_line b) [] (prefixes xs) xs i d (length-prefixes xs) lt
-
--- how a node was made
-pub made-as : (b : Problem) (xs : List Node) (i : ℕ) (r : Option State) → IfSome r (λ s. (i < length xs) × (s ≡ (stored_at xs i).made)) → IfNone r (length xs ≤ i) → IsMadeAs b (nodes_of b xs) (made_lines b xs) i r
-made-as b xs i None some none = omega (arith, none, length-lines b xs)
-made-as b xs i (Some s) some none = (
-  omega (arith, some.0, length-lines b xs),
-  (
-    name_at xs i,
-    at-lines b xs i (AtTerminal Frontier) some.0
-        ∙ (ap (node_line b (name_at xs i) (get_or (prefixes xs) i [])) (sym some.1)
-        ∙ ap (λ at. node_line b (name_at xs i) at s) (sym (ap (λ (n : model.Node). n.prefix) (at-nodes b xs i some.0)))),
-  ),
-)
-
 pub open-seen : (b : Problem) (name at : List ℕ) (s : State) → model.is_open_state (seen_state b name at s) ≡ is_stored_open s
 open-seen b name at state.Open = refl
 open-seen b name at state.Out = refl
@@ -127,13 +107,6 @@ open-nodes_at b before (a ∷ ats) (x ∷ xs) e =
 
 pub open-nodes : (b : Problem) (xs : List Node) → tally model.is_open (nodes_of b xs) ≡ tally stores_open xs
 open-nodes b xs = open-nodes_at b [] (prefixes xs) xs (length-prefixes xs)
-
-pub dominated-seen : (b : Problem) (name at : List ℕ) (s : State) (is : List ℕ) → seen_state b name at s ≡ model.Closed (Dominated is) → s ≡ state.Dominated
-dominated-seen b name at state.Open is e = absurd cc
-dominated-seen b name at state.Out is e = absurd cc
-dominated-seen b name at state.Closed is e = absurd cc
-dominated-seen b name at state.Split is e = absurd cc
-dominated-seen b name at state.Dominated is e = refl
 
 pub out-seen : (b : Problem) (name at : List ℕ) (s : State) → seen_state b name at s ≡ model.Out → s ≡ state.Out
 out-seen b name at state.Open e = absurd cc

@@ -10,7 +10,6 @@ use Rattle.s66_machine.specs.Ledger as model
 use Rattle.s66_machine.specs.Ledger.{Ledger, is_live, best_time}
 use Rattle.s66_model.proofs.Floors.{floor-whole}
 use Rattle.s66_model.proofs.LegalOrders.{order-legal}
-use Rattle.s66_ledger.specs.declared.reply.Offered.TheVariants as offered
 use Rattle.s66_ledger.specs.Finishing.{WholesAreTimed, IsTimedAt, IsOffering, IsTiming}
 use Rattle.s66_ledger.specs.Ledgers.{LedgerOf}
 use Rattle.s66_ledger.specs.LedgerMachine.{MachineOf, Stored, IsKeptMachine, machine_of, ledger_from}

@@ -6,24 +6,16 @@ use Rattle.s66_machine.specs.Recorded.{IsGraftOf}
 use Rattle.s66_node.specs.Pieces.{PieceOf, tree_of}
 use Rattle.s66_ledger.specs.declared.reply.GraftError.{GraftError}
 use Rattle.s66_ledger.specs.declared.reply.GraftError.TheVariants as refused
-use Rattle.s66_machine.specs.Tickets.{TicketOf}
 use Rattle.s66_ledger.specs.Ledgers.{LedgerOf, IsEvent}
 
 -- the event of worker w's graft of this piece at a node, with this reply
-abbrev pub IsGraftAt : LedgerOf → (w node : ℕ) → PieceOf → Reply → LedgerOf → Type 0
-IsGraftAt old w node piece reply new =
+abbrev pub IsGraft : LedgerOf → (w node : ℕ) → PieceOf → Reply → LedgerOf → Type 0
+IsGraft old w node piece reply new =
     (event : Event) × IsGraftOf old.rule old.problem w node piece.rule piece.problem piece.prefix (tree_of piece) reply event × IsEvent old event reply new
 
--- at the ticket's node
-abbrev pub IsGraft : LedgerOf → ℕ → TicketOf → PieceOf → Reply → LedgerOf → Type 0
-IsGraft old w ticket piece reply new = IsGraftAt old w ticket.node piece reply new
-
 -- a refusal is a reply of the machine, except out of memory, which leaves no event
-abbrev pub IsRefusedGraftAt : LedgerOf → (w node : ℕ) → PieceOf → GraftError → LedgerOf → Type 0
-IsRefusedGraftAt old w node piece refused.NotOut new = IsGraftAt old w node piece model.NotOut new
-IsRefusedGraftAt old w node piece refused.OtherPrefix new = IsGraftAt old w node piece model.OtherPrefix new
-IsRefusedGraftAt old w node piece refused.OverAllowance new = IsGraftAt old w node piece model.OverAllowance new
-IsRefusedGraftAt old w node piece refused.OutOfMemory new = new ≡ old
-
-abbrev pub IsRefusedGraft : LedgerOf → ℕ → TicketOf → PieceOf → GraftError → LedgerOf → Type 0
-IsRefusedGraft old w ticket piece why new = IsRefusedGraftAt old w ticket.node piece why new
+abbrev pub IsRefusedGraft : LedgerOf → (w node : ℕ) → PieceOf → GraftError → LedgerOf → Type 0
+IsRefusedGraft old w node piece refused.NotOut new = IsGraft old w node piece model.NotOut new
+IsRefusedGraft old w node piece refused.OtherPrefix new = IsGraft old w node piece model.OtherPrefix new
+IsRefusedGraft old w node piece refused.OverAllowance new = IsGraft old w node piece model.OverAllowance new
+IsRefusedGraft old w node piece refused.OutOfMemory new = new ≡ old

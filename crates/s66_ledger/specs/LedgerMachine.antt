@@ -1,17 +1,15 @@
 -- Used by contracts: what they see of a ledger's machine, and what one move of it is. Used by an invariant: what is true of every machine that is kept.
-use Rattle.std.specs.Prelude.{ℕ, ◌+◌, ◌*◌, ◌≡◌, ◌<◌, ◌≤◌, List, length, get_or, Option, None, Some}
+use Rattle.std.specs.Prelude.{ℕ, ◌+◌, ◌*◌, ◌≡◌, ◌≤◌, List, length}
 use Rattle.s66_isa.specs.declared.limits.TheConstants.{BLOCK_LIMIT}
 use Rattle.s66_model.specs.declared.rule.Rule.{Rule}
 use Rattle.s66_model.specs.Timing.{Problem}
-use Rattle.s66_model.specs.Tree.{Vertex, AtTerminal}
-use Rattle.s66_model.specs.Piece.{Terminal, Frontier}
-use Rattle.s66_machine.specs.Ledger.{Ledger, Node, node_at, Event, Reply, Step}
+use Rattle.s66_model.specs.Tree.{Vertex}
+use Rattle.s66_model.specs.Piece.{Terminal}
+use Rattle.s66_machine.specs.Ledger.{Ledger, Event, Reply, Step}
 use Rattle.s66_machine.specs.Reached.{IsReached}
 use Rattle.s66_model.specs.Answer.{source_time}
 use Rattle.s66_time.specs.TimedOrder.{TimedOrder}
 use Rattle.s66_node.specs.declared.node.Node as code
-use Rattle.s66_node.specs.declared.node.State.{State}
-use Rattle.s66_node.specs.Nodes.{node_line}
 use Rattle.s66_model.specs.declared.limits.TheConstants.{BUDGET_LIMIT}
 use Rattle.s66_ledger.specs.Nodes.{nodes_of, made_lines, HaveFloors}
 
@@ -35,12 +33,6 @@ IsMove old event reply new =
 abbrev pub ledger_from : Problem → List code.Node → List ℕ → ℕ → List ℕ → ℕ → Ledger
 ledger_from b nodes best left allowances spent =
     record { nodes = nodes_of b nodes; best = best; left = left; allowances = allowances; spent = spent }
-
--- a node of this number was made so, by its line; none if there is none
-abbrev pub IsMadeAs : Problem → List Node → List (Vertex Terminal) → ℕ → Option State → Type 0
-IsMadeAs b nodes lines i None = length lines ≤ i
-IsMadeAs b nodes lines i (Some s) =
-    (i < length lines) × ((name : List ℕ) × (get_or lines i (AtTerminal Frontier) ≡ node_line b name (node_at nodes i).prefix s))
 
 -- a machine as code stores it
 pub record Stored : Type 0 where

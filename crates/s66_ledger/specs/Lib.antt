@@ -14,4 +14,3 @@ pub mod Nodes
 pub mod OpenNodes
 pub mod PieceSplits
 pub mod Replies
-pub mod Steps

@@ -57,13 +57,13 @@ impl Answer {
         &self.best
     }
 
-    /// The same answer with another order that takes as long, where that is less than the source order takes.
+    /// The same answer, also its bound and its tree, with another order that takes as long, where that is less than the source order
+    /// takes.
     pub fn with_order(self, timed: Timed) -> Answer
         requires problem { timed.problem ≡ self.problem }
         requires time { total_of timed.problem timed.numbers ≡ (answer_of self).time }
         requires faster { (answer_of self).time < source_time self.problem }
-        ensures order { (answer_of result).order ≡ timed.numbers }
-        ensures time { (answer_of result).time ≡ (answer_of self).time }
+        ensures answer { answer_of result ≡ record (answer_of self) { order = timed.numbers } }
         ensures rule { result.rule ≡ self.rule }
         ensures problem { result.problem ≡ self.problem }
         ensures budget { result.budget ≡ self.budget }

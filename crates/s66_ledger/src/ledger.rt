@@ -1,16 +1,17 @@
+ghost use Rattle.std.specs.Prelude.{◌≡◌};
+ghost use Rattle.s66_ledger.specs.ClaimedNodes.{claimed_node};
+
 use crate::answer::Answer;
 use crate::attaching::opened_state;
 use crate::event_record::{EventRecord, refusal_of};
 use crate::history::History;
 use crate::machine::Machine;
 use crate::reply::{BackError, GraftError, Offered};
-use crate::step::node_of;
-use arrayvec::ArrayVec;
-use s66_isa::{BLOCK_LIMIT, Profile};
+use s66_isa::Profile;
 use s66_line::Block;
 use s66_machine::{Summed, Ticket};
 use s66_model::{BUDGET_LIMIT, Rule};
-use s66_node::{MarkTable, Piece, State, Walk};
+use s66_node::{MarkTable, Piece, Walk};
 use s66_time::Timed;
 use std::alloc::{AllocError, Global};
 use std::marker::Model;
@@ -39,55 +40,26 @@ impl<'a> Summed for Ledger<'a> {
 }
 
 impl<'a> Ledger<'a> {
-    ghost use Rattle.std.specs.Prelude.{ℕ, List, [], ◌≡◌, ◌≢◌, ◌≤◌, length, IfOk, IfSome, IfNone, IfErr, OnOk, OnErr};
+    ghost use Rattle.std.specs.Prelude.{[], ◌≡◌, ◌≤◌, length, IfOk, IfErr, OnOk, OnErr};
     ghost use Rattle.s66_line.specs.Block.{instrs_of};
-    ghost use Rattle.s66_isa.specs.Lists.{tally, weigh};
-    ghost use Rattle.s66_model.specs.declared.rule.Rule.TheVariants.{NoneNamed};
-    ghost use Rattle.s66_model.specs.DominatedLeaves.{Dominated};
+    ghost use Rattle.s66_isa.specs.Lists.{weigh};
     ghost use Rattle.s66_machine.specs.Accounts.{Account};
-    ghost use Rattle.s66_machine.specs.Ledger.{Event, Run, opening, best_time, is_open, node_at, Closed, Grant, Granted, Claim, Claimed, Back, Returned, NotOut, Retire, Retired, Taken};
+    ghost use Rattle.s66_machine.specs.Ledger.{Event, Run, opening, best_time, Grant, Granted, Claim, Claimed, Back, Returned, NotOut, Retire, Retired, Taken};
     ghost use Rattle.s66_machine.specs.Recorded.{IsOfferOf, IsOwnPiece};
     ghost use Rattle.s66_machine.specs.Coverage.{Covers, bound_of, IsFinished};
     ghost use Rattle.s66_model.specs.BestAndBound.{IsBound};
     ghost use Rattle.s66_machine.specs.NodeTable.{IsTable};
     ghost use Rattle.s66_ledger.specs.Ledgers.{IsEvent, IsRecorded, events_of, account_summary};
     ghost use Rattle.s66_ledger.specs.Answers.{answer_of};
-    ghost use Rattle.s66_ledger.specs.Grafts.{IsGraft, IsRefusedGraft, IsGraftAt, IsRefusedGraftAt};
+    ghost use Rattle.s66_ledger.specs.Grafts.{IsGraft, IsRefusedGraft};
     ghost use Rattle.s66_ledger.specs.ClaimedNodes.{claimed_node, IsTicketOf, IsLeastOpen};
-    ghost use Rattle.s66_ledger.specs.LedgerMachine.{IsMadeAs};
     ghost use Rattle.s66_ledger.specs.Replies.{offered_reply};
     ghost use Rattle.s66_model.specs.declared.limits.TheConstants.{BUDGET_LIMIT};
     ghost use Rattle.s66_ledger.specs.declared.reply.BackError.TheVariants as refused;
 
-    /// A ledger of one open node, the empty prefix, whose best order is the source order, and whose history is empty; the workers
-    /// count from 1. No leaf is dominated.
+    /// A ledger of a walk's block and profile, of one open node, the empty prefix, at which the walk is. Its best order is the source
+    /// order, and its history is empty; the workers count from 1, and the rule is that of dominated leaves.
     pub fn new(
-        alloc: Global,
-        block: &'a Block<'a>,
-        profile: &Profile,
-        budget: u32,
-        workers: u8,
-    ) -> Result<Ledger<'a>, AllocError>
-        requires { budget ≤ BUDGET_LIMIT }
-        ensures rule { IfOk result (λ l. l.rule ≡ NoneNamed) }
-        ensures problem { IfOk result (λ l. l.problem ≡ record { block = instrs_of block.now; profile = profile.now }) }
-        ensures budget { IfOk result (λ l. l.budget ≡ budget) }
-        ensures workers { IfOk result (λ l. l.workers ≡ workers) }
-        ensures state { IfOk result (λ l. l.state ≡ opening l.problem budget workers) }
-        ensures history { IfOk result (λ l. (l.entries ≡ []) × (l.bytes ≡ [])) }
-    {
-        Ledger::of_walk(
-            alloc,
-            &Walk::new(block, profile),
-            Rule::NoneNamed,
-            budget,
-            workers,
-        )
-    }
-
-    /// A ledger as `new` makes one, of a walk's block and profile, whose pieces may have dominated leaves by this rule. The walk is at
-    /// the empty prefix.
-    pub fn of_walk(
         alloc: Global,
         walk: &Walk<'a>,
         rule: Rule,
@@ -155,25 +127,6 @@ impl<'a> Ledger<'a> {
         &self.history
     }
 
-    /// What the node of this number was in the piece that made it, and open if its name wasn't found; node 0 was made open. None if
-    /// there is no such node. With its prefix and its name this is its line of the piece.
-    pub fn made(&self, node: u32) -> Option<State>
-        ensures { IsMadeAs self.now.problem self.now.state.nodes self.now.lines node result }
-    {
-        self.machine.table.made(node)
-    }
-
-    /// The name of a node that is dominated: the prefix of the node that dominates it, by the line that made it. None of any
-    /// other node, and if there is no such node. In time linear in the name's length.
-    pub fn name_of(&self, node: u32) -> Option<ArrayVec<u8, BLOCK_LIMIT>>
-        ensures some { IfSome result (λ name. (node_at self.now.state.nodes node).state ≡
-            Closed (Dominated name.items)) }
-        ensures none { IfNone result ((name : List ℕ) →
-            (node_at self.now.state.nodes node).state ≢ Closed (Dominated name)) }
-    {
-        self.machine.name_of(node)
-    }
-
     /// How many splits are spent, which is what the accounts of the workers add up to.
     pub fn splits(&self) -> u32
         ensures value { result ≡ self.now.state.spent }
@@ -189,13 +142,6 @@ impl<'a> Ledger<'a> {
         ensures { result ≡ length self.now.state.nodes }
     {
         self.machine.node_count()
-    }
-
-    /// How many nodes are open.
-    pub fn open_nodes(&self) -> usize
-        ensures { result ≡ tally is_open self.now.state.nodes }
-    {
-        self.machine.table.open_count()
     }
 
     /// The best time, in minor cycles. Whatever happened to the ledger, every legal order begins with the prefix of exactly one of
@@ -342,37 +288,17 @@ impl<'a> Ledger<'a> {
         Ok(offered)
     }
 
-    /// Puts a piece in the place of a node that was handed out, and spends its splits. The node takes the state of the piece's
-    /// root, and the piece's other prefixes become nodes. A leaf that is below the best time is kept open. A dominated prefix is
+    /// Puts a piece in the place of the node of this number, which was handed out, and spends its splits. The node takes the state of the
+    /// piece's root, and the piece's other prefixes become nodes. A leaf that is below the best time is kept open. A dominated prefix is
     /// closed if its name is found at the place that the piece guesses, at a node that comes before it and isn't dominated
     /// itself; else it is kept open.
     ///
     /// It takes time linear in the piece's nodes and their names, with a logarithm of the number of open nodes for each that is
-    /// open. All room is made before anything changes.
-    pub fn graft(
-        &mut self,
-        w: u8,
-        ticket: Ticket,
-        piece: Piece,
-    ) -> Result<(), (GraftError, Ticket, Piece)>
+    /// open. All room is made before anything changes. The piece stays with the caller, who can drop it while no other thread waits.
+    pub fn graft(&mut self, w: u8, node: u32, piece: &Piece) -> Result<(), GraftError>
         requires { (1 ≤ w) × (w ≤ self.old.workers) }
-        ensures ok { OnOk result (IsGraft self.old w ticket piece Taken self.new) }
-        ensures refused { IfErr result (λ e. IsRefusedGraft self.old w ticket piece e.0 self.new) }
-        ensures err { OnErr result (self.new.state ≡ self.old.state) }
-        ensures handed_back { IfErr result (λ e. (e.1 ≡ ticket) × (e.2 ≡ piece)) }
-    {
-        match self.graft_at(w, ticket.node(), &piece) {
-            Ok(()) => Ok(()),
-            Err(why) => Err((why, ticket, piece)),
-        }
-    }
-
-    /// Puts a piece in the place of the node of this number, in the time of `graft` and with its refusals. It stays with the caller,
-    /// who can drop it while no other thread waits.
-    pub fn graft_at(&mut self, w: u8, node: u32, piece: &Piece) -> Result<(), GraftError>
-        requires { (1 ≤ w) × (w ≤ self.old.workers) }
-        ensures ok { OnOk result (IsGraftAt self.old w node piece.now Taken self.new) }
-        ensures refused { IfErr result (λ why. IsRefusedGraftAt self.old w node piece.now why self.new) }
+        ensures ok { OnOk result (IsGraft self.old w node piece.now Taken self.new) }
+        ensures refused { IfErr result (λ why. IsRefusedGraft self.old w node piece.now why self.new) }
         ensures err { OnErr result (self.new.state ≡ self.old.state) }
     {
         let own = self.machine.is_own(piece);
@@ -390,8 +316,8 @@ impl<'a> Ledger<'a> {
     ) -> Result<(), GraftError>
         requires worker { (1 ≤ w) × (w ≤ self.old.workers) }
         requires own { IsOwnPiece self.old.rule self.old.problem piece.now.rule piece.now.problem own }
-        ensures ok { OnOk result (IsGraftAt self.old w node piece.now Taken self.new) }
-        ensures refused { IfErr result (λ why. IsRefusedGraftAt self.old w node piece.now why self.new) }
+        ensures ok { OnOk result (IsGraft self.old w node piece.now Taken self.new) }
+        ensures refused { IfErr result (λ why. IsRefusedGraft self.old w node piece.now why self.new) }
         ensures err { OnErr result (self.new.state ≡ self.old.state) }
     {
         let Ok(()) = self.history.entries.reserve(1) else {
@@ -436,29 +362,12 @@ impl<'a> Ledger<'a> {
         Err(error)
     }
 
-    /// Brings the search to its end. It offers two list schedules, takes back every allowance and every node that is out, and
-    /// offers the whole orders among the nodes. Then it goes on until no open node's floor is below the best time, or the budget
-    /// is spent and no whole order is below it.
+    /// Brings the search to its end, with a walk and marks of nodes that its caller may have used. It takes back every allowance and
+    /// every node that is out, and offers the whole orders among the nodes. Then it goes on until no open node's floor is below the
+    /// best time, or the budget is spent and no whole order is below it.
     ///
-    /// The time is that of expanding what it claims, and linear in the number of nodes. `Err` is out of memory.
-    pub fn finish(mut self, alloc: Global) -> Result<Answer, AllocError>
-        requires { 1 ≤ self.workers }
-        ensures rule { IfOk result (λ a. a.rule ≡ self.entry.rule) }
-        ensures problem { IfOk result (λ a. a.problem ≡ self.entry.problem) }
-        ensures budget { IfOk result (λ a. a.budget ≡ self.entry.budget) }
-        ensures finished { IfOk result (λ a.
-            IsFinished self.entry.rule self.entry.problem self.entry.budget self.entry.state (answer_of a)) }
-    {
-        let mut walk = Walk::new(self.block(), self.profile());
-        self.offer_schedules(&mut walk)?;
-        let mut marks = MarkTable::new(alloc, self.block(), self.profile());
-        let answer = self.finish_with(alloc, &mut walk, &mut marks)?;
-        Ok(answer)
-    }
-
-    /// Brings the search to its end as `finish` does, but offers no list schedule, and goes on with a walk and marks of nodes that
-    /// its caller has used.
-    pub fn finish_with(
+    /// The time is that of expanding what it claims, and linear in the number of nodes. `Err` is out of memory, and drops the ledger.
+    pub fn finish(
         mut self,
         alloc: Global,
         walk: &mut Walk<'_>,
@@ -478,5 +387,15 @@ impl<'a> Ledger<'a> {
         self.search_on(alloc, walk, marks, None)?;
         let Ledger { machine, .. } = self;
         Ok(machine.into_answer())
+    }
+}
+
+/// The number of the node that was claimed.
+fn node_of(ticket: &Option<Ticket>) -> Option<u32>
+    ensures { result ≡ claimed_node ticket.now }
+{
+    match ticket {
+        Some(ticket) => Some(ticket.node()),
+        None => None,
     }
 }

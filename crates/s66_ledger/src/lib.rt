@@ -17,7 +17,6 @@ mod path;
 mod rank;
 mod reply;
 mod search;
-mod step;
 mod taking;
 
 pub use answer::Answer;
@@ -28,4 +27,3 @@ pub use limits::{DOMINATED_PIECE_LIMIT, GRANT_LIMIT, SCHEDULE_SPLITS};
 pub use reply::{BackError, GraftError, Offered};
 pub use s66_machine::{Ticket, coverage_law};
 pub use search::{is_schedule_due, piece_splits};
-pub use step::{Event, Reply};

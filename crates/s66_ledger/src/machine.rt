@@ -44,13 +44,12 @@ impl<'a> Model for Machine<'a> {
 }
 
 impl<'a> Machine<'a> {
-    ghost use Rattle.std.specs.Prelude.{ℕ, true, Some, None, List, [], ◌+◌, ◌≡◌, ◌≢◌, ◌<◌, ◌≤◌, ◌⊎◌, ◌↔◌, length, IfOk, IfErr, IfSome, IfNone, OnOk, OnErr, IsTrue};
+    ghost use Rattle.std.specs.Prelude.{true, Some, None, [], ◌+◌, ◌≡◌, ◌<◌, ◌≤◌, ◌⊎◌, ◌↔◌, length, IfOk, IfErr, IfSome, IfNone, OnOk, OnErr, IsTrue};
     ghost use Rattle.s66_line.specs.Block.{instrs_of};
     ghost use Rattle.s66_model.specs.LegalOrder.{IsBeginning};
-    ghost use Rattle.s66_model.specs.DominatedLeaves.{Dominated};
     ghost use Rattle.s66_model.specs.Leaves.{floor_value};
     ghost use Rattle.s66_model.specs.Tree.{splits};
-    ghost use Rattle.s66_machine.specs.Ledger.{Event, opening, best_time, allowance, is_live, node_at, IsOut, Closed, Grant, Granted, Claim, Claimed, Back, Returned, NotOut, Retire, Retired};
+    ghost use Rattle.s66_machine.specs.Ledger.{Event, opening, best_time, allowance, is_live, node_at, IsOut, Grant, Granted, Claim, Claimed, Back, Returned, NotOut, Retire, Retired};
     ghost use Rattle.s66_machine.specs.Recorded.{IsOfferOf, IsOwnPiece};
     ghost use Rattle.s66_machine.specs.Coverage.{bound_of};
     ghost use Rattle.s66_node.specs.Pieces.{tree_of};
@@ -221,17 +220,6 @@ impl<'a> Machine<'a> {
         ensures lines { result ≡ length self.now.lines }
     {
         self.table.count() as u32
-    }
-
-    pub fn name_of(&self, node: u32) -> Option<ArrayVec<u8, BLOCK_LIMIT>>
-        ensures some { IfSome result (λ name. (node_at self.now.state.nodes node).state ≡
-            Closed (Dominated name.items)) }
-        ensures none { IfNone result ((name : List ℕ) →
-            (node_at self.now.state.nodes node).state ≢ Closed (Dominated name)) }
-    {
-        // so a name fits
-        prove!(self.block.count() <= BLOCK_LIMIT);
-        self.table.name_of(node)
     }
 
     /// The whole order of a node that is open or out, with its floor below the best time; None of any other node, in constant time.

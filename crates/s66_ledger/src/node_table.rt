@@ -38,7 +38,7 @@ impl Model for NodeTable {
 }
 
 impl NodeTable {
-    ghost use Rattle.std.specs.Prelude.{ℕ, List, [], ◌∷◌, ◌++◌, ◌+◌, ◌^◌, ◌≡◌, ◌≢◌, ◌<◌, ◌≤◌, ◌↔◌, true, false, IsTrue, IfOk, OnOk, OnErr, IfSome, IfNone, length, map, option_map, get_or, slice_get};
+    ghost use Rattle.std.specs.Prelude.{ℕ, List, [], ◌∷◌, ◌++◌, ◌+◌, ◌^◌, ◌≡◌, ◌<◌, ◌≤◌, ◌↔◌, true, false, IsTrue, IfOk, OnOk, OnErr, IfSome, IfNone, length, map, option_map, get_or, slice_get};
     ghost use Rattle.s66_isa.specs.Lists.{tally, least};
     ghost use Rattle.s66_ledger.specs.LiveNodes.{live_values};
     ghost use Rattle.s66_isa.specs.declared.limits.TheConstants.{BLOCK_LIMIT};
@@ -47,7 +47,7 @@ impl NodeTable {
     ghost use Rattle.s66_node.specs.Nodes.{named};
     ghost use Rattle.s66_ledger.specs.Grafting.{IsGrafting, IsSplitUnder, IsAttachedAs, HaveNames};
     ghost use Rattle.s66_node.specs.Nodes.{is_stored_live};
-    ghost use Rattle.s66_ledger.specs.Nodes.{stores_open, name_at, stored_at, put_state, prefixes, HaveFloors, HaveDepths};
+    ghost use Rattle.s66_ledger.specs.Nodes.{stores_open, stored_at, put_state, prefixes, HaveFloors, HaveDepths};
     ghost use Rattle.s66_ledger.specs.OpenNodes.{StoresOut, ranked};
 
     /// One node, the empty prefix with its floor, open.
@@ -72,13 +72,6 @@ impl NodeTable {
         ensures { result ≡ length self.now }
     {
         self.nodes.len()
-    }
-
-    /// How many nodes are open.
-    pub fn open_count(&self) -> usize
-        ensures { result ≡ tally stores_open self.now }
-    {
-        self.open.len()
     }
 
     /// The nodes by number.
@@ -161,29 +154,6 @@ impl NodeTable {
         ensures { result ≡ (stored_at self.now node).value }
     {
         self.nodes[node as usize].value
-    }
-
-    /// What a node was in the piece that made it, if there is one of this number.
-    pub fn made(&self, node: u32) -> Option<State>
-        ensures some { IfSome result (λ s. (node < length self.now) × (s ≡ (stored_at self.now node).made)) }
-        ensures none { IfNone result (length self.now ≤ node) }
-    {
-        Some(self.nodes.get(node as usize)?.made)
-    }
-
-    /// The name of a node, if there is one of this number and it is dominated, in time linear in its length.
-    pub fn name_of(&self, node: u32) -> Option<ArrayVec<u8, BLOCK_LIMIT>>
-        requires { (node < length self.now) → length (name_at self.now node) ≤ BLOCK_LIMIT }
-        ensures some { IfSome result (λ name. (node < length self.now) ×
-            ((stored_at self.now node).state ≡ State.Dominated) × (name.items ≡ name_at self.now node)) }
-        ensures none { IfNone result ((stored_at self.now node).state ≢ State.Dominated) }
-    {
-        let node = node as usize;
-        if node < self.nodes.len() && self.nodes[node].state == State::Dominated {
-            Some(path::name_of(self.nodes.as_slice(), node))
-        } else {
-            None
-        }
     }
 
     /// Hands out the open node of the least floor, of equal ones the deepest, and of these the newest; None only if no node is

@@ -209,7 +209,7 @@ impl Ledger<'_> {
         let rule = self.rule();
         let most = piece_splits(rule, self.machine.first_allowance());
         match rule {
-            Rule::NoneNamed => walk.expand_with(alloc, prefix, &mut Constant(best), most),
+            Rule::NoneNamed => walk.expand(alloc, prefix, &mut Constant(best), most),
             Rule::WrittenEarlier | Rule::ClampedStanding => {
                 walk.expand_dominated(alloc, prefix, &mut Constant(best), most, marks, rule)
             }

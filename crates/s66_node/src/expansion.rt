@@ -1,17 +1,15 @@
-ghost use Rattle.std.specs.Prelude.{◌≡◌, ◌≤◌, ℕ, List, IfOk};
+ghost use Rattle.std.specs.Prelude.{◌≡◌, ℕ, List, IfOk};
 ghost use Rattle.std.specs.Option.{option_map};
 ghost use Rattle.s66_line.specs.Block.{instrs_of};
-ghost use Rattle.s66_model.specs.declared.rule.Rule.TheVariants.{NoneNamed, WrittenEarlier};
 ghost use Rattle.s66_model.specs.Timing.{Problem};
-ghost use Rattle.s66_model.specs.LegalOrder.{IsBeginning};
 ghost use Rattle.s66_model.specs.Tree.{Tree};
 ghost use Rattle.s66_model.specs.Piece.{Terminal};
 ghost use Rattle.s66_machine.specs.Expansion.{whole_orders};
-ghost use Rattle.s66_node.specs.Pieces.{IsBestTimed, IsExpandedPiece};
+ghost use Rattle.s66_node.specs.Pieces.{IsBestTimed};
 ghost use Rattle.s66_node.specs.Walking.{IsLeast};
 
 use crate::grow::{Grown, grow};
-use crate::least::{Constant, Least};
+use crate::least::Least;
 use crate::mark_table::MarkTable;
 use crate::naming::{Naming, NoNames};
 use crate::piece::{Origin, Piece};
@@ -45,91 +43,24 @@ fn timed_of(
     }
 }
 
-/// Expands a prefix of a block's legal orders by branch and bound: a tree over it with at most `allowance` splits, made depth first
-/// by rising number.
-///
-/// A prefix whose floor is at least the best time isn't split, and carries its floor as leaf, as a whole order does; the others
-/// that aren't split are the frontier, which is empty if there are fewer splits than `allowance`. With the tree comes a least one
-/// of its whole orders, timed. Times are in minor cycles.
-///
-/// The tables of the block are made once, in time quadratic in its length. Each split then costs a push, a floor and an undo for
-/// each of its children, and a look for each instruction that depends directly on the last one of its prefix. It takes no lock and
-/// waits for nobody. `Err` is out of memory, and leaves nothing behind.
-pub fn expand(
-    alloc: Global,
-    block: &Block,
-    profile: &Profile,
-    prefix: &[u8],
-    best: u32,
-    allowance: u32,
-) -> Result<Piece, AllocError>
-    requires { IsBeginning (instrs_of block.now) prefix.now }
-    ensures piece { IfOk result (IsExpandedPiece NoneNamed
-        (record { block = instrs_of block.now; profile = profile.now }) best best allowance prefix.now) }
-{
-    let incumbent = &mut Constant(best);
-    expand_with(alloc, block, profile, prefix, incumbent, allowance)
-}
-
-/// Expands a prefix as `expand` does, by a best time that may fall meanwhile: it is read at the prefix, and before each split
-/// below it.
-///
-/// A prefix whose floor is at least the first best time isn't split, and carries its floor as leaf. One that isn't split and whose
-/// floor is below the last best time is in the frontier, if it isn't complete. With a floor in between it may be either. The
-/// frontier is empty if there are fewer splits than `allowance`. On `Err` the best time may have fallen.
-pub fn expand_with<L: Least>(
-    alloc: Global,
-    block: &Block,
-    profile: &Profile,
-    prefix: &[u8],
-    incumbent: &mut L,
-    allowance: u32,
-) -> Result<Piece, AllocError>
-    requires { IsBeginning (instrs_of block.now) prefix.now }
-    ensures falls { L.kept incumbent.new ≤ L.kept incumbent.old }
-    ensures lowest { (L.lowest incumbent.new ≡ L.lowest incumbent.old) ×
-        (L.lowest incumbent.old ≤ L.kept incumbent.new) }
-    ensures piece { IfOk result (IsExpandedPiece NoneNamed
-        (record { block = instrs_of block.now; profile = profile.now }) (L.kept incumbent.old)
-        (L.kept incumbent.new) allowance prefix.now) }
-{
-    Walk::new(block, profile).expand_with(alloc, prefix, incumbent, allowance)
-}
-
-/// Expands a prefix as `expand` does, but a prefix below it that an earlier node of the same tree dominates isn't split. It
-/// is a dominated leaf, if it is incomplete and its floor is below the best time.
-pub fn expand_dominated(
-    alloc: Global,
-    block: &Block,
-    profile: &Profile,
-    prefix: &[u8],
-    best: u32,
-    allowance: u32,
-) -> Result<Piece, AllocError>
-    requires { IsBeginning (instrs_of block.now) prefix.now }
-    ensures piece { IfOk result (IsExpandedPiece WrittenEarlier
-        (record { block = instrs_of block.now; profile = profile.now }) best best allowance prefix.now) }
-{
-    let mut marks = MarkTable::new(alloc, block, profile);
-    Walk::new(block, profile).expand_dominated(
-        alloc,
-        prefix,
-        &mut Constant(best),
-        allowance,
-        &mut marks,
-        Rule::WrittenEarlier,
-    )
-}
-
 impl Walk<'_> {
     ghost use Rattle.std.specs.Prelude.{◌≡◌, ◌≤◌, [], IfOk};
     ghost use Rattle.s66_model.specs.declared.rule.Rule.TheVariants.{NoneNamed, WrittenEarlier};
     ghost use Rattle.s66_model.specs.LegalOrder.{IsBeginning};
     ghost use Rattle.s66_node.specs.Pieces.{IsExpandedPiece};
 
-    /// Goes to a prefix and expands it, as `expand_with` does; the tables of the block are there already. On `Err` the walk is at
-    /// some prefix of the same block, and the best time may have fallen.
-    pub fn expand_with<L: Least>(
+    /// Goes to a prefix and expands it by branch and bound: a tree over it with at most `allowance` splits, made depth first by rising
+    /// number. The best time may fall meanwhile: it is read at the prefix, and before each split below it. Times are in minor cycles.
+    ///
+    /// A prefix whose floor is at least the first best time isn't split, and carries its floor as leaf, as a whole order does. One
+    /// that isn't split and whose floor is below the last best time is in the frontier, if it isn't complete. With a floor in between
+    /// it may be either. The frontier is empty if there are fewer splits than `allowance`. With the tree comes a least one of its
+    /// whole orders, timed.
+    ///
+    /// Each split costs a push, a floor and an undo for each of its children, and a look for each instruction that depends directly
+    /// on the last one of its prefix. It takes no lock and waits for nobody. `Err` is out of memory: the walk is then at some prefix of
+    /// the same block, and the best time may have fallen.
+    pub fn expand<L: Least>(
         &mut self,
         alloc: Global,
         prefix: &[u8],
@@ -148,13 +79,13 @@ impl Walk<'_> {
         self.expand_named(alloc, prefix, incumbent, allowance, rule, &mut NoNames)
     }
 
-    /// Goes to a prefix and expands it as `expand_with` does, but a prefix below it that a known node dominates isn't split.
+    /// Goes to a prefix and expands it as `expand` does, but a prefix below it that a known node dominates isn't split.
     /// It is a dominated leaf, if it is incomplete and its floor is below the last best time.
     ///
     /// If the rule names earlier nodes alone, all marks are forgotten first, and then those of the prefixes that are split here
     /// are kept. If it names others too, only those of lines that weren't settled are forgotten first; then those of the prefixes
     /// that are split or stay open are kept, beside the marks that were there. On `Err` some may have been kept. By `NoneNamed`
-    /// no prefix is dominated, and `expand_with` is cheaper.
+    /// no prefix is dominated, and `expand` is cheaper.
     pub fn expand_dominated<L: Least>(
         &mut self,
         alloc: Global,

@@ -14,7 +14,6 @@ mod schedule;
 mod walk;
 mod whole_order;
 
-pub use expansion::{expand, expand_dominated, expand_with};
 pub use least::{Constant, Least};
 pub use mark_table::{MarkEntry, MarkTable};
 pub use name::{Dominance, Name, NodePlace};

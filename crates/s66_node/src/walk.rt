@@ -234,7 +234,7 @@ impl<'a> Walk<'a> {
     pub fn floor_value(&self) -> u32
         ensures { result ≡ floor_value self.now.problem self.now.numbers }
     {
-        self.bounds.floor_value_by_ranks(&self.clock, &self.ranks)
+        self.bounds.floor_value(&self.clock, &self.ranks)
     }
 
     /// The prefix's floor, whose value this is: a valued leaf of a tree.

@@ -13,7 +13,7 @@ use Rattle.s66_model.specs.Piece.{Terminal}
 use Rattle.s66_machine.specs.Accounts.{Summary, SeatRecord, Account, Agrees, opened, account_at, after_event, least_after, no_account}
 use Rattle.s66_node.specs.Pieces.{PieceOf, tree_of}
 use Rattle.s66_ledger.specs.Ledgers.{LedgerOf, IsEvent, account_summary}
-use Rattle.s66_ledger.specs.Grafts.{IsGraftAt, IsRefusedGraftAt}
+use Rattle.s66_ledger.specs.Grafts.{IsGraft, IsRefusedGraft}
 use Rattle.s66_time.specs.TimedOrder.{TimedOrder}
 use Rattle.s66_ledger.specs.declared.reply.Offered.{Offered}
 use Rattle.s66_ledger.specs.declared.reply.Offered.TheVariants as offered
@@ -75,7 +75,7 @@ module _ (l old new : LedgerOf) (e : old ≡ l) (p : SeatRecord) (number : ℕ) 
     grafted-as : (reply : Reply) (cost : ℕ) → ((w : ℕ) (own : Bool) (taken : Tree Terminal) → worker (graft_event w i own piece.prefix taken reply) ≡ w)
         → ((w : ℕ) (own : Bool) (taken : Tree Terminal) → least_after p.least (graft_event w i own piece.prefix taken reply) reply ≡ p.least)
         → ((w : ℕ) (own : Bool) (taken : Tree Terminal) → TreeOpens (tree_of piece) taken → spends (graft_event w i own piece.prefix taken reply) reply ≡ cost)
-        → IsGraftAt old number i piece reply new
+        → IsGraft old number i piece reply new
         → Keeps l new p (p.account.splits + cost) × ((s now : SeatOf) → p ≡ s.book → now.book ≡ renewed (account_summary new) p p.least → HasGrafted s i piece reply now)
     grafted-as reply cost by quiet spent (event, (own, taken, of, opens, is), h) =
         let named : ℕ → Event = λ w. graft_event w i own piece.prefix taken reply in
@@ -89,14 +89,14 @@ module _ (l old new : LedgerOf) (e : old ≡ l) (p : SeatRecord) (number : ℕ) 
               subst R at (named p.who, (own, taken, owned, opens, refl), after ∙ call.1)),
         )
 
-    pub grafted : IsGraftAt old number i piece model.Taken new
+    pub grafted : IsGraft old number i piece model.Taken new
         → Keeps l new p (p.account.splits + splits (tree_of piece)) × ((s now : SeatOf) → p ≡ s.book → now.book ≡ renewed (account_summary new) p p.least → HasGrafted s i piece model.Taken now)
     grafted h = grafted-as model.Taken (splits (tree_of piece)) (λ w own taken. refl) (λ w own taken. refl) (λ w own taken opens. sym (same-splits (tree_of piece) taken opens)) h
 
     abbrev Refused : GraftError → Type 0
     Refused why = Keeps l new p p.account.splits × ((s now : SeatOf) → p ≡ s.book → now.book ≡ renewed (account_summary new) p p.least → now.hub ≡ s.hub → HasBeenRefused s i piece why now)
 
-    pub graft-refused : (why : GraftError) → IsRefusedGraftAt old number i piece why new → Refused why
+    pub graft-refused : (why : GraftError) → IsRefusedGraft old number i piece why new → Refused why
     graft-refused refused.NotOut h =
         let call = grafted-as model.NotOut 0 (λ w own taken. refl) (λ w own taken. refl) (λ w own taken opens. refl) h in
         ((call.0.0, call.0.1 ∙ omega arith), λ s now at after here. call.1 s now at after)

@@ -8,7 +8,7 @@ use Rattle.s66_machine.specs.Accounts.{SeatRecord, Agrees, after_event, least_af
 use Rattle.s66_node.specs.Pieces.{PieceOf, tree_of}
 use Rattle.s66_machine.specs.Tickets.{TicketOf}
 use Rattle.s66_ledger.specs.Ledgers.{LedgerOf, IsEvent, account_summary}
-use Rattle.s66_ledger.specs.Grafts.{IsGraftAt}
+use Rattle.s66_ledger.specs.Grafts.{IsGraft}
 use Rattle.s66_pool.specs.declared.supply.Supply.{Supply}
 use Rattle.s66_pool.specs.Supplies.{AreEvents, after_events, grants, claims, last_claim, supplied}
 use Rattle.s66_share.specs.SeatViews.{MayBecome, renewed}
@@ -118,7 +118,7 @@ module _ (l : LedgerOf) (p : SeatRecord) (agrees : Agrees (account_summary l) p)
 -- A GRAFT THAT WAS TAKEN, AND THEN A TURN'S SUPPLY
 
 module _ (l : LedgerOf) (p : SeatRecord) (agrees : Agrees (account_summary l) p) (old mid : LedgerOf) (e : old ≡ l) (number : ℕ) (who : p.who ≡ number) (node : ℕ) (piece : PieceOf)
-    (graft : IsGraftAt old number node piece model.Taken mid) (began new : LedgerOf) (f : began ≡ mid) (supply : Supply) (tickets : List TicketOf)
+    (graft : IsGraft old number node piece model.Taken mid) (began new : LedgerOf) (f : began ≡ mid) (supply : Supply) (tickets : List TicketOf)
     (events : AreEvents began (supplied number supply tickets) new) where
   call : Keeps l mid p (p.account.splits + splits (tree_of piece)) × ((s now : SeatOf) → p ≡ s.book → now.book ≡ renewed (account_summary mid) p p.least → HasGrafted s node piece model.Taken now)
   call = grafted l old mid e p number who agrees node piece graft

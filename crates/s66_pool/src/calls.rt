@@ -11,13 +11,12 @@ use std::sync::Wait;
 
 impl<'a> Hub<'a> {
     ghost use Rattle.std.specs.Prelude.{◌≡◌, ◌≤◌, [], IfOk, IfErr, OnOk, OnErr};
-    ghost use Rattle.s66_machine.specs.Ledger.{Grant, Granted, Claim, Claimed, Taken, Back, Returned, NotOut, Retire, Retired};
+    ghost use Rattle.s66_machine.specs.Ledger.{Grant, Granted, Back, Returned, NotOut, Retire, Retired};
     ghost use Rattle.s66_machine.specs.Accounts.{after_event, after_reading};
-    ghost use Rattle.s66_ledger.specs.ClaimedNodes.{claimed_node};
     ghost use Rattle.s66_ledger.specs.Replies.{offered_reply};
     ghost use Rattle.s66_ledger.specs.declared.reply.BackError.TheVariants as refused;
     ghost use Rattle.s66_pool.specs.Supplies.{IsSupplyFor};
-    ghost use Rattle.s66_pool.specs.Hubs.{HasSupply, HasGrafted, HasGraftedAndSupply, HasBeenRefused, HasOffered, IsKnown};
+    ghost use Rattle.s66_pool.specs.Hubs.{HasSupply, HasGraftedAndSupply, HasBeenRefused, HasOffered, IsKnown};
 
     /// Moves splits of the budget to the worker, as `Ledger::grant` does.
     pub fn grant<R: Wait>(&self, rt: &R, seat: &mut Seat<'a>) -> Result<u32, AllocError>
@@ -46,22 +45,8 @@ impl<'a> Hub<'a> {
         retired
     }
 
-    /// Hands out the best open node, as `Ledger::claim` does; None only if no node is open.
-    pub fn claim<R: Wait>(&self, rt: &R, seat: &mut Seat<'a>) -> Result<Option<Ticket>, AllocError>
-        requires { seat.old.hub ≡ self.now.id }
-        ensures here { seat.new.hub ≡ seat.old.hub }
-        ensures ok { IfOk result (λ ticket. seat.new.book ≡
-            after_event seat.old.book (Claim seat.old.book.who) (Claimed (claimed_node ticket))) }
-        ensures err { OnErr result (seat.new ≡ seat.old) }
-    {
-        let mut ledger = self.lock.take(rt, &mut seat.token);
-        let claimed = ledger.claim(seat.number);
-        self.lock.give(&mut seat.token, ledger);
-        claimed
-    }
-
-    /// Gives the worker what it needs, in one turn at the lock: splits, as `grant` does, and then up to `CLAIMS_LIMIT` nodes, as `claim`
-    /// does, until none is open. Their tickets are put into the list, which keeps its room. If nothing is left of the budget, or if out
+    /// Gives the worker what it needs, in one turn at the lock: splits, as `grant` does, and then up to `CLAIMS_LIMIT` nodes, as
+    /// `Ledger::claim` does, until none is open. Their tickets are put into the list, which keeps its room. If nothing is left of the budget, or if out
     /// of memory, nothing more is done; what was done before that stays.
     pub fn supply<R: Wait>(
         &self,
@@ -82,7 +67,7 @@ impl<'a> Hub<'a> {
         got
     }
 
-    /// Puts a piece in the place of the node of this number, as `Ledger::graft_at` does. If it is taken, gives the worker what it
+    /// Puts a piece in the place of the node of this number, as `Ledger::graft` does. If it is taken, gives the worker what it
     /// needs in the same turn at the lock, as `supply` does. The piece's nodes are made before the lock is taken; the piece stays
     /// with the caller. On `Err` nothing more is done.
     pub fn graft_and_supply<R: Wait>(
@@ -106,7 +91,7 @@ impl<'a> Hub<'a> {
         let added = piece.splits();
         let mut ledger = self.lock.take(rt, &mut seat.token);
         seat.attached = ledger.node_count();
-        if let Err(why) = ledger.graft_at(seat.number, node, piece) {
+        if let Err(why) = ledger.graft(seat.number, node, piece) {
             self.lock.give(&mut seat.token, ledger);
             return Err(why);
         }
@@ -116,32 +101,6 @@ impl<'a> Hub<'a> {
         let got = serve(&mut *ledger, seat.number, needs, tickets);
         self.lock.give(&mut seat.token, ledger);
         Ok(got)
-    }
-
-    /// Puts a piece in the place of a node that was handed out, as `Ledger::graft` does. Ticket and piece are dropped after
-    /// the lock is given back.
-    pub fn graft<R: Wait>(
-        &self,
-        rt: &R,
-        seat: &mut Seat<'a>,
-        ticket: Ticket,
-        piece: Piece,
-    ) -> Result<(), (GraftError, Ticket, Piece)>
-        requires { seat.old.hub ≡ self.now.id }
-        ensures here { seat.new.hub ≡ seat.old.hub }
-        ensures ok { OnOk result (HasGrafted seat.old ticket.node piece Taken seat.new) }
-        ensures refused { IfErr result (λ e. HasBeenRefused seat.old ticket.node piece e.0 seat.new) }
-        ensures handed_back { IfErr result (λ e. (e.1 ≡ ticket) × (e.2 ≡ piece)) }
-    {
-        let nothing = Needs {
-            splits: false,
-            nodes: false,
-        };
-        let mut none = Vec::new(self.alloc);
-        match self.graft_and_supply(rt, seat, ticket.node(), &piece, nothing, &mut none) {
-            Ok(_) => Ok(()),
-            Err(why) => Err((why, ticket, piece)),
-        }
     }
 
     /// Takes a node back that was handed out, so that it is open again.

@@ -1,4 +1,4 @@
-ghost use Rattle.std.specs.Prelude.{◌≡◌, ◌<◌, ◌≤◌, ℕ, [], IfOk, IfErr, All, length, slice_index_or, vec_capacity, vec_len};
+ghost use Rattle.std.specs.Prelude.{◌≡◌, ◌<◌, ◌≤◌, ℕ, [], All, length, slice_index_or, vec_capacity, vec_len};
 ghost use Rattle.s66_line.specs.Block.{instrs_of};
 ghost use Rattle.s66_share.specs.Lanes.{LaneId};
 ghost use Rattle.s66_pool.specs.Workers.{AreSameSeats, VictimsMatchLanes, IsSameMember, IsSameSeat, lanes_of, locals_of, seats_of, victims_of};
@@ -13,7 +13,7 @@ use crate::victim::Victim;
 use crate::worker::{Site, work_at};
 use s66_isa::Profile;
 use s66_line::Block;
-use s66_model::{Options, Rule, WORKERS_LIMIT};
+use s66_model::{Rule, WORKERS_LIMIT};
 use s66_node::MarkTable;
 use s66_share::Hint;
 use std::alloc::AllocError;
@@ -23,43 +23,12 @@ use std::thread;
 use std::thread::Threads;
 
 /// Starts a worker for each seat, each in a thread of its own if one can be made, and else one after the other. Waits for all of
-/// them, and gives the seats back, each in its place. A worker that runs out of memory ends.
+/// them; then each seat is in its place. A worker that runs out of memory ends.
 ///
 /// The workers share a hint of the best time and the marks of what they have grafted, and each has a lane of nodes from which the
-/// others may steal. `Err` is out of memory for these, and comes before a worker has started. Of the options only the rule is read.
+/// others may steal. They know the nodes of a table at first; if any node may be named, that is empty afterwards. `Err` is out of
+/// memory for what they share, and comes before a worker has started.
 pub fn work<'a, R: AllocGlobal + Threads + Wait + Sync, G: Gate + Sync>(
-    rt: &R,
-    hub: &Hub<'a>,
-    mut seats: Vec<Seat<'a>>,
-    block: &Block,
-    profile: &Profile,
-    options: Options,
-    gate: &G,
-) -> Result<Vec<Seat<'a>>, (AllocError, Vec<Seat<'a>>)>
-    requires { All (λ s. s.hub ≡ hub.now.id) seats.items }
-    ensures ok { IfOk result (λ back. AreSameSeats seats.entry.items back.items) }
-    ensures here { IfOk result (λ back. All (λ s. s.hub ≡ hub.now.id) back.items) }
-    ensures err { IfErr result (λ e. AreSameSeats seats.entry.items e.1.items ×
-        All (λ s. s.hub ≡ hub.now.id) e.1.items) }
-{
-    let mut none = MarkTable::new(rt.alloc(), block, profile);
-    match work_by_marks(
-        rt,
-        hub,
-        &mut seats,
-        block,
-        profile,
-        options.rule,
-        gate,
-        &mut none,
-    ) {
-        Ok(()) => Ok(seats),
-        Err(refusal) => Err((refusal, seats)),
-    }
-}
-
-/// Lets workers work as `work` does, who know the nodes of a table at first. If any node may be named, that is empty afterwards.
-pub(crate) fn work_by_marks<'a, R: AllocGlobal + Threads + Wait + Sync, G: Gate + Sync>(
     rt: &R,
     hub: &Hub<'a>,
     seats: &mut Vec<Seat<'a>>,

@@ -63,7 +63,7 @@ impl<'s, 'b, R: Wait> Expander<'s, 'b, R> {
         let rule = self.rule;
         let most = piece_splits(rule, allowance);
         let piece = match rule {
-            Rule::NoneNamed => self.walk.expand_with(alloc, prefix, incumbent, most),
+            Rule::NoneNamed => self.walk.expand(alloc, prefix, incumbent, most),
             Rule::WrittenEarlier | Rule::ClampedStanding => {
                 self.known.forget_lines();
                 self.walk

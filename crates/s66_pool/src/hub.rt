@@ -13,7 +13,6 @@ pub struct Hub<'a> {
     // boxed, so that a call moves a pointer
     pub(crate) lock: Lock<Box<Ledger<'a>>>,
     pub(crate) workers: u8,
-    pub(crate) alloc: Global,
 }
 
 impl<'a> Model for Hub<'a> {
@@ -64,14 +63,7 @@ impl<'a> Hub<'a> {
             let token = lock.deal(&mut founder);
             seats.push_reserved(Seat::new(i + 1, splits[i as usize], token));
         }
-        Ok((
-            Hub {
-                lock,
-                workers,
-                alloc,
-            },
-            seats,
-        ))
+        Ok((Hub { lock, workers }, seats))
     }
 
     /// The ledger, once the seats of all workers are back, in any order; else hub and seats are handed back.
@@ -92,21 +84,9 @@ impl<'a> Hub<'a> {
         ensures missing { IfErr result (λ e. (e.1 ≡ self.entry) × (e.2.items ≡ seats.entry.items) ×
             ¬ HaveSeats (length self.entry.summary.accounts) seats.entry.items) }
     {
-        let Hub {
-            lock,
-            workers,
-            alloc,
-        } = self;
+        let Hub { lock, workers } = self;
         if !have_seats(workers, seats.as_slice()) {
-            return Err((
-                SeatsMissing,
-                Hub {
-                    lock,
-                    workers,
-                    alloc,
-                },
-                seats,
-            ));
+            return Err((SeatsMissing, Hub { lock, workers }, seats));
         }
         let Some(last) = seats.pop() else {
             unreachable!()

@@ -61,7 +61,7 @@ impl<'a> LoneSearch<'a> {
         ensures budget { IfOk result (λ s. s.budget ≡ options.nodes) }
     {
         let mut walk = Walk::new(block, profile);
-        let mut ledger = Ledger::of_walk(alloc, &walk, options.rule, options.nodes, 1)?;
+        let mut ledger = Ledger::new(alloc, &walk, options.rule, options.nodes, 1)?;
         ledger.offer_schedules(&mut walk)?;
         Ok(LoneSearch {
             alloc,
@@ -72,7 +72,8 @@ impl<'a> LoneSearch<'a> {
     }
 
     /// Searches until `most` splits are made in all, the best order takes no more than `goal` minor cycles, or the search is over. `Err`
-    /// is out of memory, also for a mark: so what it does never depends on how much memory there is.
+    /// is out of memory, also for a mark: so what it does never depends on how much memory there is. What it did by then stays, and it
+    /// may go on.
     pub fn search(&mut self, most: u32, goal: u32) -> Result<(), AllocError>
         ensures { GoesOn self.old self.new }
     {
@@ -81,7 +82,8 @@ impl<'a> LoneSearch<'a> {
         all_kept(&self.marks)
     }
 
-    /// Offers an order: it is the best from then on if it is faster, and is one of the block under the profile. `Err` is out of memory.
+    /// Offers an order: it is the best from then on if it is faster, and is one of the block under the profile. `Err` is out of memory;
+    /// the best order so far stays.
     pub fn offer(&mut self, timed: &Timed) -> Result<(), AllocError>
         ensures on { GoesOn self.old self.new }
         ensures order { OnOk result (HasTaken self.new timed.now) }
@@ -99,7 +101,8 @@ impl<'a> LoneSearch<'a> {
 
     /// How many splits it has made.
     pub fn splits(&self) -> u32
-        ensures { result ≤ self.now.budget }
+        ensures value { result ≡ self.now.state.spent }
+        ensures within { result ≤ self.now.budget }
     {
         self.ledger.splits()
     }
@@ -113,7 +116,7 @@ impl<'a> LoneSearch<'a> {
     }
 
     /// Goes on until the search is over or the budget is spent, and gives its answer, which takes no longer than the best order so far. `Err`
-    /// is out of memory.
+    /// is out of memory, and drops the search.
     pub fn finish(self) -> Result<Answer, AllocError>
         ensures rule { IfOk result (λ a. a.rule ≡ self.entry.rule) }
         ensures problem { IfOk result (λ a. a.problem ≡ self.entry.problem) }
@@ -127,7 +130,7 @@ impl<'a> LoneSearch<'a> {
             ledger,
             mut marks,
         } = self;
-        let answer = ledger.finish_with(alloc, &mut walk, &mut marks)?;
+        let answer = ledger.finish(alloc, &mut walk, &mut marks)?;
         all_kept(&marks)?;
         Ok(answer)
     }

@@ -3,7 +3,7 @@ ghost use Rattle.s66_line.specs.Block.{instrs_of};
 ghost use Rattle.s66_model.specs.declared.limits.TheConstants.{BUDGET_LIMIT, WORKERS_LIMIT};
 ghost use Rattle.s66_pool.specs.Workers.{GoesOn};
 
-use crate::crew::work_by_marks;
+use crate::crew::work;
 use crate::gate::Gate;
 use crate::hub::Hub;
 use crate::limits::FIRST_SPLITS;
@@ -42,7 +42,7 @@ fn search_by_workers<'a, R: AllocGlobal + Threads + Wait + Sync, G: Gate + Sync>
         return Ok(ledger);
     }
     let (hub, mut seats) = Hub::new(rt.alloc(), ledger)?;
-    work_by_marks(rt, &hub, &mut seats, block, profile, rule, gate, marks)?;
+    work(rt, &hub, &mut seats, block, profile, rule, gate, marks)?;
     // every seat came back
     let Ok(ledger) = hub.close(seats) else {
         unreachable!()
@@ -71,7 +71,7 @@ fn run_alone(
 /// result whatever the number of workers. What is left then they search, each in a thread of its own if one can be made, and else
 /// one after the other. However their steps fall, it returns an answer for `options.nodes` splits.
 ///
-/// `Err` is out of memory in the caller's own part.
+/// `Err` is out of memory in the caller's own part, by which the search is dropped.
 pub fn run<R: AllocGlobal + Threads + Wait + Sync, G: Gate + Sync>(
     rt: &R,
     block: &Block,
@@ -90,11 +90,11 @@ pub fn run<R: AllocGlobal + Threads + Wait + Sync, G: Gate + Sync>(
         return run_alone(alloc, block, profile, options);
     }
     let mut walk = Walk::new(block, profile);
-    let mut ledger = Ledger::of_walk(alloc, &walk, options.rule, options.nodes, options.workers)?;
+    let mut ledger = Ledger::new(alloc, &walk, options.rule, options.nodes, options.workers)?;
     ledger.offer_schedules(&mut walk)?;
     let mut marks = MarkTable::new(alloc, block, profile);
     ledger.search(alloc, &mut walk, &mut marks, FIRST_SPLITS, 0)?;
     let rule = options.rule;
     let ledger = search_by_workers(rt, ledger, block, profile, rule, gate, &mut marks)?;
-    ledger.finish_with(alloc, &mut walk, &mut marks)
+    ledger.finish(alloc, &mut walk, &mut marks)
 }

@@ -8,7 +8,7 @@ use s66_dep::is_beginning;
 use s66_isa::Profile;
 use s66_line::Block;
 use s66_model::Rule;
-use s66_node::{Constant, MarkTable, NodePlace, Piece, State, Walk, expand_dominated};
+use s66_node::{Constant, MarkTable, NodePlace, Piece, State, Walk};
 use std::process::Abort;
 
 /// Checks how many splits a piece has, and how many of its nodes are dominated. Each other one is a leaf with this value.
@@ -41,13 +41,27 @@ fn check_piece<R: Abort>(
     }
 }
 
+/// A piece over a prefix by the nodes before each in the piece.
+pub fn dominated_piece<R: AllocGlobal + Abort>(
+    rt: &R,
+    block: &Block,
+    prefix: &[u8],
+    best: u32,
+    allowance: u32,
+) -> Piece {
+    assert!(rt; is_beginning(block, prefix));
+    let profile = Profile::standard();
+    let mut marks = MarkTable::new(rt.alloc(), block, &profile);
+    let (mut best, rule) = (Constant(best), Rule::WrittenEarlier);
+    Walk::new(block, &profile)
+        .expand_dominated(rt.alloc(), prefix, &mut best, allowance, &mut marks, rule)
+        .expect(rt, "memory")
+}
+
 /// With all orders of three that take 8, the beginnings 2 1, 3 1 and 3 2 are dominated.
 fn check_three_alike<R: AllocGlobal + Abort>(rt: &R, block: &Block) {
-    let profile = Profile::standard();
     for best in 8..10u32 {
-        let piece = expand_dominated(rt.alloc(), block, &profile, &[], best, 64).expect(
-            rt, "memory",
-        );
+        let piece = dominated_piece(rt, block, &[], best, 64);
         check_counts(rt, &piece, 8, (7, 3));
         assert!(rt; piece.rule() == Rule::WrittenEarlier);
     }
@@ -55,9 +69,7 @@ fn check_three_alike<R: AllocGlobal + Abort>(rt: &R, block: &Block) {
 
 /// Of the late reader's beginnings over 1, only 1 3 2 is dominated, by 1 2 3.
 fn check_late_reader<R: AllocGlobal + Abort>(rt: &R, block: &Block) {
-    assert!(rt; is_beginning(block, &[1]));
-    let profile = Profile::standard();
-    let piece = expand_dominated(rt.alloc(), block, &profile, &[1], 40, 64).expect(rt, "memory");
+    let piece = dominated_piece(rt, block, &[1], 40, 64);
     check_piece(rt, &piece, 33, (9, 1), &[1, 2, 3], NodePlace::Line(2));
 }
 

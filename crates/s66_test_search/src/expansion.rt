@@ -5,7 +5,7 @@ use crate::reading::{block_of, source_of};
 use s66_dep::is_beginning;
 use s66_isa::Profile;
 use s66_line::Block;
-use s66_node::{Constant, Least, Node, Piece, State, expand, expand_with};
+use s66_node::{Constant, Least, Node, Piece, State, Walk};
 use std::process::Abort;
 
 /// A best time that is read once, and falls when it is read again.
@@ -37,8 +37,9 @@ pub fn piece_of<R: AllocGlobal + Abort>(
     allowance: u32,
 ) -> Piece {
     assert!(rt; is_beginning(block, prefix));
-    let profile = Profile::standard();
-    expand(rt.alloc(), block, &profile, prefix, best, allowance).expect(rt, "memory")
+    Walk::new(block, &Profile::standard())
+        .expand(rt.alloc(), prefix, &mut Constant(best), allowance)
+        .expect(rt, "memory")
 }
 
 /// What the empty prefix of a block gives, by a best time that is read before each split.
@@ -48,8 +49,9 @@ fn piece_by<R: AllocGlobal + Abort, L: Least>(
     incumbent: &mut L,
     allowance: u32,
 ) -> Piece {
-    let profile = Profile::standard();
-    expand_with(rt.alloc(), block, &profile, &[], incumbent, allowance).expect(rt, "memory")
+    Walk::new(block, &Profile::standard())
+        .expand(rt.alloc(), &[], incumbent, allowance)
+        .expect(rt, "memory")
 }
 
 /// A node of a piece: the place of its parent, its number, and what it is with its floor. The number of the first isn't looked at, which
@@ -149,7 +151,6 @@ const ROWS: &[Row] = &[
     ),
 ];
 
-/// A prefix gives this piece; so does an empty one by a best time that doesn't fall.
 #[test]
 fn expands_prefixes(rt: HostRuntime) {
     for &(code, prefix, best, allowance, lines, numbers, total) in ROWS {
@@ -158,11 +159,6 @@ fn expands_prefixes(rt: HostRuntime) {
         let piece = piece_of(&rt, block, prefix, best, allowance);
         check_lines(&rt, &piece, lines);
         check_timed(&rt, &piece, numbers, total);
-        if prefix.is_empty() {
-            let mut constant = Constant(best);
-            check_lines(&rt, &piece_by(&rt, block, &mut constant, allowance), lines);
-            assert!(rt; constant == Constant(best));
-        }
     }
 }
 

@@ -26,7 +26,7 @@ const SEARCHES: &[(&str, Rule, u32, u32)] = &[
 /// Checks how a ledger that no worker has touched is brought to its end.
 fn check_finish<R: AllocGlobal + Abort>(rt: &R, block: &Block, rule: Rule, time: u32, splits: u32) {
     let profile = Profile::standard();
-    let ledger = Ledger::of_walk(rt.alloc(), &Walk::new(block, &profile), rule, BUDGET, 1);
+    let ledger = Ledger::new(rt.alloc(), &Walk::new(block, &profile), rule, BUDGET, 1);
     check_finished(rt, ledger.expect(rt, "memory"), (time, time, splits));
 }
 

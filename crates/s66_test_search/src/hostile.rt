@@ -2,15 +2,16 @@
 ghost use Rattle.std.specs.Prelude.{◌≡◌, ◌≤◌, All};
 
 use crate::blocks::{MULTIPLIES, ONE_LOAD, as_written};
+use crate::dominated::dominated_piece;
 use crate::expansion::piece_of;
 use crate::hub::{claim_root, grant, open_hub, put_seat, take_seat, timed_of};
-use crate::ledger::{check_finished, check_grant, claim_node, new_ledger, reply};
+use crate::ledger::{check_finished, check_grant, claim_node, new_ledger, open_ledger};
 use crate::reading::{block_of, source_of};
 use s66_isa::Profile;
-use s66_ledger::{Event, Ledger, Reply};
+use s66_ledger::{BackError, GraftError, Ledger, Offered};
 use s66_line::Block;
-use s66_model::{Options, Rule};
-use s66_node::{Piece, expand, expand_dominated};
+use s66_model::Rule;
+use s66_node::{Constant, MarkTable, Piece, Walk};
 use s66_pool::{Free, Hub, Seat, work};
 use s66_time::Timed;
 use std::process::Abort;
@@ -22,9 +23,8 @@ const WHOLE: (u32, u32, u32) = (22, 22, 10);
 
 /// Each budget is kept.
 fn check_budgets<R: AllocGlobal + Abort>(rt: &R, block: &Block) {
-    let profile = Profile::standard();
     for budget in 0..13u32 {
-        let ledger = Ledger::new(rt.alloc(), &*block, &profile, budget, 1).expect(rt, "memory");
+        let ledger = open_ledger(rt, &*block, budget, 1);
         let wanted = if budget < 10 { (22, 17, budget) } else { WHOLE };
         check_finished(rt, ledger, wanted);
     }
@@ -35,51 +35,47 @@ fn check_pieces<R: AllocGlobal + Abort>(rt: &R, block: &Block) {
     for best in [1, u32::MAX] {
         let mut ledger = new_ledger(rt, &*block);
         check_grant(rt, &mut ledger, 2, 10);
-        let root = claim_node(rt, &mut ledger, 1, &[]);
+        claim_node(rt, &mut ledger, 1, &[]);
         let piece = piece_of(rt, block, &[], best, 10);
-        assert!(rt; ledger.graft(2, root, piece).is_ok());
+        assert!(rt; ledger.graft(2, 0, &piece).is_ok());
         check_finished(rt, ledger, WHOLE);
     }
 }
 
-/// A worker without an allowance hands in a piece of one split, and drops its ticket. Then the node is given back twice, the second
-/// time by another worker.
+/// A worker without an allowance hands in a piece of one split. Then the node is given back twice, the second time by another worker,
+/// with a ticket of another ledger.
 fn check_refusals<R: AllocGlobal + Abort>(rt: &R, block: &Block) {
-    let mut ledger = new_ledger(rt, block);
-    claim_node(rt, &mut ledger, 1, &[]);
+    let mut ledger = new_ledger(rt, &*block);
+    let root = claim_node(rt, &mut ledger, 1, &[]);
     let piece = piece_of(rt, block, &[], 22, 1);
-    let replies = [
-        reply(
-            rt,
-            &mut ledger,
-            Event::Graft {
-                w: 1,
-                node: 0,
-                piece,
-            },
-        ),
-        reply(rt, &mut ledger, Event::Back { w: 1, node: 0 }),
-        reply(rt, &mut ledger, Event::Back { w: 2, node: 0 }),
-    ];
-    assert!(rt; replies == [Reply::OverAllowance, Reply::Returned, Reply::NotOut]);
+    graft(rt, &mut ledger, 0, piece, Err(GraftError::OverAllowance));
+    assert!(rt; ledger.back(1, root).is_ok());
+    let again = claim_node(rt, &mut new_ledger(rt, block), 1, &[]);
+    assert!(rt; matches!(ledger.back(2, again), Err((BackError::NotOut, _))));
     check_finished(rt, ledger, WHOLE);
 }
 
 /// Puts a piece of the first worker in the place of a node, and checks the answer.
-fn graft<R: Abort>(rt: &R, ledger: &mut Ledger, node: u32, piece: Piece, answer: Reply)
+fn graft<R: Abort>(
+    rt: &R,
+    ledger: &mut Ledger,
+    node: u32,
+    piece: Piece,
+    answer: Result<(), GraftError>,
+)
     requires { 1 ≤ ledger.old.workers }
     ensures { ledger.new.workers ≡ ledger.old.workers }
 {
-    let seen = reply(rt, ledger, Event::Graft { w: 1, node, piece });
+    let seen = ledger.graft(1, node, &piece);
     assert!(rt; seen == answer, "{seen:?}");
 }
 
 /// Offers an order, and checks the answer.
-fn offer<R: Abort>(rt: &R, ledger: &mut Ledger, w: u8, timed: Timed, answer: Reply)
+fn offer<R: Abort>(rt: &R, ledger: &mut Ledger, w: u8, timed: Timed, answer: Offered)
     requires { (1 ≤ w) × (w ≤ ledger.old.workers) }
     ensures { ledger.new.workers ≡ ledger.old.workers }
 {
-    let seen = reply(rt, ledger, Event::Offer { w, timed });
+    let seen = ledger.offer(w, timed).expect(rt, "memory");
     assert!(rt; seen == answer, "{seen:?}");
 }
 
@@ -91,7 +87,7 @@ fn hand_out<R: AllocGlobal + Abort>(rt: &R, ledger: &mut Ledger)
     check_grant(rt, ledger, 1, 10);
     claim_node(rt, ledger, 1, &[]);
     let piece = piece_of(rt, ledger.block(), &[], 16, 1);
-    graft(rt, ledger, 0, piece, Reply::Taken);
+    graft(rt, ledger, 0, piece, Ok(()));
     claim_node(rt, ledger, 2, &[1]);
     claim_node(rt, ledger, 1, &[3]);
 }
@@ -104,9 +100,9 @@ fn check_old_piece<R: AllocGlobal + Abort>(rt: &R, block: &Block) {
     let piece = piece_of(rt, block, &[3], 16, 9);
     let slower = piece.timed().expect(rt, "a whole order").duplicate();
     let faster = timed_of(rt, block, &[1, 3, 2]);
-    offer(rt, &mut ledger, 2, faster, Reply::Lower);
-    offer(rt, &mut ledger, 1, slower, Reply::NotLower(12));
-    graft(rt, &mut ledger, 2, piece, Reply::Taken);
+    offer(rt, &mut ledger, 2, faster, Offered::Lower);
+    offer(rt, &mut ledger, 1, slower, Offered::NotLower { least: 12 });
+    graft(rt, &mut ledger, 2, piece, Ok(()));
     check_finished(rt, ledger, (12, 12, 3));
 }
 
@@ -115,16 +111,16 @@ fn hand_in_others<R: AllocGlobal + Abort>(rt: &R, ledger: &mut Ledger, block: &B
     requires { 1 ≤ ledger.old.workers }
     ensures { ledger.new.workers ≡ ledger.old.workers }
 {
-    let alloc = rt.alloc();
-    let profile = Profile::standard();
-    let mut slower = profile;
-    slower.multiply = 11;
     let piece = piece_of(rt, other, &[], 22, 10);
-    graft(rt, ledger, 0, piece, Reply::OtherPrefix);
-    let piece = expand(alloc, block, &slower, &[], 40, 10).expect(rt, "memory");
-    graft(rt, ledger, 0, piece, Reply::OtherPrefix);
-    let piece = expand_dominated(alloc, block, &profile, &[], 22, 10).expect(rt, "memory");
-    graft(rt, ledger, 0, piece, Reply::OtherPrefix);
+    graft(rt, ledger, 0, piece, Err(GraftError::OtherPrefix));
+    let mut slower = Profile::standard();
+    slower.multiply = 11;
+    let piece = Walk::new(block, &slower)
+        .expand(rt.alloc(), &[], &mut Constant(40), 10)
+        .expect(rt, "memory");
+    graft(rt, ledger, 0, piece, Err(GraftError::OtherPrefix));
+    let piece = dominated_piece(rt, block, &[], 22, 10);
+    graft(rt, ledger, 0, piece, Err(GraftError::OtherPrefix));
 }
 
 /// A worker hands in such pieces, and an order of the other block, whose time is below all of the ledger's.
@@ -134,7 +130,7 @@ fn check_others<R: AllocGlobal + Abort>(rt: &R, block: &Block, other: &Block) {
     claim_node(rt, &mut ledger, 1, &[]);
     hand_in_others(rt, &mut ledger, block, other);
     let timed = as_written(other, &Profile::standard());
-    offer(rt, &mut ledger, 1, timed, Reply::OtherBlock);
+    offer(rt, &mut ledger, 1, timed, Offered::OtherBlock);
     check_finished(rt, ledger, WHOLE);
 }
 
@@ -155,22 +151,18 @@ fn finish_answers_as_ever(rt: HostRuntime) {
 fn work_by<'a, R: AllocGlobal + Abort + Threads + Wait + Sync>(
     rt: &R,
     hub: &Hub<'a>,
-    seats: Vec<Seat<'a>>,
+    mut seats: Vec<Seat<'a>>,
     block: &Block,
     rule: Rule,
 ) -> Vec<Seat<'a>>
     requires { All (λ s. s.hub ≡ hub.now.id) seats.items }
     ensures { All (λ s. s.hub ≡ hub.now.id) result.items }
 {
-    let options = Options {
-        workers: 2,
-        nodes: 10,
-        rule,
-    };
-    match work(rt, hub, seats, block, &Profile::standard(), options, &Free) {
-        Ok(seats) => seats,
-        Err(_) => panic!(rt; "memory"),
-    }
+    let profile = Profile::standard();
+    let mut none = MarkTable::new(rt.alloc(), block, &profile);
+    let worked = work(rt, hub, &mut seats, block, &profile, rule, &Free, &mut none);
+    assert!(rt; worked.is_ok());
+    seats
 }
 
 /// Closes the hub of a search of three multiplies by which no split was spent, and finishes it.

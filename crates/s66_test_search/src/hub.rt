@@ -3,16 +3,22 @@ ghost use Rattle.s66_model.specs.declared.limits.TheConstants.{BUDGET_LIMIT};
 
 use crate::blocks::{MULTIPLIES, ONE_LOAD};
 use crate::expansion::piece_of;
+use crate::ledger::open_ledger;
 use crate::reading::{block_of, source_of};
 use s66_dep::Order;
 use s66_isa::Profile;
-use s66_ledger::{GraftError, Ledger, Offered, Ticket};
+use s66_ledger::{GraftError, Offered, Ticket};
 use s66_line::Block;
 use s66_node::Piece;
 use s66_pool::{Hub, Needs, Seat, SeatsMissing, Supply};
 use s66_time::{Timed, time_of};
 use std::process::Abort;
 use std::sync::Wait;
+
+const NOTHING: Needs = Needs {
+    splits: false,
+    nodes: false,
+};
 
 const NODES: Needs = Needs {
     splits: false,
@@ -35,11 +41,8 @@ pub fn open_hub<'a, R: AllocGlobal + Abort>(
     requires workers { 1 ≤ workers }
     ensures { All (λ s. s.hub ≡ result.0.id) result.1.items }
 {
-    let alloc = rt.alloc();
-    let ledger = Ledger::new(alloc, block, &Profile::standard(), budget, workers).expect(
-        rt, "memory",
-    );
-    Hub::new(alloc, ledger).expect(rt, "memory")
+    let ledger = open_ledger(rt, block, budget, workers);
+    Hub::new(rt.alloc(), ledger).expect(rt, "memory")
 }
 
 /// Takes the last seat out, and checks its number.
@@ -75,13 +78,16 @@ pub fn grant<'a, R: Abort + Wait>(rt: &R, hub: &Hub<'a>, seat: &mut Seat<'a>) ->
     hub.grant(rt, seat).expect(rt, "memory")
 }
 
-/// Claims the root of a hub's tree.
-pub fn claim_root<'a, R: Abort + Wait>(rt: &R, hub: &Hub<'a>, seat: &mut Seat<'a>) -> Ticket
+/// Claims the root of a hub's tree, of which no other node is there.
+pub fn claim_root<'a, R: AllocGlobal + Abort + Wait>(
+    rt: &R,
+    hub: &Hub<'a>,
+    seat: &mut Seat<'a>,
+) -> Ticket
     requires { seat.old.hub ≡ hub.now.id }
     ensures { seat.new.hub ≡ seat.old.hub }
 {
-    let claimed = hub.claim(rt, seat).expect(rt, "memory");
-    let ticket = claimed.expect(rt, "an open node");
+    let ticket = claim_all(rt, hub, seat, 1).expect(rt, "an open node");
     assert!(rt; ticket.node() == 0 && ticket.prefix().is_empty());
     ticket
 }
@@ -120,7 +126,7 @@ fn retire<'a, R: Abort + Wait>(rt: &R, hub: &Hub<'a>, seat: &mut Seat<'a>)
 }
 
 /// Makes each call of a seat that has the whole budget.
-fn check_calls<'a, R: Abort + Wait>(rt: &R, hub: &Hub<'a>, seat: &mut Seat<'a>)
+fn check_calls<'a, R: AllocGlobal + Abort + Wait>(rt: &R, hub: &Hub<'a>, seat: &mut Seat<'a>)
     requires { seat.old.hub ≡ hub.now.id }
 {
     let root = claim_root(rt, hub, seat);
@@ -190,8 +196,9 @@ fn graft_twice<'a, R: AllocGlobal + Abort + Wait>(
     let root = claim_root(rt, hub, seat);
     let piece = piece_of(rt, block, root.prefix(), 22, 1);
     let again = piece_of(rt, block, root.prefix(), 22, 1);
-    assert!(rt; hub.graft(rt, seat, root, piece).is_ok());
     let mut claimed = Vec::new(rt.alloc());
+    let taken = hub.graft_and_supply(rt, seat, root.node(), &piece, NOTHING, &mut claimed);
+    assert!(rt; taken.is_ok() && claimed.is_empty());
     let refused = hub.graft_and_supply(rt, seat, 0, &again, BOTH, &mut claimed);
     assert!(rt; matches!(refused, Err(GraftError::NotOut)));
     assert!(rt; claimed.is_empty() && seat.splits() == 1);

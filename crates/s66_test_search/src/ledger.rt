@@ -1,13 +1,14 @@
 ghost use Rattle.std.specs.Prelude.{◌≡◌, ◌≤◌};
-ghost use Rattle.s66_ledger.specs.Steps.{worker_of};
+ghost use Rattle.s66_model.specs.declared.limits.TheConstants.{BUDGET_LIMIT};
 
 use crate::blocks::{MULTIPLIES, as_written};
 use crate::expansion::piece_of;
 use crate::reading::{block_of, source_of};
 use s66_isa::Profile;
-use s66_ledger::{Event, EventRecord, Ledger, Offered, Reply, Ticket};
+use s66_ledger::{BackError, EventRecord, Ledger, Offered, Ticket};
 use s66_line::Block;
-use s66_node::State;
+use s66_model::Rule;
+use s66_node::{MarkTable, State, Walk};
 use std::process::Abort;
 
 /// The most splits of the search.
@@ -60,42 +61,43 @@ const HISTORY: &[EventRecord] = &[
     },
 ];
 
-/// The replies of that search.
-const REPLIES: [Reply; 10] = [
-    Reply::Granted(BUDGET),
-    Reply::Claimed(Some(0)),
-    Reply::Taken,
-    Reply::NotLower(22),
-    Reply::Granted(0),
-    Reply::Claimed(Some(3)),
-    Reply::Returned,
-    Reply::Claimed(Some(3)),
-    Reply::Retired,
-    Reply::Granted(BUDGET - 1),
-];
-
 /// The bytes of the entries: the source order, since the piece's prefix is empty.
 const BYTES: &[u8] = &[1, 2, 3];
+
+/// A ledger of so many workers, of which no leaf is dominated.
+pub fn open_ledger<'a, R: AllocGlobal + Abort>(
+    rt: &R,
+    block: &'a Block<'a>,
+    budget: u32,
+    workers: u8,
+) -> Ledger<'a>
+    requires { budget ≤ BUDGET_LIMIT }
+    ensures { result.workers ≡ workers }
+{
+    let walk = Walk::new(block, &Profile::standard());
+    let ledger = Ledger::new(rt.alloc(), &walk, Rule::NoneNamed, budget, workers);
+    ledger.expect(rt, "memory")
+}
 
 /// A ledger of two workers.
 pub fn new_ledger<'a, R: AllocGlobal + Abort>(rt: &R, block: &'a Block<'a>) -> Ledger<'a>
     ensures { result.workers ≡ 2 }
 {
-    Ledger::new(rt.alloc(), block, &Profile::standard(), BUDGET, 2).expect(rt, "memory")
+    open_ledger(rt, block, BUDGET, 2)
 }
 
-/// Checks that the ledger's history is `HISTORY` with its bytes. The piece's three nodes were open in it.
+/// Checks that the ledger's history is `HISTORY` with its bytes, and that the piece's three nodes were made.
 fn check_history<R: Abort>(rt: &R, ledger: &Ledger) {
     let history = ledger.history();
     assert!(rt; history.entries.as_slice() == HISTORY);
     assert!(rt; history.bytes.as_slice() == BYTES);
-    assert!(rt; ledger.made(3) == Some(State::Open) && ledger.made(4).is_none());
+    assert!(rt; ledger.node_count() == 4);
 }
 
-/// Checks how many splits of a search are spent, and how many nodes are open. Its best time is 22, and its bound 17.
-fn check_readings<R: Abort>(rt: &R, ledger: &Ledger, splits: u32, open: usize) {
+/// Checks how many splits of a search are spent, and how many nodes it has. Its best time is 22, and its bound 17.
+fn check_readings<R: Abort>(rt: &R, ledger: &Ledger, splits: u32, nodes: u32) {
     assert!(rt; ledger.best() == 22 && ledger.bound() == 17);
-    assert!(rt; ledger.splits() == splits && ledger.open_nodes() == open);
+    assert!(rt; ledger.splits() == splits && ledger.node_count() == nodes);
 }
 
 /// Checks how many splits a worker is granted.
@@ -117,99 +119,88 @@ pub fn claim_node<R: Abort>(rt: &R, ledger: &mut Ledger, w: u8, prefix: &[u8]) -
     ticket
 }
 
-/// The first three entries.
+/// Splits the root by a worker that has claimed it.
+fn graft_root<R: AllocGlobal + Abort>(rt: &R, ledger: &mut Ledger)
+    requires { 1 ≤ ledger.old.workers }
+    ensures { ledger.new.workers ≡ ledger.old.workers }
+{
+    let piece = piece_of(rt, ledger.block(), &[], 22, 1);
+    assert!(rt; ledger.graft(1, 0, &piece).is_ok());
+    check_readings(rt, ledger, 1, 4);
+}
+
+/// The first three steps.
 pub fn split_root<R: AllocGlobal + Abort>(rt: &R, ledger: &mut Ledger)
-    requires { 2 ≤ ledger.old.workers }
+    requires { 1 ≤ ledger.old.workers }
     ensures { ledger.new.workers ≡ ledger.old.workers }
 {
     check_readings(rt, ledger, 0, 1);
     check_grant(rt, ledger, 1, BUDGET);
-    let root = claim_node(rt, ledger, 1, &[]);
-    check_readings(rt, ledger, 0, 0);
-    let piece = piece_of(rt, ledger.block(), &[], 22, 1);
-    assert!(rt; ledger.graft(1, root, piece).is_ok());
-    check_readings(rt, ledger, 1, 3);
+    claim_node(rt, ledger, 1, &[]);
+    graft_root(rt, ledger);
 }
 
-/// The others.
-fn claim_child<R: Abort>(rt: &R, ledger: &mut Ledger)
+/// A worker offers the source order, which isn't faster.
+fn offer_source<R: Abort>(rt: &R, ledger: &mut Ledger)
     requires { 2 ≤ ledger.old.workers }
     ensures { ledger.new.workers ≡ ledger.old.workers }
 {
     let timed = as_written(ledger.block(), &Profile::standard());
     assert!(rt; ledger.offer(2, timed) == Ok(Offered::NotLower { least: 22 }));
-    check_grant(rt, ledger, 2, 0);
-    let child = claim_node(rt, ledger, 2, &[3]);
-    check_readings(rt, ledger, 1, 2);
-    assert!(rt; ledger.back(2, child).is_ok());
-    check_readings(rt, ledger, 1, 3);
-    claim_node(rt, ledger, 2, &[3]);
-    assert!(rt; ledger.retire(1).is_ok());
-    check_grant(rt, ledger, 2, BUDGET - 1);
 }
 
-/// Checks the search by calls.
-fn check_calls<R: AllocGlobal + Abort>(rt: &R, block: &Block) {
-    let mut ledger = new_ledger(rt, block);
-    split_root(rt, &mut ledger);
-    claim_child(rt, &mut ledger);
-    check_history(rt, &ledger);
-}
-
-#[test]
-fn follows_calls(rt: HostRuntime) {
-    let source = source_of(&rt, MULTIPLIES);
-    check_calls(&rt, block_of(&rt, &source));
-}
-
-/// Does what the event asks.
-pub fn reply<R: Abort>(rt: &R, ledger: &mut Ledger, event: Event) -> Reply
-    requires { (1 ≤ worker_of event) × (worker_of event ≤ ledger.old.workers) }
+/// A worker claims a child of the root, and gives it back.
+fn claim_in_vain<R: Abort>(rt: &R, ledger: &mut Ledger)
+    requires { 2 ≤ ledger.old.workers }
     ensures { ledger.new.workers ≡ ledger.old.workers }
 {
-    ledger.step(event).expect(rt, "memory")
+    let child = claim_node(rt, ledger, 2, &[3]);
+    assert!(rt; ledger.back(2, child).is_ok());
 }
 
-/// The event at a place of the same search, in which nodes are named by their numbers.
-fn event_at<R: AllocGlobal + Abort>(rt: &R, block: &Block, place: usize) -> Event
-    ensures { (1 ≤ worker_of result) × (worker_of result ≤ 2) }
+/// The steps of the search: its events, but for a claim and what gives that node back, which are one.
+const STEPS: usize = 9;
+
+/// Takes the step of this number.
+fn take_step<R: AllocGlobal + Abort>(rt: &R, ledger: &mut Ledger, step: usize)
+    requires { 2 ≤ ledger.old.workers }
+    ensures { ledger.new.workers ≡ ledger.old.workers }
 {
-    match place {
-        0 => Event::Grant { w: 1 },
-        1 => Event::Claim { w: 1 },
-        2 => Event::Graft {
-            w: 1,
-            node: 0,
-            piece: piece_of(rt, block, &[], 22, 1),
-        },
-        3 => Event::Offer {
-            w: 2,
-            timed: as_written(block, &Profile::standard()),
-        },
-        5 | 7 => Event::Claim { w: 2 },
-        6 => Event::Back { w: 2, node: 3 },
-        8 => Event::Retire { w: 1 },
-        _ => Event::Grant { w: 2 },
+    match step {
+        0 => check_grant(rt, ledger, 1, BUDGET),
+        1 => drop(claim_node(rt, ledger, 1, &[])),
+        2 => graft_root(rt, ledger),
+        3 => offer_source(rt, ledger),
+        4 => check_grant(rt, ledger, 2, 0),
+        5 => claim_in_vain(rt, ledger),
+        6 => drop(claim_node(rt, ledger, 2, &[3])),
+        7 => assert!(rt; ledger.retire(1).is_ok()),
+        _ => check_grant(rt, ledger, 2, BUDGET - 1),
     }
 }
 
-/// A search that stops after `count` of these events; checks its replies.
+/// A search that stops after so many of these steps.
 fn stopped<'a, R: AllocGlobal + Abort>(rt: &R, block: &'a Block<'a>, count: usize) -> Ledger<'a>
     ensures { result.workers ≡ 2 }
 {
     let mut ledger = new_ledger(rt, block);
-    for place in 0..count.min(REPLIES.len()) {
-        let event = event_at(rt, block, place);
-        assert!(rt; reply(rt, &mut ledger, event) == REPLIES[place], "{place}");
+    for step in 0..count {
+        take_step(rt, &mut ledger, step);
     }
     ledger
 }
 
-/// The time, the bound and the splits of a search once it is finished.
-pub fn finished<R: AllocGlobal + Abort>(rt: &R, ledger: Ledger) -> (u32, u32, u32)
+/// The time, the bound and the splits of a search once list schedules are offered and it is finished.
+pub fn finished<R: AllocGlobal + Abort>(rt: &R, mut ledger: Ledger) -> (u32, u32, u32)
     requires { 1 ≤ ledger.workers }
 {
-    let answer = ledger.finish(rt.alloc()).expect(rt, "memory");
+    let (alloc, profile) = (rt.alloc(), *ledger.profile());
+    let mut walk = Walk::new(ledger.block(), &profile);
+    let mut marks = MarkTable::new(alloc, ledger.block(), &profile);
+    assert!(rt; ledger.offer_schedules(&mut walk).is_ok());
+    let answer = ledger
+        .finish(alloc, &mut walk, &mut marks)
+        .expect(rt, "memory");
     (answer.time(), answer.bound(), answer.splits())
 }
 
@@ -222,20 +213,21 @@ pub fn check_finished<R: AllocGlobal + Abort>(rt: &R, ledger: Ledger, wanted: (u
     assert!(rt; is_wanted, "{time} {bound} {splits}");
 }
 
-/// Checks that it ends as ever, after however many events it stops.
+/// Checks that it ends as ever, after however many steps it stops.
 fn check_stops<R: AllocGlobal + Abort>(rt: &R, block: &Block) {
-    for count in 0..=REPLIES.len() {
+    for count in 0..=STEPS {
         let ledger = stopped(rt, &*block, count);
         check_finished(rt, ledger, (22, 22, 10));
     }
 }
 
-/// Checks the history of the search by events, with one more at a node that isn't out.
+/// Checks the history of the search, with one entry more for a node that isn't out: that of another ledger's ticket.
 fn check_events<R: AllocGlobal + Abort>(rt: &R, block: &Block) {
-    let mut ledger = stopped(rt, block, REPLIES.len());
+    let mut ledger = stopped(rt, &*block, STEPS);
     check_history(rt, &ledger);
-    let not_out = reply(rt, &mut ledger, Event::Back { w: 1, node: 4 });
-    assert!(rt; not_out == Reply::NotOut);
+    let root = claim_node(rt, &mut new_ledger(rt, block), 1, &[]);
+    let refused = ledger.back(1, root);
+    assert!(rt; matches!(refused, Err((BackError::NotOut, _))));
     assert!(rt; ledger.history().entries.len() == HISTORY.len() + 1);
 }
 

@@ -4,11 +4,11 @@ ghost use Rattle.s66_isa.specs.Table.{standard};
 ghost use Rattle.s66_line.specs.Block.{instrs_of};
 
 use crate::blocks::THREE_ALIKE;
-use crate::ledger::{check_finished, check_grant, finished, reply};
+use crate::ledger::{check_finished, check_grant, finished};
 use crate::reading::{block_of, source_of};
 use s66_dep::is_beginning;
 use s66_isa::Profile;
-use s66_ledger::{Event, Ledger, Reply, Ticket};
+use s66_ledger::{Ledger, Ticket};
 use s66_line::Block;
 use s66_model::Rule;
 use s66_node::{Constant, MarkTable, Piece, Walk};
@@ -26,13 +26,9 @@ fn open_ledger<'a, R: AllocGlobal + Abort>(rt: &R, block: &'a Block<'a>) -> Ledg
 {
     let profile = Profile::standard();
     let rule = Rule::ClampedStanding;
-    let mut ledger = Ledger::of_walk(
-        rt.alloc(),
-        &Walk::new(block, &profile),
-        rule,
-        BUDGET,
-        1,
-    ).expect(rt, "memory");
+    let mut ledger = Ledger::new(rt.alloc(), &Walk::new(block, &profile), rule, BUDGET, 1).expect(
+        rt, "memory",
+    );
     check_grant(rt, &mut ledger, 1, BUDGET);
     ledger
 }
@@ -102,8 +98,7 @@ fn hand_in<R: AllocGlobal + Abort>(
     let piece = piece_of(rt, block, &ticket, marks, allowance);
     let node = ticket.node();
     let first = ledger.node_count();
-    let taken = reply(rt, ledger, Event::Graft { w: 1, node, piece });
-    assert!(rt; taken == Reply::Taken);
+    assert!(rt; ledger.graft(1, node, &piece).is_ok());
     end_piece(marks, habit, node, first);
 }
 
@@ -130,7 +125,7 @@ fn search_by<'a, R: AllocGlobal + Abort>(
 fn check_done<R: AllocGlobal + Abort>(rt: &R, ledger: Ledger, splits: u32)
     requires { 1 ≤ ledger.workers }
 {
-    assert!(rt; ledger.open_nodes() == 0 && ledger.splits() == splits);
+    assert!(rt; ledger.bound() == TIME && ledger.splits() == splits);
     check_finished(rt, ledger, (TIME, TIME, splits));
 }
 

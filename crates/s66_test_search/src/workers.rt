@@ -9,7 +9,7 @@ use s66_isa::Profile;
 use s66_ledger::Ledger;
 use s66_line::Block;
 use s66_model::{BUDGET_LIMIT, Options, Rule, WORKERS_LIMIT};
-use s66_node::Walk;
+use s66_node::{MarkTable, Walk};
 use s66_pool::{FIRST_SPLITS, Free, Gate, Hub, Seat, run, work};
 use std::process::Abort;
 use std::sync::Wait;
@@ -75,13 +75,12 @@ fn left_by<R: AllocGlobal + Abort + Threads + Wait + Sync, G: Gate + Sync>(
         nodes,
         rule,
     } = options;
-    let ledger = Ledger::of_walk(alloc, &Walk::new(block, &profile), rule, nodes, workers).expect(
+    let ledger = Ledger::new(alloc, &Walk::new(block, &profile), rule, nodes, workers).expect(
         rt, "memory",
     );
-    let (hub, seats) = Hub::new(alloc, ledger).expect(rt, "memory");
-    let Ok(seats) = work(rt, &hub, seats, block, &profile, options, gate) else {
-        panic!(rt; "no memory")
-    };
+    let (hub, mut seats) = Hub::new(alloc, ledger).expect(rt, "memory");
+    let mut none = MarkTable::new(alloc, block, &profile);
+    assert!(rt; work(rt, &hub, &mut seats, block, &profile, rule, gate, &mut none).is_ok());
     let (splits, fewest) = splits_of(seats.as_slice());
     let Ok(ledger) = hub.close(seats) else {
         panic!(rt; "all seats are there")

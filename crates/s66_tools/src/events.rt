@@ -2,12 +2,14 @@
 ghost use Rattle.std.specs.Prelude.{◌≡◌, ◌≤◌, IfOk};
 
 use crate::calls::Answered;
+use crate::searches::finish;
 use crate::sources::{block_of, source_of};
 use s66_dep::is_beginning;
 use s66_isa::Profile;
 use s66_ledger::{Ledger, Offered, Ticket};
 use s66_line::Block;
-use s66_node::{Piece, expand};
+use s66_model::Rule;
+use s66_node::{Constant, Piece, Walk};
 use s66_test_search::{MULTIPLIES, as_written};
 use std::alloc::{AllocError, Global};
 
@@ -49,16 +51,14 @@ fn claim(ledger: &mut Ledger, w: u8) -> Result<Ticket, AllocError>
     }
 }
 
-/// Grafts a piece; one that is refused for memory comes back with its ticket.
-fn graft(ledger: &mut Ledger, w: u8, ticket: Ticket, piece: Piece) -> Result<(), AllocError>
+fn graft(ledger: &mut Ledger, w: u8, node: u32, piece: &Piece) -> Result<(), AllocError>
     requires { (1 ≤ w) × (w ≤ ledger.old.workers) }
     ensures { ledger.new.workers ≡ ledger.old.workers }
 {
-    let (ticket, piece) = match ledger.graft(w, ticket, piece) {
-        Ok(()) => return Ok(()),
-        Err((_, ticket, piece)) => (ticket, piece),
+    let Err(_) = ledger.graft(w, node, piece) else {
+        return Ok(());
     };
-    match ledger.graft(w, ticket, piece) {
+    match ledger.graft(w, node, piece) {
         Ok(()) => Ok(()),
         Err(_) => Err(AllocError),
     }
@@ -98,10 +98,10 @@ fn piece_of(alloc: Global, block: &Block, ticket: &Ticket) -> Result<Piece, Allo
     if !is_beginning(block, prefix) {
         return Err(AllocError);
     }
-    let profile = Profile::standard();
-    match expand(alloc, block, &profile, prefix, 22, 1) {
+    let mut walk = Walk::new(block, &Profile::standard());
+    match walk.expand(alloc, prefix, &mut Constant(22), 1) {
         Ok(piece) => Ok(piece),
-        Err(_) => expand(alloc, block, &profile, prefix, 22, 1),
+        Err(_) => walk.expand(alloc, prefix, &mut Constant(22), 1),
     }
 }
 
@@ -109,12 +109,12 @@ fn piece_of(alloc: Global, block: &Block, ticket: &Ticket) -> Result<Piece, Allo
 fn search<'a>(alloc: Global, block: &'a Block<'a>) -> Result<Ledger<'a>, AllocError>
     ensures { IfOk result (λ ledger. ledger.workers ≡ 2) }
 {
-    let profile = Profile::standard();
-    let mut ledger = Ledger::new(alloc, block, &profile, BUDGET, 2)?;
+    let walk = Walk::new(block, &Profile::standard());
+    let mut ledger = Ledger::new(alloc, &walk, Rule::NoneNamed, BUDGET, 2)?;
     grant(&mut ledger, 1)?;
     let root = claim(&mut ledger, 1)?;
     let piece = piece_of(alloc, block, &root)?;
-    graft(&mut ledger, 1, root, piece)?;
+    graft(&mut ledger, 1, root.node(), &piece)?;
     offer(&mut ledger, 2)?;
     let child = claim(&mut ledger, 2)?;
     back(&mut ledger, 2, child)?;
@@ -124,13 +124,13 @@ fn search<'a>(alloc: Global, block: &'a Block<'a>) -> Result<Ledger<'a>, AllocEr
     Ok(ledger)
 }
 
-/// The best time and the bound after that search, how many nodes are open, and how many events there were.
+/// The best time and the bound after that search, how many nodes there are, and how many events there were.
 fn readings(alloc: Global, block: &Block) -> Result<Answered, AllocError> {
     let ledger = search(alloc, block)?;
     Ok([
         ledger.best() as usize,
         ledger.bound() as usize,
-        ledger.open_nodes(),
+        ledger.node_count() as usize,
         ledger.history().entries.len(),
     ])
 }
@@ -138,7 +138,7 @@ fn readings(alloc: Global, block: &Block) -> Result<Answered, AllocError> {
 /// The time, the bound and the splits of the answer after that search.
 fn answer(alloc: Global, block: &Block) -> Result<Answered, AllocError> {
     let ledger = search(alloc, block)?;
-    let answer = ledger.finish(alloc)?;
+    let answer = finish(alloc, ledger)?;
     Ok([
         answer.time() as usize,
         answer.bound() as usize,

@@ -2,9 +2,9 @@
 
 use crate::calls::Answered;
 use crate::sources::{block_of, source_of};
-use s66_dep::is_beginning;
 use s66_isa::Profile;
-use s66_node::{Constant, Piece, expand, expand_dominated, expand_with};
+use s66_model::Rule;
+use s66_node::{Constant, MarkTable, Piece, Walk};
 use s66_test_search::{MULTIPLIES, THREE_ALIKE};
 use std::alloc::{AllocError, Global};
 
@@ -27,19 +27,8 @@ fn answered(piece: &Piece) -> Answered {
 pub fn expanded(alloc: Global) -> Result<Answered, AllocError> {
     let source = source_of(alloc, MULTIPLIES)?;
     let block = block_of(&source)?;
-    let profile = Profile::standard();
-    prove!(is_beginning(block, &[]));
-    let piece = expand(alloc, block, &profile, &[], ABOVE_ALL, SPLITS)?;
-    Ok(answered(&piece))
-}
-
-/// A piece for a best time that is read anew.
-pub fn expanded_with(alloc: Global) -> Result<Answered, AllocError> {
-    let source = source_of(alloc, MULTIPLIES)?;
-    let block = block_of(&source)?;
-    let profile = Profile::standard();
-    let mut least = Constant(ABOVE_ALL);
-    let piece = expand_with(alloc, block, &profile, &[], &mut least, SPLITS)?;
+    let mut walk = Walk::new(block, &Profile::standard());
+    let piece = walk.expand(alloc, &[], &mut Constant(ABOVE_ALL), SPLITS)?;
     Ok(answered(&piece))
 }
 
@@ -48,6 +37,9 @@ pub fn expanded_dominated(alloc: Global) -> Result<Answered, AllocError> {
     let source = source_of(alloc, THREE_ALIKE)?;
     let block = block_of(&source)?;
     let profile = Profile::standard();
-    let piece = expand_dominated(alloc, block, &profile, &[], ABOVE_ALL, SPLITS)?;
+    let mut walk = Walk::new(block, &profile);
+    let mut marks = MarkTable::new(alloc, block, &profile);
+    let (mut best, rule) = (Constant(ABOVE_ALL), Rule::WrittenEarlier);
+    let piece = walk.expand_dominated(alloc, &[], &mut best, SPLITS, &mut marks, rule)?;
     Ok(answered(&piece))
 }

@@ -5,8 +5,8 @@ use crate::tree::Counts;
 use s66_isa::Profile;
 use s66_ledger::{Answer, Ledger};
 use s66_line::Block;
-use s66_model::Options;
-use s66_node::Walk;
+use s66_model::{Options, Rule};
+use s66_node::{MarkTable, Walk};
 use s66_pool::{Free, Hub, work};
 use std::alloc::{AllocError, Global};
 use std::sync::Wait;
@@ -21,6 +21,17 @@ fn counts_of(answer: &Answer) -> Counts {
     }
 }
 
+/// Offers two list schedules, and brings a search to its end. `Err` is out of memory.
+pub fn finish(alloc: Global, mut ledger: Ledger<'_>) -> Result<Answer, AllocError>
+    requires { 1 ≤ ledger.workers }
+{
+    let profile = *ledger.profile();
+    let mut walk = Walk::new(ledger.block(), &profile);
+    let mut marks = MarkTable::new(alloc, ledger.block(), &profile);
+    ledger.offer_schedules(&mut walk)?;
+    ledger.finish(alloc, &mut walk, &mut marks)
+}
+
 /// A search of at most `budget` splits without workers. `Err` is out of memory.
 pub fn search_alone(
     alloc: Global,
@@ -30,8 +41,14 @@ pub fn search_alone(
 ) -> Result<Counts, AllocError>
     requires { budget ≤ BUDGET_LIMIT }
 {
-    let ledger = Ledger::new(alloc, block, profile, budget, 1)?;
-    let answer = ledger.finish(alloc)?;
+    let ledger = Ledger::new(
+        alloc,
+        &Walk::new(block, profile),
+        Rule::NoneNamed,
+        budget,
+        1,
+    )?;
+    let answer = finish(alloc, ledger)?;
     Ok(counts_of(&answer))
 }
 
@@ -51,16 +68,14 @@ pub fn search_by_workers<R: AllocGlobal + Threads + Wait + Sync>(
         nodes,
         rule,
     } = options;
-    let ledger = Ledger::of_walk(alloc, &Walk::new(block, profile), rule, nodes, workers)?;
-    let (hub, seats) = Hub::new(alloc, ledger)?;
-    let seats = match work(rt, &hub, seats, block, profile, options, &Free) {
-        Ok(seats) => seats,
-        Err((refusal, _)) => return Err(refusal),
-    };
+    let ledger = Ledger::new(alloc, &Walk::new(block, profile), rule, nodes, workers)?;
+    let (hub, mut seats) = Hub::new(alloc, ledger)?;
+    let mut none = MarkTable::new(alloc, block, profile);
+    work(rt, &hub, &mut seats, block, profile, rule, &Free, &mut none)?;
     // every seat came back
     let Ok(ledger) = hub.close(seats) else {
         return Err(AllocError);
     };
-    let answer = ledger.finish(alloc)?;
+    let answer = finish(alloc, ledger)?;
     Ok(counts_of(&answer))
 }

@@ -22,7 +22,7 @@ pub fn grow(
     let mut walk = Walk::new(block, profile);
     schedule_rest(&mut walk, Priority::Issue);
     let total = walk.floor_value();
-    let piece = walk.expand_with(alloc, &[], &mut Constant(total), budget)?;
+    let piece = walk.expand(alloc, &[], &mut Constant(total), budget)?;
     let best = match piece.timed() {
         Some(timed) => timed.total().min(total),
         None => total,

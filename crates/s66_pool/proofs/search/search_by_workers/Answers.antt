@@ -3,7 +3,7 @@ use Rattle.s66_pool.proofs.search.search_by_workers.Goals as goal
 
 pub unreachable-requires : goal.unreachable-requires
 unreachable-requires g c =
-    c.in_default.ensures.missing.2 (have-seats c.in_ok-hub.hub c.args.ledger c.in_ok-hub.seats.items c.work_by_marks.new.seats.items c.in_ok-hub.ensures.summary c.in_ok-hub.ensures.seats c.work_by_marks.ensures.same)
+    c.in_default.ensures.missing.2 (have-seats c.in_ok-hub.hub c.args.ledger c.in_ok-hub.seats.items c.work.new.seats.items c.in_ok-hub.ensures.summary c.in_ok-hub.ensures.seats c.work.ensures.same)
 
 pub returns-clause-on : goal.returns-clause-on
 returns-clause-on g c =

@@ -1,10 +1,15 @@
-use Rattle.std.proofs.Common.{◌≡◌, ◌<◌, ◌∙◌, ap, subst, sym}
+use Rattle.std.proofs.Common.{ℕ, List, [], ◌≡◌, ◌<◌, ◌∙◌, ap, subst, sym}
 use Rattle.s66_model.specs.LegalOrder.{IsLegal}
 use Rattle.s66_model.specs.Timing.{Problem, total_of}
 use Rattle.s66_model.specs.Answer.{source_time}
+use Rattle.s66_machine.specs.Ended.{ended_answer}
 use Rattle.s66_ledger.specs.Answers.{AnswerOf, IsKeptAnswer, answer_of, ended_of}
-use Rattle.s66_ledger.proofs.Reordered.{reordered}
+use Rattle.s66_ledger.specs.LedgerMachine.{ledger_from}
+use Rattle.s66_ledger.proofs.Reordered.{reordered, reordered-answer}
 use Rattle.s66_ledger.proofs.answer.Answer.with_order.Goals as goal
+
+same-time : (p b : Problem) (other best : List ℕ) → p ≡ b → total_of p other ≡ total_of b best → total_of b other ≡ total_of b best
+same-time p b other best own same = subst (λ (q : Problem). total_of q other ≡ total_of b best) own same
 
 pub invariant_of-result : goal.invariant_of-result
 invariant_of-result c =
@@ -14,9 +19,18 @@ invariant_of-result c =
     let other = c.args.timed.numbers in
     let own : c.args.timed.problem ≡ b = c.requires.problem ∙ sym (ap (λ (a : AnswerOf). a.problem) c.self.view_is) in
     let legal : IsLegal b.block other = subst (λ (p : Problem). IsLegal p.block other) own c.order-legal.ensures.legal in
-    let same : total_of b other ≡ total_of b s.best.numbers =
-    subst (λ (p : Problem). total_of p other ≡ total_of b s.best.numbers) own (c.requires.time ∙ sym (ap (λ (a : AnswerOf). (answer_of a).time) c.self.view_is))
-    in
+    let same = same-time c.args.timed.problem b other s.best.numbers own (c.requires.time ∙ sym (ap (λ (a : AnswerOf). (answer_of a).time) c.self.view_is)) in
     let faster : total_of b s.best.numbers < source_time b = subst (λ (a : AnswerOf). (answer_of a).time < source_time a.problem) (sym c.self.view_is) c.requires.faster in
     subst (λ (p : Problem). IsKeptAnswer (ended_of s.rule p s.budget nodes other s.splits) nodes s.bound s.source) (sym own)
     (reordered s.rule b s.budget nodes s.best.numbers other s.splits s.bound s.source c.self.invariant legal same faster)
+
+pub returns-clause-answer : goal.returns-clause-answer
+returns-clause-answer c =
+    let s = c.self.inside in
+    let b = s.best.problem in
+    let nodes = s.nodes.items in
+    let other = c.args.timed.numbers in
+    let own : c.args.timed.problem ≡ b = c.requires.problem ∙ sym (ap (λ (a : AnswerOf). a.problem) c.self.view_is) in
+    let same = same-time c.args.timed.problem b other s.best.numbers own (c.requires.time ∙ sym (ap (λ (a : AnswerOf). (answer_of a).time) c.self.view_is)) in
+    ap (λ (p : Problem). ended_answer p (ledger_from p nodes other 0 [] s.splits)) own
+    ∙ (reordered-answer b nodes s.best.numbers other s.splits same ∙ ap (λ (a : AnswerOf). record (answer_of a) { order = other }) c.self.view_is)

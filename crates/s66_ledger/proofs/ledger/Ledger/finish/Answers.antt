@@ -1,7 +1,21 @@
-use Rattle.s66_ledger.specs.Answers.{answer_of}
-use Rattle.s66_ledger.proofs.Ends.{finished-offered}
+use Rattle.std.proofs.Common.{◌∙◌, refl, ap, sym, subst}
+use Rattle.s66_machine.specs.Coverage.{IsFinished}
+use Rattle.s66_machine.specs.Reached.{IsReached}
+use Rattle.s66_machine.specs.Ended.{IsEnded, ended_answer}
+use Rattle.s66_ledger.specs.Ledgers.{LedgerOf}
+use Rattle.s66_ledger.proofs.Ends.{reached-end, finishes}
 use Rattle.s66_ledger.proofs.ledger.Ledger.finish.Goals as goal
+
+pub into_answer-requires : goal.into_answer-requires
+into_answer-requires c =
+    subst (λ (l : LedgerOf). IsEnded l.problem l.budget l.state) (sym c.self.view_is)
+    (reached-end c.args.self c.search_on.new.self (_, c.history-history.ensures.run) c.search_on.ensures.leads (c.in_ok-search_on.ensures.searched refl))
 
 pub returns-clause-finished : goal.returns-clause-finished
 returns-clause-finished c =
-    finished-offered c.args.self c.offer_schedules.new.self (answer_of c.in_ok-answer.answer) c.offer_schedules.ensures.offers c.in_ok-answer.ensures.finished
+    let last = c.search_on.new.self in
+    let reached : IsReached c.args.self.rule c.args.self.problem c.args.self.budget c.args.self.workers c.args.self.state = (_, c.history-history.ensures.run) in
+    let ended = reached-end c.args.self last reached c.search_on.ensures.leads (c.in_ok-search_on.ensures.searched refl) in
+    subst (IsFinished c.args.self.rule c.args.self.problem c.args.self.budget c.args.self.state)
+    (ap (λ (l : LedgerOf). ended_answer l.problem l.state) (sym c.self.view_is) ∙ sym c.into_answer.ensures.answer)
+    (finishes c.args.self last reached c.search_on.ensures.leads ended)

@@ -7,14 +7,14 @@ use Rattle.s66_ledger.specs.declared.reply.GraftError.{GraftError}
 use Rattle.s66_ledger.specs.HistoryEntries.{refusal_reply}
 use Rattle.s66_ledger.specs.LedgerMachine.{MachineOf}
 use Rattle.s66_ledger.specs.GraftMoves.{IsGraftMove, IsRefusedMove, taken_event, IsTakenMove}
-use Rattle.s66_ledger.specs.Grafts.{IsGraftAt, IsRefusedGraftAt}
+use Rattle.s66_ledger.specs.Grafts.{IsGraft, IsRefusedGraft}
 use Rattle.s66_ledger.specs.Ledgers.{LedgerOf, with_history, IsRecorded}
 use Rattle.s66_ledger.proofs.Recording.{noted, noted-lineless, root-state, taken-entry, refused-move, refused-entry, refused-at}
 use Rattle.s66_ledger.proofs.ledger.Ledger.graft_if.Goals as goal
 
 -- the ledger is recorded, after a graft of the piece
 abbrev IsNoted : LedgerOf → ℕ → ℕ → PieceOf → Reply → LedgerOf → Type 0
-IsNoted old w i p reply new = IsRecorded new × IsGraftAt old w i p reply new
+IsNoted old w i p reply new = IsRecorded new × IsGraft old w i p reply new
 
 taken : (c : goal.After-push_reserved) → IsNoted c.args.self.now c.args.w c.args.node c.args.piece.now Taken (with_history c.graft.new.self c.push_reserved.new.self.items c.extend_from_slice.new.self.items)
 taken c =
@@ -66,5 +66,5 @@ invariant_of-self-2 c = (refused c).0
 pub returns-clause-refused : goal.returns-clause-refused
 returns-clause-refused c =
     let now = with_history c.graft.new.self c.push_reserved-2.new.self.items c.extend_from_slice.new.self.items in
-    subst (λ (e : GraftError). IsRefusedGraftAt c.args.self.now c.args.w c.args.node c.args.piece.now e now) (sym c.in-Some.ensures.some)
+    subst (λ (e : GraftError). IsRefusedGraft c.args.self.now c.args.w c.args.node c.args.piece.now e now) (sym c.in-Some.ensures.some)
     (refused-at c.args.self.now now c.args.w c.args.node c.args.piece.now c.in-Some.why (refused c).1)

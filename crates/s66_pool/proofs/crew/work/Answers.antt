@@ -1,5 +1,5 @@
 use Rattle.s66_pool.proofs.Members.{same-trans}
-use Rattle.s66_pool.proofs.crew.work_by_marks.Goals as goal
+use Rattle.s66_pool.proofs.crew.work.Goals as goal
 
 pub returns-clause-same : goal.returns-clause-same
 returns-clause-same g c =
