@@ -176,7 +176,7 @@ pub record Comments (cut : Bool) (bytes : List ℕ) : Type 0 where
   pub whole : bytes ≡ with_newlines lines
   pub are : ArePlainComments cut lines
 
-comments-nothing : (cut : Bool) → Comments cut []
+pub comments-nothing : (cut : Bool) → Comments cut []
 comments-nothing cut = record { lines = []; whole = refl; are = tt }
 
 comments-line : (cut : Bool) (line : List ℕ) → IsPlainComment cut line → Comments cut (line ++ codes "\n")
