@@ -140,7 +140,7 @@ module _ (all : List Line) (texts : List (Option (List ℕ))) (ends : AllTexts (
 abbrev pub EndsTexts : Bool → List (Option (List ℕ)) → Type 0
 EndsTexts cut texts = AllTexts (λ text. (more : List ℕ) → IsQuiet cut more → IsQuiet cut (text ++ more)) texts
 
-next-same : (cut : Bool) (all : List Line) (texts : List (Option (List ℕ))) → EndsTexts cut texts → (s : Standing) (lines : List (List ℕ)) (number run index m : ℕ) (label : List ℕ) (after : Bool) → every (every is_inside) lines ≡ true →
+pub next-same : (cut : Bool) (all : List Line) (texts : List (Option (List ℕ))) → EndsTexts cut texts → (s : Standing) (lines : List (List ℕ)) (number run index m : ℕ) (label : List ℕ) (after : Bool) → every (every is_inside) lines ≡ true →
     AreTold all m (classes_from number run index label after (flagged_from cut s lines)) →
     (cut && goes_on (replaced all texts (classes_from number run index label after (flagged_from cut s lines)))) ≡ (cut && is_continued lines)
 next-same false all texts ends s lines number run index m label after insides told = refl
@@ -154,13 +154,13 @@ pub record AreDue (cut quiet : Bool) (columns : Columns) (known : Redefined) (al
   pub within : AreGiven blocks given
   pub complete : AreComplete blocks given
 
-within-others : (block : Block) (blocks : List Block) (given : List (Option Placed)) → AreGiven (block ∷ blocks) given → AreGiven blocks (others given)
+pub within-others : (block : Block) (blocks : List Block) (given : List (Option Placed)) → AreGiven (block ∷ blocks) given → AreGiven blocks (others given)
 within-others block [] [] h = tt
 within-others block (b ∷ blocks) [] h = tt
 within-others block blocks (None ∷ given) h = h
 within-others block blocks (Some p ∷ given) h = h.1
 
-complete-others : (block : Block) (blocks : List Block) (given : List (Option Placed)) → AreComplete (block ∷ blocks) given → AreComplete blocks (others given)
+pub complete-others : (block : Block) (blocks : List Block) (given : List (Option Placed)) → AreComplete (block ∷ blocks) given → AreComplete blocks (others given)
 complete-others block [] [] h = tt
 complete-others block (b ∷ blocks) [] h = tt
 complete-others block blocks (None ∷ given) h = h

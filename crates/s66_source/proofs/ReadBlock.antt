@@ -131,7 +131,7 @@ quiet-instruction cut label blanks bytes n text is spells inside fits =
     and_right cut (goes_on (indented_line label blanks bytes ++ text))
     (goes-line line text (inside-start label blanks bytes is.1 inside) ∙ ap₂ (λ comment comma. if comment then goes_on text else comma) parts.0 (sym (continues-body line) ∙ parts.1))
 
-quiet-printable : (cut : Bool) (known : Redefined) (blanks : List ℕ) (block : Block) (label : List ℕ) (n : ℕ) (ns : List ℕ) (text : List ℕ) → IsLabel label → IsPrintable cut known blanks block n →
+pub quiet-printable : (cut : Bool) (known : Redefined) (blanks : List ℕ) (block : Block) (label : List ℕ) (n : ℕ) (ns : List ℕ) (text : List ℕ) → IsLabel label → IsPrintable cut known blanks block n →
     IsQuiet cut (indented_lines blanks block label (n ∷ ns) ++ text)
 quiet-printable cut known blanks block label n ns text is here =
     subst (IsQuiet cut) (sym (append_assoc (indented_line label (get_or blanks (n - 1) 0) (bytes_of block n)) (indented_lines blanks block [] ns) text))
@@ -236,10 +236,10 @@ feed cut s blanks block n (m ∷ ns) label t text again free quiet is sound few 
 -- A WHOLE BLOCK
 
 -- its report and its notes
-abbrev front_text : Bool → (all : List Line) → ℕ → Block → Placed → List ℕ
+abbrev pub front_text : Bool → (all : List Line) → ℕ → Block → Placed → List ℕ
 front_text quiet all n block p = (if quiet then [] else report n (length block.entries) p) ++ notes_text block all
 
-comments-front : (cut quiet : Bool) (all : List Line) (n : ℕ) (block : Block) (p : Placed) → AreLinesOfSource cut all → Comments cut (front_text quiet all n block p)
+pub comments-front : (cut quiet : Bool) (all : List Line) (n : ℕ) (block : Block) (p : Placed) → AreLinesOfSource cut all → Comments cut (front_text quiet all n block p)
 comments-front cut quiet all n block p source =
     comments-append cut (if quiet then [] else report n (length block.entries) p) (notes_text block all)
     (elim quiet as (λ t. Comments cut (if t then [] else report n (length block.entries) p)) [ true ↦ comments-nothing cut | false ↦ comments-report cut n (length block.entries) p ]) (comments-notes cut block all source)

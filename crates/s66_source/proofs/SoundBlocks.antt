@@ -1,5 +1,6 @@
 -- The blocks of a source: their lines spell their instructions, and how they may be printed.
 use Rattle.std.proofs.Common.{◌≡◌, ◌≤◌, ◌<◌, ◌+◌, ◌==◌, ◌&&◌, ℕ, zero, suc, Bool, true, false, true≢false, if◌then◌else◌, Option, None, Some, List, [], ◌∷◌, ◌++◌, get_or, length, map, refl, sym, ap, ◌∙◌, subst, inl, inr, arith}
+use Rattle.std.specs.Prelude.{Ok}
 use Rattle.std.proofs.lemmas.Bool.{ne_eqb, eq-eqb, and_parts}
 use Rattle.std.proofs.lemmas.List.{length-map}
 use Rattle.s66_isa.specs.Lists.{Among, every}
@@ -19,10 +20,11 @@ use Rattle.s66_source.specs.LeftAlone.{Flagged, Reading, Standing, after_line, a
 use Rattle.s66_source.specs.Printed.{Placed}
 use Rattle.s66_source.specs.Redefined.{Redefined}
 use Rattle.s66_source.specs.Replaced.{anew_text, text_for, texts_of}
-use Rattle.s66_source.specs.Source.{Line, block_of, blocks_of, classed_lines, classes_from, entry_of, instructions, label_after, label_at, label_in, parts_of, place_after, place_at, run_after, run_at}
+use Rattle.s66_source.specs.Source.{Line, block_of, blocks_of, classed_lines, classes_from, entry_of, instructions, label_after, label_at, label_in, parts_of, place_after, place_at, run_after, run_at, source_of}
 use Rattle.s66_source.specs.declared.columns.Columns.{Columns}
 use Rattle.s66_source.proofs.FarOperands.{Fits, clear-read, fits-read}
 use Rattle.s66_source.proofs.PartsLaw.{parts}
+use Rattle.s66_source.proofs.PrintedLines.{accepted-is}
 use Rattle.s66_source.proofs.ReadBlock.{AreFitting, AreSound, IsSound, IsSoundBlock}
 use Rattle.s66_source.proofs.ReadLine.{IsLabel, every-from_operation, every-trimmed, label-of_code, whole-of_class}
 use Rattle.s66_source.proofs.ReadStanding.{flagged_at}
@@ -165,6 +167,17 @@ sound-source columns source =
     let cut = parts source in
     let lines = sound-lines source.cut columns all (at_first (redefined_by source)) (lines_of source.text) 1 0 0 [] false (AreLines-lines_of source.text).no_newline (refl, refl) (λ k later. refl) in
     parts-sound source.cut (redefined_by source) columns all (parts_of (instructions all)) (subst (AreSoundLines source.cut (redefined_by source) columns all) (sym cut.whole) lines) (λ part among. (cut.sizes part among).1)
+
+sound-among : (cut : Bool) (known : Redefined) (columns : Columns) (all : List Line) (blocks : List Block) (block : Block) → AreSoundBlocks cut known columns all blocks → Among block blocks → IsSoundBlock cut known columns all block
+sound-among cut known columns all [] block are among = absurd among
+sound-among cut known columns all (b ∷ blocks) block are (inl same) = subst (IsSoundBlock cut known columns all) (sym same) are.0
+sound-among cut known columns all (b ∷ blocks) block are (inr among) = sound-among cut known columns all blocks block are.1 among
+
+-- each of an accepted source
+pub sound-block : (columns : Columns) (source : Reading) (blocks : List Block) (block : Block) → source_of source ≡ Ok blocks → Among block blocks → IsSoundBlock source.cut (redefined_by source) columns (classed_lines source) block
+sound-block columns source blocks block accepted among =
+    sound-among source.cut (redefined_by source) columns (classed_lines source) blocks block
+    (subst (AreSoundBlocks source.cut (redefined_by source) columns (classed_lines source)) (accepted-is source blocks accepted) (sound-source columns source)) among
 
 -- TEXTS of blocks that are printed anew
 
