@@ -1,13 +1,12 @@
 -- Operands that aren't seen, and what is in doubt, in lines that are printed.
-use Rattle.std.proofs.Common.{◌≡◌, ◌==◌, ◌≤◌, ◌<◌, ◌+◌, ◌-◌, ◌&&◌, ◌||◌, ◌++◌, ◌∙◌, ℕ, suc, Bool, true, false, true≢false, if◌then◌else◌, List, [], ◌∷◌, length, max, min, replicate, nat_le, nat_lt, refl, sym, ap, ap₂, subst, arith, take, lt-ltb}
-use Rattle.std.proofs.lemmas.Bool.{and_parts, and_right, leb-false, ltb-false, or_from, or_parts, lt-ltb, ltb-true, lt-leb}
+use Rattle.std.proofs.Common.{◌≡◌, ◌≤◌, ◌<◌, ◌+◌, ◌-◌, ◌&&◌, ◌||◌, ◌++◌, ◌∙◌, ℕ, suc, Bool, true, false, true≢false, if◌then◌else◌, List, [], ◌∷◌, length, max, min, replicate, nat_le, nat_lt, refl, sym, ap, subst, arith, lt-ltb}
+use Rattle.std.proofs.lemmas.Bool.{and_right, leb-false, ltb-false, or_from, or_parts, lt-ltb, ltb-true, lt-leb}
 use Rattle.std.proofs.lemmas.List.{append_assoc, length-append, length-replicate}
 use Rattle.s66_isa.specs.Lists.{every}
 use Rattle.s66_isa.specs.declared.instr.Instr.{Instr}
-use Rattle.s66_line.specs.Fields.{after_word, body, from_operand, from_operation, is_blank, is_trailing, label_bytes, skip_blanks, trim, upper, word, is_comment, continues}
+use Rattle.s66_line.specs.Fields.{after_word, body, from_operand, from_operation, is_blank, is_trailing, label_bytes, skip_blanks, trim, is_comment, continues}
 use Rattle.s66_line.specs.InstructionText.{Spells}
 use Rattle.s66_line.specs.Operand.{is_filled}
-use Rattle.s66_line.proofs.UpperCase.{length-upper, upper-from_operation, upper-label_bytes}
 use Rattle.s66_source.specs.Columns.{before_operation, indent, line_start}
 use Rattle.s66_source.specs.declared.columns.Columns.{Columns}
 use Rattle.s66_source.specs.declared.columns.Columns.TheVariants.{Own, Usual}
@@ -19,7 +18,7 @@ use Rattle.s66_source.proofs.ReadBack.{trim-kept}
 use Rattle.s66_source.proofs.ReadLine.{operand-trimmed, IsLabel, IsRead, read-indented, read-line, trim-all, every-behind, body-again}
 use Rattle.s66_source.proofs.CharactersRead.{SpellsAll}
 use Rattle.s66_line.specs.declared.class.Class.{Class}
-use Rattle.s66_line.specs.declared.class.Class.TheVariants.{Comment, Other, Refused, Pad, Instruction}
+use Rattle.s66_line.specs.declared.class.Class.TheVariants.{Comment, Other, Refused, Instruction}
 use Rattle.s66_line.specs.Class.{class_of, by_operation, is_located}
 
 -- the operand is filled, and so far behind the operation

@@ -1,5 +1,5 @@
 -- Lines after as many blanks as are usual, and lines that keep their columns.
-use Rattle.std.proofs.Common.{◌≡◌, ◌≤◌, ◌<◌, ◌-◌, ◌==◌, ℕ, zero, suc, Bool, false, true, eqb-true, List, [], ◌∷◌, ◌++◌, codes, get_or, inl, inr, length, map, replicate, take, refl, sym, ap, ◌∙◌, subst, arith}
+use Rattle.std.proofs.Common.{◌≡◌, ◌≤◌, ◌<◌, ◌-◌, ◌==◌, ℕ, zero, suc, Bool, false, true, eqb-true, List, [], ◌∷◌, ◌++◌, codes, get_or, inl, inr, length, map, replicate, take, refl, sym, ap, ◌∙◌, arith}
 use Rattle.std.proofs.lemmas.List.{take-replicate}
 use Rattle.s66_isa.specs.Lists.{Among}
 use Rattle.s66_line.specs.Block.{Block, Entry, bytes_of}

@@ -1,11 +1,11 @@
 -- The lines of a block that is printed anew, read again, are the block in its placed order.
-use Rattle.std.proofs.Common.{◌≡◌, ◌≤◌, ◌<◌, ◌+◌, ◌-◌, ℕ, zero, suc, Bool, true, false, if◌then◌else◌, List, [], ◌∷◌, ◌++◌, Some, codes, get_or, length, map, refl, sym, ap, ◌∙◌, subst, inl, inr, arith, append_assoc, eqb, ap₂, ◌&&◌}
+use Rattle.std.proofs.Common.{◌≡◌, ◌≤◌, ◌<◌, ◌+◌, ◌-◌, ℕ, zero, suc, Bool, true, false, if◌then◌else◌, List, [], ◌∷◌, ◌++◌, Some, get_or, length, map, refl, sym, ap, ◌∙◌, subst, inl, inr, arith, append_assoc, eqb, ap₂, ◌&&◌}
 use Rattle.std.specs.Prelude.{None, Ok, slice_get}
 use Rattle.std.proofs.lemmas.Bool.{and_right, ne_eqb, eqb-false}
 use Rattle.s66_isa.specs.declared.instr.Instr.{Instr}
 use Rattle.s66_isa.specs.Lists.{Among, every}
 use Rattle.s66_isa.specs.Table.{instr_at}
-use Rattle.s66_line.specs.Fields.{trim, body, continues, from_operation, label_bytes, is_trailing}
+use Rattle.s66_line.specs.Fields.{trim, body, from_operation, label_bytes, is_trailing}
 use Rattle.s66_line.specs.Class.{is_code}
 use Rattle.s66_line.specs.Operand.{is_filled}
 use Rattle.s66_source.proofs.CharactersRead.{SpellsAll}

@@ -25,7 +25,7 @@ use Rattle.s66_source.specs.declared.error.SourceError.TheVariants.{LineTooLong,
 use Rattle.s66_source.specs.LeftAlone.{Standing}
 use Rattle.s66_source.proofs.FlaggedLines.{same-alone}
 use Rattle.s66_source.proofs.ReadBack.{trim-twice, lines_of-line}
-use Rattle.s66_source.proofs.ReadStanding.{flagged_at, is_holding, is_flagged, taken, not-alone, alone-body, after-body, flagged-body, class_at-body, continues-body, continues-line, comment-quiet, comment-stays, IsQuiet, goes_on, goes-line}
+use Rattle.s66_source.proofs.ReadStanding.{flagged_at, is_holding, is_flagged, taken, not-alone, alone-body, after-body, flagged-body, class_at-body, continues-body, comment-stays, IsQuiet, goes_on, goes-line}
 use Rattle.s66_source.proofs.ReadLine.{every-trimmed}
 use Rattle.s66_source.proofs.ReaderBlocks.{then-then}
 use Rattle.s66_line.proofs.Wholes.{is_inside, every-append}

@@ -1,15 +1,14 @@
 -- A printed source redefines what its source does.
-use Rattle.std.proofs.Common.{◌≡◌, ◌≤◌, ◌==◌, ◌&&◌, ◌||◌, ◌++◌, ◌-◌, ℕ, suc, Bool, true, false, true≢false, cond, if◌then◌else◌, Option, None, Some, List, [], ◌∷◌, codes, get_or, length, map, nat_lt, is_some, refl, sym, ap, ap₂, subst, ◌∙◌, inl, inr, arith, append_assoc}
+use Rattle.std.proofs.Common.{◌≡◌, ◌≤◌, ◌&&◌, ◌||◌, ◌++◌, ◌-◌, ℕ, suc, Bool, true, false, true≢false, if◌then◌else◌, Option, None, Some, List, [], ◌∷◌, codes, get_or, length, map, nat_lt, is_some, refl, sym, ap, ap₂, subst, ◌∙◌, inl, inr, arith, append_assoc}
 use Rattle.std.specs.List.{filter}
-use Rattle.std.specs.Prelude.{Ok}
 use Rattle.std.proofs.lemmas.Bool.{and_parts}
 use Rattle.std.proofs.lemmas.List.{append-nil}
 use Rattle.s66_isa.specs.Lists.{Among, every}
 use Rattle.s66_isa.specs.Table.{instr_at}
 use Rattle.s66_isa.specs.declared.instr.Instr.{Instr}
 use Rattle.s66_line.specs.Block.{Block, bytes_of, instrs_of, line_of}
-use Rattle.s66_line.specs.Class.{begins_run, class_of, class_of_operand, instr_in, is_code, is_instruction, is_located, is_pad, whole_instr}
-use Rattle.s66_line.specs.Fields.{body, continues, from_operation, is_comment, is_return, is_trailing, label_bytes, lines_of, trim}
+use Rattle.s66_line.specs.Class.{class_of, class_of_operand, is_code, is_located, is_pad, whole_instr}
+use Rattle.s66_line.specs.Fields.{body, continues, from_operation, is_comment, is_return, is_trailing, lines_of, trim}
 use Rattle.s66_line.specs.InstructionText.{operation_in}
 use Rattle.s66_line.specs.Operand.{operation_of}
 use Rattle.s66_line.specs.declared.class.Class.{Class}

@@ -1,5 +1,5 @@
 -- The blocks of a source: their lines spell their instructions, and how they may be printed.
-use Rattle.std.proofs.Common.{◌≡◌, ◌≤◌, ◌<◌, ◌+◌, ◌==◌, ◌&&◌, ℕ, zero, suc, Bool, true, false, true≢false, if◌then◌else◌, Option, None, Some, List, [], ◌∷◌, ◌++◌, get_or, length, map, refl, sym, ap, ◌∙◌, subst, inl, inr, arith}
+use Rattle.std.proofs.Common.{◌≡◌, ◌≤◌, ◌==◌, ℕ, zero, suc, Bool, true, false, true≢false, if◌then◌else◌, Option, None, Some, List, [], ◌∷◌, ◌++◌, get_or, length, map, refl, sym, ap, ◌∙◌, subst, inl, inr, arith}
 use Rattle.std.specs.Prelude.{Ok}
 use Rattle.std.proofs.lemmas.Bool.{ne_eqb, eq-eqb, and_parts}
 use Rattle.std.proofs.lemmas.List.{length-map}
@@ -16,7 +16,7 @@ use Rattle.s66_line.proofs.Wholes.{AreLines-lines_of, is_inside}
 use Rattle.s66_source.specs.BlockParts.{all_of}
 use Rattle.s66_source.specs.Columns.{bytes_on, indent}
 use Rattle.s66_source.specs.Keeping.{AreGiven}
-use Rattle.s66_source.specs.LeftAlone.{Flagged, Reading, Standing, after_line, at_first, class_at, flagged_from, flagged_lines, is_alone, is_continued, is_held, redefined_by}
+use Rattle.s66_source.specs.LeftAlone.{Flagged, Reading, Standing, after_line, at_first, class_at, flagged_from, is_alone, is_continued, is_held, redefined_by}
 use Rattle.s66_source.specs.Printed.{Placed}
 use Rattle.s66_source.specs.Redefined.{Redefined}
 use Rattle.s66_source.specs.Replaced.{anew_text, text_for, texts_of}

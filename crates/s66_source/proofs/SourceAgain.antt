@@ -1,5 +1,5 @@
 -- A printed text that is accepted when it is read again has the blocks of its source, each as it is given.
-use Rattle.std.proofs.Common.{◌≡◌, ◌+◌, ◌%◌, ◌&&◌, ◌++◌, ℕ, Bool, false, if◌then◌else◌, List, [], ◌∷◌, Option, None, Some, get_or, length, map, refl, sym, ap, ◌∙◌, subst, arith}
+use Rattle.std.proofs.Common.{◌≡◌, ℕ, Bool, false, if◌then◌else◌, List, [], Option, None, get_or, length, map, refl, sym, ap, ◌∙◌, subst, arith}
 use Rattle.std.specs.Prelude.{Ok}
 use Rattle.s66_line.specs.Block.{Block}
 use Rattle.s66_line.specs.Fields.{lines_of}
@@ -10,18 +10,18 @@ use Rattle.s66_source.specs.Printed.{Placed}
 use Rattle.s66_source.specs.ReadAgain.{AreComplete, AreGivenAgain}
 use Rattle.s66_source.specs.Reader.{start}
 use Rattle.s66_source.specs.Redefined.{nothing_redefined}
-use Rattle.s66_source.specs.Replaced.{anew_text, printed_in, replaced, texts_of}
+use Rattle.s66_source.specs.Replaced.{printed_in, texts_of}
 use Rattle.s66_source.specs.Source.{Line, block_of, blocks_of, classed_lines, instructions, parts_of, refusal, source_of}
 use Rattle.s66_source.specs.declared.columns.Columns.{Columns}
 use Rattle.s66_source.proofs.LineLaw.{no_refusal}
-use Rattle.s66_source.proofs.LineTexts.{behind, behind-begins, left, left-begins, told-source}
+use Rattle.s66_source.proofs.LineTexts.{behind, behind-begins, left-begins, told-source}
 use Rattle.s66_source.proofs.PrintedLines.{accepted-is}
 use Rattle.s66_source.proofs.ReadAgain.{AreDue, EndsTexts, Follows, reads-all}
-use Rattle.s66_source.proofs.ReadBlock.{IsSoundBlock, quiet-block}
+use Rattle.s66_source.proofs.ReadBlock.{quiet-block}
 use Rattle.s66_source.proofs.ReadComments.{AreLinesOfSource, lines-of_source, read_at}
 use Rattle.s66_source.proofs.ReaderBlocks.{fresh, read_from-start}
 use Rattle.s66_source.proofs.RedefinedLines.{redefined-printed}
-use Rattle.s66_source.proofs.SoundBlocks.{AreSoundBlocks, AreWithin, all-texts, sound-source}
+use Rattle.s66_source.proofs.SoundBlocks.{all-texts, sound-source}
 
 -- what is printed redefines what its source does
 pub redefined-again : (quiet : Bool) (columns : Columns) (source : Reading) (given : List (Option Placed)) → AreGiven (blocks_of (classed_lines source)) given →

@@ -315,11 +315,15 @@ pub fn columns_examples()
         codes "   BX1 X2\n" }
 {}
 
-/// A source printed with the instructions of its first block exchanged, and read again. The label of a `NO` that was left out is
-/// that of the block, and the bytes are those of the lines, with their remarks, but for what ends them.
-#[tactic(auto, unfolding(crate::specs::Printed::digits))]
+/// A source printed with the instructions of its first block exchanged, and read again; and one without reports, where operations keep their
+/// columns and the second block stands. The label of a `NO` that was left out is that of the block, and the bytes are those of the lines,
+/// with their remarks, but for what ends them; those of a block that stands are as they were.
+#[tactic(auto, unfolding(crate::specs::Replaced::digits))]
 pub fn read_again_examples()
-    ensures { source_of (plain (printed (plain (codes " LP NO\n  SA1 A1+B1  NEXT\r\n* NOTE\n  bx6 x2 \r\r\n  ZR X1,LP\n\tFX0 X1*X2\n")) (record { order = 2 ∷ 1 ∷ []; source = 9; time = 8; bound = 7; splits = Some 3 } ∷ record { order = 1 ∷ []; source = 4; time = 4; bound = 4; splits = None } ∷ []))) ≡
+    ensures anew { source_of (plain (printed_in false Usual (plain (codes " LP NO\n  SA1 A1+B1  NEXT\r\n* NOTE\n  bx6 x2 \r\r\n  ZR X1,LP\n\tFX0 X1*X2\n")) (Some (record { order = 2 ∷ 1 ∷ []; source = 9; time = 8; bound = 7; splits = Some 3 }) ∷ Some (record { order = 1 ∷ []; source = 4; time = 4; bound = 4; splits = None }) ∷ []))) ≡
         Ok (record { label = codes " LP"; entries = record { instr = instr 0o10 6 2 0; line = 4; bytes = codes "bx6 x2" } ∷ record { instr = instr 0o54 1 1 1; line = 5; bytes = codes "SA1 A1+B1  NEXT" } ∷ [] }
         ∷ record { label = []; entries = record { instr = instr 0o40 0 1 2; line = 8; bytes = codes "FX0 X1*X2" } ∷ [] } ∷ []) }
+    ensures stands { source_of (plain (printed_in true Own (plain (codes "  SA1 A1+B1  NEXT\r\n* NOTE\n  bx6 x2 \r\r\n  ZR X1,LP\n LP NO\n\tFX0 X1*X2 \r\n")) (Some (record { order = 2 ∷ 1 ∷ []; source = 9; time = 8; bound = 7; splits = None }) ∷ None ∷ []))) ≡
+        Ok (record { label = []; entries = record { instr = instr 0o10 6 2 0; line = 2; bytes = codes "bx6 x2" } ∷ record { instr = instr 0o54 1 1 1; line = 3; bytes = codes "SA1 A1+B1  NEXT" } ∷ [] }
+        ∷ record { label = codes " LP"; entries = record { instr = instr 0o40 0 1 2; line = 6; bytes = codes "FX0 X1*X2 " } ∷ [] } ∷ []) }
 {}
