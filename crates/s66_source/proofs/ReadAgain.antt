@@ -61,7 +61,6 @@ code-ends s after line lines code =
 
 -- with `--cut`, what is printed of lines goes on if they do
 module _ (all : List Line) (texts : List (Option (List ℕ))) (ends : AllTexts (λ text. (more : List ℕ) → goes_on more ≡ false → goes_on (text ++ more) ≡ false) texts) where
-
   goes-kept : (l : Line) (rest : List Line) (later : Bool) → every is_inside l.bytes ≡ true → text_at all texts l ≡ copied_line l → goes_on (replaced all texts rest) ≡ later →
       goes_on (replaced all texts (l ∷ rest)) ≡ (if is_comment (body l.bytes) then later else continues l.bytes)
   goes-kept l rest later inside kept same =
@@ -281,7 +280,6 @@ stays-comment cut s after continued line stated =
     comment-stays cut s line is.free is.unflagged parts.1
 
 module _ (cut quiet : Bool) (columns : Columns) (known : Redefined) (all : List Line) (texts : List (Option (List ℕ))) (source : AreLinesOfSource cut all) (ends : EndsTexts cut texts) where
-
   -- the text of lines is read after what stands before them
   abbrev pub Reads : List (List ℕ) → Type 0
   Reads lines = (stands : Bool) (s : Standing) (number run index m : ℕ) (label : List ℕ) (after : Bool) (given : List (Option Placed)) (t : SourceState) (again : List Block) →

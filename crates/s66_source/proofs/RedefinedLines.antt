@@ -208,7 +208,6 @@ other-is (Pad located) h = absurd (true≢false (sym h))
 other-is (Instruction located i) h = absurd (true≢false (sym h))
 
 module _ (names : List (List ℕ)) (all : List Line) (texts : List (Option (List ℕ))) (long : AreLong names) (silent : AllTexts (IsSilent names) texts) where
-
   -- what is printed for a line
   defines-text : (l : Line) → IsClassed l → Defines names (text_at all texts l) (defined_by names (body l.bytes ∷ []))
   defines-text l is = by_other (is_other_class l.class) refl

@@ -137,7 +137,6 @@ AreSoundBlocks cut known columns all [] = Unit {0}
 AreSoundBlocks cut known columns all (block ∷ blocks) = IsSoundBlock cut known columns all block × AreSoundBlocks cut known columns all blocks
 
 module _ (cut : Bool) (known : Redefined) (columns : Columns) (all : List Line) where
-
   front : (lines more : List Line) → AreSoundLines cut known columns all (lines ++ more) → AreSoundLines cut known columns all lines × AreSoundLines cut known columns all more
   front [] more are = (tt, are)
   front (l ∷ lines) more are = let both = front lines more are.1 in ((are.0, both.0), both.1)
@@ -196,7 +195,6 @@ same-text first second h = cc
 
 module _ (cut quiet : Bool) (columns : Columns) (known : Redefined) (all : List Line) (Are : List ℕ → Type 0)
     (anew : (n : ℕ) (block : Block) (p : Placed) → IsSoundBlock cut known columns all block → AreWithin block p.order → Are (anew_text quiet columns all n block p)) where
-
   texts-are : (n : ℕ) (blocks : List Block) (given : List (Option Placed)) → AreSoundBlocks cut known columns all blocks → AreGiven blocks given → (k : ℕ) (text : List ℕ) → get_or (texts_of quiet columns all n blocks given) k None ≡ Some text → Are text
   texts-are n [] given sound within k text is = no-text text is
   texts-are n (block ∷ blocks) [] sound within k text is = no-text text is

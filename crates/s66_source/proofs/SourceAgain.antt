@@ -29,7 +29,6 @@ pub redefined-again : (quiet : Bool) (columns : Columns) (source : Reading) (giv
 redefined-again quiet columns source given within = ap (λ known. if source.cut then known else nothing_redefined) (redefined-printed quiet columns source given within)
 
 module _ (quiet : Bool) (columns : Columns) (source : Reading) (given : List (Option Placed)) (within : AreGiven (blocks_of (classed_lines source)) given) (complete : AreComplete (blocks_of (classed_lines source)) given) where
-
   abbrev all : List Line
   all = classed_lines source
 
