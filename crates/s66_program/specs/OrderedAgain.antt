@@ -16,7 +16,7 @@ use Rattle.s66_program.specs.OrderText.{all_given, columns_by}
 abbrev pub written_time : Profile → Block → ℕ
 written_time p block = total_time (as_written p (instrs_of block))
 
--- times of which these are in the place of as many, before which so many come
+-- the times, with these in the place of as many, before which so many come
 abbrev pub with_times : (before : ℕ) → (new times : List ℕ) → List ℕ
 with_times before new times = take before times ++ new ++ drop (length new) (drop before times)
 

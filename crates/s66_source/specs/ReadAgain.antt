@@ -24,7 +24,7 @@ pub record IsPlacedAgain (block again : Block) (order : List ℕ) : Type 0 where
   pub instrs : instrs_of again ≡ map (instr_at (instrs_of block)) order
   pub bytes : map (λ (e : Entry). e.bytes) again.entries ≡ map (λ n. trim is_trailing (bytes_of block n)) order
 
--- a block that stands is the same
+-- a block that stands is the same, and any other is in the order that is given
 abbrev pub IsGivenAgain : Block → Block → Option Placed → Type 0
 IsGivenAgain block again None = IsSameAgain block again
 IsGivenAgain block again (Some p) = IsPlacedAgain block again p.order
