@@ -10,6 +10,7 @@ ghost use Rattle.s66_line.specs.Block.{Block, instrs_of};
 ghost use Rattle.s66_source.specs.Source.{source_of};
 ghost use Rattle.s66_source.specs.declared.error.SourceError.{SourceError};
 ghost use Rattle.s66_isa.specs.declared.limits.TheConstants.{BLOCK_LIMIT};
+ghost use Rattle.s66_command.specs.declared.command.OrderStyle.{OrderStyle};
 ghost use Rattle.s66_command.specs.declared.strategy.Strategy.{Strategy};
 ghost use Rattle.s66_model.specs.declared.rule.Rule.TheVariants.{NoneNamed};
 ghost use Rattle.s66_model.specs.BestAndBound.{IsBound};
@@ -30,7 +31,7 @@ ghost use Rattle.s66_program.specs.declared.limits.TheConstants.{SOURCE_FRONT};
 ghost use Rattle.s66_program.specs.CheckText.{IsCheckOutput, verdict_lines, verdicts_status};
 ghost use Rattle.s66_program.specs.CheckedAnswers.{AreYesLines, yes_lines};
 ghost use Rattle.s66_program.specs.Examples.{blocks_in, one_load_answer, one_load_ordered, one_load_source};
-ghost use Rattle.s66_program.specs.OrderText.{IsOrderOutput, all_placed};
+ghost use Rattle.s66_program.specs.OrderText.{IsKeptOutput, all_placed};
 ghost use Rattle.s66_program.specs.OrderedAgain.{TakePrintedTimes, written_time};
 ghost use Rattle.s66_program.specs.ProveText.{IsProveOutput, all_documents};
 
@@ -46,13 +47,13 @@ pub fn total_limit_law()
     ensures { (b : Problem) (order : List ℕ) → length order ≤ BLOCK_LIMIT → total_of b order ≤ TIME_LIMIT }
 {}
 
-/// If what `order` wrote for a source is accepted again, each of its blocks takes as written, under the same profile, the time
-/// that was printed of it.
+/// If what `order` wrote for a source, with whichever options, is accepted again, each of its blocks that is shown takes as written, under
+/// the same profile, the time that was printed of it, and any other as long as it did in the source.
 pub fn ordered_again_law()
-    ensures { (strategy : Strategy) (p : Profile) (trace : Bool) (source : Reading) (text : List ℕ) (status : Status)
-        (again : List Block) → IsOrderOutput strategy p trace source text status →
+    ensures { (strategy : Strategy) (p : Profile) (style : OrderStyle) (only : Option ℕ) (source : Reading) (text : List ℕ)
+        (status : Status) (again : List Block) → IsKeptOutput strategy p style only source text status →
         source_of (record { cut = source.cut; text = text }) ≡ Ok again →
-        TakePrintedTimes strategy p trace source text again }
+        TakePrintedTimes strategy p style only source text again }
 {}
 
 /// What is answered for a block of an accepted source, under any profile: a legal order with its exact total, and a bound of the totals of

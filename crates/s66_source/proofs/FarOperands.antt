@@ -1,22 +1,24 @@
 -- Operands that aren't seen, and what is in doubt, in lines that are printed.
-use Rattle.std.proofs.Common.{◌≡◌, ◌==◌, ◌≤◌, ◌<◌, ◌+◌, ◌-◌, ◌&&◌, ◌||◌, ◌++◌, ◌∙◌, ℕ, suc, Bool, true, false, true≢false, if◌then◌else◌, List, [], ◌∷◌, length, replicate, nat_le, nat_lt, refl, sym, ap, ap₂, subst, arith, take, lt-ltb}
-use Rattle.std.proofs.lemmas.Bool.{and_parts, and_right, leb-false, ltb-false, or_from, or_parts, lt-ltb, ltb-true, lt-leb}
+use Rattle.std.proofs.Common.{◌≡◌, ◌≤◌, ◌<◌, ◌+◌, ◌-◌, ◌&&◌, ◌||◌, ◌++◌, ◌∙◌, ℕ, suc, Bool, true, false, true≢false, if◌then◌else◌, List, [], ◌∷◌, length, max, min, replicate, nat_le, nat_lt, refl, sym, ap, subst, arith, lt-ltb}
+use Rattle.std.proofs.lemmas.Bool.{and_right, leb-false, ltb-false, or_from, or_parts, lt-ltb, ltb-true, lt-leb}
 use Rattle.std.proofs.lemmas.List.{append_assoc, length-append, length-replicate}
 use Rattle.s66_isa.specs.Lists.{every}
 use Rattle.s66_isa.specs.declared.instr.Instr.{Instr}
-use Rattle.s66_line.specs.Fields.{after_word, body, from_operand, from_operation, is_blank, is_trailing, label_bytes, skip_blanks, trim, upper, word, is_comment, continues}
+use Rattle.s66_line.specs.Fields.{after_word, body, from_operand, from_operation, is_blank, is_trailing, label_bytes, skip_blanks, trim, is_comment, continues}
 use Rattle.s66_line.specs.InstructionText.{Spells}
 use Rattle.s66_line.specs.Operand.{is_filled}
-use Rattle.s66_line.proofs.UpperCase.{length-upper, upper-from_operation, upper-label_bytes}
+use Rattle.s66_source.specs.Columns.{before_operation, indent, line_start}
+use Rattle.s66_source.specs.declared.columns.Columns.{Columns}
+use Rattle.s66_source.specs.declared.columns.Columns.TheVariants.{Own, Usual}
 use Rattle.s66_source.specs.LeftAlone.{distance, is_far, is_doubtful}
 use Rattle.s66_source.specs.Printed.{label_field}
 use Rattle.s66_source.specs.Redefined.{Redefined, is_redefined}
 use Rattle.s66_source.proofs.RedefinedCase.{redefined-trim}
 use Rattle.s66_source.proofs.ReadBack.{trim-kept}
-use Rattle.s66_source.proofs.ReadLine.{operand-trimmed, IsLabel, read-line, trim-all, every-behind, body-again}
+use Rattle.s66_source.proofs.ReadLine.{operand-trimmed, IsLabel, IsRead, read-indented, read-line, trim-all, every-behind, body-again}
 use Rattle.s66_source.proofs.CharactersRead.{SpellsAll}
 use Rattle.s66_line.specs.declared.class.Class.{Class}
-use Rattle.s66_line.specs.declared.class.Class.TheVariants.{Comment, Other, Refused, Pad, Instruction}
+use Rattle.s66_line.specs.declared.class.Class.TheVariants.{Comment, Other, Refused, Instruction}
 use Rattle.s66_line.specs.Class.{class_of, by_operation, is_located}
 
 -- the operand is filled, and so far behind the operation
@@ -79,18 +81,16 @@ filled-long : (name : List ℕ) → 10 ≤ length name → is_filled name ≡ tr
 filled-long [] h = absurd (omega (arith, h))
 filled-long (b ∷ name) h = refl
 
--- not so far behind its operation, it doesn't begin in column 30 or later
-near-printed : (label bytes : List ℕ) (n : Instr) → IsLabel label → SpellsAll bytes n → is_distant bytes ≡ false → is_far (body (printed_line label bytes)) ≡ false
-near-printed label bytes n is spells near = by_operand (every is_trailing rest) refl
+-- not so far behind its operation, it doesn't begin in column 30 or later, unless a long label is in front
+near-front : (front bytes : List ℕ) (n : Instr) → SpellsAll bytes n → from_operation (body (front ++ trim is_trailing bytes)) ≡ trim is_trailing bytes → is_distant bytes ≡ false →
+    (is_filled (skip_blanks (after_word bytes)) ≡ true → nat_lt (length (label_bytes (body (front ++ trim is_trailing bytes)))) 10 ≡ true → length front + distance bytes < 29) → is_far (body (front ++ trim is_trailing bytes)) ≡ false
+near-front front bytes n spells left near close = by_operand (every is_trailing rest) refl
   where
     rest : List ℕ
     rest = skip_blanks (after_word bytes)
 
     line : List ℕ
-    line = printed_line label bytes
-
-    left : from_operation (body line) ≡ trim is_trailing bytes
-    left = (read-line label bytes n is spells).left
+    line = front ++ trim is_trailing bytes
 
     operand : from_operand (body line) ≡ trim is_trailing rest
     operand = ap (λ bs. skip_blanks (after_word bs)) left ∙ operand-trimmed bytes n spells.0
@@ -102,21 +102,17 @@ near-printed label bytes n is spells near = by_operand (every is_trailing rest) 
     filled-rest [] h = absurd (true≢false h)
     filled-rest (b ∷ bs) h = refl
 
-    column : every is_trailing rest ≡ false → distance bytes < 19 → (nat_lt (length (label_bytes (body line))) 10 && nat_le 29 (length (body line) - length (from_operand (body line)))) ≡ false
-    column some close = by_label (nat_lt (length label) 10) refl
+    column : every is_trailing rest ≡ false → (nat_lt (length (label_bytes (body line))) 10 && nat_le 29 (length (body line) - length (from_operand (body line)))) ≡ false
+    column some = by_label (nat_lt (length (label_bytes (body line))) 10) refl
       where
-        by_label : (short : Bool) → nat_lt (length label) 10 ≡ short → (nat_lt (length (label_bytes (body line))) 10 && nat_le 29 (length (body line) - length (from_operand (body line)))) ≡ false
+        by_label : (short : Bool) → nat_lt (length (label_bytes (body line))) 10 ≡ short → (short && nat_le 29 (length (body line) - length (from_operand (body line)))) ≡ false
         by_label true stated =
-            let field = field-length label (ltb-true (length label) 10 stated) in
-            let whole = ap length (body-again (label_field label) bytes n spells.0) ∙ length-append (label_field label) (trim is_trailing bytes) in
+            let early = close (filled-rest rest some) stated in
+            let whole = ap length (body-again front bytes n spells.0) ∙ length-append front (trim is_trailing bytes) in
             let behind = distance-trimmed bytes n spells.0 some in
-            let last = ap length (sym left) in
             let same : distance (trim is_trailing bytes) ≡ length (trim is_trailing bytes) - length (from_operand (body line)) = ap (λ bs. length (trim is_trailing bytes) - length (skip_blanks (after_word bs))) (sym left) in
-            and_right (nat_lt (length (label_bytes (body line))) 10) (nat_le 29 (length (body line) - length (from_operand (body line)))) (lt-leb 29 (length (body line) - length (from_operand (body line))) (omega (arith, field, whole, behind, same, close)))
-        by_label false stated =
-            let long = ltb-false (length label) 10 stated in
-            ap (λ t. t && nat_le 29 (length (body line) - length (from_operand (body line))))
-            (ap (λ bs. nat_lt (length bs) 10) ((read-line label bytes n is spells).labelled (filled-long label long)) ∙ stated)
+            lt-leb 29 (length (body line) - length (from_operand (body line))) (omega (arith, whole, behind, same, early))
+        by_label false stated = refl
 
     by_operand : (t : Bool) → every is_trailing rest ≡ t → is_far (body line) ≡ false
     by_operand true stated = none-far (ap is_filled (operand ∙ trim-all is_trailing rest stated))
@@ -124,18 +120,60 @@ near-printed label bytes n is spells near = by_operand (every is_trailing rest) 
         let close : nat_le 19 (distance bytes) ≡ false = ap (λ t. t && nat_le 19 (distance bytes)) (sym (filled-rest rest stated)) ∙ near in
         let behind : nat_le 19 (distance (from_operation (body line))) ≡ false =
         ap (nat_le 19) (ap distance left ∙ distance-trimmed bytes n spells.0 stated) ∙ close in
-        and_right (is_filled (from_operand (body line))) _ (or_from _ _ behind (column stated (leb-false 19 (distance bytes) close)))
+        and_right (is_filled (from_operand (body line))) _ (or_from _ _ behind (column stated))
+
+-- so far behind, if there is an operand
+pub near-by : (bytes : List ℕ) → is_distant bytes ≡ false → is_filled (skip_blanks (after_word bytes)) ≡ true → distance bytes < 19
+near-by bytes near filled = leb-false 19 (distance bytes) (ap (λ t. t && nat_le 19 (distance bytes)) (sym filled) ∙ near)
+
+-- after a label, filled up to column 10
+near-printed : (label bytes : List ℕ) (n : Instr) → SpellsAll bytes n → IsRead (printed_line label bytes) label bytes n → is_distant bytes ≡ false → is_far (body (printed_line label bytes)) ≡ false
+near-printed label bytes n spells read near = near-front (label_field label) bytes n spells read.left near (λ filled short. by_label (nat_lt (length label) 10) refl short (near-by bytes near filled))
+  where
+    by_label : (t : Bool) → nat_lt (length label) 10 ≡ t → nat_lt (length (label_bytes (body (printed_line label bytes)))) 10 ≡ true → distance bytes < 19 → length (label_field label) + distance bytes < 29
+    by_label true stated short close = let field = field-length label (ltb-true (length label) 10 stated) in omega (arith, field, close)
+    by_label false stated short close =
+        let named = read.labelled (filled-long label (ltb-false (length label) 10 stated)) in
+        absurd (true≢false (sym short ∙ ap (λ bs. nat_lt (length bs) 10) named ∙ stated))
+
+-- AFTER BLANKS
+
+-- behind so many blanks before its operation, the operand would begin in column 30 or later
+abbrev pub is_late : ℕ → List ℕ → Bool
+is_late blanks bytes = is_filled (skip_blanks (after_word bytes)) && nat_le 29 (blanks + distance bytes)
+
+near-indented : (blanks : ℕ) (bytes : List ℕ) (n : Instr) → SpellsAll bytes n → IsRead (replicate blanks 32 ++ trim is_trailing bytes) [] bytes n → is_distant bytes ≡ false → is_late blanks bytes ≡ false →
+    is_far (body (replicate blanks 32 ++ trim is_trailing bytes)) ≡ false
+near-indented blanks bytes n spells read near early =
+    near-front (replicate blanks 32) bytes n spells read.left near
+    (λ filled short. let close = leb-false 29 (blanks + distance bytes) (ap (λ t. t && nat_le 29 (blanks + distance bytes)) (sym filled) ∙ early) in omega (arith, close, length-replicate {A = ℕ} blanks 32))
+
+-- few enough blanks before an operation
+abbrev pub Fits : (cut : Bool) → ℕ → List ℕ → Type 0
+Fits cut blanks bytes = (2 ≤ blanks) × (blanks ≤ 28) × ((cut && is_late blanks bytes) ≡ false)
+
+near-start : (label : List ℕ) (blanks : ℕ) (bytes : List ℕ) (n : Instr) → SpellsAll bytes n → IsRead (line_start label blanks ++ trim is_trailing bytes) label bytes n → is_distant bytes ≡ false → is_late blanks bytes ≡ false →
+    is_far (body (line_start label blanks ++ trim is_trailing bytes)) ≡ false
+near-start [] blanks bytes n spells read near early = near-indented blanks bytes n spells read near early
+near-start (b ∷ label) blanks bytes n spells read near early = near-printed (b ∷ label) bytes n spells read near
+
+pub read-start : (cut : Bool) (label : List ℕ) (blanks : ℕ) (bytes : List ℕ) (n : Instr) → IsLabel label → Fits cut blanks bytes → SpellsAll bytes n → IsRead (line_start label blanks ++ trim is_trailing bytes) label bytes n
+read-start cut [] blanks bytes n is fits spells =
+    let all : blanks ≡ suc (suc (blanks - 2)) = omega (arith, fits.0) in
+    subst (λ m. IsRead (replicate m 32 ++ trim is_trailing bytes) [] bytes n) (sym all) (read-indented (blanks - 2) bytes n (omega (arith, fits.1)) spells)
+read-start cut (b ∷ label) blanks bytes n is fits spells = read-line (b ∷ label) bytes n is spells
 
 -- a line of these bytes isn't in doubt if they aren't
-pub clear-printed : (cut : Bool) (known : Redefined) (label bytes : List ℕ) (n : Instr) → IsLabel label → SpellsAll bytes n → (cut && is_unclear known bytes) ≡ false →
-    (cut && is_doubtful known (class_of true (printed_line label bytes)) (body (printed_line label bytes))) ≡ false
-clear-printed false known label bytes n is spells clear = refl
-clear-printed true known label bytes n is spells clear =
+pub clear-printed : (cut : Bool) (known : Redefined) (label : List ℕ) (blanks : ℕ) (bytes : List ℕ) (n : Instr) → IsLabel label → Fits cut blanks bytes → SpellsAll bytes n → (cut && is_unclear known bytes) ≡ false →
+    (cut && is_doubtful known (class_of true (line_start label blanks ++ trim is_trailing bytes)) (body (line_start label blanks ++ trim is_trailing bytes))) ≡ false
+clear-printed false known label blanks bytes n is fits spells clear = refl
+clear-printed true known label blanks bytes n is fits spells clear =
+    let line : List ℕ = line_start label blanks ++ trim is_trailing bytes in
     let both = or_parts (is_redefined known bytes) (is_distant bytes) clear in
-    let read = read-line label bytes n is spells in
-    ap (λ c. is_doubtful known c (body (printed_line label bytes))) (read.classed true)
-    ∙ or_from (is_redefined known (from_operation (body (printed_line label bytes)))) (is_far (body (printed_line label bytes)))
-    (ap (is_redefined known) read.left ∙ redefined-trim known bytes n spells.0 ∙ both.0) (near-printed label bytes n is spells both.1)
+    let read = read-start true label blanks bytes n is fits spells in
+    ap (λ c. is_doubtful known c (body line)) (read.classed true)
+    ∙ or_from (is_redefined known (from_operation (body line))) (is_far (body line))
+    (ap (is_redefined known) read.left ∙ redefined-trim known bytes n spells.0 ∙ both.0) (near-start label blanks bytes n spells read both.1 fits.2)
 
 -- A LINE THAT IS READ and isn't in doubt
 
@@ -153,6 +191,15 @@ near-read line near = by_operand (is_filled (from_operand line)) (nat_le 19 (dis
     by_operand true behind column h = (or_parts behind column h).0
     by_operand false behind column h = refl
 
+-- nor is its operand far
+not-far : (held after : Bool) (known : Redefined) (line : List ℕ) (located : Bool) (n : Instr) → (held || (true && is_doubtful known (class_of true line) (body line))) ≡ false → class_of after line ≡ Instruction located n →
+    is_far (body line) ≡ false
+not-far held after known line located n taken stated =
+    let class : class_of true line ≡ Instruction located n =
+    same-instruction (is_comment (body line)) (continues (body line)) after (by_operation (is_located (body line)) (from_operation (body line))) located n stated in
+    (or_parts (is_redefined known (from_operation (body line))) (is_far (body line))
+    (ap (λ c. is_doubtful known c (body line)) (sym class) ∙ (or_parts held (is_doubtful known (class_of true line) (body line)) taken).1)).1
+
 pub clear-read : (cut held after : Bool) (known : Redefined) (line : List ℕ) (located : Bool) (n : Instr) → (held || (cut && is_doubtful known (class_of true line) (body line))) ≡ false → class_of after line ≡ Instruction located n →
     (cut && is_unclear known (from_operation (body line))) ≡ false
 clear-read false held after known line located n taken stated = refl
@@ -162,3 +209,47 @@ clear-read true held after known line located n taken stated =
     let both = or_parts (is_redefined known (from_operation (body line))) (is_far (body line))
     (ap (λ c. is_doubtful known c (body line)) (sym class) ∙ (or_parts held (is_doubtful known (class_of true line) (body line)) taken).1) in
     or_from (is_redefined known (from_operation (body line))) (is_distant (from_operation (body line))) both.0 (near-read (body line) both.1)
+
+-- INDENTS of lines that were read
+
+-- before an operation in its own column, its operand is as early as it was
+own-early : (line : List ℕ) → is_far (body line) ≡ false → is_late (indent Own line) (from_operation (body line)) ≡ false
+own-early line near = by_operand (is_filled (from_operand there)) refl
+  where
+    there : List ℕ
+    there = body line
+
+    bytes : List ℕ
+    bytes = from_operation there
+
+    by_operand : (filled : Bool) → is_filled (from_operand there) ≡ filled → (filled && nat_le 29 (indent Own line + distance bytes)) ≡ false
+    by_operand false stated = refl
+    by_operand true stated =
+        let both = or_parts (nat_le 19 (distance bytes)) (nat_lt (length (label_bytes there)) 10 && nat_le 29 (length there - length (from_operand there)))
+        (ap (λ t. t && (nat_le 19 (distance bytes) || (nat_lt (length (label_bytes there)) 10 && nat_le 29 (length there - length (from_operand there))))) (sym stated) ∙ near) in
+        lt-leb 29 (indent Own line + distance bytes) (by_label (nat_lt (length (label_bytes there)) 10) both.1 (leb-false 19 (distance bytes) both.0))
+      where
+        by_label : (short : Bool) → (short && nat_le 29 (length there - length (from_operand there))) ≡ false → distance bytes < 19 → (if short then max (min (before_operation line) 28) 2 else 10) + distance bytes < 29
+        by_label true column close = let early = leb-false 29 (length there - length (from_operand there)) column in omega (arith, early, close)
+        by_label false column close = omega (arith, close)
+
+early-by : (columns : Columns) (line : List ℕ) → is_far (body line) ≡ false → is_late (indent columns line) (from_operation (body line)) ≡ false
+early-by Own line near = own-early line near
+early-by Usual line near = by_operand (is_filled (from_operand (body line))) refl
+  where
+    by_operand : (filled : Bool) → is_filled (from_operand (body line)) ≡ filled → (filled && nat_le 29 (10 + distance (from_operation (body line)))) ≡ false
+    by_operand false stated = refl
+    by_operand true stated = lt-leb 29 (10 + distance (from_operation (body line))) (let close = near-by (from_operation (body line)) (near-read (body line) near) stated in omega (arith, close))
+
+pub indent-bounds : (columns : Columns) (line : List ℕ) → (2 ≤ indent columns line) × (indent columns line ≤ 28)
+indent-bounds Usual line = (omega arith, omega arith)
+indent-bounds Own line =
+    elim (nat_lt (length (label_bytes (body line))) 10) as (λ t. (2 ≤ (if t then max (min (before_operation line) 28) 2 else 10)) × ((if t then max (min (before_operation line) 28) 2 else 10) ≤ 28))
+    [ true ↦ (omega arith, omega arith) | false ↦ (omega arith, omega arith) ]
+
+pub fits-read : (cut held after : Bool) (columns : Columns) (known : Redefined) (line : List ℕ) (located : Bool) (n : Instr) → (held || (cut && is_doubtful known (class_of true line) (body line))) ≡ false → class_of after line ≡ Instruction located n →
+    Fits cut (indent columns line) (from_operation (body line))
+fits-read false held after columns known line located n taken stated = let bounds = indent-bounds columns line in (bounds.0, bounds.1, refl)
+fits-read true held after columns known line located n taken stated =
+    let bounds = indent-bounds columns line in
+    (bounds.0, bounds.1, early-by columns line (not-far held after known line located n taken stated))

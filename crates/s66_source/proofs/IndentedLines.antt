@@ -1,5 +1,5 @@
 -- Lines after as many blanks as are usual, and lines that keep their columns.
-use Rattle.std.proofs.Common.{◌≡◌, ◌≤◌, ◌<◌, ◌-◌, ◌==◌, ℕ, zero, suc, Bool, false, true, eqb-true, List, [], ◌∷◌, ◌++◌, codes, get_or, inl, inr, length, map, replicate, take, refl, sym, ap, ◌∙◌, subst, arith}
+use Rattle.std.proofs.Common.{◌≡◌, ◌≤◌, ◌<◌, ◌-◌, ◌==◌, ℕ, zero, suc, Bool, false, true, eqb-true, List, [], ◌∷◌, ◌++◌, codes, get_or, inl, inr, length, map, replicate, take, refl, sym, ap, ◌∙◌, arith}
 use Rattle.std.proofs.lemmas.List.{take-replicate}
 use Rattle.s66_isa.specs.Lists.{Among}
 use Rattle.s66_line.specs.Block.{Block, Entry, bytes_of}
@@ -12,7 +12,8 @@ use Rattle.s66_source.specs.Columns.{bytes_on, indent, indented_lines, indents, 
 use Rattle.s66_source.specs.Printed.{instruction_lines, label_field}
 use Rattle.s66_source.specs.Source.{Line}
 use Rattle.s66_source.specs.declared.columns.Columns.TheVariants.{Own, Usual}
-use Rattle.s66_source.proofs.ReadLine.{IsRead, read-indented}
+use Rattle.s66_source.proofs.FarOperands.{indent-bounds, read-start}
+use Rattle.s66_source.proofs.ReadLine.{IsRead}
 
 -- no label, and the front of as many blanks as may be asked for
 pub no-label : (label : List ℕ) (blanks : ℕ) → (length label == 0) ≡ true → blanks ≤ 256 → line_start label blanks ≡ take blanks (replicate 256 32)
@@ -42,14 +43,8 @@ usual-indents all block order within =
 
 -- AN OPERATION THAT KEEPS ITS COLUMN
 
--- some blanks more than two, and not too many
-own-indent : (line : List ℕ) → (k : ℕ) × (k ≤ 26) × (indent Own line ≡ suc (suc k))
-own-indent line = let all = indent Own line in (all - 2, omega (arith), omega arith)
-
 own-read : (line bytes : List ℕ) (n : Instr) → SpellsAll bytes n → IsRead (replicate (indent Own line) 32 ++ trim is_trailing bytes) [] bytes n
-own-read line bytes n spells =
-    let (k, few, is) = own-indent line in
-    subst (λ m. IsRead (replicate m 32 ++ trim is_trailing bytes) [] bytes n) (sym is) (read-indented k bytes n few spells)
+own-read line bytes n spells = let bounds = indent-bounds Own line in read-start false [] (indent Own line) bytes n (refl, refl) (bounds.0, bounds.1, refl) spells
 
 pub own-class : (after : Bool) (line bytes : List ℕ) (n : Instr) → SpellsAll bytes n → class_of after (replicate (indent Own line) 32 ++ trim is_trailing bytes) ≡ Instruction false n
 own-class after line bytes n spells = (own-read line bytes n spells).classed after

@@ -19,12 +19,14 @@ pub mod ReadBack
 pub mod CharactersRead
 pub mod ReadStanding
 pub mod ReadLine
+pub mod LineTexts
 pub mod FarOperands
 pub mod DefinedNames
 pub mod RedefinedCase
 pub mod RedefinedLines
 pub mod ReadComments
 pub mod ReadBlock
+pub mod SoundBlocks
 pub mod ReadAgain
 pub mod SourceAgain
 pub mod SpelledLaw

@@ -1,8 +1,8 @@
 -- A printed source is the texts of its blocks, and between them the lines that are copied.
-use Rattle.std.proofs.Common.{◌≡◌, ◌<◌, ◌&&◌, ◌||◌, not, ℕ, zero, suc, Bool, true, false, cond, if◌then◌else◌, List, [], ◌∷◌, ◌++◌, length, map, replicate, Some, refl, sym, ap, ◌∙◌, subst, inl, inr, arith, append_assoc, nat_lt}
+use Rattle.std.proofs.Common.{◌≡◌, ◌≤◌, ◌<◌, ◌&&◌, ◌||◌, not, ℕ, zero, suc, Bool, true, false, cond, if◌then◌else◌, List, [], ◌∷◌, ◌++◌, length, map, replicate, Some, refl, sym, ap, ◌∙◌, subst, inl, inr, arith, append_assoc, nat_lt}
 use Rattle.std.specs.Prelude.{Ok, slice_get}
 use Rattle.std.specs.List.{filter}
-use Rattle.std.proofs.lemmas.Bool.{lt-ltb, le-ltb}
+use Rattle.std.proofs.lemmas.Bool.{lt-ltb, le-ltb, ne_eqb}
 use Rattle.std.proofs.lemmas.List.{append-nil}
 use Rattle.s66_line.specs.Block.{Block, line_of}
 use Rattle.s66_line.specs.Class.{is_instruction, is_code}
@@ -17,7 +17,6 @@ use Rattle.s66_source.specs.Source.{Line, block_of, blocks_of, classed_lines, cl
 use Rattle.s66_source.proofs.LineLaw.{AreFilled, Rising, Rising-lower, rising-instructions}
 use Rattle.s66_source.proofs.PartsLaw.{parts}
 use Rattle.s66_source.proofs.PrintedLines.{Rising-after, Rising-ordered, accepted-is, first-line, instructions-no, instructions-yes, ordered-classed, text-first}
-use Rattle.s66_source.proofs.ReadAgain.{FirstFrom, text-copied}
 
 -- LINES BEFORE A BLOCK, and the others
 
@@ -38,6 +37,20 @@ merged-before l lines block blocks text texts before =
     rw (lt-ltb l.number (line_of block 1) before) (ap (λ xs. xs ++ rest) (append_assoc (copied_line l) front text) ∙ append_assoc (copied_line l) (front ++ text) rest)
 
 -- BLOCKS TO COME begin at a line to come
+
+abbrev FirstFrom : ℕ → List (List Line) → Type 0
+FirstFrom low [] = Unit {0}
+FirstFrom low ([] ∷ parts) = ⊥
+FirstFrom low ((l ∷ more) ∷ parts) = low ≤ l.number
+
+-- a line at which no block begins is printed as a copy, or not at all
+text-copied : (all : List Line) (n : ℕ) (parts : List (List Line)) (ps : List Placed) (l : Line) (lines : List Line) → FirstFrom (suc l.number) parts →
+    text_of_lines all n (map block_of parts) ps (l ∷ lines) ≡ copied_text all l ++ text_of_lines all n (map block_of parts) ps lines
+text-copied all n [] [] l lines h = refl
+text-copied all n [] (p ∷ ps) l lines h = refl
+text-copied all n ([] ∷ parts) ps l lines h = absurd h
+text-copied all n ((m ∷ more) ∷ parts) [] l lines h = refl
+text-copied all n ((m ∷ more) ∷ parts) (p ∷ ps) l lines h = rw (ne_eqb m.number l.number (λ same. absurd (omega (arith, same, h)))) refl
 
 next-from : (low : ℕ) (parts : List (List Line)) → AreFilled parts → Rising low (all_of parts) → FirstFrom low parts
 next-from low [] filled h = tt

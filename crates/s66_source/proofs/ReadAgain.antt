@@ -1,249 +1,252 @@
--- The lines of a printed text, read one after the other, have the blocks of their source in their placed orders.
-use Rattle.std.proofs.Common.{◌≡◌, ◌≤◌, ◌<◌, ◌+◌, ◌%◌, ◌==◌, ◌&&◌, ℕ, suc, Bool, true, false, if◌then◌else◌, List, [], ◌∷◌, ◌++◌, None, codes, length, map, refl, sym, ap, ◌∙◌, subst, inl, inr, arith, append_assoc, eqb, ap₂}
-use Rattle.std.specs.Prelude.{Result, Ok, ◌⊎◌}
-use Rattle.std.proofs.lemmas.Bool.{ne_eqb, eqb-true, eqb-false, true≢false, and_parts}
+-- The lines of a printed text, read one after the other, have the blocks of their source: each as it was, or in its placed order.
+use Rattle.std.proofs.Common.{◌≡◌, ◌≤◌, ◌+◌, ◌%◌, ◌==◌, ◌&&◌, ℕ, suc, Bool, true, false, if◌then◌else◌, List, [], ◌∷◌, ◌++◌, Option, None, Some, get_or, length, map, refl, sym, ap, ◌∙◌, subst, inl, inr, arith, append_assoc, eqb, ap₂}
+use Rattle.std.specs.Prelude.{Ok, ◌⊎◌}
+use Rattle.std.proofs.Math.Dec.{eqb-suc-zero}
+use Rattle.std.proofs.lemmas.Bool.{eqb-true, eqb-false, true≢false, and_parts}
 use Rattle.std.proofs.lemmas.List.{append-nil, length-map}
-use Rattle.std.proofs.lemmas.Nat.{mod_below}
 use Rattle.s66_isa.specs.declared.instr.Instr.{Instr}
 use Rattle.s66_isa.specs.Lists.{every}
-use Rattle.s66_line.specs.Fields.{is_return, lines_of, body, continues, from_operation, label_bytes, is_comment}
+use Rattle.s66_line.specs.Fields.{body, continues, from_operation, label_bytes, is_comment}
 use Rattle.s66_line.specs.Operand.{is_filled}
-use Rattle.s66_source.specs.Source.{Line, run_at, run_after, place_at, place_after, label_at, label_after, classes_from, classed_lines, operand_refusal, refusal_at, refusal, instructions, begins_block, put_before, parts_of, entry_of, block_of, blocks_of, source_of}
-use Rattle.s66_line.specs.Block.{Block}
+use Rattle.s66_source.specs.Source.{Line, run_at, run_after, place_at, place_after, label_at, label_after, classes_from, operand_refusal, refusal_at, refusal, instructions, begins_block, put_before, parts_of, entry_of, block_of}
+use Rattle.s66_line.specs.Block.{Block, Entry}
 use Rattle.s66_line.specs.Class.{class_of, is_code, begins_run, instr_in}
-use Rattle.s66_source.proofs.CharactersRead.{SpellsAll}
-use Rattle.s66_source.specs.LeftAlone.{Reading, Flagged, after_line, at_first, class_at, is_alone, is_continued, is_held, flagged_from, flagged_lines, redefined_by}
-use Rattle.s66_source.specs.Roles.{is_copied, is_comment_class}
-use Rattle.s66_source.specs.Printed.{Placed, ArePlaced, copied_line, copied_text, text_of_lines, printed}
-use Rattle.s66_source.specs.ReadAgain.{AreComplete, ArePlacedAgain}
-use Rattle.s66_source.specs.Reader.{SourceState, start, with_open, end_block, begin_run, count_line, by_class, and_then}
+use Rattle.s66_source.specs.Keeping.{AreGiven, others}
+use Rattle.s66_source.specs.LeftAlone.{Flagged, Standing, after_line, class_at, is_alone, is_continued, flagged_from}
+use Rattle.s66_source.specs.Printed.{Placed, copied_line}
+use Rattle.s66_source.specs.ReadAgain.{AreComplete, AreGivenAgain, IsGivenAgain, IsSameAgain}
+use Rattle.s66_source.specs.Reader.{SourceState, with_open, end_block, begin_run, begin_run_if, count_line, by_class, and_then}
+use Rattle.s66_source.specs.Redefined.{Redefined}
+use Rattle.s66_source.specs.Replaced.{anew_text, begins, line_text, replaced, text_for}
+use Rattle.s66_source.specs.Roles.{is_comment_class}
+use Rattle.s66_source.specs.declared.columns.Columns.{Columns}
 use Rattle.s66_line.specs.declared.class.Class.{Class}
 use Rattle.s66_line.specs.declared.class.Class.TheVariants.{Comment, Other, Refused, Pad, Instruction}
 use Rattle.s66_isa.specs.declared.limits.TheConstants.{BLOCK_LIMIT}
-use Rattle.s66_source.specs.declared.error.SourceError.{SourceError}
-use Rattle.s66_source.proofs.LineLaw.{no_refusal, neither, operand-none}
-use Rattle.s66_source.proofs.PrintedLines.{text-first, instruction-not_copied, same-blocks, accepted-is}
-use Rattle.s66_source.proofs.ReadLine.{IsLabel, label-of_code, whole-of_class, every-from_operation, every-trimmed}
-use Rattle.s66_source.specs.LeftAlone.{Standing}
-use Rattle.s66_source.proofs.Standings.{code-line, code-stays, same-redefined}
-use Rattle.s66_source.proofs.ReadStanding.{flagged_at, goes_on, is_holding, taken, comment-stays, continues-body, IsQuiet}
-use Rattle.s66_source.proofs.ReadComments.{goes-copied, read_at, read-as, read-copied, comment-line, AreLinesOfSource, lines-of_source}
-use Rattle.s66_source.proofs.ReadBlock.{AreSound, Ended, quiet-block, read-block}
 use Rattle.s66_source.proofs.CutLaw as cut_law
-use Rattle.s66_source.proofs.FarOperands.{clear-read, is_unclear}
-use Rattle.s66_source.specs.Redefined.{Redefined, nothing_redefined}
-use Rattle.s66_source.proofs.ReaderBlocks.{from_class, Begins, fresh, next-index, full-index, read_from-start}
-use Rattle.s66_line.proofs.Wholes.{is_inside, AreLines-lines_of}
-
--- THE PARTS of the lines to come: what is left of the part that is begun, and the parts after it
-
-abbrev pub left : List (List Line) → List Line
-left [] = []
-left ([] ∷ parts) = []
-left ((l ∷ more) ∷ parts) = if begins_block l then [] else l ∷ more
-
-abbrev pub behind : List (List Line) → List (List Line)
-behind [] = []
-behind ([] ∷ parts) = parts
-behind ((l ∷ more) ∷ parts) = if begins_block l then (l ∷ more) ∷ parts else parts
-
-put-before : (l : Line) (parts : List (List Line)) → put_before l parts ≡ (l ∷ left parts) ∷ behind parts
-put-before l [] = refl
-put-before l ([] ∷ parts) = refl
-put-before l ((next ∷ more) ∷ parts) =
-    elim (begins_block next) as (λ t. (if t then (l ∷ []) ∷ (next ∷ more) ∷ parts else (l ∷ next ∷ more) ∷ parts) ≡ (l ∷ (if t then [] else next ∷ more)) ∷ (if t then (next ∷ more) ∷ parts else parts))
-    [ true ↦ refl | false ↦ refl ]
-
-pub left-put : (l : Line) (parts : List (List Line)) → left (put_before l parts) ≡ (if begins_block l then [] else l ∷ left parts)
-left-put l parts = ap left (put-before l parts)
-
-pub behind-put : (l : Line) (parts : List (List Line)) → behind (put_before l parts) ≡ (if begins_block l then (l ∷ left parts) ∷ behind parts else behind parts)
-behind-put l parts = ap behind (put-before l parts)
-
-pub left-begins : (parts : List (List Line)) → Begins parts → left parts ≡ []
-left-begins [] h = refl
-left-begins ([] ∷ parts) h = refl
-left-begins ((l ∷ more) ∷ parts) h = rw h refl
-
-pub behind-begins : (parts : List (List Line)) → Begins parts → behind parts ≡ parts
-behind-begins [] h = refl
-behind-begins ([] ∷ parts) h = absurd h
-behind-begins ((l ∷ more) ∷ parts) h = rw h refl
-
--- the parts of these lines
-abbrev pub parts_from : ℕ → ℕ → ℕ → List ℕ → Bool → List Flagged → List (List Line)
-parts_from number run index label after lines = parts_of (instructions (classes_from number run index label after lines))
-
--- A PART HAS AT MOST BLOCK_LIMIT LINES
-
-abbrev Fits : List Flagged → Type 0
-Fits lines = (number run index : ℕ) (label : List ℕ) (after : Bool) → index % BLOCK_LIMIT + length (left (parts_from number run index label after lines)) ≤ BLOCK_LIMIT
-
-pub begun-below : (index : ℕ) → index % BLOCK_LIMIT < BLOCK_LIMIT
-begun-below index = mod_below index BLOCK_LIMIT (omega arith)
-
-pub none-left : (lines : List Flagged) (number run index : ℕ) (label : List ℕ) (after : Bool) → index % BLOCK_LIMIT ≡ 0 → left (parts_from number run index label after lines) ≡ []
-none-left lines number run index label after h = left-begins (parts_from number run index label after lines) (fresh lines number run index label after h)
-
--- one instruction more of the part
-fits-next : (lines : List Flagged) → Fits lines → (number run index : ℕ) (label : List ℕ) → suc (index % BLOCK_LIMIT) + length (left (parts_from number run (suc index) label true lines)) ≤ BLOCK_LIMIT
-fits-next lines fits number run index label = by_full (eqb (suc (index % BLOCK_LIMIT)) BLOCK_LIMIT) refl
-  where
-    by_full : (t : Bool) → eqb (suc (index % BLOCK_LIMIT)) BLOCK_LIMIT ≡ t → suc (index % BLOCK_LIMIT) + length (left (parts_from number run (suc index) label true lines)) ≤ BLOCK_LIMIT
-    by_full true stated =
-        let all = eqb-true (suc (index % BLOCK_LIMIT)) BLOCK_LIMIT stated in
-        let none = ap (λ (ls : List Line). length ls) (none-left lines number run (suc index) label true (full-index index (index % BLOCK_LIMIT) refl all)) in
-        omega (arith, all, none)
-    by_full false stated =
-        let next = next-index index (index % BLOCK_LIMIT) refl (eqb-false (suc (index % BLOCK_LIMIT)) BLOCK_LIMIT stated) in
-        let few = fits number run (suc index) label true in
-        omega (arith, next, few)
-
--- nothing is left if a block begins
-left-of_fresh : (lines : List Flagged) (index number run later : ℕ) (label : List ℕ) (after : Bool) → later % BLOCK_LIMIT ≡ 0 → index % BLOCK_LIMIT + length (left (parts_from number run later label after lines)) ≤ BLOCK_LIMIT
-left-of_fresh lines index number run later label after h =
-    let none = ap (λ (ls : List Line). length ls) (none-left lines number run later label after h) in
-    let below = begun-below index in
-    omega (arith, none, below)
-
-fits-instruction : (lines : List Flagged) → Fits lines → (l : Line) (number run index : ℕ) (label : List ℕ) → l.index ≡ index →
-    index % BLOCK_LIMIT + length (left (put_before l (parts_from number run (suc index) label true lines))) ≤ BLOCK_LIMIT
-fits-instruction lines fits l number run index label at =
-    let rest = parts_from number run (suc index) label true lines in
-    let next = fits-next lines fits number run index label in
-    let below = begun-below index in
-    subst (λ ls. index % BLOCK_LIMIT + length ls ≤ BLOCK_LIMIT) (sym (left-put l rest))
-    (elim (begins_block l) as (λ t. index % BLOCK_LIMIT + length (if t then [] else l ∷ left rest) ≤ BLOCK_LIMIT) [ true ↦ omega (arith, below) | false ↦ omega (arith, next) ])
-
--- the parts of a line of this class and the lines after it
-abbrev pub parts_by : ℕ → ℕ → ℕ → List ℕ → Class → List ℕ → List Flagged → List (List Line)
-parts_by number run index label c line lines = parts_of (instructions (from_class number run index label c line lines))
-
-fits-class : (c : Class) (line : List ℕ) (lines : List Flagged) → Fits lines → (number run index : ℕ) (label : List ℕ) → index % BLOCK_LIMIT + length (left (parts_by number run index label c line lines)) ≤ BLOCK_LIMIT
-fits-class Comment line lines fits number run index label = fits (suc number) run index label false
-fits-class Refused line lines fits number run index label = fits (suc number) run index label false
-fits-class (Pad false) line lines fits number run index label = fits (suc number) run index label true
-fits-class Other line lines fits number run index label = left-of_fresh lines index (suc number) (suc run) 0 [] false refl
-fits-class (Pad true) line lines fits number run index label = left-of_fresh lines index (suc number) (suc run) 0 (label_bytes (body line)) true refl
-fits-class (Instruction false n) line lines fits number run index label =
-    fits-instruction lines fits (record { number = number; bytes = line; class = Instruction false n; run = run; index = index; label = label }) (suc number) run index label refl
-fits-class (Instruction true n) line lines fits number run index label =
-    let l : Line = record { number = number; bytes = line; class = Instruction true n; run = suc run; index = 0; label = label_bytes (body line) } in
-    let below = begun-below index in
-    let none = ap (λ (ls : List Line). length ls) (left-put l (parts_from (suc number) (suc run) 1 (label_bytes (body line)) true lines)) in
-    omega (arith, below, none)
-
-pub fits-all : (lines : List Flagged) → Fits lines
-fits-all [] number run index label after = let below = begun-below index in omega (arith, below)
-fits-all (line ∷ lines) number run index label after = fits-class (class_at after line) line.bytes lines (fits-all lines) number run index label
-
--- THE LINES OF A PART spell their instructions
-
-pub taken-by : (alone : Bool) (c : Class) (located : Bool) (n : Instr) → (if alone then Other else c) ≡ Instruction located n → (alone ≡ false) × (c ≡ Instruction located n)
-taken-by true c located n h = cc
-taken-by false c located n h = (refl, h)
+use Rattle.s66_source.proofs.LineLaw.{neither, operand-none}
+use Rattle.s66_source.proofs.LineTexts.{AreTexts, AreTold, IsTold, behind, behind-put, chosen_text, count_after, first-given, instruction-text, left, left-put, none-left, other-text, others-given, pad-text, parts_by, parts_from, plain-text, text_at}
+use Rattle.s66_source.proofs.PrintedLines.{same-blocks}
+use Rattle.s66_source.proofs.ReadBlock.{Ended, IsSoundBlock, read-block, with_one, with_open-push}
+use Rattle.s66_source.proofs.ReadComments.{goes-copied, read_at, read-as, read-copied, comment-line, AreLinesOfSource}
+use Rattle.s66_source.proofs.ReadStanding.{flagged_at, goes_on, is_holding, taken, comment-stays, continues-body, IsQuiet}
+use Rattle.s66_source.proofs.ReaderBlocks.{from_class, full-index, labelled, length-push, next-index}
+use Rattle.s66_source.proofs.SoundBlocks.{AllTexts, AreSoundBlocks, AreWithin, located-label}
+use Rattle.s66_source.proofs.Standings.{code-line, code-stays, same-redefined}
+use Rattle.s66_line.proofs.Wholes.{is_inside}
 
 code-taken : (alone : Bool) (c : Class) → is_code (if alone then Other else c) ≡ true → (alone ≡ false) × (is_code c ≡ true)
 code-taken true c h = absurd (true≢false (sym h))
 code-taken false c h = (refl, h)
 
-abbrev pub AreSoundLines : Bool → Redefined → List Line → Type 0
-AreSoundLines cut known lines = AreSound cut known (map entry_of lines)
+-- CODE that isn't left alone: what stands is as it was, and no continuation comes next
+pub record IsLeft (cut : Bool) (s : Standing) (line : List ℕ) (lines : List (List ℕ)) : Type 0 where
+  pub free : is_holding cut s ≡ false
+  pub stays : after_line cut s line ≡ s
+  pub ended : (cut && is_continued lines) ≡ false
 
--- of a line that was read
-abbrev IsSoundLine : Bool → Redefined → List ℕ → Instr → Type 0
-IsSoundLine cut known line n =
-    SpellsAll (from_operation (body line)) n × (every is_inside (from_operation (body line)) ≡ true) × ((cut && is_unclear known (from_operation (body line))) ≡ false)
+pub left-by : (cut : Bool) (s : Standing) (after : Bool) (line : List ℕ) (lines : List (List ℕ)) → is_code (class_at after (flagged_at cut s line (is_continued lines))) ≡ true → IsLeft cut s line lines
+left-by cut s after line lines code =
+    let is = taken cut s line (is_continued lines) (code-taken (is_alone cut s line (is_continued lines)) (class_of after line) code).0 in
+    record { free = is.free; stays = code-stays cut (is_continued lines) after s line code; ended = is.ended }
 
-sound-entry : (cut : Bool) (s : Standing) (after : Bool) (line : List ℕ) (continued located : Bool) (n : Instr) → is_alone cut s line continued ≡ false → class_of after line ≡ Instruction located n → every is_inside line ≡ true →
-    IsSoundLine cut s.redefined line n
-sound-entry cut s after line continued located n alone is inside = (
-  whole-of_class after line located n is,
-  every-from_operation is_inside (body line) (every-trimmed is_inside is_return line inside),
-  clear-read cut (is_held cut s line continued) after s.redefined line located n alone is,
-)
+-- it continues nothing, and no line goes on from it
+code-ends : (s : Standing) (after : Bool) (line : List ℕ) (lines : List (List ℕ)) → is_code (class_at after (flagged_at true s line (is_continued lines))) ≡ true → (continues line ≡ false) × (is_continued (line ∷ lines) ≡ false)
+code-ends s after line lines code =
+    let parts = code-line after line (code-taken (is_alone true s line (is_continued lines)) (class_of after line) code).1 in
+    let comma = sym (continues-body line) ∙ parts.1 in
+    (comma, ap₂ (λ comment comma. if comment then is_continued lines else comma) parts.0 comma)
 
-pub sound-instructions : (cut : Bool) (s : Standing) (lines : List (List ℕ)) (number run index : ℕ) (label : List ℕ) (after : Bool) → every (every is_inside) lines ≡ true →
-    AreSoundLines cut s.redefined (instructions (classes_from number run index label after (flagged_from cut s lines)))
-sound-instructions cut s [] number run index label after h = tt
-sound-instructions cut s (line ∷ lines) number run index label after h =
-    let both = and_parts (every is_inside line) (every (every is_inside) lines) h in
-    let c : Class = class_at after (flagged_at cut s line (is_continued lines)) in
-    by_class c refl both.0
-    (subst (λ known. AreSoundLines cut known (instructions (classes_from (suc number) (run_after run c) (place_after index c) (label_after label c line) (is_code c) rest))) (same-redefined cut s line)
-    (sound-instructions cut (after_line cut s line) lines (suc number) (run_after run c) (place_after index c) (label_after label c line) (is_code c) both.1))
-  where
-    rest : List Flagged
-    rest = flagged_from cut (after_line cut s line) lines
+-- WHETHER A LINE IS CONTINUED
 
-    by_class : (c : Class) → class_at after (flagged_at cut s line (is_continued lines)) ≡ c → every is_inside line ≡ true →
-        AreSoundLines cut s.redefined (instructions (classes_from (suc number) (run_after run c) (place_after index c) (label_after label c line) (is_code c) rest)) → AreSoundLines cut s.redefined (instructions (from_class number run index label c line rest))
-    by_class Comment stated inside rest = rest
-    by_class Other stated inside rest = rest
-    by_class Refused stated inside rest = rest
-    by_class (Pad located) stated inside rest = rest
-    by_class (Instruction located n) stated inside rest =
-        let is = taken-by (is_alone cut s line (is_continued lines)) (class_of after line) located n stated in
-        (sound-entry cut s after line (is_continued lines) located n is.0 is.1 inside, rest)
+-- with `--cut`, what is printed of lines goes on if they do
+module _ (all : List Line) (texts : List (Option (List ℕ))) (ends : AllTexts (λ text. (more : List ℕ) → goes_on more ≡ false → goes_on (text ++ more) ≡ false) texts) where
+  goes-kept : (l : Line) (rest : List Line) (later : Bool) → every is_inside l.bytes ≡ true → text_at all texts l ≡ copied_line l → goes_on (replaced all texts rest) ≡ later →
+      goes_on (replaced all texts (l ∷ rest)) ≡ (if is_comment (body l.bytes) then later else continues l.bytes)
+  goes-kept l rest later inside kept same =
+      ap (λ here. goes_on (here ++ replaced all texts rest)) kept ∙ goes-copied l.bytes (replaced all texts rest) inside ∙ ap (λ next. if is_comment (body l.bytes) then next else continues l.bytes) same
 
-pub sound-left : (cut : Bool) (known : Redefined) (lines : List Line) → AreSoundLines cut known lines → AreSoundLines cut known (left (parts_of lines))
-sound-left cut known [] h = tt
-sound-left cut known (l ∷ lines) h =
-    subst (AreSoundLines cut known) (sym (left-put l (parts_of lines)))
-    (elim (begins_block l) as (λ t. AreSoundLines cut known (if t then [] else l ∷ left (parts_of lines))) [ true ↦ tt | false ↦ (h.0, sound-left cut known lines h.1) ])
+  goes-past : (l : Line) (rest : List Line) (later : Bool) → every is_inside l.bytes ≡ true → (text_at all texts l ≡ copied_line l) ⊎ (text_at all texts l ≡ []) → goes_on (replaced all texts rest) ≡ later →
+      later ≡ (if is_comment (body l.bytes) then later else continues l.bytes) → goes_on (replaced all texts (l ∷ rest)) ≡ (if is_comment (body l.bytes) then later else continues l.bytes)
+  goes-past l rest later inside (inl kept) same gone = goes-kept l rest later inside kept same
+  goes-past l rest later inside (inr none) same gone = ap (λ here. goes_on (here ++ replaced all texts rest)) none ∙ same ∙ gone
 
--- BLOCKS TO COME begin at a line to come
+  goes-instruction : (l : Line) (rest : List Line) (located : Bool) (i : Instr) (first : Bool) (m : ℕ) → l.class ≡ Instruction located i → IsTold all l first m → every is_inside l.bytes ≡ true → goes_on (replaced all texts rest) ≡ false →
+      (if is_comment (body l.bytes) then false else continues l.bytes) ≡ false → goes_on (replaced all texts (l ∷ rest)) ≡ false
+  goes-instruction l rest located i first m stated told inside same none = by_text (text_for texts m) refl
+    where
+      here : text_at all texts l ≡ line_text first (text_for texts m) l
+      here = instruction-text all texts l located i first m stated told
 
-abbrev pub FirstFrom : ℕ → List (List Line) → Type 0
-FirstFrom low [] = Unit {0}
-FirstFrom low ([] ∷ parts) = ⊥
-FirstFrom low ((l ∷ more) ∷ parts) = low ≤ l.number
+      by_first : (first : Bool) (text : List ℕ) → text_for texts m ≡ Some text → goes_on ((if first then text else []) ++ replaced all texts rest) ≡ false
+      by_first true text is = ends m text is (replaced all texts rest) same
+      by_first false text is = same
 
-FirstFrom-lower : (low high : ℕ) (parts : List (List Line)) → low ≤ high → FirstFrom high parts → FirstFrom low parts
-FirstFrom-lower low high [] le h = tt
-FirstFrom-lower low high ([] ∷ parts) le h = absurd h
-FirstFrom-lower low high ((l ∷ more) ∷ parts) le h = omega (arith, le, h)
+      by_text : (text : Option (List ℕ)) → text_for texts m ≡ text → goes_on (replaced all texts (l ∷ rest)) ≡ false
+      by_text None is = goes-kept l rest false inside (here ∙ ap (λ text. line_text first text l) is) same ∙ none
+      by_text (Some text) is = ap (λ bytes. goes_on (bytes ++ replaced all texts rest)) (here ∙ ap (λ text. line_text first text l) is) ∙ by_first first text is
 
-first-put : (low : ℕ) (l : Line) (parts : List (List Line)) → low ≤ l.number → FirstFrom low (behind parts) → FirstFrom low (behind (put_before l parts))
-first-put low l parts le h =
-    subst (FirstFrom low) (sym (behind-put l parts)) (elim (begins_block l) as (λ t. FirstFrom low (if t then (l ∷ left parts) ∷ behind parts else behind parts)) [ true ↦ le | false ↦ h ])
+  abbrev GoesOn : List (List ℕ) → Type 0
+  GoesOn lines = (s : Standing) (number run index m : ℕ) (label : List ℕ) (after : Bool) → every (every is_inside) lines ≡ true →
+      AreTold all m (classes_from number run index label after (flagged_from true s lines)) → goes_on (replaced all texts (classes_from number run index label after (flagged_from true s lines))) ≡ is_continued lines
 
-pub first-from : (lines : List Flagged) (number run index : ℕ) (label : List ℕ) (after : Bool) → FirstFrom number (behind (parts_from number run index label after lines))
-first-from [] number run index label after = tt
-first-from (line ∷ lines) number run index label after =
-    let c : Class = class_at after line in
-    by_class c (FirstFrom-lower number (suc number) (behind (parts_from (suc number) (run_after run c) (place_after index c) (label_after label c line.bytes) (is_code c) lines)) (omega arith)
-    (first-from lines (suc number) (run_after run c) (place_after index c) (label_after label c line.bytes) (is_code c)))
-  where
-    by_class : (c : Class) → FirstFrom number (behind (parts_from (suc number) (run_after run c) (place_after index c) (label_after label c line.bytes) (is_code c) lines)) → FirstFrom number (behind (parts_by number run index label c line.bytes lines))
-    by_class Comment rest = rest
-    by_class Other rest = rest
-    by_class Refused rest = rest
-    by_class (Pad located) rest = rest
-    by_class (Instruction located n) rest =
-        first-put number (record { number = number; bytes = line.bytes; class = Instruction located n; run = run_at run (Instruction located n); index = place_at index (Instruction located n); label = label_at label (Instruction located n) line.bytes })
-        (parts_from (suc number) (run_after run (Instruction located n)) (place_after index (Instruction located n)) (label_after label (Instruction located n) line.bytes) true lines) (omega arith) rest
+  goes-class : (c : Class) (s : Standing) (number run index m : ℕ) (label : List ℕ) (after : Bool) (line : List ℕ) (lines : List (List ℕ)) → GoesOn lines → class_at after (flagged_at true s line (is_continued lines)) ≡ c →
+      every is_inside line ≡ true → every (every is_inside) lines ≡ true → AreTold all m (from_class number run index label c line (flagged_from true (after_line true s line) lines)) →
+      goes_on (replaced all texts (from_class number run index label c line (flagged_from true (after_line true s line) lines))) ≡ is_continued (line ∷ lines)
+  goes-class Comment s number run index m label after line lines later stated inside insides told =
+      let l : Line = record { number = number; bytes = line; class = Comment; run = run; index = index; label = label } in
+      let comment = (comment-line after (is_alone true s line (is_continued lines)) line (ap is_comment_class stated)).1 in
+      goes-past l (classes_from (suc number) run index label false (flagged_from true (after_line true s line) lines)) (is_continued lines) inside (plain-text all texts l told.0.begins)
+      (later (after_line true s line) (suc number) run index m label false insides told.1) (sym (ap (λ t. if t then is_continued lines else continues line) comment))
+  goes-class Other s number run index m label after line lines later stated inside insides told =
+      let l : Line = record { number = number; bytes = line; class = Other; run = run; index = index; label = label } in
+      goes-kept l (classes_from (suc number) (suc run) 0 [] false (flagged_from true (after_line true s line) lines)) (is_continued lines) inside (other-text all texts l refl)
+      (later (after_line true s line) (suc number) (suc run) 0 m [] false insides told.1)
+  goes-class Refused s number run index m label after line lines later stated inside insides told =
+      absurd (refused-none number (class_at after (flagged_at true s line (is_continued lines))) stated (cut_law.none-refused number after (is_continued lines) s line))
+    where
+      refused-none : (number : ℕ) (c : Class) → c ≡ Refused → operand_refusal number c ≡ None → ⊥
+      refused-none number Refused is none = cc
+      refused-none number Comment is none = cc
+      refused-none number Other is none = cc
+      refused-none number (Pad located) is none = cc
+      refused-none number (Instruction located i) is none = cc
+  goes-class (Pad located) s number run index m label after line lines later stated inside insides told =
+      let c : Class = Pad located in
+      let l : Line = record { number = number; bytes = line; class = c; run = run_at run c; index = place_at index c; label = label_at label c line } in
+      let code = ap is_code stated in
+      let none = code-ends s after line lines code in
+      goes-past l (classes_from (suc number) (run_after run c) (place_after index c) (label_after label c line) true (flagged_from true (after_line true s line) lines)) (is_continued lines) inside (plain-text all texts l told.0.begins)
+      (later (after_line true s line) (suc number) (run_after run c) (place_after index c) m (label_after label c line) true insides told.1) ((left-by true s after line lines code).ended ∙ sym none.1)
+  goes-class (Instruction located i) s number run index m label after line lines later stated inside insides told =
+      let c : Class = Instruction located i in
+      let l : Line = record { number = number; bytes = line; class = c; run = run_at run c; index = place_at index c; label = label_at label c line } in
+      let code = ap is_code stated in
+      let none = code-ends s after line lines code in
+      let ended = (left-by true s after line lines code).ended in
+      goes-instruction l (classes_from (suc number) (run_after run c) (place_after index c) (label_after label c line) true (flagged_from true (after_line true s line) lines)) located i (begins_block l) (count_after (begins_block l) m) refl told.0 inside
+      (later (after_line true s line) (suc number) (run_after run c) (place_after index c) (count_after (begins_block l) m) (label_after label c line) true insides told.1 ∙ ended)
+      (ap (λ next. if is_comment (body line) then next else continues line) (sym ended) ∙ none.1)
+      ∙ sym none.1
 
--- a line at which no block begins is printed as a copy, or not at all
-pub text-copied : (all : List Line) (n : ℕ) (parts : List (List Line)) (ps : List Placed) (l : Line) (lines : List Line) → FirstFrom (suc l.number) parts →
-    text_of_lines all n (map block_of parts) ps (l ∷ lines) ≡ copied_text all l ++ text_of_lines all n (map block_of parts) ps lines
-text-copied all n [] [] l lines h = refl
-text-copied all n [] (p ∷ ps) l lines h = refl
-text-copied all n ([] ∷ parts) ps l lines h = absurd h
-text-copied all n ((m ∷ more) ∷ parts) [] l lines h = refl
-text-copied all n ((m ∷ more) ∷ parts) (p ∷ ps) l lines h = rw (ne_eqb m.number l.number (λ same. absurd (omega (arith, same, h)))) refl
+  goes-all : (lines : List (List ℕ)) → GoesOn lines
+  goes-all [] s number run index m label after insides told = refl
+  goes-all (line ∷ lines) s number run index m label after insides told =
+      let both = and_parts (every is_inside line) (every (every is_inside) lines) insides in
+      goes-class (class_at after (flagged_at true s line (is_continued lines))) s number run index m label after line lines (goes-all lines) refl both.0 both.1 told
 
--- AN INSTRUCTION, and what comes after it
+abbrev pub EndsTexts : Bool → List (Option (List ℕ)) → Type 0
+EndsTexts cut texts = AllTexts (λ text. (more : List ℕ) → IsQuiet cut more → IsQuiet cut (text ++ more)) texts
 
--- what is in front of code that isn't left alone is a label
-pub located-label : (after alone : Bool) (line : List ℕ) → begins_run (class_at after (record { alone = alone; bytes = line })) ≡ true → every is_inside line ≡ true →
-    IsLabel (label_bytes (body line)) × (is_filled (label_bytes (body line)) ≡ true)
-located-label after true line begins inside = absurd (true≢false (sym begins))
-located-label after false line begins inside = label-of_code after line begins inside
+pub next-same : (cut : Bool) (all : List Line) (texts : List (Option (List ℕ))) → EndsTexts cut texts → (s : Standing) (lines : List (List ℕ)) (number run index m : ℕ) (label : List ℕ) (after : Bool) → every (every is_inside) lines ≡ true →
+    AreTold all m (classes_from number run index label after (flagged_from cut s lines)) →
+    (cut && goes_on (replaced all texts (classes_from number run index label after (flagged_from cut s lines)))) ≡ (cut && is_continued lines)
+next-same false all texts ends s lines number run index m label after insides told = refl
+next-same true all texts ends s lines number run index m label after insides told = goes-all all texts ends lines s number run index m label after insides told
 
-pub label-or_none : (t : Bool) (label : List ℕ) → IsLabel label → IsLabel (if t then label else [])
-label-or_none true label is = is
-label-or_none false label is = (refl, refl)
+-- BLOCKS TO COME, so many of which began before
+
+pub record AreDue (cut quiet : Bool) (columns : Columns) (known : Redefined) (all : List Line) (texts : List (Option (List ℕ))) (m : ℕ) (blocks : List Block) (given : List (Option Placed)) : Type 0 where
+  pub chosen : AreTexts quiet columns all texts m blocks given
+  pub sound : AreSoundBlocks cut known columns all blocks
+  pub within : AreGiven blocks given
+  pub complete : AreComplete blocks given
+
+pub within-others : (block : Block) (blocks : List Block) (given : List (Option Placed)) → AreGiven (block ∷ blocks) given → AreGiven blocks (others given)
+within-others block [] [] h = tt
+within-others block (b ∷ blocks) [] h = tt
+within-others block blocks (None ∷ given) h = h
+within-others block blocks (Some p ∷ given) h = h.1
+
+pub complete-others : (block : Block) (blocks : List Block) (given : List (Option Placed)) → AreComplete (block ∷ blocks) given → AreComplete blocks (others given)
+complete-others block [] [] h = tt
+complete-others block (b ∷ blocks) [] h = tt
+complete-others block blocks (None ∷ given) h = h
+complete-others block blocks (Some p ∷ given) h = h.1
+
+some-same : (p q : Placed) → Some p ≡ Some q → p ≡ q
+some-same p q h = cc
+
+not-some : {X : Type 0} (p : Placed) → None ≡ Some p → X
+not-some p h = cc
+
+-- the order of the first
+first-order : (block : Block) (blocks : List Block) (given : List (Option Placed)) (p : Placed) → AreGiven (block ∷ blocks) given → AreComplete (block ∷ blocks) given → get_or given 0 None ≡ Some p → AreWithin block p.order × (length p.order ≡ length block.entries)
+first-order block blocks [] p within complete is = not-some p is
+first-order block blocks (None ∷ given) p within complete is = not-some p is
+first-order block blocks (Some q ∷ given) p within complete is = subst (λ (r : Placed). AreWithin block r.order × (length r.order ≡ length block.entries)) (some-same q p is) (within.0, complete.0)
+
+-- WHAT IS READ
+
+-- the blocks so far, and the open one
+pub record Opened : Type 0 where
+  pub blocks : List Block
+  pub label : List ℕ
+  pub entries : List Entry
+
+abbrev pub opened : SourceState → Opened
+opened t = record { blocks = t.blocks; label = t.label; entries = t.entries }
+
+abbrev pub open_blocks : Opened → List Block
+open_blocks o = with_open o.blocks o.label o.entries
+
+-- what has to be known of the state before a block that begins next, which has this label: if none, the block stands for itself; and
+-- if the block stands, it is read into an empty one
+abbrev pub IsFresh : List (Option (List ℕ)) → ℕ → List ℕ → Opened → Type 0
+IsFresh texts m label o = (label ≡ [] → (o.entries ≡ []) × (o.label ≡ [])) × (get_or texts m None ≡ None → (o.entries ≡ []) × (o.label ≡ label))
+
+-- and before lines to come, of which this many are left of the part that is begun. Of one that stands as much is open as was read; one
+-- that is printed anew was read whole
+abbrev pub Ready : (stands : Bool) → List (Option (List ℕ)) → (m index : ℕ) → List ℕ → ℕ → Opened → Type 0
+Ready false texts m index label count o =
+    (index % BLOCK_LIMIT ≡ 0 → IsFresh texts m (if index == 0 then label else []) o) × ((index % BLOCK_LIMIT ≡ 0 → ⊥) → (text : List ℕ) × (text_for texts m ≡ Some text)) × (index % BLOCK_LIMIT + count ≡ BLOCK_LIMIT → (o.entries ≡ []) × (o.label ≡ []))
+Ready true texts m index label count o = (index % BLOCK_LIMIT ≡ length o.entries) × (1 ≤ length o.entries) × (text_for texts m ≡ None)
+
+-- these blocks, and then those of the parts as they are given
+pub record Follows (parts : List (List Line)) (given : List (Option Placed)) (blocks again : List Block) : Type 0 where
+  pub new : List Block
+  pub whole : again ≡ blocks ++ new
+  pub placed : AreGivenAgain (map block_of parts) given new
+
+-- the blocks so far, the open one with what is left of its part, and then those of the parts
+pub record Resumes (left : List Line) (parts : List (List Line)) (given : List (Option Placed)) (o : Opened) (again : List Block) : Type 0 where
+  pub made : Block
+  pub new : List Block
+  pub whole : again ≡ o.blocks ++ made ∷ new
+  pub same : IsSameAgain (labelled o.label (o.entries ++ map entry_of left)) made
+  pub placed : AreGivenAgain (map block_of parts) given new
+
+abbrev pub IsReadOn : (stands : Bool) → List Line → List (List Line) → List (Option Placed) → Opened → List Block → Type 0
+IsReadOn false left parts given o again = Follows parts given (open_blocks o) again
+IsReadOn true left parts given o again = Resumes left parts given o again
+
+open-is : (blocks : List Block) (label : List ℕ) (entries : List Entry) → 1 ≤ length entries → with_open blocks label entries ≡ blocks ++ labelled label entries ∷ []
+open-is blocks label [] some = absurd (omega (arith, some))
+open-is blocks label (e ∷ entries) some = refl
+
+-- one block more, and then the others
+one-more : (blocks later again new : List Block) (made : Block) → later ≡ blocks ++ made ∷ [] → again ≡ later ++ new → again ≡ blocks ++ made ∷ new
+one-more blocks later again new made h k = k ∙ ap (λ bs. bs ++ new) h ∙ append_assoc blocks (made ∷ []) new
+
+-- nothing is left of the part that is begun
+ended : (stands : Bool) (texts : List (Option (List ℕ))) (m index : ℕ) (label : List ℕ) (count : ℕ) (parts : List (List Line)) (given : List (Option Placed)) (o : Opened) (again : List Block) → Ready stands texts m index label count o →
+    Follows parts given (open_blocks o) again → IsReadOn stands [] parts given o again
+ended false texts m index label count parts given o again ready f = f
+ended true texts m index label count parts given o again ready f =
+    let made : Block = labelled o.label o.entries in
+    let all : o.entries ≡ o.entries ++ [] = sym (append-nil o.entries) in
+    record {
+      made = made;
+      new = f.new;
+      whole = one-more o.blocks (open_blocks o) again f.new made (open-is o.blocks o.label o.entries ready.1) f.whole;
+      same = record { label = refl; instrs = ap (map (λ (e : Entry). e.instr)) all; bytes = ap (map (λ (e : Entry). e.bytes)) all };
+      placed = f.placed;
+    }
+
+-- an entry in place of another, with what follows it
+swap : {X : Type 0} (f : Entry → X) (entries : List Entry) (e d : Entry) (rest : List Entry) → f e ≡ f d → map f ((entries ++ e ∷ []) ++ rest) ≡ map f (entries ++ d ∷ rest)
+swap f [] e d rest h = ap (λ x. x ∷ map f rest) h
+swap f (a ∷ entries) e d rest h = ap (λ xs. f a ∷ xs) (swap f entries e d rest h)
 
 -- the lines after an instruction, and their parts
 abbrev pub lines_after : ℕ → Line → List Flagged → List Line
@@ -256,250 +259,18 @@ parts_after run l lines = parts_of (instructions (lines_after run l lines))
 abbrev pub parts_at : ℕ → Line → List Flagged → List (List Line)
 parts_at run l lines = (l ∷ left (parts_after run l lines)) ∷ behind (parts_after run l lines)
 
--- what an instruction that isn't left alone leaves: what stands is as it was, and no continuation comes next
-pub record IsLeft (cut : Bool) (s stands : Standing) (lines : List (List ℕ)) : Type 0 where
-  pub free : is_holding cut s ≡ false
-  pub stays : stands ≡ s
-  pub ended : (cut && is_continued lines) ≡ false
-
-pub left-by : (cut : Bool) (s : Standing) (after : Bool) (line : List ℕ) (lines : List (List ℕ)) (located : Bool) (i : Instr) → class_at after (flagged_at cut s line (is_continued lines)) ≡ Instruction located i →
-    IsLeft cut s (after_line cut s line) lines
-left-by cut s after line lines located i stated =
-    let is = taken cut s line (is_continued lines) (taken-by (is_alone cut s line (is_continued lines)) (class_of after line) located i stated).0 in
-    record { free = is.free; stays = code-stays cut (is_continued lines) after s line (ap is_code stated); ended = is.ended }
-
-pub class-taken : (cut : Bool) (s : Standing) (after : Bool) (line : List ℕ) (lines : List (List ℕ)) (located : Bool) (i : Instr) → class_at after (flagged_at cut s line (is_continued lines)) ≡ Instruction located i →
-    class_of after line ≡ Instruction located i
-class-taken cut s after line lines located i stated = (taken-by (is_alone cut s line (is_continued lines)) (class_of after line) located i stated).1
-
-pub sound-line : (cut : Bool) (s : Standing) (after : Bool) (l : Line) (continued located : Bool) (i : Instr) → l.class ≡ Instruction located i → class_at after (flagged_at cut s l.bytes continued) ≡ Instruction located i → every is_inside l.bytes ≡ true →
-    AreSoundLines cut s.redefined (l ∷ [])
-sound-line cut s after l continued located i is stated inside =
-    let taken = taken-by (is_alone cut s l.bytes continued) (class_of after l.bytes) located i stated in
-    (subst (λ c. IsSoundLine cut s.redefined l.bytes (instr_in c)) (sym is) (sound-entry cut s after l.bytes continued located i taken.0 taken.1 inside), tt)
-
--- WHETHER A LINE IS CONTINUED
-
--- the text of a source that is read so from here on
-abbrev text_from : Bool → Standing → List Line → ℕ → List Placed → ℕ → ℕ → ℕ → List ℕ → Bool → List (List ℕ) → List ℕ
-text_from cut s all n ps number run index label after lines =
-    text_of_lines all n (map block_of (behind (parts_from number run index label after (flagged_from cut s lines)))) ps (classes_from number run index label after (flagged_from cut s lines))
-
--- with `--cut`, what is printed of lines goes on if they do
-abbrev GoesOn : List (List ℕ) → Type 0
-GoesOn lines = (s : Standing) (all : List Line) (n number run index : ℕ) (label : List ℕ) (after : Bool) (ps : List Placed) →
-    let flagged : List Flagged = flagged_from true s lines in
-    AreLinesOfSource true all → every (every is_inside) lines ≡ true → IsLabel label → ArePlaced (map block_of (behind (parts_from number run index label after flagged))) ps →
-    goes_on (text_of_lines all n (map block_of (behind (parts_from number run index label after flagged))) ps (classes_from number run index label after flagged)) ≡ is_continued lines
-
-abbrev GoesOnBy : Class → List ℕ → List (List ℕ) → Type 0
-GoesOnBy c line lines = (s : Standing) (all : List Line) (n number run index : ℕ) (label : List ℕ) (after : Bool) (ps : List Placed) →
-    let flagged : List Flagged = flagged_from true (after_line true s line) lines in
-    class_at after (flagged_at true s line (is_continued lines)) ≡ c → every is_inside line ≡ true →
-    AreLinesOfSource true all → every (every is_inside) lines ≡ true → IsLabel label → ArePlaced (map block_of (behind (parts_by number run index label c line flagged))) ps →
-    goes_on (text_of_lines all n (map block_of (behind (parts_by number run index label c line flagged))) ps (from_class number run index label c line flagged)) ≡ is_continued (line ∷ lines)
-
--- a line that is copied, or left out or moved away
-goes-past : (all : List Line) (n : ℕ) (parts : List (List Line)) (ps : List Placed) (l : Line) (lines : List Line) (later : Bool) → every is_inside l.bytes ≡ true → FirstFrom (suc l.number) parts →
-    goes_on (text_of_lines all n (map block_of parts) ps lines) ≡ later → (is_copied all l ≡ false → is_comment (body l.bytes) ≡ false → later ≡ continues l.bytes) →
-    goes_on (text_of_lines all n (map block_of parts) ps (l ∷ lines)) ≡ (if is_comment (body l.bytes) then later else continues l.bytes)
-goes-past all n parts ps l lines later inside first rest gone = ap goes_on (text-copied all n parts ps l lines first) ∙ by_copied (is_copied all l) refl
-  where
-    text : List ℕ
-    text = text_of_lines all n (map block_of parts) ps lines
-
-    by_copied : (copied : Bool) → is_copied all l ≡ copied → goes_on ((if copied then copied_line l else []) ++ text) ≡ (if is_comment (body l.bytes) then later else continues l.bytes)
-    by_copied true stated = goes-copied l.bytes text inside ∙ ap (λ next. if is_comment (body l.bytes) then next else continues l.bytes) rest
-    by_copied false stated = rest ∙ by_comment (is_comment (body l.bytes)) refl
-      where
-        by_comment : (comment : Bool) → is_comment (body l.bytes) ≡ comment → later ≡ (if comment then later else continues l.bytes)
-        by_comment true is = refl
-        by_comment false is = gone stated is
-
-goes-comment : (line : List ℕ) (lines : List (List ℕ)) → GoesOn lines → GoesOnBy Comment line lines
-goes-comment line lines later s all n number run index label after ps stated inside source insides is placed =
-    let flagged : List Flagged = flagged_from true (after_line true s line) lines in
-    let l : Line = record { number = number; bytes = line; class = Comment; run = run; index = index; label = label } in
-    goes-past all n (behind (parts_from (suc number) run index label false flagged)) ps l (classes_from (suc number) run index label false flagged) (is_continued lines) inside (first-from flagged (suc number) run index label false)
-    (later (after_line true s line) all n (suc number) run index label false ps source insides is placed)
-    (λ left code. absurd (true≢false (sym (comment-line after (is_alone true s line (is_continued lines)) line (ap is_comment_class stated)).1 ∙ code)))
-
-goes-other : (line : List ℕ) (lines : List (List ℕ)) → GoesOn lines → GoesOnBy Other line lines
-goes-other line lines later s all n number run index label after ps stated inside source insides is placed =
-    let flagged : List Flagged = flagged_from true (after_line true s line) lines in
-    let l : Line = record { number = number; bytes = line; class = Other; run = run; index = index; label = label } in
-    goes-past all n (behind (parts_from (suc number) (suc run) 0 [] false flagged)) ps l (classes_from (suc number) (suc run) 0 [] false flagged) (is_continued lines) inside (first-from flagged (suc number) (suc run) 0 [] false)
-    (later (after_line true s line) all n (suc number) (suc run) 0 [] false ps source insides (refl, refl) placed)
-    (λ left code. absurd (true≢false left))
-
--- what is neither left alone nor a comment isn't continued, and continues nothing
-ends-here : (s : Standing) (after : Bool) (line : List ℕ) (lines : List (List ℕ)) → is_code (class_at after (flagged_at true s line (is_continued lines))) ≡ true → is_continued lines ≡ continues line
-ends-here s after line lines code =
-    let is = code-taken (is_alone true s line (is_continued lines)) (class_of after line) code in
-    (taken true s line (is_continued lines) is.0).ended ∙ sym (sym (continues-body line) ∙ (code-line after line is.1).1)
-
--- so no line goes on from it
-goes-no_further : (s : Standing) (after : Bool) (line : List ℕ) (lines : List (List ℕ)) → is_code (class_at after (flagged_at true s line (is_continued lines))) ≡ true → is_continued (line ∷ lines) ≡ false
-goes-no_further s after line lines code =
-    let parts = code-line after line (code-taken (is_alone true s line (is_continued lines)) (class_of after line) code).1 in
-    ap₂ (λ comment comma. if comment then is_continued lines else comma) parts.0 (sym (continues-body line) ∙ parts.1)
-
-goes-pad : (located : Bool) (line : List ℕ) (lines : List (List ℕ)) → GoesOn lines → GoesOnBy (Pad located) line lines
-goes-pad false line lines later s all n number run index label after ps stated inside source insides is placed =
-    let flagged : List Flagged = flagged_from true (after_line true s line) lines in
-    let l : Line = record { number = number; bytes = line; class = Pad false; run = run; index = index; label = label } in
-    goes-past all n (behind (parts_from (suc number) run index label true flagged)) ps l (classes_from (suc number) run index label true flagged) (is_continued lines) inside (first-from flagged (suc number) run index label true)
-    (later (after_line true s line) all n (suc number) run index label true ps source insides is placed)
-    (λ left code. ends-here s after line lines (ap is_code stated))
-goes-pad true line lines later s all n number run index label after ps stated inside source insides is placed =
-    let flagged : List Flagged = flagged_from true (after_line true s line) lines in
-    let new : List ℕ = label_bytes (body line) in
-    let l : Line = record { number = number; bytes = line; class = Pad true; run = suc run; index = 0; label = new } in
-    goes-past all n (behind (parts_from (suc number) (suc run) 0 new true flagged)) ps l (classes_from (suc number) (suc run) 0 new true flagged) (is_continued lines) inside (first-from flagged (suc number) (suc run) 0 new true)
-    (later (after_line true s line) all n (suc number) (suc run) 0 new true ps source insides (located-label after (is_alone true s line (is_continued lines)) line (ap begins_run stated) inside).0 placed)
-    (λ left code. ends-here s after line lines (ap is_code stated))
-
--- an instruction, whether its block begins with it or before
-goes-put : (lines : List (List ℕ)) → GoesOn lines → (stands : Standing) (all : List Line) (n run : ℕ) (l : Line) (located : Bool) (i : Instr) (ps : List Placed) →
-    let flagged : List Flagged = flagged_from true stands lines in
-    l.class ≡ Instruction located i → is_continued lines ≡ false → AreLinesOfSource true all → every (every is_inside) lines ≡ true → IsLabel l.label → AreSoundLines true stands.redefined (l ∷ []) →
-    ArePlaced (map block_of (behind (put_before l (parts_after run l flagged)))) ps →
-    goes_on (text_of_lines all n (map block_of (behind (put_before l (parts_after run l flagged)))) ps (l ∷ lines_after run l flagged)) ≡ false
-goes-put lines later stands all n run l located i ps stated ended source insides is sound placed =
-    let cut_at = behind-put l parts in
-    ap (λ found. goes_on (text_of_lines all n (map block_of found) ps (l ∷ rest))) cut_at
-    ∙ by_begins (begins_block l) ps (subst (λ found. ArePlaced (map block_of found) ps) cut_at placed)
-  where
-    flagged : List Flagged
-    flagged = flagged_from true stands lines
-
-    rest : List Line
-    rest = lines_after run l flagged
-
-    parts : List (List Line)
-    parts = parts_after run l flagged
-
-    by_begins : (begins : Bool) (ps : List Placed) → ArePlaced (map block_of (if begins then parts_at run l flagged else behind parts)) ps →
-        goes_on (text_of_lines all n (map block_of (if begins then parts_at run l flagged else behind parts)) ps (l ∷ rest)) ≡ false
-    by_begins true [] placed = absurd placed
-    by_begins true (p ∷ ps) placed =
-        let block : Block = block_of (l ∷ left parts) in
-        let text : List ℕ = text_of_lines all (suc n) (map block_of (behind parts)) ps rest in
-        ap goes_on (text-first all n block (map block_of (behind parts)) p ps l rest refl)
-        ∙ quiet-block true stands.redefined all n block p text (later stands all (suc n) (suc l.number) run (suc l.index) l.label true ps source insides is placed.1 ∙ ended) source (label-or_none (l.index == 0) l.label is)
-        (sound.0, sound-left true stands.redefined (instructions rest) (sound-instructions true stands lines (suc l.number) run (suc l.index) l.label true insides)) placed.0
-    by_begins false ps placed =
-        ap goes_on (text-copied all n (behind parts) ps l rest (first-from flagged (suc l.number) run (suc l.index) l.label true)
-        ∙ ap (λ copied. copied ++ text_of_lines all n (map block_of (behind parts)) ps rest) (instruction-not_copied all l located i stated))
-        ∙ later stands all n (suc l.number) run (suc l.index) l.label true ps source insides is placed ∙ ended
-
-goes-instruction : (located : Bool) (i : Instr) (line : List ℕ) (lines : List (List ℕ)) → GoesOn lines → GoesOnBy (Instruction located i) line lines
-goes-instruction false i line lines later s all n number run index label after ps stated inside source insides is placed =
-    let l : Line = record { number = number; bytes = line; class = Instruction false i; run = run; index = index; label = label } in
-    let sound = sound-line true s after l (is_continued lines) false i refl stated inside in
-    goes-put lines later (after_line true s line) all n run l false i ps refl (left-by true s after line lines false i stated).ended source insides is
-    (subst (λ known. AreSoundLines true known (l ∷ [])) (sym (same-redefined true s line)) sound) placed
-    ∙ sym (goes-no_further s after line lines (ap is_code stated))
-goes-instruction true i line lines later s all n number run index label after ps stated inside source insides is placed =
-    let new : List ℕ = label_bytes (body line) in
-    let l : Line = record { number = number; bytes = line; class = Instruction true i; run = suc run; index = 0; label = new } in
-    let sound = sound-line true s after l (is_continued lines) true i refl stated inside in
-    goes-put lines later (after_line true s line) all n (suc run) l true i ps refl (left-by true s after line lines true i stated).ended source insides
-    (located-label after (is_alone true s line (is_continued lines)) line (ap begins_run stated) inside).0
-    (subst (λ known. AreSoundLines true known (l ∷ [])) (sym (same-redefined true s line)) sound) placed
-    ∙ sym (goes-no_further s after line lines (ap is_code stated))
-
-refused-none : (number : ℕ) (c : Class) → c ≡ Refused → operand_refusal number c ≡ None → ⊥
-refused-none number Refused is none = cc
-refused-none number Comment is none = cc
-refused-none number Other is none = cc
-refused-none number (Pad located) is none = cc
-refused-none number (Instruction located i) is none = cc
-
-goes-refused : (line : List ℕ) (lines : List (List ℕ)) → GoesOnBy Refused line lines
-goes-refused line lines s all n number run index label after ps stated inside source insides is placed =
-    absurd (refused-none number (class_at after (flagged_at true s line (is_continued lines))) stated (cut_law.none-refused number after (is_continued lines) s line))
-
-goes-class : (c : Class) (line : List ℕ) (lines : List (List ℕ)) → GoesOn lines → GoesOnBy c line lines
-goes-class Comment line lines later = goes-comment line lines later
-goes-class Other line lines later = goes-other line lines later
-goes-class Refused line lines later = goes-refused line lines
-goes-class (Pad located) line lines later = goes-pad located line lines later
-goes-class (Instruction located i) line lines later = goes-instruction located i line lines later
-
-goes-all : (lines : List (List ℕ)) → GoesOn lines
-goes-all [] s all n number run index label after ps source insides is placed = refl
-goes-all (line ∷ lines) s all n number run index label after ps source insides is placed =
-    let both = and_parts (every is_inside line) (every (every is_inside) lines) insides in
-    goes-class (class_at after (flagged_at true s line (is_continued lines))) line lines (goes-all lines) s all n number run index label after ps refl both.0 source both.1 is placed
-
-pub next-same : (cut : Bool) (s : Standing) (lines : List (List ℕ)) (all : List Line) (n : ℕ) (ps : List Placed) (number run index : ℕ) (label : List ℕ) (after : Bool) →
-    AreLinesOfSource cut all → every (every is_inside) lines ≡ true → IsLabel label → ArePlaced (map block_of (behind (parts_from number run index label after (flagged_from cut s lines)))) ps →
-    (cut && goes_on (text_from cut s all n ps number run index label after lines)) ≡ (cut && is_continued lines)
-next-same false s lines all n ps number run index label after source insides is placed = refl
-next-same true s lines all n ps number run index label after source insides is placed = goes-all lines s all n number run index label after ps source insides is placed
-
--- WHAT IS READ
-
--- what has to be known of the state before lines to come, of which this many are left of the begun part: an unlabelled block that
--- begins next stands for itself
-abbrev pub Ready : ℕ → List ℕ → ℕ → SourceState → Type 0
-Ready index label count t = (index % BLOCK_LIMIT ≡ 0 → (if index == 0 then label else []) ≡ [] → Ended t) × (index % BLOCK_LIMIT + count ≡ BLOCK_LIMIT → Ended t)
-
--- these blocks, and then those of the parts in their placed orders
-pub record Follows (parts : List (List Line)) (ps : List Placed) (blocks again : List Block) : Type 0 where
-  pub new : List Block
-  pub whole : again ≡ blocks ++ new
-  pub placed : ArePlacedAgain (map block_of parts) ps new
-
-abbrev pub open_blocks : SourceState → List Block
-open_blocks t = with_open t.blocks t.label t.entries
-
--- the text of these lines, with the blocks of these parts
-abbrev pub read_text : Bool → Standing → SourceState → List Line → ℕ → List (List Line) → List Placed → List Line → Result (List Block) SourceError
-read_text cut s t all n parts ps lines = read_at cut s t (text_of_lines all n (map block_of parts) ps lines)
-
--- the text is read after what stands before these lines
-abbrev pub Reads : Bool → List (List ℕ) → Type 0
-Reads cut lines = (s : Standing) (all : List Line) (n number run index : ℕ) (label : List ℕ) (after : Bool) (ps : List Placed) (t : SourceState) (again : List Block) →
-    let flagged : List Flagged = flagged_from cut s lines in
-    AreLinesOfSource cut all → every (every is_inside) lines ≡ true → refusal (classes_from number run index label after flagged) ≡ None → IsLabel label →
-    ArePlaced (map block_of (behind (parts_from number run index label after flagged))) ps → AreComplete (map block_of (behind (parts_from number run index label after flagged))) ps →
-    Ready index label (length (left (parts_from number run index label after flagged))) t →
-    read_text cut s t all n (behind (parts_from number run index label after flagged)) ps (classes_from number run index label after flagged) ≡ Ok again →
-    Follows (behind (parts_from number run index label after flagged)) ps (open_blocks t) again
-
-abbrev ReadsClass : Bool → Class → List ℕ → List (List ℕ) → Type 0
-ReadsClass cut c line lines = (s : Standing) (all : List Line) (n number run index : ℕ) (label : List ℕ) (after : Bool) (ps : List Placed) (t : SourceState) (again : List Block) →
-    let flagged : List Flagged = flagged_from cut (after_line cut s line) lines in
-    class_at after (flagged_at cut s line (is_continued lines)) ≡ c → every is_inside line ≡ true →
-    AreLinesOfSource cut all → every (every is_inside) lines ≡ true → refusal (from_class number run index label c line flagged) ≡ None → IsLabel label →
-    ArePlaced (map block_of (behind (parts_by number run index label c line flagged))) ps → AreComplete (map block_of (behind (parts_by number run index label c line flagged))) ps →
-    Ready index label (length (left (parts_by number run index label c line flagged))) t →
-    read_text cut s t all n (behind (parts_by number run index label c line flagged)) ps (from_class number run index label c line flagged) ≡ Ok again →
-    Follows (behind (parts_by number run index label c line flagged)) ps (open_blocks t) again
-
--- A LINE THAT IS COPIED, or that is left out
-
 pub rest-taken : (l : Line) (lines : List Line) → refusal (l ∷ lines) ≡ None → refusal lines ≡ None
 rest-taken l lines h = (neither (refusal_at l) (refusal lines) h).1
 
--- the lines after it are read after it, or as if it weren't there
-copied-line : (cut : Bool) (s : Standing) (all : List Line) (n : ℕ) (parts : List (List Line)) (ps : List Placed) (l : Line) (lines : List Line) (after continued : Bool) (t : SourceState) (again : List Block) →
-    class_at after (flagged_at cut s l.bytes continued) ≡ l.class → every is_inside l.bytes ≡ true → operand_refusal l.number l.class ≡ None → FirstFrom (suc l.number) parts →
-    (cut && goes_on (text_of_lines all n (map block_of parts) ps lines)) ≡ (cut && continued) → after_line cut s l.bytes ≡ s → read_text cut s t all n parts ps (l ∷ lines) ≡ Ok again →
-    (read_text cut (after_line cut s l.bytes) t all n parts ps lines ≡ Ok again)
-    ⊎ (and_then (by_class t l.class (label_bytes (body l.bytes)) (from_operation (body l.bytes))) (λ u. read_text cut (after_line cut s l.bytes) u all n parts ps lines) ≡ Ok again)
-copied-line cut s all n parts ps l lines after continued t again stated inside accepted first next stays h =
-    by_copied (is_copied all l) (read-as cut s t _ _ again (text-copied all n parts ps l lines first) h)
+pub none-refused : (number : ℕ) (lines : List Line) (l : Line) → l.class ≡ Refused → refusal (l ∷ lines) ≡ None → ⊥
+none-refused number lines l stated taken = by_class l.class stated (operand-none (l ∷ lines) l taken (inl refl))
   where
-    by_copied : (copied : Bool) → read_at cut s t ((if copied then copied_line l else []) ++ text_of_lines all n (map block_of parts) ps lines) ≡ Ok again →
-        (read_text cut (after_line cut s l.bytes) t all n parts ps lines ≡ Ok again)
-        ⊎ (and_then (by_class t l.class (label_bytes (body l.bytes)) (from_operation (body l.bytes))) (λ u. read_text cut (after_line cut s l.bytes) u all n parts ps lines) ≡ Ok again)
-    by_copied false h = inl (subst (λ stands. read_text cut stands t all n parts ps lines ≡ Ok again) (sym stays) h)
-    by_copied true h =
-        inr (ap (λ c. and_then (by_class t c (label_bytes (body l.bytes)) (from_operation (body l.bytes))) (λ u. read_text cut (after_line cut s l.bytes) u all n parts ps lines)) (sym stated)
-        ∙ read-copied cut s t after continued l.bytes (text_of_lines all n (map block_of parts) ps lines) l.number again inside next (ap (operand_refusal l.number) stated ∙ accepted) h)
+    by_class : (c : Class) → c ≡ Refused → operand_refusal l.number c ≡ None → ⊥
+    by_class Refused is none = cc
+    by_class Comment is none = cc
+    by_class Other is none = cc
+    by_class (Pad located) is none = cc
+    by_class (Instruction located i) is none = cc
 
 -- a comment changes nothing of what stands
 pub stays-comment : (cut : Bool) (s : Standing) (after continued : Bool) (line : List ℕ) → class_at after (flagged_at cut s line continued) ≡ Comment → after_line cut s line ≡ s
@@ -508,213 +279,386 @@ stays-comment cut s after continued line stated =
     let is = taken cut s line continued parts.0 in
     comment-stays cut s line is.free is.unflagged parts.1
 
-reads-comment : (cut : Bool) (line : List ℕ) (lines : List (List ℕ)) → Reads cut lines → ReadsClass cut Comment line lines
-reads-comment cut line lines reads s all n number run index label after ps t again stated inside source insides taken is placed complete ready h =
-    let stands : Standing = after_line cut s line in
-    let flagged : List Flagged = flagged_from cut stands lines in
-    let l : Line = record { number = number; bytes = line; class = Comment; run = run; index = index; label = label } in
-    let rest : List Line = classes_from (suc number) run index label false flagged in
-    let parts : List (List Line) = behind (parts_from (suc number) run index label false flagged) in
-    elim (copied-line cut s all n parts ps l rest after (is_continued lines) t again stated inside refl (first-from flagged (suc number) run index label false)
-    (next-same cut stands lines all n ps (suc number) run index label false source insides is placed) (stays-comment cut s after (is_continued lines) line stated) h) [
-      | inl kept ↦ reads stands all n (suc number) run index label false ps t again source insides (rest-taken l rest taken) is placed complete ready kept
-      | inr step ↦ reads stands all n (suc number) run index label false ps (count_line false t) again source insides (rest-taken l rest taken) is placed complete ready step
-    ]
+module _ (cut quiet : Bool) (columns : Columns) (known : Redefined) (all : List Line) (texts : List (Option (List ℕ))) (source : AreLinesOfSource cut all) (ends : EndsTexts cut texts) where
+  -- the text of lines is read after what stands before them
+  abbrev pub Reads : List (List ℕ) → Type 0
+  Reads lines = (stands : Bool) (s : Standing) (number run index m : ℕ) (label : List ℕ) (after : Bool) (given : List (Option Placed)) (t : SourceState) (again : List Block) →
+      let flagged : List Flagged = flagged_from cut s lines in
+      let found : List (List Line) = parts_from number run index label after flagged in
+      every (every is_inside) lines ≡ true → s.redefined ≡ known → refusal (classes_from number run index label after flagged) ≡ None → AreTold all m (classes_from number run index label after flagged) →
+      AreDue cut quiet columns known all texts m (map block_of (behind found)) given → Ready stands texts m index label (length (left found)) (opened t) →
+      read_at cut s t (replaced all texts (classes_from number run index label after flagged)) ≡ Ok again → IsReadOn stands (left found) (behind found) given (opened t) again
 
-reads-pad : (cut : Bool) (line : List ℕ) (lines : List (List ℕ)) → Reads cut lines → ReadsClass cut (Pad false) line lines
-reads-pad cut line lines reads s all n number run index label after ps t again stated inside source insides taken is placed complete ready h =
-    let stands : Standing = after_line cut s line in
-    let flagged : List Flagged = flagged_from cut stands lines in
-    let l : Line = record { number = number; bytes = line; class = Pad false; run = run; index = index; label = label } in
-    let rest : List Line = classes_from (suc number) run index label true flagged in
-    let parts : List (List Line) = behind (parts_from (suc number) run index label true flagged) in
-    elim (copied-line cut s all n parts ps l rest after (is_continued lines) t again stated inside refl (first-from flagged (suc number) run index label true)
-    (next-same cut stands lines all n ps (suc number) run index label true source insides is placed) (code-stays cut (is_continued lines) after s line (ap is_code stated)) h) [
-      | inl kept ↦ reads stands all n (suc number) run index label true ps t again source insides (rest-taken l rest taken) is placed complete ready kept
-      | inr step ↦ reads stands all n (suc number) run index label true ps (count_line true t) again source insides (rest-taken l rest taken) is placed complete ready step
-    ]
+  abbrev ReadsClass : Class → List ℕ → List (List ℕ) → Type 0
+  ReadsClass c line lines = (stands : Bool) (s : Standing) (number run index m : ℕ) (label : List ℕ) (after : Bool) (given : List (Option Placed)) (t : SourceState) (again : List Block) →
+      let flagged : List Flagged = flagged_from cut (after_line cut s line) lines in
+      let found : List (List Line) = parts_by number run index label c line flagged in
+      class_at after (flagged_at cut s line (is_continued lines)) ≡ c → every is_inside line ≡ true → every (every is_inside) lines ≡ true → (after_line cut s line).redefined ≡ known →
+      refusal (from_class number run index label c line flagged) ≡ None → AreTold all m (from_class number run index label c line flagged) →
+      AreDue cut quiet columns known all texts m (map block_of (behind found)) given → Ready stands texts m index label (length (left found)) (opened t) →
+      read_at cut s t (replaced all texts (from_class number run index label c line flagged)) ≡ Ok again → IsReadOn stands (left found) (behind found) given (opened t) again
 
--- if a run begins with a label, nothing has to be known of the state
-ready-labelled : (lines : List Flagged) (number run : ℕ) (label : List ℕ) (after : Bool) (t : SourceState) → is_filled label ≡ true → Ready 0 label (length (left (parts_from number run 0 label after lines))) t
-ready-labelled lines number run label after t some =
-    let none = ap (λ (ls : List Line). length ls) (none-left lines number run 0 label after refl) in
-    (λ here empty. absurd (true≢false (sym some ∙ ap is_filled empty)), λ all. absurd (omega (arith, none, all)))
+  -- A LINE THAT IS COPIED, or of which nothing is printed
 
-reads-labelled_pad : (cut : Bool) (line : List ℕ) (lines : List (List ℕ)) → Reads cut lines → ReadsClass cut (Pad true) line lines
-reads-labelled_pad cut line lines reads s all n number run index label after ps t again stated inside source insides taken is placed complete ready h =
-    let stands : Standing = after_line cut s line in
-    let flagged : List Flagged = flagged_from cut stands lines in
-    let new : List ℕ = label_bytes (body line) in
-    let l : Line = record { number = number; bytes = line; class = Pad true; run = suc run; index = 0; label = new } in
-    let rest : List Line = classes_from (suc number) (suc run) 0 new true flagged in
-    let parts : List (List Line) = behind (parts_from (suc number) (suc run) 0 new true flagged) in
-    let fresh_label = located-label after (is_alone cut s line (is_continued lines)) line (ap begins_run stated) inside in
-    elim (copied-line cut s all n parts ps l rest after (is_continued lines) t again stated inside refl (first-from flagged (suc number) (suc run) 0 new true)
-    (next-same cut stands lines all n ps (suc number) (suc run) 0 new true source insides fresh_label.0 placed) (code-stays cut (is_continued lines) after s line (ap is_code stated)) h) [
-      | inl kept ↦
-          reads stands all n (suc number) (suc run) 0 new true ps t again source insides (rest-taken l rest taken) fresh_label.0 placed complete (ready-labelled flagged (suc number) (suc run) new true t fresh_label.1) kept
-      | inr step ↦
-          reads stands all n (suc number) (suc run) 0 new true ps (count_line true (begin_run new t)) again source insides (rest-taken l rest taken) fresh_label.0 placed complete
-          (ready-labelled flagged (suc number) (suc run) new true (count_line true (begin_run new t)) fresh_label.1) step
-    ]
+  kept-line : (s : Standing) (l : Line) (rest : List Line) (after continued : Bool) (t : SourceState) (again : List Block) → class_at after (flagged_at cut s l.bytes continued) ≡ l.class → every is_inside l.bytes ≡ true → operand_refusal l.number l.class ≡ None →
+      (cut && goes_on (replaced all texts rest)) ≡ (cut && continued) → text_at all texts l ≡ copied_line l → read_at cut s t (replaced all texts (l ∷ rest)) ≡ Ok again →
+      and_then (by_class t l.class (label_bytes (body l.bytes)) (from_operation (body l.bytes))) (λ u. read_at cut (after_line cut s l.bytes) u (replaced all texts rest)) ≡ Ok again
+  kept-line s l rest after continued t again stated inside accepted next kept h =
+      ap (λ c. and_then (by_class t c (label_bytes (body l.bytes)) (from_operation (body l.bytes))) (λ u. read_at cut (after_line cut s l.bytes) u (replaced all texts rest))) (sym stated)
+      ∙ read-copied cut s t after continued l.bytes (replaced all texts rest) l.number again inside next (ap (operand_refusal l.number) stated ∙ accepted)
+      (read-as cut s t _ _ again (ap (λ here. here ++ replaced all texts rest) kept) h)
 
-reads-other : (cut : Bool) (line : List ℕ) (lines : List (List ℕ)) → Reads cut lines → ReadsClass cut Other line lines
-reads-other cut line lines reads s all n number run index label after ps t again stated inside source insides taken is placed complete ready h =
-    let stands : Standing = after_line cut s line in
-    let flagged : List Flagged = flagged_from cut stands lines in
-    let l : Line = record { number = number; bytes = line; class = Other; run = run; index = index; label = label } in
-    let rest : List Line = classes_from (suc number) (suc run) 0 [] false flagged in
-    let parts : List (List Line) = behind (parts_from (suc number) (suc run) 0 [] false flagged) in
-    let text : List ℕ = text_of_lines all n (map block_of parts) ps rest in
-    let copied : read_at cut s t ((body line ++ codes "\n") ++ text) ≡ Ok again =
-    read-as cut s t _ _ again (text-copied all n parts ps l rest (first-from flagged (suc number) (suc run) 0 [] false)) h in
-    let step = read-copied cut s t after (is_continued lines) line text number again inside (next-same cut stands lines all n ps (suc number) (suc run) 0 [] false source insides (refl, refl) placed) (ap (operand_refusal number) stated) copied in
-    reads stands all n (suc number) (suc run) 0 [] false ps (count_line false (end_block t)) again source insides (rest-taken l rest taken) (refl, refl) placed complete (λ here empty. (refl, refl), λ all. (refl, refl))
-    (ap (λ c. and_then (by_class t c (label_bytes (body line)) (from_operation (body line))) (λ u. read_at cut stands u text)) (sym stated) ∙ step)
+  gone-line : (s : Standing) (l : Line) (rest : List Line) (t : SourceState) (again : List Block) → text_at all texts l ≡ [] → after_line cut s l.bytes ≡ s → read_at cut s t (replaced all texts (l ∷ rest)) ≡ Ok again →
+      read_at cut (after_line cut s l.bytes) t (replaced all texts rest) ≡ Ok again
+  gone-line s l rest t again gone stays h =
+      subst (λ stands. read_at cut stands t (replaced all texts rest) ≡ Ok again) (sym stays) (read-as cut s t _ _ again (ap (λ here. here ++ replaced all texts rest) gone) h)
 
--- AN INSTRUCTION
+  reads-comment : (line : List ℕ) (lines : List (List ℕ)) → Reads lines → ReadsClass Comment line lines
+  reads-comment line lines reads stands s number run index m label after given t again stated inside insides same taken told due ready h =
+      let l : Line = record { number = number; bytes = line; class = Comment; run = run; index = index; label = label } in
+      let rest : List Line = classes_from (suc number) run index label false (flagged_from cut (after_line cut s line) lines) in
+      elim (plain-text all texts l told.0.begins) [
+        | inl kept ↦
+            reads stands (after_line cut s line) (suc number) run index m label false given (count_line false t) again insides same (rest-taken l rest taken) told.1 due ready
+            (kept-line s l rest after (is_continued lines) t again stated inside refl (next-same cut all texts ends (after_line cut s line) lines (suc number) run index m label false insides told.1) kept h)
+        | inr gone ↦
+            reads stands (after_line cut s line) (suc number) run index m label false given t again insides same (rest-taken l rest taken) told.1 due ready
+            (gone-line s l rest t again gone (stays-comment cut s after (is_continued lines) line stated) h)
+      ]
 
--- one block more, and then the others
-one-more : (blocks later again new : List Block) (made : Block) → later ≡ blocks ++ made ∷ [] → again ≡ later ++ new → again ≡ blocks ++ made ∷ new
-one-more blocks later again new made h k = k ∙ ap (λ bs. bs ++ new) h ∙ append_assoc blocks (made ∷ []) new
+  reads-pad : (line : List ℕ) (lines : List (List ℕ)) → Reads lines → ReadsClass (Pad false) line lines
+  reads-pad line lines reads stands s number run index m label after given t again stated inside insides same taken told due ready h =
+      let l : Line = record { number = number; bytes = line; class = Pad false; run = run; index = index; label = label } in
+      let rest : List Line = classes_from (suc number) run index label true (flagged_from cut (after_line cut s line) lines) in
+      elim (plain-text all texts l told.0.begins) [
+        | inl kept ↦
+            reads stands (after_line cut s line) (suc number) run index m label true given (count_line true t) again insides same (rest-taken l rest taken) told.1 due ready
+            (kept-line s l rest after (is_continued lines) t again stated inside refl (next-same cut all texts ends (after_line cut s line) lines (suc number) run index m label true insides told.1) kept h)
+        | inr gone ↦
+            reads stands (after_line cut s line) (suc number) run index m label true given t again insides same (rest-taken l rest taken) told.1 due ready
+            (gone-line s l rest t again gone (left-by cut s after line lines (ap is_code stated)).stays h)
+      ]
 
--- the first of a block
-reads-first : (cut : Bool) (lines : List (List ℕ)) → Reads cut lines → (s stands : Standing) (all : List Line) (n run : ℕ) (l : Line) (ps : List Placed) (t : SourceState) (again : List Block) →
-    let flagged : List Flagged = flagged_from cut stands lines in
-    IsLeft cut s stands lines → AreLinesOfSource cut all → every (every is_inside) lines ≡ true → refusal (lines_after run l flagged) ≡ None → IsLabel l.label → l.index % BLOCK_LIMIT ≡ 0 → AreSoundLines cut s.redefined (l ∷ []) →
-    ((if l.index == 0 then l.label else []) ≡ [] → Ended t) →
-    ArePlaced (map block_of (parts_at run l flagged)) ps →
-    AreComplete (map block_of (parts_at run l flagged)) ps →
-    read_text cut s t all n (parts_at run l flagged) ps (l ∷ lines_after run l flagged) ≡ Ok again →
-    Follows (parts_at run l flagged) ps (open_blocks t) again
-reads-first cut lines reads s stands all n run l [] t again left_by source insides taken is begins sound new placed complete h = absurd placed
-reads-first cut lines reads s stands all n run l (p ∷ ps) t again left_by source insides taken is begins sound new placed complete h =
-    let flagged : List Flagged = flagged_from cut stands lines in
-    let rest : List Line = lines_after run l flagged in
-    let parts : List (List Line) = parts_after run l flagged in
-    let block : Block = block_of (l ∷ left parts) in
-    let text : List ℕ = text_of_lines all (suc n) (map block_of (behind parts)) ps rest in
-    let next : suc l.index % BLOCK_LIMIT ≡ 1 = next-index l.index 0 begins (λ same. absurd (omega (arith, same))) in
-    let fits = fits-all flagged (suc l.number) run (suc l.index) l.label true in
-    let count : length (map entry_of (left parts)) ≡ length (left parts) = length-map (left parts) entry_of in
-    let quiet : IsQuiet cut text = next-same cut stands lines all (suc n) ps (suc l.number) run (suc l.index) l.label true source insides is placed.1 ∙ left_by.ended in
-    let a = read-block cut s all n block p t text again left_by.free quiet source (label-or_none (l.index == 0) l.label is) new (
-      sound.0,
-      sound-left cut s.redefined (instructions rest)
-          (subst (λ (t : Standing). AreSoundLines cut t.redefined (instructions rest)) left_by.stays (sound-instructions cut stands lines (suc l.number) run (suc l.index) l.label true insides)),
-    ) placed.0
-    (omega (arith, complete.0)) (omega (arith, complete.0, fits, next, count))
-    (read-as cut s t _ _ again (text-first all n block (map block_of (behind parts)) p ps l rest refl) h) in
-    let f = reads stands all (suc n) (suc l.number) run (suc l.index) l.label true ps a.state again source insides taken is placed.1 complete.1
-    (λ here empty. absurd (omega (arith, next, here)), λ all. a.full (omega (arith, all, next, count, complete.0)))
-    (subst (λ u. read_at cut u a.state text ≡ Ok again) (sym left_by.stays) a.read) in
-    record {
-      new = a.made ∷ f.new;
-      whole = one-more (open_blocks t) (open_blocks a.state) again f.new a.made a.whole f.whole;
-      placed = (a.placed, f.placed);
-    }
+  -- a run that begins with a label, and of which no instruction came
+  ready-labelled : (lines : List Flagged) (number run m : ℕ) (label : List ℕ) (after : Bool) (t : SourceState) → is_filled label ≡ true → (get_or texts m None ≡ None → (t.entries ≡ []) × (t.label ≡ label)) →
+      Ready false texts m 0 label (length (left (parts_from number run 0 label after lines))) (opened t)
+  ready-labelled lines number run m label after t some new =
+      let none = ap (λ (ls : List Line). length ls) (none-left lines number run 0 label after refl) in
+      (λ here. (λ empty. absurd (true≢false (sym some ∙ ap is_filled empty)), new), λ within. absurd (within refl), λ all. absurd (omega (arith, none, all)))
 
--- one more of a block, which is printed before it
-ready-more : (lines : List Flagged) (number run index count : ℕ) (label : List ℕ) (t : SourceState) → (index % BLOCK_LIMIT ≡ 0 → ⊥) → count ≡ suc (length (left (parts_from number run (suc index) label true lines))) → Ready index label count t →
-    Ready (suc index) label (length (left (parts_from number run (suc index) label true lines))) t
-ready-more lines number run index count label t inside one ready = by_full (eqb (suc (index % BLOCK_LIMIT)) BLOCK_LIMIT) refl
-  where
-    by_full : (full : Bool) → eqb (suc (index % BLOCK_LIMIT)) BLOCK_LIMIT ≡ full → Ready (suc index) label (length (left (parts_from number run (suc index) label true lines))) t
-    by_full true stated =
-        let all = eqb-true (suc (index % BLOCK_LIMIT)) BLOCK_LIMIT stated in
-        let begins = full-index index (index % BLOCK_LIMIT) refl all in
-        let none = ap (λ (ls : List Line). length ls) (none-left lines number run (suc index) label true begins) in
-        (λ here empty. ready.1 (omega (arith, all, none, one)), λ many. absurd (omega (arith, begins, none, many)))
-    by_full false stated =
-        let next = next-index index (index % BLOCK_LIMIT) refl (eqb-false (suc (index % BLOCK_LIMIT)) BLOCK_LIMIT stated) in
-        (λ here empty. absurd (omega (arith, next, here)), λ many. ready.1 (omega (arith, next, many, one)))
+  reads-labelled_pad : (line : List ℕ) (lines : List (List ℕ)) → Reads lines → ReadsClass (Pad true) line lines
+  reads-labelled_pad line lines reads stands s number run index m label after given t again stated inside insides same taken told due ready h =
+      subst (λ ls. IsReadOn stands ls (behind found) given (opened t) again) (sym (none-left flagged (suc number) (suc run) 0 new true refl))
+      (ended stands texts m index label (length (left found)) (behind found) given (opened t) again ready (by_next (get_or texts m None) refl))
+    where
+      flagged : List Flagged
+      flagged = flagged_from cut (after_line cut s line) lines
 
--- one instruction, whether its block begins with it or before
-reads-put : (cut : Bool) (lines : List (List ℕ)) → Reads cut lines → (s stands : Standing) (all : List Line) (n run : ℕ) (l : Line) (located : Bool) (i : Instr) (ps : List Placed) (t : SourceState) (again : List Block) →
-    let flagged : List Flagged = flagged_from cut stands lines in
-    l.class ≡ Instruction located i → IsLeft cut s stands lines →
-    AreLinesOfSource cut all → every (every is_inside) lines ≡ true → refusal (lines_after run l flagged) ≡ None → IsLabel l.label → AreSoundLines cut s.redefined (l ∷ []) →
-    (l.index % BLOCK_LIMIT ≡ 0 → (if l.index == 0 then l.label else []) ≡ [] → Ended t) →
-    ((l.index % BLOCK_LIMIT ≡ 0 → ⊥) → Ready (suc l.index) l.label (length (left (parts_after run l flagged))) t) →
-    ArePlaced (map block_of (behind (put_before l (parts_after run l flagged)))) ps →
-    AreComplete (map block_of (behind (put_before l (parts_after run l flagged)))) ps →
-    read_text cut s t all n (behind (put_before l (parts_after run l flagged))) ps (l ∷ lines_after run l flagged) ≡ Ok again →
-    Follows (behind (put_before l (parts_after run l flagged))) ps (open_blocks t) again
-reads-put cut lines reads s stands all n run l located i ps t again stated left_by source insides taken is sound new more placed complete h =
-    let cut_at = behind-put l parts in
-    subst (λ found. Follows found ps (open_blocks t) again) (sym cut_at)
-    (by_begins (begins_block l) refl (subst (λ found. ArePlaced (map block_of found) ps) cut_at placed) (subst (λ found. AreComplete (map block_of found) ps) cut_at complete)
-    (subst (λ found. read_text cut s t all n found ps (l ∷ rest) ≡ Ok again) cut_at h))
-  where
-    flagged : List Flagged
-    flagged = flagged_from cut stands lines
+      new : List ℕ
+      new = label_bytes (body line)
 
-    rest : List Line
-    rest = lines_after run l flagged
+      found : List (List Line)
+      found = parts_from (suc number) (suc run) 0 new true flagged
 
-    parts : List (List Line)
-    parts = parts_after run l flagged
+      l : Line
+      l = record { number = number; bytes = line; class = Pad true; run = suc run; index = 0; label = new }
 
-    by_begins : (begins : Bool) → begins_block l ≡ begins →
-        ArePlaced (map block_of (if begins then parts_at run l flagged else behind parts)) ps →
-        AreComplete (map block_of (if begins then parts_at run l flagged else behind parts)) ps →
-        read_text cut s t all n (if begins then parts_at run l flagged else behind parts) ps (l ∷ rest) ≡ Ok again →
-        Follows (if begins then parts_at run l flagged else behind parts) ps (open_blocks t) again
-    by_begins true here placed complete h =
-        let at = eqb-true (l.index % BLOCK_LIMIT) 0 here in
-        reads-first cut lines reads s stands all n run l ps t again left_by source insides taken is at sound (new at) placed complete h
-    by_begins false here placed complete h =
-        reads stands all n (suc l.number) run (suc l.index) l.label true ps t again source insides taken is placed complete (more (eqb-false (l.index % BLOCK_LIMIT) 0 here))
-        (subst (λ u. read_text cut u t all n (behind parts) ps rest ≡ Ok again) (sym left_by.stays)
-        (read-as cut s t _ _ again
-        (text-copied all n (behind parts) ps l rest (first-from flagged (suc l.number) run (suc l.index) l.label true)
-        ∙ ap (λ copied. copied ++ text_of_lines all n (map block_of (behind parts)) ps rest) (instruction-not_copied all l located i stated)) h))
+      rest : List Line
+      rest = classes_from (suc number) (suc run) 0 new true flagged
 
-reads-instruction : (cut : Bool) (i : Instr) (line : List ℕ) (lines : List (List ℕ)) → Reads cut lines → ReadsClass cut (Instruction false i) line lines
-reads-instruction cut i line lines reads s all n number run index label after ps t again stated inside source insides taken is placed complete ready h =
-    let stands : Standing = after_line cut s line in
-    let flagged : List Flagged = flagged_from cut stands lines in
-    let l : Line = record { number = number; bytes = line; class = Instruction false i; run = run; index = index; label = label } in
-    let rest : List Line = classes_from (suc number) run (suc index) label true flagged in
-    let parts : List (List Line) = parts_from (suc number) run (suc index) label true flagged in
-    let one : (index % BLOCK_LIMIT ≡ 0 → ⊥) → length (left (put_before l parts)) ≡ suc (length (left parts)) =
-    λ later. ap (λ (ls : List Line). length ls) (left-put l parts ∙ ap (λ begins. if begins then [] else l ∷ left parts) (ne_eqb (index % BLOCK_LIMIT) 0 (λ at. absurd (later at)))) in
-    reads-put cut lines reads s stands all n run l false i ps t again refl (left-by cut s after line lines false i stated) source insides (rest-taken l rest taken) is
-    (sound-line cut s after l (is_continued lines) false i refl stated inside) ready.0
-    (λ later. ready-more flagged (suc number) run index (length (left (put_before l parts))) label t later (one later) ready) placed complete h
+      filled : is_filled new ≡ true
+      filled = (located-label after (is_alone cut s line (is_continued lines)) line (ap begins_run stated) inside).1
 
-reads-labelled : (cut : Bool) (i : Instr) (line : List ℕ) (lines : List (List ℕ)) → Reads cut lines → ReadsClass cut (Instruction true i) line lines
-reads-labelled cut i line lines reads s all n number run index label after ps t again stated inside source insides taken is placed complete ready h =
-    let stands : Standing = after_line cut s line in
-    let flagged : List Flagged = flagged_from cut stands lines in
-    let new : List ℕ = label_bytes (body line) in
-    let l : Line = record { number = number; bytes = line; class = Instruction true i; run = suc run; index = 0; label = new } in
-    let rest : List Line = classes_from (suc number) (suc run) 1 new true flagged in
-    let fresh_label = located-label after (is_alone cut s line (is_continued lines)) line (ap begins_run stated) inside in
-    reads-put cut lines reads s stands all n (suc run) l true i ps t again refl (left-by cut s after line lines true i stated) source insides (rest-taken l rest taken) fresh_label.0
-    (sound-line cut s after l (is_continued lines) true i refl stated inside)
-    (λ here empty. absurd (true≢false (sym fresh_label.1 ∙ ap is_filled empty))) (λ later. absurd (later refl)) placed complete h
+      kept-so : text_at all texts l ≡ copied_line l → Follows (behind found) given (open_blocks (opened t)) again
+      kept-so kept =
+          reads false (after_line cut s line) (suc number) (suc run) 0 m new true given (count_line true (begin_run new t)) again insides same (rest-taken l rest taken) told.1 due
+          (ready-labelled flagged (suc number) (suc run) m new true (count_line true (begin_run new t)) filled (λ none. (refl, refl)))
+          (kept-line s l rest after (is_continued lines) t again stated inside refl (next-same cut all texts ends (after_line cut s line) lines (suc number) (suc run) 0 m new true insides told.1) kept h)
 
--- ALL LINES
+      by_next : (next : Option (List ℕ)) → get_or texts m None ≡ next → Follows (behind found) given (open_blocks (opened t)) again
+      by_next None is = kept-so (pad-text all texts l m refl refl told.0.begun is)
+      by_next (Some text) is =
+          elim (plain-text all texts l told.0.begins) [
+            | inl kept ↦ kept-so kept
+            | inr gone ↦
+                reads false (after_line cut s line) (suc number) (suc run) 0 m new true given t again insides same (rest-taken l rest taken) told.1 due
+                (ready-labelled flagged (suc number) (suc run) m new true t filled (λ none. some-none text (sym is ∙ none)))
+                (gone-line s l rest t again gone (left-by cut s after line lines (ap is_code stated)).stays h)
+          ]
+        where
+          some-none : {X : Type 0} (text : List ℕ) → Some text ≡ None → X
+          some-none text h = cc
 
-pub none-refused : (number : ℕ) (lines : List Line) (l : Line) → l.class ≡ Refused → refusal (l ∷ lines) ≡ None → ⊥
-none-refused number lines l stated taken = refused-none l.number l.class stated (operand-none (l ∷ lines) l taken (inl refl))
+  reads-other : (line : List ℕ) (lines : List (List ℕ)) → Reads lines → ReadsClass Other line lines
+  reads-other line lines reads stands s number run index m label after given t again stated inside insides same taken told due ready h =
+      let flagged : List Flagged = flagged_from cut (after_line cut s line) lines in
+      let found : List (List Line) = parts_from (suc number) (suc run) 0 [] false flagged in
+      let l : Line = record { number = number; bytes = line; class = Other; run = run; index = index; label = label } in
+      let rest : List Line = classes_from (suc number) (suc run) 0 [] false flagged in
+      let u : SourceState = count_line false (end_block t) in
+      let f : Follows (behind found) given (open_blocks (opened u)) again =
+      reads false (after_line cut s line) (suc number) (suc run) 0 m [] false given u again insides same (rest-taken l rest taken) told.1 due (λ here. (λ empty. (refl, refl), λ none. (refl, refl)), λ within. absurd (within refl), λ all. (refl, refl))
+      (kept-line s l rest after (is_continued lines) t again stated inside refl (next-same cut all texts ends (after_line cut s line) lines (suc number) (suc run) 0 m [] false insides told.1) (other-text all texts l refl) h) in
+      subst (λ ls. IsReadOn stands ls (behind found) given (opened t) again) (sym (none-left flagged (suc number) (suc run) 0 [] false refl))
+      (ended stands texts m index label (length (left found)) (behind found) given (opened t) again ready f)
 
-reads-class : (cut : Bool) (c : Class) (line : List ℕ) (lines : List (List ℕ)) → Reads cut lines → ReadsClass cut c line lines
-reads-class cut Comment line lines reads = reads-comment cut line lines reads
-reads-class cut Other line lines reads = reads-other cut line lines reads
-reads-class cut Refused line lines reads = λ s all n number run index label after ps t again stated inside source insides taken is placed complete ready h.
-    absurd (none-refused number (classes_from (suc number) run index label false (flagged_from cut (after_line cut s line) lines))
-    (record { number = number; bytes = line; class = Refused; run = run; index = index; label = label }) refl taken)
-reads-class cut (Pad true) line lines reads = reads-labelled_pad cut line lines reads
-reads-class cut (Pad false) line lines reads = reads-pad cut line lines reads
-reads-class cut (Instruction true i) line lines reads = reads-labelled cut i line lines reads
-reads-class cut (Instruction false i) line lines reads = reads-instruction cut i line lines reads
+  -- AN INSTRUCTION OF A BLOCK THAT STANDS, after as much of it as is open
 
-pub reads-all : (cut : Bool) (lines : List (List ℕ)) → Reads cut lines
-reads-all cut [] s all n number run index label after [] t again source insides taken is placed complete ready h =
-    record { new = []; whole = same-blocks again (open_blocks t) (Ok (open_blocks t)) h refl ∙ sym (append-nil (open_blocks t)); placed = tt }
-reads-all cut [] s all n number run index label after (p ∷ ps) t again source insides taken is placed complete ready h = absurd placed
-reads-all cut (line ∷ lines) s all n number run index label after ps t again source insides taken is placed complete ready h =
-    let both = and_parts (every is_inside line) (every (every is_inside) lines) insides in
-    reads-class cut (class_at after (flagged_at cut s line (is_continued lines))) line lines (reads-all cut lines) s all n number run index label after ps t again refl both.0 source both.1 taken is placed complete ready h
+  stands-on : (lines : List (List ℕ)) → Reads lines → (s : Standing) (run m : ℕ) (l : Line) (located : Bool) (i : Instr) (given : List (Option Placed)) (u : SourceState) (again : List Block) →
+      let flagged : List Flagged = flagged_from cut s lines in
+      l.class ≡ Instruction located i → every (every is_inside) lines ≡ true → s.redefined ≡ known → refusal (lines_after run l flagged) ≡ None → AreTold all m (lines_after run l flagged) →
+      AreDue cut quiet columns known all texts m (map block_of (behind (parts_after run l flagged))) given → text_for texts m ≡ None → l.index % BLOCK_LIMIT ≡ length u.entries →
+      and_then (by_class u (Instruction false i) (label_bytes (body l.bytes)) (from_operation (body l.bytes))) (λ v. read_at cut s v (replaced all texts (lines_after run l flagged))) ≡ Ok again →
+      Resumes (l ∷ left (parts_after run l flagged)) (behind (parts_after run l flagged)) given (opened u) again
+  stands-on lines reads s run m l located i given u again stated insides same taken told due none at h = by_full (eqb (length (u.entries ++ e ∷ [])) BLOCK_LIMIT) refl h
+    where
+      flagged : List Flagged
+      flagged = flagged_from cut s lines
+
+      found : List (List Line)
+      found = parts_after run l flagged
+
+      rest : List Line
+      rest = lines_after run l flagged
+
+      e : Entry
+      e = record { instr = i; line = suc u.count; bytes = from_operation (body l.bytes) }
+
+      instr : e.instr ≡ instr_in l.class
+      instr = sym (ap instr_in stated)
+
+      by_full : (full : Bool) → eqb (length (u.entries ++ e ∷ [])) BLOCK_LIMIT ≡ full → read_at cut s (count_line true (if full then end_block (with_one e u) else with_one e u)) (replaced all texts rest) ≡ Ok again →
+          Resumes (l ∷ left found) (behind found) given (opened u) again
+      by_full true full h =
+          let v : SourceState = count_line true (end_block (with_one e u)) in
+          let made : Block = labelled u.label (u.entries ++ e ∷ []) in
+          let many = sym (length-push u.entries e) ∙ eqb-true (length (u.entries ++ e ∷ [])) BLOCK_LIMIT full in
+          let begins = full-index l.index (length u.entries) at many in
+          let empty = none-left flagged (suc l.number) run (suc l.index) l.label true begins in
+          let all_read : u.entries ++ e ∷ [] ≡ (u.entries ++ e ∷ []) ++ map entry_of (left found) = sym (ap (λ ls. (u.entries ++ e ∷ []) ++ map entry_of ls) empty ∙ append-nil (u.entries ++ e ∷ [])) in
+          let f : Follows (behind found) given (open_blocks (opened v)) again =
+          reads false s (suc l.number) run (suc l.index) m l.label true given v again insides same taken told due
+          (λ here. (λ none. (refl, refl), λ next. (refl, sym (ap (λ t. if t then l.label else []) (eqb-suc-zero l.index)))), λ within. absurd (within begins), λ all. (refl, refl)) h in
+          record {
+            made = made;
+            new = f.new;
+            whole = one-more u.blocks (open_blocks (opened v)) again f.new made (with_open-push u.blocks u.label u.entries e) f.whole;
+            same = record {
+              label = refl;
+              instrs = ap (map (λ (e : Entry). e.instr)) all_read ∙ swap (λ (e : Entry). e.instr) u.entries e (entry_of l) (map entry_of (left found)) instr;
+              bytes = ap (map (λ (e : Entry). e.bytes)) all_read ∙ swap (λ (e : Entry). e.bytes) u.entries e (entry_of l) (map entry_of (left found)) refl;
+            };
+            placed = f.placed;
+          }
+      by_full false full h =
+          let v : SourceState = count_line true (with_one e u) in
+          let count = length-push u.entries e in
+          let few : suc (length u.entries) ≡ BLOCK_LIMIT → ⊥ = λ many. eqb-false (length (u.entries ++ e ∷ [])) BLOCK_LIMIT full (count ∙ many) in
+          let r : Resumes (left found) (behind found) given (opened v) again =
+          reads true s (suc l.number) run (suc l.index) m l.label true given v again insides same taken told due (next-index l.index (length u.entries) at few ∙ sym count, omega (arith, count), none) h in
+          record {
+            made = r.made;
+            new = r.new;
+            whole = r.whole;
+            same = record {
+              label = r.same.label;
+              instrs = r.same.instrs ∙ swap (λ (e : Entry). e.instr) u.entries e (entry_of l) (map entry_of (left found)) instr;
+              bytes = r.same.bytes ∙ swap (λ (e : Entry). e.bytes) u.entries e (entry_of l) (map entry_of (left found)) refl;
+            };
+            placed = r.placed;
+          }
+
+  -- THE FIRST INSTRUCTION OF A BLOCK
+
+  reads-first : (lines : List (List ℕ)) → Reads lines → (s : Standing) (run m : ℕ) (l : Line) (located : Bool) (i : Instr) (after : Bool) (given : List (Option Placed)) (t : SourceState) (again : List Block) →
+      let flagged : List Flagged = flagged_from cut (after_line cut s l.bytes) lines in
+      l.class ≡ Instruction located i → class_at after (flagged_at cut s l.bytes (is_continued lines)) ≡ Instruction located i → every is_inside l.bytes ≡ true → every (every is_inside) lines ≡ true → (after_line cut s l.bytes).redefined ≡ known →
+      refusal (lines_after run l flagged) ≡ None → IsTold all l true (suc m) → AreTold all (suc m) (lines_after run l flagged) → AreDue cut quiet columns known all texts m (map block_of (parts_at run l flagged)) given → l.index % BLOCK_LIMIT ≡ 0 →
+      ((if l.index == 0 then l.label else []) ≡ [] → Ended t) →
+      (get_or texts m None ≡ None → ((begin_run_if located (label_bytes (body l.bytes)) t).entries ≡ []) × ((begin_run_if located (label_bytes (body l.bytes)) t).label ≡ (if l.index == 0 then l.label else []))
+      × ((begin_run_if located (label_bytes (body l.bytes)) t).blocks ≡ open_blocks (opened t))) →
+      read_at cut s t (replaced all texts (l ∷ lines_after run l flagged)) ≡ Ok again → Follows (parts_at run l flagged) given (open_blocks (opened t)) again
+  reads-first lines reads s run m l located i after given t again is stated inside insides same taken told_here told due begins new new_stands h = by_given (get_or given 0 None) refl
+    where
+      stands : Standing
+      stands = after_line cut s l.bytes
+
+      flagged : List Flagged
+      flagged = flagged_from cut stands lines
+
+      found : List (List Line)
+      found = parts_after run l flagged
+
+      rest : List Line
+      rest = lines_after run l flagged
+
+      block : Block
+      block = block_of (l ∷ left found)
+
+      blocks : List Block
+      blocks = map block_of (behind found)
+
+      left_by : IsLeft cut s l.bytes lines
+      left_by = left-by cut s after l.bytes lines (ap is_code stated)
+
+      next : (cut && goes_on (replaced all texts rest)) ≡ (cut && is_continued lines)
+      next = next-same cut all texts ends stands lines (suc l.number) run (suc l.index) (suc m) l.label true insides told
+
+      due_others : AreDue cut quiet columns known all texts (suc m) blocks (others given)
+      due_others = record {
+        chosen = others-given quiet columns all texts m block blocks given due.chosen;
+        sound = due.sound.1;
+        within = within-others block blocks given due.within;
+        complete = complete-others block blocks given due.complete;
+      }
+
+      by_given : (o : Option Placed) → get_or given 0 None ≡ o → Follows (parts_at run l flagged) given (open_blocks (opened t)) again
+      by_given None given_is =
+          let none : get_or texts m None ≡ None = first-given quiet columns all texts m block blocks given due.chosen ∙ ap (chosen_text quiet columns all (suc m) block) given_is in
+          let u : SourceState = begin_run_if located (label_bytes (body l.bytes)) t in
+          let begun = new_stands none in
+          let kept : text_at all texts l ≡ copied_line l = instruction-text all texts l located i true (suc m) is told_here ∙ ap (λ text. line_text true text l) none in
+          let step = kept-line s l rest after (is_continued lines) t again (stated ∙ sym is) inside (ap (operand_refusal l.number) is) next kept h in
+          let r = stands-on lines reads stands run (suc m) l located i (others given) u again is insides same taken told due_others none (begins ∙ sym (ap (λ (es : List Entry). length es) begun.0))
+          (ap (λ c. and_then (by_class t c (label_bytes (body l.bytes)) (from_operation (body l.bytes))) (λ v. read_at cut stands v (replaced all texts rest))) (sym is) ∙ step) in
+          let whole_block : labelled u.label (u.entries ++ map entry_of (l ∷ left found)) ≡ block = ap₂ (λ label entries. labelled label (entries ++ map entry_of (l ∷ left found))) begun.1 begun.0 in
+          record {
+            new = r.made ∷ r.new;
+            whole = subst (λ bs. again ≡ bs ++ r.made ∷ r.new) begun.2 r.whole;
+            placed = (subst (IsGivenAgain block r.made) (sym given_is) (subst (λ b. IsSameAgain b r.made) whole_block r.same), r.placed);
+          }
+      by_given (Some p) given_is =
+          let some : get_or texts m None ≡ Some (anew_text quiet columns all (suc m) block p) = first-given quiet columns all texts m block blocks given due.chosen ∙ ap (chosen_text quiet columns all (suc m) block) given_is in
+          let printed : text_at all texts l ≡ anew_text quiet columns all (suc m) block p = instruction-text all texts l located i true (suc m) is told_here ∙ ap (λ text. line_text true text l) some in
+          let text : List ℕ = replaced all texts rest in
+          let order = first-order block blocks given p due.within due.complete given_is in
+          let one : suc l.index % BLOCK_LIMIT ≡ 1 = next-index l.index 0 begins (λ same. absurd (omega (arith, same))) in
+          let count : length (map entry_of (left found)) ≡ length (left found) = length-map (left found) entry_of in
+          let redefined : s.redefined ≡ known = ap (λ (s : Standing). s.redefined) (sym left_by.stays) ∙ same in
+          let few = due.sound.0.few in
+          let a = read-block cut quiet columns s all (suc m) block p t text again left_by.free (next ∙ left_by.ended) source new (subst (λ known. IsSoundBlock cut known columns all block) (sym redefined) due.sound.0) order.0
+          (omega (arith, order.1)) (omega (arith, order.1, few)) (read-as cut s t _ _ again (ap (λ here. here ++ text) printed) h) in
+          let f : Follows (behind found) (others given) (open_blocks (opened a.state)) again =
+          reads false stands (suc l.number) run (suc l.index) (suc m) l.label true (others given) a.state again insides same taken told due_others
+          (λ here. absurd (omega (arith, one, here)), λ within. (anew_text quiet columns all (suc m) block p, some), λ all. a.full (omega (arith, all, one, count, order.1)))
+          (subst (λ u. read_at cut u a.state text ≡ Ok again) (sym left_by.stays) a.read) in
+          record {
+            new = a.made ∷ f.new;
+            whole = one-more (open_blocks (opened t)) (open_blocks (opened a.state)) again f.new a.made a.whole f.whole;
+            placed = (subst (IsGivenAgain block a.made) (sym given_is) a.placed, f.placed);
+          }
+
+  -- ONE MORE INSTRUCTION of a block
+
+  -- which is printed before it
+  ready-more : (lines : List Flagged) (number run index m count : ℕ) (label : List ℕ) (t : SourceState) → (index % BLOCK_LIMIT ≡ 0 → ⊥) → count ≡ suc (length (left (parts_from number run (suc index) label true lines))) →
+      Ready false texts m index label count (opened t) → (text : List ℕ) → text_for texts m ≡ Some text → Ready false texts m (suc index) label (length (left (parts_from number run (suc index) label true lines))) (opened t)
+  ready-more lines number run index m count label t inside one ready text given = by_full (eqb (suc (index % BLOCK_LIMIT)) BLOCK_LIMIT) refl
+    where
+      by_full : (full : Bool) → eqb (suc (index % BLOCK_LIMIT)) BLOCK_LIMIT ≡ full → Ready false texts m (suc index) label (length (left (parts_from number run (suc index) label true lines))) (opened t)
+      by_full true stated =
+          let all = eqb-true (suc (index % BLOCK_LIMIT)) BLOCK_LIMIT stated in
+          let begins = full-index index (index % BLOCK_LIMIT) refl all in
+          let none = ap (λ (ls : List Line). length ls) (none-left lines number run (suc index) label true begins) in
+          let whole = ready.2 (omega (arith, all, none, one)) in
+          let unlabelled : t.label ≡ (if suc index == 0 then label else []) = whole.1 ∙ sym (ap (λ t. if t then label else []) (eqb-suc-zero index)) in
+          (λ here. (λ empty. whole, λ next. (whole.0, unlabelled)), λ within. (text, given), λ many. absurd (omega (arith, begins, none, many)))
+      by_full false stated =
+          let next = next-index index (index % BLOCK_LIMIT) refl (eqb-false (suc (index % BLOCK_LIMIT)) BLOCK_LIMIT stated) in
+          (λ here. absurd (omega (arith, next, here)), λ within. (text, given), λ many. ready.2 (omega (arith, next, many, one)))
+
+  reads-more : (lines : List (List ℕ)) → Reads lines → (stands : Bool) (s : Standing) (run m : ℕ) (l : Line) (i : Instr) (after : Bool) (given : List (Option Placed)) (t : SourceState) (again : List Block) →
+      let flagged : List Flagged = flagged_from cut (after_line cut s l.bytes) lines in
+      l.class ≡ Instruction false i → class_at after (flagged_at cut s l.bytes (is_continued lines)) ≡ Instruction false i → every is_inside l.bytes ≡ true → every (every is_inside) lines ≡ true → (after_line cut s l.bytes).redefined ≡ known →
+      refusal (lines_after run l flagged) ≡ None → IsTold all l false m → AreTold all m (lines_after run l flagged) → AreDue cut quiet columns known all texts m (map block_of (behind (parts_after run l flagged))) given →
+      (l.index % BLOCK_LIMIT ≡ 0 → ⊥) → Ready stands texts m l.index l.label (suc (length (left (parts_after run l flagged)))) (opened t) → read_at cut s t (replaced all texts (l ∷ lines_after run l flagged)) ≡ Ok again →
+      IsReadOn stands (l ∷ left (parts_after run l flagged)) (behind (parts_after run l flagged)) given (opened t) again
+  reads-more lines reads false s run m l i after given t again is stated inside insides same taken told_here told due within ready h =
+      let stands : Standing = after_line cut s l.bytes in
+      let flagged : List Flagged = flagged_from cut stands lines in
+      let begun = ready.1 within in
+      let gone : text_at all texts l ≡ [] = instruction-text all texts l false i false m is told_here ∙ ap (λ text. line_text false text l) begun.1 in
+      reads false stands (suc l.number) run (suc l.index) m l.label true given t again insides same taken told due
+      (ready-more flagged (suc l.number) run l.index m (suc (length (left (parts_after run l flagged)))) l.label t within refl ready begun.0 begun.1)
+      (gone-line s l (lines_after run l flagged) t again gone (left-by cut s after l.bytes lines (ap is_code stated)).stays h)
+  reads-more lines reads true s run m l i after given t again is stated inside insides same taken told_here told due within ready h =
+      let stands : Standing = after_line cut s l.bytes in
+      let flagged : List Flagged = flagged_from cut stands lines in
+      let rest : List Line = lines_after run l flagged in
+      let kept : text_at all texts l ≡ copied_line l = instruction-text all texts l false i false m is told_here ∙ ap (λ text. line_text false text l) ready.2 in
+      let step = kept-line s l rest after (is_continued lines) t again (stated ∙ sym is) inside (ap (operand_refusal l.number) is)
+      (next-same cut all texts ends stands lines (suc l.number) run (suc l.index) m l.label true insides told) kept h in
+      stands-on lines reads stands run m l false i given t again is insides same taken told due ready.2 ready.0
+      (ap (λ c. and_then (by_class t c (label_bytes (body l.bytes)) (from_operation (body l.bytes))) (λ v. read_at cut stands v (replaced all texts rest))) (sym is) ∙ step)
+
+  -- ANY INSTRUCTION
+
+  reads-instruction : (i : Instr) (line : List ℕ) (lines : List (List ℕ)) → Reads lines → ReadsClass (Instruction false i) line lines
+  reads-instruction i line lines reads stands s number run index m label after given t again stated inside insides same taken told due ready h =
+      subst (λ ls. IsReadOn stands ls (behind (put_before l found)) given (opened t) again) (sym (left-put l found))
+      (subst (λ later. IsReadOn stands (if begins_block l then [] else l ∷ left found) later given (opened t) again) (sym (behind-put l found))
+      (by_begins (begins_block l) refl told.0 told.1 (subst (λ later. AreDue cut quiet columns known all texts m (map block_of later) given) (behind-put l found) due)
+      (subst (λ ls. Ready stands texts m index label (length ls) (opened t)) (left-put l found) ready)))
+    where
+      flagged : List Flagged
+      flagged = flagged_from cut (after_line cut s line) lines
+
+      l : Line
+      l = record { number = number; bytes = line; class = Instruction false i; run = run; index = index; label = label }
+
+      found : List (List Line)
+      found = parts_from (suc number) run (suc index) label true flagged
+
+      rest : List Line
+      rest = classes_from (suc number) run (suc index) label true flagged
+
+      by_begins : (first : Bool) → begins_block l ≡ first → IsTold all l first (count_after first m) → AreTold all (count_after first m) rest → AreDue cut quiet columns known all texts m (map block_of (if first then parts_at run l flagged else behind found)) given →
+          Ready stands texts m index label (length (if first then [] else l ∷ left found)) (opened t) → IsReadOn stands (if first then [] else l ∷ left found) (if first then parts_at run l flagged else behind found) given (opened t) again
+      by_begins false here told_here told due ready =
+          reads-more lines reads stands s run m l i after given t again refl stated inside insides same (rest-taken l rest taken) told_here told due (eqb-false (index % BLOCK_LIMIT) 0 here) ready h
+      by_begins true here told_here told due ready = by_stands stands ready
+        where
+          at : index % BLOCK_LIMIT ≡ 0
+          at = eqb-true (index % BLOCK_LIMIT) 0 here
+
+          by_stands : (stands : Bool) → Ready stands texts m index label 0 (opened t) → IsReadOn stands [] (parts_at run l flagged) given (opened t) again
+          by_stands true ready = absurd (omega (arith, at, ready.0, ready.1))
+          by_stands false ready =
+              let fresh = ready.0 at in
+              reads-first lines reads s run m l false i after given t again refl stated inside insides same (rest-taken l rest taken) told_here told due at fresh.0
+              (λ none. let begun = fresh.1 none in (begun.0, begun.1, sym (ap (λ es. with_open t.blocks t.label es) begun.0))) h
+
+  reads-labelled : (i : Instr) (line : List ℕ) (lines : List (List ℕ)) → Reads lines → ReadsClass (Instruction true i) line lines
+  reads-labelled i line lines reads stands s number run index m label after given t again stated inside insides same taken told due ready h =
+      let flagged : List Flagged = flagged_from cut (after_line cut s line) lines in
+      let new : List ℕ = label_bytes (body line) in
+      let l : Line = record { number = number; bytes = line; class = Instruction true i; run = suc run; index = 0; label = new } in
+      let found : List (List Line) = parts_from (suc number) (suc run) 1 new true flagged in
+      let rest : List Line = classes_from (suc number) (suc run) 1 new true flagged in
+      let filled = (located-label after (is_alone cut s line (is_continued lines)) line (ap begins_run stated) inside).1 in
+      subst (λ ls. IsReadOn stands ls (behind (put_before l found)) given (opened t) again) (sym (left-put l found))
+      (subst (λ later. IsReadOn stands [] later given (opened t) again) (sym (behind-put l found))
+      (ended stands texts m index label (length (left (put_before l found))) (parts_at (suc run) l flagged) given (opened t) again ready
+      (reads-first lines reads s (suc run) m l true i after given t again refl stated inside insides same (rest-taken l rest taken) told.0 told.1
+      (subst (λ later. AreDue cut quiet columns known all texts m (map block_of later) given) (behind-put l found) due) refl
+      (λ empty. absurd (true≢false (sym filled ∙ ap is_filled empty))) (λ none. (refl, refl, refl)) h)))
+
+  -- ALL LINES
+
+  reads-class : (c : Class) (line : List ℕ) (lines : List (List ℕ)) → Reads lines → ReadsClass c line lines
+  reads-class Comment line lines reads = reads-comment line lines reads
+  reads-class Other line lines reads = reads-other line lines reads
+  reads-class Refused line lines reads = λ stands s number run index m label after given t again stated inside insides same taken told due ready h.
+      absurd (none-refused number (classes_from (suc number) run index label false (flagged_from cut (after_line cut s line) lines))
+      (record { number = number; bytes = line; class = Refused; run = run; index = index; label = label }) refl taken)
+  reads-class (Pad true) line lines reads = reads-labelled_pad line lines reads
+  reads-class (Pad false) line lines reads = reads-pad line lines reads
+  reads-class (Instruction true i) line lines reads = reads-labelled i line lines reads
+  reads-class (Instruction false i) line lines reads = reads-instruction i line lines reads
+
+  pub reads-all : (lines : List (List ℕ)) → Reads lines
+  reads-all [] stands s number run index m label after given t again insides same taken told due ready h =
+      ended stands texts m index label 0 [] given (opened t) again ready (record { new = []; whole = same-blocks again (open_blocks (opened t)) (Ok (open_blocks (opened t))) h refl ∙ sym (append-nil (open_blocks (opened t))); placed = tt })
+  reads-all (line ∷ lines) stands s number run index m label after given t again insides same taken told due ready h =
+      let both = and_parts (every is_inside line) (every (every is_inside) lines) insides in
+      reads-class (class_at after (flagged_at cut s line (is_continued lines))) line lines (reads-all lines) stands s number run index m label after given t again refl both.0 both.1 (same-redefined cut s line ∙ same) taken told due ready h

@@ -25,7 +25,7 @@ use Rattle.s66_source.specs.declared.error.SourceError.TheVariants.{LineTooLong,
 use Rattle.s66_source.specs.LeftAlone.{Standing}
 use Rattle.s66_source.proofs.FlaggedLines.{same-alone}
 use Rattle.s66_source.proofs.ReadBack.{trim-twice, lines_of-line}
-use Rattle.s66_source.proofs.ReadStanding.{flagged_at, is_holding, is_flagged, taken, not-alone, alone-body, after-body, flagged-body, class_at-body, continues-body, continues-line, comment-quiet, comment-stays, IsQuiet, goes_on, goes-line}
+use Rattle.s66_source.proofs.ReadStanding.{flagged_at, is_holding, is_flagged, taken, not-alone, alone-body, after-body, flagged-body, class_at-body, continues-body, comment-stays, IsQuiet, goes_on, goes-line}
 use Rattle.s66_source.proofs.ReadLine.{every-trimmed}
 use Rattle.s66_source.proofs.ReaderBlocks.{then-then}
 use Rattle.s66_line.proofs.Wholes.{is_inside, every-append}
@@ -176,7 +176,7 @@ pub record Comments (cut : Bool) (bytes : List ℕ) : Type 0 where
   pub whole : bytes ≡ with_newlines lines
   pub are : ArePlainComments cut lines
 
-comments-nothing : (cut : Bool) → Comments cut []
+pub comments-nothing : (cut : Bool) → Comments cut []
 comments-nothing cut = record { lines = []; whole = refl; are = tt }
 
 comments-line : (cut : Bool) (line : List ℕ) → IsPlainComment cut line → Comments cut (line ++ codes "\n")

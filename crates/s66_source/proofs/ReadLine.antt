@@ -9,6 +9,7 @@ use Rattle.s66_line.specs.Fields.{is_blank, is_newline, is_return, trim, body, u
 use Rattle.s66_line.specs.Operand.{is_filled, operation_of, decode, instr_of}
 use Rattle.s66_line.specs.InstructionText.{operation_in, operand_in, Spells}
 use Rattle.s66_line.specs.Class.{class_of, class_of_operand, is_pad, is_located, by_operation, begins_run, whole_instr}
+use Rattle.s66_source.specs.Columns.{line_start}
 use Rattle.s66_source.specs.Printed.{label_field}
 use Rattle.s66_line.specs.declared.class.Class.{Class}
 use Rattle.s66_line.specs.declared.class.Class.TheVariants.{Comment, Other, Refused, Pad, Instruction}
@@ -439,3 +440,7 @@ inside-line label bytes h k =
     every-append is_inside (label_field label) (trim is_trailing bytes)
     (every-append is_inside label _ h (ap (every is_inside) pad.1 ∙ inside-padding pad.0))
     (every-trimmed is_inside is_trailing bytes k)
+
+pub inside-start : (label : List ℕ) (blanks : ℕ) (bytes : List ℕ) → every is_inside label ≡ true → every is_inside bytes ≡ true → every is_inside (line_start label blanks ++ trim is_trailing bytes) ≡ true
+inside-start [] blanks bytes h k = every-append is_inside (replicate blanks 32) (trim is_trailing bytes) (inside-padding blanks) (every-trimmed is_inside is_trailing bytes k)
+inside-start (b ∷ label) blanks bytes h k = inside-line (b ∷ label) bytes h k

@@ -1,20 +1,16 @@
 -- What stands before a line that is read again, and whether the line is left alone again.
-use Rattle.std.proofs.Common.{◌≡◌, ◌==◌, ◌-◌, ◌&&◌, ◌||◌, not, ℕ, suc, Bool, true, false, if◌then◌else◌, true≢false, List, [], ◌∷◌, ◌++◌, codes, nat_le, nat_lt, refl, sym, ap, ap₂, ◌∙◌, subst, arith, append_assoc, drop}
+use Rattle.std.proofs.Common.{◌≡◌, ◌==◌, ◌-◌, ◌&&◌, ◌||◌, not, ℕ, Bool, true, false, if◌then◌else◌, true≢false, List, [], ◌∷◌, ◌++◌, codes, nat_le, nat_lt, refl, sym, ap, ap₂, ◌∙◌, subst, arith, append_assoc, drop}
 use Rattle.s66_source.proofs.Directives.{no-star}
 use Rattle.std.specs.Prelude.{bytes_eq}
 use Rattle.std.proofs.lemmas.Bool.{eqb-true, leb-true, ne_eqb, and_parts, and_right, or_parts, or_from, or_right}
 use Rattle.s66_isa.specs.Lists.{every}
-use Rattle.s66_line.specs.Class.{class_of, is_code}
+use Rattle.s66_line.specs.Class.{class_of}
 use Rattle.s66_line.specs.Fields.{after_word, body, is_blank, is_comment, is_return, continues, operation, skip_blanks, upper, upper_byte, word, lines_of}
 use Rattle.s66_line.specs.declared.class.Class.{Class}
-use Rattle.s66_line.specs.declared.class.Class.TheVariants.{Other, Refused}
-use Rattle.s66_line.specs.Block.{Block, line_of}
+use Rattle.s66_line.specs.declared.class.Class.TheVariants.{Refused}
 use Rattle.s66_line.proofs.LineFields.{indented_no}
 use Rattle.s66_source.specs.Counts.{counting_text, is_covering}
-use Rattle.s66_source.specs.LeftAlone.{Flagged, after_body, after_line, after_operation, class_at, has_operation, is_alone, is_continued, is_directive, is_held, is_switch, is_off_switch, is_on_switch, is_doubtful, flagged_from, off_after, with_operation, after_directive, directive_cover, with_directive}
-use Rattle.s66_source.specs.Printed.{Placed, block_text, copied_text, text_of_lines}
-use Rattle.s66_source.specs.Roles.{is_copied, is_other_class}
-use Rattle.s66_source.specs.Source.{Line, run_at, run_after, place_at, place_after, label_at, label_after, classes_from}
+use Rattle.s66_source.specs.LeftAlone.{Flagged, after_body, after_line, after_operation, class_at, has_operation, is_alone, is_continued, is_directive, is_held, is_switch, is_off_switch, is_on_switch, is_doubtful, off_after, with_operation, after_directive, directive_cover, with_directive}
 use Rattle.s66_source.specs.LeftAlone.{Standing}
 use Rattle.s66_source.proofs.ReadBack.{trim-twice, class_of-body, lines_of-line}
 use Rattle.s66_source.proofs.Standings.{same-off}

@@ -1,61 +1,74 @@
--- A printed text that is accepted when it is read again has the blocks of its source in their placed orders.
-use Rattle.std.proofs.Common.{◌≡◌, ◌≤◌, ◌<◌, ◌+◌, ◌%◌, ◌==◌, ◌&&◌, ℕ, suc, Bool, true, false, if◌then◌else◌, List, [], ◌∷◌, ◌++◌, None, codes, length, map, refl, sym, ap, ◌∙◌, subst, inl, inr, arith, append_assoc, eqb}
-use Rattle.std.specs.Prelude.{Result, Ok, ◌⊎◌}
-use Rattle.std.proofs.lemmas.Bool.{ne_eqb, eqb-true, eqb-false, true≢false, and_parts}
-use Rattle.std.proofs.lemmas.List.{append-nil, length-map}
-use Rattle.std.proofs.lemmas.Nat.{mod_below}
-use Rattle.s66_isa.specs.declared.instr.Instr.{Instr}
-use Rattle.s66_isa.specs.Lists.{every}
-use Rattle.s66_line.specs.Fields.{is_return, lines_of, body, continues, from_operation, label_bytes}
-use Rattle.s66_line.specs.Operand.{is_filled}
-use Rattle.s66_source.specs.Source.{Line, run_at, run_after, place_at, place_after, label_at, label_after, classes_from, classed_lines, operand_refusal, refusal_at, refusal, instructions, begins_block, put_before, parts_of, entry_of, block_of, blocks_of, source_of}
+-- A printed text that is accepted when it is read again has the blocks of its source, each as it is given.
+use Rattle.std.proofs.Common.{◌≡◌, ℕ, Bool, false, if◌then◌else◌, List, [], Option, None, get_or, length, map, refl, sym, ap, ◌∙◌, subst, arith}
+use Rattle.std.specs.Prelude.{Ok}
 use Rattle.s66_line.specs.Block.{Block}
-use Rattle.s66_line.specs.Class.{class_of, is_code, begins_run, instr_in}
-use Rattle.s66_source.proofs.CharactersRead.{SpellsAll}
-use Rattle.s66_source.specs.LeftAlone.{Reading, Flagged, after_line, at_first, class_at, is_alone, is_continued, is_held, flagged_from, flagged_lines, redefined_by}
-use Rattle.s66_source.specs.Roles.{is_copied, is_comment_class}
-use Rattle.s66_source.specs.Printed.{Placed, ArePlaced, copied_line, copied_text, text_of_lines, printed}
-use Rattle.s66_source.specs.ReadAgain.{AreComplete, ArePlacedAgain}
-use Rattle.s66_source.specs.Reader.{SourceState, start, with_open, end_block, begin_run, count_line, by_class, and_then}
-use Rattle.s66_line.specs.declared.class.Class.{Class}
-use Rattle.s66_line.specs.declared.class.Class.TheVariants.{Comment, Other, Refused, Pad, Instruction}
-use Rattle.s66_isa.specs.declared.limits.TheConstants.{BLOCK_LIMIT}
-use Rattle.s66_source.specs.declared.error.SourceError.{SourceError}
-use Rattle.s66_source.proofs.LineLaw.{no_refusal, neither, operand-none}
-use Rattle.s66_source.proofs.PrintedLines.{text-first, instruction-not_copied, same-blocks, accepted-is}
-use Rattle.s66_source.proofs.ReadLine.{IsLabel, label-of_code, whole-of_class, every-from_operation, every-trimmed}
-use Rattle.s66_source.specs.LeftAlone.{Standing}
-use Rattle.s66_source.proofs.Standings.{code-line, code-stays, same-redefined}
-use Rattle.s66_source.proofs.ReadStanding.{flagged_at, goes_on, is_holding, taken, comment-stays, continues-body, IsQuiet}
-use Rattle.s66_source.proofs.ReadComments.{goes-copied, read_at, read-as, read-copied, comment-line, AreLinesOfSource, lines-of_source}
-use Rattle.s66_source.proofs.ReadBlock.{AreSound, Ended, quiet-block, read-block}
-use Rattle.s66_source.proofs.FarOperands.{clear-read, is_unclear}
-use Rattle.s66_source.specs.Redefined.{nothing_redefined, redefined_in}
-use Rattle.s66_source.proofs.ReaderBlocks.{from_class, Begins, fresh, next-index, full-index, read_from-start}
-use Rattle.s66_line.proofs.Wholes.{is_inside, AreLines-lines_of}
+use Rattle.s66_line.specs.Fields.{lines_of}
+use Rattle.s66_line.proofs.Wholes.{AreLines-lines_of}
+use Rattle.s66_source.specs.Keeping.{AreGiven}
+use Rattle.s66_source.specs.LeftAlone.{Reading, Standing, at_first, flagged_lines, redefined_by}
+use Rattle.s66_source.specs.Printed.{Placed}
+use Rattle.s66_source.specs.ReadAgain.{AreComplete, AreGivenAgain}
+use Rattle.s66_source.specs.Reader.{start}
+use Rattle.s66_source.specs.Redefined.{nothing_redefined}
+use Rattle.s66_source.specs.Replaced.{printed_in, texts_of}
+use Rattle.s66_source.specs.Source.{Line, block_of, blocks_of, classed_lines, instructions, parts_of, refusal, source_of}
+use Rattle.s66_source.specs.declared.columns.Columns.{Columns}
+use Rattle.s66_source.proofs.LineLaw.{no_refusal}
+use Rattle.s66_source.proofs.LineTexts.{behind, behind-begins, left-begins, told-source}
+use Rattle.s66_source.proofs.PrintedLines.{accepted-is}
+use Rattle.s66_source.proofs.ReadAgain.{AreDue, EndsTexts, Follows, reads-all}
+use Rattle.s66_source.proofs.ReadBlock.{quiet-block}
+use Rattle.s66_source.proofs.ReadComments.{AreLinesOfSource, lines-of_source, read_at}
+use Rattle.s66_source.proofs.ReaderBlocks.{fresh, read_from-start}
 use Rattle.s66_source.proofs.RedefinedLines.{redefined-printed}
-use Rattle.s66_source.proofs.ReadAgain.{behind, behind-begins, left-begins, read_text, reads-all}
+use Rattle.s66_source.proofs.SoundBlocks.{all-texts, sound-source}
 
 -- what is printed redefines what its source does
-pub redefined-again : (source : Reading) (blocks : List Block) (ps : List Placed) → source_of source ≡ Ok blocks → ArePlaced blocks ps →
-    redefined_by (record { cut = source.cut; text = printed source ps }) ≡ redefined_by source
-redefined-again source blocks ps accepted placed = ap (λ known. if source.cut then known else nothing_redefined) (redefined-printed source blocks ps accepted placed)
+pub redefined-again : (quiet : Bool) (columns : Columns) (source : Reading) (given : List (Option Placed)) → AreGiven (blocks_of (classed_lines source)) given →
+    redefined_by (record { cut = source.cut; text = printed_in quiet columns source given }) ≡ redefined_by source
+redefined-again quiet columns source given within = ap (λ known. if source.cut then known else nothing_redefined) (redefined-printed quiet columns source given within)
 
-pub read-again : (source : Reading) (blocks again : List Block) (ps : List Placed) → source_of source ≡ Ok blocks → ArePlaced blocks ps → AreComplete blocks ps →
-    source_of (record { cut = source.cut; text = printed source ps }) ≡ Ok again → ArePlacedAgain blocks ps again
-read-again source blocks again ps accepted placed complete again_accepted =
-    let lines : List (List ℕ) = lines_of source.text in
-    let all : List Line = classed_lines source in
-    let parts : List (List Line) = parts_of (instructions all) in
-    let fresh_parts = fresh (flagged_lines source) 1 0 0 [] false refl in
-    let cut : map block_of (behind parts) ≡ blocks = ap (map block_of) (behind-begins parts fresh_parts) ∙ accepted-is source blocks accepted in
-    let none = ap (λ (ls : List Line). length ls) (left-begins parts fresh_parts) in
-    let insides = (AreLines-lines_of source.text).no_newline in
-    let read : read_text source.cut (at_first (redefined_by source)) start all 1 (behind parts) ps all ≡ Ok again =
-    ap (λ found. read_at source.cut (at_first (redefined_by source)) start (text_of_lines all 1 (map block_of found) ps all)) (behind-begins parts fresh_parts)
-    ∙ ap (λ known. read_at source.cut (at_first known) start (printed source ps)) (sym (redefined-again source blocks ps accepted placed))
-    ∙ read_from-start (record { cut = source.cut; text = printed source ps }) ∙ again_accepted in
-    let f = reads-all source.cut lines (at_first (redefined_by source)) all 1 1 0 0 [] false ps start again (lines-of_source source.cut (at_first (redefined_by source)) lines 1 0 0 [] false insides) insides (no_refusal (refusal all) (blocks_of all) blocks accepted) (refl, refl)
-    (subst (λ found. ArePlaced found ps) (sym cut) placed) (subst (λ found. AreComplete found ps) (sym cut) complete)
-    (λ here empty. (refl, refl), λ many. absurd (omega (arith, none, many))) read in
-    subst (λ found. ArePlacedAgain found ps again) cut (subst (ArePlacedAgain (map block_of (behind parts)) ps) (sym f.whole) f.placed)
+module _ (quiet : Bool) (columns : Columns) (source : Reading) (given : List (Option Placed)) (within : AreGiven (blocks_of (classed_lines source)) given) (complete : AreComplete (blocks_of (classed_lines source)) given) where
+  abbrev all : List Line
+  all = classed_lines source
+
+  abbrev texts : List (Option (List ℕ))
+  texts = texts_of quiet columns all 1 (blocks_of all) given
+
+  abbrev found : List (List Line)
+  found = parts_of (instructions all)
+
+  abbrev stands : Standing
+  stands = at_first (redefined_by source)
+
+  its-lines : AreLinesOfSource source.cut all
+  its-lines = lines-of_source source.cut stands (lines_of source.text) 1 0 0 [] false (AreLines-lines_of source.text).no_newline
+
+  ends : EndsTexts source.cut texts
+  ends =
+      all-texts source.cut quiet columns (redefined_by source) all _ (λ n block p is order more quiet_more. quiet-block source.cut quiet columns (redefined_by source) all n block p more quiet_more its-lines is order)
+      (blocks_of all) given (sound-source columns source) within
+
+  due : AreDue source.cut quiet columns (redefined_by source) all texts 0 (blocks_of all) given
+  due = record { chosen = λ k. ap (λ n. get_or texts n None) (omega arith); sound = sound-source columns source; within = within; complete = complete }
+
+  its-blocks : (blocks again : List Block) → source_of source ≡ Ok blocks → source_of (record { cut = source.cut; text = printed_in quiet columns source given }) ≡ Ok again → AreGivenAgain (blocks_of all) given again
+  its-blocks blocks again accepted read =
+      let begins = fresh (flagged_lines source) 1 0 0 [] false refl in
+      let whole : map block_of (behind found) ≡ blocks_of all = ap (map block_of) (behind-begins found begins) in
+      let none = ap (λ (ls : List Line). length ls) (left-begins found begins) in
+      let f : Follows (behind found) given [] again =
+      reads-all source.cut quiet columns (redefined_by source) all texts its-lines ends (lines_of source.text) false stands 1 0 0 0 [] false given start again (AreLines-lines_of source.text).no_newline refl
+      (no_refusal (refusal all) (blocks_of all) blocks accepted) (told-source source)
+      (subst (λ blocks. AreDue source.cut quiet columns (redefined_by source) all texts 0 blocks given) (sym whole) due)
+      (λ here. (λ empty. (refl, refl), λ next. (refl, refl)), λ later. absurd (later refl), λ many. absurd (omega (arith, none, many)))
+      (ap (λ known. read_at source.cut (at_first known) start (printed_in quiet columns source given)) (sym (redefined-again quiet columns source given within))
+      ∙ read_from-start (record { cut = source.cut; text = printed_in quiet columns source given }) ∙ read) in
+      subst (λ blocks. AreGivenAgain blocks given again) whole (subst (AreGivenAgain (map block_of (behind found)) given) (sym f.whole) f.placed)
+
+pub read-again : (quiet : Bool) (columns : Columns) (source : Reading) (blocks again : List Block) (given : List (Option Placed)) → source_of source ≡ Ok blocks → AreGiven blocks given → AreComplete blocks given →
+    source_of (record { cut = source.cut; text = printed_in quiet columns source given }) ≡ Ok again → AreGivenAgain blocks given again
+read-again quiet columns source blocks again given accepted within complete read =
+    let is = accepted-is source blocks accepted in
+    subst (λ found. AreGivenAgain found given again) is
+    (its-blocks quiet columns source given (subst (λ found. AreGiven found given) (sym is) within) (subst (λ found. AreComplete found given) (sym is) complete) blocks again accepted read)

@@ -6,10 +6,11 @@ use Rattle.std.proofs.lemmas.List.{length-map}
 use Rattle.s66_isa.specs.Lists.{Among, every}
 use Rattle.s66_isa.specs.Table.{instr_at}
 use Rattle.s66_isa.proofs.Lists.{among-front, among-rest}
-use Rattle.s66_line.specs.Fields.{is_return, lines_of, trim, body}
+use Rattle.s66_line.specs.Fields.{is_return, trim, body}
 use Rattle.s66_line.specs.InstructionText.{IsTextOf}
-use Rattle.s66_source.specs.LeftAlone.{Reading, at_first, redefined_by}
+use Rattle.s66_source.specs.LeftAlone.{Reading, redefined_by}
 use Rattle.s66_source.specs.Redefined.{Redefined}
+use Rattle.s66_source.specs.declared.columns.Columns.TheVariants.{Usual}
 use Rattle.s66_source.specs.Source.{Line, classed_lines, operand_refusal, refusal, instructions, parts_of, entry_of, block_of, blocks_of, source_of}
 use Rattle.s66_line.specs.Block.{Entry, Block, instrs_of, text_of}
 use Rattle.s66_source.specs.BlockParts.{all_of}
@@ -24,9 +25,8 @@ use Rattle.s66_line.proofs.LineFields.{from_operation_within}
 use Rattle.s66_source.proofs.LineLaw.{no_refusal, none-at}
 use Rattle.s66_source.proofs.PartsLaw.{parts}
 use Rattle.s66_source.proofs.PrintedLines.{of-instructions, accepted-is}
-use Rattle.s66_source.proofs.ReadAgain.{sound-instructions}
 use Rattle.s66_source.proofs.ReadBlock.{IsSound, AreSound, bytes_of-entry}
-use Rattle.s66_line.proofs.Wholes.{AreLines-lines_of}
+use Rattle.s66_source.proofs.SoundBlocks.{sound-block}
 
 -- THE LINES OF A BLOCK
 
@@ -118,6 +118,6 @@ spelled source blocks block accepted among (suc n) first last =
     let there = numbered made.0 n (omega (arith, last, count)) in
     let in_parts = among-part there.0 made.0 (parts_of (instructions lines)) there.1 made.1 in
     let in_source : Among there.0 (instructions lines) = subst (Among there.0) (parts source).whole in_parts in
-    let sound = sound-instructions source.cut (at_first (redefined_by source)) (lines_of source.text) 1 0 0 [] false (AreLines-lines_of source.text).no_newline in
-    spelled-by source.cut (redefined_by source) block n there.0 (ap (λ (b : Block). slice_get b.entries n) made.2 ∙ there.2) (sound-entry source.cut (redefined_by source) (instructions lines) there.0 sound in_source)
+    let sound = subst (λ (b : Block). AreSound source.cut (redefined_by source) b.entries) made.2 (sound-block Usual source blocks block accepted among).entries in
+    spelled-by source.cut (redefined_by source) block n there.0 (ap (λ (b : Block). slice_get b.entries n) made.2 ∙ there.2) (sound-entry source.cut (redefined_by source) made.0 there.0 sound there.1)
     (few-bytes lines there.0 (no_refusal (refusal lines) (blocks_of lines) blocks accepted) (of-instructions lines there.0 in_source).0)

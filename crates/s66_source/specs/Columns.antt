@@ -1,7 +1,7 @@
 -- To be believed: in which columns the operations of a block begin that is printed.
-use Rattle.std.specs.Prelude.{ℕ, ◌-◌, ◌==◌, if◌then◌else◌, min, max, List, [], ◌∷◌, ◌++◌, codes, get_or, length, map, replicate}
+use Rattle.std.specs.Prelude.{ℕ, ◌-◌, ◌==◌, if◌then◌else◌, min, max, List, [], ◌∷◌, ◌++◌, codes, get_or, length, map, nat_lt, replicate}
 use Rattle.s66_line.specs.Block.{Block, Entry, bytes_of}
-use Rattle.s66_line.specs.Fields.{body, from_operation, trim, is_trailing}
+use Rattle.s66_line.specs.Fields.{body, from_operation, label_bytes, trim, is_trailing}
 use Rattle.s66_source.specs.Printed.{label_field}
 use Rattle.s66_source.specs.Source.{Line}
 use Rattle.s66_source.specs.declared.columns.Columns.{Columns}
@@ -13,10 +13,10 @@ before_operation line = length (body line) - length (from_operation (body line))
 
 -- how many blanks come before the operation of an instruction that is printed without a label, by its line in the source: ten, or as
 -- many as there are bytes before it in its line, but two at least, as a location may begin after one, and 28 at most, as 29 make a
--- comment
+-- comment. Behind a label of ten bytes or more it is ten: such a label has put the operand where COMPASS may not see it without a label
 abbrev pub indent : Columns → List ℕ → ℕ
 indent Usual line = 10
-indent Own line = max (min (before_operation line) 28) 2
+indent Own line = if nat_lt (length (label_bytes (body line))) 10 then max (min (before_operation line) 28) 2 else 10
 
 -- the line of this number
 abbrev pub bytes_on : List Line → ℕ → List ℕ

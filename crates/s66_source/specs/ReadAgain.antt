@@ -1,14 +1,22 @@
 -- To be believed: what the blocks of a printed source are when it is read again.
-use Rattle.std.specs.Prelude.{◌≡◌, ℕ, List, [], ◌∷◌, length, map}
+use Rattle.std.specs.Prelude.{◌≡◌, ℕ, List, [], ◌∷◌, get_or, length, map, Option, None, Some}
 use Rattle.s66_isa.specs.Table.{instr_at}
 use Rattle.s66_line.specs.Fields.{trim, is_trailing}
 use Rattle.s66_line.specs.Block.{Entry, Block, instrs_of, bytes_of}
+use Rattle.s66_source.specs.Keeping.{others}
 use Rattle.s66_source.specs.Printed.{Placed}
 
--- each order has as many numbers as its block has instructions
-abbrev pub AreComplete : List Block → List Placed → Type 0
-AreComplete (block ∷ blocks) (p ∷ ps) = (length p.order ≡ length block.entries) × AreComplete blocks ps
-AreComplete blocks ps = Unit {0}
+-- each order that is given has as many numbers as its block has instructions
+abbrev pub AreComplete : List Block → List (Option Placed) → Type 0
+AreComplete (block ∷ blocks) (None ∷ given) = AreComplete blocks given
+AreComplete (block ∷ blocks) (Some p ∷ given) = (length p.order ≡ length block.entries) × AreComplete blocks given
+AreComplete blocks given = Unit {0}
+
+-- again is the block: its label, its instructions, and their bytes
+pub record IsSameAgain (block again : Block) : Type 0 where
+  pub label : again.label ≡ block.label
+  pub instrs : instrs_of again ≡ instrs_of block
+  pub bytes : map (λ (e : Entry). e.bytes) again.entries ≡ map (λ (e : Entry). e.bytes) block.entries
 
 -- again is the block in this order: its label, and of each number the instruction, and its bytes without the blanks and carriage returns at their end
 pub record IsPlacedAgain (block again : Block) (order : List ℕ) : Type 0 where
@@ -16,8 +24,13 @@ pub record IsPlacedAgain (block again : Block) (order : List ℕ) : Type 0 where
   pub instrs : instrs_of again ≡ map (instr_at (instrs_of block)) order
   pub bytes : map (λ (e : Entry). e.bytes) again.entries ≡ map (λ n. trim is_trailing (bytes_of block n)) order
 
--- each block in its placed order, and no block more
-abbrev pub ArePlacedAgain : List Block → List Placed → List Block → Type 0
-ArePlacedAgain [] [] [] = Unit {0}
-ArePlacedAgain (block ∷ blocks) (p ∷ ps) (again ∷ more) = IsPlacedAgain block again p.order × ArePlacedAgain blocks ps more
-ArePlacedAgain blocks ps more = ⊥
+-- a block that stands is the same, and any other is in the order that is given
+abbrev pub IsGivenAgain : Block → Block → Option Placed → Type 0
+IsGivenAgain block again None = IsSameAgain block again
+IsGivenAgain block again (Some p) = IsPlacedAgain block again p.order
+
+-- each block as it is given, and no block more; further blocks stand
+abbrev pub AreGivenAgain : List Block → List (Option Placed) → List Block → Type 0
+AreGivenAgain [] given [] = Unit {0}
+AreGivenAgain (block ∷ blocks) given (again ∷ more) = IsGivenAgain block again (get_or given 0 None) × AreGivenAgain blocks (others given) more
+AreGivenAgain blocks given more = ⊥

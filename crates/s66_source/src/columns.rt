@@ -1,4 +1,5 @@
-ghost use Rattle.std.specs.Prelude.{◌≡◌};
+ghost use Rattle.std.specs.Prelude.{◌≡◌, length, nat_lt, not};
+ghost use Rattle.s66_line.specs.Fields.{body, label_bytes};
 ghost use Rattle.s66_source.specs.Columns.{before_operation};
 
 use s66_line::{body_of, fields_of};
@@ -20,12 +21,20 @@ fn before_operation(line: &[u8]) -> usize
     body.len() - fields_of(body).from_operation.len()
 }
 
+/// Whether the label of a line takes all columns before the usual one.
+fn has_long_label(line: &[u8]) -> bool
+    ensures { result ≡ not (nat_lt (length (label_bytes (body line.now))) 10) }
+{
+    fields_of(body_of(line)).label.len() >= USUAL_INDENT as usize
+}
+
 /// In which column an operation begins that is printed without a label.
 #[derive(Clone, Copy)]
 pub enum Columns {
     /// In column 11.
     Usual,
-    /// In that of its line in the source, but in column 3 at least and in column 29 at most.
+    /// In that of its line in the source, but in column 3 at least and in column 29 at most; behind a label of ten bytes or more in
+    /// column 11.
     Own,
 }
 
@@ -39,6 +48,7 @@ impl Columns {
     {
         match self {
             Columns::Usual => USUAL_INDENT,
+            Columns::Own if has_long_label(line) => USUAL_INDENT,
             Columns::Own => before_operation(line)
                 .min(GREATEST_INDENT)
                 .max(LEAST_INDENT) as u8,

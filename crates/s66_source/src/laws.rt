@@ -1,4 +1,4 @@
-ghost use Rattle.std.specs.Prelude.{◌≡◌, ◌≤◌, ℕ, List, ◌∷◌, ◌++◌, Some, None, Ok, Err, ◌≢◌, Bool, true, false, map, length, codes, [], not, replicate};
+ghost use Rattle.std.specs.Prelude.{◌≡◌, ◌≤◌, ℕ, List, Option, ◌∷◌, ◌++◌, Some, None, Ok, Err, ◌≢◌, Bool, true, false, map, length, codes, [], not, replicate};
 ghost use Rattle.s66_isa.specs.Table.{instr, instr_at};
 ghost use Rattle.s66_isa.specs.Lists.{Among, tally, every};
 ghost use Rattle.s66_isa.specs.declared.instr.Instr.{Instr};
@@ -6,9 +6,11 @@ ghost use Rattle.s66_line.specs.Fields.{is_newline, upper, body, from_operation,
 ghost use Rattle.s66_line.specs.InstructionText.{IsTextOf, Spells};
 ghost use Rattle.s66_line.specs.declared.class.Class.TheVariants.{Instruction};
 ghost use Rattle.s66_source.specs.Columns.{indent, indented_lines, indents};
+ghost use Rattle.s66_source.specs.declared.columns.Columns.{Columns};
 ghost use Rattle.s66_source.specs.declared.columns.Columns.TheVariants.{Own, Usual};
 ghost use Rattle.s66_source.specs.UpperRead.{upper_read};
 ghost use Rattle.s66_source.specs.Counts.{cover_of};
+ghost use Rattle.s66_source.specs.Keeping.{AreGiven};
 ghost use Rattle.s66_source.specs.LeftAlone.{Flagged, Reading, flagged_lines, is_directive, is_off_switch, plain};
 ghost use Rattle.s66_source.specs.declared.error.SourceError.TheVariants.{BadOperand};
 ghost use Rattle.s66_source.specs.declared.cover.Cover.TheVariants.{Nothing, Lines, ToItsEnd};
@@ -19,7 +21,7 @@ ghost use Rattle.s66_line.specs.Class.{class_of, is_instruction};
 ghost use Rattle.s66_isa.specs.declared.limits.TheConstants.{BLOCK_LIMIT};
 ghost use Rattle.s66_source.specs.BlockParts.{AreParts};
 ghost use Rattle.s66_source.specs.Printed.{Placed, ArePlaced, instruction_lines, label_field, printed};
-ghost use Rattle.s66_source.specs.ReadAgain.{AreComplete, ArePlacedAgain};
+ghost use Rattle.s66_source.specs.ReadAgain.{AreComplete, AreGivenAgain};
 ghost use Rattle.s66_source.specs.Replaced.{printed_in};
 ghost use Rattle.s66_source.specs.Roles.{is_note, is_note_of, is_dropped, is_copied, roles, lines_that, mixed_source, outside_source};
 
@@ -62,12 +64,14 @@ pub fn copied_law()
     ensures class { (after : Bool) (line : List ℕ) → class_of after (body line) ≡ class_of after line }
 {}
 
-/// If a printed source is accepted when it is read again, its blocks are those of the source, each in its placed order. It is
-/// refused if a line or the source has grown too long.
+/// If a source that was printed in any way is accepted when it is read again, its blocks are those of the source: one that stands is the
+/// same, and any other is in its order. It is refused if a line or the source has grown too long.
 pub fn read_again_law()
-    ensures { (source : Reading) (blocks again : List Block) (ps : List Placed) → source_of source ≡ Ok blocks →
-        ArePlaced blocks ps → AreComplete blocks ps →
-        source_of (record { cut = source.cut; text = printed source ps }) ≡ Ok again → ArePlacedAgain blocks ps again }
+    ensures { (quiet : Bool) (columns : Columns) (source : Reading) (blocks again : List Block)
+        (given : List (Option Placed)) → source_of source ≡ Ok blocks → AreGiven blocks given →
+        AreComplete blocks given →
+        source_of (record { cut = source.cut; text = printed_in quiet columns source given }) ≡ Ok again →
+        AreGivenAgain blocks given again }
 {}
 
 /// Where no block stands, a source is printed as by its orders alone.
@@ -295,12 +299,13 @@ pub fn printed_in_examples()
         codes "LOOP      BX1 X2\n" }
 {}
 
-/// How many blanks come before an operation that keeps its column: after a label, after a tab alone, and in a line with a long label. And
-/// a source printed so, of which one block stands.
+/// How many blanks come before an operation that keeps its column: after a label, after a tab alone, far behind a label, and in a line with
+/// a long one. And a source printed so, of which one block stands.
 pub fn columns_examples()
     ensures label { indent Own (codes "LOOP  SA1 A1") ≡ 6 }
     ensures tab { indent Own (codes "\tBX6 X1") ≡ 2 }
-    ensures long { indent Own (codes " A.LABEL.OF.THIRTY.BYTES.AND.ONE  BX6 X1\r") ≡ 28 }
+    ensures far { indent Own (codes "LOOP                              BX6 X1\r") ≡ 28 }
+    ensures long { indent Own (codes "LABELLEDTEN SX6              B1") ≡ 10 }
     ensures kept { printed_in true Own (plain (codes "LOOP  SA1 A1+B1\n    BX6 X1\n* NOTE\n      BX7 X2     COPY \r\n ZR X1,L\n   BX1 X2\n")) (Some (record { order = 3 ∷ 1 ∷ 2 ∷ []; source = 16; time = 12; bound = 12; splits = None }) ∷ None ∷ []) ≡
         codes "* NOTE\n" ++
         codes "LOOP      BX7 X2     COPY\n" ++
@@ -310,11 +315,15 @@ pub fn columns_examples()
         codes "   BX1 X2\n" }
 {}
 
-/// A source printed with the instructions of its first block exchanged, and read again. The label of a `NO` that was left out is
-/// that of the block, and the bytes are those of the lines, with their remarks, but for what ends them.
-#[tactic(auto, unfolding(crate::specs::Printed::digits))]
+/// A source printed with the instructions of its first block exchanged, and read again; and one without reports, where operations keep their
+/// columns and the second block stands. The label of a `NO` that was left out is that of the block, and the bytes are those of the lines,
+/// with their remarks, but for what ends them; those of a block that stands are as they were.
+#[tactic(auto, unfolding(crate::specs::Replaced::digits))]
 pub fn read_again_examples()
-    ensures { source_of (plain (printed (plain (codes " LP NO\n  SA1 A1+B1  NEXT\r\n* NOTE\n  bx6 x2 \r\r\n  ZR X1,LP\n\tFX0 X1*X2\n")) (record { order = 2 ∷ 1 ∷ []; source = 9; time = 8; bound = 7; splits = Some 3 } ∷ record { order = 1 ∷ []; source = 4; time = 4; bound = 4; splits = None } ∷ []))) ≡
+    ensures anew { source_of (plain (printed_in false Usual (plain (codes " LP NO\n  SA1 A1+B1  NEXT\r\n* NOTE\n  bx6 x2 \r\r\n  ZR X1,LP\n\tFX0 X1*X2\n")) (Some (record { order = 2 ∷ 1 ∷ []; source = 9; time = 8; bound = 7; splits = Some 3 }) ∷ Some (record { order = 1 ∷ []; source = 4; time = 4; bound = 4; splits = None }) ∷ []))) ≡
         Ok (record { label = codes " LP"; entries = record { instr = instr 0o10 6 2 0; line = 4; bytes = codes "bx6 x2" } ∷ record { instr = instr 0o54 1 1 1; line = 5; bytes = codes "SA1 A1+B1  NEXT" } ∷ [] }
         ∷ record { label = []; entries = record { instr = instr 0o40 0 1 2; line = 8; bytes = codes "FX0 X1*X2" } ∷ [] } ∷ []) }
+    ensures stands { source_of (plain (printed_in true Own (plain (codes "  SA1 A1+B1  NEXT\r\n* NOTE\n  bx6 x2 \r\r\n  ZR X1,LP\n LP NO\n\tFX0 X1*X2 \r\n")) (Some (record { order = 2 ∷ 1 ∷ []; source = 9; time = 8; bound = 7; splits = None }) ∷ None ∷ []))) ≡
+        Ok (record { label = []; entries = record { instr = instr 0o10 6 2 0; line = 2; bytes = codes "bx6 x2" } ∷ record { instr = instr 0o54 1 1 1; line = 3; bytes = codes "SA1 A1+B1  NEXT" } ∷ [] }
+        ∷ record { label = codes " LP"; entries = record { instr = instr 0o40 0 1 2; line = 6; bytes = codes "FX0 X1*X2 " } ∷ [] } ∷ []) }
 {}
