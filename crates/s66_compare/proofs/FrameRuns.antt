@@ -1,5 +1,5 @@
 -- The frame of a source, line by line: a NO stands in it once its run has ended without an instruction.
-use Rattle.std.proofs.Common.{◌≡◌, ◌≢◌, ◌≤◌, ◌<◌, ◌+◌, ◌%◌, ◌==◌, ◌&&◌, ◌||◌, ◌∙◌, not, ℕ, zero, suc, Bool, true, false, true≢false, if◌then◌else◌, List, [], ◌∷◌, ◌++◌, None, map, refl, sym, ap, ap₂, arith, append_assoc, eqb, eq-eqb}
+use Rattle.std.proofs.Common.{◌≡◌, ◌≢◌, ◌≤◌, ◌<◌, ◌%◌, ◌==◌, ◌&&◌, ◌||◌, ◌∙◌, not, ℕ, zero, suc, Bool, true, false, true≢false, if◌then◌else◌, List, [], ◌∷◌, ◌++◌, None, map, refl, sym, ap, ap₂, arith, append_assoc, eqb, eq-eqb}
 use Rattle.std.specs.Prelude.{Ok}
 use Rattle.std.proofs.Math.Bool.{and-false}
 use Rattle.std.proofs.lemmas.Bool.{ne_eqb, or_right}
@@ -17,7 +17,8 @@ use Rattle.s66_source.specs.Roles.{has_block}
 use Rattle.s66_source.specs.Source.{Line, begins_block, block_of, blocks_of, classed_lines, classes_from, instructions, parts_of, put_before, refusal, source_of}
 use Rattle.s66_source.proofs.LineLaw.{no_refusal}
 use Rattle.s66_source.proofs.PrintedLines.{Ordered, ordered-classed, run_behind, run_behind-le}
-use Rattle.s66_source.proofs.ReadAgain.{FirstFrom, behind, behind-begins, behind-put, first-from, left, none-refused, parts_by, parts_from, rest-taken}
+use Rattle.s66_source.proofs.LineTexts.{AllFrom, all-from, behind, behind-begins, behind-put, left, parts_by, parts_from}
+use Rattle.s66_source.proofs.ReadAgain.{none-refused, rest-taken}
 use Rattle.s66_source.proofs.ReaderBlocks.{fresh, from_class}
 use Rattle.s66_compare.specs.Difference.{Shape, shape_of, shapes}
 
@@ -171,11 +172,11 @@ shapes-append : (ps qs : List FramePart) → shapes (ps ++ qs) ≡ shapes ps ++ 
 shapes-append [] qs = refl
 shapes-append (p ∷ ps) qs = ap (λ ss. shape_of p ∷ ss) (shapes-append ps qs)
 
-frame-line : (all : List Line) (parts : List (List Line)) (l : Line) (lines : List Line) → FirstFrom (suc l.number) parts →
+frame-line : (all : List Line) (parts : List (List Line)) (l : Line) (lines : List Line) → AllFrom (suc l.number) parts →
     frame_of_lines all (map block_of parts) (l ∷ lines) ≡ part_beside all l ++ frame_of_lines all (map block_of parts) lines
 frame-line all [] l lines h = refl
 frame-line all ([] ∷ parts) l lines h = absurd h
-frame-line all ((m ∷ more) ∷ parts) l lines h = rw (ne_eqb m.number l.number (λ same. absurd (omega (arith, same, h)))) refl
+frame-line all ((m ∷ more) ∷ parts) l lines h = rw (ne_eqb m.number l.number (λ same. absurd (omega (arith, same, h.0)))) refl
 
 frame-first : (all : List Line) (block : Block) (blocks : List Block) (l : Line) (lines : List Line) → line_of block 1 ≡ l.number → frame_of_lines all (block ∷ blocks) (l ∷ lines) ≡ block_part block ∷ frame_of_lines all blocks lines
 frame-first all block blocks l lines same = rw (eq-eqb (line_of block 1) l.number same) refl
@@ -184,7 +185,7 @@ abbrev if_beside : Bool → List ℕ → List Shape
 if_beside b line = if b then line_shape line ∷ [] else []
 
 -- a line at which no block begins
-shapes-line : (all : List Line) (parts : List (List Line)) (l : Line) (lines : List Line) (b : Bool) → FirstFrom (suc l.number) parts → is_beside all l ≡ b →
+shapes-line : (all : List Line) (parts : List (List Line)) (l : Line) (lines : List Line) (b : Bool) → AllFrom (suc l.number) parts → is_beside all l ≡ b →
     shapes (frame_of_lines all (map block_of parts) (l ∷ lines)) ≡ if_beside b l.bytes ++ shapes (frame_of_lines all (map block_of parts) lines)
 shapes-line all parts l lines b first beside =
     ap shapes (frame-line all parts l lines first) ∙ shapes-append (part_beside all l) (frame_of_lines all (map block_of parts) lines)
@@ -199,7 +200,7 @@ first-label zero label = refl
 first-label (suc n) label = ap (λ t. if t then label else []) (ne_eqb (suc n) 0 (λ none. omega (arith, none)))
 
 -- an instruction, with which a block begins or goes on
-shapes-put : (all : List Line) (parts : List (List Line)) (l : Line) (lines : List Line) → FirstFrom (suc l.number) (behind parts) → is_beside all l ≡ false →
+shapes-put : (all : List Line) (parts : List (List Line)) (l : Line) (lines : List Line) → AllFrom (suc l.number) (behind parts) → is_beside all l ≡ false →
     shapes (frame_of_lines all (map block_of (behind (put_before l parts))) (l ∷ lines))
     ≡ (if begins_block l then block_shape (first_label l.index l.label) ∷ [] else []) ++ shapes (frame_of_lines all (map block_of (behind parts)) lines)
 shapes-put all parts l lines first beside =
@@ -244,7 +245,7 @@ framed-class Comment line lines framed all before number run index label after p
     let rest : List Line = classes_from (suc number) run index label false lines in
     framed all (before ++ l ∷ []) (suc number) run index label false pads (within-same all before l rest run index within refl refl) (rest-taken l rest taken) none
     ∙ ap₂ (λ (t : Bool) (ss : List Shape). (if t then [] else pads) ++ ss) (sym (run-skip run l rest refl))
-    (sym (shapes-line all (behind (parts_from (suc number) run index label false lines)) l rest false (first-from lines (suc number) run index label false) refl))
+    (sym (shapes-line all (behind (parts_from (suc number) run index label false lines)) l rest false (all-from lines (suc number) run index label false) refl))
 framed-class Refused line lines framed all before number run index label after pads within taken none =
     absurd (none-refused number (classes_from (suc number) run index label false lines) (record { number = number; bytes = line; class = Refused; run = run; index = index; label = label }) refl taken)
 framed-class Other line lines framed all before number run index label after pads within taken none =
@@ -256,7 +257,7 @@ framed-class Other line lines framed all before number run index label after pad
     (framed all (before ++ l ∷ []) (suc number) (suc run) 0 [] false [] (within-new all before l rest run index within (omega arith) refl) (rest-taken l rest taken) (λ h. refl) ∙ no-pads (has_run (suc run) rest) more)
     ∙ append_assoc pads (line_shape line ∷ []) more
     ∙ ap₂ (λ (t : Bool) (ss : List Shape). (if t then [] else pads) ++ ss) (sym (none-ahead run (suc number) l rest (ordered-classed lines (suc number) (suc run) 0 [] false) refl))
-    (sym (shapes-line all parts l rest true (first-from lines (suc number) (suc run) 0 [] false) refl))
+    (sym (shapes-line all parts l rest true (all-from lines (suc number) (suc run) 0 [] false) refl))
 framed-class (Pad false) line lines framed all before number run index label after pads within taken none =
     let l : Line = record { number = number; bytes = line; class = Pad false; run = run; index = index; label = label } in
     let rest : List Line = classes_from (suc number) run index label true lines in
@@ -267,7 +268,7 @@ framed-class (Pad false) line lines framed all before number run index label aft
     (λ h. ap (λ (t : Bool). if t then [] else pads ++ line_shape line ∷ []) h)
     ∙ pads-kept (begun index) (has_run run rest) pads more (line_shape line) none
     ∙ ap₂ (λ (t : Bool) (ss : List Shape). (if t then [] else pads) ++ ss) (sym (run-skip run l rest refl))
-    (sym (shapes-line all parts l rest (not (begun index || has_run run rest)) (first-from lines (suc number) run index label true) (ap not (block-same all before l rest run index within refl refl))))
+    (sym (shapes-line all parts l rest (not (begun index || has_run run rest)) (all-from lines (suc number) run index label true) (ap not (block-same all before l rest run index within refl refl))))
 framed-class (Pad true) line lines framed all before number run index label after pads within taken none =
     let new : List ℕ = label_bytes (body line) in
     let l : Line = record { number = number; bytes = line; class = Pad true; run = suc run; index = 0; label = new } in
@@ -278,7 +279,7 @@ framed-class (Pad true) line lines framed all before number run index label afte
     (framed all (before ++ l ∷ []) (suc number) (suc run) 0 new true (line_shape line ∷ []) (within-new all before l rest run index within (omega arith) refl) (rest-taken l rest taken) (λ h. absurd (true≢false (sym h))))
     ∙ pads-new (has_run (suc run) rest) pads more (line_shape line)
     ∙ ap₂ (λ (t : Bool) (ss : List Shape). (if t then [] else pads) ++ ss) (sym (none-ahead run (suc number) l rest (ordered-classed lines (suc number) (suc run) 0 new true) refl))
-    (sym (shapes-line all parts l rest (not (has_run (suc run) rest)) (first-from lines (suc number) (suc run) 0 new true) (ap not (block-new all before l rest run index within refl refl))))
+    (sym (shapes-line all parts l rest (not (has_run (suc run) rest)) (all-from lines (suc number) (suc run) 0 new true) (ap not (block-new all before l rest run index within refl refl))))
 framed-class (Instruction false i) line lines framed all before number run index label after pads within taken none =
     let l : Line = record { number = number; bytes = line; class = Instruction false i; run = run; index = index; label = label } in
     let rest : List Line = classes_from (suc number) run (suc index) label true lines in
@@ -286,7 +287,7 @@ framed-class (Instruction false i) line lines framed all before number run index
     let more : List Shape = shapes (frame_of_lines all (map block_of (behind parts)) rest) in
     ap (λ ss. (if begins_block l then block_shape (first_label index label) ∷ [] else []) ++ ss)
     (framed all (before ++ l ∷ []) (suc number) run (suc index) label true [] (within-more all before l rest run run index index within (omega arith) refl refl) (rest-taken l rest taken) (λ h. refl) ∙ no-pads (has_run run rest) more)
-    ∙ ap₂ (λ (t : Bool) (ss : List Shape). (if t then [] else pads) ++ ss) (sym (some-ahead run l rest refl refl)) (sym (shapes-put all parts l rest (first-from lines (suc number) run (suc index) label true) refl))
+    ∙ ap₂ (λ (t : Bool) (ss : List Shape). (if t then [] else pads) ++ ss) (sym (some-ahead run l rest refl refl)) (sym (shapes-put all parts l rest (all-from lines (suc number) run (suc index) label true) refl))
 framed-class (Instruction true i) line lines framed all before number run index label after pads within taken none =
     let new : List ℕ = label_bytes (body line) in
     let l : Line = record { number = number; bytes = line; class = Instruction true i; run = suc run; index = 0; label = new } in
@@ -296,7 +297,7 @@ framed-class (Instruction true i) line lines framed all before number run index 
     ap (λ ss. (pads ++ block_shape new ∷ []) ++ ss)
     (framed all (before ++ l ∷ []) (suc number) (suc run) 1 new true [] (within-more all before l rest run (suc run) index 0 within (omega arith) refl refl) (rest-taken l rest taken) (λ h. refl) ∙ no-pads (has_run (suc run) rest) more)
     ∙ append_assoc pads (block_shape new ∷ []) more
-    ∙ ap₂ (λ (t : Bool) (ss : List Shape). (if t then [] else pads) ++ ss) (sym (none-behind run (suc number) l rest (ordered-classed lines (suc number) (suc run) 1 new true) refl)) (sym (shapes-put all parts l rest (first-from lines (suc number) (suc run) 1 new true) refl))
+    ∙ ap₂ (λ (t : Bool) (ss : List Shape). (if t then [] else pads) ++ ss) (sym (none-behind run (suc number) l rest (ordered-classed lines (suc number) (suc run) 1 new true) refl)) (sym (shapes-put all parts l rest (all-from lines (suc number) (suc run) 1 new true) refl))
 
 frames-all : (lines : List Flagged) → Framed lines
 frames-all [] all before number run index label after pads within taken none = sym (append-nil pads)

@@ -8,6 +8,7 @@ pub mod Meanings
 pub mod Accepted
 pub mod FrameAgain
 pub mod FrameRuns
+pub mod PadTexts
 pub mod KeptPairs
 pub mod LinesAgain
 pub mod PlacedPairs

@@ -1,7 +1,7 @@
 -- What lines of a printed text add to its frame when it is read again: comments nothing, a copied line what it added, the instructions of a
 -- block the place of the block.
-use Rattle.std.proofs.Common.{◌≡◌, ◌≢◌, ◌≤◌, ◌+◌, ◌%◌, ◌==◌, ◌&&◌, ◌∙◌, ℕ, suc, Bool, true, false, if◌then◌else◌, None, List, [], ◌∷◌, ◌++◌, codes, length, refl, sym, ap, ap₂, subst, inl, inr, arith, append_assoc, eq-eqb}
-use Rattle.std.proofs.lemmas.Bool.{and_parts, and_right, ne_eqb, or_right}
+use Rattle.std.proofs.Common.{◌≡◌, ◌≢◌, ◌≤◌, ◌+◌, ◌-◌, ◌%◌, ◌==◌, ◌&&◌, ◌∙◌, ℕ, suc, Bool, true, false, if◌then◌else◌, Option, None, Some, List, [], ◌∷◌, ◌++◌, codes, get_or, length, refl, sym, ap, ap₂, subst, inl, inr, arith, append_assoc, eq-eqb}
+use Rattle.std.proofs.lemmas.Bool.{and_parts, ne_eqb, or_right}
 use Rattle.s66_isa.specs.Lists.{Among, every}
 use Rattle.s66_isa.specs.Table.{instr_at}
 use Rattle.s66_isa.specs.declared.instr.Instr.{Instr}
@@ -15,23 +15,30 @@ use Rattle.s66_line.specs.declared.class.Class.{Class}
 use Rattle.s66_line.specs.declared.class.Class.TheVariants.{Comment, Other, Refused, Pad, Instruction}
 use Rattle.s66_line.proofs.Wholes.{is_inside}
 use Rattle.s66_source.specs.LeftAlone.{Flagged, after_line, class_at, flagged_from, is_alone}
-use Rattle.s66_source.specs.Printed.{Placed, block_text, instruction_line, instruction_lines, label_field, notes_text, report}
+use Rattle.s66_source.specs.Columns.{indented_line, indented_lines, indents, line_start}
+use Rattle.s66_source.specs.Printed.{Placed}
+use Rattle.s66_source.specs.Replaced.{anew_text, text_for}
+use Rattle.s66_source.specs.declared.columns.Columns.{Columns}
 use Rattle.s66_source.specs.Source.{Line, classes_from, label_after, label_at, operand_refusal, place_after, place_at, refusal, run_after, run_at}
 use Rattle.s66_source.specs.LeftAlone.{Standing}
 use Rattle.s66_source.proofs.CharactersRead.{SpellsAll}
 use Rattle.s66_source.proofs.FlaggedLines.{same-alone}
-use Rattle.s66_source.proofs.FarOperands.{clear-printed, is_unclear}
+use Rattle.s66_source.proofs.FarOperands.{Fits, clear-printed, is_unclear, read-start}
 use Rattle.s66_source.specs.Redefined.{Redefined}
 use Rattle.s66_source.proofs.ReadAgain.{none-refused, rest-taken}
 use Rattle.s66_source.proofs.ReadBack.{lines_of-line, trim-twice}
-use Rattle.s66_source.proofs.ReadBlock.{AreSound, IsSoundAt, quiet-instruction, sound-at}
-use Rattle.s66_source.proofs.ReadComments.{AreLinesOfSource, ArePlainComments, Comments, comment-class, comment-clear, comments-append, quiet-behind, quiet-both, quiet-comment, comments-notes, comments-report, same-class, taken-class, with_newlines}
-use Rattle.s66_source.proofs.ReadLine.{IsLabel, every-trimmed, inside-line, read-line}
+use Rattle.s66_source.proofs.ReadBlock.{IsPrintable, IsSoundBlock, comments-front, front_text, printable-at, quiet-printable}
+use Rattle.s66_source.proofs.ReadComments.{AreLinesOfSource, ArePlainComments, Comments, comment-class, comment-clear, quiet-behind, quiet-both, quiet-comment, same-class, taken-class, with_newlines}
+use Rattle.s66_source.proofs.ReadLine.{IsLabel, every-trimmed, inside-start}
 use Rattle.s66_source.proofs.ReadStanding.{IsQuiet, after-body, alone-body, class_at-body, code-unflagged, comment-stays, flagged_at, goes_on, is_flagged, is_holding, not-alone}
 use Rattle.s66_source.proofs.ReaderBlocks.{next-index}
 use Rattle.s66_source.proofs.Standings.{code-line, code-stays}
 use Rattle.s66_compare.specs.Difference.{Shape}
 use Rattle.s66_compare.proofs.FrameRuns.{Reached, begun, block_shape, emit, first_label, line_shape, next, reached, runs}
+
+-- an unlabelled block may begin next
+abbrev pub Free : ℕ → List ℕ → Type 0
+Free index label = (index % BLOCK_LIMIT ≡ 0) × (first_label index label ≡ [])
 
 -- NO LINE IS REFUSED
 
@@ -178,105 +185,118 @@ skips-comments cut s bytes free comments = subst (Skips cut s) (sym comments.who
 
 -- AN INSTRUCTION LINE
 
-gives-instruction : (cut : Bool) (s : Standing) (label bytes : List ℕ) (i : Instr) (r : Reached) (text : List ℕ) (x : List Shape) → is_holding cut s ≡ false → IsQuiet cut text → IsLabel label → SpellsAll bytes i → every is_inside bytes ≡ true → (cut && is_unclear s.redefined bytes) ≡ false →
-    (Clean true (flagged_from cut s (lines_of text)) → runs (next r (Instruction (is_filled label) i) (label_field label ++ trim is_trailing bytes)) (flagged_from cut s (lines_of text)) ≡ x) →
-    gives_at cut s r (instruction_line label bytes ++ text) (emit r (Instruction (is_filled label) i) (label_field label ++ trim is_trailing bytes) ++ x)
-gives-instruction cut s label bytes i r text x free quiet is spells inside clear later =
-    let line : List ℕ = label_field label ++ trim is_trailing bytes in
+gives-instruction : (cut : Bool) (s : Standing) (label : List ℕ) (blanks : ℕ) (bytes : List ℕ) (i : Instr) (r : Reached) (text : List ℕ) (x : List Shape) → is_holding cut s ≡ false → IsQuiet cut text → IsLabel label → SpellsAll bytes i → every is_inside bytes ≡ true →
+    Fits cut blanks bytes → (cut && is_unclear s.redefined bytes) ≡ false →
+    (Clean true (flagged_from cut s (lines_of text)) → runs (next r (Instruction (is_filled label) i) (line_start label blanks ++ trim is_trailing bytes)) (flagged_from cut s (lines_of text)) ≡ x) →
+    gives_at cut s r (indented_line label blanks bytes ++ text) (emit r (Instruction (is_filled label) i) (line_start label blanks ++ trim is_trailing bytes) ++ x)
+gives-instruction cut s label blanks bytes i r text x free quiet is spells inside fits clear later =
+    let line : List ℕ = line_start label blanks ++ trim is_trailing bytes in
     let c : Class = Instruction (is_filled label) i in
-    let read = read-line label bytes i is spells in
-    let alone = not-alone cut s line (goes_on text) free (code-unflagged cut line (code-line false line (ap is_code (read.classed false))).0) quiet (clear-printed cut s.redefined label bytes i is spells clear) in
+    let read = read-start cut label blanks bytes i is fits spells in
+    let alone = not-alone cut s line (goes_on text) free (code-unflagged cut line (code-line false line (ap is_code (read.classed false))).0) quiet (clear-printed cut s.redefined label blanks bytes i is fits spells clear) in
     let stated = taken-class r.after (is_alone cut s line (goes_on text)) line c alone (read.classed r.after) in
-    gives-line cut s r line text c x (inside-line label bytes is.1 inside) (λ clean. stated)
+    gives-line cut s r line text c x (inside-start label blanks bytes is.1 inside) (λ clean. stated)
     (subst (λ stands. Clean true (flagged_from cut stands (lines_of text)) → runs (next r c line) (flagged_from cut stands (lines_of text)) ≡ x) (sym (code-stays cut (goes_on text) r.after s line (ap is_code stated))) later)
 
-quiet-lines : (cut : Bool) (known : Redefined) (block : Block) (ns text : List ℕ) → IsQuiet cut text → ((k : ℕ) → Among k ns → IsSoundAt cut known block k) → IsQuiet cut (instruction_lines block [] ns ++ text)
-quiet-lines cut known block [] text quiet sound = quiet
-quiet-lines cut known block (n ∷ ns) text quiet sound =
-    let here = sound n (inl refl) in
-    subst (IsQuiet cut) (sym (append_assoc (instruction_line [] (bytes_of block n)) (instruction_lines block [] ns) text))
-    (quiet-instruction cut [] (bytes_of block n) (instr_at (instrs_of block) n) (instruction_lines block [] ns ++ text) (refl, refl) here.0 here.1)
+-- that of a number of a block, which is printed after so many blanks if it has no label
+module _ (cut : Bool) (s : Standing) (block : Block) (blanks : List ℕ) (free : is_holding cut s ≡ false) where
+  gives-number : (label : List ℕ) (n : ℕ) (ns : List ℕ) (r : Reached) (text : List ℕ) (x : List Shape) → IsQuiet cut (indented_lines blanks block [] ns ++ text) → IsLabel label → IsPrintable cut s.redefined blanks block n →
+      (Clean true (flagged_from cut s (lines_of (indented_lines blanks block [] ns ++ text))) →
+      runs (next r (Instruction (is_filled label) (instr_at (instrs_of block) n)) (line_start label (get_or blanks (n - 1) 0) ++ trim is_trailing (bytes_of block n))) (flagged_from cut s (lines_of (indented_lines blanks block [] ns ++ text))) ≡ x) →
+      gives_at cut s r (indented_lines blanks block label (n ∷ ns) ++ text) (emit r (Instruction (is_filled label) (instr_at (instrs_of block) n)) (line_start label (get_or blanks (n - 1) 0) ++ trim is_trailing (bytes_of block n)) ++ x)
+  gives-number label n ns r text x quiet is here later =
+      subst (λ t. gives_at cut s r t (emit r (Instruction (is_filled label) (instr_at (instrs_of block) n)) (line_start label (get_or blanks (n - 1) 0) ++ trim is_trailing (bytes_of block n)) ++ x))
+      (sym (append_assoc (indented_line label (get_or blanks (n - 1) 0) (bytes_of block n)) (indented_lines blanks block [] ns) text))
+      (gives-instruction cut s label (get_or blanks (n - 1) 0) (bytes_of block n) (instr_at (instrs_of block) n) r (indented_lines blanks block [] ns ++ text) x free quiet is here.0.0 here.0.1 here.1 here.0.2 later)
 
--- those of a block that is begun add nothing
-gives-more : (cut : Bool) (s : Standing) (block : Block) (ns : List ℕ) (index : ℕ) (label text : List ℕ) (x : List Shape) → is_holding cut s ≡ false → IsQuiet cut text → ((k : ℕ) → Among k ns → IsSoundAt cut s.redefined block k) →
-    (1 ≤ length ns → (1 ≤ index % BLOCK_LIMIT) × (index % BLOCK_LIMIT + length ns ≤ BLOCK_LIMIT)) → gives_at cut s (reached true [] (index + length ns) label) text x →
-    gives_at cut s (reached true [] index label) (instruction_lines block [] ns ++ text) x
-gives-more cut s block [] index label text x free quiet sound within later =
-    let same : index + 0 ≡ index = omega arith in
-    subst (λ k. gives_at cut s (reached true [] k label) text x) same later
-gives-more cut s block (n ∷ ns) index label text x free quiet sound within later =
-    let rest : List ℕ = instruction_lines block [] ns ++ text in
-    let here = sound n (inl refl) in
-    let inside = within (omega arith) in
-    let none : (index % BLOCK_LIMIT == 0) ≡ false = ne_eqb (index % BLOCK_LIMIT) 0 (λ zero_at. omega (arith, zero_at, inside.0)) in
-    let same : index + length (n ∷ ns) ≡ suc index + length ns = omega arith in
-    let more = gives-more cut s block ns (suc index) label text x free quiet (λ k among. sound k (inr among))
-    (λ some. (let after : suc index % BLOCK_LIMIT ≡ suc (index % BLOCK_LIMIT) = next-index index (index % BLOCK_LIMIT) refl (λ full. omega (arith, full, inside.1, some)) in (omega (arith, after), omega (arith, after, inside.1))))
-    (subst (λ k. gives_at cut s (reached true [] k label) text x) same later) in
-    let step = gives-instruction cut s [] (bytes_of block n) (instr_at (instrs_of block) n) (reached true [] index label) rest x free (quiet-lines cut s.redefined block ns text quiet (λ k among. sound k (inr among))) (refl, refl) here.0 here.1 here.2 more in
-    subst (λ t. gives_at cut s (reached true [] index label) t x) (sym (append_assoc (instruction_line [] (bytes_of block n)) (instruction_lines block [] ns) text))
-    (subst (λ (ss : List Shape). gives_at cut s (reached true [] index label) (instruction_line [] (bytes_of block n) ++ rest) ss) (ap (λ t. (if t then block_shape (first_label index label) ∷ [] else []) ++ x) none) step)
+  quiet-lines : (ns text : List ℕ) → IsQuiet cut text → ((k : ℕ) → Among k ns → IsPrintable cut s.redefined blanks block k) → IsQuiet cut (indented_lines blanks block [] ns ++ text)
+  quiet-lines [] text quiet sound = quiet
+  quiet-lines (n ∷ ns) text quiet sound = quiet-printable cut s.redefined blanks block [] n ns text (refl, refl) (sound n (inl refl))
 
--- A WHOLE BLOCK adds its place
+  -- those of a block that is begun add nothing
+  gives-more : (ns : List ℕ) (index : ℕ) (label text : List ℕ) (x : List Shape) → IsQuiet cut text → ((k : ℕ) → Among k ns → IsPrintable cut s.redefined blanks block k) →
+      (1 ≤ length ns → (1 ≤ index % BLOCK_LIMIT) × (index % BLOCK_LIMIT + length ns ≤ BLOCK_LIMIT)) → gives_at cut s (reached true [] (index + length ns) label) text x →
+      gives_at cut s (reached true [] index label) (indented_lines blanks block [] ns ++ text) x
+  gives-more [] index label text x quiet sound within later =
+      let same : index + 0 ≡ index = omega arith in
+      subst (λ k. gives_at cut s (reached true [] k label) text x) same later
+  gives-more (n ∷ ns) index label text x quiet sound within later =
+      let inside = within (omega arith) in
+      let none : (index % BLOCK_LIMIT == 0) ≡ false = ne_eqb (index % BLOCK_LIMIT) 0 (λ zero_at. omega (arith, zero_at, inside.0)) in
+      let same : index + length (n ∷ ns) ≡ suc index + length ns = omega arith in
+      let more = gives-more ns (suc index) label text x quiet (λ k among. sound k (inr among))
+      (λ some. (let after : suc index % BLOCK_LIMIT ≡ suc (index % BLOCK_LIMIT) = next-index index (index % BLOCK_LIMIT) refl (λ full. omega (arith, full, inside.1, some)) in (omega (arith, after), omega (arith, after, inside.1))))
+      (subst (λ k. gives_at cut s (reached true [] k label) text x) same later) in
+      subst (λ (ss : List Shape). gives_at cut s (reached true [] index label) (indented_lines blanks block [] (n ∷ ns) ++ text) ss) (ap (λ t. (if t then block_shape (first_label index label) ∷ [] else []) ++ x) none)
+      (gives-number [] n ns (reached true [] index label) text x (quiet-lines ns text quiet (λ k among. sound k (inr among))) (refl, refl) (sound n (inl refl)) more)
 
--- an unlabelled block may begin next
-abbrev pub Free : ℕ → List ℕ → Type 0
-Free index label = (index % BLOCK_LIMIT ≡ 0) × (first_label index label ≡ [])
+  -- A WHOLE BLOCK adds its place
 
-gives-first : (cut : Bool) (s : Standing) (block : Block) (label : List ℕ) (k : ℕ) (ks : List ℕ) (r : Reached) (text : List ℕ) (x : List Shape) → is_holding cut s ≡ false → IsQuiet cut text → IsLabel label → (label ≡ [] → Free r.index r.label) →
-    ((n : ℕ) → Among n (k ∷ ks) → IsSoundAt cut s.redefined block n) → suc (length ks) ≤ BLOCK_LIMIT →
-    ((index : ℕ) (name : List ℕ) → index % BLOCK_LIMIT ≡ 0 → gives_at cut s (reached true [] (index + suc (length ks)) name) text x) →
-    gives_at cut s r (instruction_lines block label (k ∷ ks) ++ text) ((if is_filled label then r.pads else []) ++ block_shape label ∷ x)
-gives-first cut s block [] k ks r text x free quiet is new sound few later =
-    let rest : List ℕ = instruction_lines block [] ks ++ text in
-    let here = sound k (inl refl) in
-    let at = new refl in
-    let one : suc r.index % BLOCK_LIMIT ≡ 1 = next-index r.index 0 at.0 (λ same. omega (arith, same)) in
-    let same : r.index + suc (length ks) ≡ suc r.index + length ks = omega arith in
-    let more = gives-more cut s block ks (suc r.index) r.label text x free quiet (λ n among. sound n (inr among)) (λ some. (omega (arith, one), omega (arith, one, few)))
-    (subst (λ n. gives_at cut s (reached true [] n r.label) text x) same (later r.index r.label at.0)) in
-    let step = gives-instruction cut s [] (bytes_of block k) (instr_at (instrs_of block) k) r rest x free (quiet-lines cut s.redefined block ks text quiet (λ n among. sound n (inr among))) (refl, refl) here.0 here.1 here.2 more in
-    subst (λ t. gives_at cut s r t (block_shape [] ∷ x)) (sym (append_assoc (instruction_line [] (bytes_of block k)) (instruction_lines block [] ks) text))
-    (subst (λ (ss : List Shape). gives_at cut s r (instruction_line [] (bytes_of block k) ++ rest) ss)
-    (ap (λ t. (if t then block_shape (first_label r.index r.label) ∷ [] else []) ++ x) (eq-eqb (r.index % BLOCK_LIMIT) 0 at.0) ∙ ap (λ name. block_shape name ∷ x) at.1) step)
-gives-first cut s block (b ∷ name) k ks r text x free quiet is new sound few later =
-    let label : List ℕ = b ∷ name in
-    let rest : List ℕ = instruction_lines block [] ks ++ text in
-    let here = sound k (inl refl) in
-    let line : List ℕ = label_field label ++ trim is_trailing (bytes_of block k) in
-    let read = read-line label (bytes_of block k) (instr_at (instrs_of block) k) is here.0 in
-    let one : 1 % BLOCK_LIMIT ≡ 1 = refl in
-    let same : 0 + suc (length ks) ≡ 1 + length ks = omega arith in
-    let more = gives-more cut s block ks 1 (label_bytes (body line)) text x free quiet (λ n among. sound n (inr among)) (λ some. (omega (arith, one), omega (arith, one, few)))
-    (subst (λ n. gives_at cut s (reached true [] n (label_bytes (body line))) text x) same (later 0 (label_bytes (body line)) refl)) in
-    let step = gives-instruction cut s label (bytes_of block k) (instr_at (instrs_of block) k) r rest x free (quiet-lines cut s.redefined block ks text quiet (λ n among. sound n (inr among))) is here.0 here.1 here.2 more in
-    subst (λ t. gives_at cut s r t (r.pads ++ block_shape label ∷ x)) (sym (append_assoc (instruction_line label (bytes_of block k)) (instruction_lines block [] ks) text))
-    (subst (λ (ss : List Shape). gives_at cut s r (instruction_line label (bytes_of block k) ++ rest) ss)
-    (append_assoc r.pads (block_shape (label_bytes (body line)) ∷ []) x ∙ ap (λ found. r.pads ++ block_shape found ∷ x) (read.labelled refl)) step)
+  gives-first : (label : List ℕ) (k : ℕ) (ks : List ℕ) (r : Reached) (text : List ℕ) (x : List Shape) → IsQuiet cut text → IsLabel label → (label ≡ [] → Free r.index r.label) →
+      ((n : ℕ) → Among n (k ∷ ks) → IsPrintable cut s.redefined blanks block n) → suc (length ks) ≤ BLOCK_LIMIT →
+      ((index : ℕ) (name : List ℕ) → index % BLOCK_LIMIT ≡ 0 → gives_at cut s (reached true [] (index + suc (length ks)) name) text x) →
+      gives_at cut s r (indented_lines blanks block label (k ∷ ks) ++ text) ((if is_filled label then r.pads else []) ++ block_shape label ∷ x)
+  gives-first [] k ks r text x quiet is new sound few later =
+      let at = new refl in
+      let one : suc r.index % BLOCK_LIMIT ≡ 1 = next-index r.index 0 at.0 (λ same. omega (arith, same)) in
+      let same : r.index + suc (length ks) ≡ suc r.index + length ks = omega arith in
+      let more = gives-more ks (suc r.index) r.label text x quiet (λ n among. sound n (inr among)) (λ some. (omega (arith, one), omega (arith, one, few)))
+      (subst (λ n. gives_at cut s (reached true [] n r.label) text x) same (later r.index r.label at.0)) in
+      subst (λ (ss : List Shape). gives_at cut s r (indented_lines blanks block [] (k ∷ ks) ++ text) ss)
+      (ap (λ t. (if t then block_shape (first_label r.index r.label) ∷ [] else []) ++ x) (eq-eqb (r.index % BLOCK_LIMIT) 0 at.0) ∙ ap (λ name. block_shape name ∷ x) at.1)
+      (gives-number [] k ks r text x (quiet-lines ks text quiet (λ n among. sound n (inr among))) is (sound k (inl refl)) more)
+  gives-first (b ∷ name) k ks r text x quiet is new sound few later =
+      let label : List ℕ = b ∷ name in
+      let here = sound k (inl refl) in
+      let line : List ℕ = line_start label (get_or blanks (k - 1) 0) ++ trim is_trailing (bytes_of block k) in
+      let read = read-start cut label (get_or blanks (k - 1) 0) (bytes_of block k) (instr_at (instrs_of block) k) is here.1 here.0.0 in
+      let one : 1 % BLOCK_LIMIT ≡ 1 = refl in
+      let same : 0 + suc (length ks) ≡ 1 + length ks = omega arith in
+      let more = gives-more ks 1 (label_bytes (body line)) text x quiet (λ n among. sound n (inr among)) (λ some. (omega (arith, one), omega (arith, one, few)))
+      (subst (λ n. gives_at cut s (reached true [] n (label_bytes (body line))) text x) same (later 0 (label_bytes (body line)) refl)) in
+      subst (λ (ss : List Shape). gives_at cut s r (indented_lines blanks block label (k ∷ ks) ++ text) ss)
+      (append_assoc r.pads (block_shape (label_bytes (body line)) ∷ []) x ∙ ap (λ found. r.pads ++ block_shape found ∷ x) (read.labelled refl))
+      (gives-number label k ks r text x (quiet-lines ks text quiet (λ n among. sound n (inr among))) is here more)
 
-pub gives-block : (cut : Bool) (s : Standing) (all : List Line) (n : ℕ) (block : Block) (p : Placed) (r : Reached) (text : List ℕ) (x : List Shape) → is_holding cut s ≡ false → IsQuiet cut text → AreLinesOfSource cut all → IsLabel block.label →
-    (block.label ≡ [] → Free r.index r.label) → AreSound cut s.redefined block.entries → ((k : ℕ) → Among k p.order → (1 ≤ k) × (k ≤ length block.entries)) → 1 ≤ length p.order → length p.order ≤ BLOCK_LIMIT →
-    ((index : ℕ) (name : List ℕ) → index % BLOCK_LIMIT ≡ 0 → gives_at cut s (reached true [] (index + length p.order) name) text x) →
-    gives_at cut s r (block_text all n block p ++ text) ((if is_filled block.label then r.pads else []) ++ block_shape block.label ∷ x)
-gives-block cut s all n block p r text x free quiet source is new sound numbers some few later =
-    subst (λ t. gives_at cut s r t ((if is_filled block.label then r.pads else []) ++ block_shape block.label ∷ x)) (sym (append_assoc head (instruction_lines block block.label p.order) text)) (by_order p.order numbers some few later)
+-- THE TEXT OF A BLOCK adds the place of the block, whatever stands before it and comes after it
+
+pub record GivesBlock (cut : Bool) (known : Redefined) (block : Block) (text : List ℕ) : Type 0 where
+  pub gives : (s : Standing) (r : Reached) (more : List ℕ) (x : List Shape) → is_holding cut s ≡ false → s.redefined ≡ known → IsQuiet cut more → (block.label ≡ [] → Free r.index r.label) →
+      ((index : ℕ) (name : List ℕ) → index % BLOCK_LIMIT ≡ 0 → gives_at cut s (reached true [] (index + length block.entries) name) more x) →
+      gives_at cut s r (text ++ more) ((if is_filled block.label then r.pads else []) ++ block_shape block.label ∷ x)
+
+abbrev pub GivesIf : Bool → Redefined → Block → Option (List ℕ) → Type 0
+GivesIf cut known block None = Unit {0}
+GivesIf cut known block (Some text) = GivesBlock cut known block text
+
+-- the texts of blocks, the first of which is the n-th, that don't stand
+abbrev pub GiveBlocks : Bool → Redefined → List (Option (List ℕ)) → ℕ → List Block → Type 0
+GiveBlocks cut known texts n [] = Unit {0}
+GiveBlocks cut known texts n (block ∷ blocks) = GivesIf cut known block (text_for texts n) × GiveBlocks cut known texts (suc n) blocks
+
+pub gives-anew : (cut quiet : Bool) (columns : Columns) (known : Redefined) (all : List Line) (n : ℕ) (block : Block) (p : Placed) → AreLinesOfSource cut all → IsSoundBlock cut known columns all block →
+    ((k : ℕ) → Among k p.order → (1 ≤ k) × (k ≤ length block.entries)) → length p.order ≡ length block.entries → 1 ≤ length block.entries → GivesBlock cut known block (anew_text quiet columns all n block p)
+gives-anew cut quiet columns known all n block p source is numbers whole some = record {
+  gives = λ s r more x free knows ends new later.
+      subst (λ t. gives_at cut s r t ((if is_filled block.label then r.pads else []) ++ block_shape block.label ∷ x)) (sym (append_assoc head (indented_lines blanks block block.label p.order) more))
+      (by_order p.order numbers whole s r more x free (subst (λ k. IsSoundBlock cut k columns all block) (sym knows) is) ends new later);
+}
   where
+    blanks : List ℕ
+    blanks = indents columns all block
+
     head : List ℕ
-    head = report n (length block.entries) p ++ notes_text block all
+    head = front_text quiet all n block p
 
-    skipped : Skips cut s head
-    skipped = skips-comments cut s head free (comments-append cut (report n (length block.entries) p) (notes_text block all) (comments-report cut n (length block.entries) p) (comments-notes cut block all source))
-
-    by_order : (order : List ℕ) → ((k : ℕ) → Among k order → (1 ≤ k) × (k ≤ length block.entries)) → 1 ≤ length order → length order ≤ BLOCK_LIMIT →
-        ((index : ℕ) (name : List ℕ) → index % BLOCK_LIMIT ≡ 0 → gives_at cut s (reached true [] (index + length order) name) text x) →
-        gives_at cut s r (head ++ (instruction_lines block block.label order ++ text)) ((if is_filled block.label then r.pads else []) ++ block_shape block.label ∷ x)
-    by_order [] numbers some few later = absurd (omega (arith, some))
-    by_order (k ∷ ks) numbers some few later =
-        let sound_at : (m : ℕ) → Among m (k ∷ ks) → IsSoundAt cut s.redefined block m = λ m among. (let number = numbers m among in sound-at cut s.redefined block m sound number.0 number.1) in
-        let first = sound_at k (inl refl) in
-        let rest : List ℕ = instruction_lines block [] ks ++ text in
-        let quiet_here : IsQuiet cut (instruction_lines block block.label (k ∷ ks) ++ text) =
-        subst (IsQuiet cut) (sym (append_assoc (instruction_line block.label (bytes_of block k)) (instruction_lines block [] ks) text))
-        (quiet-instruction cut block.label (bytes_of block k) (instr_at (instrs_of block) k) rest is first.0 first.1) in
-        skipped.skips r (instruction_lines block block.label (k ∷ ks) ++ text) ((if is_filled block.label then r.pads else []) ++ block_shape block.label ∷ x) quiet_here
-        (λ after. gives-first cut s block block.label k ks (reached after r.pads r.index r.label) text x free quiet is new sound_at few later)
+    by_order : (order : List ℕ) → ((k : ℕ) → Among k order → (1 ≤ k) × (k ≤ length block.entries)) → length order ≡ length block.entries →
+        (s : Standing) (r : Reached) (more : List ℕ) (x : List Shape) → is_holding cut s ≡ false → IsSoundBlock cut s.redefined columns all block → IsQuiet cut more → (block.label ≡ [] → Free r.index r.label) →
+        ((index : ℕ) (name : List ℕ) → index % BLOCK_LIMIT ≡ 0 → gives_at cut s (reached true [] (index + length block.entries) name) more x) →
+        gives_at cut s r (head ++ (indented_lines blanks block block.label order ++ more)) ((if is_filled block.label then r.pads else []) ++ block_shape block.label ∷ x)
+    by_order [] numbers size s r more x free sound ends new later = absurd (omega (arith, size, some))
+    by_order (k ∷ ks) numbers size s r more x free sound ends new later =
+        let printable : (m : ℕ) → Among m (k ∷ ks) → IsPrintable cut s.redefined blanks block m = λ m among. printable-at cut s.redefined columns all block m sound (numbers m among) in
+        let skipped : Skips cut s head = skips-comments cut s head free (comments-front cut quiet all n block p source) in
+        skipped.skips r (indented_lines blanks block block.label (k ∷ ks) ++ more) ((if is_filled block.label then r.pads else []) ++ block_shape block.label ∷ x)
+        (quiet-printable cut s.redefined blanks block block.label k ks more is.label (printable k (inl refl)))
+        (λ after. gives-first cut s block blanks free block.label k ks (reached after r.pads r.index r.label) more x ends is.label new printable (omega (arith, size, is.few))
+        (λ index name at. subst (λ m. gives_at cut s (reached true [] (index + m) name) more x) (sym size) (later index name at)))

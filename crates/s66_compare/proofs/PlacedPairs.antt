@@ -1,17 +1,20 @@
--- The blocks of a printed source that is read again are found to be the source's in legal orders.
-use Rattle.std.proofs.Common.{ℕ, zero, suc, ◌≡◌, ◌≤◌, ◌∙◌, true, List, [], ◌∷◌, ◌++◌, length, map, refl, ap, ap₂, sym, inl, inr}
+-- The blocks of a printed source that is read again are found to be the source's, in legal orders where they don't stand.
+use Rattle.std.proofs.Common.{ℕ, zero, suc, ◌≡◌, ◌≤◌, ◌∙◌, true, Option, None, Some, List, [], ◌∷◌, ◌++◌, get_or, length, map, refl, ap, ap₂, sym, arith, inl, inr}
 use Rattle.std.proofs.lemmas.Bool.{and_from}
+use Rattle.std.proofs.lemmas.List.{length-map}
 use Rattle.std.proofs.lemmas.Simd.{map-map}
 use Rattle.s66_isa.specs.Lists.{Among, every, rising}
-use Rattle.s66_isa.specs.Table.{instr_at}
+use Rattle.s66_isa.specs.Table.{instr_at, numbers}
 use Rattle.s66_isa.specs.declared.instr.Instr.{Instr}
 use Rattle.s66_isa.specs.declared.profile.Profile.{Profile}
 use Rattle.s66_line.specs.Block.{Block, Entry, bytes_of, instrs_of, text_of, whole_text_of}
 use Rattle.s66_line.specs.Fields.{trim, upper, is_trailing}
 use Rattle.s66_line.specs.InstructionText.{IsTextOf, spelling}
 use Rattle.s66_model.specs.LegalOrder.{IsLegal}
+use Rattle.s66_model.proofs.Beginnings.{source-legal}
+use Rattle.s66_source.specs.Keeping.{AreGiven, others}
 use Rattle.s66_source.specs.Printed.{Placed}
-use Rattle.s66_source.specs.ReadAgain.{ArePlacedAgain, IsPlacedAgain}
+use Rattle.s66_source.specs.ReadAgain.{AreComplete, AreGivenAgain, IsGivenAgain, IsPlacedAgain, IsSameAgain}
 use Rattle.s66_source.proofs.ReadLine.{characters-again, operand-again, operation-again}
 use Rattle.s66_compare.specs.Pairing.{paired, texts_of}
 use Rattle.s66_compare.specs.Rows.{is_legal, rows_of}
@@ -58,21 +61,56 @@ placed-texts block again order spelled within placed =
     ∙ map-map whole_text_in (λ n. trim is_trailing (bytes_of block n)) order
     ∙ texts-placed block order spelled within
 
+-- STANDING, it has the bytes that it had
+same-texts : (block again : Block) → IsSameAgain block again → texts_of again ≡ texts_of block
+same-texts block again same =
+    texts-entries again.label again.entries
+    ∙ sym (map-map whole_text_in (λ (e : Entry). e.bytes) again.entries)
+    ∙ ap (map whole_text_in) same.bytes
+    ∙ map-map whole_text_in (λ (e : Entry). e.bytes) block.entries
+    ∙ sym (texts-entries block.label block.entries)
+
 -- BLOCK BY BLOCK
 
--- each number of a legal order is one of the block's, and the block is spelled
-abbrev pub AreLegal : List Block → List Placed → Type 0
-AreLegal [] [] = Unit {0}
-AreLegal (block ∷ blocks) (p ∷ ps) = (IsSpelled block × IsLegal (instrs_of block) p.order × ((n : ℕ) → Among n p.order → (1 ≤ n) × (n ≤ length (instrs_of block)))) × AreLegal blocks ps
-AreLegal blocks ps = ⊥
+-- the block stands, or is printed in a legal order, each number of which is one of its own
+abbrev pub IsLegalIf : Block → Option Placed → Type 0
+IsLegalIf block None = Unit {0}
+IsLegalIf block (Some p) = IsLegal (instrs_of block) p.order × ((n : ℕ) → Among n p.order → (1 ≤ n) × (n ≤ length (instrs_of block)))
 
-pub placed-legal : (p : Profile) (blocks again : List Block) (ps : List Placed) → AreLegal blocks ps → ArePlacedAgain blocks ps again → every is_legal (rows_of p blocks again) ≡ true
-placed-legal p [] [] [] legal placed = refl
-placed-legal p [] (w ∷ ws) [] legal placed = absurd placed
-placed-legal p [] ws (x ∷ ps) legal placed = absurd legal
-placed-legal p (o ∷ os) ws [] legal placed = absurd legal
-placed-legal p (o ∷ os) [] (x ∷ ps) legal placed = absurd placed
-placed-legal p (o ∷ os) (w ∷ ws) (x ∷ ps) legal placed =
-    let (spelled, order, within) = legal.0 in
+-- and it is spelled
+abbrev pub AreLegal : List Block → List (Option Placed) → Type 0
+AreLegal [] given = Unit {0}
+AreLegal (block ∷ blocks) given = (IsSpelled block × IsLegalIf block (get_or given 0 None)) × AreLegal blocks (others given)
+
+given-kept : (block again : Block) (g : Option Placed) → IsSpelled block → IsLegalIf block g → IsGivenAgain block again g → is_kept (verdict_of block again (paired block again)) ≡ true
+given-kept block again None spelled legal same = order-kept block again (numbers (instrs_of block)) spelled (source-legal (instrs_of block)) (same-texts block again same)
+given-kept block again (Some p) spelled legal placed = order-kept block again p.order spelled legal.0 (placed-texts block again p.order spelled legal.1 placed)
+
+pub given-legal : (p : Profile) (blocks again : List Block) (given : List (Option Placed)) → AreLegal blocks given → AreGivenAgain blocks given again → every is_legal (rows_of p blocks again) ≡ true
+given-legal p [] [] given legal are = refl
+given-legal p [] (w ∷ ws) given legal are = absurd are
+given-legal p (o ∷ os) [] given legal are = absurd are
+given-legal p (o ∷ os) (w ∷ ws) given legal are =
     and_from (is_kept (verdict_of o w (paired o w))) (every is_legal (rows_of p os ws))
-    (order-kept o w x.order spelled order (placed-texts o w x.order spelled within placed.0)) (placed-legal p os ws ps legal.1 placed.1)
+    (given-kept o w (get_or given 0 None) legal.0.0 legal.0.1 are.0) (given-legal p os ws (others given) legal.1 are.1)
+
+-- such orders are complete, and of numbers of their blocks
+
+pub legal-given : (blocks : List Block) (given : List (Option Placed)) → AreLegal blocks given → AreGiven blocks given
+legal-given [] given legal = tt
+legal-given (block ∷ blocks) [] legal = tt
+legal-given (block ∷ blocks) (None ∷ given) legal = legal-given blocks given legal.1
+legal-given (block ∷ blocks) (Some p ∷ given) legal =
+    (λ n among. (let within = legal.0.1.1 n among in let count = length-map block.entries (λ (e : Entry). e.instr) in (within.0, omega (arith, within.1, count))), legal-given blocks given legal.1)
+
+pub legal-complete : (blocks : List Block) (given : List (Option Placed)) → AreLegal blocks given → AreComplete blocks given
+legal-complete [] given legal = tt
+legal-complete (block ∷ blocks) [] legal = tt
+legal-complete (block ∷ blocks) (None ∷ given) legal = legal-complete blocks given legal.1
+legal-complete (block ∷ blocks) (Some p ∷ given) legal = (legal.0.1.0.whole ∙ length-map block.entries (λ (e : Entry). e.instr), legal-complete blocks given legal.1)
+
+-- where all blocks stand, or so many before others
+
+pub legal-standing : (blocks : List Block) → ((block : Block) → Among block blocks → IsSpelled block) → AreLegal blocks []
+legal-standing [] spells = tt
+legal-standing (block ∷ blocks) spells = ((spells block (inl refl), tt), legal-standing blocks (λ other among. spells other (inr among)))
