@@ -15,7 +15,7 @@ on an input, or a call of TOOLS. It is run with ample memory first, and that has
   and WRITE FAILED; and with writes of one byte each: as with ample memory;
 - with standard error failing: its status and its output.
 
---quick tries of many requests the first ones and then every tenth.
+--quick tries of many requests the first ones and then every tenth, but of the block MARKED each.
 
 For each row it prints how many requests there are, and how often each answer came. The status is 1 if an answer is another.
 tools/refused.c stands between the program and the C library; a C compiler has to be on the PATH.
@@ -40,6 +40,7 @@ FIRST = 20  # of these requests --quick passes over none
 MULTIPLIES = "  FX1 X2*X3\n  FX4 X5*X6\n  FX0 X7*X7\n"
 FIVE = "".join(f"  FX{i} X7*X7\n" for i in range(5))  # 206 splits, all of which any search takes, and one best time
 SEVEN = "".join(f"  FX{i} X7*X7\n" for i in range(7))  # 8,660 splits without dominance, of which the first 2,048 are no worker's
+MARKED = "  FX0 X7*X7\n  LX1 1\n  FX2 X7*X7\n  FX3 X7*X7\n"  # 38 splits, and 39 if one of its marks is lost
 SOURCE = f"* NOTE\nLOOP   SA1 A1+B1\n  BX6 X1\n  NO\n  VFD 60/0\n{FIVE}  ZR X1,LOOP\n{MULTIPLIES}"
 REFUSED_SOURCE = SOURCE + ",MORE\n"
 ALIKE = "  SB0 B1\n" * 5
@@ -54,6 +55,7 @@ def searches():
     yield ["order", "--workers", "2", "--nodes", "0"], FIVE, {7}
     yield ["order", "--deep", "--trace", "--workers", "1", "--nodes", "0"], FIVE, {0, 7}
     yield ["prove", "--deep", "--workers", "1", "--nodes", "20"], FIVE, {0, 7}
+    yield ["order", "--deep", "--trace", "--workers", "1"], MARKED, {0}
     for words in (["order", "--trace", "--workers", "2"], ["order", "--workers", "4"], ["sum", "--workers", "16"]):
         yield [*words, "--nodes", "2100"], SEVEN, {7}
     # whole blocks by the workers
@@ -231,7 +233,8 @@ def main(arguments):
         library = library_in(folder)
 
         def check(place, command, given, statuses):
-            row = Row(Runner(library, os.path.join(folder, f"counts{place}")), command, given, statuses, step)
+            each = 1 if given == MARKED.encode() else step
+            row = Row(Runner(library, os.path.join(folder, f"counts{place}")), command, given, statuses, each)
             row.refuse_memory()
             row.refuse_threads()
             if command[0] == program:

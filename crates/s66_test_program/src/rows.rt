@@ -1,6 +1,6 @@
 use crate::running::{GUARD, LINT, ORDER, ORDER_TRACE, PAGE, TIME, check, check_told, run};
 use crate::verdicts::altered;
-use s66_test_search::{ONE_LOAD, PACKING_GAP};
+use s66_test_search::{MULTIPLIES, ONE_LOAD, PACKING_GAP};
 use std::process::Abort;
 use std::sync::Wait;
 use std::thread::Threads;
@@ -108,6 +108,15 @@ const REPEATED: &[(&str, &[&str], &str, usize, u8, &str)] = &[
         201,
         3,
         "LINE 1 TOO LONG\na line has at most 200 bytes; s66 lint lists all that have more\n",
+    ),
+    // one of two units has 17 of them, each for 11; the floor, which shares out 33 times 11, is 182
+    (
+        "thirty-three multiplies, with facts",
+        &["s66", "sum", "--workers", "1", "--deep", "--nodes", "0"],
+        MULTIPLIES,
+        11,
+        0,
+        "BLOCK 1 LINE 1 COUNT 33 SOURCE 187 TIME 187 BEST MOVED 0\nTOTAL BLOCKS 1 SOURCE 187 TIME 187 BEST 1 MOVED 0\n",
     ),
     ("20,000 lines", TIME, "*\n", 20_000, 0, ""),
     (

@@ -230,9 +230,8 @@ impl<'a> Search<'a> {
         None
     }
 
-    /// Splits an open node, unless something closes it now, and returns whether it could.
+    /// Splits an open node, unless something closes it now, and returns whether it could: it can't once all splits are made.
     fn take(&mut self, next: &Next) -> Result<bool, AllocError>
-        requires { self.old.splits < self.old.most }
         ensures { GoesOn self.old self.new }
     {
         let Some(own) = self.nodes.at(next.node) else {
@@ -246,6 +245,9 @@ impl<'a> Search<'a> {
             self.nodes.set_fate(next.node, fate);
             return Ok(true);
         }
+        if self.splits >= self.most {
+            return Ok(false);
+        }
         self.split(next.node, own.place)
     }
 
@@ -254,8 +256,8 @@ impl<'a> Search<'a> {
         self.low <= self.enough
     }
 
-    /// Goes on until no open node's floor is so low that a faster order may begin so, an order is enough, or all splits are made. What
-    /// each order takes at least then, in minor cycles.
+    /// Goes on until no open node's floor is so low that a faster order may begin so, an order is enough, or a node has to be split when
+    /// all splits are made. What each order takes at least then, in minor cycles.
     fn run(&mut self) -> Result<u32, AllocError>
         ensures { GoesOn self.old self.new }
     {
@@ -269,7 +271,7 @@ impl<'a> Search<'a> {
                 return Ok(self.low);
             }
             bound = next.floor;
-            if self.splits >= self.most || !self.take(&next)? || self.has_enough() {
+            if !self.take(&next)? || self.has_enough() {
                 return Ok(bound);
             }
         }
