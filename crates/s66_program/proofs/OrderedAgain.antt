@@ -37,7 +37,6 @@ all-rise n (m ∷ ms) h =
 -- ONE BLOCK that is read again
 
 module _ (strategy : Strategy) (p : Profile) (style : OrderStyle) where
-
   time-placed : (block again : Block) (a : Answer) → IsAnswer strategy p block a → IsPlacedAgain block again a.order → written_time p again ≡ a.time
   time-placed block again a is placed =
       ap (λ (instrs : List Instr). source_time (record { block = instrs; profile = p })) placed.instrs ∙ written-order (problem_of p block) a.order ∙ sym (answer-time strategy p block a is)
