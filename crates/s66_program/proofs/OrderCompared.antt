@@ -1,21 +1,22 @@
--- What `order` wrote and what is read again of it, compared with the source.
-use Rattle.std.proofs.Common.{ℕ, ◌≡◌, ◌∙◌, Bool, true, ◌&&◌, if◌then◌else◌, List, [], ◌∷◌, Option, None, Some, length, refl, sym, ap, ap₂, subst, arith, inl, inr}
+-- What `order` wrote, with whichever options, and what is read again of it, compared with the source.
+use Rattle.std.proofs.Common.{ℕ, ◌≡◌, ◌-◌, ◌∙◌, zero, suc, Bool, true, false, ◌&&◌, if◌then◌else◌, List, [], ◌∷◌, ◌++◌, Option, None, Some, drop, length, replicate, take, refl, sym, ap, ap₂, subst, arith, inl, inr}
 use Rattle.std.specs.Prelude.{Ok, is_none}
 use Rattle.std.proofs.lemmas.List.{length-map}
 use Rattle.s66_isa.specs.Lists.{Among, every}
 use Rattle.s66_isa.specs.declared.profile.Profile.{Profile}
 use Rattle.s66_line.specs.Block.{Block, Entry, instrs_of}
+use Rattle.s66_command.specs.declared.command.OrderStyle.{OrderStyle}
 use Rattle.s66_command.specs.declared.strategy.Strategy.{Strategy}
 use Rattle.s66_answer.specs.declared.outcome.Status.{Status}
 use Rattle.s66_answer.specs.declared.outcome.Status.TheVariants.{Done, Denied}
-use Rattle.s66_answer.specs.Answers.{Answer, AreAnswers}
+use Rattle.s66_answer.specs.Answers.{Answer, AreAnswers, IsAnswer}
+use Rattle.s66_answer.specs.Shown.{before, shown}
 use Rattle.s66_answer.proofs.EveryAnswer.{answer-legal}
 use Rattle.s66_program.specs.CompareText.{IsCompareOutput}
 use Rattle.s66_source.specs.Frame.{frame_of}
 use Rattle.s66_source.specs.Halves.{Halves, halves_of}
 use Rattle.s66_source.specs.LeftAlone.{Reading}
 use Rattle.s66_source.specs.Printed.{Placed}
-use Rattle.s66_source.specs.ReadAgain.{ArePlacedAgain}
 use Rattle.s66_source.specs.Source.{source_of}
 use Rattle.s66_source.proofs.PrintedLines.{same-blocks}
 use Rattle.s66_source.proofs.SourceAgain.{read-again}
@@ -26,64 +27,82 @@ use Rattle.s66_compare.specs.Rows.{is_legal, rows_of}
 use Rattle.s66_compare.specs.declared.difference.Difference.{Difference}
 use Rattle.s66_compare.proofs.FrameAgain.{frame-again, same-none}
 use Rattle.s66_compare.proofs.Meanings.{IsSpelled}
-use Rattle.s66_compare.proofs.PlacedPairs.{AreLegal, placed-legal}
-use Rattle.s66_program.specs.OrderText.{IsOrderOutput, all_placed}
-use Rattle.s66_program.proofs.OrderedAgain.{all-complete}
-use Rattle.s66_program.proofs.PlacedAnswers.{all-within, legal-within}
+use Rattle.s66_compare.proofs.PlacedPairs.{AreLegal, IsLegalIf, given-legal, legal-complete, legal-given, legal-standing}
+use Rattle.s66_program.specs.OrderText.{IsKeptOutput, all_given, columns_by, given_by, placed_by, rise_from}
+use Rattle.s66_program.proofs.PlacedAnswers.{legal-within}
 
-all-legal : (strategy : Strategy) (p : Profile) (trace : Bool) (blocks : List Block) (answers : List Answer) → ((block : Block) → Among block blocks → IsSpelled block) → AreAnswers strategy p blocks answers → AreLegal blocks (all_placed p trace blocks answers)
-all-legal strategy p trace [] [] spells are = tt
-all-legal strategy p trace [] (a ∷ answers) spells are = absurd are
-all-legal strategy p trace (block ∷ blocks) [] spells are = absurd are
-all-legal strategy p trace (block ∷ blocks) (a ∷ answers) spells are =
-    let legal = answer-legal strategy p block a are.0 in
-    let count : length (instrs_of block) ≡ length block.entries = length-map block.entries (λ (e : Entry). e.instr) in (
-      (spells block (inl refl), legal, λ n among. (let within = legal-within block a.order legal n among in (within.0, omega (arith, within.1, count)))),
-      all-legal strategy p trace blocks answers (λ other among. spells other (inr among)) are.1,
-    )
+-- AN ORDER BY AN ANSWER is legal, and each number of it is one of its block's
 
-pub blocks-compared : (strategy : Strategy) (p q : Profile) (trace : Bool) (source : Reading) (text : List ℕ) (status : Status) (blocks again : List Block) → IsOrderOutput strategy p trace source text status → source_of source ≡ Ok blocks →
-    source_of (record { cut = source.cut; text = text }) ≡ Ok again → every is_legal (rows_of q blocks again) ≡ true
-blocks-compared strategy p q trace source text status blocks again (found, accepted, (answers, are, is, ends)) read other =
-    let ps : List Placed = all_placed p trace found answers in
-    let placed : ArePlacedAgain found ps again =
-    read-again source found again ps accepted (all-within strategy p trace found answers are) (all-complete strategy p trace found answers are) (subst (λ t. source_of (record { cut = source.cut; text = t }) ≡ Ok again) is other)
-    in
-    subst (λ bs. every is_legal (rows_of q bs again) ≡ true) (same-blocks found blocks (source_of source) accepted read)
-    (placed-legal q found again ps (all-legal strategy p trace found answers (λ block among. spelled source found block accepted among) are) placed)
+legal-by : (strategy : Strategy) (p : Profile) (style : OrderStyle) (block : Block) (a : Answer) → IsAnswer strategy p block a → IsLegalIf block (given_by p style block a)
+legal-by strategy p style block a is =
+    let legal = answer-legal strategy p block a is in
+    let count : length (instrs_of block) ≡ length block.entries = length-map block.entries (λ (e : Entry). e.instr) in
+    elim (style.keep && rise_from 1 a.order) as (λ t. IsLegalIf block (if t then None else Some (placed_by p style.trace block a)))
+    [ true ↦ tt | false ↦ (legal, λ n among. (let within = legal-within block a.order legal n among in (within.0, omega (arith, within.1, count)))) ]
 
--- nothing beside the blocks differs
-beside-same : (strategy : Strategy) (p : Profile) (trace : Bool) (source : Reading) (text : List ℕ) (status : Status) (again : List Block) → IsOrderOutput strategy p trace source text status →
-    source_of (record { cut = source.cut; text = text }) ≡ Ok again → first_difference (frame_of source) (frame_of (record { cut = source.cut; text = text })) ≡ None
-beside-same strategy p trace source text status again (found, accepted, (answers, are, is, ends)) other =
-    let ps : List Placed = all_placed p trace found answers in
-    same-none (frame_of source) (frame_of (record { cut = source.cut; text = text }))
-    (subst (λ t. shapes (frame_of (record { cut = source.cut; text = t })) ≡ shapes (frame_of source)) (sym is)
-    (frame-again source found again ps accepted (all-within strategy p trace found answers are) (all-complete strategy p trace found answers are) (subst (λ t. source_of (record { cut = source.cut; text = t }) ≡ Ok again) is other)))
+all-legal : (strategy : Strategy) (p : Profile) (style : OrderStyle) (blocks : List Block) (answers : List Answer) → ((block : Block) → Among block blocks → IsSpelled block) → AreAnswers strategy p blocks answers → AreLegal blocks (all_given p style blocks answers)
+all-legal strategy p style [] [] spells are = tt
+all-legal strategy p style [] (a ∷ answers) spells are = absurd are
+all-legal strategy p style (block ∷ blocks) [] spells are = absurd are
+all-legal strategy p style (block ∷ blocks) (a ∷ answers) spells are =
+    ((spells block (inl refl), legal-by strategy p style block a are.0), all-legal strategy p style blocks answers (λ other among. spells other (inr among)) are.1)
 
-all-accepted : (strategy : Strategy) (p q : Profile) (trace : Bool) (source : Reading) (text : List ℕ) (status : Status) (blocks again : List Block) → IsOrderOutput strategy p trace source text status → source_of source ≡ Ok blocks →
-    source_of (record { cut = source.cut; text = text }) ≡ Ok again → is_accepted (rows_of q blocks again) (first_difference (frame_of source) (frame_of (record { cut = source.cut; text = text }))) ≡ true
-all-accepted strategy p q trace source text status blocks again is read other =
-    ap₂ (λ (b : Bool) (d : Option Difference). b && is_none d) (blocks-compared strategy p q trace source text status blocks again is read other) (beside-same strategy p trace source text status again is other)
+-- the block behind so many, which stand, as do those behind it
+one-legal : (strategy : Strategy) (p : Profile) (style : OrderStyle) (k : ℕ) (blocks : List Block) (answers : List Answer) → ((block : Block) → Among block blocks → IsSpelled block) → AreAnswers strategy p (take 1 (drop k blocks)) answers →
+    AreLegal blocks (replicate k None ++ all_given p style (take 1 (drop k blocks)) answers)
+one-legal strategy p style zero [] answers spells are = tt
+one-legal strategy p style zero (block ∷ blocks) [] spells are = absurd are
+one-legal strategy p style zero (block ∷ blocks) (a ∷ []) spells are = ((spells block (inl refl), legal-by strategy p style block a are.0), legal-standing blocks (λ other among. spells other (inr among)))
+one-legal strategy p style zero (block ∷ blocks) (a ∷ b ∷ answers) spells are = absurd are.1
+one-legal strategy p style (suc k) [] answers spells are = tt
+one-legal strategy p style (suc k) (block ∷ blocks) answers spells are = ((spells block (inl refl), tt), one-legal strategy p style k blocks answers (λ other among. spells other (inr among)) are)
 
-pub order-compared : (strategy : Strategy) (p q : Profile) (trace : Bool) (source : Reading) (text : List ℕ) (status : Status) (again : List Block) → IsOrderOutput strategy p trace source text status →
-    source_of (record { cut = source.cut; text = text }) ≡ Ok again → (compared : List ℕ) × IsCompared q source (record { cut = source.cut; text = text }) compared true
-order-compared strategy p q trace source text status again (found, accepted, made) other =
-    let new : Reading = record { cut = source.cut; text = text } in
-    (compared_text (rows_of q found again) (first_difference (frame_of source) (frame_of new)), (found, again, accepted, other, (refl, sym (all-accepted strategy p q trace source text status found again (found, accepted, made) accepted other))))
+shown-legal : (strategy : Strategy) (p : Profile) (style : OrderStyle) (only : Option ℕ) (blocks : List Block) (answers : List Answer) → ((block : Block) → Among block blocks → IsSpelled block) → AreAnswers strategy p (shown only blocks) answers →
+    AreLegal blocks (replicate (before only) None ++ all_given p style (shown only blocks) answers)
+shown-legal strategy p style None blocks answers spells are = all-legal strategy p style blocks answers spells are
+shown-legal strategy p style (Some n) blocks answers spells are = one-legal strategy p style (n - 1) blocks answers spells are
 
-pub compared-accepted : (strategy : Strategy) (p q : Profile) (trace : Bool) (source : Reading) (text compared : List ℕ) (status : Status) (accepted : Bool) → IsOrderOutput strategy p trace source text status →
+-- WHAT IS WRITTEN with these options
+
+module _ (strategy : Strategy) (p q : Profile) (style : OrderStyle) (only : Option ℕ) (source : Reading) (text : List ℕ) (status : Status) where
+  -- each block is the source's in a legal order
+  pub blocks-compared : (blocks again : List Block) → IsKeptOutput strategy p style only source text status → source_of source ≡ Ok blocks → source_of (record { cut = source.cut; text = text }) ≡ Ok again → every is_legal (rows_of q blocks again) ≡ true
+  blocks-compared blocks again (found, accepted, (answers, are, is, ends)) read other =
+      let given : List (Option Placed) = replicate (before only) None ++ all_given p style (shown only found) answers in
+      let legal = shown-legal strategy p style only found answers (λ block among. spelled source found block accepted among) are in
+      let there = read-again style.quiet (columns_by style.columns) source found again given accepted (legal-given found given legal) (legal-complete found given legal) (subst (λ t. source_of (record { cut = source.cut; text = t }) ≡ Ok again) is other) in
+      subst (λ bs. every is_legal (rows_of q bs again) ≡ true) (same-blocks found blocks (source_of source) accepted read) (given-legal q found again given legal there)
+
+  -- nothing beside the blocks differs
+  beside-same : (again : List Block) → IsKeptOutput strategy p style only source text status → source_of (record { cut = source.cut; text = text }) ≡ Ok again → first_difference (frame_of source) (frame_of (record { cut = source.cut; text = text })) ≡ None
+  beside-same again (found, accepted, (answers, are, is, ends)) other =
+      let given : List (Option Placed) = replicate (before only) None ++ all_given p style (shown only found) answers in
+      let legal = shown-legal strategy p style only found answers (λ block among. spelled source found block accepted among) are in
+      same-none (frame_of source) (frame_of (record { cut = source.cut; text = text }))
+      (subst (λ t. shapes (frame_of (record { cut = source.cut; text = t })) ≡ shapes (frame_of source)) (sym is)
+      (frame-again style.quiet (columns_by style.columns) source found again given accepted (legal-given found given legal) (legal-complete found given legal) (subst (λ t. source_of (record { cut = source.cut; text = t }) ≡ Ok again) is other)))
+
+  all-accepted : (blocks again : List Block) → IsKeptOutput strategy p style only source text status → source_of source ≡ Ok blocks → source_of (record { cut = source.cut; text = text }) ≡ Ok again →
+      is_accepted (rows_of q blocks again) (first_difference (frame_of source) (frame_of (record { cut = source.cut; text = text }))) ≡ true
+  all-accepted blocks again is read other = ap₂ (λ (b : Bool) (d : Option Difference). b && is_none d) (blocks-compared blocks again is read other) (beside-same again is other)
+
+  pub order-compared : (again : List Block) → IsKeptOutput strategy p style only source text status → source_of (record { cut = source.cut; text = text }) ≡ Ok again → (compared : List ℕ) × IsCompared q source (record { cut = source.cut; text = text }) compared true
+  order-compared again (found, accepted, made) other =
+      let new : Reading = record { cut = source.cut; text = text } in
+      (compared_text (rows_of q found again) (first_difference (frame_of source) (frame_of new)), (found, again, accepted, other, (refl, sym (all-accepted found again (found, accepted, made) accepted other))))
+
+pub compared-accepted : (strategy : Strategy) (p q : Profile) (style : OrderStyle) (only : Option ℕ) (source : Reading) (text compared : List ℕ) (status : Status) (accepted : Bool) → IsKeptOutput strategy p style only source text status →
     IsCompared q source (record { cut = source.cut; text = text }) compared accepted → accepted ≡ true
-compared-accepted strategy p q trace source text compared status accepted is (blocks, again, read, other, (whole, ends)) = ends ∙ all-accepted strategy p q trace source text status blocks again is read other
+compared-accepted strategy p q style only source text compared status accepted is (blocks, again, read, other, (whole, ends)) = ends ∙ all-accepted strategy p q style only source text status blocks again is read other
 
 one-of : (found halves : Halves) (o : Option Halves) → o ≡ Some found → o ≡ Some halves → found ≡ halves
 one-of found halves o h k = cc
 
-pub compared-done : (strategy : Strategy) (p q : Profile) (trace cut : Bool) (halves : Halves) (input compared : List ℕ) (status ended : Status) → halves_of input ≡ Some halves →
-    IsOrderOutput strategy p trace (record { cut = cut; text = halves.old }) halves.new status → IsCompareOutput q cut input compared ended → ended ≡ Done
-compared-done strategy p q trace cut halves input compared status ended there is (found, here, (accepted, compares, ends)) =
+pub compared-done : (strategy : Strategy) (p q : Profile) (style : OrderStyle) (only : Option ℕ) (cut : Bool) (halves : Halves) (input compared : List ℕ) (status ended : Status) → halves_of input ≡ Some halves →
+    IsKeptOutput strategy p style only (record { cut = cut; text = halves.old }) halves.new status → IsCompareOutput q cut input compared ended → ended ≡ Done
+compared-done strategy p q style only cut halves input compared status ended there is (found, here, (accepted, compares, ends)) =
     let same : found ≡ halves = one-of found halves (halves_of input) here there in
     ends
     ∙ ap (λ (t : Bool). if t then Done else Denied)
-    (compared-accepted strategy p q trace (record { cut = cut; text = halves.old }) halves.new compared status accepted is
+    (compared-accepted strategy p q style only (record { cut = cut; text = halves.old }) halves.new compared status accepted is
     (subst (λ (h : Halves). IsCompared q (record { cut = cut; text = h.old }) (record { cut = cut; text = h.new }) compared accepted) same compares))

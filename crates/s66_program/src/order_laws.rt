@@ -1,6 +1,7 @@
 //! What one reads in the bytes of what `order` wrote: contracts of functions that do nothing.
 
-ghost use Rattle.std.specs.Prelude.{ℕ, Bool, true, List, Ok, Some, ◌≡◌, ◌≤◌};
+ghost use Rattle.std.specs.Prelude.{ℕ, Bool, true, List, Ok, Option, Some, ◌≡◌, ◌≤◌};
+ghost use Rattle.s66_command.specs.declared.command.OrderStyle.{OrderStyle};
 ghost use Rattle.s66_command.specs.declared.strategy.Strategy.{Strategy};
 ghost use Rattle.s66_compare.specs.Compared.{IsCompared};
 ghost use Rattle.s66_isa.specs.declared.profile.Profile.{Profile};
@@ -12,7 +13,7 @@ ghost use Rattle.s66_program.specs.CompareText.{IsCompareOutput};
 ghost use Rattle.s66_source.specs.Halves.{Halves, halves_of};
 ghost use Rattle.s66_source.specs.LeftAlone.{Reading};
 ghost use Rattle.s66_source.specs.Source.{source_of};
-ghost use Rattle.s66_program.specs.OrderText.{IsOrderOutput};
+ghost use Rattle.s66_program.specs.OrderText.{IsKeptOutput, IsOrderOutput};
 ghost use Rattle.s66_program.specs.Reports.{ReportsBlocks};
 
 /// What `order` wrote for a source has in the place of each block its instructions in a legal order, after a line that tells what this
@@ -23,18 +24,18 @@ pub fn reported_law()
         ReportsBlocks p trace source text }
 {}
 
-/// If what `order` wrote for a source is accepted again, `compare` accepts it: each block is the source's in a legal order, and nothing that
-/// stands beside the blocks differs. So `compare` of the two ends with status 0.
+/// If what `order` wrote for a source, with whichever options, is accepted again, `compare` accepts it: each block is the source's in a
+/// legal order, or as it stands, and nothing that stands beside the blocks differs. So `compare` of the two ends with status 0.
 pub fn compared_law()
-    ensures compared { (strategy : Strategy) (p q : Profile) (trace : Bool) (source : Reading) (text : List ℕ)
-        (status : Status) (again : List Block) → IsOrderOutput strategy p trace source text status →
+    ensures compared { (strategy : Strategy) (p q : Profile) (style : OrderStyle) (only : Option ℕ) (source : Reading)
+        (text : List ℕ) (status : Status) (again : List Block) → IsKeptOutput strategy p style only source text status →
         source_of (record { cut = source.cut; text = text }) ≡ Ok again →
         (compared : List ℕ) × IsCompared q source (record { cut = source.cut; text = text }) compared true }
-    ensures accepted { (strategy : Strategy) (p q : Profile) (trace : Bool) (source : Reading) (text compared : List ℕ)
-        (status : Status) (accepted : Bool) → IsOrderOutput strategy p trace source text status →
+    ensures accepted { (strategy : Strategy) (p q : Profile) (style : OrderStyle) (only : Option ℕ) (source : Reading)
+        (text compared : List ℕ) (status : Status) (accepted : Bool) → IsKeptOutput strategy p style only source text status →
         IsCompared q source (record { cut = source.cut; text = text }) compared accepted → accepted ≡ true }
-    ensures done { (strategy : Strategy) (p q : Profile) (trace cut : Bool) (halves : Halves) (input compared : List ℕ)
-        (status ended : Status) → halves_of input ≡ Some halves →
-        IsOrderOutput strategy p trace (record { cut = cut; text = halves.old }) halves.new status →
+    ensures done { (strategy : Strategy) (p q : Profile) (style : OrderStyle) (only : Option ℕ) (cut : Bool)
+        (halves : Halves) (input compared : List ℕ) (status ended : Status) → halves_of input ≡ Some halves →
+        IsKeptOutput strategy p style only (record { cut = cut; text = halves.old }) halves.new status →
         IsCompareOutput q cut input compared ended → ended ≡ Done }
 {}
