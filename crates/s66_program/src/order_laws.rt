@@ -1,6 +1,7 @@
 //! What one reads in the bytes of what `order` wrote: contracts of functions that do nothing.
 
-ghost use Rattle.std.specs.Prelude.{ℕ, Bool, true, List, Ok, Some, ◌≡◌, ◌≤◌};
+ghost use Rattle.std.specs.Prelude.{ℕ, Bool, true, List, Ok, Option, Some, ◌≡◌, ◌≤◌};
+ghost use Rattle.s66_command.specs.declared.command.OrderStyle.{OrderStyle};
 ghost use Rattle.s66_command.specs.declared.strategy.Strategy.{Strategy};
 ghost use Rattle.s66_compare.specs.Compared.{IsCompared};
 ghost use Rattle.s66_isa.specs.declared.profile.Profile.{Profile};
@@ -12,15 +13,16 @@ ghost use Rattle.s66_program.specs.CompareText.{IsCompareOutput};
 ghost use Rattle.s66_source.specs.Halves.{Halves, halves_of};
 ghost use Rattle.s66_source.specs.LeftAlone.{Reading};
 ghost use Rattle.s66_source.specs.Source.{source_of};
-ghost use Rattle.s66_program.specs.OrderText.{IsOrderOutput};
+ghost use Rattle.s66_program.specs.OrderText.{IsOrderOutput, IsOrdered};
 ghost use Rattle.s66_program.specs.Reports.{ReportsBlocks};
 
-/// What `order` wrote for a source has in the place of each block its instructions in a legal order, after a line that tells what this
-/// order takes. If the line ends in BEST, no legal order of the block takes less; if in AT LEAST and a number, none takes less than that.
+/// What `order` wrote for a source has in the place of each block that is asked for and doesn't stand its instructions in a legal order,
+/// after a line that tells what this order takes, unless it is quiet; each other line is as it was read. If the line ends in BEST, no legal
+/// order of the block takes less; if in AT LEAST and a number, none takes less than that.
 pub fn reported_law()
-    ensures { (strategy : Strategy) (p : Profile) (trace : Bool) (source : Reading) (text : List ℕ) (status : Status) →
-        strategy.search.nodes ≤ BUDGET_LIMIT → IsOrderOutput strategy p trace source text status →
-        ReportsBlocks p trace source text }
+    ensures { (strategy : Strategy) (p : Profile) (style : OrderStyle) (only : Option ℕ) (source : Reading) (text : List ℕ)
+        (status : Status) → strategy.search.nodes ≤ BUDGET_LIMIT → IsOrdered strategy p style only source text status →
+        ReportsBlocks p style only source text }
 {}
 
 /// If what `order` wrote for a source is accepted again, `compare` accepts it: each block is the source's in a legal order, and nothing that
