@@ -14,12 +14,11 @@ use Rattle.s66_line.specs.declared.class.Class.{Class}
 use Rattle.s66_line.specs.declared.class.Class.TheVariants.{Comment, Other, Refused, Pad, Instruction}
 use Rattle.s66_line.proofs.Wholes.{AreLines-lines_of, is_inside}
 use Rattle.s66_source.specs.Frame.{FramePart, frame_of}
-use Rattle.s66_source.specs.Keeping.{AreGiven, others}
 use Rattle.s66_source.specs.LeftAlone.{Flagged, Reading, Standing, after_line, at_first, class_at, flagged_from, flagged_lines, is_alone, is_continued, redefined_by}
 use Rattle.s66_source.specs.Printed.{Placed, copied_line}
 use Rattle.s66_source.specs.ReadAgain.{AreComplete}
 use Rattle.s66_source.specs.Redefined.{Redefined}
-use Rattle.s66_source.specs.Replaced.{line_text, printed_in, replaced, text_for, texts_of}
+use Rattle.s66_source.specs.Replaced.{AreGiven, line_text, others, printed_in, replaced, text_for, texts_of}
 use Rattle.s66_source.specs.Source.{Line, begins_block, block_of, blocks_of, classed_lines, classes_from, entry_of, instructions, parts_of, put_before, refusal, source_of}
 use Rattle.s66_source.specs.declared.columns.Columns.{Columns}
 use Rattle.s66_source.proofs.LineLaw.{no_refusal}

@@ -12,7 +12,7 @@ use Rattle.s66_line.specs.Fields.{trim, upper, is_trailing}
 use Rattle.s66_line.specs.InstructionText.{IsTextOf, spelling}
 use Rattle.s66_model.specs.LegalOrder.{IsLegal}
 use Rattle.s66_model.proofs.Beginnings.{source-legal}
-use Rattle.s66_source.specs.Keeping.{AreGiven, others}
+use Rattle.s66_source.specs.Replaced.{AreGiven, others}
 use Rattle.s66_source.specs.Printed.{Placed}
 use Rattle.s66_source.specs.ReadAgain.{AreComplete, AreGivenAgain, IsGivenAgain, IsPlacedAgain, IsSameAgain}
 use Rattle.s66_source.proofs.ReadLine.{characters-again, operand-again, operation-again}

@@ -15,7 +15,6 @@ use Rattle.s66_command.specs.declared.command.Reads.{Reads}
 use Rattle.s66_command.specs.declared.command.Reads.TheVariants.{Documents, Sources}
 use Rattle.s66_command.specs.CommandParts.{reads_cut, reads_of}
 use Rattle.s66_answer.specs.declared.outcome.Status.{Status}
-use Rattle.s66_program.specs.OrderText.{IsOrderedBy, is_other}
 use Rattle.s66_program.specs.declared.limits.TheConstants.{SOURCE_FRONT}
 use Rattle.s66_program.specs.declared.fault.Fault.{Fault}
 use Rattle.s66_program.specs.declared.fault.Fault.TheVariants as fault
@@ -30,12 +29,6 @@ use Rattle.s66_program.proofs.Fronts.{front-refused}
 abbrev pub IsMost : Command → Option ℕ → Type 0
 IsMost command most = IfSome most (λ n. (n ≡ SOURCE_FRONT) × (reads_source command.asked ≡ true))
 
--- with options or without them, the source is accepted
-ordered-accepted : (other : Bool) (strategy : Strategy) (p : Profile) (style : OrderStyle) (only : Option ℕ) (source : Reading) (text : List ℕ) (status : Status) → IsOrderedBy other strategy p style only source text status →
-    (blocks : List Block) × (source_of source ≡ Ok blocks)
-ordered-accepted true strategy p style only source text status (blocks, ok, is) = (blocks, ok)
-ordered-accepted false strategy p style only source text status (blocks, ok, is) = (blocks, ok)
-
 accepted-by : (p : Profile) (asked : Asked) (only : Option ℕ) (source : Reading) (text : List ℕ) (status : Status) → reads_source asked ≡ true → IsAskedOutput p asked only source text status →
     (blocks : List Block) × (source_of source ≡ Ok blocks)
 accepted-by p (Time trace) only source text status reads (blocks, ok, is, done) = (blocks, ok)
@@ -46,8 +39,7 @@ accepted-by p (Why (Some strategy) texts) only source text status reads (blocks,
 accepted-by p (Page strategy) only source text status reads (blocks, ok, is) = (blocks, ok)
 accepted-by p (Json None) only source text status reads (blocks, ok, is, done) = (blocks, ok)
 accepted-by p (Json (Some strategy)) only source text status reads (blocks, ok, is) = (blocks, ok)
-accepted-by p (Order strategy style) only source text status reads is =
-    ordered-accepted (is_other style only) strategy p style only source text status is
+accepted-by p (Order strategy style) only source text status reads (blocks, ok, is) = (blocks, ok)
 accepted-by p (Prove strategy) only source text status reads (blocks, ok, is) = (blocks, ok)
 accepted-by p (Check texts) only source text status reads is = absurd (cc)
 accepted-by p Lint only source text status reads is = absurd (cc)

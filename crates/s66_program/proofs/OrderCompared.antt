@@ -28,7 +28,7 @@ use Rattle.s66_compare.specs.declared.difference.Difference.{Difference}
 use Rattle.s66_compare.proofs.FrameAgain.{frame-again, same-none}
 use Rattle.s66_compare.proofs.Meanings.{IsSpelled}
 use Rattle.s66_compare.proofs.PlacedPairs.{AreLegal, IsLegalIf, given-legal, legal-complete, legal-given, legal-standing}
-use Rattle.s66_program.specs.OrderText.{IsKeptOutput, all_given, columns_by, given_by, placed_by, rise_from}
+use Rattle.s66_program.specs.OrderText.{IsOrdered, all_given, columns_by, given_by, placed_by, rise_from}
 use Rattle.s66_program.proofs.PlacedAnswers.{legal-within}
 
 -- AN ORDER BY AN ANSWER is legal, and each number of it is one of its block's
@@ -66,7 +66,7 @@ shown-legal strategy p style (Some n) blocks answers spells are = one-legal stra
 
 module _ (strategy : Strategy) (p q : Profile) (style : OrderStyle) (only : Option ℕ) (source : Reading) (text : List ℕ) (status : Status) where
   -- each block is the source's in a legal order
-  pub blocks-compared : (blocks again : List Block) → IsKeptOutput strategy p style only source text status → source_of source ≡ Ok blocks → source_of (record { cut = source.cut; text = text }) ≡ Ok again → every is_legal (rows_of q blocks again) ≡ true
+  pub blocks-compared : (blocks again : List Block) → IsOrdered strategy p style only source text status → source_of source ≡ Ok blocks → source_of (record { cut = source.cut; text = text }) ≡ Ok again → every is_legal (rows_of q blocks again) ≡ true
   blocks-compared blocks again (found, accepted, (answers, are, is, ends)) read other =
       let given : List (Option Placed) = replicate (before only) None ++ all_given p style (shown only found) answers in
       let legal = shown-legal strategy p style only found answers (λ block among. spelled source found block accepted among) are in
@@ -74,7 +74,7 @@ module _ (strategy : Strategy) (p q : Profile) (style : OrderStyle) (only : Opti
       subst (λ bs. every is_legal (rows_of q bs again) ≡ true) (same-blocks found blocks (source_of source) accepted read) (given-legal q found again given legal there)
 
   -- nothing beside the blocks differs
-  beside-same : (again : List Block) → IsKeptOutput strategy p style only source text status → source_of (record { cut = source.cut; text = text }) ≡ Ok again → first_difference (frame_of source) (frame_of (record { cut = source.cut; text = text })) ≡ None
+  beside-same : (again : List Block) → IsOrdered strategy p style only source text status → source_of (record { cut = source.cut; text = text }) ≡ Ok again → first_difference (frame_of source) (frame_of (record { cut = source.cut; text = text })) ≡ None
   beside-same again (found, accepted, (answers, are, is, ends)) other =
       let given : List (Option Placed) = replicate (before only) None ++ all_given p style (shown only found) answers in
       let legal = shown-legal strategy p style only found answers (λ block among. spelled source found block accepted among) are in
@@ -82,16 +82,16 @@ module _ (strategy : Strategy) (p q : Profile) (style : OrderStyle) (only : Opti
       (subst (λ t. shapes (frame_of (record { cut = source.cut; text = t })) ≡ shapes (frame_of source)) (sym is)
       (frame-again style.quiet (columns_by style.columns) source found again given accepted (legal-given found given legal) (legal-complete found given legal) (subst (λ t. source_of (record { cut = source.cut; text = t }) ≡ Ok again) is other)))
 
-  all-accepted : (blocks again : List Block) → IsKeptOutput strategy p style only source text status → source_of source ≡ Ok blocks → source_of (record { cut = source.cut; text = text }) ≡ Ok again →
+  all-accepted : (blocks again : List Block) → IsOrdered strategy p style only source text status → source_of source ≡ Ok blocks → source_of (record { cut = source.cut; text = text }) ≡ Ok again →
       is_accepted (rows_of q blocks again) (first_difference (frame_of source) (frame_of (record { cut = source.cut; text = text }))) ≡ true
   all-accepted blocks again is read other = ap₂ (λ (b : Bool) (d : Option Difference). b && is_none d) (blocks-compared blocks again is read other) (beside-same again is other)
 
-  pub order-compared : (again : List Block) → IsKeptOutput strategy p style only source text status → source_of (record { cut = source.cut; text = text }) ≡ Ok again → (compared : List ℕ) × IsCompared q source (record { cut = source.cut; text = text }) compared true
+  pub order-compared : (again : List Block) → IsOrdered strategy p style only source text status → source_of (record { cut = source.cut; text = text }) ≡ Ok again → (compared : List ℕ) × IsCompared q source (record { cut = source.cut; text = text }) compared true
   order-compared again (found, accepted, made) other =
       let new : Reading = record { cut = source.cut; text = text } in
       (compared_text (rows_of q found again) (first_difference (frame_of source) (frame_of new)), (found, again, accepted, other, (refl, sym (all-accepted found again (found, accepted, made) accepted other))))
 
-pub compared-accepted : (strategy : Strategy) (p q : Profile) (style : OrderStyle) (only : Option ℕ) (source : Reading) (text compared : List ℕ) (status : Status) (accepted : Bool) → IsKeptOutput strategy p style only source text status →
+pub compared-accepted : (strategy : Strategy) (p q : Profile) (style : OrderStyle) (only : Option ℕ) (source : Reading) (text compared : List ℕ) (status : Status) (accepted : Bool) → IsOrdered strategy p style only source text status →
     IsCompared q source (record { cut = source.cut; text = text }) compared accepted → accepted ≡ true
 compared-accepted strategy p q style only source text compared status accepted is (blocks, again, read, other, (whole, ends)) = ends ∙ all-accepted strategy p q style only source text status blocks again is read other
 
@@ -99,7 +99,7 @@ one-of : (found halves : Halves) (o : Option Halves) → o ≡ Some found → o 
 one-of found halves o h k = cc
 
 pub compared-done : (strategy : Strategy) (p q : Profile) (style : OrderStyle) (only : Option ℕ) (cut : Bool) (halves : Halves) (input compared : List ℕ) (status ended : Status) → halves_of input ≡ Some halves →
-    IsKeptOutput strategy p style only (record { cut = cut; text = halves.old }) halves.new status → IsCompareOutput q cut input compared ended → ended ≡ Done
+    IsOrdered strategy p style only (record { cut = cut; text = halves.old }) halves.new status → IsCompareOutput q cut input compared ended → ended ≡ Done
 compared-done strategy p q style only cut halves input compared status ended there is (found, here, (accepted, compares, ends)) =
     let same : found ≡ halves = one-of found halves (halves_of input) here there in
     ends

@@ -7,7 +7,7 @@ use Rattle.s66_isa.specs.Table.{numbers}
 use Rattle.s66_isa.specs.declared.instr.Instr.{Instr}
 use Rattle.s66_isa.specs.declared.profile.Profile.{Profile}
 use Rattle.s66_line.specs.Block.{Entry, Block, instrs_of}
-use Rattle.s66_source.specs.Keeping.{AreGiven}
+use Rattle.s66_source.specs.Replaced.{AreGiven}
 use Rattle.s66_source.specs.LeftAlone.{Reading}
 use Rattle.s66_source.specs.Printed.{Placed}
 use Rattle.s66_source.specs.ReadAgain.{AreComplete, AreGivenAgain, IsGivenAgain, IsPlacedAgain, IsSameAgain}
@@ -22,7 +22,7 @@ use Rattle.s66_answer.specs.Answers.{Answer, AreAnswers, IsAnswer, problem_of}
 use Rattle.s66_answer.specs.Shown.{before, shown}
 use Rattle.s66_answer.specs.declared.outcome.Status.{Status}
 use Rattle.s66_answer.proofs.EveryAnswer.{answer-legal, answer-time}
-use Rattle.s66_program.specs.OrderText.{IsKeptOutput, all_given, columns_by, given_by, placed_by, rise_from}
+use Rattle.s66_program.specs.OrderText.{IsOrdered, all_given, columns_by, given_by, placed_by, rise_from}
 use Rattle.s66_program.specs.OrderedAgain.{TakePrintedTimes, with_times, written_time}
 use Rattle.s66_program.proofs.PlacedAnswers.{legal-within}
 
@@ -130,7 +130,7 @@ shown-first : (only : Option ℕ) (blocks : List Block) → (rest : List Block) 
 shown-first None blocks = ([], sym (append-nil blocks))
 shown-first (Some n) blocks = (drop 1 (drop (before (Some n)) blocks), one-first (drop (before (Some n)) blocks))
 
-pub ordered-again : (strategy : Strategy) (p : Profile) (style : OrderStyle) (only : Option ℕ) (source : Reading) (text : List ℕ) (status : Status) (again : List Block) → IsKeptOutput strategy p style only source text status →
+pub ordered-again : (strategy : Strategy) (p : Profile) (style : OrderStyle) (only : Option ℕ) (source : Reading) (text : List ℕ) (status : Status) (again : List Block) → IsOrdered strategy p style only source text status →
     source_of (record { cut = source.cut; text = text }) ≡ Ok again → TakePrintedTimes strategy p style only source text again
 ordered-again strategy p style only source text status again (blocks, accepted, (answers, are, is, ends)) read =
     let found = shown only blocks in

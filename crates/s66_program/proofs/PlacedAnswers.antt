@@ -37,9 +37,3 @@ all-within strategy profile trace (block ∷ blocks) (a ∷ answers) are = (lega
 pub read-blocks : (e : Option SourceError) (made blocks : List Block) → unless_refused e made ≡ Ok blocks → blocks ≡ made
 read-blocks None made blocks h = cc
 read-blocks (Some e) made blocks h = cc
-
-pub placed-within : (strategy : Strategy) (profile : Profile) (trace : Bool) (source : Reading) (blocks : List Block) (answers : List Answer) → source_of source ≡ Ok blocks → AreAnswers strategy profile blocks answers →
-    ArePlaced (blocks_of (classed_lines source)) (all_placed profile trace blocks answers)
-placed-within strategy profile trace source blocks answers read are =
-    subst (λ bs. ArePlaced bs (all_placed profile trace blocks answers)) (read-blocks (refusal (classed_lines source)) (blocks_of (classed_lines source)) blocks read)
-    (all-within strategy profile trace blocks answers are)

@@ -1,7 +1,7 @@
 -- What the line of a report says by its bytes: if it ends in BEST, it is of an answer that is best, and no other bound is read in it than the answer's.
-use Rattle.std.proofs.Common.{ℕ, suc, ◌^◌, ◌≡◌, ◌≤◌, ◌<◌, ◌==◌, ◌∙◌, Bool, true, false, if◌then◌else◌, List, [], ◌∷◌, ◌++◌, length, Some, None, codes, refl, sym, ap, subst, arith, inl, inr, append_assoc, eqb, leb, leb-true}
+use Rattle.std.proofs.Common.{ℕ, zero, suc, ◌+◌, ◌-◌, ◌^◌, ◌≡◌, ◌≤◌, ◌<◌, ◌==◌, ◌&&◌, ◌||◌, not, ◌∙◌, Bool, true, false, if◌then◌else◌, List, [], ◌∷◌, ◌++◌, drop, take, replicate, length, Option, Some, None, codes, refl, sym, ap, subst, arith, inl, inr, append_assoc, eqb, leb, leb-true}
 use Rattle.std.specs.Prelude.{◌⊎◌, decimal}
-use Rattle.std.proofs.lemmas.Bool.{and_parts, eqb-true, not-true}
+use Rattle.std.proofs.lemmas.Bool.{and_parts, eq-eqb, eqb-true, ne_eqb, not-true}
 use Rattle.std.proofs.lemmas.List.{append-nil}
 use Rattle.s66_isa.specs.Lists.{Among, every}
 use Rattle.s66_isa.specs.declared.profile.Profile.{Profile}
@@ -17,18 +17,20 @@ use Rattle.s66_cert.proofs.NumberTexts.{decimal-clear, decimal-digits, decimal-v
 use Rattle.s66_command.specs.declared.strategy.Strategy.{Strategy}
 use Rattle.s66_answer.specs.declared.outcome.Status.{Status}
 use Rattle.s66_source.specs.LeftAlone.{Reading}
-use Rattle.s66_source.specs.Merged.{block_texts}
-use Rattle.s66_source.specs.Printed.{Placed, block_text, bound_text, instruction_lines, notes_text, splits_line, times_text}
-use Rattle.s66_source.specs.Source.{Line, classed_lines}
-use Rattle.s66_source.proofs.MergedLines.{printed-merged}
+use Rattle.s66_source.specs.Columns.{indented_lines, indents}
+use Rattle.s66_source.specs.Printed.{Placed, bound_text, notes_text, splits_line, times_text}
+use Rattle.s66_source.specs.Replaced.{anew_text, texts_of}
+use Rattle.s66_source.specs.Source.{Line, blocks_of, classed_lines}
+use Rattle.s66_source.proofs.PrintedLines.{accepted-is}
 use Rattle.s66_source.proofs.ReadComments.{inside-decimal, inside-times}
 use Rattle.s66_answer.specs.Answers.{Answer, AreAnswers, IsAnswer, problem_of}
 use Rattle.s66_answer.specs.ProvedAnswers.{IsSpelledBlock}
 use Rattle.s66_answer.proofs.AnswerVerdicts.{spelled-block}
 use Rattle.s66_answer.proofs.EveryAnswer.{answer-bound, answer-legal, answer-time}
-use Rattle.s66_program.specs.OrderText.{IsOrderOutput, all_placed, placed_by}
-use Rattle.s66_program.specs.Reports.{AreReported, EndsIn, IsReported, ReportsBlocks}
-use Rattle.s66_program.proofs.PlacedAnswers.{all-within}
+use Rattle.s66_answer.specs.Shown.{before, shown}
+use Rattle.s66_command.specs.declared.command.OrderStyle.{OrderStyle}
+use Rattle.s66_program.specs.OrderText.{IsOrdered, all_given, columns_by, given_by, placed_by, rise_from}
+use Rattle.s66_program.specs.Reports.{AreChosen, EndsIn, IsReported, ReportsBlocks, is_asked}
 
 -- THE LAST BYTE
 
@@ -120,9 +122,9 @@ least-read false front bound n fits within (before, ends) = same-number front be
 
 -- A BLOCK
 
-block-reported : (strategy : Strategy) (p : Profile) (trace : Bool) (all : List Line) (n : ℕ) (block : Block) (a : Answer) → IsSpelledBlock block → strategy.search.nodes ≤ SPLIT_LIMIT → IsAnswer strategy p block a →
-    IsReported p trace all n block (block_text all n block (placed_by p trace block a))
-block-reported strategy p trace all n block a spelled within is =
+block-reported : (strategy : Strategy) (p : Profile) (style : OrderStyle) (all : List Line) (n : ℕ) (block : Block) (a : Answer) → IsSpelledBlock block → strategy.search.nodes ≤ SPLIT_LIMIT → IsAnswer strategy p block a →
+    IsReported p style all n block (anew_text style.quiet (columns_by style.columns) all n block (placed_by p style.trace block a))
+block-reported strategy p style all n block a spelled within is =
     let b : Problem = problem_of p block in
     let legal = answer-legal strategy p block a is in
     let time : a.time ≡ total_of b a.order = answer-time strategy p block a is in
@@ -135,7 +137,9 @@ block-reported strategy p trace all n block a spelled within is =
       line = front ++ ending best a.bound;
       splits = a.splits;
       order = a.order;
-      whole = ap (λ head. head ++ splits_line (if trace then Some a.splits else None) ++ notes_text block all ++ instruction_lines block block.label a.order) (bound-line front (placed_by p trace block a));
+      whole =
+          ap (λ head. (if style.quiet then [] else head ++ splits_line (if style.trace then Some a.splits else None)) ++ notes_text block all ++ indented_lines (indents (columns_by style.columns) all block) block block.label a.order)
+          (bound-line front (placed_by p style.trace block a));
       legal = legal;
       one = every-append is_inside front (ending best a.bound) (inside-times n (length block.entries) (source_time b) a.time) (ending-inside best a.bound);
       times = (after_blank best a.bound, ending-blank best a.bound front ∙ ap (λ t. times_text n (length block.entries) (source_time b) t ++ codes " " ++ after_blank best a.bound) time);
@@ -146,25 +150,63 @@ block-reported strategy p trace all n block a spelled within is =
 
 -- ALL BLOCKS
 
-all-reported : (strategy : Strategy) (p : Profile) (trace : Bool) (all : List Line) (n : ℕ) (blocks : List Block) (answers : List Answer) → ((block : Block) → Among block blocks → IsSpelledBlock block) →
-    strategy.search.nodes ≤ SPLIT_LIMIT → AreAnswers strategy p blocks answers → AreReported p trace all n blocks (block_texts all n blocks (all_placed p trace blocks answers))
-all-reported strategy p trace all n [] [] spelled within are = tt
-all-reported strategy p trace all n [] (a ∷ answers) spelled within are = absurd are
-all-reported strategy p trace all n (block ∷ blocks) [] spelled within are = absurd are
-all-reported strategy p trace all n (block ∷ blocks) (a ∷ answers) spelled within are = (
-  block-reported strategy p trace all n block a (spelled block (inl refl)) within are.0,
-  all-reported strategy p trace all (suc n) blocks answers (λ other among. spelled other (inr among)) within are.1,
-)
+or-true : (t : Bool) → (t || true) ≡ true
+or-true true = refl
+or-true false = refl
 
-pub blocks-reported : (strategy : Strategy) (p : Profile) (trace : Bool) (source : Reading) (text : List ℕ) (status : Status) → strategy.search.nodes ≤ SPLIT_LIMIT → IsOrderOutput strategy p trace source text status → ReportsBlocks p trace source text
-blocks-reported strategy p trace source text status within (blocks, accepted, (answers, are, is, ends)) =
+module _ (strategy : Strategy) (p : Profile) (style : OrderStyle) (all : List Line) (within : strategy.search.nodes ≤ SPLIT_LIMIT) where
+  abbrev texts : ℕ → List Block → List (Option Placed) → List (Option (List ℕ))
+  texts n blocks gs = texts_of style.quiet (columns_by style.columns) all n blocks gs
+
+  none-of : (n : ℕ) (blocks : List Block) → texts n blocks [] ≡ []
+  none-of n [] = refl
+  none-of n (block ∷ blocks) = refl
+
+  -- blocks after the one that is asked for
+  chosen-none : (m n : ℕ) (blocks : List Block) → suc (m - 1) < n → AreChosen p style (Some m) all n blocks []
+  chosen-none m n [] after = tt
+  chosen-none m n (block ∷ blocks) after = (ap (λ t. style.keep || not t) (ne_eqb n (suc (m - 1)) (λ same. absurd (omega (arith, same, after)))) ∙ or-true style.keep, chosen-none m (suc n) blocks (omega (arith, after)))
+
+  -- a block that is asked for, and then others
+  chosen-first : (only : Option ℕ) (n : ℕ) (block : Block) (blocks : List Block) (a : Answer) (gs : List (Option Placed)) → IsSpelledBlock block → IsAnswer strategy p block a → is_asked only n ≡ true →
+      AreChosen p style only all (suc n) blocks (texts (suc n) blocks gs) → AreChosen p style only all n (block ∷ blocks) (texts n (block ∷ blocks) (given_by p style block a ∷ gs))
+  chosen-first only n block blocks a gs spelled is asked rest = by_test (style.keep && rise_from 1 a.order) refl
+    where
+      by_test : (t : Bool) → (style.keep && rise_from 1 a.order) ≡ t → AreChosen p style only all n (block ∷ blocks) (texts n (block ∷ blocks) ((if t then None else Some (placed_by p style.trace block a)) ∷ gs))
+      by_test true kept = (ap (λ t. t || not (is_asked only n)) (and_parts style.keep (rise_from 1 a.order) kept).0, rest)
+      by_test false kept = ((asked, block-reported strategy p style all n block a spelled within is), rest)
+
+  chosen-all : (n : ℕ) (blocks : List Block) (answers : List Answer) → ((block : Block) → Among block blocks → IsSpelledBlock block) → AreAnswers strategy p blocks answers → AreChosen p style None all n blocks (texts n blocks (all_given p style blocks answers))
+  chosen-all n [] answers spelled are = tt
+  chosen-all n (block ∷ blocks) [] spelled are = absurd are
+  chosen-all n (block ∷ blocks) (a ∷ answers) spelled are =
+      chosen-first None n block blocks a (all_given p style blocks answers) (spelled block (inl refl)) are.0 refl (chosen-all (suc n) blocks answers (λ other among. spelled other (inr among)) are.1)
+
+  chosen-one : (m k n : ℕ) (blocks : List Block) (answers : List Answer) → ((block : Block) → Among block blocks → IsSpelledBlock block) → n + k ≡ suc (m - 1) → AreAnswers strategy p (take 1 (drop k blocks)) answers →
+      AreChosen p style (Some m) all n blocks (texts n blocks (replicate k None ++ all_given p style (take 1 (drop k blocks)) answers))
+  chosen-one m k n [] answers spelled at are = tt
+  chosen-one m (suc k) n (block ∷ blocks) answers spelled at are =
+      (ap (λ t. style.keep || not t) (ne_eqb n (suc (m - 1)) (λ same. absurd (omega (arith, same, at)))) ∙ or-true style.keep, chosen-one m k (suc n) blocks answers (λ other among. spelled other (inr among)) (omega (arith, at)) are)
+  chosen-one m zero n (block ∷ blocks) [] spelled at are = absurd are
+  chosen-one m zero n (block ∷ blocks) (a ∷ b ∷ answers) spelled at are = absurd are.1
+  chosen-one m zero n (block ∷ blocks) (a ∷ []) spelled at are =
+      chosen-first (Some m) n block blocks a [] (spelled block (inl refl)) are.0 (eq-eqb n (suc (m - 1)) (omega (arith, at))) (subst (AreChosen p style (Some m) all (suc n) blocks) (sym (none-of (suc n) blocks)) (chosen-none m (suc n) blocks (omega (arith, at))))
+
+  chosen : (only : Option ℕ) (blocks : List Block) (answers : List Answer) → ((block : Block) → Among block blocks → IsSpelledBlock block) → AreAnswers strategy p (shown only blocks) answers →
+      AreChosen p style only all 1 blocks (texts 1 blocks (replicate (before only) None ++ all_given p style (shown only blocks) answers))
+  chosen None blocks answers spelled are = chosen-all 1 blocks answers spelled are
+  chosen (Some m) blocks answers spelled are = chosen-one m (m - 1) 1 blocks answers spelled (omega arith) are
+
+pub blocks-reported : (strategy : Strategy) (p : Profile) (style : OrderStyle) (only : Option ℕ) (source : Reading) (text : List ℕ) (status : Status) → strategy.search.nodes ≤ SPLIT_LIMIT → IsOrdered strategy p style only source text status → ReportsBlocks p style only source text
+blocks-reported strategy p style only source text status within (blocks, accepted, (answers, are, is, ends)) =
     let all : List Line = classed_lines source in
-    let ps : List Placed = all_placed p trace blocks answers in (
+    let gs : List (Option Placed) = replicate (before only) None ++ all_given p style (shown only blocks) answers in (
       blocks,
       accepted,
       (
-        block_texts all 1 blocks ps,
-        is ∙ printed-merged source blocks ps accepted (all-within strategy p trace blocks answers are),
-        all-reported strategy p trace all 1 blocks answers (spelled-block source blocks accepted) within are,
+        texts_of style.quiet (columns_by style.columns) all 1 (blocks_of all) gs,
+        is,
+        subst (λ bs. AreChosen p style only all 1 blocks (texts_of style.quiet (columns_by style.columns) all 1 bs gs)) (sym (accepted-is source blocks accepted))
+            (chosen strategy p style all within only blocks answers (spelled-block source blocks accepted) are),
       ),
     )

@@ -1,11 +1,9 @@
--- To be believed: what `order` writes for a source, and how it ends: for each block an answer, of which there may be several. With
--- `--keep`, `--quiet` or `--block` some blocks stand, or no report is printed.
-use Rattle.std.specs.Prelude.{ℕ, suc, ◌≡◌, ◌==◌, ◌&&◌, ◌||◌, if◌then◌else◌, Bool, true, false, List, [], ◌∷◌, ◌++◌, Option, Some, None, replicate}
-use Rattle.std.specs.Option.{is_some}
+-- To be believed: what `order` writes for a source, and how it ends: for each block that is shown an answer, of which there may be several.
+use Rattle.std.specs.Prelude.{ℕ, suc, ◌≡◌, ◌==◌, ◌&&◌, if◌then◌else◌, Bool, true, List, [], ◌∷◌, ◌++◌, Option, Some, None, replicate}
 use Rattle.s66_isa.specs.declared.profile.Profile.{Profile}
 use Rattle.s66_line.specs.Block.{Block}
 use Rattle.s66_source.specs.LeftAlone.{Reading}
-use Rattle.s66_source.specs.Printed.{Placed, printed}
+use Rattle.s66_source.specs.Printed.{Placed}
 use Rattle.s66_source.specs.Replaced.{printed_in}
 use Rattle.s66_source.specs.declared.columns.Columns.{Columns}
 use Rattle.s66_source.specs.declared.columns.Columns.TheVariants.{Own, Usual}
@@ -17,34 +15,19 @@ use Rattle.s66_answer.specs.OfAnswers.{IsOfAnswers}
 use Rattle.s66_answer.specs.Shown.{before}
 use Rattle.s66_answer.specs.declared.outcome.Status.{Status}
 
--- EACH BLOCK IN ORDER
+-- HOW A BLOCK IS PRINTED by its answer
 
--- a block in the order of its answer; with the trace its splits are printed
+-- in the order of its answer; with the trace its splits are printed
 abbrev pub placed_by : Profile → Bool → Block → Answer → Placed
 placed_by p trace block a =
     record { order = a.order; source = source_time (problem_of p block); time = a.time; bound = a.bound; splits = if trace then Some a.splits else None }
-
-abbrev pub all_placed : Profile → Bool → List Block → List Answer → List Placed
-all_placed p trace (block ∷ blocks) (a ∷ answers) = placed_by p trace block a ∷ all_placed p trace blocks answers
-all_placed p trace blocks answers = []
-
--- what is kept of an answer to the n-th block, from 1
-abbrev pub placed_part : Profile → (trace : Bool) → ℕ → Block → Answer → List Placed
-placed_part p trace n block a = placed_by p trace block a ∷ []
-
--- the source printed in the orders of answers to its blocks
-abbrev pub IsOrderOutput : Strategy → Profile → (trace : Bool) (source : Reading) (text : List ℕ) → Status → Type 0
-IsOrderOutput strategy p trace source text status =
-    IsOfAnswers (λ blocks answers. text ≡ printed source (all_placed p trace blocks answers)) strategy p None source status
-
--- WHERE SOME BLOCKS STAND
 
 -- the numbers are those from n on, one after the other
 abbrev pub rise_from : ℕ → List ℕ → Bool
 rise_from n [] = true
 rise_from n (m ∷ ms) = m == n && rise_from (suc n) ms
 
--- how a block is printed by its answer; with `--keep` it stands if its order is the source's
+-- or it stands, with `--keep`, if its order is the source's
 abbrev pub given_by : Profile → OrderStyle → Block → Answer → Option Placed
 given_by p style block a = if style.keep && rise_from 1 a.order then None else Some (placed_by p style.trace block a)
 
@@ -60,19 +43,17 @@ given_part p style n block a = given_by p style block a ∷ []
 abbrev pub columns_by : Bool → Columns
 columns_by own = if own then Own else Usual
 
--- the source printed by answers to the blocks that are shown, all other blocks of which stand
-abbrev pub IsKeptOutput : Strategy → Profile → OrderStyle → (only : Option ℕ) (source : Reading) (text : List ℕ) → Status → Type 0
-IsKeptOutput strategy p style only source text status =
+-- what `order` writes: the source printed by answers to the blocks that are shown, all other blocks of which stand
+abbrev pub IsOrdered : Strategy → Profile → OrderStyle → (only : Option ℕ) (source : Reading) (text : List ℕ) → Status → Type 0
+IsOrdered strategy p style only source text status =
     IsOfAnswers (λ blocks answers. text ≡ printed_in style.quiet (columns_by style.columns) source (replicate (before only) None ++ all_given p style blocks answers)) strategy p only source status
 
--- one of the options is there
-abbrev pub is_other : OrderStyle → Option ℕ → Bool
-is_other style only = style.keep || (style.quiet || is_some only)
+-- EACH BLOCK PRINTED ANEW, as `sum` counts them
 
-abbrev pub IsOrderedBy : Bool → Strategy → Profile → OrderStyle → (only : Option ℕ) (source : Reading) (text : List ℕ) → Status → Type 0
-IsOrderedBy true strategy p style only source text status = IsKeptOutput strategy p style only source text status
-IsOrderedBy false strategy p style only source text status = IsOrderOutput strategy p style.trace source text status
+abbrev pub all_placed : Profile → Bool → List Block → List Answer → List Placed
+all_placed p trace (block ∷ blocks) (a ∷ answers) = placed_by p trace block a ∷ all_placed p trace blocks answers
+all_placed p trace blocks answers = []
 
--- what `order` writes with these options or without them
-abbrev pub IsOrdered : Strategy → Profile → OrderStyle → (only : Option ℕ) (source : Reading) (text : List ℕ) → Status → Type 0
-IsOrdered strategy p style only source text status = IsOrderedBy (is_other style only) strategy p style only source text status
+-- what is kept of an answer to the n-th block, from 1
+abbrev pub placed_part : Profile → (trace : Bool) → ℕ → Block → Answer → List Placed
+placed_part p trace n block a = placed_by p trace block a ∷ []

@@ -1,5 +1,5 @@
 -- To be believed: what `order` reports of each block, as one reads it in the bytes of the text.
-use Rattle.std.specs.Prelude.{ℕ, suc, ◌≡◌, ◌<◌, ◌⊎◌, ◌^◌, Bool, true, not, if◌then◌else◌, List, [], ◌∷◌, ◌++◌, Some, None, Ok, codes, decimal, length}
+use Rattle.std.specs.Prelude.{ℕ, suc, ◌≡◌, ◌<◌, ◌⊎◌, ◌^◌, ◌==◌, ◌||◌, Bool, true, not, if◌then◌else◌, List, [], ◌∷◌, ◌++◌, Option, Some, None, Ok, codes, decimal, length}
 use Rattle.s66_isa.specs.Lists.{every}
 use Rattle.s66_isa.specs.declared.profile.Profile.{Profile}
 use Rattle.s66_line.specs.Block.{Block, instrs_of}
@@ -8,11 +8,15 @@ use Rattle.s66_model.specs.Answer.{source_time}
 use Rattle.s66_model.specs.BestAndBound.{IsBound}
 use Rattle.s66_model.specs.LegalOrder.{IsLegal}
 use Rattle.s66_model.specs.Timing.{total_of}
+use Rattle.s66_source.specs.Columns.{indented_lines, indents}
 use Rattle.s66_source.specs.LeftAlone.{Reading}
-use Rattle.s66_source.specs.Merged.{copied_in, merged}
-use Rattle.s66_source.specs.Printed.{instruction_lines, notes_text, splits_line, times_text}
+use Rattle.s66_source.specs.Printed.{notes_text, splits_line, times_text}
+use Rattle.s66_source.specs.Replaced.{replaced}
 use Rattle.s66_source.specs.Source.{Line, classed_lines, source_of}
+use Rattle.s66_command.specs.declared.command.OrderStyle.{OrderStyle}
 use Rattle.s66_answer.specs.Answers.{problem_of}
+use Rattle.s66_answer.specs.Shown.{before}
+use Rattle.s66_program.specs.OrderText.{columns_by}
 
 abbrev pub BeginsWith : (line front : List ℕ) → Type 0
 BeginsWith line front = (rest : List ℕ) × (line ≡ front ++ rest)
@@ -20,13 +24,13 @@ BeginsWith line front = (rest : List ℕ) × (line ≡ front ++ rest)
 abbrev pub EndsIn : (line ending : List ℕ) → Type 0
 EndsIn line ending = (front : List ℕ) × (line ≡ front ++ ending)
 
--- the text of a block, the n-th of a source of these lines: the line of its report, with the trace that of its splits, its notes, and its
--- instructions in some order
-pub record IsReported (p : Profile) (trace : Bool) (all : List Line) (n : ℕ) (block : Block) (text : List ℕ) : Type 0 where
+-- the text of a block, the n-th of a source of these lines: the line of its report and with the trace that of its splits, unless there are to
+-- be none, its notes, and its instructions in some order
+pub record IsReported (p : Profile) (style : OrderStyle) (all : List Line) (n : ℕ) (block : Block) (text : List ℕ) : Type 0 where
   pub line : List ℕ
   pub splits : ℕ
   pub order : List ℕ
-  pub whole : text ≡ line ++ codes "\n" ++ splits_line (if trace then Some splits else None) ++ notes_text block all ++ instruction_lines block block.label order
+  pub whole : text ≡ (if style.quiet then [] else line ++ codes "\n" ++ splits_line (if style.trace then Some splits else None)) ++ notes_text block all ++ indented_lines (indents (columns_by style.columns) all block) block block.label order
   pub legal : IsLegal (instrs_of block) order
   -- one line, which tells the block's number and what this order takes
   pub one : every (λ b. not (is_newline b)) line ≡ true
@@ -38,14 +42,24 @@ pub record IsReported (p : Profile) (trace : Bool) (all : List Line) (n : ℕ) (
   -- if it ends in AT LEAST and a number, no legal order takes less than that
   pub least : (bound : ℕ) → bound < 2 ^ 64 → EndsIn line (codes " AT LEAST " ++ decimal bound) → IsBound (problem_of p block) bound
 
--- a text for each block, one after the other from the n-th on, and none more
-abbrev pub AreReported : Profile → (trace : Bool) → List Line → ℕ → List Block → List (List ℕ) → Type 0
-AreReported p trace all n [] [] = Unit {0}
-AreReported p trace all n (block ∷ blocks) (text ∷ texts) = IsReported p trace all n block text × AreReported p trace all (suc n) blocks texts
-AreReported p trace all n blocks texts = ⊥
+-- the n-th block is asked for: each is, or the one of a number
+abbrev pub is_asked : Option ℕ → ℕ → Bool
+is_asked None n = true
+is_asked (Some m) n = n == suc (before (Some m))
 
--- the text is that of the source's blocks, each with its report, and between them the lines that are copied
-abbrev pub ReportsBlocks : Profile → (trace : Bool) (source : Reading) (text : List ℕ) → Type 0
-ReportsBlocks p trace source text =
+-- a block stands only with `--keep`, or if it isn't asked for; the text of any other is reported
+abbrev pub IsChosen : Profile → OrderStyle → (only : Option ℕ) → List Line → ℕ → Block → Option (List ℕ) → Type 0
+IsChosen p style only all n block None = (style.keep || not (is_asked only n)) ≡ true
+IsChosen p style only all n block (Some text) = (is_asked only n ≡ true) × IsReported p style all n block text
+
+-- for each block, the first of which is the n-th, its text, or None if it stands; further blocks stand
+abbrev pub AreChosen : Profile → OrderStyle → (only : Option ℕ) → List Line → ℕ → List Block → List (Option (List ℕ)) → Type 0
+AreChosen p style only all n [] texts = Unit {0}
+AreChosen p style only all n (block ∷ blocks) [] = IsChosen p style only all n block None × AreChosen p style only all (suc n) blocks []
+AreChosen p style only all n (block ∷ blocks) (text ∷ texts) = IsChosen p style only all n block text × AreChosen p style only all (suc n) blocks texts
+
+-- the text is the source with these texts in the places of their blocks, and each other line as it was read
+abbrev pub ReportsBlocks : Profile → OrderStyle → (only : Option ℕ) (source : Reading) (text : List ℕ) → Type 0
+ReportsBlocks p style only source text =
     (blocks : List Block) × (source_of source ≡ Ok blocks)
-    × ((texts : List (List ℕ)) × (text ≡ merged (copied_in source) blocks texts) × AreReported p trace (classed_lines source) 1 blocks texts)
+    × ((texts : List (Option (List ℕ))) × (text ≡ replaced (classed_lines source) texts (classed_lines source)) × AreChosen p style only (classed_lines source) 1 blocks texts)

@@ -31,7 +31,7 @@ ghost use Rattle.s66_program.specs.declared.limits.TheConstants.{SOURCE_FRONT};
 ghost use Rattle.s66_program.specs.CheckText.{IsCheckOutput, verdict_lines, verdicts_status};
 ghost use Rattle.s66_program.specs.CheckedAnswers.{AreYesLines, yes_lines};
 ghost use Rattle.s66_program.specs.Examples.{blocks_in, one_load_answer, one_load_ordered, one_load_source};
-ghost use Rattle.s66_program.specs.OrderText.{IsKeptOutput, all_placed};
+ghost use Rattle.s66_program.specs.OrderText.{IsOrdered, all_placed};
 ghost use Rattle.s66_program.specs.OrderedAgain.{TakePrintedTimes, written_time};
 ghost use Rattle.s66_program.specs.ProveText.{IsProveOutput, all_documents};
 
@@ -51,7 +51,7 @@ pub fn total_limit_law()
 /// the same profile, the time that was printed of it, and any other as long as it did in the source.
 pub fn ordered_again_law()
     ensures { (strategy : Strategy) (p : Profile) (style : OrderStyle) (only : Option ℕ) (source : Reading) (text : List ℕ)
-        (status : Status) (again : List Block) → IsKeptOutput strategy p style only source text status →
+        (status : Status) (again : List Block) → IsOrdered strategy p style only source text status →
         source_of (record { cut = source.cut; text = text }) ≡ Ok again →
         TakePrintedTimes strategy p style only source text again }
 {}

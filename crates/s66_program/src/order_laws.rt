@@ -13,29 +13,30 @@ ghost use Rattle.s66_program.specs.CompareText.{IsCompareOutput};
 ghost use Rattle.s66_source.specs.Halves.{Halves, halves_of};
 ghost use Rattle.s66_source.specs.LeftAlone.{Reading};
 ghost use Rattle.s66_source.specs.Source.{source_of};
-ghost use Rattle.s66_program.specs.OrderText.{IsKeptOutput, IsOrderOutput};
+ghost use Rattle.s66_program.specs.OrderText.{IsOrdered};
 ghost use Rattle.s66_program.specs.Reports.{ReportsBlocks};
 
-/// What `order` wrote for a source has in the place of each block its instructions in a legal order, after a line that tells what this
-/// order takes. If the line ends in BEST, no legal order of the block takes less; if in AT LEAST and a number, none takes less than that.
+/// What `order` wrote for a source has in the place of each block that is asked for and doesn't stand its instructions in a legal order,
+/// after a line that tells what this order takes, unless it is quiet; each other line is as it was read. If the line ends in BEST, no legal
+/// order of the block takes less; if in AT LEAST and a number, none takes less than that.
 pub fn reported_law()
-    ensures { (strategy : Strategy) (p : Profile) (trace : Bool) (source : Reading) (text : List ℕ) (status : Status) →
-        strategy.search.nodes ≤ BUDGET_LIMIT → IsOrderOutput strategy p trace source text status →
-        ReportsBlocks p trace source text }
+    ensures { (strategy : Strategy) (p : Profile) (style : OrderStyle) (only : Option ℕ) (source : Reading) (text : List ℕ)
+        (status : Status) → strategy.search.nodes ≤ BUDGET_LIMIT → IsOrdered strategy p style only source text status →
+        ReportsBlocks p style only source text }
 {}
 
 /// If what `order` wrote for a source, with whichever options, is accepted again, `compare` accepts it: each block is the source's in a
 /// legal order, or as it stands, and nothing that stands beside the blocks differs. So `compare` of the two ends with status 0.
 pub fn compared_law()
     ensures compared { (strategy : Strategy) (p q : Profile) (style : OrderStyle) (only : Option ℕ) (source : Reading)
-        (text : List ℕ) (status : Status) (again : List Block) → IsKeptOutput strategy p style only source text status →
+        (text : List ℕ) (status : Status) (again : List Block) → IsOrdered strategy p style only source text status →
         source_of (record { cut = source.cut; text = text }) ≡ Ok again →
         (compared : List ℕ) × IsCompared q source (record { cut = source.cut; text = text }) compared true }
     ensures accepted { (strategy : Strategy) (p q : Profile) (style : OrderStyle) (only : Option ℕ) (source : Reading)
-        (text compared : List ℕ) (status : Status) (accepted : Bool) → IsKeptOutput strategy p style only source text status →
+        (text compared : List ℕ) (status : Status) (accepted : Bool) → IsOrdered strategy p style only source text status →
         IsCompared q source (record { cut = source.cut; text = text }) compared accepted → accepted ≡ true }
     ensures done { (strategy : Strategy) (p q : Profile) (style : OrderStyle) (only : Option ℕ) (cut : Bool)
         (halves : Halves) (input compared : List ℕ) (status ended : Status) → halves_of input ≡ Some halves →
-        IsKeptOutput strategy p style only (record { cut = cut; text = halves.old }) halves.new status →
+        IsOrdered strategy p style only (record { cut = cut; text = halves.old }) halves.new status →
         IsCompareOutput q cut input compared ended → ended ≡ Done }
 {}

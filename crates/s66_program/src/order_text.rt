@@ -1,17 +1,19 @@
-ghost use Rattle.std.specs.Prelude.{◌≡◌, IfOk};
+ghost use Rattle.std.specs.Prelude.{◌≡◌, ◌++◌, None, IfOk, replicate};
 ghost use Rattle.s66_isa.specs.declared.profile.Profile.{Profile as ProfileOf};
 ghost use Rattle.s66_line.specs.Block.{Block as BlockOf};
 ghost use Rattle.s66_command.specs.declared.strategy.Strategy.{Strategy as StrategyOf};
 ghost use Rattle.s66_answer.specs.SearchWithin.{IsSearchWithin};
 ghost use Rattle.s66_answer.specs.Stored.{IsFor, answer_in};
-ghost use Rattle.s66_program.specs.OrderText.{IsKeptOutput, IsOrderOutput, IsOrdered, columns_by, given_by, given_part, placed_by, placed_part, rise_from};
+ghost use Rattle.s66_program.specs.OrderText.{IsOrdered, columns_by, given_by, given_part, placed_by, placed_part, rise_from};
 
 use arrayvec::ArrayVec;
-use s66_answer::{BlockAnswer, Found, Keep, Observer, Output, blocks_before, keep_answers};
+use s66_answer::{
+    Answered, BlockAnswer, Found, Keep, Observer, Output, blocks_before, keep_answers,
+};
 use s66_command::{OrderStyle, Strategy};
 use s66_isa::Profile;
-use s66_source::{Columns, Placed, Source, print_keeping, print_source};
-use std::alloc::AllocError;
+use s66_source::{Columns, Placed, Source, print_source};
+use std::alloc::{AllocError, Global};
 use std::sync::Wait;
 use std::thread::Threads;
 
@@ -94,58 +96,26 @@ fn columns_by(own: bool) -> Columns
     if own { Columns::Own } else { Columns::Usual }
 }
 
-/// A source with each block in the best order that a search finds under a profile.
-fn order_output<R: AllocGlobal + Threads + Wait + Sync, O: Observer>(
-    rt: &R,
-    source: &Source,
-    profile: &Profile,
-    strategy: Strategy,
-    trace: bool,
-    observer: &mut O,
-) -> Result<Output, AllocError>
-    requires { IsSearchWithin strategy.search }
-    ensures { IfOk result (λ output.
-        IsOrderOutput strategy profile.now trace source.now output.text.items output.status) }
+/// How blocks are printed: so many stand, and then these come.
+fn after_standing(
+    alloc: Global,
+    standing: usize,
+    given: Vec<Option<Placed>>,
+) -> Result<Vec<Option<Placed>>, AllocError>
+    ensures { IfOk result (λ all. all.items ≡ replicate standing None ++ given.entry.items) }
 {
-    let placings = Placings { trace };
-    let all = keep_answers(rt, &placings, source, None, profile, strategy, observer)?;
-    Ok(Output {
-        text: print_source(rt.alloc(), source, all.parts.as_slice())?,
-        status: all.status,
-    })
+    let mut all = Vec::new(alloc);
+    for _i in 0..standing {
+        all.push(None)?;
+    }
+    for one in given {
+        all.push(one)?;
+    }
+    Ok(all)
 }
 
-/// A source with each block, or the only one that is put in order, in the best order that a search finds under a profile, where some
-/// blocks stand.
-fn kept_output<R: AllocGlobal + Threads + Wait + Sync, O: Observer>(
-    rt: &R,
-    source: &Source,
-    only: Option<u32>,
-    profile: &Profile,
-    strategy: Strategy,
-    style: OrderStyle,
-    observer: &mut O,
-) -> Result<Output, AllocError>
-    requires { IsSearchWithin strategy.search }
-    ensures { IfOk result (λ output.
-        IsKeptOutput strategy profile.now style only source.now output.text.items output.status) }
-{
-    let givings = Givings { style };
-    let all = keep_answers(rt, &givings, source, only, profile, strategy, observer)?;
-    Ok(Output {
-        text: print_keeping(
-            rt.alloc(),
-            source,
-            blocks_before(only),
-            all.parts.as_slice(),
-            style.quiet,
-            columns_by(style.columns),
-        )?,
-        status: all.status,
-    })
-}
-
-/// A source with its blocks in the best orders that a search finds under a profile, printed in this way.
+/// A source with its blocks, or the only one that is put in order, in the best orders that a search finds under a profile, printed in this
+/// way, where all other blocks stand.
 pub(crate) fn ordered_output<R: AllocGlobal + Threads + Wait + Sync, O: Observer>(
     rt: &R,
     source: &Source,
@@ -159,9 +129,20 @@ pub(crate) fn ordered_output<R: AllocGlobal + Threads + Wait + Sync, O: Observer
     ensures { IfOk result (λ output.
         IsOrdered strategy profile.now style only source.now output.text.items output.status) }
 {
-    if style.keep || style.quiet || only.is_some() {
-        kept_output(rt, source, only, profile, strategy, style, observer)
-    } else {
-        order_output(rt, source, profile, strategy, style.trace, observer)
-    }
+    let givings = Givings { style };
+    let Answered { parts, status } = keep_answers(
+        rt, &givings, source, only, profile, strategy, observer,
+    )?;
+    let standing = blocks_before(only).min(source.blocks().len());
+    let given = after_standing(rt.alloc(), standing, parts)?;
+    Ok(Output {
+        text: print_source(
+            rt.alloc(),
+            source,
+            given.as_slice(),
+            style.quiet,
+            columns_by(style.columns),
+        )?,
+        status,
+    })
 }

@@ -1,7 +1,8 @@
 -- The frame of a source, read line by line, is the definition.
-use Rattle.std.proofs.Common.{◌≡◌, ◌≤◌, ◌&&◌, ◌||◌, not, ℕ, suc, Bool, true, false, if◌then◌else◌, Option, None, Some, List, [], ◌∷◌, ◌++◌, length, map, refl, sym, ap, ap₂, ◌∙◌, append_assoc, nat_lt}
+use Rattle.std.proofs.Common.{◌≡◌, ◌≤◌, ◌<◌, ◌&&◌, ◌||◌, not, ℕ, suc, Bool, true, false, if◌then◌else◌, Option, None, Some, List, [], ◌∷◌, ◌++◌, length, map, refl, sym, ap, ap₂, ◌∙◌, append_assoc, arith, nat_lt}
 use Rattle.std.specs.Prelude.{Ok, ◌==◌}
-use Rattle.std.proofs.lemmas.Bool.{and_parts, le-leb, leb-true, ltb-false}
+use Rattle.std.specs.List.{filter}
+use Rattle.std.proofs.lemmas.Bool.{and_parts, eq-eqb, le-leb, leb-true, ltb-false, ne_eqb}
 use Rattle.s66_isa.specs.Lists.{every}
 use Rattle.s66_line.specs.Block.{Block, line_of}
 use Rattle.s66_line.specs.Class.{is_code}
@@ -9,10 +10,9 @@ use Rattle.s66_line.specs.Fields.{continues, lines_from, lines_of}
 use Rattle.s66_line.specs.declared.class.Class.{Class}
 use Rattle.s66_line.specs.declared.limits.TheConstants.{LINE_BYTES_LIMIT}
 use Rattle.s66_source.specs.Frame.{FramePart, block_part, frame_of, frame_of_lines, is_beside, line_part, part_beside}
-use Rattle.s66_source.specs.Framer.{Framer, after_framed, begins_block, first_part, flagged_next, frame_from, framed, is_short, part_at}
+use Rattle.s66_source.specs.Framer.{Framer, after_framed, begins_block, begins_with, first_part, flagged_next, frame_from, framed, is_short, part_at}
+use Rattle.s66_source.specs.Replaced.{others}
 use Rattle.s66_source.specs.LeftAlone.{Flagged, Reading, after_line, at_first, class_at, flagged_lines, is_continued, redefined_by}
-use Rattle.s66_source.specs.Keeper.{begins_with}
-use Rattle.s66_source.specs.Keeping.{others}
 use Rattle.s66_source.specs.Roles.{has_block, is_dropped, is_other_class, is_pad_class, lines_that}
 use Rattle.s66_source.specs.Source.{Line, blocks_of, classed_lines, classes_from, label_after, label_at, operand_refusal, place_after, place_at, refusal, run_after, run_at, source_of}
 use Rattle.s66_source.specs.declared.error.SourceError.{SourceError}
@@ -21,7 +21,6 @@ use Rattle.s66_source.specs.LeftAlone.{Standing}
 use Rattle.s66_source.specs.declared.limits.TheConstants.{SOURCE_LINES_LIMIT}
 use Rattle.s66_source.proofs.FlaggedLines.{bytes-flagged, flagged-found}
 use Rattle.s66_source.proofs.LineLaw.{neither, no_refusal}
-use Rattle.s66_source.proofs.KeptLines.{next-number, numbered-classed, numbers-after, numbers_in}
 use Rattle.s66_source.proofs.PrintedLines.{accepted-is}
 
 -- LINE BY LINE
@@ -63,6 +62,37 @@ short-lines source blocks accepted =
 beside-same : (other pad has : Bool) → (other || (pad && not (pad && has))) ≡ (other || (pad && not has))
 beside-same other true has = refl
 beside-same other false has = refl
+
+-- THE NUMBERS OF SOME LINES, of which the first is that of the next line, or not
+
+abbrev Numbered : ℕ → List Line → Type 0
+Numbered number [] = Unit {0}
+Numbered number (l ∷ lines) = (l.number ≡ number) × Numbered (suc number) lines
+
+numbered-classed : (lines : List Flagged) (number run index : ℕ) (label : List ℕ) (after : Bool) → Numbered number (classes_from number run index label after lines)
+numbered-classed [] number run index label after = tt
+numbered-classed (line ∷ lines) number run index label after =
+    let c = class_at after line in
+    (refl, numbered-classed lines (suc number) (run_after run c) (place_after index c) (label_after label c line.bytes) (is_code c))
+
+abbrev numbers_in : (Line → Bool) → List Line → List ℕ
+numbers_in some lines = map (λ (l : Line). l.number) (filter some lines)
+
+later-numbers : (some : Line → Bool) (low number : ℕ) (lines : List Line) → low < number → Numbered number lines → begins_with low (numbers_in some lines) ≡ false
+later-numbers some low number [] lt h = refl
+later-numbers some low number (l ∷ lines) lt h =
+    elim (some l) as (λ t. begins_with low (map (λ (x : Line). x.number) (if t then l ∷ filter some lines else filter some lines)) ≡ false)
+    [ true ↦ ne_eqb l.number low (λ same. absurd (omega (arith, same, h.0, lt))) | false ↦ later-numbers some low (suc number) lines (omega (arith, lt)) h.1 ]
+
+next-number : (some : Line → Bool) (number : ℕ) (l : Line) (lines : List Line) → Numbered number (l ∷ lines) → begins_with number (numbers_in some (l ∷ lines)) ≡ some l
+next-number some number l lines h =
+    elim (some l) as (λ t. begins_with number (map (λ (x : Line). x.number) (if t then l ∷ filter some lines else filter some lines)) ≡ t)
+    [ true ↦ eq-eqb l.number number h.0 | false ↦ later-numbers some number (suc number) lines (omega arith) h.1 ]
+
+numbers-after : (some : Line → Bool) (l : Line) (lines : List Line) → (if some l then others (numbers_in some (l ∷ lines)) else numbers_in some (l ∷ lines)) ≡ numbers_in some lines
+numbers-after some l lines =
+    elim (some l) as (λ t. (if t then others (map (λ (x : Line). x.number) (if t then l ∷ filter some lines else filter some lines))
+    else map (λ (x : Line). x.number) (if t then l ∷ filter some lines else filter some lines)) ≡ numbers_in some lines) [ true ↦ refl | false ↦ refl ]
 
 -- ALL LINES
 

@@ -98,7 +98,7 @@ abbrev pub last_number : Line → List Line → ℕ
 last_number l [] = l.number
 last_number l (m ∷ more) = last_number m more
 
-line_of-last : (l : Line) (more : List Line) → line_of (block_of (l ∷ more)) (length (map entry_of (l ∷ more))) ≡ last_number l more
+pub line_of-last : (l : Line) (more : List Line) → line_of (block_of (l ∷ more)) (length (map entry_of (l ∷ more))) ≡ last_number l more
 line_of-last l [] = refl
 line_of-last l (m ∷ more) = line_of-last m more
 

@@ -12,10 +12,9 @@ use Rattle.s66_line.specs.Fields.{body, label_bytes}
 use Rattle.s66_line.specs.declared.class.Class.{Class}
 use Rattle.s66_line.specs.declared.class.Class.TheVariants.{Comment, Other, Refused, Pad, Instruction}
 use Rattle.s66_isa.specs.declared.limits.TheConstants.{BLOCK_LIMIT}
-use Rattle.s66_source.specs.Keeping.{others}
 use Rattle.s66_source.specs.LeftAlone.{Flagged, Reading, class_at, flagged_lines}
 use Rattle.s66_source.specs.Printed.{Placed, copied_line}
-use Rattle.s66_source.specs.Replaced.{anew_text, begins, begun, line_text, owner, text_for, texts_of}
+use Rattle.s66_source.specs.Replaced.{anew_text, begins, begun, line_text, others, owner, text_for, texts_of}
 use Rattle.s66_source.specs.Roles.{has_block, is_comment_class, is_dropped, is_leading, is_note, is_note_of, is_pad_class}
 use Rattle.s66_source.specs.Source.{Line, begins_block, block_of, blocks_of, classed_lines, classes_from, instructions, label_after, label_at, parts_of, place_after, place_at, put_before, run_after, run_at}
 use Rattle.s66_source.specs.declared.columns.Columns.{Columns}

@@ -150,29 +150,12 @@ printed-merged source blocks ps accepted placed =
     (merge-all all all 1 1 [] (parts_of (instructions all)) ps (λ part among. (cut.sizes part among).0)
     (Rising-ordered 1 0 all (ordered-classed (flagged_lines source) 1 0 0 [] false)) (sym cut.whole) (subst (λ bs. ArePlaced bs ps) (sym same) placed))
 
--- WITHOUT THE TEXTS
-
-before-from : (number : ℕ) (lines : List Line) → copied_all (lines_before number lines) ++ copied_all (lines_from number lines) ≡ copied_all lines
-before-from number [] = refl
-before-from number (l ∷ lines) =
-    elim (nat_lt l.number number) as (λ t. copied_all (if t then l ∷ lines_before number lines else []) ++ copied_all (if t then lines_from number lines else l ∷ lines) ≡ copied_line l ++ copied_all lines) [
-      | true ↦ append_assoc (copied_line l) (copied_all (lines_before number lines)) (copied_all (lines_from number lines)) ∙ ap (λ text. copied_line l ++ text) (before-from number lines)
-      | false ↦ refl
-    ]
-
-pub merged-alone : (lines : List Line) (blocks : List Block) → merged lines blocks (replicate (length blocks) []) ≡ copied_all lines
-merged-alone lines [] = refl
-merged-alone lines (block ∷ blocks) =
-    let front : List ℕ = copied_all (lines_before (line_of block 1) lines) in
-    ap (λ xs. xs ++ merged (lines_from (line_of block 1) lines) blocks (replicate (length blocks) [])) (append-nil front)
-    ∙ ap (λ text. front ++ text) (merged-alone (lines_from (line_of block 1) lines) blocks) ∙ before-from (line_of block 1) lines
-
 -- WHAT IS LEFT ALONE
 
-abbrev IsOther : Line → Flagged → Type 0
+abbrev pub IsOther : Line → Flagged → Type 0
 IsOther line m = (line.bytes ≡ m.bytes) × (m.alone ≡ true → is_other_class line.class ≡ true)
 
-alone-at : (lines : List Flagged) (number run index : ℕ) (label : List ℕ) (after : Bool) (k : ℕ) (m : Flagged) → slice_get lines k ≡ Some m →
+pub alone-at : (lines : List Flagged) (number run index : ℕ) (label : List ℕ) (after : Bool) (k : ℕ) (m : Flagged) → slice_get lines k ≡ Some m →
     (line : Line) × (slice_get (classes_from number run index label after lines) k ≡ Some line) × IsOther line m
 alone-at [] number run index label after k m h = cc
 alone-at (n ∷ lines) number run index label after zero m h =

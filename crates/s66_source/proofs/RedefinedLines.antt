@@ -16,12 +16,11 @@ use Rattle.s66_line.specs.declared.class.Class.TheVariants.{Comment, Other, Refu
 use Rattle.s66_line.proofs.Wholes.{AreLines-lines_of, is_inside}
 use Rattle.s66_source.specs.Columns.{indented_lines, indents, line_start}
 use Rattle.s66_source.specs.declared.columns.Columns.{Columns}
-use Rattle.s66_source.specs.Keeping.{AreGiven}
 use Rattle.s66_source.specs.Counts.{is_one_of}
 use Rattle.s66_source.specs.LeftAlone.{Flagged, Reading, at_first, class_at, flagged_lines, redefined_by}
 use Rattle.s66_source.specs.Printed.{Placed, copied_line, notes_text, report}
 use Rattle.s66_source.specs.Redefined.{Redefined, defined_by, forming, own_operation, redefined_in, renaming, is_short}
-use Rattle.s66_source.specs.Replaced.{anew_text, begins, line_text, owner, printed_in, replaced, text_for, texts_of}
+use Rattle.s66_source.specs.Replaced.{AreGiven, anew_text, begins, line_text, owner, printed_in, replaced, text_for, texts_of}
 use Rattle.s66_source.specs.Roles.{is_comment_class, is_note_of, is_other_class}
 use Rattle.s66_source.specs.Source.{Line, blocks_of, classed_lines, classes_from, label_after, place_after, run_after}
 use Rattle.s66_source.proofs.DefinedNames.{AreLong, defined_by-append, forming-long, nothing-more, renaming-long}

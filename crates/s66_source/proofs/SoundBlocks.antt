@@ -15,11 +15,10 @@ use Rattle.s66_line.specs.declared.class.Class.TheVariants.{Comment, Other, Refu
 use Rattle.s66_line.proofs.Wholes.{AreLines-lines_of, is_inside}
 use Rattle.s66_source.specs.BlockParts.{all_of}
 use Rattle.s66_source.specs.Columns.{bytes_on, indent}
-use Rattle.s66_source.specs.Keeping.{AreGiven}
 use Rattle.s66_source.specs.LeftAlone.{Flagged, Reading, Standing, after_line, at_first, class_at, flagged_from, is_alone, is_continued, is_held, redefined_by}
 use Rattle.s66_source.specs.Printed.{Placed}
 use Rattle.s66_source.specs.Redefined.{Redefined}
-use Rattle.s66_source.specs.Replaced.{anew_text, text_for, texts_of}
+use Rattle.s66_source.specs.Replaced.{AreGiven, anew_text, text_for, texts_of}
 use Rattle.s66_source.specs.Source.{Line, block_of, blocks_of, classed_lines, classes_from, entry_of, instructions, label_after, label_at, label_in, parts_of, place_after, place_at, run_after, run_at, source_of}
 use Rattle.s66_source.specs.declared.columns.Columns.{Columns}
 use Rattle.s66_source.proofs.FarOperands.{Fits, clear-read, fits-read}

@@ -4,13 +4,12 @@ use Rattle.std.specs.Prelude.{Ok}
 use Rattle.s66_line.specs.Block.{Block}
 use Rattle.s66_line.specs.Fields.{lines_of}
 use Rattle.s66_line.proofs.Wholes.{AreLines-lines_of}
-use Rattle.s66_source.specs.Keeping.{AreGiven}
 use Rattle.s66_source.specs.LeftAlone.{Reading, Standing, at_first, flagged_lines, redefined_by}
 use Rattle.s66_source.specs.Printed.{Placed}
 use Rattle.s66_source.specs.ReadAgain.{AreComplete, AreGivenAgain}
 use Rattle.s66_source.specs.Reader.{start}
 use Rattle.s66_source.specs.Redefined.{nothing_redefined}
-use Rattle.s66_source.specs.Replaced.{printed_in, texts_of}
+use Rattle.s66_source.specs.Replaced.{AreGiven, printed_in, texts_of}
 use Rattle.s66_source.specs.Source.{Line, block_of, blocks_of, classed_lines, instructions, parts_of, refusal, source_of}
 use Rattle.s66_source.specs.declared.columns.Columns.{Columns}
 use Rattle.s66_source.proofs.LineLaw.{no_refusal}

@@ -6,9 +6,8 @@ use Rattle.s66_line.specs.Fields.{trim, is_trailing}
 use Rattle.s66_line.specs.declared.class.Class.{Class}
 use Rattle.s66_line.specs.declared.limits.TheConstants.{LINE_BYTES_LIMIT}
 use Rattle.s66_source.specs.Frame.{FramePart, block_part}
-use Rattle.s66_source.specs.Keeper.{begins_with}
-use Rattle.s66_source.specs.Keeping.{others}
 use Rattle.s66_source.specs.LeftAlone.{Flagged, after_line, class_at, flagged_from, is_alone}
+use Rattle.s66_source.specs.Replaced.{others}
 use Rattle.s66_source.specs.Roles.{is_other_class, is_pad_class}
 use Rattle.s66_source.specs.LeftAlone.{Standing}
 
@@ -26,6 +25,11 @@ pub record Framer : Type 0 where
 
 abbrev pub is_short : List ℕ → Bool
 is_short line = nat_le (length line) LINE_BYTES_LIMIT
+
+-- the list begins with the number
+abbrev pub begins_with : ℕ → List ℕ → Bool
+begins_with n [] = false
+begins_with n (m ∷ ms) = m == n
 
 -- THE NEXT LINE
 

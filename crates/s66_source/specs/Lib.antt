@@ -10,7 +10,6 @@ pub mod ReadAgain
 pub mod Gives
 pub mod Pads
 pub mod Columns
-pub mod Keeping
 pub mod Replaced
 pub mod Merged
 pub mod Keeper

@@ -1,14 +1,10 @@
-ghost use Rattle.std.specs.Prelude.{ℕ, suc, ◌≡◌, ◌≤◌, ◌<◌, ◌++◌, length, IfOk, None, OnOk, drop, replicate};
-ghost use Rattle.s66_isa.specs.Lists.{Among};
-ghost use Rattle.s66_source.specs.Keeping.{AreGiven, text_anew};
-ghost use Rattle.s66_source.specs.Keeper.{begins_with};
-ghost use Rattle.s66_source.specs.Printed.{ArePlaced, printed};
-ghost use Rattle.s66_source.specs.Replaced.{printed_in};
+ghost use Rattle.std.specs.Prelude.{◌≡◌, ◌<◌, ◌^◌, true, IfOk};
+ghost use Rattle.s66_source.specs.Keeper.{is_next, itself};
+ghost use Rattle.s66_source.specs.Replaced.{AreGiven, printed_in};
 ghost use Rattle.s66_source.specs.Source.{blocks_of, classed_lines};
 
 use crate::block_text::{push_copied, push_indented, push_report};
 use crate::columns::Columns;
-use crate::given::{Given, others};
 use crate::lines::cut_line;
 use crate::placed::Placed;
 use crate::source::Source;
@@ -18,340 +14,377 @@ use s66_line::Block;
 use std::alloc::{AllocError, Global};
 use std::marker::Model;
 
-/// Whether this is the first of these numbers.
-fn begins_with(numbers: &[u32], number: u32) -> bool
-    ensures { result ≡ begins_with number numbers.now }
+/// Whether the one after so many of these numbers is this one.
+fn is_next(numbers: &[u32], passed: usize, number: u32) -> bool
+    ensures value { result ≡ is_next itself numbers.now passed number }
+    ensures few { result ≡ true → passed < 2 ^ 63 }
 {
-    match numbers {
-        [first, ..] => *first == number,
-        [] => false,
+    match numbers.get(passed) {
+        Some(next) => *next == number,
+        None => false,
     }
 }
 
-/// What is printed in the place of an instruction of a block that is printed, before which `passed` instructions of the block come: in
-/// that of the first the report, unless there are to be none, in that of the last all instructions. `indents` are the blanks before each
-/// of its instructions up to this one.
-fn push_anew(
-    out: &mut Vec<u8>,
-    quiet: bool,
-    indents: &[u8],
-    number: u32,
-    passed: usize,
-    block: &Block,
-    placed: &Placed,
-) -> Result<(), AllocError>
-    requires indents { length indents.now ≡ suc passed }
-    requires passed { passed < length block.now.entries }
-    requires placed { (n : ℕ) → Among n placed.now.order → (1 ≤ n) × (n ≤ length block.now.entries) }
-    ensures { OnOk result (out.new.items ≡ out.old.items ++
-        text_anew quiet indents.now number passed block.now placed.now) }
-{
-    let count = block.count();
-    if passed == 0 && !quiet {
-        push_report(out, number, count, placed)?;
-    }
-    if passed + 1 == count {
-        push_indented(out, block, placed.order.as_slice(), indents)?;
-    }
-    Ok(())
+/// How far the printing of a source came.
+#[derive(Clone, Copy)]
+struct Passed {
+    /// How many lines were passed.
+    lines: u32,
+    /// How many blocks began in them.
+    begun: usize,
+    /// How many of them are left out if their blocks are printed anew.
+    dropped: usize,
+    /// How many of them are `NO`s before which no instruction of their run comes.
+    leading: usize,
 }
 
-/// What is left to print of a source, some of whose blocks stand.
+impl Passed {
+    ghost use Rattle.std.specs.Prelude.{◌≡◌, ◌<◌, ◌^◌, true};
+    ghost use Rattle.s66_source.specs.Keeper.{passed_after};
+    ghost use Rattle.s66_source.specs.declared.limits.TheConstants.{SOURCE_LINES_LIMIT};
+
+    /// After a line in which a block begins, or not, and so on.
+    fn after(self, begins: bool, dropped: bool, leading: bool) -> Passed
+        requires lines { self.lines < SOURCE_LINES_LIMIT }
+        requires begun { begins ≡ true → self.begun < 2 ^ 63 }
+        requires dropped { dropped ≡ true → self.dropped < 2 ^ 63 }
+        requires leading { leading ≡ true → self.leading < 2 ^ 63 }
+        ensures { result ≡ passed_after self begins dropped leading }
+    {
+        Passed {
+            lines: self.lines + 1,
+            begun: if begins { self.begun + 1 } else { self.begun },
+            dropped: if dropped {
+                self.dropped + 1
+            } else {
+                self.dropped
+            },
+            leading: if leading {
+                self.leading + 1
+            } else {
+                self.leading
+            },
+        }
+    }
+}
+
+/// The lines of a block that is printed anew, up to one of them.
+#[derive(Drop)]
+struct Noted {
+    /// How many lines of the source were passed.
+    lines: u32,
+    /// How many of them are left out.
+    dropped: usize,
+    /// The blanks before each instruction of the block in them.
+    indents: ArrayVec<u8, BLOCK_LIMIT>,
+}
+
+impl Model for Noted {
+    ghost use Rattle.s66_source.specs.Keeper.{Noted};
+
+    ghost Value = { Noted };
+
+    ghost view = { λ s. record { lines = s.lines; dropped = s.dropped; indents = s.indents.items } };
+}
+
+/// How a source is printed.
 #[derive(Drop)]
 struct Keeper<'s, 'a> {
+    source: &'s Source<'a>,
+    blocks: &'s [Block<'a>],
+    /// How each block is printed anew, or `None` if it stands; further blocks stand.
+    given: &'s [Option<Placed>],
     /// Whether no report is printed.
     quiet: bool,
     columns: Columns,
-    /// The blocks whose last instruction is among the lines to come.
-    blocks: &'s [Block<'a>],
-    /// How many of them stand before those that are given.
-    before: usize,
-    /// How those are to be printed; what comes after them stands.
-    given: Given<'s>,
-    /// Those of the lines to come that are left out if their blocks are printed.
-    dropped: &'s [u32],
-    /// Those that are `NO`s before which no instruction of their run comes.
-    leading: &'s [u32],
-    /// The number of the first of the blocks, from 1.
-    number: u32,
-    /// How many of its instructions were passed.
-    passed: usize,
-    /// The blanks before each of them, if it is printed.
-    indents: ArrayVec<u8, BLOCK_LIMIT>,
-    /// Whether the last block that was passed stands.
-    stood: bool,
-    /// How many lines were passed.
-    lines: u32,
 }
 
 impl<'s, 'a> Model for Keeper<'s, 'a> {
+    ghost use Rattle.std.specs.Prelude.{◌≡◌, Ok};
     ghost use Rattle.s66_source.specs.Keeper.{Keeper};
+    ghost use Rattle.s66_source.specs.Source.{source_of};
 
     ghost Value = { Keeper };
 
-    ghost view = { λ k.
-        record { quiet = k.quiet; columns = k.columns; place = record { blocks = k.blocks.now; before = k.before; given = k.given; number = k.number; passed = k.passed; stood = k.stood }; indents = k.indents.items; dropped = k.dropped.now; leading = k.leading.now; lines = k.lines } };
+    ghost view = { λ k. record { source = k.source.now; given = k.given.now; quiet = k.quiet; columns = k.columns } };
+
+    ghost invariant = { λ k. source_of k.source.now ≡ Ok k.blocks.now };
 }
 
 impl<'s, 'a> Keeper<'s, 'a> {
-    ghost use Rattle.std.specs.Prelude.{◌≡◌, ◌≤◌, ◌<◌, ◌+◌, ◌++◌, true, suc, [], if◌then◌else◌, length, OnOk};
+    ghost use Rattle.std.specs.Prelude.{◌≡◌, ◌≤◌, ◌<◌, ◌^◌, ◌++◌, ℕ, suc, true, [], ◌∷◌, List, None, Some, MatchOption, is_some, length, nat_le, slice_get, IfOk, IfSome, OnOk};
+    ghost use Rattle.s66_isa.specs.Lists.{Among};
     ghost use Rattle.s66_line.specs.Fields.{lines_from};
-    ghost use Rattle.s66_source.specs.Keeping.{after_block, after_instruction, copied, ends_block, instruction_text, others, pad_stands, stands_next};
-    ghost use Rattle.s66_source.specs.Keeper.{IsKeeper, IsPlace, after_kept, is_instruction_next, is_leading_next, kept_from, kept_text, with_indent};
+    ghost use Rattle.s66_source.specs.Columns.{indents};
+    ghost use Rattle.s66_source.specs.Keeper.{IsKeeper, IsPassed, after_noted, bytes_left, first_of, is_next, itself, last_of, noted_text, owner_by, passed_at, placed_of, text_left, up_to};
+    ghost use Rattle.s66_source.specs.Printed.{notes_text};
+    ghost use Rattle.s66_source.specs.Replaced.{anew_text};
+    ghost use Rattle.s66_source.specs.Roles.{is_dropped, is_leading, lines_that};
+    ghost use Rattle.s66_source.specs.Source.{Line, blocks_of, classed_lines};
     ghost use Rattle.s66_source.specs.declared.limits.TheConstants.{SOURCE_LINES_LIMIT};
 
-    /// Whether there is a block to come, and it stands.
-    fn stands(&self) -> bool
-        ensures { result ≡ stands_next self.now.place }
+    /// The blocks of the source.
+    fn blocks(&self) -> &'s [Block<'a>]
+        ensures { result.now ≡ blocks_of (classed_lines self.now.source) }
     {
-        !self.blocks.is_empty() && (self.before > 0 || self.given.first().is_none())
+        self.blocks
     }
 
-    /// Whether a `NO` stands, before which an instruction of its run comes or not.
-    fn pad_stands(&self, leading: bool) -> bool
-        ensures { result ≡ pad_stands leading self.now.place }
+    /// The block that begins in the line after those that were passed, if one does.
+    fn next_block(&self, passed: Passed) -> Option<&'s Block<'a>>
+        requires { passed.lines < SOURCE_LINES_LIMIT }
+        ensures value { is_some result ≡
+            is_next first_of (blocks_of (classed_lines self.now.source)) passed.begun (suc passed.lines) }
+        ensures some { IfSome result (λ block.
+            (slice_get (blocks_of (classed_lines self.now.source)) passed.begun ≡ Some block.now) ×
+            (first_of block.now ≡ suc passed.lines)) }
+        ensures few { is_some result ≡ true → passed.begun < 2 ^ 63 }
     {
-        if self.passed == 0 && !leading {
-            self.stood
+        let block = self.blocks().get(passed.begun)?;
+        prove!(block.count() >= 1);
+        if block.line(1) == passed.lines + 1 {
+            Some(block)
         } else {
-            self.stands()
+            None
         }
     }
 
-    /// Whether the next line is an instruction.
-    fn is_at_instruction(&self) -> bool
-        requires lines { self.now.lines < SOURCE_LINES_LIMIT }
-        requires keeper { IsKeeper self.now }
-        ensures { result ≡ is_instruction_next self.now }
+    /// Whether the line after those that were passed is left out if its block is printed anew.
+    fn is_dropped(&self, passed: Passed) -> bool
+        requires { passed.lines < SOURCE_LINES_LIMIT }
+        ensures value { result ≡ is_next itself (lines_that is_dropped self.now.source) passed.dropped (suc passed.lines) }
+        ensures few { result ≡ true → passed.dropped < 2 ^ 63 }
     {
-        match self.blocks {
-            [block, ..] => {
-                prove!(block.count() >= 1);
-                block.line(self.passed + 1) == self.lines + 1
+        is_next(self.source.dropped(), passed.dropped, passed.lines + 1)
+    }
+
+    /// Whether it is a `NO` before which no instruction of its run comes.
+    fn is_leading(&self, passed: Passed) -> bool
+        requires { passed.lines < SOURCE_LINES_LIMIT }
+        ensures value { result ≡ is_next itself (lines_that is_leading self.now.source) passed.leading (suc passed.lines) }
+        ensures few { result ≡ true → passed.leading < 2 ^ 63 }
+    {
+        is_next(self.source.leading(), passed.leading, passed.lines + 1)
+    }
+
+    /// The last line of the block of this number, from 1; 0 of any other number.
+    fn last_of(&self, number: usize) -> u32
+        ensures { result ≡ last_of (blocks_of (classed_lines self.now.source)) number }
+    {
+        if number == 0 {
+            return 0;
+        }
+        match self.blocks().get(number - 1) {
+            Some(block) => block.line(block.count()),
+            None => 0,
+        }
+    }
+
+    /// How the block of this number is printed anew, from 1, or `None` if it stands or none has this number.
+    fn placed(&self, number: usize) -> Option<&'s Placed>
+        ensures { MatchOption result (placed_of (blocks_of (classed_lines self.now.source)) self.now.given number ≡ None)
+            (λ p. placed_of (blocks_of (classed_lines self.now.source)) self.now.given number ≡ Some p.now) }
+    {
+        if number == 0 || number > self.blocks().len() {
+            return None;
+        }
+        match self.given.get(number - 1) {
+            Some(Some(placed)) => Some(placed),
+            _ => None,
+        }
+    }
+
+    /// The number of the block that a line is of, the last of those that were passed, from 1; 0 if it is of none.
+    fn owner(&self, passed: Passed, dropped: bool, leading: bool) -> usize
+        requires { passed.begun ≤ SOURCE_LINES_LIMIT }
+        ensures { result ≡ owner_by dropped leading (nat_le passed.lines
+            (last_of (blocks_of (classed_lines self.now.source)) passed.begun)) passed.begun }
+    {
+        if dropped {
+            if leading {
+                passed.begun + 1
+            } else {
+                passed.begun
             }
-            [] => false,
+        } else if passed.lines <= self.last_of(passed.begun) {
+            passed.begun
+        } else {
+            0
         }
     }
 
-    /// Whether the next line is a `NO` before which no instruction of its run comes; such a line is passed.
-    fn take_leading(&mut self) -> bool
-        requires { self.old.lines < SOURCE_LINES_LIMIT }
-        ensures leading { result ≡ is_leading_next self.old }
-        ensures rest { self.new ≡ record
-            self.old { leading = if is_leading_next self.old then others self.old.leading else self.old.leading } }
+    /// Passes a line of a block, and prints it if it is a note.
+    fn put_noted(
+        &self,
+        out: &mut Vec<u8>,
+        block: &Block,
+        noted: &mut Noted,
+        line: &[u8],
+    ) -> Result<(), AllocError>
+        requires lines { noted.old.lines < SOURCE_LINES_LIMIT }
+        requires more { length noted.old.indents < length block.now.entries }
+        ensures text { OnOk result (out.new.items ≡ out.old.items ++ noted_text self.now block.now noted.old line.now) }
+        ensures rest { OnOk result (noted.new ≡ after_noted self.now block.now noted.old line.now) }
     {
-        if !begins_with(self.leading, self.lines + 1) {
-            return false;
-        }
-        self.leading = &self.leading[1..];
-        true
-    }
-
-    /// Takes in the line of an instruction.
-    fn put_indent(&mut self, line: &[u8])
-        requires keeper { IsKeeper self.old }
-        requires here { is_instruction_next self.old ≡ true }
-        ensures { self.new ≡ record self.old { indents = with_indent self.old line.now } }
-    {
-        let [block, ..] = self.blocks else {
-            return;
-        };
-        prove!(block.count() >= 1);
+        noted.lines += 1;
         prove!(block.count() <= BLOCK_LIMIT);
-        self.indents.push(self.columns.indent(line));
-    }
-
-    /// Prints in the place of an instruction, whose line was taken in.
-    fn print_instruction(&self, out: &mut Vec<u8>, line: &[u8]) -> Result<(), AllocError>
-        requires place { IsPlace self.now.place }
-        requires indents { length self.now.indents ≡ suc self.now.place.passed }
-        requires here { is_instruction_next self.now ≡ true }
-        ensures { OnOk result (out.new.items ≡ out.old.items ++
-            instruction_text self.now.quiet self.now.indents self.now.place line.now) }
-    {
-        if self.before > 0 {
-            return push_copied(out, line);
-        }
-        let ([block, ..], Some(placed)) = (self.blocks, self.given.first()) else {
-            return push_copied(out, line);
-        };
-        prove!(block.count() >= 1);
-        push_anew(
-            out,
-            self.quiet,
-            self.indents.as_slice(),
-            self.number,
-            self.passed,
-            block,
-            placed,
-        )
-    }
-
-    /// Passes the last instruction of a block.
-    fn pass_block(&mut self)
-        requires number { self.old.place.number ≤ suc SOURCE_LINES_LIMIT }
-        requires place { IsPlace self.old.place }
-        ensures rest { self.new ≡ record self.old { place = after_block self.old.place; indents = [] } }
-        ensures place { IsPlace self.new.place }
-    {
-        self.stood = self.stands();
-        if self.before > 0 {
-            self.before -= 1;
-        } else {
-            self.given.pass();
-        }
-        self.blocks = others(self.blocks);
-        self.number += 1;
-        self.passed = 0;
-        self.indents.clear();
-    }
-
-    /// Passes an instruction, whose line was taken in.
-    fn pass_instruction(&mut self)
-        requires lines { self.old.lines < SOURCE_LINES_LIMIT }
-        requires place { IsPlace self.old.place }
-        requires number { self.old.place.number ≤ suc self.old.lines }
-        requires indents { length self.old.indents ≡ suc self.old.place.passed }
-        requires here { is_instruction_next self.old ≡ true }
-        ensures rest { self.new ≡ record self.old {
-          place = after_instruction self.old.place;
-          indents = if ends_block self.old.place.passed self.old.place.blocks then [] else self.old.indents;
-        } }
-        ensures place { IsPlace self.new.place }
-        ensures number { self.new.place.number ≤ suc (suc self.old.lines) }
-        ensures indents { length self.new.indents ≡ self.new.place.passed }
-    {
-        let [block, ..] = self.blocks else {
-            return;
-        };
-        prove!(block.count() >= 1);
-        if self.passed + 1 == block.count() {
-            self.pass_block();
-        } else {
-            self.passed += 1;
-        }
-    }
-
-    /// Prints a line that is left out unless its block stands.
-    fn print_pad(&self, out: &mut Vec<u8>, line: &[u8], leading: bool) -> Result<(), AllocError>
-        ensures { OnOk result (out.new.items ≡ out.old.items ++
-            (if pad_stands leading self.now.place then copied line.now else [])) }
-    {
-        if self.pad_stands(leading) {
-            push_copied(out, line)
-        } else {
-            Ok(())
-        }
-    }
-
-    /// Prints a line, or what a block that doesn't stand has in its place, and passes it.
-    fn print_line(&mut self, out: &mut Vec<u8>, line: &[u8]) -> Result<(), AllocError>
-        requires lines { self.old.lines < SOURCE_LINES_LIMIT }
-        requires keeper { IsKeeper self.old }
-        ensures text { OnOk result (out.new.items ≡ out.old.items ++ kept_text self.old line.now) }
-        ensures rest { OnOk result (self.new ≡ after_kept self.old line.now) }
-        ensures keeper { OnOk result (IsKeeper self.new) }
-    {
-        let leading = self.take_leading();
-        if begins_with(self.dropped, self.lines + 1) {
-            self.print_pad(out, line, leading)?;
-            self.dropped = &self.dropped[1..];
-        } else if self.is_at_instruction() {
-            self.put_indent(line);
-            self.print_instruction(out, line)?;
-            self.pass_instruction();
+        if block.line(noted.indents.len() + 1) == noted.lines {
+            noted.indents.push(self.columns.indent(line));
+        } else if is_next(self.source.dropped(), noted.dropped, noted.lines) {
+            noted.dropped += 1;
         } else {
             push_copied(out, line)?;
         }
-        self.lines += 1;
         Ok(())
     }
 
-    /// Prints the lines of a text, each as `print_line` does.
-    fn print_all(&mut self, out: &mut Vec<u8>, text: &[u8]) -> Result<(), AllocError>
-        requires lines { self.old.lines + length (lines_from [] text.now) ≤ SOURCE_LINES_LIMIT }
-        requires keeper { IsKeeper self.old }
-        ensures text { OnOk result (out.new.items ≡ out.old.items ++ kept_from self.old (lines_from [] text.now)) }
+    /// Prints the notes of a block that begins after these lines. Returns the blanks before each of its instructions.
+    fn push_notes(
+        &self,
+        out: &mut Vec<u8>,
+        block: &Block,
+        passed: Passed,
+        text: &[u8],
+    ) -> Result<ArrayVec<u8, BLOCK_LIMIT>, AllocError>
+        requires keeper { IsKeeper self.now }
+        requires block { Among block.now (blocks_of (classed_lines self.now.source)) }
+        requires first { first_of block.now ≡ suc passed.lines }
+        requires dropped { passed.dropped ≡ up_to itself passed.lines (lines_that is_dropped self.now.source) }
+        requires text { lines_from [] text.now ≡ bytes_left self.now.source passed.lines }
+        ensures notes { OnOk result (out.new.items ≡ out.old.items ++
+            notes_text block.now (classed_lines self.now.source)) }
+        ensures indents { IfOk result (λ blanks. blanks.items ≡
+            indents self.now.columns (classed_lines self.now.source) block.now) }
     {
+        let mut noted = Noted {
+            lines: passed.lines,
+            dropped: passed.dropped,
+            indents: ArrayVec::new(),
+        };
         let mut rest = text;
         while let Some((line, more)) = cut_line(rest) {
-            self.print_line(out, line)?;
+            if noted.indents.len() == block.count() {
+                return Ok(noted.indents);
+            }
+            self.put_noted(out, block, &mut noted, line)?;
+            rest = more;
+        }
+        Ok(noted.indents)
+    }
+
+    /// Prints a block anew, which begins after these lines.
+    fn push_anew(
+        &self,
+        out: &mut Vec<u8>,
+        block: &Block,
+        placed: &Placed,
+        passed: Passed,
+        text: &[u8],
+    ) -> Result<(), AllocError>
+        requires keeper { IsKeeper self.now }
+        requires block { Among block.now (blocks_of (classed_lines self.now.source)) }
+        requires few { passed.begun < SOURCE_LINES_LIMIT }
+        requires placed { (n : ℕ) → Among n placed.now.order → (1 ≤ n) × (n ≤ length block.now.entries) }
+        requires first { first_of block.now ≡ suc passed.lines }
+        requires dropped { passed.dropped ≡ up_to itself passed.lines (lines_that is_dropped self.now.source) }
+        requires text { lines_from [] text.now ≡ bytes_left self.now.source passed.lines }
+        ensures { OnOk result (out.new.items ≡ out.old.items ++ anew_text self.now.quiet self.now.columns
+            (classed_lines self.now.source) (suc passed.begun) block.now placed.now) }
+    {
+        if !self.quiet {
+            push_report(out, passed.begun as u32 + 1, block.count(), placed)?;
+        }
+        let indents = self.push_notes(out, block, passed, text)?;
+        push_indented(out, block, placed.order.as_slice(), indents.as_slice())
+    }
+
+    /// What is known after the line that is next, and the number of the block that it is of, 0 if of none. A block begins in it or not.
+    fn pass_line(&self, passed: Passed, begins: bool, text: &[u8], line: &[u8]) -> (Passed, usize)
+        requires keeper { IsKeeper self.now }
+        requires lines { passed.lines < SOURCE_LINES_LIMIT }
+        requires passed { passed ≡ passed_at self.now.source passed.lines }
+        requires begins { begins ≡ is_next first_of (blocks_of (classed_lines self.now.source)) passed.begun (suc passed.lines) }
+        requires few { begins ≡ true → passed.begun < 2 ^ 63 }
+        requires text { lines_from [] text.now ≡ bytes_left self.now.source passed.lines }
+        requires line { (more : List (List ℕ)) × (lines_from [] text.now ≡ line.now ∷ more) }
+        ensures { (l : Line) × (ls : List Line) × IsPassed self.now passed result.0 result.1 begins line.now l ls }
+    {
+        let dropped = self.is_dropped(passed);
+        let leading = self.is_leading(passed);
+        let after = passed.after(begins, dropped, leading);
+        (after, self.owner(after, dropped, leading))
+    }
+
+    /// Prints the line after those that were passed, or what is printed in its place.
+    fn print_line(
+        &self,
+        out: &mut Vec<u8>,
+        passed: Passed,
+        text: &[u8],
+        line: &[u8],
+    ) -> Result<Passed, AllocError>
+        requires keeper { IsKeeper self.now }
+        requires lines { passed.lines < SOURCE_LINES_LIMIT }
+        requires passed { passed ≡ passed_at self.now.source passed.lines }
+        requires text { lines_from [] text.now ≡ bytes_left self.now.source passed.lines }
+        requires line { (more : List (List ℕ)) × (lines_from [] text.now ≡ line.now ∷ more) }
+        ensures text { OnOk result (out.new.items ++ text_left self.now (suc passed.lines) ≡
+            out.old.items ++ text_left self.now passed.lines) }
+        ensures rest { IfOk result (λ after. after ≡ passed_at self.now.source (suc passed.lines)) }
+    {
+        let block = self.next_block(passed);
+        let (after, owner) = self.pass_line(passed, block.is_some(), text, line);
+        let placed = self.placed(owner);
+        match (placed, block) {
+            (None, _) => push_copied(out, line)?,
+            (Some(placed), Some(block)) => self.push_anew(out, block, placed, passed, text)?,
+            (Some(_), None) => (),
+        }
+        Ok(after)
+    }
+
+    /// Prints all lines.
+    fn print_all(&self, out: &mut Vec<u8>) -> Result<(), AllocError>
+        requires { IsKeeper self.now }
+        ensures { OnOk result (out.new.items ≡ out.old.items ++ text_left self.now 0) }
+    {
+        let mut passed = Passed {
+            lines: 0,
+            begun: 0,
+            dropped: 0,
+            leading: 0,
+        };
+        let mut rest = self.source.text();
+        while let Some((line, more)) = cut_line(rest) {
+            passed = self.print_line(out, passed, rest, line)?;
             rest = more;
         }
         Ok(())
     }
 }
 
-/// A source with its blocks as they are given, after so many that stand, as `print_keeping` prints it.
-fn print_given(
-    alloc: Global,
-    source: &Source,
-    before: usize,
-    given: Given,
-    quiet: bool,
-    columns: Columns,
-) -> Result<Vec<u8>, AllocError>
-    requires { AreGiven (drop before (blocks_of (classed_lines source.now))) given }
-    ensures { IfOk result (λ text. text.items ≡ printed_in quiet columns source.now
-        (replicate before None ++ given.entry)) }
-{
-    let mut keeper = Keeper {
-        quiet,
-        columns,
-        blocks: source.blocks(),
-        before,
-        given,
-        dropped: source.dropped(),
-        leading: source.leading(),
-        number: 1,
-        passed: 0,
-        indents: ArrayVec::new(),
-        stood: false,
-        lines: 0,
-    };
-    let mut out = Vec::new(alloc);
-    keeper.print_all(&mut out, source.text())?;
-    Ok(out)
-}
-
-/// A source with its blocks in these orders, one for each. In the place of a block come its report, its notes and its
-/// instructions, the first after the label; every other line is as it was read, save the `NO`s that are left out. It takes one
-/// pass over the lines, in time linear in the source and the orders.
+/// A source with some of its blocks printed anew: for each block it is given how, or `None` if it stands, and further blocks stand. Each
+/// line of a block that stands is as it was read, and so is each that is of no block. In the place of any other block come its report,
+/// unless it is `quiet`, its notes and its instructions, the first after the label, and the operations of those without a label in these
+/// columns. It takes two passes over the lines at most, in time linear in the source and the orders.
 pub fn print_source(
     alloc: Global,
     source: &Source,
-    placed: &[Placed],
-) -> Result<Vec<u8>, AllocError>
-    requires { ArePlaced (blocks_of (classed_lines source.now)) placed.now }
-    ensures { IfOk result (λ text. text.items ≡ printed source.now placed.now) }
-{
-    prove!(source.blocks().len() == placed.len());
-    let given = Given {
-        every: placed,
-        some: &[],
-    };
-    print_given(alloc, source, 0, given, false, Columns::Usual)
-}
-
-/// A source, so many of whose blocks stand before those that are given. Of these stand those without an order, and so do all blocks after
-/// them. Each line of a block that stands is as it was read, and so are the `NO`s of it; all other blocks are printed as `print_source`
-/// does, without reports if it is `quiet`, and with the operations of lines without a label in these columns. Only the first line of a
-/// block can have a label.
-pub fn print_keeping(
-    alloc: Global,
-    source: &Source,
-    before: usize,
     given: &[Option<Placed>],
     quiet: bool,
     columns: Columns,
 ) -> Result<Vec<u8>, AllocError>
-    requires { AreGiven (drop before (blocks_of (classed_lines source.now))) given.now }
-    ensures { IfOk result (λ text. text.items ≡ printed_in quiet columns source.now
-        (replicate before None ++ given.now)) }
+    requires { AreGiven (blocks_of (classed_lines source.now)) given.now }
+    ensures { IfOk result (λ text. text.items ≡ printed_in quiet columns source.now given.now) }
 {
-    let given = Given {
-        every: &[],
-        some: given,
+    let keeper = Keeper {
+        source,
+        blocks: source.blocks(),
+        given,
+        quiet,
+        columns,
     };
-    print_given(alloc, source, before, given, quiet, columns)
+    let mut out = Vec::new(alloc);
+    keeper.print_all(&mut out)?;
+    Ok(out)
 }

@@ -1,4 +1,4 @@
-ghost use Rattle.std.specs.Prelude.{◌≡◌, ◌≤◌, ℕ, List, Option, ◌∷◌, ◌++◌, Some, None, Ok, Err, ◌≢◌, Bool, true, false, map, length, codes, [], not, replicate};
+ghost use Rattle.std.specs.Prelude.{◌≡◌, ◌≤◌, ℕ, List, Option, ◌∷◌, ◌++◌, Some, None, Ok, Err, ◌≢◌, Bool, true, false, map, length, codes, [], not, replicate, slice_get};
 ghost use Rattle.s66_isa.specs.Table.{instr, instr_at};
 ghost use Rattle.s66_isa.specs.Lists.{Among, tally, every};
 ghost use Rattle.s66_isa.specs.declared.instr.Instr.{Instr};
@@ -10,7 +10,6 @@ ghost use Rattle.s66_source.specs.declared.columns.Columns.{Columns};
 ghost use Rattle.s66_source.specs.declared.columns.Columns.TheVariants.{Own, Usual};
 ghost use Rattle.s66_source.specs.UpperRead.{upper_read};
 ghost use Rattle.s66_source.specs.Counts.{cover_of};
-ghost use Rattle.s66_source.specs.Keeping.{AreGiven};
 ghost use Rattle.s66_source.specs.LeftAlone.{Flagged, Reading, flagged_lines, is_directive, is_off_switch, plain};
 ghost use Rattle.s66_source.specs.declared.error.SourceError.TheVariants.{BadOperand};
 ghost use Rattle.s66_source.specs.declared.cover.Cover.TheVariants.{Nothing, Lines, ToItsEnd};
@@ -22,7 +21,7 @@ ghost use Rattle.s66_isa.specs.declared.limits.TheConstants.{BLOCK_LIMIT};
 ghost use Rattle.s66_source.specs.BlockParts.{AreParts};
 ghost use Rattle.s66_source.specs.Printed.{Placed, ArePlaced, instruction_lines, label_field, printed};
 ghost use Rattle.s66_source.specs.ReadAgain.{AreComplete, AreGivenAgain};
-ghost use Rattle.s66_source.specs.Replaced.{printed_in};
+ghost use Rattle.s66_source.specs.Replaced.{AreGiven, owner, printed_in};
 ghost use Rattle.s66_source.specs.Roles.{is_note, is_note_of, is_dropped, is_copied, roles, lines_that, mixed_source, outside_source};
 
 /// Lower case reads as upper case. Texts that differ only in the case of letters have the same blocks but for the case of letters
@@ -72,6 +71,13 @@ pub fn read_again_law()
         AreComplete blocks given →
         source_of (record { cut = source.cut; text = printed_in quiet columns source given }) ≡ Ok again →
         AreGivenAgain blocks given again }
+{}
+
+/// A line that is left alone is of no block, so it is printed as it was read.
+pub fn alone_law()
+    ensures { (source : Reading) (k : ℕ) (m : Flagged) → slice_get (flagged_lines source) k ≡ Some m → m.alone ≡ true →
+        (line : Line) × (slice_get (classed_lines source) k ≡ Some line) × (line.bytes ≡ m.bytes) ×
+        (owner (classed_lines source) line ≡ 0) }
 {}
 
 /// Where no block stands, a source is printed as by its orders alone.

@@ -9,13 +9,11 @@ mod cover;
 mod directive;
 mod error;
 mod frame;
-mod given;
 mod halves;
 mod keeper;
 mod laws;
 mod limits;
 mod lines;
-mod merged_laws;
 mod operation;
 mod pads;
 mod placed;
@@ -32,15 +30,14 @@ pub use directive::{directive_cover, is_directive};
 pub use error::SourceError;
 pub use frame::{FramePart, frame_of};
 pub use halves::{Halves, halves_of};
-pub use keeper::{print_keeping, print_source};
+pub use keeper::print_source;
 pub use laws::{
-    block_examples, case_law, columns_examples, columns_law, copied_law, count_examples, cut_law,
-    left_alone_examples, line_examples, line_law, none_stands_law, parts_law, plain_law,
+    alone_law, block_examples, case_law, columns_examples, columns_law, copied_law, count_examples,
+    cut_law, left_alone_examples, line_examples, line_law, none_stands_law, parts_law, plain_law,
     printed_examples, read_again_examples, read_again_law, spelled_law,
 };
 pub use limits::SOURCE_LINES_LIMIT;
 pub use lines::cut_line;
-pub use merged_laws::{merged_examples, merged_law};
 pub use placed::Placed;
 pub use redefined::{Redefined, redefined_examples};
 pub use source::{Source, read_source, read_source_with};

@@ -4,7 +4,7 @@ use crate::calls::Answered;
 use arrayvec::ArrayVec;
 use s66_line::Block;
 use s66_lint::findings_in;
-use s66_source::{Placed, Source, SourceError, print_source, read_source};
+use s66_source::{Columns, Placed, Source, SourceError, print_source, read_source};
 use s66_test_search::{ONE_LOAD, only_block};
 use std::alloc::{AllocError, Global};
 
@@ -54,14 +54,14 @@ pub fn printed(alloc: Global) -> Result<Answered, AllocError> {
     let Ok(order) = ArrayVec::try_from(&[1, 3, 2][..]) else {
         return Err(AllocError);
     };
-    let placed = [Placed {
+    let given = [Some(Placed {
         order,
         source: 16,
         time: 12,
         bound: 12,
         splits: Some(0),
-    }];
-    let text = print_source(alloc, &source, &placed)?;
+    })];
+    let text = print_source(alloc, &source, &given, false, Columns::Usual)?;
     Ok([text.len(), 0, 0, 0])
 }
 

@@ -1,4 +1,4 @@
-use Rattle.s66_source.proofs.Owned.{all-anew}
+use Rattle.s66_source.proofs.AllAnew.{all-anew}
 use Rattle.s66_source.proofs.laws.none_stands_law.Goals as goal
 
 pub returns : goal.returns

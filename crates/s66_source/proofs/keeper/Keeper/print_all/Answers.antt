@@ -1,28 +1,44 @@
-use Rattle.std.proofs.Common.{ℕ, ◌≤◌, ◌+◌, ◌++◌, ◌∙◌, List, length, subst, sym, ap, arith}
+use Rattle.std.proofs.Common.{ℕ, suc, ◌≡◌, ◌++◌, ◌∙◌, [], List, ap, arith, refl, sym}
 use Rattle.std.proofs.lemmas.List.{append-nil}
-use Rattle.s66_source.specs.declared.limits.TheConstants.{SOURCE_LINES_LIMIT}
-use Rattle.s66_source.specs.Keeper.{Keeper, kept_from}
-use Rattle.s66_source.proofs.KeptLines.{kept-found}
+use Rattle.s66_line.specs.Fields.{lines_from}
+use Rattle.s66_source.specs.Keeper.{Keeper, bytes_left, passed_at, text_left}
+use Rattle.s66_source.specs.Replaced.{replaced, texts_of}
+use Rattle.s66_source.specs.Source.{Line, blocks_of, classed_lines}
+use Rattle.s66_source.specs.declared.keeper.Passed.{Passed}
+use Rattle.s66_source.proofs.KeptLines.{bytes-first, few-next, none-next, passed-first}
 use Rattle.s66_source.proofs.keeper.Keeper.print_all.Goals as goal
+
+pub loop-line-init : goal.loop-line-init
+loop-line-init c =
+    let k = c.args.self.now in
+    record {
+      text = refl;
+      passed = sym (passed-first k.source (blocks_of (classed_lines k.source)) c.requires.accepted);
+      left = ap (lines_from []) (c.text-rest.ensures ∙ ap (λ (k : Keeper). k.source.text) c.self.view_is) ∙ bytes-first k.source;
+    }
 
 pub print_line-requires-clause-lines : goal.print_line-requires-clause-lines
 print_line-requires-clause-lines c =
-    let few = subst (λ (lines : List (List ℕ)). c.loop-line.self.lines + length lines ≤ SOURCE_LINES_LIMIT) c.in-Some.ensures.line c.loop-line.invariant.lines in
-    omega (arith, few)
+    let k = c.args.self.now in
+    let next = few-next k.source (blocks_of (classed_lines k.source)) c.loop-line.passed.lines c.in-Some.line.now (lines_from [] c.in-Some.more.now) c.requires.accepted (sym c.loop-line.invariant.left ∙ c.in-Some.ensures.line) in
+    omega (arith, next.0)
 
 pub loop-line-preserved : goal.loop-line-preserved
 loop-line-preserved c =
-    let cut = c.in-Some.ensures.line in
-    let few = subst (λ (lines : List (List ℕ)). c.loop-line.self.lines + length lines ≤ SOURCE_LINES_LIMIT) cut c.loop-line.invariant.lines in
-    let printed = c.in_ok-print_line.ensures in
+    let k = c.args.self.now in
+    let next = few-next k.source (blocks_of (classed_lines k.source)) c.loop-line.passed.lines c.in-Some.line.now (lines_from [] c.in-Some.more.now) c.requires.accepted (sym c.loop-line.invariant.left ∙ c.in-Some.ensures.line) in
+    let printed = c.in_ok-passed.ensures in
+    let passed : c.in_ok-passed.passed.lines ≡ suc c.loop-line.passed.lines = ap (λ (p : Passed). p.lines) printed.rest in
     record {
-      text = rw (printed.text, printed.rest) (kept-found c.loop-line.self c.loop-line.out.items c.loop-line.rest.now c.in-Some.line.now c.in-Some.more.now cut ∙ c.loop-line.invariant.text);
-      lines = omega (arith, few, ap (λ (k : Keeper). k.lines) printed.rest);
-      keeper = printed.keeper;
-      within = (let within = c.loop-line.invariant.within in omega (arith, within, c.in-Some.ensures.shorter));
+      text = ap (λ n. c.print_line.new.out.items ++ text_left k n) passed ∙ printed.text ∙ c.loop-line.invariant.text;
+      passed = printed.rest ∙ ap (passed_at k.source) (sym passed);
+      left = sym next.1 ∙ ap (bytes_left k.source) (sym passed);
     }
 
 pub returns : goal.returns
 returns c =
+    let k = c.args.self.now in
+    let all = classed_lines k.source in
     let out = c.loop-line.out.items in
-    record { text = sym (append-nil out) ∙ ap (λ lines. out ++ kept_from c.loop-line.self lines) (sym c.in_default.ensures.none) ∙ c.loop-line.invariant.text }
+    let none = none-next k.source c.loop-line.passed.lines (sym c.loop-line.invariant.left ∙ c.in_default.ensures.none) in
+    sym (append-nil out) ∙ ap (λ (lines : List Line). out ++ replaced all (texts_of k.quiet k.columns all 1 (blocks_of all) k.given) lines) (sym none) ∙ c.loop-line.invariant.text

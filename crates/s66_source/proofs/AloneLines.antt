@@ -1,0 +1,32 @@
+-- A line that is left alone is of no block.
+use Rattle.std.proofs.Common.{◌≡◌, ◌&&◌, ◌||◌, ℕ, suc, Bool, true, false, true≢false, if◌then◌else◌, List, [], Some, refl, sym, ap, ap₂, ◌∙◌}
+use Rattle.std.specs.Prelude.{slice_get}
+use Rattle.s66_line.specs.Class.{is_instruction}
+use Rattle.s66_line.specs.declared.class.Class.{Class}
+use Rattle.s66_line.specs.declared.class.Class.TheVariants.{Comment, Other, Refused, Pad, Instruction}
+use Rattle.s66_source.specs.LeftAlone.{Flagged, Reading, flagged_lines}
+use Rattle.s66_source.specs.Replaced.{begun, owner}
+use Rattle.s66_source.specs.Roles.{has_block, is_comment_class, is_dropped, is_leading, is_note, is_other_class, is_pad_class}
+use Rattle.s66_source.specs.Source.{Line, blocks_of, classed_lines}
+use Rattle.s66_source.proofs.MergedLines.{alone-at}
+use Rattle.s66_source.proofs.Owners.{plain-notes}
+
+other-only : (c : Class) → is_other_class c ≡ true → (is_instruction c ≡ false) × (is_comment_class c ≡ false) × (is_pad_class c ≡ false)
+other-only Other is = (refl, refl, refl)
+other-only Comment is = absurd (true≢false (sym is))
+other-only Refused is = absurd (true≢false (sym is))
+other-only (Pad located) is = absurd (true≢false (sym is))
+other-only (Instruction located i) is = absurd (true≢false (sym is))
+
+other-none : (all : List Line) (l : Line) → is_other_class l.class ≡ true → owner all l ≡ 0
+other-none all l is =
+    let plain = other-only l.class is in
+    ap₂ own (ap₂ (λ s t. s || t) plain.0 (plain-notes l (blocks_of all) plain.1)) (ap (λ t. t && has_block all l) plain.2)
+  where
+    own : (given dropped : Bool) → ℕ
+    own given dropped = if given then begun all l else (if dropped then (if is_leading all l then suc (begun all l) else begun all l) else 0)
+
+pub alone-none : (source : Reading) (k : ℕ) (m : Flagged) → slice_get (flagged_lines source) k ≡ Some m → m.alone ≡ true → (line : Line) × (slice_get (classed_lines source) k ≡ Some line) × (line.bytes ≡ m.bytes) × (owner (classed_lines source) line ≡ 0)
+alone-none source k m at alone =
+    let (line, here, (bytes, other)) = alone-at (flagged_lines source) 1 0 0 [] false k m at in
+    (line, here, bytes, other-none (classed_lines source) line (other alone))
