@@ -1,4 +1,5 @@
 use Rattle.std.proofs.Common.{ℕ, ◌≡◌, ◌≤◌, ◌<◌, ◌+◌, ◌-◌, ◌∙◌, List, ◌++◌, ap, arith, length, sym}
+use Rattle.std.proofs.lemmas.Bool.{eq-eqb, ne_eqb}
 use Rattle.std.proofs.lemmas.List.{append-nil}
 use Rattle.s66_model.specs.Timing.{Problem}
 use Rattle.s66_cert.specs.Document.{Document}
@@ -21,7 +22,7 @@ returns-then-number-eq0 c =
     let l = c.loop-step in
     let all = all-of _ _ _ c.args.self.now c.count-step-end.ensures.value c.self.invariant.first.problem c.self.view_is in
     let within : l.step < count-of c.args.self.now = omega (arith, c.loop-step-test.true, all) in
-    pairs-none d (count-of c.args.self.now) l.step l.from c.args.n c.pair_from-number.result l.numbers.items within c.pair_from-number.ensures c.if-number-eq0.true
+    pairs-none d (count-of c.args.self.now) l.step l.from c.args.n c.pair_from-number.result l.numbers.items within c.pair_from-number.ensures (eq-eqb c.pair_from-number.result 0 c.if-number-eq0.true)
     ∙ l.invariant.all
 
 pub loop-step-preserved : goal.loop-step-preserved
@@ -34,7 +35,7 @@ loop-step-preserved c =
     record {
       all = ap (λ k. c.push.new.self.items ++ pairs_over d (most - (l.step + 1)) k c.args.n) c.second_of-from.ensures
           ∙ ap (λ (xs : List ℕ). xs ++ pairs_over d (most - (l.step + 1)) _ c.args.n) c.push.ensures.items
-          ∙ pairs-more d most l.step l.from c.args.n c.pair_from-number.result l.numbers.items within c.pair_from-number.ensures c.if-number-eq0.false
+          ∙ pairs-more d most l.step l.from c.args.n c.pair_from-number.result l.numbers.items within c.pair_from-number.ensures (ne_eqb c.pair_from-number.result 0 c.if-number-eq0.false)
           ∙ l.invariant.all;
       few = omega (arith, l.invariant.few, c.push.ensures.len);
     }
