@@ -1,4 +1,4 @@
--- Used by examples alone: documents with fact lines and a longest path.
+-- Used by examples alone: a document with fact lines and a longest path.
 use Rattle.std.specs.Prelude.{[], ◌∷◌, codes}
 use Rattle.s66_model.specs.Tree.{Alone}
 use Rattle.s66_model.specs.DominatedLeaves.{Next}
@@ -10,7 +10,3 @@ use Rattle.s66_checker.specs.Examples.{with_facts}
 abbrev pub shifts_in_turn : Document
 shifts_in_turn =
     with_facts (codes "LX1 5" ∷ codes "BX2 X3" ∷ codes "LX4 5" ∷ []) (1 ∷ 2 ∷ 3 ∷ []) 8 5 (Pair 1 2 ∷ Pair 2 3 ∷ []) (Alone (Next 1))
-
--- the unit is free again above the bound
-abbrev pub divided_before_counted : Document
-divided_before_counted = with_facts (codes "FX1 X2/X3" ∷ codes "CX4 X5" ∷ []) (1 ∷ 2 ∷ []) 39 20 (Pair 2 1 ∷ []) (Alone (Next 1))

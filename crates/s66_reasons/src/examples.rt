@@ -1,23 +1,35 @@
 //! Worked examples: what is said of small documents. Each clause is a text, and the function does nothing.
 
 ghost use Rattle.std.specs.Prelude.{[], ◌∷◌, ◌≡◌, ◌++◌, codes};
-ghost use Rattle.s66_isa.specs.declared.instr.Kind.TheVariants.{Multiply};
+ghost use Rattle.s66_isa.specs.declared.instr.Kind.TheVariants.{Divide, Multiply};
 ghost use Rattle.s66_model.specs.Leaves.{Load};
 ghost use Rattle.s66_model.specs.Tree.{Alone};
 ghost use Rattle.s66_model.specs.DominatedLeaves.{Bounding};
 ghost use Rattle.s66_cert.specs.Examples.{one_load, three_multiplies};
 ghost use Rattle.s66_checker.specs.Examples.{before_their_writers, multiplies_at_once};
-ghost use Rattle.s66_reasons.specs.Examples.{divided_before_counted, shifts_in_turn};
-ghost use Rattle.s66_reasons.specs.LongestPaths.{by_words};
+ghost use Rattle.s66_reasons.specs.Examples.{shifts_in_turn};
+ghost use Rattle.s66_reasons.specs.FactWords.{by_parcels, by_unit};
+ghost use Rattle.s66_reasons.specs.LongestPaths.{by_words, pairs_of};
 ghost use Rattle.s66_reasons.specs.Reasons.{reasons_text};
 
-/// How fact lines are named that together put a number before another.
-#[tactic(auto, unfolding(crate::specs::Words::digits))]
+/// Which fact lines together put a number before another, and how they are named.
+#[tactic(auto, unfolding(s66_isa::specs::Table::row, s66_isa::specs::Profiles::profile_of, crate::specs::Words::digits))]
 pub fn by_examples()
+    ensures alone { pairs_of shifts_in_turn 1 2 ≡ 1 ∷ [] }
+    ensures together { pairs_of shifts_in_turn 1 3 ≡ 1 ∷ 2 ∷ [] }
     ensures none { by_words [] ≡ [] }
     ensures one { by_words (1 ∷ []) ≡ codes " (by 1.)" }
     ensures two { by_words (1 ∷ 2 ∷ []) ≡ codes " (by 1. and 2.)" }
     ensures three { by_words (1 ∷ 2 ∷ 4 ∷ []) ≡ codes " (by 1., 2. and 4.)" }
+{}
+
+/// What is said of a pair where less than the bound would do: the last number is what it takes.
+#[tactic(auto, unfolding(crate::specs::Words::digits))]
+pub fn above_examples()
+    ensures parcels { by_parcels 5 8 1 3 2 ≡
+        codes "2 issues at 8 or later; behind it 3 could issue 1 later, and from there to the end it is 0 or more: 9" }
+    ensures unit { by_unit Divide 20 30 2 1 ≡
+        codes "1 has the Divide unit until 30 or later; behind it 2 could issue then, and from there to the end it is 0 or more: 30" }
 {}
 
 /// Leaves of each kind that may close a tree, and a tree that splits.
@@ -43,22 +55,6 @@ pub fn reasons_examples()
         codes "If an order took less than 16:\n" ++
         codes "  16  From the beginning it is 0 or more until one of 1 and 2 has its Boolean unit; these need it for 4 each, 8 in all; so the last of them begins at 4 or later, and from there to the end it is 12 or more: 16\n" ++
         codes "So the order of 16 is best.\n" }
-    ensures together { reasons_text shifts_in_turn ≡
-        codes "Every order takes 5 or more:\n" ++
-        codes "  1. 1 LX1 5 stands before 2 BX2 X3 in a faster order: 2 issues at 0 or later; behind it 1 could issue 1 later, and from there to the end it is 4 or more: 5\n" ++
-        codes "  2. 2 BX2 X3 stands before 3 LX4 5 in a faster order: 3 issues at 0 or later; behind it 2 could issue 1 later, and from there to the end it is 4 or more: 5\n" ++
-        codes "If an order took less than 5:\n" ++
-        codes "   0  1 LX1 5 can issue\n" ++
-        codes "   4  the Shift unit of 1 LX1 5 is free, which 3 LX4 5 needs (by 1. and 2.)\n" ++
-        codes "   8  the unit of 3 LX4 5 is free, and that is the end\n" ++
-        codes "The order found takes 8.\n" }
-    ensures above { reasons_text divided_before_counted ≡
-        codes "Every order takes 20 or more:\n" ++
-        codes "  1. 2 CX4 X5 stands before 1 FX1 X2/X3 in a faster order: 1 has the Divide unit until 30 or later; behind it 2 could issue then, and from there to the end it is 0 or more: 30\n" ++
-        codes "If an order took less than 20:\n" ++
-        codes "   0  1 FX1 X2/X3 can issue\n" ++
-        codes "  30  the unit of 1 FX1 X2/X3 is free, and that is the end\n" ++
-        codes "The order found takes 39.\n" }
     ensures splits { reasons_text three_multiplies ≡
         codes "Every order takes 22 or more, by 10 splits.\n" ++
         codes "So the order of 22 is best.\n" }

@@ -259,7 +259,7 @@ fn push_rest(out: &mut Vec<u8>, bound: u32, until: u64) -> Result<(), AllocError
     ensures { OnOk result (out.new.items ≡ out.old.items ++ rest_words bound until) }
 {
     let rest = (bound as u64).saturating_sub(until);
-    let all = until.max(bound as u64);
+    let all = (bound as u64).max(until);
     push_field(out, b", and from there to the end it is ", rest as usize)?;
     push_field(out, b" or more: ", all as usize)
 }
@@ -355,11 +355,14 @@ fn soonest_issue(facts: &Facts, n: u8) -> u64
     requires { IsNumber facts.now.problem n }
     ensures value { result ≡
         soonest_known facts.now.problem (arcs_of facts.now.problem (known_in facts.now)) (At n Issue) }
-    ensures small { result + 2 ^ 32 ≤ 2 ^ 64 }
+    ensures small { result + (row_at facts.now.problem n).parcels < 2 ^ 64 }
 {
-    // its clauses say that the block is short, and so are loads
+    // its clauses say that what is known forms no ring
     let _count = facts.count();
-    facts.head(n).issue.unwrap_or(0)
+    let head = facts.head(n);
+    // its unit is free later by more than its parcels, and that fits
+    let _free = head.free.unwrap_or(0);
+    head.issue.unwrap_or(0)
 }
 
 /// That m stands before n.

@@ -33,9 +33,8 @@ loop-step-preserved c =
     let all = all-of _ _ _ c.args.self.now c.count-step-end.ensures.value c.self.invariant.first.problem c.self.view_is in
     let within : l.step < most = omega (arith, c.loop-step-test.true, all) in
     record {
-      all = ap (λ k. c.push.new.self.items ++ pairs_over d (most - (l.step + 1)) k c.args.n) c.second_of-from.ensures
-          ∙ ap (λ (xs : List ℕ). xs ++ pairs_over d (most - (l.step + 1)) _ c.args.n) c.push.ensures.items
-          ∙ pairs-more d most l.step l.from c.args.n c.pair_from-number.result l.numbers.items within c.pair_from-number.ensures (ne_eqb c.pair_from-number.result 0 c.if-number-eq0.false)
+      all = pairs-more d most l.step l.from c.args.n c.pair_from-number.result _ l.numbers.items c.push.new.self.items within c.pair_from-number.ensures
+          (ne_eqb c.pair_from-number.result 0 c.if-number-eq0.false) c.second_of-from.ensures c.push.ensures.items
           ∙ l.invariant.all;
       few = omega (arith, l.invariant.few, c.push.ensures.len);
     }
