@@ -119,10 +119,11 @@ line_of_load d e hop = first_line (keeps_apart e hop.to hop.wait) 1 (facts_of d)
 
 -- WHAT IS SAID
 
--- by which fact lines, if by some
+-- a fact line, by its number
 abbrev pub line_name : ℕ → List ℕ
 line_name number = decimal number ++ codes "."
 
+-- by which fact lines, if by some
 abbrev pub by_words : List ℕ → List ℕ
 by_words [] = []
 by_words (number ∷ more) = codes " (by " ++ listed line_name (number ∷ more) ++ codes ")"

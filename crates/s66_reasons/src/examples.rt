@@ -13,7 +13,7 @@ ghost use Rattle.s66_reasons.specs.LongestPaths.{by_words, pairs_of};
 ghost use Rattle.s66_reasons.specs.Reasons.{reasons_text};
 
 /// Which fact lines together put a number before another, and how they are named.
-#[tactic(auto, unfolding(s66_isa::specs::Table::row, s66_isa::specs::Profiles::profile_of, crate::specs::Words::digits))]
+#[tactic(auto, unfolding(s66_isa::specs::Table::row, s66_isa::specs::Profiles::profile_of, s66_model::specs::Dependence::conflict, crate::specs::Words::digits))]
 pub fn by_examples()
     ensures alone { pairs_of shifts_in_turn 1 2 ≡ 1 ∷ [] }
     ensures together { pairs_of shifts_in_turn 1 3 ≡ 1 ∷ 2 ∷ [] }
@@ -23,7 +23,7 @@ pub fn by_examples()
     ensures three { by_words (1 ∷ 2 ∷ 4 ∷ []) ≡ codes " (by 1., 2. and 4.)" }
 {}
 
-/// What is said of a pair where less than the bound would do: the last number is what it takes.
+/// What is said of a pair by which more than the bound is reached: the last number is all of it.
 #[tactic(auto, unfolding(crate::specs::Words::digits))]
 pub fn above_examples()
     ensures parcels { by_parcels 5 8 1 3 2 ≡

@@ -1,6 +1,5 @@
 use Rattle.std.proofs.Common.{ℕ, ◌-◌, ◌≡◌, ◌∙◌, List, ◌++◌, ap, ap₂, append_assoc, codes, decimal, max}
 use Rattle.std.proofs.lemmas.Result.{IfOk-equal}
-use Rattle.s66_reasons.specs.FactWords.{rest_words}
 use Rattle.s66_reasons.proofs.facts.push_rest.Goals as goal
 
 of-four : (o a b c d : List ℕ) → o ++ a ++ b ++ c ++ d ≡ o ++ (a ++ b ++ c ++ d)
