@@ -4,7 +4,7 @@
     tools/reasons.py PROGRAM [--count N] [--seed N]
 
 Certificates are those of examples/, with and without --deep, and of N random blocks, 100 unless given, under random profiles; of some of
-these others are made that have fact lines. Of each document with YES the first line must have the bound, and count splits and facts if
+these others are made that have fact lines, and some have many pairs. Of each document with YES the first line must have the bound, and count splits and facts if
 the tree splits. Each row must have a number that follows from the row before it and from what its sentence names: the time of a result,
 a unit or a parcel, of instructions that the leaf names, with their texts. The last row has to reach the bound, or of parcels each; of a
 longest path it alone is the end, at the path's length. The last line must have the time. Each wrong thing is told, and the last line
@@ -17,8 +17,9 @@ import os
 import re
 import sys
 
-from certificate import END, ORIGIN, Known, Load, Pair, Problem, Reader, meet_in_memory
+from certificate import END, ORIGIN, Known, Load, Pair, Problem, Reader, instruction_of, meet_in_memory
 from compare_certificates import Maker, run
+from find_facts import PROFILE
 
 ROOT = os.path.dirname(os.path.dirname(os.path.abspath(__file__)))
 NAMES = {"LONGADD": "Long Add"}
@@ -54,6 +55,7 @@ class Texts:
         self.document, self.texts, self.lines = document, texts, list(lines)
         self.problem = Problem(document.profile, document.block)
         self.known = Known(self.problem, document.bound)
+        self.most_named = 0
 
     def line(self):
         must(self.lines, "a line is missing")
@@ -205,7 +207,7 @@ class Texts:
             begin = f"{n} has the {NAMES[self.problem.block[n].unit]} unit until ([0-9]+) or later; behind it {m} could issue then"
             parcels, until = 0, heads["free", n]
         head, rest, all = map(int, read(begin + end, why))
-        must((head + parcels, all, rest) == (until, bound, max(0, bound - until)), f"not the sum: {sentence}")
+        must((head + parcels, rest, all) == (until, max(0, bound - until), until + rest), f"not the sum: {sentence}")
         must(rest <= tail, f"the path to the end is shorter: {sentence}")
 
     def facts(self):
@@ -251,12 +253,29 @@ class Texts:
             load, end = self.document.facts[int(found[3]) - 1], (found[2], int(found[1])) if found[1] else END
             must(isinstance(load, Load) and load.end == end, f"another line: {sentence}")
             return [(load.begin, end)]
-        sentence, pair = read(r"(.*?)(?: \(by ([0-9]+)[.]\))?", sentence)
+        sentence, by = read(r"(.*?)(?: \(by ([0-9., and]+)\))?", sentence)
         arcs = self.table_arcs(sentence)
         begin, end = arcs[0]
-        by_pair = end != END and begin[1] not in self.at_first[end[1]]
-        must(bool(pair) == by_pair and (not pair or isinstance(self.document.facts[int(pair) - 1], Pair)), f"by which line: {sentence}")
+        lines = self.lines_between(begin[1], end[1]) if end != END else []
+        must(re.split(", | and ", by or "") == ([f"{line}." for line in lines] or [""]), f"not by {lines}: {by}")
+        self.most_named = max(self.most_named, len(lines))
         return arcs
+
+    def lines_between(self, m, n):
+        """The fact lines that put m before n, each from the second number of the one before it on, with dependence between: one that ends
+        the way if there is any, and else one from which on it is known.
+        """
+        pairs, lines = {line: fact for line, fact in enumerate(self.document.facts, 1) if isinstance(fact, Pair)}, []
+        while m != n and m not in self.at_first[n]:
+            begun = [line for line, (j, _) in pairs.items() if m == j or m in self.at_first[j]]
+            for before in self.at_first, self.known.before:
+                ways = [line for line in begun if pairs[line].second == n or pairs[line].second in before[n]]
+                if ways:
+                    break
+            must(ways, f"no lines put {m} before {n}")
+            lines.append(ways[0])
+            m = pairs[ways[0]].second
+        return lines
 
     def table_arcs(self, sentence):
         for words, arc in (
@@ -317,6 +336,23 @@ def texts(program, count, seed):
         lines, (_, profile) = maker.document((0, 3, 50))
         yield f"random {number}", "\n".join(lines + [""]).encode()
         yield f"random {number} with facts", "\n".join(maker.with_facts(lines, profile) + [""]).encode()
+        yield f"random {number} with pairs", "\n".join(with_pairs(maker.any) + [""]).encode()
+
+
+def with_pairs(any):
+    """A document of some instructions with any forced pairs, in any order, and the path of one of them: the bound is below each two that
+    stand the other way round.
+    """
+    count, bound = any.randint(2, 8), any.randint(1, 4)
+    texts = [any.choice([f"LX{n} 5", f"BX{n} X0", f"IX{n} X0+X0"]) for n in range(1, count)] + ["LX0 5"]
+    any.shuffle(texts)
+    problem = Problem(PROFILE, [instruction_of(text) for text in texts])
+    pairs = [(m, n) for m in range(1, count + 1) for n in range(m + 1, count + 1) if any.random() < (0.8 if n == m + 1 else 0.1)]
+    any.shuffle(pairs)
+    order = list(range(1, count + 1))
+    head = ["S66 CERTIFICATE 4", "PROFILE " + " ".join(map(str, PROFILE.values())), f"BLOCK {count}", *(f"I {text}" for text in texts)]
+    times = [f"TIME {problem.total(problem.beginning(tuple(order)))}", f"BOUND {bound}", " ".join(["ORDER", *map(str, order)])]
+    return [*head, *times, *(f"F {m} {n}" for m, n in pairs), f"E {any.choice(order)}", "END"]
 
 
 def main():
@@ -324,14 +360,16 @@ def main():
     parser.add_argument("program")
     parser.add_argument("--count", type=int, default=100)
     parser.add_argument("--seed", type=int, default=6600)
-    asked, passed, failed, kinds = parser.parse_args(), 0, 0, {}
+    asked, passed, failed, kinds, named = parser.parse_args(), 0, 0, {}, 0
     for name, text in texts(asked.program, asked.count, asked.seed):
         output = run([asked.program, "check", "--text"], text.decode("latin-1")).stdout
         for (document, of_block), (yes, lines) in zip(documents(text), said(output), strict=True):
             try:
                 must(yes or not lines, "said without a yes")
                 if yes:
-                    Texts(document, of_block, lines).all()
+                    texts_of = Texts(document, of_block, lines)
+                    texts_of.all()
+                    named = max(named, texts_of.most_named)
                 passed += 1
                 kind = next(iter(document.tree.values())).kind if yes else "NO"
                 kinds[kind] = kinds.get(kind, 0) + 1

@@ -63,10 +63,10 @@ late-test b bound arcs m n parcels head tail test heads tails sizes is =
 
 pub late-by_parcels : (b : Problem) (bound : ℕ) (arcs : Network) (m n parcels soonest : ℕ) (head tail : Option ℕ) (test : Bool) → head ≡ span b arcs Origin (At n Issue) →
     tail ≡ span b arcs (At m Issue) End → parcels ≡ (row_at b n).parcels → test ≡ reaches bound (plus (plus head (Some parcels)) tail) → test ≡ true →
-    soonest ≡ unwrap_or head 0 → by_parcels bound soonest parcels m n ≡ late_words b bound arcs m n
+    soonest ≡ soonest_known b arcs (At n Issue) → by_parcels bound soonest parcels m n ≡ late_words b bound arcs m n
 late-by_parcels b bound arcs m n parcels soonest head tail test heads tails sizes is so soonest_is =
     let late = sym (late-test b bound arcs m n parcels head tail test heads tails sizes is) ∙ so in
-    ap (λ k. by_parcels bound k parcels m n) (soonest_is ∙ ap (λ (o : Option ℕ). unwrap_or o 0) heads)
+    ap (λ k. by_parcels bound k parcels m n) soonest_is
     ∙ ap (λ k. by_parcels bound (soonest_known b arcs (At n Issue)) k m n) sizes
     ∙ sym (cond-true {A = List ℕ} (is_late_by_parcels b arcs bound m n) (by_parcels bound (soonest_known b arcs (At n Issue)) (row_at b n).parcels m n) (by_unit (row_at b n).kind bound (soonest_known b arcs (At n Free)) m n) late)
 

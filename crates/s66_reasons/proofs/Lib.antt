@@ -4,7 +4,9 @@ pub mod FactTexts
 pub mod Hops
 pub mod KnownArcs
 pub mod Listed
+pub mod PairsInTurn
 pub mod PathEnds
 pub mod Rows
+pub mod SoonestIssue
 pub mod Splits
 pub mod Texts

@@ -34,7 +34,7 @@ use Rattle.s66_reasons.specs.declared.hop.Hop.{Hop}
 use Rattle.s66_reasons.specs.declared.work.Work.{Work}
 use Rattle.s66_reasons.specs.FactWords.{load_end, work_of_load}
 use Rattle.s66_reasons.specs.Words.{Reason}
-use Rattle.s66_reasons.specs.LongestPaths.{arcs, at_end_words, by_words, hop_rows, hops_of, later_words, line_of_pair, load_row, path_rows, table_rows, to_end}
+use Rattle.s66_reasons.specs.LongestPaths.{arcs, at_end_words, by_words, hop_rows, hops_of, later_words, load_row, pairs_of, path_rows, table_rows, to_end}
 use Rattle.s66_reasons.specs.Reasons.{issue_row, next_rows}
 use Rattle.s66_reasons.specs.Shown.{AreNoSooner, AreRowsOf, HasNoneSooner, IsAlong, IsLoadShown, IsPathShown, last_number, sum_of}
 use Rattle.s66_reasons.proofs.Along.{along, along-high, as-path, end-path, rank-along}
@@ -88,7 +88,7 @@ table-one : (d : Document) (number : ℕ) (e f : Moment) → (table_rows d numbe
 table-one d number Origin f = inl refl
 table-one d number (At m e) Origin = inl refl
 table-one d number (At m e) (At n f) =
-    one-or-none number (eqb m n) (record { number = number; words = later_words d m n e f ++ by_words (line_of_pair d m n) }) refl
+    one-or-none number (eqb m n) (record { number = number; words = later_words d m n e f ++ by_words (pairs_of d m n) }) refl
 table-one d number (At m e) End = inr (record { number = number; words = at_end_words d m e }, refl, refl)
 table-one d number End f = inl refl
 

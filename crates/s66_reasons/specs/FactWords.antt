@@ -104,8 +104,9 @@ load_sentence b from to after wait ns =
 abbrev pub soonest_known : Problem → Network → Moment → ℕ
 soonest_known b arcs e = unwrap_or (span b arcs Origin e) 0
 
-abbrev pub rest_words : (bound rest : ℕ) → List ℕ
-rest_words bound rest = codes ", and from there to the end it is " ++ decimal rest ++ codes " or more: " ++ decimal bound
+-- up to then it takes so long: how long it is from there, and how long in all
+abbrev pub rest_words : (bound until : ℕ) → List ℕ
+rest_words bound until = codes ", and from there to the end it is " ++ decimal (bound - until) ++ codes " or more: " ++ decimal (max bound until)
 
 abbrev pub issues_words : (soonest n : ℕ) → List ℕ
 issues_words soonest n = decimal n ++ codes " issues at " ++ (decimal soonest ++ codes " or later; behind it ")
@@ -114,14 +115,14 @@ abbrev pub could_words : (parcels m : ℕ) → List ℕ
 could_words parcels m = decimal m ++ codes " could issue " ++ (decimal parcels ++ codes " later")
 
 abbrev pub by_parcels : (bound soonest parcels m n : ℕ) → List ℕ
-by_parcels bound soonest parcels m n = issues_words soonest n ++ could_words parcels m ++ rest_words bound (bound - soonest - parcels)
+by_parcels bound soonest parcels m n = issues_words soonest n ++ could_words parcels m ++ rest_words bound (soonest + parcels)
 
 abbrev pub has_words : Kind → (soonest n : ℕ) → List ℕ
 has_words kind soonest n =
     decimal n ++ codes " has the " ++ unit_name kind ++ (codes " unit until " ++ decimal soonest ++ codes " or later; behind it ")
 
 abbrev pub by_unit : Kind → (bound soonest m n : ℕ) → List ℕ
-by_unit kind bound soonest m n = has_words kind soonest n ++ (decimal m ++ codes " could issue then") ++ rest_words bound (bound - soonest)
+by_unit kind bound soonest m n = has_words kind soonest n ++ (decimal m ++ codes " could issue then") ++ rest_words bound soonest
 
 abbrev pub pair_words : Document → ℕ → ℕ → List ℕ
 pair_words d m n = instruction d m ++ (codes " stands before " ++ instruction d n ++ codes " in a faster order: ")

@@ -1,4 +1,5 @@
 pub mod Words
+pub mod Examples
 pub mod FactWords
 pub mod ChainWords
 pub mod LongestPaths

@@ -1,5 +1,5 @@
 -- To be believed: a longest path from an instruction to the end by what is known after the fact lines of a document, arc by arc, and what is said of each arc.
-use Rattle.std.specs.Prelude.{ℕ, zero, suc, ◌+◌, ◌-◌, if◌then◌else◌, Bool, false, ◌&&◌, ◌||◌, ◌==◌, List, [], ◌∷◌, ◌++◌, codes, decimal, nat_le, Option, None, Some, unwrap_or}
+use Rattle.std.specs.Prelude.{ℕ, zero, suc, ◌+◌, ◌-◌, if◌then◌else◌, Bool, false, ◌&&◌, ◌||◌, ◌==◌, List, [], ◌∷◌, ◌++◌, codes, decimal, get_or, length, nat_le, Option, None, Some, unwrap_or}
 use Rattle.std.specs.Option.{option_or}
 use Rattle.s66_isa.specs.declared.instr.Kind.{Kind}
 use Rattle.s66_model.specs.Timing.{row_at}
@@ -10,12 +10,12 @@ use Rattle.s66_moments.specs.declared.moment.Moment.TheVariants.{Origin, At, End
 use Rattle.s66_moments.specs.declared.fact_line.FactLine.{FactLine}
 use Rattle.s66_moments.specs.declared.fact_line.FactLine.TheVariants.{Pair, Load}
 use Rattle.s66_moments.specs.Networks.{Network, most_arcs, network, precedes, same_moment, targets}
-use Rattle.s66_moments.specs.Known.{arcs_of, is_number, plus, reaches, span}
+use Rattle.s66_moments.specs.Known.{arcs_of, plus, reaches, span}
 use Rattle.s66_cert.specs.Document.{Document}
 use Rattle.s66_checker.specs.Verdict.{facts_of, known_of, problem_of}
 use Rattle.s66_reasons.specs.declared.hop.Hop.{Hop}
 use Rattle.s66_reasons.specs.ChainWords.{end_words, link_words}
-use Rattle.s66_reasons.specs.Words.{Reason, counted, instruction, register, unit_name}
+use Rattle.s66_reasons.specs.Words.{Reason, counted, instruction, listed, register, unit_name}
 
 -- THE PATH
 
@@ -57,22 +57,56 @@ hops_from d (suc more) left e = hop_and (next_hop d left e) (λ (hop : Hop). hop
 abbrev pub hops_of : Document → ℕ → List Hop
 hops_of d n = hops_from d (most_arcs (problem_of d)) (unwrap_or (to_end d (At n Issue)) 0) (At n Issue)
 
--- WHICH FACT LINE GIVES AN ARC
+-- WHICH FACT LINES GIVE AN ARC
 
 -- the number of the first of these lines that passes, if the first of them has this number; 0 if none passes
 abbrev pub first_line : (FactLine → Bool) → ℕ → List FactLine → ℕ
 first_line test number [] = 0
 first_line test number (line ∷ lines) = if test line then number else first_line test (number + 1) lines
 
--- m stands before n by this pair, with what is known beside it
-abbrev pub puts_before : Document → (m n : ℕ) → FactLine → Bool
-puts_before d m n (Pair j k) =
-    is_number (problem_of d) j && is_number (problem_of d) k && (m == j || (known_of d).before m j) && (n == k || (known_of d).before k n)
-puts_before d m n (Load line) = false
+-- m is n, or stands before it by this
+abbrev pub up_to : (before : ℕ → ℕ → Bool) → (m n : ℕ) → Bool
+up_to before m n = m == n || before m n
 
--- the number of the first pair by which m stands before n; 0 if n depends on m, or there is no such pair
-abbrev pub line_of_pair : Document → (m n : ℕ) → ℕ
-line_of_pair d m n = if precedes (problem_of d).block m n then 0 else first_line (puts_before d m n) 1 (facts_of d)
+-- m stands before n by dependence, this pair, and then this
+abbrev pub puts_before : Document → (before : ℕ → ℕ → Bool) → (m n : ℕ) → FactLine → Bool
+puts_before d before m n (Pair j k) = up_to (precedes (problem_of d).block) m j && up_to before k n
+puts_before d before m n (Load line) = false
+
+-- the number of the first such pair; 0 if there is none
+abbrev pub pair_by : Document → (before : ℕ → ℕ → Bool) → (m n : ℕ) → ℕ
+pair_by d before m n = first_line (puts_before d before m n) 1 (facts_of d)
+
+-- the first of two numbers that isn't 0
+abbrev pub either : ℕ → ℕ → ℕ
+either one other = if one == 0 then other else one
+
+-- the number of the first pair by which m stands before n with dependence alone, or else of the first with all that is known behind it; 0 if
+-- n depends on m
+abbrev pub pair_from : Document → (m n : ℕ) → ℕ
+pair_from d m n =
+    let depends : ℕ → ℕ → Bool = precedes (problem_of d).block in
+    if up_to depends m n then 0 else either (pair_by d depends m n) (pair_by d (known_of d).before m n)
+
+-- the second number of a pair
+abbrev pub second : FactLine → ℕ
+second (Pair j k) = k
+second (Load line) = 0
+
+-- that of the pair of this number
+abbrev pub second_of : Document → (number : ℕ) → ℕ
+second_of d number = second (get_or (facts_of d) (number - 1) (Pair 0 0))
+
+-- the numbers of pairs, at most so many, that together put m before n: of one, and then of those that put its second before n
+abbrev pub pairs_over : Document → (most m n : ℕ) → List ℕ
+pairs_over d zero m n = []
+pairs_over d (suc more) m n =
+    let number : ℕ = pair_from d m n in
+    if number == 0 then [] else number ∷ pairs_over d more (second_of d number) n
+
+-- no more than there are instructions; none if n depends on m
+abbrev pub pairs_of : Document → (m n : ℕ) → List ℕ
+pairs_of d m n = pairs_over d (length (problem_of d).block) m n
 
 -- f comes so much later than e by this load
 abbrev pub keeps_apart : (e f : Moment) → (wait : ℕ) → FactLine → Bool
@@ -85,9 +119,14 @@ line_of_load d e hop = first_line (keeps_apart e hop.to hop.wait) 1 (facts_of d)
 
 -- WHAT IS SAID
 
--- by which fact line, if by one
-abbrev pub by_words : ℕ → List ℕ
-by_words number = if number == 0 then [] else codes " (by " ++ decimal number ++ codes ".)"
+-- a fact line, by its number
+abbrev pub line_name : ℕ → List ℕ
+line_name number = decimal number ++ codes "."
+
+-- by which fact lines, if by some
+abbrev pub by_words : List ℕ → List ℕ
+by_words [] = []
+by_words (number ∷ more) = codes " (by " ++ listed line_name (number ∷ more) ++ codes ")"
 
 abbrev pub parcels_words : Document → (parcels m n : ℕ) → List ℕ
 parcels_words d parcels m n =
@@ -124,7 +163,7 @@ abbrev pub table_rows : Document → (number : ℕ) → (e f : Moment) → List 
 table_rows d number Origin f = []
 table_rows d number (At m e) Origin = []
 table_rows d number (At m e) (At n f) =
-    if m == n then [] else record { number = number; words = later_words d m n e f ++ by_words (line_of_pair d m n) } ∷ []
+    if m == n then [] else record { number = number; words = later_words d m n e f ++ by_words (pairs_of d m n) } ∷ []
 table_rows d number (At m e) End = record { number = number; words = at_end_words d m e } ∷ []
 table_rows d number End f = []
 

@@ -1,13 +1,36 @@
 //! Worked examples: what is said of small documents. Each clause is a text, and the function does nothing.
 
 ghost use Rattle.std.specs.Prelude.{[], ◌∷◌, ◌≡◌, ◌++◌, codes};
-ghost use Rattle.s66_isa.specs.declared.instr.Kind.TheVariants.{Multiply};
+ghost use Rattle.s66_isa.specs.declared.instr.Kind.TheVariants.{Divide, Multiply};
 ghost use Rattle.s66_model.specs.Leaves.{Load};
 ghost use Rattle.s66_model.specs.Tree.{Alone};
 ghost use Rattle.s66_model.specs.DominatedLeaves.{Bounding};
 ghost use Rattle.s66_cert.specs.Examples.{one_load, three_multiplies};
 ghost use Rattle.s66_checker.specs.Examples.{before_their_writers, multiplies_at_once};
+ghost use Rattle.s66_reasons.specs.Examples.{shifts_in_turn};
+ghost use Rattle.s66_reasons.specs.FactWords.{by_parcels, by_unit};
+ghost use Rattle.s66_reasons.specs.LongestPaths.{by_words, pairs_of};
 ghost use Rattle.s66_reasons.specs.Reasons.{reasons_text};
+
+/// Which fact lines together put a number before another, and how they are named.
+#[tactic(auto, unfolding(s66_isa::specs::Table::row, s66_isa::specs::Profiles::profile_of, s66_model::specs::Dependence::conflict, crate::specs::Words::digits))]
+pub fn by_examples()
+    ensures alone { pairs_of shifts_in_turn 1 2 ≡ 1 ∷ [] }
+    ensures together { pairs_of shifts_in_turn 1 3 ≡ 1 ∷ 2 ∷ [] }
+    ensures none { by_words [] ≡ [] }
+    ensures one { by_words (1 ∷ []) ≡ codes " (by 1.)" }
+    ensures two { by_words (1 ∷ 2 ∷ []) ≡ codes " (by 1. and 2.)" }
+    ensures three { by_words (1 ∷ 2 ∷ 4 ∷ []) ≡ codes " (by 1., 2. and 4.)" }
+{}
+
+/// What is said of a pair by which more than the bound is reached: the last number is all of it.
+#[tactic(auto, unfolding(crate::specs::Words::digits))]
+pub fn above_examples()
+    ensures parcels { by_parcels 5 8 1 3 2 ≡
+        codes "2 issues at 8 or later; behind it 3 could issue 1 later, and from there to the end it is 0 or more: 9" }
+    ensures unit { by_unit Divide 20 30 2 1 ≡
+        codes "1 has the Divide unit until 30 or later; behind it 2 could issue then, and from there to the end it is 0 or more: 30" }
+{}
 
 /// Leaves of each kind that may close a tree, and a tree that splits.
 #[tactic(auto, unfolding(s66_isa::specs::Table::row, s66_isa::specs::Profiles::profile_of, crate::specs::Words::digits))]

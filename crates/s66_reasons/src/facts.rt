@@ -1,9 +1,11 @@
 //! Fact lines in sentences, each by what is known before it.
 
-ghost use Rattle.std.specs.Prelude.{◌≡◌, ◌≤◌, ◌<◌, ◌+◌, ◌++◌, [], true, IfOk, OnOk, Some, decimal, length};
+ghost use Rattle.std.specs.Prelude.{◌≡◌, ◌≤◌, ◌<◌, ◌+◌, ◌^◌, ◌++◌, [], true, IfOk, OnOk, Some, decimal, length};
 ghost use Rattle.s66_isa.specs.declared.limits.TheConstants.{BLOCK_LIMIT};
 ghost use Rattle.s66_model.specs.Timing.{row_at};
 ghost use Rattle.s66_moments.specs.declared.fact_line.FactLine.TheVariants.{Load};
+ghost use Rattle.s66_moments.specs.declared.moment.Stage.TheVariants.{Issue};
+ghost use Rattle.s66_moments.specs.declared.moment.Moment.TheVariants.{At};
 ghost use Rattle.s66_moments.specs.Facts.{IsNumber};
 ghost use Rattle.s66_moments.specs.Known.{arcs_of, is_taken, known_first, plus, reaches, with_line};
 ghost use Rattle.s66_facts.specs.Ground.{known_of as known_in};
@@ -13,7 +15,7 @@ ghost use Rattle.s66_checker.specs.KeptKnown.{KnowsAll};
 ghost use Rattle.s66_checker.specs.Verdict.{facts_of, problem_of};
 ghost use Rattle.s66_reasons.specs.Within.{AreFirst, AreLoaded};
 ghost use Rattle.s66_reasons.specs.Words.{listed};
-ghost use Rattle.s66_reasons.specs.FactWords.{begins, by_parcels, by_unit, could_words, fact_sentence, facts_from, from_words, has_words, in_all, issues_words, last_words, late_words, left_to, load_end, load_sentence, many_words, mixed_words, need_words, numbered_fact, one_words, pair_sentence, pair_words, rest_words, side_by_side, so_words, to_words, units_words, until_words, which_words};
+ghost use Rattle.s66_reasons.specs.FactWords.{begins, by_parcels, by_unit, could_words, fact_sentence, facts_from, from_words, has_words, in_all, issues_words, last_words, late_words, left_to, load_end, load_sentence, many_words, mixed_words, need_words, numbered_fact, one_words, pair_sentence, pair_words, rest_words, side_by_side, so_words, soonest_known, to_words, units_words, until_words, which_words};
 
 use crate::units::{kind_of, push_each};
 use crate::words::{push_around, push_between, push_instruction, separator, unit_name};
@@ -252,12 +254,14 @@ pub(crate) fn push_load_sentence(
     push_until(out, &load, numbers)
 }
 
-/// What is left to the end, so that the bound is reached.
-fn push_rest(out: &mut Vec<u8>, bound: u32, rest: u64) -> Result<(), AllocError>
-    ensures { OnOk result (out.new.items ≡ out.old.items ++ rest_words bound rest) }
+/// How long it is to the end from a minor cycle, so that the bound is reached, and how long in all.
+fn push_rest(out: &mut Vec<u8>, bound: u32, until: u64) -> Result<(), AllocError>
+    ensures { OnOk result (out.new.items ≡ out.old.items ++ rest_words bound until) }
 {
+    let rest = (bound as u64).saturating_sub(until);
+    let all = (bound as u64).max(until);
     push_field(out, b", and from there to the end it is ", rest as usize)?;
-    push_field(out, b" or more: ", bound as usize)
+    push_field(out, b" or more: ", all as usize)
 }
 
 /// When n issues at the soonest.
@@ -299,14 +303,12 @@ fn push_by_parcels(
     m: u8,
     n: u8,
 ) -> Result<(), AllocError>
+    requires { soonest + parcels < 2 ^ 64 }
     ensures { OnOk result (out.new.items ≡ out.old.items ++ by_parcels bound soonest parcels m n) }
 {
     push_issues(out, soonest, n)?;
     push_could(out, parcels, m)?;
-    let rest = (bound as u64)
-        .saturating_sub(soonest)
-        .saturating_sub(parcels as u64);
-    push_rest(out, bound, rest)
+    push_rest(out, bound, soonest + parcels as u64)
 }
 
 /// By the only unit of their kind, which n has until `soonest` at the soonest.
@@ -322,7 +324,7 @@ fn push_by_unit(
 {
     push_has(out, kind, soonest, n)?;
     push_between(out, b"", m as usize, b" could issue then")?;
-    push_rest(out, bound, (bound as u64).saturating_sub(soonest))
+    push_rest(out, bound, soonest)
 }
 
 /// How many parcels an instruction has.
@@ -346,6 +348,21 @@ fn is_late_by_parcels(bound: u32, head: Option<u64>, parcels: u32, tail: Option<
         }
         _ => false,
     }
+}
+
+/// When n issues at the soonest.
+fn soonest_issue(facts: &Facts, n: u8) -> u64
+    requires { IsNumber facts.now.problem n }
+    ensures value { result ≡
+        soonest_known facts.now.problem (arcs_of facts.now.problem (known_in facts.now)) (At n Issue) }
+    ensures small { result + (row_at facts.now.problem n).parcels < 2 ^ 64 }
+{
+    // its clauses say that what is known forms no ring
+    let _count = facts.count();
+    let head = facts.head(n);
+    // its unit is free later by more than its parcels, and that fits
+    let _free = head.free.unwrap_or(0);
+    head.issue.unwrap_or(0)
 }
 
 /// That m stands before n.
@@ -380,7 +397,7 @@ fn push_late(
     let head = facts.head(n);
     let parcels = parcels_of(prefix, n);
     if is_late_by_parcels(bound, head.issue, parcels, facts.tail(m).issue) {
-        push_by_parcels(out, bound, head.issue.unwrap_or(0), parcels, m, n)
+        push_by_parcels(out, bound, soonest_issue(facts, n), parcels, m, n)
     } else {
         push_by_unit(out, kind_of(prefix, n), bound, head.free.unwrap_or(0), m, n)
     }

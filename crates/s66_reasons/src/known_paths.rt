@@ -67,7 +67,7 @@ impl<'a> KnownPaths<'a> {
     ghost use Rattle.s66_moments.specs.Networks.{moments_among, moments_of, network, precedes};
     ghost use Rattle.s66_cert.specs.DocumentParts.{document_of};
     ghost use Rattle.s66_checker.specs.Verdict.{facts_of, known_of, problem_of};
-    ghost use Rattle.s66_reasons.specs.LongestPaths.{arcs, first_hop, first_line, hop_to, line_of_load, line_of_pair, next_hop, puts_before, to_end};
+    ghost use Rattle.s66_reasons.specs.LongestPaths.{arcs, first_hop, hop_to, line_of_load, next_hop, to_end};
     ghost use Rattle.s66_reasons.specs.Within.{AreKnown, IsNumberOf};
 
     /// Of a document's block, by its empty prefix.
@@ -183,62 +183,6 @@ impl<'a> KnownPaths<'a> {
         match table_arc(self.prefix, self.by_lines, from, &hop.to) {
             None => false,
             Some(wait) => hop.wait <= wait,
-        }
-    }
-
-    /// Whether m stands before n by a pair, with what is known beside it.
-    fn puts_before(&self, m: u8, n: u8, line: &FactLine) -> bool
-        requires m { IsNumber (problem_of (document_of self.now)) m }
-        requires n { IsNumber (problem_of (document_of self.now)) n }
-        ensures { result ≡ puts_before (document_of self.now) m n line.now }
-    {
-        match line {
-            FactLine::Pair(j, k) => {
-                self.prefix.is_remaining(*j)
-                    && self.prefix.is_remaining(*k)
-                    && (m == *j || self.by_lines.is_before(m, *j))
-                    && (n == *k || self.by_lines.is_before(*k, n))
-            }
-            FactLine::Load(_) => false,
-        }
-    }
-
-    /// Whether n comes after m by dependence.
-    fn depends(&self, m: u8, n: u8) -> bool
-        requires m { IsNumber (problem_of (document_of self.now)) m }
-        requires n { IsNumber (problem_of (document_of self.now)) n }
-        ensures { result ≡ precedes (problem_of (document_of self.now)).block m n }
-    {
-        self.by_dependence.is_before(m, n)
-    }
-
-    /// The number of the first pair by which m stands before n; 0 if there is none.
-    fn first_pair(&self, m: u8, n: u8) -> usize
-        requires m { IsNumber (problem_of (document_of self.now)) m }
-        requires n { IsNumber (problem_of (document_of self.now)) n }
-        ensures { result ≡ first_line (puts_before (document_of self.now) m n) 1 (facts_of (document_of self.now)) }
-    {
-        let lines = fact_lines(self.document);
-        let mut number = 0;
-        for line in lines {
-            number += 1;
-            if self.puts_before(m, n, line) {
-                return number;
-            }
-        }
-        0
-    }
-
-    /// The number of the fact line by which m stands before n; 0 if n depends on m.
-    pub(crate) fn line_of_pair(&self, m: u8, n: u8) -> usize
-        requires m { IsNumber (problem_of (document_of self.now)) m }
-        requires n { IsNumber (problem_of (document_of self.now)) n }
-        ensures { result ≡ line_of_pair (document_of self.now) m n }
-    {
-        if self.depends(m, n) {
-            0
-        } else {
-            self.first_pair(m, n)
         }
     }
 

@@ -11,6 +11,7 @@ mod facts;
 mod hop;
 mod known_paths;
 mod laws;
+mod pairs;
 mod parcels;
 mod path;
 mod reasons;
@@ -18,7 +19,7 @@ mod units;
 mod words;
 mod work;
 
-pub use examples::reasons_examples;
+pub use examples::{above_examples, by_examples, reasons_examples};
 pub use laws::reasons_law;
 pub use reasons::push_reasons;
 pub use work::Work;

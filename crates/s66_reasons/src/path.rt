@@ -3,28 +3,42 @@
 ghost use Rattle.std.specs.Prelude.{◌≡◌, ◌++◌, OnOk};
 ghost use Rattle.s66_moments.specs.declared.moment.Stage.TheVariants.{Done};
 ghost use Rattle.s66_cert.specs.DocumentParts.{document_of};
-ghost use Rattle.s66_reasons.specs.LongestPaths.{at_end_words, by_words, free_unit_words, parcels_words, reached_words, third_words};
+ghost use Rattle.s66_reasons.specs.LongestPaths.{at_end_words, by_words, free_unit_words, line_name, parcels_words, reached_words, third_words};
+ghost use Rattle.s66_reasons.specs.Words.{listed};
 
 use crate::chain::{push_end_words, push_link_words};
 use crate::hop::Hop;
 use crate::known_paths::KnownPaths;
 use crate::words::{
     push_around, push_between, push_counted, push_instruction, push_number, push_register,
-    unit_name,
+    separator, unit_name,
 };
 use s66_cert::Document;
 use s66_isa::{Kind, Reg};
 use s66_moments::{Moment, Stage};
 use std::alloc::AllocError;
 
-/// By which fact line, if by one.
-fn push_by(out: &mut Vec<u8>, number: usize) -> Result<(), AllocError>
-    ensures { OnOk result (out.new.items ≡ out.old.items ++ by_words number) }
+/// Fact lines, one after the other.
+fn push_lines(out: &mut Vec<u8>, numbers: &[usize]) -> Result<(), AllocError>
+    ensures { OnOk result (out.new.items ≡ out.old.items ++ listed line_name numbers.now) }
 {
-    if number == 0 {
+    for place in 0..numbers.len() {
+        push_between(out, b"", numbers[place], b".")?;
+        out.extend_from_slice(separator(numbers.len() - 1 - place))?;
+    }
+    Ok(())
+}
+
+/// By which fact lines, if by some.
+fn push_by(out: &mut Vec<u8>, numbers: &[usize]) -> Result<(), AllocError>
+    ensures { OnOk result (out.new.items ≡ out.old.items ++ by_words numbers.now) }
+{
+    if numbers.is_empty() {
         return Ok(());
     }
-    push_between(out, b" (by ", number, b".)")
+    out.extend_from_slice(b" (by ")?;
+    push_lines(out, numbers)?;
+    out.extend_from_slice(b")")
 }
 
 /// That n issues after so many parcels of m.
@@ -114,7 +128,7 @@ impl<'a> KnownPaths<'a> {
     ghost use Rattle.s66_moments.specs.Facts.{IsNumber};
     ghost use Rattle.s66_cert.specs.DocumentParts.{document_of};
     ghost use Rattle.s66_checker.specs.Verdict.{problem_of};
-    ghost use Rattle.s66_reasons.specs.LongestPaths.{at_end_words, by_words, hop_rows, hops_from, hops_of, later_words, line_of_pair, load_row, path_rows, table_rows};
+    ghost use Rattle.s66_reasons.specs.LongestPaths.{at_end_words, by_words, hop_rows, hops_from, hops_of, later_words, load_row, pairs_of, path_rows, table_rows};
     ghost use Rattle.s66_reasons.specs.Within.{IsNumberOf};
     ghost use Rattle.s66_reasons.specs.Words.{row_text, rows_text};
 
@@ -162,11 +176,11 @@ impl<'a> KnownPaths<'a> {
         requires n { IsNumber (problem_of (document_of self.now)) n }
         ensures { OnOk result (out.new.items ≡ out.old.items ++
             row_text
-            (record { number = number; words = later_words (document_of self.now) m n from.now to.now ++ by_words (line_of_pair (document_of self.now) m n) })) }
+            (record { number = number; words = later_words (document_of self.now) m n from.now to.now ++ by_words (pairs_of (document_of self.now) m n) })) }
     {
         push_number(out, number)?;
         self.push_later_words(out, m, from, n, to)?;
-        push_by(out, self.line_of_pair(m, n))?;
+        push_by(out, self.pairs_of(m, n).as_slice())?;
         out.extend_from_slice(b"\n")
     }
 

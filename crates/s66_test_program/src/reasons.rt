@@ -49,6 +49,18 @@ const REASONS: &[(&str, &str)] = &[
         "S66 CERTIFICATE 4\nPROFILE 3 3 4 4 3 10 29 8 3 8 1 1 1 1 2 1 2\nBLOCK 4\nI BX1 X2\nI BX3 X4\nI FX2 X5*X6\nI FX4 X5*X6\nTIME 16\nBOUND 3\nORDER 1 3 2 4\nL 0 1 2\nEND\n",
         "DOCUMENT 1 YES TIME 16 BOUND 3\nEvery order takes 3 or more:\nIf an order took less than 3:\n   4  From the beginning it is 0 or more until one of 1 and 2 has its Boolean unit; these need it for 4 each, 8 in all; so the last of them begins at 4 or later, and from there to the end it is 0 or more: 4\nThe order found takes 16.\n",
     ),
+    (
+        "S66 CERTIFICATE 4\nPROFILE 3 3 4 4 3 10 29 8 3 8 1 1 1 1 2 1 2\nBLOCK 3\nI LX1 5\nI BX2 X3\nI LX4 5\nTIME 8\nBOUND 5\nORDER 1 2 3\nF 1 2\nF 2 3\nE 1\nEND\n",
+        "DOCUMENT 1 YES TIME 8 BOUND 5\nEvery order takes 5 or more:\n  1. 1 LX1 5 stands before 2 BX2 X3 in a faster order: 2 issues at 0 or later; behind it 1 could issue 1 later, and from there to the end it is 4 or more: 5\n  2. 2 BX2 X3 stands before 3 LX4 5 in a faster order: 3 issues at 0 or later; behind it 2 could issue 1 later, and from there to the end it is 4 or more: 5\nIf an order took less than 5:\n   0  1 LX1 5 can issue\n   4  the Shift unit of 1 LX1 5 is free, which 3 LX4 5 needs (by 1. and 2.)\n   8  the unit of 3 LX4 5 is free, and that is the end\nThe order found takes 8.\n",
+    ),
+    (
+        "S66 CERTIFICATE 4\nPROFILE 3 3 4 4 3 10 29 8 3 8 1 1 1 1 2 1 2\nBLOCK 3\nI SA1 A1+B1\nI BX1 X2\nI BX3 X4\nTIME 16\nBOUND 5\nORDER 1 2 3\nF 3 2\nE 1\nEND\n",
+        "DOCUMENT 1 YES TIME 16 BOUND 5\nEvery order takes 5 or more:\n  1. 3 BX3 X4 stands before 2 BX1 X2 in a faster order: 2 issues at 8 or later; behind it 3 could issue 1 later, and from there to the end it is 0 or more: 9\nIf an order took less than 5:\n   0  1 SA1 A1+B1 can issue\n   8  X1 of 1 SA1 A1+B1 is there, which 2 BX1 X2 writes again\n  12  the unit of 2 BX1 X2 is free, and that is the end\nThe order found takes 16.\n",
+    ),
+    (
+        "S66 CERTIFICATE 4\nPROFILE 3 3 4 4 3 10 29 8 3 8 1 1 1 1 2 1 2\nBLOCK 2\nI FX1 X2/X3\nI CX4 X5\nTIME 39\nBOUND 20\nORDER 1 2\nF 2 1\nE 1\nEND\n",
+        "DOCUMENT 1 YES TIME 39 BOUND 20\nEvery order takes 20 or more:\n  1. 2 CX4 X5 stands before 1 FX1 X2/X3 in a faster order: 1 has the Divide unit until 30 or later; behind it 2 could issue then, and from there to the end it is 0 or more: 30\nIf an order took less than 20:\n   0  1 FX1 X2/X3 can issue\n  30  the unit of 1 FX1 X2/X3 is free, and that is the end\nThe order found takes 39.\n",
+    ),
 ];
 
 /// What it says of one load's document whose bound is above its time, and of the right one after it.

@@ -1,4 +1,4 @@
-use Rattle.std.proofs.Common.{◌≡◌, ◌++◌, ◌∙◌, ap}
+use Rattle.std.proofs.Common.{◌≡◌, ◌++◌, ◌∙◌, ap, arith}
 use Rattle.std.proofs.lemmas.Result.{IfOk-equal}
 use Rattle.s66_model.specs.Timing.{Problem, row_at}
 use Rattle.s66_moments.specs.Known.{arcs_of}
@@ -14,7 +14,7 @@ returns-then-is_late_by_parcels c =
     IfOk-equal c.push_by_parcels.result _ _ _ c.push_by_parcels.ensures
     (ap (λ xs. c.args.out.now.items ++ xs)
     (late-by_parcels b c.args.bound (arcs_of b (known_in c.args.facts.now)) c.args.m n _ _ _ _ c.is_late_by_parcels.result
-    c.head-head.ensures.issue c.tail.ensures.issue parcels c.is_late_by_parcels.ensures c.if-is_late_by_parcels.true c.unwrap_or.ensures))
+    c.head-head.ensures.issue c.tail.ensures.issue parcels c.is_late_by_parcels.ensures c.if-is_late_by_parcels.true c.soonest_issue.ensures.value))
 
 pub returns-else-is_late_by_parcels : goal.returns-else-is_late_by_parcels
 returns-else-is_late_by_parcels c =
@@ -25,4 +25,10 @@ returns-else-is_late_by_parcels c =
     IfOk-equal c.push_by_unit.result _ _ _ c.push_by_unit.ensures
     (ap (λ xs. c.args.out.now.items ++ xs)
     (late-by_unit b c.args.bound (arcs_of b (known_in c.args.facts.now)) c.args.m n _ _ _ _ _ _ c.is_late_by_parcels.result
-    c.head-head.ensures.issue c.tail.ensures.issue parcels c.is_late_by_parcels.ensures c.if-is_late_by_parcels.false c.head-head.ensures.free kind c.unwrap_or-else-is_late_by_parcels.ensures))
+    c.head-head.ensures.issue c.tail.ensures.issue parcels c.is_late_by_parcels.ensures c.if-is_late_by_parcels.false c.head-head.ensures.free kind c.unwrap_or.ensures))
+
+pub push_by_parcels-requires : goal.push_by_parcels-requires
+push_by_parcels-requires c =
+    let n = c.args.n in
+    let parcels : c.parcels_of-parcels.result ≡ (row_at c.args.facts.now.problem n).parcels = c.parcels_of-parcels.ensures ∙ ap (λ (q : Problem). (row_at q n).parcels) c.requires.same in
+    omega (arith, parcels, c.soonest_issue.ensures.small)

@@ -3,9 +3,10 @@ use Rattle.s66_moments.specs.Known.{Known}
 use Rattle.s66_moments.specs.Networks.{precedes}
 use Rattle.s66_cert.specs.DocumentParts.{Parts, document_of}
 use Rattle.s66_checker.specs.Verdict.{problem_of}
+use Rattle.s66_reasons.specs.LongestPaths.{up_to}
 use Rattle.s66_reasons.proofs.known_paths.KnownPaths.depends.Goals as goal
 
 pub returns : goal.returns
 returns c =
-    c.is_before.ensures ∙ ap (λ (known : Known). known.before c.args.m c.args.n) c.self.invariant.first.known
-    ∙ ap (λ (p : Parts). precedes (problem_of (document_of p)).block c.args.m c.args.n) c.self.view_is
+    c.is_up_to.ensures ∙ ap (λ (known : Known). up_to known.before c.args.m c.args.n) c.self.invariant.first.known
+    ∙ ap (λ (p : Parts). up_to (precedes (problem_of (document_of p)).block) c.args.m c.args.n) c.self.view_is
