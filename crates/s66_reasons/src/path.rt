@@ -18,7 +18,7 @@ use s66_moments::{Moment, Stage};
 use std::alloc::AllocError;
 
 /// By which fact line, if by one.
-fn push_by(out: &mut Vec<u8>, number: usize) -> Result<(), AllocError>
+pub(crate) fn push_by(out: &mut Vec<u8>, number: usize) -> Result<(), AllocError>
     ensures { OnOk result (out.new.items ≡ out.old.items ++ by_words number) }
 {
     if number == 0 {
