@@ -4,10 +4,10 @@
     tools/reasons.py PROGRAM [--count N] [--seed N]
 
 Certificates are those of examples/, with and without --deep, and of N random blocks, 100 unless given, under random profiles; of some of
-these others are made that have fact lines, and some have many pairs. Of each document with YES the first line must have the bound, and count splits and facts if
-the tree splits. Each row must have a number that follows from the row before it and from what its sentence names: the time of a result,
+these others are made that have fact lines, and some have many pairs. Of each document with YES the first line must have the bound, and count splits, and facts if
+the tree isn't said. Of one that is, each leaf must stand below its prefix. Each row must have a number that follows from the row before it and from what its sentence names: the time of a result,
 a unit or a parcel, of instructions that the leaf names, with their texts. The last row has to reach the bound, or of parcels each; of a
-longest path it alone is the end, at the path's length. The last line must have the time. Each wrong thing is told, and the last line
+longest path it alone is the end, at the path's length. The times of a prefix are worked out anew. The last line must have the time. Each wrong thing is told, and the last line
 counts the documents. The status is 1 if something is wrong.
 """
 import argparse
@@ -17,7 +17,7 @@ import os
 import re
 import sys
 
-from certificate import END, ORIGIN, Known, Load, Pair, Problem, Reader, instruction_of, meet_in_memory
+from certificate import END, ORIGIN, Known, Load, Pair, Problem, Reader, instruction_of, meet_in_memory, name_of
 from compare_certificates import Maker, run
 from find_facts import PROFILE
 
@@ -78,25 +78,45 @@ class Texts:
         must(not self.lines, "lines too many")
 
     def said(self):
-        """The first line, the rows and the last line."""
-        tree, document = next(iter(self.document.tree.values())), self.document
+        """The first line, the leaves or how many lines there are, and the last line."""
+        tree, document = list(self.document.tree.values()), self.document
         first, last = self.line(), self.lines.pop() if self.lines else ""
         head = f"Every order takes {document.bound} or more"
-        if tree.kind == "S":
-            splits = sum(line.kind == "S" for line in document.tree.values())
+        splits = sum(line.kind == "S" for line in tree)
+        by_splits = f", by {several(splits, 'split')}" if splits else ""
+        if splits > 3 or any(line.kind in ("D", "N") or line.kind == "E" and splits for line in tree):
             facts = f" and {several(len(document.facts), 'fact')}" if document.facts else ""
-            must(first == f"{head}, by {several(splits, 'split')}{facts}.", f"not the head of a tree: {first}")
+            must(first == f"{head}{by_splits}{facts}.", f"not the head of a tree that is counted: {first}")
         else:
-            must(first == head + ":", f"not the head of a leaf: {first}")
-            {"C": self.chain, "U": self.load, "P": self.parcels, "E": self.path, "L": self.left}[tree.kind](tree.names)
+            must(first == f"{head}{by_splits}:", f"not the head of a tree that is said: {first}")
+            self.leaves([line for line in tree if line.kind != "S"])
         best = f"So the order of {document.time} is best."
         must(last == (best if document.time == document.bound else f"The order found takes {document.time}."), f"last line: {last}")
+
+    def leaves(self, leaves):
+        """The rows of each leaf, after its prefix."""
+        kinds = {"C": self.chain, "U": self.load, "P": self.parcels, "T": self.whole, "E": self.path, "L": self.left, "R": self.turned}
+        if any(leaf.kind in "ELR" for leaf in leaves):
+            self.at_first = {n: set(before) for n, before in self.known.before.items()}
+            self.facts()
+        for leaf in leaves:
+            numbers = name_of(leaf)
+            if numbers:
+                line, words = self.line(), "".join(f", then {n}" for n in numbers[1:])
+                must(line == f"If {numbers[0]} comes first{words}:", f"not the prefix of a leaf: {line}")
+            self.prefix = self.problem.beginning(tuple(numbers)) if numbers else ()
+            kinds[leaf.kind](leaf.names)
 
     def reaches(self, number):
         must(number >= self.document.bound, f"{number} doesn't reach the bound")
 
     def chain(self, numbers):
         start = 0
+        if self.prefix:
+            start, sentence = self.row()
+            must(self.number(read("(.*) can start", sentence)[0]) == numbers[0], f"another instruction: {sentence}")
+            results = [point.done[x] for point in self.prefix for x in self.problem.touched[numbers[0]] if x in point.done]
+            must(start == max([self.problem.next_issue(self.prefix)] + results), f"{start} isn't the soonest: {sentence}")
         for m, n in zip(numbers, numbers[1:]):
             number, sentence = self.row()
             must(number == start + self.wait(m, n, sentence) == start + self.problem.link(m, n), f"{number} isn't the sum: {sentence}")
@@ -141,26 +161,51 @@ class Texts:
 
     def load(self, unit):
         number, sentence = self.row()
-        copies, of_kind = self.problem.profile[unit], [n for n, own in self.problem.block.items() if own.unit == unit]
+        begin, busy, total = self.problem.next_issue(self.prefix), 0, 0
+        copies, rest = self.problem.profile[unit], self.problem.remaining(self.prefix)
+        of_kind = [n for n in rest if self.problem.block[n].unit == unit]
+        if self.prefix:
+            sentence, before, both, slot = read("(.*?)(?:; with ([0-9]+) for those before: ([0-9]+))?; from ([0-9]+) on", sentence)
+            busy = int(before or 0)
+            must(int(slot) == begin, f"not from {begin} on: {sentence}")
+            must(busy == sum(max(0, point.free - begin) for point in self.prefix if point.own.unit == unit), f"{busy} isn't left: {sentence}")
         units = NAMES[unit] + " unit" + "s" * (copies > 1)
-        if not of_kind:
-            must((number, sentence) == (0, f"no instruction needs the {units}"), f"none needs it: {sentence}")
-            return
-        how = ", one after the other" if copies == 1 else f", shared by {copies}"
-        said, need, each, total = read(f"(.*) (needs?) the {units} for (.*): ([0-9]+){how}", sentence)
-        must(self.listed(said) == of_kind and (need == "needs") == (len(of_kind) == 1), f"other instructions: {sentence}")
-        must(number == -(-sum(self.uses(of_kind, each, total)) // copies), f"{number} isn't the sum: {sentence}")
+        if of_kind:
+            how = ", one after the other" if copies == 1 else f", shared by {copies}"
+            said, need, each, total = read(f"(.*) (needs?) the {units} for (.*): ([0-9]+){how}", sentence)
+            must(self.listed(said) == of_kind and (need == "needs") == (len(of_kind) == 1), f"other instructions: {sentence}")
+            total = sum(self.uses(of_kind, each, total))
+        else:
+            none = "no other" if self.prefix else "no"
+            must(sentence == f"{none} instruction needs the {units}", f"none needs it: {sentence}")
+        must(not busy or int(both) == total + busy, f"not the sum: {sentence}")
+        must(number == begin + -(-(total + busy) // copies), f"{number} isn't the sum: {sentence}")
         self.reaches(number)
 
     def parcels(self, _):
-        all_parcels = sum(own.parcels for own in self.problem.block.values())
-        for n, own in self.problem.block.items():
+        rest, begin = self.problem.remaining(self.prefix), self.problem.next_issue(self.prefix)
+        all_parcels = begin + sum(self.problem.block[n].parcels for n in rest)
+        for n in rest:
             number, sentence = self.row()
             said, issue, tail = read("if (.*) issues last: at ([0-9]+) or later, and ([0-9]+) to the end", sentence)
             must(self.number(said) == n, f"another instruction: {sentence}")
-            must((int(issue), int(tail)) == (all_parcels - own.parcels, self.problem.tails[n]), f"not so: {sentence}")
+            must((int(issue), int(tail)) == (all_parcels - self.problem.block[n].parcels, self.problem.tails[n]), f"not so: {sentence}")
             must(number == int(issue) + int(tail), f"{number} isn't the sum: {sentence}")
             self.reaches(number)
+
+    def whole(self, _):
+        number, sentence = self.row()
+        must(sentence == "all are placed, and that is the end" and not self.problem.remaining(self.prefix), f"not a whole order: {sentence}")
+        must(number == self.problem.total(self.prefix), f"{number} isn't the order's time: {sentence}")
+        self.reaches(number)
+
+    def turned(self, pair):
+        line = self.line()
+        first, second, by = read(r"      (.*) stands before (.*) in a faster order(?: \(by ([0-9]+)[.]\))?", line)
+        must([self.number(first), self.number(second)] == list(pair), f"other instructions: {line}")
+        placed, by_pair = [point.number for point in self.prefix], pair[0] not in self.at_first[pair[1]]
+        must(pair[0] in self.known.before[pair[1]] and pair[1] in placed and pair[0] not in placed, f"not turned: {line}")
+        must(bool(by) == by_pair and (not by or isinstance(self.document.facts[int(by) - 1], Pair)), f"by which line: {line}")
 
     def moment(self, moment):
         return "the end" if moment == END else f"where {moment[1]} {moment[0]}s"
@@ -221,8 +266,6 @@ class Texts:
         must(line == f"If an order took less than {self.document.bound}:", f"not the orders of the rows: {line}")
 
     def path(self, numbers):
-        self.at_first = {n: set(before) for n, before in self.known.before.items()}
-        self.facts()
         [n] = numbers
         number, sentence = self.row()
         must(number == 0 and self.number(read("(.*) can issue", sentence)[0]) == n, f"another instruction: {sentence}")
@@ -293,13 +336,12 @@ class Texts:
         must(False, f"no arc: {sentence}")
 
     def left(self, names):
-        self.facts()
         after, *numbers = names
         number, sentence = self.row()
         load = Load(ORIGIN, END, after, self.document.bound, numbers)
         must(number == self.load_sentence(load, sentence), f"{number} isn't what its sentence says: {sentence}")
         self.reaches(number)
-        must(self.known.is_left((), load), f"{number} isn't shown")
+        must(self.known.is_left(self.prefix, load), f"{number} isn't shown")
 
 
 def documents(text):
@@ -372,6 +414,7 @@ def main():
                     named = max(named, texts_of.most_named)
                 passed += 1
                 kind = next(iter(document.tree.values())).kind if yes else "NO"
+                kind = "S said" if kind == "S" and lines[0].endswith(":") else kind
                 kinds[kind] = kinds.get(kind, 0) + 1
             except Wrong as wrong:
                 failed += 1

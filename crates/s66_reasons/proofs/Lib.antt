@@ -3,6 +3,7 @@ pub mod Claimed
 pub mod FactTexts
 pub mod Hops
 pub mod KnownArcs
+pub mod Leaves
 pub mod Listed
 pub mod PairsInTurn
 pub mod PathEnds

@@ -164,10 +164,10 @@ end-high w after wait count =
       ]
     ]
 
-abbrev IsLate : Document → (after time n : ℕ) → Type 0
-IsLate d after time n =
+abbrev IsLate : Document → List ℕ → (after time n : ℕ) → Type 0
+IsLate d at after time n =
     (stage : Stage) × (t : ℕ) × ((stage ≡ Issue) ⊎ (stage ≡ Start)) ×
-    (after ≤ soonest (problem_of d) [] n stage) × (to_end d (At n stage) ≡ Some t) ×
+    (after ≤ soonest (problem_of d) at n stage) × (to_end d (At n stage) ≡ Some t) ×
     ((row_at (problem_of d) n).hold + 1 + d.bound ≤ after + time + t)
 
 -- A DOCUMENT whose fact lines are taken
@@ -272,37 +272,37 @@ module _ (d : Document) (taken : AreTaken d) where
 
   -- A LOAD
 
-  -- from its issue or its start on
-  stage-late : (after time n : ℕ) (stage : Stage) → ((stage ≡ Issue) ⊎ (stage ≡ Start)) → IsNumber b2 n → has_stage (row_at b2 n) stage ≡ true →
-      is_left_from b2 (known_of d) [] d.bound after time stage n ≡ true → IsLate d after time n
-  stage-late after time n stage which is_n has h =
-      let (soon, late) = and_parts (nat_le after (soonest b2 [] n stage)) (nat_le ((row_at b2 n).hold + 1 + d.bound) (after + time + T (At n stage))) h in (
+  -- from its issue or its start on, after a prefix
+  stage-late : (at : List ℕ) (after time n : ℕ) (stage : Stage) → ((stage ≡ Issue) ⊎ (stage ≡ Start)) → IsNumber b2 n → has_stage (row_at b2 n) stage ≡ true →
+      is_left_from b2 (known_of d) at d.bound after time stage n ≡ true → IsLate d at after time n
+  stage-late at after time n stage which is_n has h =
+      let (soon, late) = and_parts (nat_le after (soonest b2 at n stage)) (nat_le ((row_at b2 n).hold + 1 + d.bound) (after + time + T (At n stage))) h in (
         stage,
         T (At n stage),
         which,
-        leb-true after (soonest b2 [] n stage) soon,
+        leb-true after (soonest b2 at n stage) soon,
         span-tail b2 facts (known_of d) sound (At n stage) (number-moment n is_n stage has),
         leb-true ((row_at b2 n).hold + 1 + d.bound) (after + time + T (At n stage)) late,
       )
 
-  one-late : (kind : Kind) (after time n : ℕ) → is_left b2 (known_of d) [] kind d.bound after time n ≡ true → IsLate d after time n
-  one-late kind after time n h =
-      let issues : Bool = is_left_from b2 (known_of d) [] d.bound after time Issue n in
-      let starts : Bool = is_left_from b2 (known_of d) [] d.bound after time Start n in
-      let (front, from) = and_parts (is_remaining b2.block [] n && same_kind (row_at b2 n).kind kind) (issues || starts) h in
-      let (stays, same) = and_parts (is_remaining b2.block [] n) (same_kind (row_at b2 n).kind kind) front in
-      let (low, high, new) = remaining-parts b2.block [] n stays in
+  one-late : (at : List ℕ) (kind : Kind) (after time n : ℕ) → is_left b2 (known_of d) at kind d.bound after time n ≡ true → IsLate d at after time n
+  one-late at kind after time n h =
+      let issues : Bool = is_left_from b2 (known_of d) at d.bound after time Issue n in
+      let starts : Bool = is_left_from b2 (known_of d) at d.bound after time Start n in
+      let (front, from) = and_parts (is_remaining b2.block at n && same_kind (row_at b2 n).kind kind) (issues || starts) h in
+      let (stays, same) = and_parts (is_remaining b2.block at n) (same_kind (row_at b2 n).kind kind) front in
+      let (low, high, new) = remaining-parts b2.block at n stays in
       elim (or_cases issues starts from) [
-        | inl issue ↦ stage-late after time n Issue (inl refl) (low, high) refl issue
-        | inr start ↦ stage-late after time n Start (inr refl) (low, high) refl start
+        | inl issue ↦ stage-late at after time n Issue (inl refl) (low, high) refl issue
+        | inr start ↦ stage-late at after time n Start (inr refl) (low, high) refl start
       ]
 
-  pub load-shown : (bound after : ℕ) (ns : List ℕ) →
-      every (is_left b2 (known_of d) [] (kind_of_load b2 ns) d.bound after (use_time b2 (kind_of_load b2 ns) (map (use_of b2) ns))) ns ≡ true → bound ≤ d.bound → IsLoadShown d bound after ns
-  load-shown bound after ns all le =
+  pub load-shown : (at : List ℕ) (bound after : ℕ) (ns : List ℕ) →
+      every (is_left b2 (known_of d) at (kind_of_load b2 ns) d.bound after (use_time b2 (kind_of_load b2 ns) (map (use_of b2) ns))) ns ≡ true → bound ≤ d.bound → IsLoadShown d at bound after ns
+  load-shown at bound after ns all le =
       let kind : Kind = kind_of_load b2 ns in
       let time : ℕ = use_time b2 kind (map (use_of b2) ns) in
       record {
-        each = λ n among. one-late kind after time n (every-each (is_left b2 (known_of d) [] kind d.bound after time) n ns all among);
+        each = λ n among. one-late at kind after time n (every-each (is_left b2 (known_of d) at kind d.bound after time) n ns all among);
         reaches = omega (arith, le, end-high (work_of_load b2 ns) after d.bound (length ns));
       }

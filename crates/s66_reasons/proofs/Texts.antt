@@ -1,15 +1,22 @@
 -- Rows that are appended piece by piece.
-use Rattle.std.proofs.Common.{ℕ, suc, ◌+◌, ◌-◌, ◌≡◌, ◌<◌, ◌∙◌, List, ◌∷◌, ◌++◌, codes, drop, get_or, length, map, ap, append_assoc, sym, arith}
+use Rattle.std.proofs.Common.{ℕ, suc, ◌+◌, ◌-◌, ◌≡◌, ◌<◌, ◌∙◌, Bool, true, false, true≢false, List, [], ◌∷◌, ◌++◌, codes, drop, get_or, slice_get, Some, length, map, refl, ap, append_assoc, sym, arith}
 use Rattle.std.specs.Prelude.{Result, IfOk}
+use Rattle.std.specs.List.{filter}
 use Rattle.std.proofs.lemmas.List.{at_drop_more}
+use Rattle.std.proofs.lemmas.Option.{get_or_from_slice_get, slice_get_within}
 use Rattle.std.proofs.lemmas.Result.{IfOk-equal}
 use Rattle.s66_isa.specs.Lists.{rising}
 use Rattle.s66_model.specs.Timing.{row_at}
 use Rattle.s66_model.specs.Leaves.{link}
+use Rattle.s66_model.specs.Tree.{Vertex, AtTerminal, AtSplit}
+use Rattle.s66_model.specs.DominatedLeaves.{Ending}
 use Rattle.s66_cert.specs.Document.{Document}
+use Rattle.s66_cert.proofs.Printed.{drop-here}
 use Rattle.s66_checker.specs.Verdict.{problem_of}
 use Rattle.s66_reasons.specs.Words.{Reason, in_four, row_text, rows_text}
 use Rattle.s66_reasons.specs.ChainWords.{link_row, walk_rows}
+use Rattle.s66_reasons.specs.Reasons.{if_words, line_text, lines_text}
+use Rattle.s66_reasons.specs.Within.{is_split, vertex_text}
 
 -- its number, its words, and the end of the line
 pub row-pushed : {T E : Type 0} (r : Result T E) (out first second new words : List ℕ) (number : ℕ) → first ≡ out ++ (in_four number ++ codes "  ") →
@@ -36,14 +43,49 @@ walk-more d t n ms i wait old new within waits pushed =
     ∙ ap (λ xs. xs ++ rest) pushed ∙ append_assoc old row rest
     ∙ ap (λ xs. old ++ xs) (sym (at_drop_more (λ ks. rows_text (walk_rows d t n ks)) ms i 0 within))
 
--- one row more of those of rising numbers
-pub rising-more : (row : ℕ → Reason) (count p : ℕ) (old new : List ℕ) → p < count → new ≡ old ++ row_text (row (p + 1)) →
-    new ++ rows_text (map row (rising (count - (p + 1)) (p + 1 + 1))) ≡ old ++ rows_text (map row (rising (count - p) (p + 1)))
-rising-more row count p old new within pushed =
+-- rising numbers, one after the other
+rising-next : (count p : ℕ) → p < count → rising (count - p) (p + 1) ≡ (p + 1) ∷ rising (count - (p + 1)) (p + 1 + 1)
+rising-next count p within =
     let k = count - (p + 1) in
-    let rest = rows_text (map row (rising k (p + 1 + 1))) in
     let more : count - p ≡ suc k = omega (arith, within) in
     let next : suc (p + 1) ≡ p + 1 + 1 = omega arith in
-    let all : rising (count - p) (p + 1) ≡ (p + 1) ∷ rising k (p + 1 + 1) = ap (λ c. rising c (p + 1)) more ∙ ap (λ low. (p + 1) ∷ rising k low) next in
-    ap (λ xs. xs ++ rest) pushed ∙ append_assoc old (row_text (row (p + 1))) rest
-    ∙ ap (λ ns. old ++ rows_text (map row ns)) (sym all)
+    ap (λ c. rising c (p + 1)) more ∙ ap (λ low. (p + 1) ∷ rising k low) next
+
+-- rows of those that pass, one of which is next
+module _ (row : ℕ → Reason) (test : ℕ → Bool) (count p : ℕ) (within : p < count) where
+  abbrev rest : List ℕ
+  rest = filter test (rising (count - (p + 1)) (p + 1 + 1))
+
+  pub filter-more : (old new : List ℕ) → test (p + 1) ≡ true → new ≡ old ++ row_text (row (p + 1)) →
+      new ++ rows_text (map row rest) ≡ old ++ rows_text (map row (filter test (rising (count - p) (p + 1))))
+  filter-more old new passes pushed =
+      let all : filter test (rising (count - p) (p + 1)) ≡ (p + 1) ∷ rest = ap (filter test) (rising-next count p within) ∙ rw passes refl in
+      ap (λ xs. xs ++ rows_text (map row rest)) pushed ∙ append_assoc old (row_text (row (p + 1))) (rows_text (map row rest))
+      ∙ ap (λ ns. old ++ rows_text (map row ns)) (sym all)
+
+  pub filter-less : (old : List ℕ) → test (p + 1) ≡ false →
+      old ++ rows_text (map row rest) ≡ old ++ rows_text (map row (filter test (rising (count - p) (p + 1))))
+  filter-less old fails =
+      let all : filter test (rising (count - p) (p + 1)) ≡ rest = ap (filter test) (rising-next count p within) ∙ rw fails refl in
+      ap (λ ns. old ++ rows_text (map row ns)) (sym all)
+
+-- one line of a tree more
+pub lines-more : (d : Document) (lines : List (List ℕ × Vertex Ending)) (place : ℕ) (line : List ℕ × Vertex Ending) (old new : List ℕ) →
+    slice_get lines place ≡ Some line → new ≡ old ++ line_text d line.0 line.1 →
+    new ++ lines_text d (drop (place + 1) lines) ≡ old ++ lines_text d (drop place lines)
+lines-more d lines place line old new found pushed =
+    let within = slice_get_within lines place line found in
+    let here = drop-here lines place line within (sym (get_or_from_slice_get lines place line line found)) in
+    let rest = lines_text d (drop (place + 1) lines) in
+    ap (λ xs. xs ++ rest) pushed ∙ append_assoc old (line_text d line.0 line.1) rest
+    ∙ ap (λ (ls : List (List ℕ × Vertex Ending)). old ++ lines_text d ls) (sym here)
+
+-- a line at its prefix
+
+pub split-line : (d : Document) (at : List ℕ) (vertex : Vertex Ending) → is_split vertex ≡ true → line_text d at vertex ≡ []
+split-line d at (AtSplit numbers) split = refl
+split-line d at (AtTerminal ending) split = absurd (true≢false (sym split))
+
+pub leaf-line : (d : Document) (at : List ℕ) (vertex : Vertex Ending) → is_split vertex ≡ false → line_text d at vertex ≡ if_words at ++ vertex_text d at vertex
+leaf-line d at (AtSplit numbers) split = absurd (true≢false split)
+leaf-line d at (AtTerminal ending) split = refl

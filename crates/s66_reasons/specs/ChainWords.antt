@@ -2,8 +2,8 @@
 use Rattle.std.specs.Prelude.{ℕ, ◌+◌, if◌then◌else◌, ◌&&◌, ◌==◌, List, [], ◌∷◌, ◌++◌, codes, drop, get_or, Option, None, Some}
 use Rattle.s66_isa.specs.declared.reg.Reg.{Reg}
 use Rattle.s66_isa.specs.Table.{Row, Write, has_reg}
-use Rattle.s66_model.specs.Timing.{row_at}
-use Rattle.s66_model.specs.Leaves.{link, tail, uses}
+use Rattle.s66_model.specs.Timing.{points_of, row_at}
+use Rattle.s66_model.specs.Leaves.{head, link, tail, uses}
 use Rattle.s66_cert.specs.Document.{Document}
 use Rattle.s66_checker.specs.Verdict.{problem_of}
 use Rattle.s66_reasons.specs.Words.{Reason, instruction, register}
@@ -48,6 +48,19 @@ abbrev pub walk_rows : Document → ℕ → ℕ → List ℕ → List Reason
 walk_rows d t n [] = end_row d t n ∷ []
 walk_rows d t n (m ∷ ms) = link_row d t n m ∷ walk_rows d (t + link (row_at (problem_of d) n) (row_at (problem_of d) m)) m ms
 
+-- the first can start no sooner than this; without a prefix that is at 0, and nothing is said of it
+abbrev pub start_row : Document → List ℕ → ℕ → Reason
+start_row d at n =
+    record { number = head (points_of (problem_of d) at) (row_at (problem_of d) n); words = instruction d n ++ codes " can start" }
+
+abbrev pub start_rows : Document → List ℕ → ℕ → List Reason
+start_rows d [] n = []
+start_rows d (m ∷ at) n = start_row d (m ∷ at) n ∷ []
+
+-- from the start of n
+abbrev pub rows_from : Document → List ℕ → ℕ → List ℕ → List Reason
+rows_from d at n ms = start_rows d at n ++ walk_rows d (head (points_of (problem_of d) at) (row_at (problem_of d) n)) n ms
+
 -- a chain has a first number
-abbrev pub chain_rows : Document → List ℕ → List Reason
-chain_rows d ns = walk_rows d 0 (get_or ns 0 0) (drop 1 ns)
+abbrev pub chain_rows : Document → List ℕ → List ℕ → List Reason
+chain_rows d at ns = rows_from d at (get_or ns 0 0) (drop 1 ns)

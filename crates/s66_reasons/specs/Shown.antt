@@ -1,16 +1,18 @@
 -- To be believed: what the rows of a leaf show of the end.
-use Rattle.std.specs.Prelude.{ℕ, ◌+◌, ◌≡◌, ◌≤◌, ◌<◌, ◌⊎◌, List, [], ◌∷◌, Some}
+use Rattle.std.specs.Prelude.{ℕ, ◌+◌, ◌≡◌, ◌≤◌, ◌<◌, ◌⊎◌, List, [], ◌∷◌, ◌++◌, Some}
 use Rattle.s66_isa.specs.Lists.{Among, least, weigh}
 use Rattle.s66_model.specs.Timing.{Problem, row_at, total_of}
 use Rattle.s66_model.specs.LegalOrder.{IsLegal}
 use Rattle.s66_model.specs.Leaves.{Leaf, Whole, Chain, Load, Parcels}
+use Rattle.s66_model.specs.Tree.{AtTerminal}
+use Rattle.s66_model.specs.DominatedLeaves.{Ending}
 use Rattle.s66_moments.specs.declared.moment.Stage.{Stage}
 use Rattle.s66_moments.specs.declared.moment.Stage.TheVariants.{Issue, Start}
 use Rattle.s66_moments.specs.declared.moment.Moment.{Moment}
 use Rattle.s66_moments.specs.declared.moment.Moment.TheVariants.{At, End}
 use Rattle.s66_moments.specs.Moments.{soonest, time_of}
 use Rattle.s66_moments.specs.Networks.{Network}
-use Rattle.s66_cert.specs.Document.{Document}
+use Rattle.s66_cert.specs.Document.{Document, tree_placed}
 use Rattle.s66_checker.specs.Verdict.{problem_of}
 use Rattle.s66_reasons.specs.declared.hop.Hop.{Hop}
 use Rattle.s66_reasons.specs.LongestPaths.{arcs, hops_of, to_end}
@@ -30,9 +32,13 @@ end_by (Chain ns) rows = last_number rows
 end_by (Load kind) rows = last_number rows
 end_by Parcels rows = least (λ (r : Reason). r.number) rows
 
--- no legal order takes less than a number, which reaches the bound
-abbrev pub IsReached : Problem → (bound number : ℕ) → Type 0
-IsReached b bound number = (bound ≤ number) × ((order : List ℕ) → IsLegal b.block order → number ≤ total_of b order)
+-- no legal order that begins so takes less than a number, which reaches the bound
+abbrev pub IsReached : Problem → List ℕ → (bound number : ℕ) → Type 0
+IsReached b at bound number = (bound ≤ number) × ((rest : List ℕ) → IsLegal b.block (at ++ rest) → number ≤ total_of b (at ++ rest))
+
+-- the leaf of this document at this prefix
+abbrev pub IsLeafAt : Document → List ℕ → Ending → Type 0
+IsLeafAt d at ending = Among (at, AtTerminal ending) (tree_placed [] d.tree)
 
 -- BY A LONGEST PATH
 
@@ -63,11 +69,11 @@ pub record IsPathShown (d : Document) (bound n : ℕ) : Type 0 where
 
 -- BY A LOAD
 
--- The row of a load reaches the bound. Each of its instructions needs a unit from a moment on, its issue or its start, that is no sooner
--- than the row says; and from there the end is so much later that with all others in between it comes at the bound or later.
-pub record IsLoadShown (d : Document) (bound after : ℕ) (ns : List ℕ) : Type 0 where
+-- The row of a load reaches the bound. Each of its instructions needs a unit from a moment on, its issue or its start, that after the
+-- prefix is no sooner than the row says; and from there the end is so much later that with all others in between it comes at the bound or later.
+pub record IsLoadShown (d : Document) (at : List ℕ) (bound after : ℕ) (ns : List ℕ) : Type 0 where
   pub each : (n : ℕ) → Among n ns → (stage : Stage) × (t : ℕ) × ((stage ≡ Issue) ⊎ (stage ≡ Start)) ×
-      (after ≤ soonest (problem_of d) [] n stage) × (to_end d (At n stage) ≡ Some t) ×
+      (after ≤ soonest (problem_of d) at n stage) × (to_end d (At n stage) ≡ Some t) ×
       ((row_at (problem_of d) n).hold + 1 + d.bound ≤ after + (work_of_load (problem_of d) ns).time + t)
   pub reaches : bound ≤ (left_row d after ns).number
 

@@ -1,11 +1,11 @@
--- Used by contracts within the crate alone: numbers of a block, what is granted of the leaf of a document, which lines of a tree are splits, the arcs of fact lines, moments of a block, and what is known of it.
-use Rattle.std.specs.Prelude.{ℕ, ◌≡◌, ◌≤◌, ◌<◌, if◌then◌else◌, ◌&&◌, [], ◌∷◌, Bool, true, false, List, Some, length, get_or, max, unwrap_or}
+-- Used by contracts within the crate alone: numbers of a block, what is granted of the leaves of a document, which lines of a tree are splits, the arcs of fact lines, moments of a block, and what is known of it.
+use Rattle.std.specs.Prelude.{ℕ, ◌≡◌, ◌≤◌, ◌<◌, if◌then◌else◌, ◌&&◌, [], ◌∷◌, Bool, true, false, List, None, Some, length, get_or, max, unwrap_or}
 use Rattle.s66_isa.specs.declared.limits.TheConstants.{BLOCK_LIMIT}
 use Rattle.s66_isa.specs.Lists.{every}
 use Rattle.s66_model.specs.Timing.{Problem}
-use Rattle.s66_model.specs.LegalOrder.{is_remaining}
+use Rattle.s66_model.specs.LegalOrder.{IsBeginning, is_remaining}
 use Rattle.s66_model.specs.Leaves.{Whole, Chain, Load, Parcels}
-use Rattle.s66_model.specs.Tree.{Vertex, AtTerminal, AtSplit}
+use Rattle.s66_model.specs.Tree.{TreeHolds, Vertex, AtTerminal, AtSplit}
 use Rattle.s66_model.specs.DominatedLeaves.{Ending, Bounding, Dominated, Next, Turned, AtLine, LoadFrom}
 use Rattle.s66_moments.specs.declared.fact_line.FactLine.{FactLine}
 use Rattle.s66_moments.specs.declared.fact_line.FactLine.TheVariants as fact
@@ -15,10 +15,11 @@ use Rattle.s66_moments.specs.Facts.{IsNumber}
 use Rattle.s66_moments.specs.Known.{known_first}
 use Rattle.s66_moments.specs.Networks.{Network, same_moment}
 use Rattle.s66_facts.specs.Ground.{Ground, known_of as known_in}
-use Rattle.s66_cert.specs.Document.{Document}
+use Rattle.s66_cert.specs.Document.{Document, IsDocument}
 use Rattle.s66_replay.specs.Checked.{Checked}
 use Rattle.s66_checker.specs.KeptKnown.{AreTaken, KnowsAll}
-use Rattle.s66_checker.specs.Verdict.{problem_of}
+use Rattle.s66_checker.specs.Verdict.{line_fault, problem_of}
+use Rattle.s66_reasons.specs.Reasons.{leaf_text}
 
 -- each of a block of so many
 abbrev pub AreWithin : ℕ → List ℕ → Type 0
@@ -28,19 +29,30 @@ abbrev pub is_split : Vertex Ending → Bool
 is_split (AtTerminal ending) = false
 is_split (AtSplit numbers) = true
 
--- what a verdict yes grants of the first line of a tree: its instructions are of the block, and fact lines are taken
-abbrev pub IsGranted : Document → Vertex Ending → Type 0
-IsGranted d (AtSplit numbers) = Unit {0}
-IsGranted d (AtTerminal (Bounding Whole)) = Unit {0}
-IsGranted d (AtTerminal (Bounding (Chain numbers))) = (1 ≤ length numbers) × (length numbers ≤ BLOCK_LIMIT) × AreWithin (length (problem_of d).block) numbers
-IsGranted d (AtTerminal (Bounding (Load kind))) = Unit {0}
-IsGranted d (AtTerminal (Bounding Parcels)) = Unit {0}
-IsGranted d (AtTerminal (Dominated name)) = Unit {0}
-IsGranted d (AtTerminal (Next number)) = AreTaken d × IsNumber (problem_of d) number
-IsGranted d (AtTerminal (Turned first second)) = Unit {0}
-IsGranted d (AtTerminal (AtLine line)) = Unit {0}
-IsGranted d (AtTerminal (LoadFrom after numbers)) =
-    AreTaken d × (0 < length numbers) × (length numbers ≤ BLOCK_LIMIT) × (every (is_remaining (problem_of d).block []) numbers ≡ true)
+-- no line of its tree has a fault
+abbrev pub IsFaultless : Document → Type 0
+IsFaultless d =
+    TreeHolds (problem_of d).block (λ at ending. IsBeginning (problem_of d).block at × (line_fault d at (AtTerminal ending) ≡ None)) [] d.tree
+
+-- what a verdict yes grants of a document
+pub record IsRight (d : Document) : Type 0 where
+  pub document : IsDocument BLOCK_LIMIT d
+  pub taken : AreTaken d
+  pub lines : IsFaultless d
+
+-- and of a leaf at its prefix: its instructions are of the block, or remain
+abbrev pub IsGranted : Document → List ℕ → Vertex Ending → Type 0
+IsGranted d at (AtSplit numbers) = Unit {0}
+IsGranted d at (AtTerminal (Bounding Whole)) = Unit {0}
+IsGranted d at (AtTerminal (Bounding (Chain numbers))) = (1 ≤ length numbers) × (length numbers ≤ BLOCK_LIMIT) × AreWithin (length (problem_of d).block) numbers
+IsGranted d at (AtTerminal (Bounding (Load kind))) = Unit {0}
+IsGranted d at (AtTerminal (Bounding Parcels)) = Unit {0}
+IsGranted d at (AtTerminal (Dominated name)) = Unit {0}
+IsGranted d at (AtTerminal (Next number)) = IsNumber (problem_of d) number
+IsGranted d at (AtTerminal (Turned first second)) = IsNumber (problem_of d) first × IsNumber (problem_of d) second
+IsGranted d at (AtTerminal (AtLine line)) = Unit {0}
+IsGranted d at (AtTerminal (LoadFrom after numbers)) =
+    (0 < length numbers) × (length numbers ≤ BLOCK_LIMIT) × (every (is_remaining (problem_of d).block at) numbers ≡ true)
 
 -- the arcs, with that of a fact line too
 abbrev pub with_line : Network → FactLine → Network
@@ -58,12 +70,16 @@ IsNumberOf b Origin = Unit {0}
 IsNumberOf b (At n stage) = IsNumber b n
 IsNumberOf b End = Unit {0}
 
--- the numbers of a load: some of those of a block, whose prefix is empty
+-- what is said of a leaf at its prefix, and of a split nothing
+abbrev pub vertex_text : Document → List ℕ → Vertex Ending → List ℕ
+vertex_text d at (AtSplit numbers) = []
+vertex_text d at (AtTerminal ending) = leaf_text d at ending
+
+-- the numbers of a load: some of those that remain after a prefix
 pub record AreLoaded (prefix : Checked) (numbers : List ℕ) : Type 0 where
-  pub start : prefix.numbers ≡ []
   pub some : 0 < length numbers
   pub few : length numbers ≤ BLOCK_LIMIT
-  pub remain : every (is_remaining prefix.problem.block []) numbers ≡ true
+  pub remain : every (is_remaining prefix.problem.block prefix.numbers) numbers ≡ true
 
 -- the empty prefix of the block of a document, whose fact lines are taken, and what is known of this block by dependence alone
 pub record AreFirst (d : Document) (prefix : Checked) (by_dependence : Ground) : Type 0 where

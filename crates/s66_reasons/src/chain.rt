@@ -1,12 +1,13 @@
 //! The rows of a chain: what each of its instructions waits for of the one before it, and the end of the last.
 
-ghost use Rattle.std.specs.Prelude.{◌≡◌, ◌≤◌, ◌<◌, ◌^◌, ◌++◌, OnOk, None, Some, length};
+ghost use Rattle.std.specs.Prelude.{◌≡◌, ◌+◌, ◌≤◌, ◌<◌, ◌^◌, ◌++◌, IfOk, OnOk, None, Some, length};
 ghost use Rattle.s66_isa.specs.declared.limits.TheConstants.{BLOCK_LIMIT};
-ghost use Rattle.s66_model.specs.Timing.{row_at};
-ghost use Rattle.s66_model.specs.Leaves.{link};
+ghost use Rattle.s66_model.specs.Timing.{points_of, row_at};
+ghost use Rattle.s66_model.specs.Leaves.{head, link};
+ghost use Rattle.s66_replay.specs.KeptPrefix.{TOTAL_LIMIT};
 ghost use Rattle.s66_cert.specs.DocumentParts.{document_of};
 ghost use Rattle.s66_checker.specs.Verdict.{problem_of};
-ghost use Rattle.s66_reasons.specs.ChainWords.{awaited, chain_rows, end_row, end_words, last_result, lasting, link_row, link_words, walk_rows};
+ghost use Rattle.s66_reasons.specs.ChainWords.{awaited, chain_rows, end_row, end_words, last_result, lasting, link_row, link_words, start_rows, walk_rows};
 ghost use Rattle.s66_reasons.specs.Words.{row_text, rows_text};
 ghost use Rattle.s66_reasons.specs.Within.{AreWithin};
 
@@ -14,7 +15,7 @@ use crate::words::{push_around, push_instruction, push_number, push_register};
 use s66_cert::Document;
 use s66_checker::{link, tail, uses};
 use s66_isa::{Reg, Row, Write, has_register};
-use s66_replay::Prefix;
+use s66_replay::{Prefix, next, registers_done, writes_done};
 use std::alloc::AllocError;
 
 /// The first of these results for which a later instruction waits so long; none if it waits for a reference to memory.
@@ -173,33 +174,72 @@ fn wait_between(prefix: &Prefix, m: u8, n: u8) -> u32
     link(prefix.row(m), prefix.row(n))
 }
 
-/// The rows of a chain of these numbers after the first.
+/// The rows of a chain of these numbers after the first, which starts no sooner than `start`.
 fn push_walk(
     out: &mut Vec<u8>,
     document: &Document,
     prefix: &Prefix,
+    start: usize,
     first: u8,
     later: &[u8],
 ) -> Result<(), AllocError>
     requires problem { prefix.now.problem ≡ problem_of (document_of document.now) }
+    requires start { start ≤ 2 ^ 32 }
     requires few { length later.now ≤ BLOCK_LIMIT }
     requires first { (1 ≤ first) × (first ≤ length prefix.now.problem.block) }
     requires within { AreWithin (length prefix.now.problem.block) later.now }
     ensures { OnOk result (out.new.items ≡ out.old.items ++
-        rows_text (walk_rows (document_of document.now) 0 first later.now)) }
+        rows_text (walk_rows (document_of document.now) start first later.now)) }
 {
     let mut last = first;
-    let mut start = 0;
+    let mut time = start;
     for n in later {
         let wait = wait_between(prefix, last, *n);
-        push_link(out, document, prefix, start, wait, last, *n)?;
-        start += wait as usize;
+        push_link(out, document, prefix, time, wait, last, *n)?;
+        time += wait as usize;
         last = *n;
     }
-    push_end(out, document, prefix, start, last)
+    push_end(out, document, prefix, time, last)
 }
 
-/// The rows of a chain of these numbers.
+/// When an instruction starts at the soonest after the prefix: it is next, and the registers are done that it uses.
+fn head(prefix: &Prefix, n: u8) -> u32
+    requires { (1 ≤ n) × (n ≤ length prefix.now.problem.block) }
+    ensures value { result ≡ head (points_of prefix.now.problem prefix.now.numbers) (row_at prefix.now.problem n) }
+    ensures at_most { result ≤ TOTAL_LIMIT + 1 }
+{
+    let row = prefix.row(n);
+    let past = prefix.past();
+    let read = registers_done(past, row.reads.as_slice());
+    let written = writes_done(past, row.writes.as_slice());
+    next(prefix.points()).max(read.max(written))
+}
+
+/// The row of where a chain begins, with n, if the prefix has numbers. Returns the minor cycle.
+fn push_start(
+    out: &mut Vec<u8>,
+    document: &Document,
+    prefix: &Prefix,
+    n: u8,
+) -> Result<usize, AllocError>
+    requires problem { prefix.now.problem ≡ problem_of (document_of document.now) }
+    requires n { (1 ≤ n) × (n ≤ length prefix.now.problem.block) }
+    ensures text { OnOk result (out.new.items ≡ out.old.items ++
+        rows_text (start_rows (document_of document.now) prefix.now.numbers n)) }
+    ensures start { IfOk result (λ start. start ≡
+        head (points_of prefix.now.problem prefix.now.numbers) (row_at prefix.now.problem n)) }
+    ensures at_most { IfOk result (λ start. start ≤ 2 ^ 32) }
+{
+    let start = head(prefix, n) as usize;
+    if !prefix.numbers().is_empty() {
+        push_number(out, start)?;
+        push_around(out, b"", document, n, b" can start")?;
+        out.extend_from_slice(b"\n")?;
+    }
+    Ok(start)
+}
+
+/// The rows of a chain of these numbers, after the prefix.
 pub(crate) fn push_chain(
     out: &mut Vec<u8>,
     document: &Document,
@@ -211,7 +251,9 @@ pub(crate) fn push_chain(
     requires few { length numbers.now ≤ BLOCK_LIMIT }
     requires within { AreWithin (length prefix.now.problem.block) numbers.now }
     ensures { OnOk result (out.new.items ≡ out.old.items ++
-        rows_text (chain_rows (document_of document.now) numbers.now)) }
+        rows_text (chain_rows (document_of document.now) prefix.now.numbers numbers.now)) }
 {
-    push_walk(out, document, prefix, numbers[0], &numbers[1..])
+    let first = numbers[0];
+    let start = push_start(out, document, prefix, first)?;
+    push_walk(out, document, prefix, start, first, &numbers[1..])
 }

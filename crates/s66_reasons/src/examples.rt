@@ -3,7 +3,7 @@
 ghost use Rattle.std.specs.Prelude.{[], ◌∷◌, ◌≡◌, ◌++◌, codes};
 ghost use Rattle.s66_isa.specs.declared.instr.Kind.TheVariants.{Divide, Multiply};
 ghost use Rattle.s66_model.specs.Leaves.{Load};
-ghost use Rattle.s66_model.specs.Tree.{Alone};
+ghost use Rattle.s66_model.specs.Tree.{Alone, Parted, NoMore, Unsplit};
 ghost use Rattle.s66_model.specs.DominatedLeaves.{Bounding};
 ghost use Rattle.s66_cert.specs.Examples.{one_load, three_multiplies};
 ghost use Rattle.s66_checker.specs.Examples.{before_their_writers, multiplies_at_once};
@@ -32,8 +32,8 @@ pub fn above_examples()
         codes "1 has the Divide unit until 30 or later; behind it 2 could issue then, and from there to the end it is 0 or more: 30" }
 {}
 
-/// Leaves of each kind that may close a tree, and a tree that splits.
-#[tactic(auto, unfolding(s66_isa::specs::Table::row, s66_isa::specs::Profiles::profile_of, crate::specs::Words::digits))]
+/// Leaves of each kind that may close a tree, a tree that is said, and one that is counted.
+#[tactic(auto, unfolding(s66_isa::specs::Table::row, s66_isa::specs::Profiles::profile_of, s66_model::specs::Timing::issue_of, s66_model::specs::Timing::start_of, s66_model::specs::Timing::point, crate::specs::Words::digits))]
 pub fn reasons_examples()
     ensures chain { reasons_text one_load ≡
         codes "Every order takes 12 or more:\n" ++
@@ -55,6 +55,15 @@ pub fn reasons_examples()
         codes "If an order took less than 16:\n" ++
         codes "  16  From the beginning it is 0 or more until one of 1 and 2 has its Boolean unit; these need it for 4 each, 8 in all; so the last of them begins at 4 or later, and from there to the end it is 12 or more: 16\n" ++
         codes "So the order of 16 is best.\n" }
+    ensures tree { reasons_text (record three_multiplies { bound = 17; tree = Parted (1 ∷ 2 ∷ 3 ∷ []) (Unsplit (Bounding (Load Multiply)) (Unsplit (Bounding (Load Multiply)) (Unsplit (Bounding (Load Multiply)) NoMore))) }) ≡
+        codes "Every order takes 17 or more, by 1 split:\n" ++
+        codes "If 1 comes first:\n" ++
+        codes "  17  2 FX4 X5*X6 and 3 FX0 X7*X7 need the Multiply units for 11 each: 22, shared by 2; with 10 for those before: 32; from 1 on\n" ++
+        codes "If 2 comes first:\n" ++
+        codes "  17  1 FX1 X2*X3 and 3 FX0 X7*X7 need the Multiply units for 11 each: 22, shared by 2; with 10 for those before: 32; from 1 on\n" ++
+        codes "If 3 comes first:\n" ++
+        codes "  17  1 FX1 X2*X3 and 2 FX4 X5*X6 need the Multiply units for 11 each: 22, shared by 2; with 10 for those before: 32; from 1 on\n" ++
+        codes "The order found takes 22.\n" }
     ensures splits { reasons_text three_multiplies ≡
         codes "Every order takes 22 or more, by 10 splits.\n" ++
         codes "So the order of 22 is best.\n" }

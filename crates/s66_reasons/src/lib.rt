@@ -1,5 +1,5 @@
-//! Why no order is faster, in sentences, by a certificate alone: what its leaf is checked by, number by number, or how many splits and
-//! facts it has.
+//! Why no order is faster, in sentences, by a certificate alone: what each leaf of a tree of few splits is checked by, number by
+//! number, or how many splits and facts a larger one has.
 //!
 //! Nothing here bounds an order: numbers come from the document, and from what the checker computes of it (`s66_checker`, `s66_facts`).
 #![tactic(auto)]
@@ -11,10 +11,13 @@ mod facts;
 mod hop;
 mod known_paths;
 mod laws;
+mod leaf;
 mod pairs;
+mod paragraphs;
 mod parcels;
 mod path;
 mod reasons;
+mod tree;
 mod units;
 mod words;
 mod work;

@@ -30,7 +30,7 @@ fn push_lines(out: &mut Vec<u8>, numbers: &[usize]) -> Result<(), AllocError>
 }
 
 /// By which fact lines, if by some.
-fn push_by(out: &mut Vec<u8>, numbers: &[usize]) -> Result<(), AllocError>
+pub(crate) fn push_by(out: &mut Vec<u8>, numbers: &[usize]) -> Result<(), AllocError>
     ensures { OnOk result (out.new.items ≡ out.old.items ++ by_words numbers.now) }
 {
     if numbers.is_empty() {

@@ -1,11 +1,13 @@
 //! The row of a kind of unit: which instructions need it, and for how long.
 
-ghost use Rattle.std.specs.Prelude.{◌≡◌, ◌≤◌, ◌++◌, [], OnOk, length};
+ghost use Rattle.std.specs.Prelude.{◌≡◌, ◌≤◌, ◌++◌, ◌&&◌, OnOk, length};
 ghost use Rattle.s66_isa.specs.declared.limits.TheConstants.{BLOCK_LIMIT};
+ghost use Rattle.s66_isa.specs.Table.{same_kind};
 ghost use Rattle.s66_model.specs.Timing.{row_at};
+ghost use Rattle.s66_model.specs.LegalOrder.{is_remaining};
 ghost use Rattle.s66_cert.specs.DocumentParts.{document_of};
 ghost use Rattle.s66_checker.specs.Verdict.{problem_of};
-ghost use Rattle.s66_reasons.specs.Reasons.{how_long_words, load_row, load_words, no_need_words, numbers_of, sharing_words, unit_words, who_needs_words};
+ghost use Rattle.s66_reasons.specs.Reasons.{after_words, before_words, how_long_words, load_row, load_words, no_need_words, numbers_of, sharing_words, slot_after, slot_words, unit_words, who_needs_words, work_before};
 ghost use Rattle.s66_reasons.specs.Words.{each_words, longest_use, row_text};
 ghost use Rattle.s66_reasons.specs.Within.{AreWithin};
 
@@ -15,7 +17,7 @@ use s66_cert::Document;
 use s66_checker::{load, remaining_work};
 use s66_device::push_field;
 use s66_isa::{BLOCK_LIMIT, Kind, is_same_kind};
-use s66_replay::Prefix;
+use s66_replay::{Prefix, next, rest_busy};
 use std::alloc::AllocError;
 
 /// The kind of unit that an instruction needs.
@@ -26,14 +28,23 @@ pub(crate) fn kind_of(prefix: &Prefix, n: u8) -> Kind
     prefix.row(n).kind
 }
 
-/// The numbers whose instructions need this kind, rising.
+/// Whether a number remains, and its instruction needs this kind.
+fn needs(prefix: &Prefix, kind: Kind, n: u8) -> bool
+    requires { (1 ≤ n) × (n ≤ length prefix.now.problem.block) }
+    ensures { result ≡ (is_remaining prefix.now.problem.block prefix.now.numbers n &&
+        same_kind (row_at prefix.now.problem n).kind kind) }
+{
+    prefix.is_remaining(n) && is_same_kind(kind_of(prefix, n), kind)
+}
+
+/// The numbers that remain whose instructions need this kind, rising.
 fn numbers_of(prefix: &Prefix, kind: Kind) -> ArrayVec<u8, BLOCK_LIMIT>
-    ensures value { result.items ≡ numbers_of prefix.now.problem kind }
+    ensures value { result.items ≡ numbers_of prefix.now.problem prefix.now.numbers kind }
     ensures within { AreWithin (length prefix.now.problem.block) result.items }
 {
     let mut numbers = ArrayVec::new();
     for position in 0..prefix.count() {
-        if is_same_kind(kind_of(prefix, position + 1), kind) {
+        if needs(prefix, kind, position + 1) {
             numbers.push(position + 1);
         }
     }
@@ -92,11 +103,18 @@ fn push_unit(out: &mut Vec<u8>, kind: Kind, copies: u32) -> Result<(), AllocErro
     out.extend_from_slice(ending)
 }
 
-/// No instruction needs the units of a kind.
-fn push_no_need(out: &mut Vec<u8>, kind: Kind, copies: u32) -> Result<(), AllocError>
-    ensures { OnOk result (out.new.items ≡ out.old.items ++ no_need_words kind copies) }
+/// No instruction that remains needs the units of a kind, where `slot` is the next.
+fn push_no_need(
+    out: &mut Vec<u8>,
+    slot: u32,
+    kind: Kind,
+    copies: u32,
+) -> Result<(), AllocError>
+    ensures { OnOk result (out.new.items ≡ out.old.items ++ no_need_words slot kind copies) }
 {
-    out.extend_from_slice(b"no instruction needs the ")?;
+    let none: &[u8] = if slot == 0 { b"no" } else { b"no other" };
+    out.extend_from_slice(none)?;
+    out.extend_from_slice(b" instruction needs the ")?;
     push_unit(out, kind, copies)
 }
 
@@ -157,10 +175,11 @@ fn push_needs(
     push_how_long(out, copies, total, numbers.len(), most)
 }
 
-/// What these instructions, which are all of a kind, need of its units.
+/// What these instructions, which are all that remain of a kind, need of its units.
 fn push_load_words(
     out: &mut Vec<u8>,
     document: &Document,
+    slot: u32,
     kind: Kind,
     copies: u32,
     total: u32,
@@ -169,15 +188,52 @@ fn push_load_words(
 ) -> Result<(), AllocError>
     requires { length numbers.now ≤ BLOCK_LIMIT }
     ensures { OnOk result (out.new.items ≡ out.old.items ++
-        load_words (document_of document.now) kind copies total most numbers.now) }
+        load_words (document_of document.now) slot kind copies total most numbers.now) }
 {
     if numbers.is_empty() {
-        return push_no_need(out, kind, copies);
+        return push_no_need(out, slot, kind, copies);
     }
     push_needs(out, document, kind, copies, total, most, numbers)
 }
 
-/// The row of the load of a kind of unit, which these instructions need.
+/// What units still do for a prefix, if there is something, and with it.
+fn push_before(out: &mut Vec<u8>, total: u32, before: u32) -> Result<(), AllocError>
+    ensures { OnOk result (out.new.items ≡ out.old.items ++ before_words total before) }
+{
+    if before == 0 {
+        return Ok(());
+    }
+    push_between(out, b"; with ", before as usize, b" for those before: ")?;
+    push_field(out, b"", total as usize + before as usize)
+}
+
+/// From when on all is counted, if a prefix comes first.
+fn push_slot(out: &mut Vec<u8>, slot: u32) -> Result<(), AllocError>
+    ensures { OnOk result (out.new.items ≡ out.old.items ++ slot_words slot) }
+{
+    if slot == 0 {
+        return Ok(());
+    }
+    push_between(out, b"; from ", slot as usize, b" on")
+}
+
+/// What a prefix adds to a load.
+fn push_after(
+    out: &mut Vec<u8>,
+    prefix: &Prefix,
+    kind: Kind,
+    total: u32,
+    slot: u32,
+) -> Result<(), AllocError>
+    requires { slot ≡ slot_after prefix.now.problem prefix.now.numbers }
+    ensures { OnOk result (out.new.items ≡ out.old.items ++
+        after_words total (work_before prefix.now.problem prefix.now.numbers kind) slot) }
+{
+    push_before(out, total, rest_busy(prefix.points(), kind, slot))?;
+    push_slot(out, slot)
+}
+
+/// The row of the load of a kind of unit, which of all that remain these instructions need.
 fn push_load_row(
     out: &mut Vec<u8>,
     document: &Document,
@@ -186,30 +242,32 @@ fn push_load_row(
     numbers: &[u8],
 ) -> Result<(), AllocError>
     requires problem { prefix.now.problem ≡ problem_of (document_of document.now) }
-    requires start { prefix.now.numbers ≡ [] }
     requires few { length numbers.now ≤ BLOCK_LIMIT }
     requires within { AreWithin (length prefix.now.problem.block) numbers.now }
-    requires numbers { numbers.now ≡ numbers_of prefix.now.problem kind }
-    ensures { OnOk result (out.new.items ≡ out.old.items ++ row_text (load_row (document_of document.now) kind)) }
+    requires numbers { numbers.now ≡ numbers_of prefix.now.problem prefix.now.numbers kind }
+    ensures { OnOk result (out.new.items ≡ out.old.items ++
+        row_text (load_row (document_of document.now) prefix.now.numbers kind)) }
 {
+    let slot = next(prefix.points());
     let copies = prefix.copies(kind);
     let total = remaining_work(prefix, kind);
     let most = longest_use(prefix, numbers);
     push_number(out, load(prefix, kind) as usize)?;
-    push_load_words(out, document, kind, copies, total, most, numbers)?;
+    push_load_words(out, document, slot, kind, copies, total, most, numbers)?;
+    push_after(out, prefix, kind, total, slot)?;
     out.extend_from_slice(b"\n")
 }
 
-/// The row of the load of a kind of unit.
+/// The row of the load of a kind of unit, after the prefix.
 pub(crate) fn push_load(
     out: &mut Vec<u8>,
     document: &Document,
     prefix: &Prefix,
     kind: Kind,
 ) -> Result<(), AllocError>
-    requires problem { prefix.now.problem ≡ problem_of (document_of document.now) }
-    requires start { prefix.now.numbers ≡ [] }
-    ensures { OnOk result (out.new.items ≡ out.old.items ++ row_text (load_row (document_of document.now) kind)) }
+    requires { prefix.now.problem ≡ problem_of (document_of document.now) }
+    ensures { OnOk result (out.new.items ≡ out.old.items ++
+        row_text (load_row (document_of document.now) prefix.now.numbers kind)) }
 {
     let numbers = numbers_of(prefix, kind);
     push_load_row(out, document, prefix, kind, numbers.as_slice())

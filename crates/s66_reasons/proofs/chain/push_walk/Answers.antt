@@ -14,9 +14,9 @@ loop-n-preserved c =
     let n = get_or c.args.later.now i 0 in
     let wait : c.wait_between-wait.result ≡ link (row_at (problem_of d) last) (row_at (problem_of d) n) =
     c.wait_between-wait.ensures ∙ ap (λ (q : Problem). link (row_at q last) (row_at q n)) c.requires.problem in
-    let small : c.loop-n.start + c.wait_between-wait.result ≤ 2 ^ 32 * (i + 1) = search rules in
+    let small : c.loop-n.time + c.wait_between-wait.result ≤ 2 ^ 32 * (i + 1 + 1) = search rules in
     record {
-      text = walk-more d c.loop-n.start last c.args.later.now i c.wait_between-wait.result _ _ c.loop-n-test.true wait c.in_ok-push_link.ensures ∙ c.loop-n.invariant.text;
+      text = walk-more d c.loop-n.time last c.args.later.now i c.wait_between-wait.result _ _ c.loop-n-test.true wait c.in_ok-push_link.ensures ∙ c.loop-n.invariant.text;
       within = c.requires.within i c.loop-n-test.true;
       small = small;
     }

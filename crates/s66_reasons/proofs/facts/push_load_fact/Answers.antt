@@ -13,10 +13,10 @@ push_load_sentence-requires c =
     let b : Problem = c.args.facts.now.problem in
     let stay : every (is_remaining b.block []) c.args.load.now.numbers.items ≡ true = taken-remain b (known_in c.args.facts.now) c.args.load.now c.requires.taken in
     record {
-      start = c.requires.start;
       some = search rules;
       few = search rules;
-      remain = ap (λ (ns : List ℕ). every (is_remaining c.args.prefix.now.problem.block []) ns) c.as_slice-numbers.ensures.value
+      remain = ap (λ (ms : List ℕ). every (is_remaining c.args.prefix.now.problem.block ms) c.as_slice-numbers.result.now) c.requires.start
+          ∙ ap (λ (ns : List ℕ). every (is_remaining c.args.prefix.now.problem.block []) ns) c.as_slice-numbers.ensures.value
           ∙ subst (λ (q : Problem). every (is_remaining q.block []) c.args.load.now.numbers.items ≡ true) (sym c.requires.same) stay;
     }
 

@@ -1,44 +1,50 @@
-use Rattle.std.proofs.Common.{◌≡◌, [], arith}
+use Rattle.std.proofs.Common.{◌≡◌, [], refl, inl, subst, sym, arith}
 use Rattle.std.proofs.lemmas.Bool.{leb-true}
-use Rattle.s66_line.specs.InstructionText.{instr_in_text}
-use Rattle.std.proofs.lemmas.List.{length-map}
+use Rattle.s66_isa.specs.Lists.{Among}
 use Rattle.s66_model.specs.Leaves.{value}
-use Rattle.s66_model.specs.DominatedLeaves.{Bounding, LoadFrom, Next}
+use Rattle.s66_model.specs.Tree.{Tree, AtTerminal}
+use Rattle.s66_model.specs.DominatedLeaves.{Ending, Bounding, LoadFrom, Next, Turned}
 use Rattle.s66_model.proofs.Remaining.{legal-parts, remaining-parts}
 use Rattle.s66_model.proofs.Trees.{leaf-sound}
 use Rattle.s66_moments.specs.Known.{next_value}
+use Rattle.s66_cert.specs.Document.{tree_placed}
 use Rattle.s66_checker.specs.Verdict.{known_of, problem_of}
-use Rattle.s66_checker.proofs.GrantedClaims.{verdict-claims}
+use Rattle.s66_checker.proofs.GrantedClaims.{granted}
 use Rattle.s66_reasons.specs.Reasons.{leaf_rows}
 use Rattle.s66_reasons.specs.Shown.{end_by}
-use Rattle.s66_reasons.proofs.Claimed.{claimed-leaf, granted-each, granted-next, passes}
+use Rattle.s66_reasons.proofs.Claimed.{claimed-leaf, faultless, granted-each, granted-next, granted-turned, right-each}
 use Rattle.s66_reasons.proofs.PathEnds.{has-none_sooner, load-shown, path-shown}
 use Rattle.s66_reasons.proofs.Rows.{rows-end}
 use Rattle.s66_reasons.proofs.laws.reasons_law.Goals as goal
 
 pub returns-clause-bounding : goal.returns-clause-bounding
-returns-clause-bounding c = λ limit d time bound leaf is holds first.
+returns-clause-bounding c = λ limit d time bound at leaf is holds among.
     let b = problem_of d in
-    let (may, reaches) = claimed-leaf limit d time bound leaf is holds first in
-    let ends : end_by leaf (leaf_rows d (Bounding leaf)) ≡ value b [] leaf = rows-end d leaf (omega (arith, is.block.0, length-map d.block instr_in_text)) may in (
-      omega (arith, ends, reaches),
-      λ order legal.
-          let (begins, completes) = legal-parts b.block [] order legal in
-          omega (arith, ends, leaf-sound b [] order leaf begins completes may),
+    let bound_is = ((granted d time bound).0 holds).1 in
+    let (may, reaches) = claimed-leaf d at leaf (faultless limit d time bound is holds).1 among in
+    let ends : end_by leaf (leaf_rows d at (Bounding leaf)) ≡ value b at leaf = rows-end d at leaf may in (
+      omega (arith, ends, reaches, bound_is),
+      λ rest legal.
+          let (begins, completes) = legal-parts b.block at rest legal in
+          omega (arith, ends, leaf-sound b at rest leaf begins completes may),
     )
 
 pub returns-clause-next : goal.returns-clause-next
-returns-clause-next c = λ limit d time bound n is holds first.
-    let both = passes d time bound (Next n) holds first in
-    let right = granted-next d n both.1 in
-    let (low, high, new) = remaining-parts (problem_of d).block [] n right.0 in
-    let claims = verdict-claims limit d time bound is holds in
-    path-shown d both.0 n (low, high) bound (omega (arith, claims.1, leb-true d.bound (next_value (problem_of d) (known_of d) [] n) right.1))
+returns-clause-next c = λ limit d time bound n is holds alone.
+    let all = faultless limit d time bound is holds in
+    let among : Among ([], AtTerminal (Next n)) (tree_placed [] d.tree) = subst (λ (t : Tree Ending). Among ([], AtTerminal (Next n)) (tree_placed [] t)) (sym alone) (inl refl) in
+    let granted_here = granted-next d [] n (right-each d [] (Next n) all.1 among).1 in
+    let (low, high, new) = remaining-parts (problem_of d).block [] n granted_here.0 in
+    path-shown d all.0 n (low, high) bound (omega (arith, ((granted d time bound).0 holds).1, leb-true d.bound (next_value (problem_of d) (known_of d) [] n) granted_here.1))
 
 pub returns-clause-no_sooner : goal.returns-clause-no_sooner
 returns-clause-no_sooner c = λ d n taken is_n. has-none_sooner d taken n is_n
 
 pub returns-clause-left : goal.returns-clause-left
-returns-clause-left c = λ limit d time bound after ns is holds first.
-    let both = passes d time bound (LoadFrom after ns) holds first in
-    load-shown d both.0 bound after ns (granted-each d after ns both.1) (omega (arith, (verdict-claims limit d time bound is holds).1))
+returns-clause-left c = λ limit d time bound at after ns is holds among.
+    let all = faultless limit d time bound is holds in
+    load-shown d all.0 at bound after ns (granted-each d at after ns (right-each d at (LoadFrom after ns) all.1 among).1) (omega (arith, ((granted d time bound).0 holds).1))
+
+pub returns-clause-turned : goal.returns-clause-turned
+returns-clause-turned c = λ limit d time bound at m n is holds among.
+    granted-turned d at m n (right-each d at (Turned m n) (faultless limit d time bound is holds).1 among).1

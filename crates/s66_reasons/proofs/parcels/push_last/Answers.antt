@@ -1,12 +1,13 @@
-use Rattle.std.proofs.Common.{ℕ, ◌≡◌, ◌+◌, ◌++◌, ◌∙◌, [], List, OnOk, codes, ap, rules, arith}
+use Rattle.std.proofs.Common.{ℕ, ◌≡◌, ◌+◌, ◌-◌, ◌++◌, ◌∙◌, List, OnOk, codes, ap, rules, arith}
 use Rattle.std.proofs.lemmas.Result.{IfOk-equal}
 use Rattle.s66_isa.specs.Table.{Row}
 use Rattle.s66_model.specs.Timing.{Problem, row_at}
+use Rattle.s66_model.specs.LegalOrder.{sum_remaining}
 use Rattle.s66_model.specs.Leaves.{if_last, tail}
 use Rattle.s66_cert.specs.DocumentParts.{document_of}
 use Rattle.s66_checker.specs.Verdict.{problem_of}
 use Rattle.s66_reasons.specs.Words.{in_four}
-use Rattle.s66_reasons.specs.Reasons.{if_last_words, other_parcels}
+use Rattle.s66_reasons.specs.Reasons.{if_last_words, last_slot, slot_after}
 use Rattle.s66_reasons.proofs.Texts.{row-pushed}
 use Rattle.s66_reasons.proofs.parcels.push_last.Goals as goal
 
@@ -15,18 +16,19 @@ returns c =
     let d = document_of c.args.document.now in
     let b : Problem = problem_of d in
     let q : Problem = c.args.prefix.now.problem in
+    let at : List ℕ = c.args.prefix.now.numbers in
     let n = c.args.n in
-    let slot : ℕ = c.saturating_sub-slot.result in
+    let slot : ℕ = c.args.next + c.saturating_sub.result in
     let time : ℕ = c.tail-time.result in
-    let slot_is : slot ≡ other_parcels b n =
-    omega (arith, c.saturating_sub-slot.ensures, c.own_parcels.ensures, ap (λ (r : Row). r.parcels) c.row-row.ensures, c.requires.parcels.0)
-    ∙ ap (λ (p : Problem). other_parcels p n) c.requires.problem in
+    let rest : c.saturating_sub.result ≡ sum_remaining q.block at (λ m. (row_at q m).parcels) - (row_at q n).parcels =
+    omega (arith, c.saturating_sub.ensures, c.own_parcels.ensures, ap (λ (r : Row). r.parcels) c.row-row.ensures, c.requires.parcels) in
+    let slot_is : slot ≡ last_slot b at n = omega (arith, rest, c.requires.next) ∙ ap (λ (p : Problem). last_slot p at n) c.requires.problem in
     let time_is : time ≡ tail (row_at b n) = c.tail-time.ensures ∙ ap tail c.row-row.ensures ∙ ap (λ (p : Problem). tail (row_at p n)) c.requires.problem in
-    let number : slot + time ≡ if_last b [] n = omega (arith, slot_is, time_is) in
-    let words : if_last_words d n slot time ≡ if_last_words d n (other_parcels b n) (tail (row_at b n)) =
-    ap (λ k. if_last_words d n k time) slot_is ∙ ap (λ k. if_last_words d n (other_parcels b n) k) time_is in
+    let number : slot + time ≡ if_last b at n = omega (arith, slot_is, time_is) in
+    let words : if_last_words d n slot time ≡ if_last_words d n (last_slot b at n) (tail (row_at b n)) =
+    ap (λ k. if_last_words d n k time) slot_is ∙ ap (λ k. if_last_words d n (last_slot b at n) k) time_is in
     let ended : OnOk c.extend_from_slice.result (c.extend_from_slice.new.self.items ≡ c.push_if_last.new.out.items ++ codes "\n") = search rules in
     IfOk-equal c.extend_from_slice.result _ _ _
     (row-pushed c.extend_from_slice.result c.args.out.now.items _ _ _ (if_last_words d n slot time) (slot + time) c.in_ok-push_number.ensures c.in_ok-push_if_last.ensures ended)
     (ap (λ k. c.args.out.now.items ++ (in_four k ++ codes "  " ++ if_last_words d n slot time ++ codes "\n")) number
-    ∙ ap (λ (ws : List ℕ). c.args.out.now.items ++ (in_four (if_last b [] n) ++ codes "  " ++ ws ++ codes "\n")) words)
+    ∙ ap (λ (ws : List ℕ). c.args.out.now.items ++ (in_four (if_last b at n) ++ codes "  " ++ ws ++ codes "\n")) words)

@@ -1,6 +1,6 @@
 use Rattle.std.proofs.Common.{◌≡◌, ◌++◌, OnOk, codes, rules}
 use Rattle.s66_reasons.proofs.Texts.{row-pushed}
-use Rattle.s66_reasons.proofs.reasons.push_issue_row.Goals as goal
+use Rattle.s66_reasons.proofs.leaf.push_issue_row.Goals as goal
 
 pub returns : goal.returns
 returns c =

@@ -7,7 +7,7 @@ use Rattle.s66_reasons.specs.declared.work.Work.{Work}
 use Rattle.s66_reasons.specs.Words.{in_four}
 use Rattle.s66_reasons.specs.FactWords.{load_end, load_sentence, work_of_load}
 use Rattle.s66_reasons.proofs.Texts.{row-pushed}
-use Rattle.s66_reasons.proofs.reasons.push_left_row.Goals as goal
+use Rattle.s66_reasons.proofs.leaf.push_left_row.Goals as goal
 
 pub returns : goal.returns
 returns c =

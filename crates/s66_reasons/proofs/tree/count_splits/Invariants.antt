@@ -1,7 +1,7 @@
 use Rattle.std.proofs.Common.{◌≡◌, ◌+◌, length}
 use Rattle.s66_isa.specs.Lists.{tally}
 use Rattle.s66_reasons.specs.Within.{is_split}
-use Rattle.s66_reasons.proofs.reasons.count_splits.Given as goal
+use Rattle.s66_reasons.proofs.tree.count_splits.Given as goal
 
 abbrev pub invariant-loop-line : goal.invariant-loop-line
 invariant-loop-line l = l.count + tally is_split l.lines ≡ tally is_split l.fn.lines

@@ -3,7 +3,7 @@ use Rattle.s66_isa.specs.Lists.{tally}
 use Rattle.s66_cert.specs.declared.limits.TheConstants.{SPLIT_LIMIT}
 use Rattle.s66_reasons.specs.Within.{is_split}
 use Rattle.s66_reasons.proofs.Splits.{few-splits, stored-splits}
-use Rattle.s66_reasons.proofs.reasons.splits.Goals as goal
+use Rattle.s66_reasons.proofs.tree.splits.Goals as goal
 
 pub count_splits-requires : goal.count_splits-requires
 count_splits-requires c = subst (λ lines. tally is_split lines ≤ SPLIT_LIMIT) (sym c.tree.ensures.value) (few-splits c.args.document.now c.tree.ensures.whole)
