@@ -13,12 +13,12 @@ use Rattle.s66_source.specs.Counts.{counting_text, is_one_of, with_cover}
 use Rattle.s66_source.specs.LeftAlone.{Flagged, Reading, after_line, after_operation, at_first, directive_cover, flagged_from, flagged_lines, has_operation, is_alone, is_continued, is_directive, is_doubtful, is_off_switch, is_on_switch, off_after, plain, redefined_by, with_directive}
 use Rattle.s66_source.specs.declared.cover.Covered.{Covered}
 use Rattle.s66_source.specs.Redefined.{Redefined, defined_by, forming, is_short, nothing_redefined, redefined_in, renaming}
-use Rattle.s66_source.specs.Roles.{is_copied}
+use Rattle.s66_source.specs.Replaced.{owner}
 use Rattle.s66_source.specs.Source.{Line, classed_lines}
 use Rattle.s66_source.specs.LeftAlone.{Standing}
 use Rattle.s66_source.proofs.DefinedNames.{defined_by-append}
 use Rattle.s66_source.proofs.FlaggedLines.{bytes-flagged}
-use Rattle.s66_source.proofs.MergedLines.{alone-copied}
+use Rattle.s66_source.proofs.AloneLines.{alone-none}
 use Rattle.s66_lint.specs.Guarded.{Begins, Ends, Kept, Mark, MarkedLine, GuardedLine, beginnings, between, guarded_bytes, flag_of, guarded, guarded_flags, guarded_lines, is_left_alone, marked_line, marked_lines, read_flags, shown_reason, source_lines, unmarked, written_from}
 use Rattle.s66_lint.specs.Listing.{after_blank}
 use Rattle.s66_lint.specs.declared.guard.TheConstants.{REASON_LIMIT}
@@ -379,16 +379,16 @@ flags-too s t (line ∷ lines) (suc k) m same at alone =
 
 -- A LINE THAT IS LEFT ALONE is copied, to the byte
 
-abbrev IsCopied : Reading → ℕ → List ℕ → Type 0
-IsCopied source k bytes = (line : Line) × (slice_get (classed_lines source) k ≡ Some line) × (line.bytes ≡ bytes) × (is_copied (classed_lines source) line ≡ true)
+abbrev IsOfNone : Reading → ℕ → List ℕ → Type 0
+IsOfNone source k bytes = (line : Line) × (slice_get (classed_lines source) k ≡ Some line) × (line.bytes ≡ bytes) × (owner (classed_lines source) line ≡ 0)
 
 pub guard-kept : (marks : List Mark) (text : List ℕ) (cut : Bool) (k : ℕ) (w : GuardedLine) → slice_get (guarded_lines marks text) k ≡ Some w → is_left_alone w ≡ true →
-    IsCopied (record { cut = cut; text = guarded marks text }) k (guarded_bytes w)
+    IsOfNone (record { cut = cut; text = guarded marks text }) k (guarded_bytes w)
 guard-kept marks text cut k w at alone = by cut
   where
     plainly : slice_get (flagged_lines (plain (guarded marks text))) k ≡ Some (flag_of w)
     plainly = ap (λ flags. slice_get flags k) (same-plainly marks text) ∙ slice_get-map flag_of (guarded_lines marks text) k ∙ ap (option_map flag_of) at
 
-    by : (cut : Bool) → IsCopied (record { cut = cut; text = guarded marks text }) k (guarded_bytes w)
-    by false = alone-copied (plain (guarded marks text)) k (flag_of w) plainly alone
-    by true = alone-copied (record { cut = true; text = guarded marks text }) k (record { alone = true; bytes = guarded_bytes w }) (flags-too at_plain (at_first (redefined_in (lines_of (guarded marks text)))) (lines_of (guarded marks text)) k (flag_of w) refl plainly alone) refl
+    by : (cut : Bool) → IsOfNone (record { cut = cut; text = guarded marks text }) k (guarded_bytes w)
+    by false = alone-none (plain (guarded marks text)) k (flag_of w) plainly alone
+    by true = alone-none (record { cut = true; text = guarded marks text }) k (record { alone = true; bytes = guarded_bytes w }) (flags-too at_plain (at_first (redefined_in (lines_of (guarded marks text)))) (lines_of (guarded marks text)) k (flag_of w) refl plainly alone) refl

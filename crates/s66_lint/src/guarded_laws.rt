@@ -3,7 +3,7 @@
 ghost use Rattle.std.specs.Prelude.{◌≡◌, ℕ, Bool, Some, List, [], ◌∷◌, ◌++◌, true, false, codes, length, map, replicate, slice_get};
 ghost use Rattle.s66_line.specs.Fields.{lines_of};
 ghost use Rattle.s66_source.specs.LeftAlone.{Flagged, flagged_lines, plain};
-ghost use Rattle.s66_source.specs.Roles.{is_copied};
+ghost use Rattle.s66_source.specs.Replaced.{owner};
 ghost use Rattle.s66_source.specs.Source.{Line, classed_lines};
 ghost use Rattle.s66_lint.specs.Guarded.{Begins, Mark, GuardedLine, flag_of, guarded_bytes, guarded, guarded_flags, guarded_lines, is_left_alone, source_lines, unmarked};
 
@@ -26,13 +26,13 @@ pub fn guarded_law()
         flagged_lines (plain (guarded marks text)) ≡ map flag_of (guarded_lines marks text) }
 {}
 
-/// A line of what is printed that is left alone without `--cut` is copied by `order`, with `--cut` or without it, to the byte.
+/// A line of what is printed that is left alone without `--cut` is of no block, with `--cut` or without it: so `order` copies it to the byte.
 pub fn guard_kept_law()
     ensures { (marks : List Mark) (text : List ℕ) (cut : Bool) (k : ℕ) (written : GuardedLine) →
         slice_get (guarded_lines marks text) k ≡ Some written → is_left_alone written ≡ true → (line : Line) ×
         (slice_get (classed_lines (record { cut = cut; text = guarded marks text })) k ≡ Some line) ×
         (line.bytes ≡ guarded_bytes written) ×
-        (is_copied (classed_lines (record { cut = cut; text = guarded marks text })) line ≡ true) }
+        (owner (classed_lines (record { cut = cut; text = guarded marks text })) line ≡ 0) }
 {}
 
 /// Small sources. Regions with two reasons, with one, and with none, of which the last is at the end; one that a switch ON parts; one that

@@ -1,11 +1,13 @@
 //! What becomes of the output of `order` and `prove` that is read again: contracts of functions that do nothing.
 
-ghost use Rattle.std.specs.Prelude.{ℕ, Bool, false, List, [], ◌∷◌, ◌++◌, length, map, Ok, Err, Option, ◌*◌, ◌≡◌, ◌≤◌, ◌<◌, codes};
+ghost use Rattle.std.specs.Prelude.{ℕ, Bool, false, List, [], ◌∷◌, ◌++◌, length, map, Ok, Err, Option, ◌*◌, ◌≡◌, ◌≤◌, ◌<◌, codes, Some};
 ghost use Rattle.s66_isa.specs.declared.profile.Profile.{Profile};
 ghost use Rattle.s66_isa.specs.Lists.{Among};
 ghost use Rattle.s66_isa.specs.Table.{standard};
 ghost use Rattle.s66_source.specs.LeftAlone.{Reading, plain};
-ghost use Rattle.s66_source.specs.Printed.{printed};
+ghost use Rattle.s66_source.specs.Replaced.{printed_in};
+ghost use Rattle.s66_source.specs.Printed.{Placed};
+ghost use Rattle.s66_source.specs.declared.columns.Columns.TheVariants.{Usual};
 ghost use Rattle.s66_line.specs.Block.{Block, instrs_of};
 ghost use Rattle.s66_source.specs.Source.{source_of};
 ghost use Rattle.s66_source.specs.declared.error.SourceError.{SourceError};
@@ -113,8 +115,8 @@ pub fn done_law()
 /// The worked block of one load, as `order` and `prove` write it, and what `time` and `check` then write; and other documents of it.
 #[tactic(auto, unfolding(s66_isa::specs::Profiles::profile_of, s66_isa::specs::Table::row, s66_model::specs::Dependence::conflict, s66_model::specs::Timing::issue_of, s66_model::specs::Timing::start_of, s66_model::specs::Timing::point, crate::specs::Examples::digits))]
 pub fn again_examples()
-    ensures ordered { printed (plain one_load_source)
-        (all_placed standard false (blocks_in one_load_source) (one_load_answer ∷ [])) ≡ one_load_ordered }
+    ensures ordered { printed_in false Usual (plain one_load_source)
+        (map (λ (p : Placed). Some p) (all_placed standard false (blocks_in one_load_source) (one_load_answer ∷ []))) ≡ one_load_ordered }
     ensures time_again { map (written_time standard) (blocks_in one_load_ordered) ≡ 12 ∷ [] }
     ensures proved { all_documents NoneNamed standard (blocks_in one_load_source) (one_load_answer ∷ []) ≡ one_load ∷
         [] }

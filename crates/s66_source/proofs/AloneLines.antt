@@ -1,15 +1,30 @@
 -- A line that is left alone is of no block.
-use Rattle.std.proofs.Common.{◌≡◌, ◌&&◌, ◌||◌, ℕ, suc, Bool, true, false, true≢false, if◌then◌else◌, List, [], Some, refl, sym, ap, ap₂, ◌∙◌}
+use Rattle.std.proofs.Common.{◌≡◌, ◌&&◌, ◌||◌, ℕ, zero, suc, Bool, true, false, true≢false, if◌then◌else◌, List, [], ◌∷◌, Some, refl, sym, ap, ap₂, ◌∙◌}
 use Rattle.std.specs.Prelude.{slice_get}
-use Rattle.s66_line.specs.Class.{is_instruction}
+use Rattle.s66_line.specs.Class.{is_code, is_instruction}
 use Rattle.s66_line.specs.declared.class.Class.{Class}
 use Rattle.s66_line.specs.declared.class.Class.TheVariants.{Comment, Other, Refused, Pad, Instruction}
-use Rattle.s66_source.specs.LeftAlone.{Flagged, Reading, flagged_lines}
+use Rattle.s66_source.specs.LeftAlone.{Flagged, Reading, class_at, flagged_lines}
 use Rattle.s66_source.specs.Replaced.{begun, owner}
 use Rattle.s66_source.specs.Roles.{has_block, is_comment_class, is_dropped, is_leading, is_note, is_other_class, is_pad_class}
-use Rattle.s66_source.specs.Source.{Line, blocks_of, classed_lines}
-use Rattle.s66_source.proofs.MergedLines.{alone-at}
+use Rattle.s66_source.specs.Source.{Line, blocks_of, classed_lines, classes_from, label_after, label_at, place_after, place_at, run_after, run_at}
 use Rattle.s66_source.proofs.Owners.{plain-notes}
+
+abbrev IsOther : Line → Flagged → Type 0
+IsOther line m = (line.bytes ≡ m.bytes) × (m.alone ≡ true → is_other_class line.class ≡ true)
+
+alone-at : (lines : List Flagged) (number run index : ℕ) (label : List ℕ) (after : Bool) (k : ℕ) (m : Flagged) → slice_get lines k ≡ Some m →
+    (line : Line) × (slice_get (classes_from number run index label after lines) k ≡ Some line) × IsOther line m
+alone-at [] number run index label after k m h = cc
+alone-at (n ∷ lines) number run index label after zero m h =
+    let same : n ≡ m = cc in (
+      record { number = number; bytes = n.bytes; class = class_at after n; run = run_at run (class_at after n); index = place_at index (class_at after n); label = label_at label (class_at after n) n.bytes },
+      refl,
+      (ap (λ (x : Flagged). x.bytes) same, λ alone. rw (ap (λ (x : Flagged). x.alone) same ∙ alone) refl),
+    )
+alone-at (n ∷ lines) number run index label after (suc k) m h =
+    let c : Class = class_at after n in
+    alone-at lines (suc number) (run_after run c) (place_after index c) (label_after label c n.bytes) (is_code c) k m h
 
 other-only : (c : Class) → is_other_class c ≡ true → (is_instruction c ≡ false) × (is_comment_class c ≡ false) × (is_pad_class c ≡ false)
 other-only Other is = (refl, refl, refl)

@@ -14,8 +14,6 @@ pub mod UpTo
 pub mod Owners
 pub mod FewBlocks
 pub mod KeptLines
-pub mod AllAnew
-pub mod MergedLines
 pub mod AloneLines
 pub mod ReadBack
 pub mod CharactersRead

@@ -1,4 +1,4 @@
--- The lines of a source, in order, and what is printed for them where each block is printed anew.
+-- The lines of a source, in order, and the blocks of an accepted one.
 use Rattle.std.proofs.Common.{◌≡◌, ◌≤◌, ◌<◌, ◌+◌, ◌&&◌, ◌||◌, ◌==◌, not, ℕ, zero, suc, Bool, true, false, if◌then◌else◌, Option, None, Some, List, [], ◌∷◌, ◌++◌, length, map, drop, refl, sym, ap, ap₂, ◌∙◌, subst, inl, inr, arith, append_assoc, eqb, nat_lt}
 use Rattle.std.specs.Prelude.{Result, Ok}
 use Rattle.std.proofs.Math.Bool.{and-false}
@@ -14,7 +14,6 @@ use Rattle.s66_line.specs.Block.{Entry, Block, line_of}
 use Rattle.s66_line.specs.Class.{is_instruction, is_code, ends_run}
 use Rattle.s66_source.specs.BlockParts.{all_of}
 use Rattle.s66_source.specs.Roles.{is_comment_class, is_pad_class, is_other_class, is_note_of, is_note, has_block, is_dropped, is_leading}
-use Rattle.s66_source.specs.Printed.{Placed, ArePlaced, report, instruction_lines, copied_line, copied_text, notes_text, block_text, text_of_lines, printed}
 use Rattle.s66_source.specs.Columns.{indented_lines, indents}
 use Rattle.s66_source.specs.declared.columns.Columns.TheVariants.{Usual}
 use Rattle.s66_line.specs.declared.class.Class.{Class}
@@ -76,23 +75,11 @@ Rising-after low (x ∷ xs) ys h = Rising-lower low (suc x.number) ys (omega (ar
 pub first-line : (l m : Line) (ls ms : List Line) → l ∷ ls ≡ m ∷ ms → (l ≡ m) × (ls ≡ ms)
 first-line l m ls ms h = (cc, cc)
 
--- ROLES, by the class
-
-pub instruction-not_copied : (all : List Line) (l : Line) (located : Bool) (n : Instr) → l.class ≡ Instruction located n → copied_text all l ≡ []
-instruction-not_copied all l located n stated = rw stated refl
-
 pub instructions-yes : (l : Line) (lines : List Line) → is_instruction l.class ≡ true → instructions (l ∷ lines) ≡ l ∷ instructions lines
 instructions-yes l lines stated = rw stated refl
 
 pub instructions-no : (l : Line) (lines : List Line) → is_instruction l.class ≡ false → instructions (l ∷ lines) ≡ instructions lines
 instructions-no l lines stated = rw stated refl
-
--- WHERE EACH BLOCK IS PRINTED ANEW
-
--- the first instruction of a block
-pub text-first : (all : List Line) (n : ℕ) (block : Block) (blocks : List Block) (p : Placed) (ps : List Placed) (l : Line) (lines : List Line) → line_of block 1 ≡ l.number →
-    text_of_lines all n (block ∷ blocks) (p ∷ ps) (l ∷ lines) ≡ block_text all n block p ++ text_of_lines all (suc n) blocks ps lines
-text-first all n block blocks p ps l lines same = rw (eq-eqb (line_of block 1) l.number same) refl
 
 -- A WHOLE SOURCE
 

@@ -11,7 +11,6 @@ pub mod Gives
 pub mod Pads
 pub mod Columns
 pub mod Replaced
-pub mod Merged
 pub mod Keeper
 pub mod Reader
 pub mod SourceReader

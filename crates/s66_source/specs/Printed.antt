@@ -1,4 +1,4 @@
--- To be believed: a source printed with its blocks in other orders.
+-- To be believed: what is printed of a block and of a line.
 use Rattle.std.specs.Prelude.{ℕ, ◌≤◌, ◌-◌, ◌==◌, suc, if◌then◌else◌, List, [], ◌∷◌, ◌++◌, length, replicate, codes, decimal, nat_lt, Option, None, Some}
 -- what `decimal` computes by
 unfoldable pub use Rattle.std.specs.Fmt.{digits}
@@ -69,26 +69,3 @@ copied_line line = body line.bytes ++ codes "\n"
 abbrev pub notes_text : Block → List Line → List ℕ
 notes_text block [] = []
 notes_text block (line ∷ lines) = (if is_note_of line block then copied_line line else []) ++ notes_text block lines
-
--- A SOURCE of these lines
-
--- its n-th block, from 1: the report, its notes, and its instructions in the given order
-abbrev pub block_text : List Line → ℕ → Block → Placed → List ℕ
-block_text all n block p = report n (length block.entries) p ++ notes_text block all ++ instruction_lines block block.label p.order
-
--- a line that is copied, and nothing for any other
-abbrev pub copied_text : List Line → Line → List ℕ
-copied_text all line = if is_copied all line then copied_line line else []
-
--- line by line: the text of the next block, which is the n-th, in the place of its first instruction, and else the line if it is
--- copied
-abbrev pub text_of_lines : List Line → ℕ → List Block → List Placed → List Line → List ℕ
-text_of_lines all n blocks ps [] = []
-text_of_lines all n (block ∷ blocks) (p ∷ ps) (line ∷ lines) =
-    if line_of block 1 == line.number then block_text all n block p ++ text_of_lines all (suc n) blocks ps lines
-    else (copied_text all line ++ text_of_lines all n (block ∷ blocks) (p ∷ ps) lines)
-text_of_lines all n blocks ps (line ∷ lines) = copied_text all line ++ text_of_lines all n blocks ps lines
-
--- a source with its blocks in these orders, one for each
-abbrev pub printed : Reading → List Placed → List ℕ
-printed source ps = text_of_lines (classed_lines source) 1 (blocks_of (classed_lines source)) ps (classed_lines source)

@@ -19,7 +19,7 @@ ghost use Rattle.s66_line.specs.Characters.{runs_on};
 ghost use Rattle.s66_line.specs.Class.{class_of, is_instruction};
 ghost use Rattle.s66_isa.specs.declared.limits.TheConstants.{BLOCK_LIMIT};
 ghost use Rattle.s66_source.specs.BlockParts.{AreParts};
-ghost use Rattle.s66_source.specs.Printed.{Placed, ArePlaced, instruction_lines, label_field, printed};
+ghost use Rattle.s66_source.specs.Printed.{Placed, instruction_lines, label_field};
 ghost use Rattle.s66_source.specs.ReadAgain.{AreComplete, AreGivenAgain};
 ghost use Rattle.s66_source.specs.Replaced.{AreGiven, owner, printed_in};
 ghost use Rattle.s66_source.specs.Roles.{is_note, is_note_of, is_dropped, is_copied, roles, lines_that, mixed_source, outside_source};
@@ -78,12 +78,6 @@ pub fn alone_law()
     ensures { (source : Reading) (k : ℕ) (m : Flagged) → slice_get (flagged_lines source) k ≡ Some m → m.alone ≡ true →
         (line : Line) × (slice_get (classed_lines source) k ≡ Some line) × (line.bytes ≡ m.bytes) ×
         (owner (classed_lines source) line ≡ 0) }
-{}
-
-/// Where no block stands, a source is printed as by its orders alone.
-pub fn none_stands_law()
-    ensures { (source : Reading) (blocks : List Block) (ps : List Placed) → source_of source ≡ Ok blocks →
-        ArePlaced blocks ps → printed_in false Usual source (map (λ (p : Placed). Some p) ps) ≡ printed source ps }
 {}
 
 /// An operation in the usual column is printed as without the option. A line whose operation keeps its column is read as the
@@ -249,9 +243,9 @@ pub fn block_examples()
 
 /// Sources printed: one with lines of each sort; one with comments and `NO`s around a block; one with a label on a `NO`; and one
 /// with two instructions exchanged, a label in column 2, a tab, carriage returns, and a bound alone.
-#[tactic(auto, unfolding(crate::specs::Printed::digits))]
+#[tactic(auto, unfolding(crate::specs::Replaced::digits))]
 pub fn printed_examples()
-    ensures mixed { printed (plain mixed_source) (record { order = 1 ∷ 2 ∷ []; source = 12; time = 12; bound = 12; splits = None } ∷ record { order = 1 ∷ []; source = 4; time = 4; bound = 4; splits = None } ∷ record { order = 1 ∷ []; source = 4; time = 4; bound = 4; splits = None } ∷ []) ≡
+    ensures mixed { printed_in false Usual (plain mixed_source) (Some (record { order = 1 ∷ 2 ∷ []; source = 12; time = 12; bound = 12; splits = None }) ∷ Some (record { order = 1 ∷ []; source = 4; time = 4; bound = 4; splits = None }) ∷ Some (record { order = 1 ∷ []; source = 4; time = 4; bound = 4; splits = None }) ∷ []) ≡
         codes "* TEST\n" ++
         codes "* BLOCK 1 COUNT 2 SOURCE 12 TIME 12 BEST\n" ++
         codes "* NOTE\n" ++
@@ -263,7 +257,7 @@ pub fn printed_examples()
         codes "* BLOCK 3 COUNT 1 SOURCE 4 TIME 4 BEST\n" ++
         codes "          BX1 X2\n" ++
         codes "          VFD 60/0\n" }
-    ensures outside { printed (plain outside_source) (record { order = 1 ∷ []; source = 4; time = 4; bound = 4; splits = None } ∷ []) ≡
+    ensures outside { printed_in false Usual (plain outside_source) (Some (record { order = 1 ∷ []; source = 4; time = 4; bound = 4; splits = None }) ∷ []) ≡
         codes "* BEFORE\n" ++
         codes "  NO\n" ++
         codes "  ZR X1,L\n" ++
@@ -271,11 +265,11 @@ pub fn printed_examples()
         codes "* BLOCK 1 COUNT 1 SOURCE 4 TIME 4 BEST\n" ++
         codes "          BX1 X2\n" ++
         codes "* AFTER\n" }
-    ensures label_on_a_pad { printed (plain (codes "LOOP NO  WAIT\n* LOADED\n  BX1 X2\n")) (record { order = 1 ∷ []; source = 4; time = 4; bound = 4; splits = None } ∷ []) ≡
+    ensures label_on_a_pad { printed_in false Usual (plain (codes "LOOP NO  WAIT\n* LOADED\n  BX1 X2\n")) (Some (record { order = 1 ∷ []; source = 4; time = 4; bound = 4; splits = None }) ∷ []) ≡
         codes "* LOADED\n" ++
         codes "* BLOCK 1 COUNT 1 SOURCE 4 TIME 4 BEST\n" ++
         codes "LOOP      BX1 X2\n" }
-    ensures exchanged { printed (plain (codes " LP       SA1    A1+B1   NEXT WORD\r\n\tBX6 X2 \r\r\n")) (record { order = 2 ∷ 1 ∷ []; source = 9; time = 8; bound = 7; splits = Some 3 } ∷ []) ≡
+    ensures exchanged { printed_in false Usual (plain (codes " LP       SA1    A1+B1   NEXT WORD\r\n\tBX6 X2 \r\r\n")) (Some (record { order = 2 ∷ 1 ∷ []; source = 9; time = 8; bound = 7; splits = Some 3 }) ∷ []) ≡
         codes "* BLOCK 1 COUNT 2 SOURCE 9 TIME 8 AT LEAST 7\n" ++
         codes "* SPLITS 3\n" ++
         codes " LP       BX6 X2\n" ++
@@ -299,10 +293,6 @@ pub fn printed_in_examples()
         codes "          BX1 X2\n" ++
         codes "          VFD 60/0\n" }
     ensures none { printed_in true Own (plain outside_source) [] ≡ outside_source }
-    ensures label_on_a_pad { printed_in false Usual (plain (codes "LOOP NO  WAIT\n* LOADED\n  BX1 X2\n")) (Some (record { order = 1 ∷ []; source = 4; time = 4; bound = 4; splits = None }) ∷ []) ≡
-        codes "* LOADED\n" ++
-        codes "* BLOCK 1 COUNT 1 SOURCE 4 TIME 4 BEST\n" ++
-        codes "LOOP      BX1 X2\n" }
 {}
 
 /// How many blanks come before an operation that keeps its column: after a label, after a tab alone, far behind a label, and in a line with
