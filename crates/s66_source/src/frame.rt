@@ -95,7 +95,8 @@ impl<'r, 's, 'a> Framer<'r, 's, 'a> {
     ghost use Rattle.s66_isa.specs.Lists.{every};
     ghost use Rattle.s66_line.specs.Fields.{lines_from};
     ghost use Rattle.s66_line.specs.declared.limits.TheConstants.{LINE_BYTES_LIMIT};
-    ghost use Rattle.s66_source.specs.Framer.{after_framed, begins_block, begins_with, first_part, flagged_next, framed, is_short, others, part_at};
+    ghost use Rattle.s66_source.specs.Framer.{after_framed, begins_block, begins_with, first_part, flagged_next, framed, is_short, part_at};
+    ghost use Rattle.s66_source.specs.Replaced.{others};
     ghost use Rattle.s66_source.specs.LeftAlone.{is_continued};
     ghost use Rattle.s66_source.specs.declared.limits.TheConstants.{SOURCE_LINES_LIMIT};
 
