@@ -9,6 +9,7 @@ use Rattle.s66_line.specs.Block.{instrs_of, Block}
 use Rattle.s66_model.specs.Answer.{source_time}
 use Rattle.s66_model.specs.LegalOrder.{IsLegal}
 use Rattle.s66_model.specs.Timing.{Problem, total_of}
+use Rattle.s66_model.specs.Tree.{splits}
 use Rattle.s66_time.specs.TimedOrder.{TimedOrder}
 use Rattle.s66_deep.specs.Orders.{IsGood}
 use Rattle.s66_cert.specs.Document.{Document, IsDocument}
@@ -20,7 +21,7 @@ use Rattle.s66_command.specs.declared.strategy.Strategy.{Strategy}
 use Rattle.s66_answer.specs.declared.answers.ByFacts.{ByFacts}
 use Rattle.s66_answer.specs.declared.answers.Candidate.{Candidate}
 use Rattle.s66_answer.specs.Answers.{IsEnough, document_under, problem_of}
-use Rattle.s66_answer.specs.Stored.{IsClaimed, IsShownBy, claimed, claimed_by, parts_by}
+use Rattle.s66_answer.specs.Stored.{IsClaimed, IsShownBy, claimed, claimed_by, parts_by, tree_splits}
 
 -- a candidate is a legal order with its total, no slower than the source order, which it is if it is as slow
 pub record IsCandidate (p : Profile) (block : Block) (c : Candidate) : Type 0 where
@@ -36,8 +37,8 @@ module _ (strategy : Strategy) (p : Profile) (block : Block) (c : Candidate) (e 
   same-document =
       subst (λ (d : Parts). document_of d ≡ document_under strategy.search.rule p block (claimed_by d s.splits)) (sym shown.document) refl
 
-  pub shown-claimed : strategy.deep ≡ true → IsCandidate p block c → IsEnough strategy.search (problem_of p block) (claimed s) → 2 * s.splits ≤ 7 * strategy.search.nodes → IsClaimed strategy p block s
-  shown-claimed deep is enough few =
+  pub shown-claimed : strategy.deep ≡ true → IsCandidate p block c → IsEnough strategy.search (problem_of p block) (claimed s) → tree_splits e ≤ s.splits → 2 * s.splits ≤ 7 * strategy.search.nodes → IsClaimed strategy p block s
+  shown-claimed deep is enough made few =
       let back : parts_by p block c.order.numbers c.time e ≡ s.document = sym shown.document in
       let whole : c.order ≡ record { block = instrs_of block; numbers = c.order.numbers } = ap (λ (instrs : List Instr). record { block = instrs; numbers = c.order.numbers }) is.of_block in
       record {
@@ -52,6 +53,7 @@ module _ (strategy : Strategy) (p : Profile) (block : Block) (c : Candidate) (e 
             source = subst (λ (d : Parts). d.time ≤ source_time (problem_of p block)) back is.within;
             first = subst (λ (d : Parts). source_time (problem_of p block) ≡ d.time → d.numbers ≡ numbers (instrs_of block)) back is.first;
             enough = enough;
+            splits = subst (λ (d : Parts). splits (document_of d).tree ≤ s.splits) back made;
             few = few;
           },
         );

@@ -67,7 +67,7 @@ IsSearched strategy b a =
 
 -- BY FACTS
 
--- it is best, and its tree has no more splits than a search may have, or it is no worse than what a search found
+-- it is best, and its tree has no more splits than a search may have, or it is no worse than some answer of a search of so many splits
 abbrev pub IsEnough : Options → Problem → Answer → Type 0
 IsEnough options b a =
     ((a.bound ≡ a.time) × (splits a.tree ≤ options.nodes))
@@ -85,6 +85,8 @@ pub record IsShown (options : Options) (p : Profile) (block : Block) (a : Answer
   pub source : a.time ≤ source_time (problem_of p block)
   pub first : source_time (problem_of p block) ≡ a.time → a.order ≡ numbers (instrs_of block)
   pub enough : IsEnough options (problem_of p block) a
+  -- the splits of its tree were made
+  pub splits : splits a.tree ≤ a.splits
   -- all searches made at most three and a half times as many splits as one may make
   pub few : 2 * a.splits ≤ 7 * options.nodes
 

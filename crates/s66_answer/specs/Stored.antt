@@ -32,6 +32,10 @@ AreBeside strategy n = (2 * n ≤ 5 * strategy.search.nodes) × (strategy.deep �
 
 -- FACT LINES
 
+-- how many splits the tree of what is to show a bound has
+abbrev pub tree_splits : EvidenceOf → ℕ
+tree_splits e = splits (tree_of_lines e.vertices)
+
 -- the document of an order that takes this time, and of what is to show a bound
 abbrev pub parts_by : Profile → Block → (order : List ℕ) (time : ℕ) → EvidenceOf → Parts
 parts_by p block order time e =
@@ -91,4 +95,4 @@ IsFor strategy p block (Shown s) = IsClaimed strategy p block s
 -- facts show that the answer's order is best, by a tree of no more splits than a search may have, or as much of the answer as its
 -- search did
 abbrev pub IsWorth : (nodes : ℕ) → AnswerOf → EvidenceOf → Type 0
-IsWorth nodes found e = ((e.bound ≡ (answer_of found).time) × (splits (tree_of_lines e.vertices) ≤ nodes)) ⊎ ((answer_of found).bound ≤ e.bound)
+IsWorth nodes found e = ((e.bound ≡ (answer_of found).time) × (tree_splits e ≤ nodes)) ⊎ ((answer_of found).bound ≤ e.bound)

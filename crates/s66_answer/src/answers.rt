@@ -10,7 +10,7 @@ ghost use Rattle.s66_model.specs.Answer.{source_time};
 ghost use Rattle.s66_model.specs.Timing.{total_of};
 ghost use Rattle.s66_answer.specs.Answers.{problem_of};
 ghost use Rattle.s66_answer.specs.SearchWithin.{IsSearchWithin};
-ghost use Rattle.s66_answer.specs.Stored.{AreBeside, IsFor, IsFound, IsSearchOf, IsShownBy, IsWorth};
+ghost use Rattle.s66_answer.specs.Stored.{AreBeside, IsFor, IsFound, IsSearchOf, IsShownBy, IsWorth, tree_splits};
 
 use crate::documents::{document_by, document_of, is_accepted};
 use s66_cert::{Document, Evidence, Tree};
@@ -254,6 +254,7 @@ fn shown_or_searched(
     evidence: Evidence,
 ) -> Result<Found, AllocError>
     requires problem { answer.problem ≡ problem_of profile.now block.now }
+    requires made { tree_splits evidence ≤ beside }
     ensures { (strategy : StrategyOf) → strategy.deep ≡ true → IsFound strategy profile.now block.now answer →
         AreBeside strategy beside → IsWorth strategy.search.nodes answer evidence →
         IfOk result (IsFor strategy profile.now block.now) }
@@ -283,6 +284,7 @@ fn found_or_shown(
     evidence: Evidence,
 ) -> Result<Found, AllocError>
     requires search { search.problem ≡ problem_of profile.now block.now }
+    requires made { tree_splits evidence ≤ beside }
     ensures { (strategy : StrategyOf) → strategy.deep ≡ true → IsSearchOf strategy profile.now block.now search.entry →
         AreBeside strategy beside → IfOk result (IsFor strategy profile.now block.now) }
 {
@@ -372,7 +374,7 @@ fn answer_by(
     requires within { IsSearchWithin strategy.search }
     requires search { IsSearchOf strategy profile.now block.now search }
     requires deep { strategy.deep ≡ true }
-    requires looked { IsLooked (problem_of profile.now block.now) strategy.search.nodes looked }
+    requires looked { IsLooked (problem_of profile.now block.now) strategy.search.nodes made looked }
     requires made { made ≤ strategy.search.nodes + strategy.search.nodes / 2 }
     ensures { IfOk result (IsFor strategy profile.now block.now) }
 {
@@ -423,7 +425,7 @@ fn in_fewer_lines(
     most: u32,
 ) -> Result<Found, AllocError>
     requires problem { answer.problem ≡ problem_of profile.now block.now }
-    requires looked { IsLooked (problem_of profile.now block.now) most looked }
+    requires looked { IsLooked (problem_of profile.now block.now) most beside looked }
     requires most { most ≤ answer.budget }
     ensures { (strategy : StrategyOf) → strategy.deep ≡ true → IsFound strategy profile.now block.now answer →
         AreBeside strategy beside → IfOk result (IsFor strategy profile.now block.now) }

@@ -14,9 +14,10 @@ pub record IsGood (b : Problem) (t : TimedOrder) : Type 0 where
   pub source : total_of b t.numbers ≤ source_time b
   pub first : source_time b ≡ total_of b t.numbers → t.numbers ≡ numbers b.block
 
--- a good order, and with it what is to show a bound, by a tree of at most this many splits
-pub record IsLooked (b : Problem) (most : ℕ) (l : Looked) : Type 0 where
+-- a good order, and with it what is to show a bound, by a tree of at most so many splits, and no more than all that were made
+pub record IsLooked (b : Problem) (most all : ℕ) (l : Looked) : Type 0 where
   pub best : IsGood b l.best
   pub source : l.source ≡ source_time b
   pub bound : l.evidence.bound ≤ total_of b l.best.numbers
+  pub made : splits (tree_of_lines l.evidence.vertices) ≤ all
   pub splits : splits (tree_of_lines l.evidence.vertices) ≤ most

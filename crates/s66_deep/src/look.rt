@@ -35,15 +35,15 @@ pub struct Look {
     pub splits: u32,
 }
 
-/// What is found, if a certificate may have it, with a tree of at most so many splits.
-fn fitting(best: Timed, source: u32, written: Written, most: u32) -> Option<Looked>
-    ensures { (b : Problem) → IsGood b best → source ≡ source_time b → IfSome result (IsLooked b most) }
+/// What is found, if a certificate may have it, with a tree of at most so many splits, all of which were made.
+fn fitting(best: Timed, source: u32, written: Written, most: u32, made: u32) -> Option<Looked>
+    ensures { (b : Problem) → IsGood b best → source ≡ source_time b → IfSome result (IsLooked b most made) }
 {
     let Written { bound, lines, tree } = written;
     if best.total() < bound {
         return None;
     }
-    let evidence = Evidence::new(bound, lines, tree, most)?;
+    let evidence = Evidence::new(bound, lines, tree, most.min(made))?;
     Some(Looked {
         best,
         source,
@@ -53,7 +53,8 @@ fn fitting(best: Timed, source: u32, written: Written, most: u32) -> Option<Look
 
 /// What is found of a block under a profile beyond an order of it that was found before: the best of this, the source order, and what
 /// beams and searches find that know facts; and fact lines and a tree of at most so many splits, by which a certificate can show a
-/// bound, as great as may be. For that at most half as many more are made. Whether the lines show the bound is for a checker to say.
+/// bound, as great as may be. For that at most half as many more are made, and the tree has no more than were made. Whether the lines show
+/// the bound is for a checker to say.
 ///
 /// If the lines are to be printed, those are left out that the bound doesn't need if a single leaf shows it; which these are takes time
 /// to find out.
@@ -69,7 +70,7 @@ pub fn look_at(
 ) -> Result<Look, AllocError>
     requires { first.now.problem ≡ record { block = instrs_of block.now; profile = profile.now } }
     ensures found { IfOk result (λ look. IfSome look.found
-        (IsLooked (record { block = instrs_of block.now; profile = profile.now }) most)) }
+        (IsLooked (record { block = instrs_of block.now; profile = profile.now }) most look.splits)) }
     ensures splits { IfOk result (λ look. look.splits ≤ most + most / 2) }
 {
     let written = source_order(block, profile);
@@ -90,7 +91,7 @@ pub fn look_at(
     } = search(&instance, &finder, best, most)?;
     let written = shown.written(alloc, &finder, is_printed)?;
     Ok(Look {
-        found: fitting(best, source, written, most),
+        found: fitting(best, source, written, most, splits),
         splits,
     })
 }

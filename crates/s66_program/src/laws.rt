@@ -58,9 +58,9 @@ pub fn ordered_again_law()
         TakePrintedTimes strategy p style only source text again }
 {}
 
-/// What is answered for a block of an accepted source, under any profile: a legal order with its exact total, and a bound of the totals of
-/// all legal orders. All searches for it make at most three and a half times as many splits as one may make, and without `--deep` no more than one. If
-/// the bound is below the total, a search spent all its splits.
+/// What is answered for a block of an accepted source, under any profile: a legal order with its exact total, a bound of the totals of all
+/// legal orders, and a number of splits: at most three and a half times as many as a search may make, without `--deep` no more than these,
+/// and no fewer if the bound is below the total.
 pub fn answered_law()
     ensures legal { (strategy : Strategy) (p : Profile) (block : Block) (a : Answer) → IsAnswer strategy p block a →
         IsLegal (instrs_of block) a.order }

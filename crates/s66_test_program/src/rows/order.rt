@@ -10,10 +10,12 @@ const TWO_DIVIDES: &str = "  FX1 X2/X3\n  FX4 X1+X5\n  FX1 X5/X6\n  FX6 X1*X2\n"
 
 /// No order takes less than 37, which is found by the last of four searches. With ten splits none of them comes to its end: they make 10,
 /// 10 for a tree, 5 to raise what it shows, and 10.
-const FOUR_SEARCHES: &str = "  BX4 X0*X0\n  SB2 B1+1\n  NX2 B1,X3\n  BX2 X0*X2\n  SA4 A7+B2\n  SX4 X5+B2\n  IX2 X5+X7\n  LX3 3\n  MX5 5\n  UX1 B2,X4\n  SB2 B0+1\n  UX4 B1,X1\n  IX0 X0+X7\n  CX6 X3\n  UX0 B2,X0\n  FX0 X5*X5\n";
+const FOUR_SEARCHES: &str =
+    "  BX4 X0*X0\n  SB2 B1+1\n  NX2 B1,X3\n  BX2 X0*X2\n  SA4 A7+B2\n  SX4 X5+B2\n  IX2 X5+X7\n  LX3 3\n  MX5 5\n  UX1 B2,X4\n  SB2 B0+1\n  UX4 B1,X1\n  IX0 X0+X7\n  CX6 X3\n  UX0 B2,X0\n  FX0 X5*X5\n";
 
 /// Of the orders that take 16, the least, one alone has only two pairs in reverse. The first beams find it.
-const NARROW_BEAMS: &str = "  MX6 25\n  SA4 A4+B2\n  SX1 X7+B7\n  SB4 B6+1\n  PX0 B5,X1\n  PX0 B1,X1\n  UX5 B4,X5\n";
+const NARROW_BEAMS: &str =
+    "  MX6 25\n  SA4 A4+B2\n  SX1 X7+B7\n  SB4 B6+1\n  PX0 B5,X1\n  PX0 B1,X1\n  UX5 B4,X5\n";
 
 /// Every order takes 13. Two pairs show that, and neither of them alone; that 1 comes before 5 is found too, and not needed.
 const TWO_PAIRS: &str = "  FX6 X5*X6\n  PX2 B5,X0\n  CX3 X4\n  ZX0 X0\n  MX4 57\n";
@@ -153,15 +155,7 @@ pub(crate) const ROWS: &[Row] = &[
     ),
     (
         "a certificate with no fact line that its leaf can do without",
-        &[
-            "s66",
-            "prove",
-            "--workers",
-            "1",
-            "--deep",
-            "--nodes",
-            "0",
-        ],
+        &["s66", "prove", "--workers", "1", "--deep", "--nodes", "0"],
         TWO_PAIRS,
         0,
         "S66 CERTIFICATE 4\nPROFILE 3 3 4 4 3 10 29 8 3 8 1 1 1 1 2 1 2\nBLOCK 5\nI FX6 X5*X6\nI PX2 B5,X0\nI CX3 X4\nI ZX0 X0\nI MX4 57\nTIME 13\nBOUND 13\nORDER 2 1 3 4 5\nF 2 5\nF 5 4\nE 2\nEND\n",

@@ -8,10 +8,13 @@ use Rattle.s66_cert.specs.DocumentParts.{Parts, tree_of_lines}
 use Rattle.s66_cert.specs.Evidence.{EvidenceOf}
 use Rattle.s66_answer.specs.declared.answers.Candidate.{Candidate}
 use Rattle.s66_answer.specs.Answers.{IsEnough, problem_of}
-use Rattle.s66_answer.specs.Stored.{IsShownBy, claimed}
+use Rattle.s66_answer.specs.Stored.{IsShownBy, claimed, tree_splits}
 use Rattle.s66_answer.proofs.SearchAnswers.{beside-deep}
 use Rattle.s66_answer.proofs.ByFacts.{IsCandidate, as-good, as-long, shown-claimed}
 use Rattle.s66_answer.proofs.answers.answer_by.Goals as goal
+
+pub found_or_shown-requires-clause-made : goal.found_or_shown-requires-clause-made
+found_or_shown-requires-clause-made c = omega (arith, c.saturating_add-beside.ensures, c.requires.looked.made, c.ranges.made)
 
 pub returns-then-total-bound : goal.returns-then-total-bound
 returns-then-total-bound c =
@@ -61,7 +64,8 @@ returns-in-Some c =
     let enough : IsEnough strategy.search b (claimed s) =
     inl (omega (arith, bound, c.bound-bound.ensures, time, total, same, first, c.if-total-bound.false), omega (arith, counted, is.splits))
     in
+    let made : tree_splits evidence ≤ s.splits = omega (arith, shown.splits, c.saturating_add.ensures, c.saturating_add-beside.ensures, is.made, c.ranges.made) in
     let all : 2 * s.splits ≤ 7 * strategy.search.nodes =
     omega (arith, shown.splits, c.saturating_add.ensures, c.splits.ensures, c.seek.ensures.search.2, c.saturating_add-beside.ensures, c.requires.made, c.in_ok-found.ensures.splits)
     in
-    shown-claimed strategy p block candidate evidence s shown c.requires.deep right enough all
+    shown-claimed strategy p block candidate evidence s shown c.requires.deep right enough made all

@@ -59,7 +59,7 @@ returns-in-Some c =
       | inr more ↦ inr (a, is, omega (arith, time, c.time.ensures.value), omega (arith, bound, more), omega (arith, shown.splits, c.saturating_add.ensures, c.splits.ensures.value, c.splits.ensures.few))
     ]
     in
-    shown-claimed strategy p block candidate c.args.evidence s shown deep right enough (omega (arith, shown.splits, c.saturating_add.ensures, c.splits.ensures.value, is.within, beside.0))
+    shown-claimed strategy p block candidate c.args.evidence s shown deep right enough (omega (arith, shown.splits, c.saturating_add.ensures, c.requires.made, c.ranges.beside)) (omega (arith, shown.splits, c.saturating_add.ensures, c.splits.ensures.value, is.within, beside.0))
 
 pub returns-in-None : goal.returns-in-None
 returns-in-None c = λ strategy deep for beside worth. c.by_search.ensures strategy c.args.profile.now c.args.block.now for beside
