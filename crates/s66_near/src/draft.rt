@@ -1,9 +1,10 @@
 //! An order that is changed step by step.
 
-ghost use Rattle.std.specs.Prelude.{◌≡◌, ◌+◌, ◌<◌, ◌≤◌, IfSome, length};
+ghost use Rattle.std.specs.Prelude.{◌≡◌, ◌+◌, ◌<◌, ◌≤◌, IfSome, get_or, length};
 ghost use Rattle.s66_isa.specs.declared.limits.TheConstants.{BLOCK_LIMIT};
+ghost use Rattle.s66_near.specs.Reversed.{reversed};
 
-use crate::pairs::exchange;
+use crate::pairs::{exchange, pairs_in_reverse};
 use arrayvec::ArrayVec;
 use s66_isa::BLOCK_LIMIT;
 use s66_node::{Walk, copy_of};
@@ -21,6 +22,7 @@ pub(crate) struct Draft {
     total: u32,
     /// How often others are timed still, at most.
     tries: u32,
+    ghost counted: { pairs ≡ reversed numbers.items },
 }
 
 /// What a list of numbers is.
@@ -32,12 +34,13 @@ enum Tried {
 }
 
 impl Draft {
-    pub(crate) fn new(numbers: &[u8], pairs: u32, total: u32) -> Draft
+    pub(crate) fn new(numbers: &[u8], total: u32) -> Draft
         requires { length numbers.now ≤ BLOCK_LIMIT }
+        ensures { result.numbers.items ≡ numbers.now }
     {
         Draft {
             numbers: copy_of(numbers),
-            pairs,
+            pairs: pairs_in_reverse(numbers),
             total,
             tries: TRIES_LIMIT,
         }
@@ -63,8 +66,10 @@ impl Draft {
     fn take(&mut self, walk: &mut Walk, numbers: &[u8], pairs: u32) -> bool
         requires length { length numbers.now ≡ length self.old.numbers.items }
         requires few { length numbers.now ≤ BLOCK_LIMIT }
+        requires counted { pairs ≡ reversed numbers.now }
         ensures problem { walk.new.problem ≡ walk.old.problem }
         ensures length { length self.new.numbers.items ≡ length self.old.numbers.items }
+        ensures nearer { self.new.pairs ≤ self.old.pairs }
     {
         if self.pairs <= pairs || self.tries == 0 {
             return true;
@@ -85,6 +90,7 @@ impl Draft {
         requires { from < length self.old.numbers.items }
         ensures problem { walk.new.problem ≡ walk.old.problem }
         ensures length { length self.new.numbers.items ≡ length self.old.numbers.items }
+        ensures nearer { self.new.pairs ≤ self.old.pairs }
     {
         let mut numbers = copy_of(self.numbers.as_slice());
         let mut pairs = self.pairs;
@@ -101,6 +107,7 @@ impl Draft {
         requires { from < length self.old.numbers.items }
         ensures problem { walk.new.problem ≡ walk.old.problem }
         ensures length { length self.new.numbers.items ≡ length self.old.numbers.items }
+        ensures nearer { self.new.pairs ≤ self.old.pairs }
     {
         let mut numbers = copy_of(self.numbers.as_slice());
         let mut pairs = self.pairs;
@@ -113,7 +120,8 @@ impl Draft {
     }
 
     fn place_of(&self, number: u8) -> Option<usize>
-        ensures { IfSome result (λ place. place < length self.now.numbers.items) }
+        ensures place { IfSome result (λ place. place < length self.now.numbers.items) }
+        ensures number { IfSome result (λ place. get_or self.now.numbers.items place 0 ≡ number) }
     {
         for place in 0..self.numbers.len() {
             if self.numbers[place] == number {
@@ -127,6 +135,7 @@ impl Draft {
     fn settle(&mut self, walk: &mut Walk, number: u8)
         ensures problem { walk.new.problem ≡ walk.old.problem }
         ensures length { length self.new.numbers.items ≡ length self.old.numbers.items }
+        ensures nearer { self.new.pairs ≤ self.old.pairs }
     {
         let Some(place) = self.place_of(number) else {
             return;
@@ -140,7 +149,8 @@ impl Draft {
 
     /// Settles each number, the lowest first.
     pub(crate) fn settle_all(&mut self, walk: &mut Walk)
-        ensures { walk.new.problem ≡ walk.old.problem }
+        ensures problem { walk.new.problem ≡ walk.old.problem }
+        ensures nearer { self.new.pairs ≤ self.old.pairs }
     {
         for index in 0..self.numbers.len() {
             self.settle(walk, (index + 1) as u8);

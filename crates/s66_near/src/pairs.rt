@@ -37,14 +37,18 @@ pub(crate) fn pairs_in_reverse(numbers: &[u8]) -> u32
 
 /// Exchanges the numbers at a place and the next; returns how many pairs stand in reverse then, if so many did before.
 pub(crate) fn exchange(numbers: &mut [u8], place: usize, pairs: u32) -> u32
-    requires { place + 1 < length numbers.old }
-    ensures { length numbers.new ≡ length numbers.old }
+    requires place { place + 1 < length numbers.old }
+    requires few { length numbers.old ≤ BLOCK_LIMIT }
+    ensures length { length numbers.new ≡ length numbers.old }
+    ensures pairs { pairs ≡ reversed numbers.old → result ≡ reversed numbers.new }
 {
-    let was_reverse = numbers[place + 1] < numbers[place];
+    let (first, second) = (numbers[place], numbers[place + 1]);
     numbers.swap(place, place + 1);
-    if was_reverse {
+    if second < first {
         pairs.saturating_sub(1)
-    } else {
+    } else if first < second {
         pairs.saturating_add(1)
+    } else {
+        pairs
     }
 }

@@ -1,5 +1,9 @@
-use Rattle.std.proofs.Common.{◌≡◌}
+use Rattle.std.proofs.Common.{◌≡◌, ◌≤◌}
+use Rattle.s66_near.specs.Reversed.{reversed}
 use Rattle.s66_near.proofs.nearest.settled.Given as goal
 
 abbrev pub invariant-loop : goal.invariant-loop
-invariant-loop l = l.walk.problem ≡ l.fn.walk.problem
+invariant-loop l = record {
+  problem : l.walk.problem ≡ l.fn.walk.problem;
+  nearer : l.draft.pairs ≤ reversed l.timed.numbers;
+}

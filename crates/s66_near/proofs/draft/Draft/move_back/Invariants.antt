@@ -1,4 +1,5 @@
-use Rattle.std.proofs.Common.{◌≡◌, length}
+use Rattle.std.proofs.Common.{◌≡◌, ◌≤◌, length}
+use Rattle.s66_near.specs.Reversed.{reversed}
 use Rattle.s66_near.proofs.draft.Draft.move_back.Given as goal
 
 abbrev pub invariant-loop-place : goal.invariant-loop-place
@@ -7,4 +8,6 @@ invariant-loop-place l =
       problem : l.walk.problem ≡ l.fn.walk.problem;
       as_many : length l.self.numbers.items ≡ length l.fn.self.numbers.items;
       as_long : length l.numbers.items ≡ length l.fn.self.numbers.items;
+      counted : l.pairs ≡ reversed l.numbers.items;
+      nearer : l.self.pairs ≤ l.fn.self.pairs;
     }

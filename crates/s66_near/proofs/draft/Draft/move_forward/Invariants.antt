@@ -1,4 +1,5 @@
-use Rattle.std.proofs.Common.{◌≡◌, length}
+use Rattle.std.proofs.Common.{◌≡◌, ◌≤◌, length}
+use Rattle.s66_near.specs.Reversed.{reversed}
 use Rattle.s66_near.proofs.draft.Draft.move_forward.Given as goal
 
 abbrev pub invariant-loop-step : goal.invariant-loop-step
@@ -7,4 +8,6 @@ invariant-loop-step l =
       problem : l.walk.problem ≡ l.fn.walk.problem;
       as_many : length l.self.numbers.items ≡ length l.fn.self.numbers.items;
       as_long : length l.numbers.items ≡ length l.fn.self.numbers.items;
+      counted : l.pairs ≡ reversed l.numbers.items;
+      nearer : l.self.pairs ≤ l.fn.self.pairs;
     }

@@ -1,5 +1,8 @@
-use Rattle.std.proofs.Common.{◌≡◌}
+use Rattle.std.proofs.Common.{◌≡◌, ◌≤◌}
 use Rattle.s66_near.proofs.draft.Draft.settle_all.Given as goal
 
 abbrev pub invariant-loop-index : goal.invariant-loop-index
-invariant-loop-index l = l.walk.problem ≡ l.fn.walk.problem
+invariant-loop-index l = record {
+  problem : l.walk.problem ≡ l.fn.walk.problem;
+  nearer : l.self.pairs ≤ l.fn.self.pairs;
+}
