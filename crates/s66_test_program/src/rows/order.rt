@@ -152,4 +152,18 @@ pub(crate) const ROWS: &[Row] = &[
         0,
         "* BLOCK 1 COUNT 2 SOURCE 39 TIME 39 BEST\n* SPLITS 0\n          CX1 X2\n          FX3 X4/X5\n",
     ),
+    (
+        "settled: each to where the fewest pairs stand in reverse",
+        ORDER,
+        "  SA1 A4+B3\n  SA5 A5+B6\n  SB7 B5+1\n  LX3 3\n  SB4 B2+1\n  SA3 A3+B4\n  SA2 A3+B1\n  SA7 A7+B1\n  NX6 X6\n",
+        0,
+        "* BLOCK 1 COUNT 9 SOURCE 21 TIME 17 BEST\n          SA1 A4+B3\n          LX3 3\n          SB4 B2+1\n          SA5 A5+B6\n          SA3 A3+B4\n          SA2 A3+B1\n          SB7 B5+1\n          NX6 X6\n          SA7 A7+B1\n",
+    ),
+    (
+        "settled past places that are no nearer",
+        ORDER,
+        "  FX5 X0+X5\n  FX5 X0*X2\n  NX1 X5\n  BX7 X5\n  NX0 X3\n  FX6 X6*X3\n",
+        0,
+        "* BLOCK 1 COUNT 6 SOURCE 31 TIME 19 BEST\n          FX5 X0+X5\n          FX5 X0*X2\n          BX7 X5\n          NX0 X3\n          FX6 X6*X3\n          NX1 X5\n",
+    ),
 ];
