@@ -136,8 +136,8 @@ fn print_end<S: Sink>(page: &mut Page, writer: &mut S) -> Result<(), WriteError>
     page.write(writer)
 }
 
-/// Writes a document, in time linear in its text, some thousand bytes a call of the sink; nothing is allocated. If the sink
-/// fails, a beginning of the text was written.
+/// Writes a document; if the sink fails, a beginning of the text. It takes time linear in the text, calls the sink for some thousand
+/// bytes each, and allocates nothing.
 pub fn print<S: Sink>(document: &Document, writer: &mut S) -> Result<(), WriteError>
     requires { (S.seen writer.old).failures < 2 ^ 64 - 1 }
     ensures { Written (S.seen writer.old) (S.seen writer.new) (document_text (document_of document.now)) result }
