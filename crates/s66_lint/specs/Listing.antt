@@ -1,7 +1,7 @@
 -- To be believed: what `lint` prints of a source: a line for each finding, in the order of the lines of the source; with `--cut`, those
 -- alone that aren't marked.
-use Rattle.std.specs.Prelude.{◌≡◌, ℕ, suc, Bool, true, false, ◌&&◌, not, if◌then◌else◌, List, [], ◌∷◌, ◌++◌, codes, decimal, nat_le}
-use Rattle.s66_isa.specs.Lists.{tally}
+use Rattle.std.specs.Prelude.{◌≡◌, ℕ, suc, Bool, true, false, ◌&&◌, not, if◌then◌else◌, List, [], ◌∷◌, ◌++◌, codes, decimal, length, min, nat_le, nat_lt}
+use Rattle.s66_line.specs.Fields.{lines_of}
 use Rattle.s66_source.specs.LeftAlone.{Reading}
 use Rattle.s66_source.specs.declared.limits.TheConstants.{SOURCE_LINES_LIMIT}
 use Rattle.s66_lint.specs.Marks.{alone_lines, is_marked}
@@ -52,12 +52,16 @@ listing cut alone (f ∷ found) = (if is_listed cut alone f then finding_line al
 
 -- of lines from number first to number last, in their order
 abbrev pub is_in_order : ℕ → ℕ → List Finding → Bool
-is_in_order first last [] = nat_le first last
-is_in_order first last (f ∷ found) = nat_le first f.number && is_in_order f.number last found
+is_in_order first last [] = true
+is_in_order first last (f ∷ found) = nat_le first f.number && nat_le f.number last && is_in_order f.number last found
 
--- FINDINGS of a source: in the order of its lines, of which none after the first one past the limit is read
-abbrev pub AreFindings : List Finding → Type 0
-AreFindings found = is_in_order 1 (suc SOURCE_LINES_LIMIT) found ≡ true
+-- FINDINGS of a source: of its lines, in their order; none after the first one past the limit is read
+abbrev pub AreFindings : (text : List ℕ) → List Finding → Type 0
+AreFindings text found = is_in_order 1 (min (suc SOURCE_LINES_LIMIT) (length (lines_of text))) found ≡ true
+
+-- a text has more lines than a source may have
+abbrev pub has_more : (text : List ℕ) → Bool
+has_more text = nat_lt SOURCE_LINES_LIMIT (length (lines_of text))
 
 -- what stands last if the source has too many lines
 abbrev pub past_line : (has_more : Bool) → List ℕ
@@ -67,8 +71,5 @@ past_line true = codes "TOO MANY LINES\n"
 -- the text lists some findings of a source
 abbrev pub IsFindings : (source : Reading) (text : List ℕ) → Type 0
 IsFindings source text =
-    (found : List Finding) × AreFindings found × ((has_more : Bool) × (text ≡ listing source.cut (alone_lines source.text) found ++ past_line has_more))
-
--- so many of some findings of a source are listed
-abbrev pub AreCounted : (source : Reading) (count : ℕ) → Type 0
-AreCounted source count = (found : List Finding) × AreFindings found × (count ≡ tally (is_listed source.cut (alone_lines source.text)) found)
+    (found : List Finding) × AreFindings source.text found
+    × (text ≡ listing source.cut (alone_lines source.text) found ++ past_line (has_more source.text))

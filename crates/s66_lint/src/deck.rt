@@ -7,7 +7,7 @@ use crate::operand::is_before;
 use crate::run::Runs;
 use crate::words::{Span, Words};
 use s66_line::body_of;
-use s66_source::{SOURCE_LINES_LIMIT, is_switch};
+use s66_source::{SOURCE_LINES_LIMIT, cut_line, is_switch};
 use std::alloc::{AllocError, Global};
 
 /// The lines of a source up to the limit.
@@ -18,39 +18,26 @@ pub(crate) struct Lines<'a> {
     pub(crate) past: Option<usize>,
 }
 
-/// The text without the newline at its end.
-fn without_last_newline(text: &[u8]) -> &[u8] {
-    match text {
-        [rest @ .., b'\n'] => rest,
-        _ => text,
-    }
-}
-
-fn is_newline(byte: &u8) -> bool {
-    *byte == b'\n'
-}
-
 impl<'a> Lines<'a> {
-    ghost use Rattle.std.specs.Prelude.{◌≤◌, vec_len, IfOk};
+    ghost use Rattle.std.specs.Prelude.{◌≡◌, ◌≤◌, length, min, is_some, vec_len, IfOk};
+    ghost use Rattle.s66_line.specs.Fields.{lines_of};
     ghost use Rattle.s66_source.specs.declared.limits.TheConstants.{SOURCE_LINES_LIMIT};
+    ghost use Rattle.s66_lint.specs.Listing.{has_more};
 
     /// Reads a text, of which `letters` is the same in upper case; some lines may be refused.
     pub(crate) fn of(
         alloc: Global,
         text: &'a [u8],
         letters: &'a [u8],
-        may_refuse: bool,
     ) -> Result<Lines<'a>, AllocError>
-        ensures { IfOk result (λ lines. vec_len lines.lines ≤ SOURCE_LINES_LIMIT) }
+        ensures lines { IfOk result (λ lines. vec_len lines.lines ≤ min SOURCE_LINES_LIMIT (length (lines_of text.now))) }
+        ensures past { IfOk result (λ lines. is_some lines.past ≡ has_more text.now) }
     {
         let mut lines = Vec::new(alloc);
         let mut after = false;
         let mut is_off = false;
-        if text.is_empty() {
-            return Ok(Lines { lines, past: None });
-        }
-        let rows = without_last_newline(text).split(is_newline);
-        for (row, upper) in rows.zip(without_last_newline(letters).split(is_newline)) {
+        let mut rest = text;
+        while let Some((row, more)) = cut_line(rest) {
             if lines.len() >= SOURCE_LINES_LIMIT as usize {
                 return Ok(Lines {
                     lines,
@@ -58,11 +45,14 @@ impl<'a> Lines<'a> {
                 });
             }
             is_off = is_off || is_switch(body_of(row), b"OFF");
+            let at = text.len().saturating_sub(rest.len());
+            let upper = letters.get(at..at.saturating_add(row.len())).unwrap_or(row);
             let mut line = Line::new(is_off, row, upper);
-            line.is_refused = may_refuse && line.is_refused_after(after, row);
+            line.is_refused = line.is_refused_after(after, row);
             after = line.may_continue();
             is_off = is_off && !is_switch(line.body, b"ON");
             lines.push(line)?;
+            rest = more;
         }
         Ok(Lines { lines, past: None })
     }

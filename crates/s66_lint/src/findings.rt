@@ -1,18 +1,17 @@
-ghost use Rattle.std.specs.Prelude.{ℕ, suc, ◌≡◌, ◌≤◌, ◌++◌, Bool, true, false, List, length, IfOk, OnOk};
+ghost use Rattle.std.specs.Prelude.{ℕ, suc, ◌≡◌, ◌≤◌, ◌++◌, true, length, min, nat_lt, is_some, IfOk, OnOk};
+ghost use Rattle.s66_line.specs.Fields.{lines_of};
 ghost use Rattle.s66_source.specs.declared.limits.TheConstants.{SOURCE_LINES_LIMIT};
-ghost use Rattle.s66_isa.specs.Lists.{tally};
-ghost use Rattle.s66_lint.specs.Listing.{AreCounted, AreFindings, IsFindings, is_in_order, is_listed, past_line};
-ghost use Rattle.s66_lint.specs.Marks.{alone_lines};
+ghost use Rattle.s66_lint.specs.Listing.{AreFindings, IsFindings, has_more, is_in_order, past_line};
 
 use crate::cut::alone_lines;
 use crate::deck::{Deck, Lines};
 use crate::finding::{Finding, Harm, LineFinding, Rule};
 use crate::line::Line;
-use crate::listing::{count_listed, push_listing};
+use crate::listing::push_listing;
 use crate::rules::Rules;
 use crate::tracker::Tracker;
 use s66_line::LINE_BYTES_LIMIT;
-use s66_source::{Redefined, SOURCE_LINES_LIMIT};
+use s66_source::{Redefined, SOURCE_LINES_LIMIT, cut_line};
 use std::alloc::{AllocError, Global};
 
 /// What was found in the line of this number, after what was found in those before it.
@@ -21,6 +20,7 @@ fn push_findings<'a>(
     number: u32,
     findings: &[LineFinding<'a>],
 ) -> Result<(), AllocError>
+    requires { 1 ≤ number }
     ensures { (before : ℕ) → before ≤ number → is_in_order 1 before all.old.items ≡ true →
         OnOk result (is_in_order 1 number all.new.items ≡ true) }
 {
@@ -37,8 +37,9 @@ fn push_findings<'a>(
 
 /// That the first line past the limit is too long, if there is one and it is, by its length.
 fn push_long(all: &mut Vec<Finding>, past: Option<usize>) -> Result<(), AllocError>
-    ensures { (before : ℕ) → before ≤ suc SOURCE_LINES_LIMIT → is_in_order 1 before all.old.items ≡ true →
-        OnOk result (AreFindings all.new.items) }
+    ensures { (before last : ℕ) → before ≤ min SOURCE_LINES_LIMIT last → is_in_order 1 before all.old.items ≡ true →
+        is_some past ≡ nat_lt SOURCE_LINES_LIMIT last →
+        OnOk result (is_in_order 1 (min (suc SOURCE_LINES_LIMIT) last) all.new.items ≡ true) }
 {
     let too_long = LineFinding {
         rule: Rule::TooLong,
@@ -50,7 +51,7 @@ fn push_long(all: &mut Vec<Finding>, past: Option<usize>) -> Result<(), AllocErr
         Some(length) if length > LINE_BYTES_LIMIT => {
             push_findings(all, SOURCE_LINES_LIMIT + 1, &[too_long])
         }
-        _ => push_findings(all, SOURCE_LINES_LIMIT + 1, &[]),
+        _ => Ok(()),
     }
 }
 
@@ -62,8 +63,9 @@ fn found_in<'a>(
     past: Option<usize>,
     alone: &[bool],
 ) -> Result<Vec<Finding<'a>>, AllocError>
-    requires { length lines.now ≤ SOURCE_LINES_LIMIT }
-    ensures { IfOk result (λ all. AreFindings all.items) }
+    requires lines { length lines.now ≤ min SOURCE_LINES_LIMIT (length (lines_of text.now)) }
+    requires past { is_some past ≡ has_more text.now }
+    ensures { IfOk result (λ all. AreFindings text.now all.items) }
 {
     let redefined = Redefined::of(alloc, text)?;
     let rules = Rules::of(alloc, Deck::of(alloc, lines, alone)?, redefined)?;
@@ -92,13 +94,36 @@ fn push_past(out: &mut Vec<u8>, has_more: bool) -> Result<(), AllocError>
     out.extend_from_slice(b"TOO MANY LINES\n")
 }
 
+/// How many lines a text has.
+fn count_lines(text: &[u8]) -> usize
+    ensures { result ≡ length (lines_of text.now) }
+{
+    let mut count = 0;
+    let mut rest = text;
+    while let Some((_, more)) = cut_line(rest) {
+        count += 1;
+        rest = more;
+    }
+    count
+}
+
+/// What `lint` lists of a source.
+#[derive(Drop)]
+pub struct Listed {
+    /// A line for each finding.
+    pub text: Vec<u8>,
+    /// How many lines that are.
+    pub lines: usize,
+}
+
 /// A line for each finding in a source, which may be any text, in the order of its lines, and of the first `SOURCE_LINES_LIMIT`
-/// lines alone. With `cut` those are left out that `--cut` leaves alone.
-pub fn findings_in(alloc: Global, text: &[u8], cut: bool) -> Result<Vec<u8>, AllocError>
-    ensures { IfOk result (λ findings. IsFindings (record { cut = cut; text = text.now }) findings.items) }
+/// lines alone; and how many these are. With `cut` those are left out that `--cut` leaves alone.
+pub fn findings_in(alloc: Global, text: &[u8], cut: bool) -> Result<Listed, AllocError>
+    ensures text { IfOk result (λ listed. IsFindings (record { cut = cut; text = text.now }) listed.text.items) }
+    ensures lines { IfOk result (λ listed. listed.lines ≡ length (lines_of listed.text.items)) }
 {
     let letters = text.to_ascii_uppercase(alloc)?;
-    let lines = Lines::of(alloc, text, letters.as_slice(), true)?;
+    let lines = Lines::of(alloc, text, letters.as_slice())?;
     let alone = alone_lines(alloc, text)?;
     let all = found_in(
         alloc,
@@ -110,33 +135,6 @@ pub fn findings_in(alloc: Global, text: &[u8], cut: bool) -> Result<Vec<u8>, All
     let mut out = Vec::new(alloc);
     push_listing(&mut out, alone.as_slice(), all.as_slice(), cut)?;
     push_past(&mut out, lines.past.is_some())?;
-    Ok(out)
-}
-
-/// How many findings are listed without `--cut`.
-fn count_all(all: &[Finding]) -> usize
-    ensures { (alone : List Bool) → result ≡ tally (is_listed false alone) all.now }
-{
-    all.len()
-}
-
-/// How many lines `findings_in` has for a source that is accepted, with `--cut` or without. So without it no line is refused.
-pub fn count_findings(alloc: Global, text: &[u8], cut: bool) -> Result<usize, AllocError>
-    ensures { IfOk result (λ count. AreCounted (record { cut = cut; text = text.now }) count) }
-{
-    let letters = text.to_ascii_uppercase(alloc)?;
-    let lines = Lines::of(alloc, text, letters.as_slice(), cut)?;
-    if !cut {
-        let all = found_in(alloc, text, lines.lines.as_slice(), lines.past, &[])?;
-        return Ok(count_all(all.as_slice()));
-    }
-    let alone = alone_lines(alloc, text)?;
-    let all = found_in(
-        alloc,
-        text,
-        lines.lines.as_slice(),
-        lines.past,
-        alone.as_slice(),
-    )?;
-    Ok(count_listed(alone.as_slice(), all.as_slice()))
+    let lines = count_lines(out.as_slice());
+    Ok(Listed { text: out, lines })
 }

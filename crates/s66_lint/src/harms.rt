@@ -89,7 +89,7 @@ fn harmed_runs(alloc: Global, count: usize, ranges: &[RunRange]) -> Result<Vec<b
 /// alone.
 pub fn harms_in(alloc: Global, text: &[u8]) -> Result<Harms, AllocError> {
     let letters = text.to_ascii_uppercase(alloc)?;
-    let lines = Lines::of(alloc, text, letters.as_slice(), true)?;
+    let lines = Lines::of(alloc, text, letters.as_slice())?;
     let alone = alone_lines(alloc, text)?;
     let lines = lines.lines.as_slice();
     let redefined = Redefined::of(alloc, text)?;

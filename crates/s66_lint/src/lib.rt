@@ -44,7 +44,7 @@ mod word;
 mod words;
 
 pub use finding::{Finding, Rule};
-pub use findings::{count_findings, findings_in};
+pub use findings::{Listed, findings_in};
 pub use guard::{Guarded, guard_text};
 pub use guarded_laws::{guard_kept_law, guarded_examples, guarded_law, unguarded_law};
 pub use laws::{switched_examples, switched_law};

@@ -1,5 +1,4 @@
 ghost use Rattle.std.specs.Prelude.{◌≡◌, ◌++◌, codes, if◌then◌else◌, true, OnOk};
-ghost use Rattle.s66_isa.specs.Lists.{tally};
 ghost use Rattle.s66_lint.specs.Listing.{after_blank, finding_line, is_listed, listing, rule_words};
 ghost use Rattle.s66_lint.specs.Marks.{is_alone_at, is_marked};
 
@@ -117,17 +116,4 @@ pub(crate) fn push_listing(
         }
     }
     Ok(())
-}
-
-/// How many findings are listed with `--cut`. `alone` says of each line whether that leaves it alone.
-pub(crate) fn count_listed(alone: &[bool], all: &[Finding]) -> usize
-    ensures { result ≡ tally (is_listed true alone.now) all.now }
-{
-    let mut count = 0;
-    for found in all {
-        if is_listed(alone, found, true) {
-            count += 1;
-        }
-    }
-    count
 }

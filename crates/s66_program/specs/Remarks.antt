@@ -1,13 +1,14 @@
 -- To be believed: what is told of a source after a success, and what standard error gets of that.
-use Rattle.std.specs.Prelude.{ℕ, ◌≡◌, ◌==◌, ◌&&◌, Bool, true, false, if◌then◌else◌, List, [], ◌∷◌, ◌++◌, Result, Ok, codes, decimal}
+use Rattle.std.specs.Prelude.{ℕ, ◌≡◌, ◌==◌, ◌&&◌, Bool, true, false, if◌then◌else◌, List, [], ◌∷◌, ◌++◌, Result, Ok, codes, decimal, length}
 use Rattle.std.specs.Option.{is_some}
 use Rattle.s66_device.specs.Devices.{IsUntouched, Writer}
 use Rattle.s66_line.specs.Block.{Block}
+use Rattle.s66_line.specs.Fields.{lines_of}
 use Rattle.s66_source.specs.declared.error.SourceError.{SourceError}
 use Rattle.s66_source.specs.LeftAlone.{Reading}
 use Rattle.s66_source.specs.Source.{source_of}
 use Rattle.s66_lint.specs.Guarded.{IsGuard}
-use Rattle.s66_lint.specs.Listing.{AreCounted}
+use Rattle.s66_lint.specs.Listing.{IsFindings}
 use Rattle.s66_command.specs.declared.command.Command.{Command}
 use Rattle.s66_command.specs.declared.command.Asked.{Asked}
 use Rattle.s66_command.specs.declared.command.Asked.TheVariants.{Guard}
@@ -69,9 +70,9 @@ abbrev pub has_no_block : Result (List Block) SourceError → Bool
 has_no_block (Ok []) = true
 has_no_block result = false
 
--- how many lines `lint` lists of a source, with `--cut` or without, or nothing of that
+-- how many lines a text has that `lint` may write for a source, with `--cut` or without, or nothing of that
 abbrev pub IsCount : (prints_orders : Bool) (source : Reading) (listed : ℕ) → Type 0
-IsCount true source listed = AreCounted source listed
+IsCount true source listed = (text : List ℕ) × IsFindings source text × (listed ≡ length (lines_of text))
 IsCount false source listed = listed ≡ 0
 
 -- how many regions of an input `guard` put between switches in the text that it wrote, and how many lines they have; of others none

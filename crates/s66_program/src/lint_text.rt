@@ -36,7 +36,7 @@ pub(crate) fn lint_output(alloc: Global, input: &[u8], cut: bool) -> Result<Outp
     ensures { IfOk result (λ output. IsLintOutput
         (record { cut = cut; text = input.now }) output.text.items output.status) }
 {
-    let text = findings_in(alloc, input, cut)?;
+    let text = findings_in(alloc, input, cut)?.text;
     let status = lint_status(is_refused(alloc, input, cut)?, text.as_slice());
     Ok(Output { text, status })
 }

@@ -8,7 +8,7 @@ use arrayvec::ArrayString;
 use itoa::Buffer;
 use s66_answer::{Output, Status};
 use s66_command::Command;
-use s66_lint::count_findings;
+use s66_lint::findings_in;
 use s66_source::Source;
 use std::alloc::{AllocError, Global};
 
@@ -176,7 +176,7 @@ fn listed_of(alloc: Global, command: Command, input: &[u8]) -> Result<usize, All
     if !prints_orders(command) {
         return Ok(0);
     }
-    count_findings(alloc, input, command.reads_cut())
+    Ok(findings_in(alloc, input, command.reads_cut())?.lines)
 }
 
 /// What is told after a command has written its text for a source, which was read from this input.

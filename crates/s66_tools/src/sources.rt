@@ -65,8 +65,8 @@ pub fn printed(alloc: Global) -> Result<Answered, AllocError> {
     Ok([text.len(), 0, 0, 0])
 }
 
-/// How many bytes the findings of a source are.
+/// How many bytes and lines the findings of a source are.
 pub fn found(alloc: Global) -> Result<Answered, AllocError> {
     let found = findings_in(alloc, SLIPS.as_bytes(), false)?;
-    Ok([found.len(), 0, 0, 0])
+    Ok([found.text.len(), found.lines, 0, 0])
 }

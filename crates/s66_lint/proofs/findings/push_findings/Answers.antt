@@ -9,4 +9,4 @@ loop-finding-init c = λ before below h. order-later 1 before c.args.number c.ar
 pub loop-finding-preserved : goal.loop-finding-preserved
 loop-finding-preserved c = λ before below h.
     subst (λ found. is_in_order 1 c.args.number found ≡ true) (sym c.in_ok-push.ensures.items)
-    (order-with 1 c.args.number c.loop-finding.all.items _ refl (c.loop-finding.invariant before below h))
+    (order-with 1 c.args.number c.loop-finding.all.items _ c.requires refl (c.loop-finding.invariant before below h))
