@@ -1,9 +1,8 @@
 -- The lines of a tree at their prefixes: what holds of each leaf, how long the prefixes are, and how many lines there are.
-use Rattle.std.proofs.Common.{ℕ, zero, suc, ◌+◌, ◌≡◌, ◌≤◌, Bool, true, false, List, [], ◌∷◌, ◌++◌, Some, slice_get, length, refl, ap, sym, subst, inl, inr, arith, length-append, ◌∙◌}
+use Rattle.std.proofs.Common.{ℕ, zero, suc, ◌≡◌, ◌≤◌, Bool, false, List, [], ◌∷◌, ◌++◌, Some, slice_get, length, refl, ap, sym, subst, inl, inr, arith, length-append, ◌∙◌}
 use Rattle.std.proofs.lemmas.Bool.{or_parts}
 use Rattle.s66_isa.specs.declared.instr.Instr.{Instr}
 use Rattle.s66_isa.specs.Lists.{Among, some_of}
-use Rattle.s66_model.specs.LegalOrder.{IsIncomplete}
 use Rattle.s66_model.specs.Tree.{Tree, Alone, Parted, Siblings, NoMore, Unsplit, Split, Vertex, AtTerminal, AtSplit, SiblingsHold, TreeHolds, flat, flat_siblings}
 use Rattle.s66_model.specs.DominatedLeaves.{Ending}
 use Rattle.s66_moments.proofs.Tails.{split-among}
@@ -151,8 +150,13 @@ siblings-count (Unsplit e siblings) prefix [] = omega arith
 siblings-count (Unsplit e siblings) prefix (n ∷ ns) = omega (arith, siblings-count siblings prefix ns)
 siblings-count (Split numbers sub siblings) prefix [] = omega arith
 siblings-count (Split numbers sub siblings) prefix (n ∷ ns) =
-    omega (arith, siblings-count sub (prefix ++ n ∷ []) numbers, siblings-count siblings prefix ns,
-    length-append (siblings_placed (prefix ++ n ∷ []) numbers sub) (siblings_placed prefix ns siblings), length-append (flat_siblings sub) (flat_siblings siblings))
+    omega (
+      arith,
+      siblings-count sub (prefix ++ n ∷ []) numbers,
+      siblings-count siblings prefix ns,
+      length-append (siblings_placed (prefix ++ n ∷ []) numbers sub) (siblings_placed prefix ns siblings),
+      length-append (flat_siblings sub) (flat_siblings siblings),
+    )
 
 pub tree-count : (tree : Tree Ending) → length (tree_placed [] tree) ≤ length (flat tree)
 tree-count (Alone e) = omega arith

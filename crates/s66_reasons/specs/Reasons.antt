@@ -121,7 +121,7 @@ left_row d after ns =
 -- the first is known to stand before the second, which is placed: so this is no faster order
 abbrev pub turned_text : Document → (first second : ℕ) → List ℕ
 turned_text d m n =
-    (codes "      " ++ instruction d m ++ codes " stands before ") ++ (instruction d n ++ codes " in a faster order")
+    codes "      " ++ instruction d m ++ codes " stands before " ++ (instruction d n ++ codes " in a faster order")
     ++ by_words (pairs_of d m n) ++ codes "\n"
 
 -- A LEAF

@@ -25,11 +25,7 @@ use s66_replay::Prefix;
 use std::alloc::AllocError;
 
 /// The row of a whole order.
-fn push_whole(
-    out: &mut Vec<u8>,
-    document: &Document,
-    prefix: &Prefix,
-) -> Result<(), AllocError>
+fn push_whole(out: &mut Vec<u8>, document: &Document, prefix: &Prefix) -> Result<(), AllocError>
     requires { prefix.now.problem ≡ problem_of (document_of document.now) }
     ensures { OnOk result (out.new.items ≡ out.old.items ++
         row_text (whole_row (document_of document.now) prefix.now.numbers)) }
@@ -57,12 +53,7 @@ fn push_path(out: &mut Vec<u8>, known: &KnownPaths<'_>, n: u8) -> Result<(), All
 }
 
 /// By which fact lines m stands before n, which is placed.
-fn push_turned(
-    out: &mut Vec<u8>,
-    known: &KnownPaths<'_>,
-    m: u8,
-    n: u8,
-) -> Result<(), AllocError>
+fn push_turned(out: &mut Vec<u8>, known: &KnownPaths<'_>, m: u8, n: u8) -> Result<(), AllocError>
     requires m { IsNumber (problem_of (document_of known.now)) m }
     requires n { IsNumber (problem_of (document_of known.now)) n }
     ensures { OnOk result (out.new.items ≡ out.old.items ++ turned_text (document_of known.now) m n) }
@@ -149,10 +140,8 @@ fn push_bounding(
         TreeLine::Load(kind) => push_load(out, document, prefix, kind),
         TreeLine::Parcels => push_parcels(out, document, prefix),
         TreeLine::Split(_) | TreeLine::Dominated(_) => Ok(()),
-        TreeLine::Next(_)
-        | TreeLine::Turned(..)
-        | TreeLine::LoadFrom(..)
-        | TreeLine::AtLine(_) => unreachable!(),
+        TreeLine::Next(_) | TreeLine::Turned(..) | TreeLine::LoadFrom(..) | TreeLine::AtLine(_) =>
+            unreachable!(),
     }
 }
 

@@ -63,7 +63,7 @@ pub(crate) fn push_parcels(
     requires { prefix.now.problem ≡ problem_of (document_of document.now) }
     ensures { OnOk result (out.new.items ≡ out.old.items ++
         rows_text (map (last_row (document_of document.now) prefix.now.numbers)
-            (remaining prefix.now.problem.block prefix.now.numbers))) }
+        (remaining prefix.now.problem.block prefix.now.numbers))) }
 {
     let next = next(prefix.points());
     let parcels = remaining_parcels(prefix);

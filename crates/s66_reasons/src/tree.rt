@@ -88,10 +88,8 @@ pub(crate) fn is_factual(line: &TreeLine<'_>) -> bool
         | TreeLine::Load(_)
         | TreeLine::Parcels
         | TreeLine::Dominated(_) => false,
-        TreeLine::Next(_)
-        | TreeLine::Turned(..)
-        | TreeLine::AtLine(_)
-        | TreeLine::LoadFrom(..) => true,
+        TreeLine::Next(_) | TreeLine::Turned(..) | TreeLine::AtLine(_) | TreeLine::LoadFrom(..) =>
+            true,
     }
 }
 

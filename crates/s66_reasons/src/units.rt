@@ -104,12 +104,7 @@ fn push_unit(out: &mut Vec<u8>, kind: Kind, copies: u32) -> Result<(), AllocErro
 }
 
 /// No instruction that remains needs the units of a kind, where `slot` is the next.
-fn push_no_need(
-    out: &mut Vec<u8>,
-    slot: u32,
-    kind: Kind,
-    copies: u32,
-) -> Result<(), AllocError>
+fn push_no_need(out: &mut Vec<u8>, slot: u32, kind: Kind, copies: u32) -> Result<(), AllocError>
     ensures { OnOk result (out.new.items ≡ out.old.items ++ no_need_words slot kind copies) }
 {
     let none: &[u8] = if slot == 0 { b"no" } else { b"no other" };

@@ -3,7 +3,6 @@ use Rattle.std.proofs.lemmas.Result.{IfOk-equal}
 use Rattle.s66_cert.specs.DocumentParts.{Parts, document_of}
 use Rattle.s66_reasons.specs.Words.{instruction}
 use Rattle.s66_reasons.specs.LongestPaths.{by_words, pairs_of}
-use Rattle.s66_reasons.specs.Reasons.{turned_text}
 use Rattle.s66_reasons.proofs.Texts.{joined}
 use Rattle.s66_reasons.proofs.leaf.push_turned.Goals as goal
 
@@ -18,6 +17,5 @@ returns c =
     let two = c.in_ok-push_around-2.ensures ∙ ap (λ (p : Parts). c.push_around.new.out.items ++ (instruction (document_of p) c.args.n ++ codes " in a faster order")) c.known.view_is in
     let to_by = c.in_ok-push_by.ensures ∙ ap (λ k. c.push_around-2.new.out.items ++ by_words k) c.pairs_of.ensures in
     let ended : OnOk c.extend_from_slice.result (c.extend_from_slice.new.self.items ≡ c.push_by.new.out.items ++ codes "\n") = search rules in
-    let text : c.push_by.new.out.items ++ codes "\n" ≡ out ++ turned_text d c.args.m c.args.n =
-    ap (λ xs. xs ++ codes "\n") to_by ∙ append_assoc c.push_around-2.new.out.items by (codes "\n") ∙ joined out _ _ first second (by ++ codes "\n") one two in
-    IfOk-equal c.extend_from_slice.result c.extend_from_slice.new.self.items (c.push_by.new.out.items ++ codes "\n") (out ++ turned_text d c.args.m c.args.n) ended text
+    let text = joined out _ _ (first ++ second) by (codes "\n") (two ∙ ap (λ xs. xs ++ second) one ∙ append_assoc out first second) to_by in
+    IfOk-equal c.extend_from_slice.result _ _ _ ended text

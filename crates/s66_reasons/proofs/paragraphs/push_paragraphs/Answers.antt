@@ -1,4 +1,4 @@
-use Rattle.std.proofs.Common.{rules, ◌^◌, ℕ, ◌≡◌, ◌≤◌, ◌<◌, ◌+◌, ◌-◌, ◌++◌, ◌∙◌, [], ◌∷◌, List, ap, sym, subst, drop, length, arith}
+use Rattle.std.proofs.Common.{rules, ◌^◌, ℕ, ◌<◌, ◌+◌, ◌++◌, ◌∙◌, [], List, ap, sym, subst, arith}
 use Rattle.std.proofs.lemmas.List.{append-nil, drop_all}
 use Rattle.std.proofs.lemmas.Option.{slice_get_within}
 use Rattle.s66_isa.specs.Lists.{Among}

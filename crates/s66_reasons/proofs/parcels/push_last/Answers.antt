@@ -7,7 +7,7 @@ use Rattle.s66_model.specs.Leaves.{if_last, tail}
 use Rattle.s66_cert.specs.DocumentParts.{document_of}
 use Rattle.s66_checker.specs.Verdict.{problem_of}
 use Rattle.s66_reasons.specs.Words.{in_four}
-use Rattle.s66_reasons.specs.Reasons.{if_last_words, last_slot, slot_after}
+use Rattle.s66_reasons.specs.Reasons.{if_last_words, last_slot}
 use Rattle.s66_reasons.proofs.Texts.{row-pushed}
 use Rattle.s66_reasons.proofs.parcels.push_last.Goals as goal
 

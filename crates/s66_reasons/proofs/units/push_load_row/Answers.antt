@@ -1,9 +1,8 @@
 use Rattle.std.proofs.Common.{ℕ, ◌≡◌, ◌++◌, ◌∙◌, List, OnOk, codes, ap, append_assoc, rules}
 use Rattle.std.proofs.lemmas.Result.{IfOk-equal}
-use Rattle.s66_model.specs.Timing.{Problem, copies, next, points_of}
+use Rattle.s66_model.specs.Timing.{Problem, copies, next}
 use Rattle.s66_model.specs.Leaves.{load}
 use Rattle.s66_cert.specs.DocumentParts.{document_of}
-use Rattle.s66_checker.specs.Verdict.{problem_of}
 use Rattle.s66_reasons.specs.Words.{in_four, longest_use}
 use Rattle.s66_reasons.specs.Reasons.{after_words, load_words, numbers_of, slot_after, work, work_before}
 use Rattle.s66_reasons.proofs.Texts.{row-pushed}
@@ -26,7 +25,7 @@ returns c =
     let said : Problem → ℕ → ℕ → ℕ → List ℕ → List ℕ =
     λ (b : Problem) one many most (ns : List ℕ). load_words d one kind (copies b kind) many most ns ++ after_words many (work_before b at kind) one in
     let words : load_words d slot kind c.copies-copies.result total c.longest_use-most.result given ++ after_words total (work_before p at kind) slot
-        ≡ said p (slot_after p at) (work p at kind) (longest_use p (numbers_of p at kind)) (numbers_of p at kind) =
+    ≡ said p (slot_after p at) (work p at kind) (longest_use p (numbers_of p at kind)) (numbers_of p at kind) =
     ap (λ k. load_words d slot kind k total c.longest_use-most.result given ++ after_words total (work_before p at kind) slot) c.copies-copies.ensures.value
     ∙ ap (λ k. said p k total c.longest_use-most.result given) (c.next-slot.ensures.value ∙ ap next c.points.ensures.value)
     ∙ ap (λ k. said p (slot_after p at) k c.longest_use-most.result given) c.remaining_work-total.ensures.value
