@@ -6,7 +6,7 @@ use Rattle.s66_line.specs.declared.class.Class.{Class}
 use Rattle.s66_line.specs.declared.class.Class.TheVariants.{Comment, Other, Refused, Pad, Instruction}
 use Rattle.s66_source.specs.LeftAlone.{Flagged, Reading, class_at, flagged_lines}
 use Rattle.s66_source.specs.Replaced.{begun, owner}
-use Rattle.s66_source.specs.Roles.{has_block, is_comment_class, is_dropped, is_leading, is_note, is_other_class, is_pad_class}
+use Rattle.s66_source.specs.Roles.{has_block, is_comment_class, is_leading, is_other_class, is_pad_class}
 use Rattle.s66_source.specs.Source.{Line, blocks_of, classed_lines, classes_from, label_after, label_at, place_after, place_at, run_after, run_at}
 use Rattle.s66_source.proofs.Owners.{plain-notes}
 

@@ -1,5 +1,5 @@
 -- Printing a source line by line is the definition.
-use Rattle.std.proofs.Common.{◌≡◌, ◌≢◌, ◌≤◌, ◌<◌, ◌+◌, ◌-◌, ◌&&◌, ◌||◌, ◌==◌, ℕ, zero, suc, Bool, true, false, true≢false, if◌then◌else◌, Option, None, Some, List, [], ◌∷◌, ◌++◌, codes, drop, get_or, length, map, nat_le, nat_lt, slice_get, take, refl, sym, ap, ap₂, ◌∙◌, subst, inl, inr, arith, append_assoc}
+use Rattle.std.proofs.Common.{◌≡◌, ◌≢◌, ◌≤◌, ◌<◌, ◌+◌, ◌-◌, ◌||◌, ◌==◌, ℕ, zero, suc, Bool, true, false, true≢false, if◌then◌else◌, Option, None, Some, List, [], ◌∷◌, ◌++◌, codes, drop, get_or, length, map, nat_le, nat_lt, slice_get, take, refl, sym, ap, ap₂, ◌∙◌, subst, inl, inr, arith, append_assoc}
 use Rattle.std.specs.Prelude.{Ok}
 use Rattle.std.proofs.lemmas.Bool.{cases_lt, eq-eqb, eqb-true, le-ltb, lt-ltb, ltb-false, ne_eqb}
 use Rattle.std.proofs.lemmas.List.{append-nil, length-map, length-take, take_all}
@@ -10,14 +10,13 @@ use Rattle.s66_line.specs.Fields.{body, lines_of}
 use Rattle.s66_line.specs.declared.class.Class.{Class}
 use Rattle.s66_line.specs.declared.class.Class.TheVariants.{Comment, Other, Refused, Pad, Instruction}
 use Rattle.s66_line.specs.declared.limits.TheConstants.{LINE_BYTES_LIMIT}
-use Rattle.s66_source.specs.BlockParts.{all_of}
 use Rattle.s66_source.specs.Columns.{bytes_on, indent, indents}
-use Rattle.s66_source.specs.Keeper.{IsPassed, Keeper, Noted, after_noted, bytes_left, first_of, is_instruction_next, is_next, is_on, itself, last_of, noted_text, owner_by, passed_after, passed_at, placed_of, text_left, up_to}
+use Rattle.s66_source.specs.Keeper.{IsPassed, Keeper, Noted, after_noted, bytes_left, first_of, is_instruction_next, is_next, itself, last_of, noted_text, owner_by, passed_after, passed_at, placed_of, text_left, up_to}
 use Rattle.s66_source.specs.LeftAlone.{Reading, at_first, flagged_lines, redefined_by}
 use Rattle.s66_source.specs.Printed.{Placed, copied_line, notes_text}
 use Rattle.s66_source.specs.Replaced.{AreGiven, anew_text, begins, begun, line_text, owner, replaced, text_for, texts_of}
-use Rattle.s66_source.specs.Roles.{has_block, is_comment_class, is_dropped, is_leading, is_note, is_note_of, is_pad_class, lines_that}
-use Rattle.s66_source.specs.Source.{Line, block_of, blocks_of, classed_lines, entry_of, instructions, operand_refusal, parts_of, refusal_at, source_of}
+use Rattle.s66_source.specs.Roles.{has_block, is_comment_class, is_dropped, is_leading, is_note, is_note_of, lines_that}
+use Rattle.s66_source.specs.Source.{Line, block_of, blocks_of, classed_lines, entry_of, instructions, operand_refusal, parts_of, source_of}
 use Rattle.s66_source.specs.declared.columns.Columns.{Columns}
 use Rattle.s66_source.specs.declared.error.SourceError.{SourceError}
 use Rattle.s66_source.specs.declared.error.SourceError.TheVariants.{LineTooLong, TooLarge}
@@ -29,7 +28,7 @@ use Rattle.s66_source.proofs.LineLaw.{Rising, last_number, line_of-last, none-at
 use Rattle.s66_source.proofs.Owners.{IsSource, among-map, among-some, begins-instruction, behind-part, between, blocks-rise, from-on, instruction-part, is-source, last-line, number-among, numbers-rise, one-line, own-part, owner-is, pad-alone, part-bounds, part-line, some-among}
 use Rattle.s66_source.proofs.PrintedLines.{Ordered, accepted-is, bytes-classed, first-line, run_behind}
 use Rattle.s66_source.proofs.SoFar.{notes-past, plain-note}
-use Rattle.s66_source.proofs.UpTo.{Rises, Rises-lower, all-up, next-is, none-up, up-all, up-few, up-next, up-some}
+use Rattle.s66_source.proofs.UpTo.{Rises, all-up, next-is, none-up, up-all, up-few, up-next, up-some}
 
 -- THE LINES THAT ARE LEFT
 

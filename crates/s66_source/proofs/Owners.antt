@@ -1,11 +1,10 @@
 -- Of which block each line of an accepted source is.
-use Rattle.std.proofs.Common.{◌≡◌, ◌≤◌, ◌<◌, ◌+◌, ◌&&◌, ◌||◌, ◌==◌, not, ℕ, zero, suc, Bool, true, false, true≢false, if◌then◌else◌, List, [], ◌∷◌, ◌++◌, None, length, map, nat_le, nat_lt, refl, sym, ap, ap₂, ◌∙◌, subst, inl, inr, arith, eqb}
+use Rattle.std.proofs.Common.{◌≡◌, ◌≤◌, ◌<◌, ◌&&◌, ◌||◌, ◌==◌, ℕ, zero, suc, Bool, true, false, true≢false, if◌then◌else◌, List, [], ◌∷◌, ◌++◌, None, length, map, nat_le, nat_lt, refl, sym, ap, ap₂, ◌∙◌, subst, inl, inr, arith, eqb}
 use Rattle.std.specs.Prelude.{◌⊎◌, Ok}
 use Rattle.std.specs.List.{filter}
-use Rattle.std.proofs.Math.Bool.{and-false}
 use Rattle.std.proofs.lemmas.Bool.{cases_lt, eq-eqb, eqb-true, le-leb, leb-true, le-ltb, lt-leb, lt-ltb, ltb-true, ne_eqb}
 use Rattle.s66_isa.specs.Lists.{Among, some_of}
-use Rattle.s66_line.specs.Block.{Block, Entry, line_of}
+use Rattle.s66_line.specs.Block.{Block, line_of}
 use Rattle.s66_line.specs.Class.{ends_run, is_instruction}
 use Rattle.s66_line.specs.declared.class.Class.{Class}
 use Rattle.s66_line.specs.declared.class.Class.TheVariants.{Comment, Other, Refused, Pad, Instruction}
@@ -15,7 +14,7 @@ use Rattle.s66_source.specs.LeftAlone.{Reading, flagged_lines}
 use Rattle.s66_source.specs.Replaced.{begins, begun, owner}
 use Rattle.s66_source.specs.Roles.{has_block, is_comment_class, is_dropped, is_leading, is_note, is_note_of, is_pad_class}
 use Rattle.s66_source.specs.Source.{Line, block_of, blocks_of, classed_lines, entry_of, instructions, operand_refusal, parts_of, refusal, source_of}
-use Rattle.s66_source.proofs.LineLaw.{Rising, Rising-behind, Rising-lower, last_number, line_of-last, no_refusal, operand-none, rising-instructions}
+use Rattle.s66_source.proofs.LineLaw.{Rising, Rising-behind, last_number, line_of-last, no_refusal, operand-none, rising-instructions}
 use Rattle.s66_source.proofs.PartsLaw.{parts}
 use Rattle.s66_source.proofs.PrintedLines.{Ordered, Rising-after, Rising-ordered, of-instructions, ordered-classed, run_behind, run_behind-le}
 use Rattle.s66_source.proofs.UpTo.{Rises, Rises-lower, none-on, none-up, up-first}

@@ -1,33 +1,22 @@
 -- The lines of a source, in order, and the blocks of an accepted one.
-use Rattle.std.proofs.Common.{◌≡◌, ◌≤◌, ◌<◌, ◌+◌, ◌&&◌, ◌||◌, ◌==◌, not, ℕ, zero, suc, Bool, true, false, if◌then◌else◌, Option, None, Some, List, [], ◌∷◌, ◌++◌, length, map, drop, refl, sym, ap, ap₂, ◌∙◌, subst, inl, inr, arith, append_assoc, eqb, nat_lt}
+use Rattle.std.proofs.Common.{◌≡◌, ◌≤◌, ◌+◌, ℕ, suc, Bool, true, false, if◌then◌else◌, Option, None, Some, List, [], ◌∷◌, ◌++◌, length, map, refl, sym, ap, ◌∙◌, subst, inl, inr, arith, nat_lt}
 use Rattle.std.specs.Prelude.{Result, Ok}
-use Rattle.std.proofs.Math.Bool.{and-false}
-use Rattle.std.proofs.lemmas.Bool.{ne_eqb, eq-eqb, lt-ltb, ltb-false}
-use Rattle.std.proofs.lemmas.List.{append-nil}
-use Rattle.s66_isa.specs.Lists.{Among, some_of}
-use Rattle.s66_isa.specs.declared.instr.Instr.{Instr}
-use Rattle.s66_isa.proofs.Lists.{among-rest}
+use Rattle.std.proofs.lemmas.Bool.{ltb-false}
+use Rattle.s66_isa.specs.Lists.{Among}
 use Rattle.s66_line.specs.Fields.{lines_of}
 use Rattle.s66_source.specs.LeftAlone.{Reading, Flagged, class_at, at_first, flagged_lines, redefined_by}
-use Rattle.s66_source.specs.Source.{Line, run_after, place_after, label_after, classes_from, classed_lines, refusal, refusal_at, operand_refusal, instructions, parts_of, entry_of, block_of, blocks_of, source_of}
-use Rattle.s66_line.specs.Block.{Entry, Block, line_of}
+use Rattle.s66_source.specs.Source.{Line, run_after, place_after, label_after, classes_from, classed_lines, refusal, operand_refusal, instructions, blocks_of, source_of}
+use Rattle.s66_line.specs.Block.{Block}
 use Rattle.s66_line.specs.Class.{is_instruction, is_code, ends_run}
-use Rattle.s66_source.specs.BlockParts.{all_of}
-use Rattle.s66_source.specs.Roles.{is_comment_class, is_pad_class, is_other_class, is_note_of, is_note, has_block, is_dropped, is_leading}
-use Rattle.s66_source.specs.Columns.{indented_lines, indents}
-use Rattle.s66_source.specs.declared.columns.Columns.TheVariants.{Usual}
 use Rattle.s66_line.specs.declared.class.Class.{Class}
-use Rattle.s66_line.specs.declared.class.Class.TheVariants.{Comment, Other, Refused, Pad, Instruction}
 use Rattle.s66_line.specs.declared.limits.TheConstants.{LINE_BYTES_LIMIT}
 use Rattle.s66_source.specs.declared.limits.TheConstants.{SOURCE_LINES_LIMIT}
 use Rattle.s66_source.proofs.PadsLaw.{run_at-le}
 use Rattle.s66_source.specs.declared.error.SourceError.{SourceError}
 use Rattle.s66_source.specs.declared.error.SourceError.TheVariants.{LineTooLong, TooLarge}
-use Rattle.s66_source.proofs.PartsLaw.{parts}
 use Rattle.s66_source.proofs.ReaderBlocks.{Gives-accepted}
 use Rattle.s66_source.proofs.FlaggedLines.{length-flagged}
-use Rattle.s66_source.proofs.IndentedLines.{usual-indents}
-use Rattle.s66_source.proofs.LineLaw.{no_refusal, neither, operand-none, Rising, Rising-lower, rising-instructions, last_number, Rising-behind, outside}
+use Rattle.s66_source.proofs.LineLaw.{no_refusal, neither, Rising, Rising-lower}
 
 -- LINES IN ORDER: numbers that rise by one, runs that do not fall
 

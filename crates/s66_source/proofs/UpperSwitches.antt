@@ -11,7 +11,7 @@ use Rattle.s66_line.proofs.UpperCase.{length-upper, same-comment, same-continues
 use Rattle.s66_source.proofs.ReadBack.{class_of_body}
 use Rattle.s66_source.specs.Counts.{counting_text, is_covering}
 use Rattle.s66_source.proofs.Directives.{same-directive, same-text}
-use Rattle.s66_source.specs.LeftAlone.{Flagged, after_body, after_directive, after_operation, directive_cover, has_operation, with_directive, after_line, class_at, is_alone, is_continued, is_directive, is_switch, is_off_switch, is_on_switch, flagged_from, with_operation, is_doubtful, distance, is_far, redefined_by, is_held}
+use Rattle.s66_source.specs.LeftAlone.{Flagged, after_body, after_directive, after_operation, directive_cover, has_operation, with_directive, after_line, class_at, is_alone, is_continued, is_directive, is_switch, is_off_switch, is_on_switch, flagged_from, with_operation, is_doubtful, distance, is_far, is_held}
 use Rattle.s66_source.specs.LeftAlone.{Standing}
 use Rattle.s66_source.specs.Redefined.{Redefined, is_redefined}
 use Rattle.s66_source.proofs.RedefinedCase.{redefined-upper}

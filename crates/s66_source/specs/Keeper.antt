@@ -1,5 +1,5 @@
 -- Used by contracts within the crate alone: a source that is printed line by line.
-use Rattle.std.specs.Prelude.{◌≡◌, ◌<◌, ◌==◌, ℕ, zero, suc, Bool, true, false, if◌then◌else◌, List, [], ◌∷◌, ◌++◌, codes, drop, get_or, length, map, nat_le, nat_lt, slice_get, Option, None, Some, Ok}
+use Rattle.std.specs.Prelude.{◌≡◌, ◌<◌, ◌==◌, ℕ, zero, suc, Bool, true, false, if◌then◌else◌, List, [], ◌∷◌, ◌++◌, codes, drop, get_or, length, map, nat_lt, slice_get, Option, None, Some, Ok}
 use Rattle.s66_isa.specs.Lists.{tally}
 use Rattle.s66_line.specs.Block.{Block, line_of}
 use Rattle.s66_line.specs.Fields.{body}

@@ -1,13 +1,12 @@
 -- To be believed: what is printed of a block and of a line.
-use Rattle.std.specs.Prelude.{ℕ, ◌≤◌, ◌-◌, ◌==◌, suc, if◌then◌else◌, List, [], ◌∷◌, ◌++◌, length, replicate, codes, decimal, nat_lt, Option, None, Some}
+use Rattle.std.specs.Prelude.{ℕ, ◌≤◌, ◌-◌, ◌==◌, if◌then◌else◌, List, [], ◌∷◌, ◌++◌, length, replicate, codes, decimal, nat_lt, Option, None, Some}
 -- what `decimal` computes by
 unfoldable pub use Rattle.std.specs.Fmt.{digits}
 use Rattle.s66_isa.specs.Lists.{Among}
 use Rattle.s66_line.specs.Fields.{body, trim, is_trailing}
-use Rattle.s66_source.specs.Source.{Line, blocks_of, classed_lines}
-use Rattle.s66_line.specs.Block.{Block, line_of, bytes_of}
-use Rattle.s66_source.specs.LeftAlone.{Reading}
-use Rattle.s66_source.specs.Roles.{is_note_of, is_copied}
+use Rattle.s66_source.specs.Source.{Line}
+use Rattle.s66_line.specs.Block.{Block, bytes_of}
+use Rattle.s66_source.specs.Roles.{is_note_of}
 
 -- how a block is to be printed, and what is reported of it; times are in minor cycles
 pub record Placed : Type 0 where

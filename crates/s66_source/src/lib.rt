@@ -33,8 +33,8 @@ pub use halves::{Halves, halves_of};
 pub use keeper::print_source;
 pub use laws::{
     alone_law, block_examples, case_law, columns_examples, columns_law, copied_law, count_examples,
-    cut_law, left_alone_examples, line_examples, line_law, parts_law, plain_law,
-    printed_examples, read_again_examples, read_again_law, spelled_law,
+    cut_law, left_alone_examples, line_examples, line_law, parts_law, plain_law, printed_examples,
+    read_again_examples, read_again_law, spelled_law,
 };
 pub use limits::SOURCE_LINES_LIMIT;
 pub use lines::cut_line;

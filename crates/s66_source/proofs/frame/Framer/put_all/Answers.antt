@@ -1,6 +1,5 @@
-use Rattle.std.proofs.Common.{◌≤◌, ◌&&◌, ◌+◌, ◌++◌, ◌∙◌, ℕ, List, length, subst, sym, ap, arith}
+use Rattle.std.proofs.Common.{◌≤◌, ◌+◌, ◌++◌, ◌∙◌, ℕ, List, length, subst, sym, ap, arith}
 use Rattle.std.proofs.lemmas.List.{append-nil}
-use Rattle.s66_source.specs.LeftAlone.{is_continued}
 use Rattle.s66_source.specs.Framer.{Framer, framed}
 use Rattle.s66_source.specs.declared.limits.TheConstants.{SOURCE_LINES_LIMIT}
 use Rattle.s66_source.proofs.Frames.{framed-found, short-found}

@@ -1,5 +1,4 @@
-use Rattle.std.proofs.Common.{ℕ, suc, ◌≤◌, ◌∙◌, refl, sym, subst}
-use Rattle.s66_source.specs.Keeper.{last_of, owner_by}
+use Rattle.std.proofs.Common.{suc, ◌≤◌, ◌∙◌, refl, sym, subst}
 use Rattle.s66_source.specs.Source.{blocks_of, classed_lines}
 use Rattle.s66_source.specs.declared.keeper.Passed.{Passed}
 use Rattle.s66_source.specs.declared.limits.TheConstants.{SOURCE_LINES_LIMIT}

@@ -1,4 +1,4 @@
-use Rattle.std.proofs.Common.{ℕ, suc, ◌≡◌, ◌++◌, ◌∙◌, [], List, ap, arith, refl, sym}
+use Rattle.std.proofs.Common.{suc, ◌≡◌, ◌++◌, ◌∙◌, [], List, ap, arith, refl, sym}
 use Rattle.std.proofs.lemmas.List.{append-nil}
 use Rattle.s66_line.specs.Fields.{lines_from}
 use Rattle.s66_source.specs.Keeper.{Keeper, bytes_left, passed_at, text_left}

@@ -1,8 +1,5 @@
-use Rattle.std.proofs.Common.{ℕ, suc, ◌≡◌, ◌++◌, ◌∙◌, List, Some, ap, ap₂, arith, subst, sym, true}
-use Rattle.s66_isa.specs.Lists.{Among}
-use Rattle.s66_line.specs.Block.{Block}
-use Rattle.s66_source.specs.Keeper.{first_of, is_next, placed_of}
-use Rattle.s66_source.specs.Printed.{Placed}
+use Rattle.std.proofs.Common.{◌∙◌, ap, sym}
+use Rattle.s66_source.specs.Keeper.{placed_of}
 use Rattle.s66_source.specs.Source.{blocks_of, classed_lines}
 use Rattle.s66_source.proofs.KeptLines.{among-get, given-order, printed-anew, printed-none, printed-nothing}
 use Rattle.s66_source.proofs.keeper.Keeper.print_line.Goals as goal

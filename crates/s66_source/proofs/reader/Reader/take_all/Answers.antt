@@ -1,6 +1,6 @@
-use Rattle.std.proofs.Common.{◌&&◌, sym, ap, ◌∙◌, arith}
+use Rattle.std.proofs.Common.{sym, ap, ◌∙◌, arith}
 use Rattle.std.proofs.lemmas.Result.{err_from_is_err_and}
-use Rattle.s66_source.specs.LeftAlone.{flagged_from, is_continued}
+use Rattle.s66_source.specs.LeftAlone.{flagged_from}
 use Rattle.s66_source.specs.Pads.{pads_of_lines}
 use Rattle.s66_source.specs.Reader.{lines_step}
 use Rattle.s66_source.specs.SourceReader.{state}
