@@ -1,5 +1,5 @@
 -- The soonest issue of an instruction fits into the machine's numbers with its parcels, since its unit is free no sooner than after both.
-use Rattle.std.proofs.Common.{ℕ, ◌+◌, ◌^◌, ◌<◌, ◌≤◌, ◌≡◌, ◌∙◌, true, List, [], ◌∷◌, ◌++◌, Option, None, Some, ap, arith, eqb, refl, subst, sym}
+use Rattle.std.proofs.Common.{ℕ, ◌+◌, ◌^◌, ◌<◌, ◌≡◌, ◌∙◌, true, List, [], ◌∷◌, ◌++◌, Option, None, Some, ap, arith, eqb, refl, subst, sym}
 use Rattle.std.specs.Prelude.{unwrap_or}
 use Rattle.std.proofs.lemmas.Bool.{cond-true, eq-eqb, or_left}
 use Rattle.s66_isa.specs.Table.{Row, instr_at}

@@ -4,9 +4,7 @@ ghost use Rattle.s66_program.specs.Output.{IsWithinLimits};
 
 use s66_device::{OverRead, OverWrite};
 use s66_model::{Options, Rule};
-use s66_program::{
-    Asked, Command, Fault, OrderStyle, Silent, Status, Strategy, run_command,
-};
+use s66_program::{Asked, Command, Fault, OrderStyle, Silent, Status, Strategy, run_command};
 use std::process::Abort;
 use std::sync::Wait;
 use std::thread::Threads;

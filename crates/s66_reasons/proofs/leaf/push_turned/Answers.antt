@@ -15,7 +15,7 @@ returns c =
     let by = by_words (pairs_of d c.args.m c.args.n) in
     let one = c.in_ok-push_around.ensures ∙ ap (λ (p : Parts). out ++ (codes "      " ++ instruction (document_of p) c.args.m ++ codes " stands before ")) c.known.view_is in
     let two = c.in_ok-push_around-2.ensures ∙ ap (λ (p : Parts). c.push_around.new.out.items ++ (instruction (document_of p) c.args.n ++ codes " in a faster order")) c.known.view_is in
-    let to_by = c.in_ok-push_by.ensures ∙ ap (λ k. c.push_around-2.new.out.items ++ by_words k) c.pairs_of.ensures in
+    let to_by = c.in_ok-push_by.ensures ∙ ap (λ k. c.push_around-2.new.out.items ++ by_words k) (c.as_slice.ensures.value ∙ c.pairs_of.ensures) in
     let ended : OnOk c.extend_from_slice.result (c.extend_from_slice.new.self.items ≡ c.push_by.new.out.items ++ codes "\n") = search rules in
     let text = joined out _ _ (first ++ second) by (codes "\n") (two ∙ ap (λ xs. xs ++ second) one ∙ append_assoc out first second) to_by in
     IfOk-equal c.extend_from_slice.result _ _ _ ended text
