@@ -61,7 +61,7 @@ TO_BELIEVE = [
     ("what `time` says of a source", ["s66_program/TimeText/IsTimeOutput"]),
     ("`BEST` and `AT LEAST` in what `order` writes (`reported_law`)", ["s66_program/Reports/ReportsBlocks"]),
     ("that the program, called with `order`, writes this (`run_program`)", ["s66_program/Program/IsRun", "s66_program/Reports/ReportsBlocks"]),
-    ("`BEST` and `AT LEAST` of an answer (`answered_law`)", [BOUND, SOURCE, "s66_program/OrderText/all_placed", "s66_source/Printed/printed"]),
+    ("`BEST` and `AT LEAST` of an answer (`answered_law`)", [BOUND, SOURCE, "s66_program/OrderText/all_given", "s66_source/Replaced/printed_in"]),
 ]
 
 
