@@ -1,8 +1,8 @@
 -- Blocks that are read again from what `order` wrote take the times of their answers, or as long as they did.
-use Rattle.std.proofs.Common.{ℕ, zero, suc, ◌≡◌, ◌≤◌, ◌==◌, ◌&&◌, ◌++◌, ◌∙◌, Bool, true, false, if◌then◌else◌, List, [], ◌∷◌, Ok, Option, None, Some, drop, length, map, replicate, take, refl, sym, ap, ap₂, subst}
+use Rattle.std.proofs.Common.{ℕ, zero, suc, ◌≡◌, ◌==◌, ◌&&◌, ◌++◌, ◌∙◌, Bool, true, false, if◌then◌else◌, List, [], ◌∷◌, Ok, Option, None, Some, drop, length, map, replicate, take, refl, sym, ap, ap₂, subst}
 use Rattle.std.proofs.lemmas.Bool.{and_parts, eqb-true}
 use Rattle.std.proofs.lemmas.List.{append-nil, length-map}
-use Rattle.s66_isa.specs.Lists.{Among, rising}
+use Rattle.s66_isa.specs.Lists.{rising}
 use Rattle.s66_isa.specs.Table.{numbers}
 use Rattle.s66_isa.specs.declared.instr.Instr.{Instr}
 use Rattle.s66_isa.specs.declared.profile.Profile.{Profile}
