@@ -87,3 +87,6 @@ standing-same quiet columns source blocks k before gs read is =
           (texts-past quiet columns (classed_lines source) 1 (blocks_of (classed_lines source)) k before gs (omega (arith, same, is, all)) (omega (arith, same, all)))
       | inr some ↦ (let same : k ≡ before = omega (arith, is, some) in ap (λ j. printed_in quiet columns source (replicate j None ++ gs)) same)
     ]
+
+pub same-blocks : (source : Reading) (found blocks : List Block) → source_of source ≡ Ok found → source_of source ≡ Ok blocks → found ≡ blocks
+same-blocks source found blocks read here = cc

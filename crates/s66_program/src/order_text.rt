@@ -100,17 +100,15 @@ fn columns_by(own: bool) -> Columns
 fn after_standing(
     alloc: Global,
     standing: usize,
-    given: Vec<Option<Placed>>,
+    mut given: Vec<Option<Placed>>,
 ) -> Result<Vec<Option<Placed>>, AllocError>
-    ensures { IfOk result (λ all. all.items ≡ replicate standing None ++ given.entry.items) }
+    ensures { IfOk result (λ all. all.items ≡ replicate standing None ++ given.items) }
 {
     let mut all = Vec::new(alloc);
-    for _i in 0..standing {
+    for _ in 0..standing {
         all.push(None)?;
     }
-    for one in given {
-        all.push(one)?;
-    }
+    all.append(&mut given)?;
     Ok(all)
 }
 
