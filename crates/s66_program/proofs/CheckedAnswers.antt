@@ -9,7 +9,6 @@ use Rattle.s66_command.specs.declared.strategy.Strategy.{Strategy}
 use Rattle.s66_cert.specs.declared.limits.TheConstants.{SPLIT_LIMIT}
 use Rattle.s66_cert.specs.Document.{AreDocumentsWithin, Document, IsText}
 use Rattle.s66_cert.proofs.OneReading.{one-list}
-use Rattle.s66_checker.specs.declared.verdict.Verdict.{Verdict}
 use Rattle.s66_checker.specs.declared.verdict.Verdict.TheVariants.{Yes}
 use Rattle.s66_checker.specs.Verdict.{verdict}
 use Rattle.s66_answer.specs.Answers.{Answer, AreAnswers, document_under}
@@ -45,8 +44,8 @@ of-shown None blocks block among = among
 of-shown (Some n) blocks block among = of-later (n - 1) blocks block (of-first 1 (drop (n - 1) blocks) block among)
 
 text-is-yes : (texts : Bool) (n : ℕ) (a : Answer) (d : Document) → verdict d ≡ Yes a.time a.bound → verdict_text texts n d ≡ yes_text texts n a d
-text-is-yes false n a d yes = ap (verdict_line n) yes
-text-is-yes true n a d yes = ap (λ v. verdict_line n v ++ reasons_by v d) yes
+text-is-yes false n a d is = ap (verdict_line n) is
+text-is-yes true n a d is = ap (λ v. verdict_line n v ++ reasons_by v d) is
 
 module _ (strategy : Strategy) (p : Profile) (within : strategy.search.nodes ≤ SPLIT_LIMIT) where
   documents-are : (blocks : List Block) (answers : List Answer) → AreSpelled blocks → AreAnswers strategy p blocks answers → AreDocumentsWithin BLOCK_LIMIT SPLIT_LIMIT (all_documents strategy.search.rule p blocks answers)

@@ -7,8 +7,7 @@ use Rattle.s66_isa.specs.Lists.{Among}
 use Rattle.s66_source.specs.declared.error.SourceError.{SourceError}
 use Rattle.s66_line.specs.Block.{instrs_of, Entry, Block}
 use Rattle.s66_source.specs.Printed.{ArePlaced}
-use Rattle.s66_source.specs.LeftAlone.{Reading}
-use Rattle.s66_source.specs.Source.{blocks_of, classed_lines, refusal, source_of, unless_refused}
+use Rattle.s66_source.specs.Source.{unless_refused}
 use Rattle.s66_command.specs.declared.strategy.Strategy.{Strategy}
 use Rattle.s66_model.specs.LegalOrder.{GoesOn, IsLegal}
 use Rattle.s66_model.proofs.LegalOrders.{legal-order, ready-parts}

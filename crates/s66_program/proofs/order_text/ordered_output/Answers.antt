@@ -1,4 +1,4 @@
-use Rattle.std.proofs.Common.{ℕ, ◌≡◌, ◌∙◌, ◌++◌, List, None, Option, ap, ap₂, length, min, refl, replicate, subst, sym}
+use Rattle.std.proofs.Common.{◌≡◌, ◌∙◌, ◌++◌, List, None, Option, ap, ap₂, length, min, refl, replicate, subst, sym}
 use Rattle.s66_line.specs.Block.{Block}
 use Rattle.s66_source.specs.Printed.{Placed}
 use Rattle.s66_source.specs.Replaced.{AreGiven, printed_in}

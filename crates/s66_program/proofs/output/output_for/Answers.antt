@@ -1,5 +1,4 @@
 use Rattle.std.proofs.Common.{Bool, subst, sym}
-use Rattle.s66_command.specs.CommandParts.{reads_cut}
 use Rattle.s66_command.specs.declared.command.Asked.{Asked}
 use Rattle.s66_answer.specs.declared.outcome.Output.{Output}
 use Rattle.s66_program.specs.Output.{IsAskedOutput, source_in}
