@@ -3,6 +3,7 @@
 use crate::calls::Answered;
 use crate::sources::{block_of, source_of};
 use s66_isa::Profile;
+use s66_line::Block;
 use s66_model::Rule;
 use s66_node::{Constant, MarkTable, Piece, Walk};
 use s66_test_search::{MULTIPLIES, THREE_ALIKE};
@@ -23,23 +24,30 @@ fn answered(piece: &Piece) -> Answered {
     [piece.splits() as usize, piece.nodes().len(), time, 0]
 }
 
+/// The piece of a block for a best time.
+fn piece_of(alloc: Global, block: &Block) -> Result<Piece, AllocError> {
+    let profile = Profile::standard();
+    Walk::new(block, &profile).expand(alloc, &[], &mut Constant(ABOVE_ALL), SPLITS)
+}
+
 /// A piece for a best time.
 pub fn expanded(alloc: Global) -> Result<Answered, AllocError> {
     let source = source_of(alloc, MULTIPLIES)?;
-    let block = block_of(&source)?;
-    let mut walk = Walk::new(block, &Profile::standard());
-    let piece = walk.expand(alloc, &[], &mut Constant(ABOVE_ALL), SPLITS)?;
+    let piece = piece_of(alloc, block_of(&source)?)?;
     Ok(answered(&piece))
+}
+
+/// The piece of a block with dominated leaves.
+fn dominated_of(alloc: Global, block: &Block) -> Result<Piece, AllocError> {
+    let profile = Profile::standard();
+    let mut marks = MarkTable::new(alloc, block, &profile);
+    let (mut best, rule) = (Constant(ABOVE_ALL), Rule::WrittenEarlier);
+    Walk::new(block, &profile).expand_dominated(alloc, &[], &mut best, SPLITS, &mut marks, rule)
 }
 
 /// A piece with dominated leaves.
 pub fn expanded_dominated(alloc: Global) -> Result<Answered, AllocError> {
     let source = source_of(alloc, THREE_ALIKE)?;
-    let block = block_of(&source)?;
-    let profile = Profile::standard();
-    let mut walk = Walk::new(block, &profile);
-    let mut marks = MarkTable::new(alloc, block, &profile);
-    let (mut best, rule) = (Constant(ABOVE_ALL), Rule::WrittenEarlier);
-    let piece = walk.expand_dominated(alloc, &[], &mut best, SPLITS, &mut marks, rule)?;
+    let piece = dominated_of(alloc, block_of(&source)?)?;
     Ok(answered(&piece))
 }
