@@ -27,8 +27,18 @@ use Rattle.s66_source.proofs.FlaggedLines.{bytes-flagged}
 use Rattle.s66_source.proofs.LineLaw.{Rising, last_number, line_of-last, none-at, outside}
 use Rattle.s66_source.proofs.Owners.{IsSource, among-map, among-some, begins-instruction, behind-part, between, blocks-rise, from-on, instruction-part, is-source, last-line, number-among, numbers-rise, one-line, own-part, owner-is, pad-alone, part-bounds, part-line, some-among}
 use Rattle.s66_source.proofs.PrintedLines.{Ordered, accepted-is, bytes-classed, first-line, run_behind}
-use Rattle.s66_source.proofs.SoFar.{notes-past, plain-note}
 use Rattle.s66_source.proofs.UpTo.{Rises, all-up, next-is, none-up, up-all, up-few, up-next, up-some}
+
+-- NOTES
+
+notes-past : (block : Block) (number run : ℕ) (lines : List Line) → Ordered number run lines → line_of block (length block.entries) ≤ number → notes_text block lines ≡ []
+notes-past block number run [] h last = refl
+notes-past block number run (l ∷ lines) h last =
+    let none : is_note_of l block ≡ false = outside (is_comment_class l.class) (line_of block 1) l.number (line_of block (length block.entries)) (inr (omega (arith, h.0, last))) in
+    rw none (notes-past block (suc number) (run_behind l) lines h.2 (omega (arith, last)))
+
+plain-note : (l : Line) (block : Block) → is_comment_class l.class ≡ false → is_note_of l block ≡ false
+plain-note l block stated = rw stated refl
 
 -- THE LINES THAT ARE LEFT
 

@@ -9,7 +9,6 @@ pub mod PadsLaw
 pub mod LeadingPads
 pub mod IndentedLines
 pub mod PrintedLines
-pub mod SoFar
 pub mod UpTo
 pub mod Owners
 pub mod FewBlocks

@@ -64,12 +64,6 @@ Rising-after low (x ∷ xs) ys h = Rising-lower low (suc x.number) ys (omega (ar
 pub first-line : (l m : Line) (ls ms : List Line) → l ∷ ls ≡ m ∷ ms → (l ≡ m) × (ls ≡ ms)
 first-line l m ls ms h = (cc, cc)
 
-pub instructions-yes : (l : Line) (lines : List Line) → is_instruction l.class ≡ true → instructions (l ∷ lines) ≡ l ∷ instructions lines
-instructions-yes l lines stated = rw stated refl
-
-pub instructions-no : (l : Line) (lines : List Line) → is_instruction l.class ≡ false → instructions (l ∷ lines) ≡ instructions lines
-instructions-no l lines stated = rw stated refl
-
 -- A WHOLE SOURCE
 
 pub same-blocks : (found blocks : List Block) (read : Result (List Block) SourceError) → read ≡ Ok found → read ≡ Ok blocks → found ≡ blocks

@@ -366,7 +366,7 @@ impl<'s, 'a> Keeper<'s, 'a> {
 /// A source with some of its blocks printed anew: for each block it is given how, or `None` if it stands, and further blocks stand. Each
 /// line of a block that stands is as it was read, and so is each that is of no block. In the place of any other block come its report,
 /// unless it is `quiet`, its notes and its instructions, the first after the label, and the operations of those without a label in these
-/// columns. It takes two passes over the lines at most, in time linear in the source and the orders.
+/// columns. It takes two passes over the lines at most, in time linear in the source and the orders. `Err` is out of memory.
 pub fn print_source(
     alloc: Global,
     source: &Source,
