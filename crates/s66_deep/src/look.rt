@@ -89,7 +89,7 @@ pub fn look_at(
         shown,
         splits,
     } = search(&instance, &finder, best, most)?;
-    let written = shown.written(alloc, &finder, is_printed)?;
+    let written = shown.written(alloc, is_printed)?;
     Ok(Look {
         found: fitting(best, source, written, most, splits),
         splits,

@@ -83,19 +83,6 @@ fn by_leaf(alloc: Global, bound: Bound, is_printed: bool) -> Result<Written, All
     })
 }
 
-/// What a tree shows that is to be printed, or one leaf if it shows as much by fact lines that are found anew: what is found depends on
-/// what was found before.
-fn shortest(alloc: Global, finder: &Finder, written: Written) -> Result<Written, AllocError> {
-    let bound = Bound {
-        value: written.bound,
-        finder: found_below(finder, written.bound)?,
-    };
-    if bound.finder.root().1 < bound.value {
-        return Ok(written);
-    }
-    by_leaf(alloc, bound, true)
-}
-
 impl Shown {
     /// What all orders take at least, in minor cycles.
     fn bound(&self) -> u32 {
@@ -113,16 +100,10 @@ impl Shown {
         }
     }
 
-    /// As a certificate has it, which is printed or not; fact lines go on from those of a finder. `Err` is out of memory.
-    pub(crate) fn written(
-        self,
-        alloc: Global,
-        finder: &Finder,
-        is_printed: bool,
-    ) -> Result<Written, AllocError> {
+    /// As a certificate has it, which is printed or not. `Err` is out of memory.
+    pub(crate) fn written(self, alloc: Global, is_printed: bool) -> Result<Written, AllocError> {
         match self {
             Shown::ByLeaf(bound) => by_leaf(alloc, bound, is_printed),
-            Shown::ByTree(written) if is_printed => shortest(alloc, finder, written),
             Shown::ByTree(written) => Ok(written),
         }
     }
