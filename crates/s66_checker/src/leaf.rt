@@ -112,7 +112,7 @@ pub fn load(prefix: &Prefix, kind: Kind) -> u32
 }
 
 /// When the instruction of a number starts at the soonest: it is next, and the registers are done that it reads or writes.
-fn head(prefix: &Prefix, n: u8) -> u32
+pub fn head(prefix: &Prefix, n: u8) -> u32
     requires { (1 ≤ n) × (n ≤ length prefix.now.problem.block) }
     ensures value { result ≡ head (points_of prefix.now.problem prefix.now.numbers) (row_at prefix.now.problem n) }
     ensures at_most { result ≤ TOTAL_LIMIT + 1 }

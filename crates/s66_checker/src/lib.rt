@@ -46,7 +46,7 @@ pub use examples::{
 };
 pub use known::{fact_lines, take};
 pub use laws::{dominating_law, yes_law};
-pub use leaf::{load, remaining_parcels, remaining_work};
+pub use leaf::{head, load, remaining_parcels, remaining_work};
 pub use links::{link, own_parcels, tail, uses};
 pub use loaded::{amounts, use_time};
 pub use verdict::{Reason, Verdict};

@@ -14,6 +14,7 @@ use Rattle.s66_moments.specs.declared.moment.Stage.TheVariants.{Issue}
 use Rattle.s66_moments.specs.declared.moment.Moment.TheVariants.{Origin, At, End}
 use Rattle.s66_moments.specs.Known.{known_first}
 use Rattle.s66_checker.specs.Verdict.{problem_of, facts_of}
+use Rattle.s66_reasons.specs.declared.tree.TheConstants.{SAID_SPLITS}
 use Rattle.s66_reasons.specs.Words.{Reason, counted, each_words, instruction, listed, longest_use, rows_text, unit_name}
 use Rattle.s66_reasons.specs.ChainWords.{chain_rows}
 use Rattle.s66_reasons.specs.FactWords.{facts_from, load_end, load_sentence, work_of_load}
@@ -178,7 +179,7 @@ is_line_said splits (AtTerminal (LoadFrom after numbers)) = true
 
 -- a tree of few splits is said leaf by leaf, if each can be said
 abbrev pub is_said : Tree Ending → Bool
-is_said tree = nat_le (splits tree) 3 && every (is_line_said (splits tree)) (flat tree)
+is_said tree = nat_le (splits tree) SAID_SPLITS && every (is_line_said (splits tree)) (flat tree)
 
 -- WHAT IS SAID
 

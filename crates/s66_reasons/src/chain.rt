@@ -13,9 +13,9 @@ ghost use Rattle.s66_reasons.specs.Within.{AreWithin};
 
 use crate::words::{push_around, push_instruction, push_number, push_register};
 use s66_cert::Document;
-use s66_checker::{link, tail, uses};
+use s66_checker::{head, link, tail, uses};
 use s66_isa::{Reg, Row, Write, has_register};
-use s66_replay::{Prefix, next, registers_done, writes_done};
+use s66_replay::Prefix;
 use std::alloc::AllocError;
 
 /// The first of these results for which a later instruction waits so long; none if it waits for a reference to memory.
@@ -200,19 +200,6 @@ fn push_walk(
         last = *n;
     }
     push_end(out, document, prefix, time, last)
-}
-
-/// When an instruction starts at the soonest after the prefix: it is next, and the registers are done that it uses.
-fn head(prefix: &Prefix, n: u8) -> u32
-    requires { (1 ≤ n) × (n ≤ length prefix.now.problem.block) }
-    ensures value { result ≡ head (points_of prefix.now.problem prefix.now.numbers) (row_at prefix.now.problem n) }
-    ensures at_most { result ≤ TOTAL_LIMIT + 1 }
-{
-    let row = prefix.row(n);
-    let past = prefix.past();
-    let read = registers_done(past, row.reads.as_slice());
-    let written = writes_done(past, row.writes.as_slice());
-    next(prefix.points()).max(read.max(written))
 }
 
 /// The row of where a chain begins, with n, if the prefix has numbers. Returns the minor cycle.

@@ -12,6 +12,9 @@ ghost use Rattle.s66_reasons.specs.Within.{is_split};
 
 use s66_cert::{Document, TreeLine, TreeLines};
 
+/// The most splits of a tree that is said leaf by leaf.
+pub const SAID_SPLITS: usize = 3;
+
 /// Whether a line is a split.
 pub(crate) fn is_split(line: &TreeLine<'_>) -> bool
     ensures { result ≡ is_split (vertex_of line.now) }
@@ -26,7 +29,7 @@ fn count_splits(mut lines: TreeLines<'_>) -> usize
 {
     let mut count = 0;
     while let Some(line) = lines.next() {
-        if matches!(line, TreeLine::Split(_)) {
+        if is_split(&line) {
             count += 1;
         }
     }
@@ -74,7 +77,7 @@ pub(crate) fn is_said(document: &Document, count: usize) -> bool
     requires { count ≡ splits (document_of document.now).tree }
     ensures { result ≡ is_said (document_of document.now).tree }
 {
-    count <= 3 && are_said(document.tree(), count)
+    count <= SAID_SPLITS && are_said(document.tree(), count)
 }
 
 /// Whether a line is a leaf by facts.
