@@ -7,13 +7,14 @@ use Rattle.s66_source.specs.declared.limits.TheConstants.{SOURCE_LINES_LIMIT}
 use Rattle.s66_lint.specs.Marks.{alone_lines, is_marked}
 use Rattle.s66_lint.specs.declared.finding.Finding.{Finding}
 use Rattle.s66_lint.specs.declared.finding.Rule.{Rule}
-use Rattle.s66_lint.specs.declared.finding.Rule.TheVariants.{TooLong, BadOperand, FarOperand, Redefined, NotAnInstruction, InColumn1, InColumn2, Directive, HasABody, LoadsCode, StoresIntoCode, TakesCode, PassesCode, SkipsWords, JoinsAWord, CountsWords, FallsIntoData, RowOfNo, CountsLines}
+use Rattle.s66_lint.specs.declared.finding.Rule.TheVariants.{TooLong, BadOperand, FarOperand, Redefined, NotAComment, NotAnInstruction, InColumn1, InColumn2, Directive, HasABody, LoadsCode, StoresIntoCode, TakesCode, PassesCode, SkipsWords, JoinsAWord, CountsWords, FallsIntoData, RowOfNo, CountsLines}
 
 abbrev pub rule_words : Rule → List ℕ
 rule_words TooLong = codes " TOO LONG"
 rule_words BadOperand = codes " BAD OPERAND"
 rule_words FarOperand = codes " FAR OPERAND"
 rule_words Redefined = codes " REDEFINED"
+rule_words NotAComment = codes " NOT A COMMENT"
 rule_words NotAnInstruction = codes " NOT AN INSTRUCTION"
 rule_words InColumn1 = codes " IN COLUMN 1"
 rule_words InColumn2 = codes " IN COLUMN 2"

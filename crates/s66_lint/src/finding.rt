@@ -13,6 +13,8 @@ pub enum Rule {
     FarOperand,
     /// The source redefines its operation, or its form.
     Redefined,
+    /// It begins as a comment does elsewhere, and is none here.
+    NotAComment,
     /// Its operation begins like one of the instruction table, and is none.
     NotAnInstruction,
     /// An instruction stands in its location field, in column 1 or 2.
@@ -86,6 +88,7 @@ fn shown<'a>(rule: Rule, line: &Line<'a>) -> (&'a [u8], &'a [u8]) {
         Rule::TooLong | Rule::RowOfNo => (none, none),
         Rule::Directive | Rule::CountsLines if line.is_comment() => (split_word(line.body).0, none),
         Rule::InColumn1 | Rule::InColumn2 => (written.location, written.operation),
+        Rule::NotAComment if !written.location.is_empty() => (written.location, written.operation),
         Rule::NotAnInstruction | Rule::HasABody | Rule::CountsLines => (written.operation, none),
         _ => (written.operation, written.operand),
     }

@@ -117,7 +117,7 @@ pub struct Listed {
 }
 
 /// A line for each finding in a source, which may be any text, in the order of its lines, and of the first `SOURCE_LINES_LIMIT`
-/// lines alone; and how many these are. With `cut` those are left out that `--cut` leaves alone.
+/// lines alone; and how many these are. With `cut` those are left out that `--cut` leaves alone. `Err` is out of memory.
 pub fn findings_in(alloc: Global, text: &[u8], cut: bool) -> Result<Listed, AllocError>
     ensures text { IfOk result (λ listed. IsFindings (record { cut = cut; text = text.now }) listed.text.items) }
     ensures lines { IfOk result (λ listed. listed.lines ≡ length (lines_of listed.text.items)) }

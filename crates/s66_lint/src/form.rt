@@ -14,6 +14,16 @@ fn takes(alloc: Global, operation: &[u8], operand: &[u8]) -> Result<bool, AllocE
     Ok(is_instruction(text.as_slice()))
 }
 
+/// Whether a line with these words begins as a comment does in other assemblers: with `#`, `;` or `//`.
+pub(crate) fn seems_comment(words: Words) -> bool {
+    let first = if words.location.is_empty() {
+        words.operation
+    } else {
+        words.location
+    };
+    matches!(first, [b'#' | b';', ..] | [b'/', b'/', ..])
+}
+
 /// Whether an instruction stands in the location field of a line and its operand in place of an operation.
 pub(crate) fn is_in_column(alloc: Global, words: Words) -> Result<bool, AllocError> {
     let Words {

@@ -86,7 +86,7 @@ fn harmed_runs(alloc: Global, count: usize, ranges: &[RunRange]) -> Result<Vec<b
 }
 
 /// What the findings of a source harm, which may be any text, by the reading with `--cut`; of the first `SOURCE_LINES_LIMIT` lines
-/// alone.
+/// alone. `Err` is out of memory.
 pub fn harms_in(alloc: Global, text: &[u8]) -> Result<Harms, AllocError> {
     let letters = text.to_ascii_uppercase(alloc)?;
     let lines = Lines::of(alloc, text, letters.as_slice())?;

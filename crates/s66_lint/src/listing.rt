@@ -14,6 +14,7 @@ fn words_of(rule: Rule) -> &'static [u8]
         Rule::BadOperand => b" BAD OPERAND",
         Rule::FarOperand => b" FAR OPERAND",
         Rule::Redefined => b" REDEFINED",
+        Rule::NotAComment => b" NOT A COMMENT",
         Rule::NotAnInstruction => b" NOT AN INSTRUCTION",
         Rule::InColumn1 => b" IN COLUMN 1",
         Rule::InColumn2 => b" IN COLUMN 2",

@@ -1,6 +1,6 @@
 use crate::deck::Deck;
 use crate::finding::{Harm, LineFinding, Rule};
-use crate::form::is_in_column;
+use crate::form::{is_in_column, seems_comment};
 use crate::lengths::Lengths;
 use crate::line::Line;
 use crate::macros::Macros;
@@ -136,6 +136,8 @@ impl<'a> Rules<'a> {
         let is_far = line.is_far() && !self.deck.before(at).in_definition;
         sheet.push_if(is_far, Rule::FarOperand, line)?;
         sheet.push_if(is_redefined, Rule::Redefined, line)?;
+        let seems_comment = !self.deck.before(at).in_peripheral && seems_comment(line.words);
+        sheet.push_if(seems_comment, Rule::NotAComment, line)?;
         if !line.is_instruction_or_pad() {
             self.push_form(sheet, at, line)?;
         }
