@@ -7,7 +7,7 @@ use Rattle.serde_json.specs.Read.{read}
 use Rattle.s66_isa.specs.Profiles.{profile_of}
 use Rattle.s66_isa.specs.Table.{entries, standard}
 use Rattle.s66_command.specs.ProfileHint.{hint_in_members}
-use Rattle.s66_command.specs.ProfileText.{profile_number, place_of, with_members, profile_numbers, profile_in_text}
+use Rattle.s66_command.specs.ProfileText.{json_of, profile_number, place_of, with_members, profile_numbers, profile_in_text}
 
 -- one member, at what its key and its value give
 step : (place number : Option ℕ) (a b : ℕ) (cs ds rest : List ℕ) (more : ℕ → ℕ → Option (List ℕ)) → ((at n : ℕ) → (rest ≡ []) ↔ IsSome (more at n))
@@ -26,11 +26,11 @@ some_map f None = refl
 some_map f (Some x) = refl
 
 -- what a text gives, whose members are known
-given_by_members : (text : List ℕ) (value : Data) (ms : Members) → read text ≡ Some value → as_object value ≡ Some ms → is_some (profile_in_text text) ≡ is_some (with_members (entries standard) ms)
+given_by_members : (text : List ℕ) (value : Data) (ms : Members) → read (json_of text) ≡ Some value → as_object value ≡ Some ms → is_some (profile_in_text text) ≡ is_some (with_members (entries standard) ms)
 given_by_members text value ms r o =
-    some_map profile_of (option_and_then profile_numbers (read text)) ∙ ap (λ v. is_some (option_and_then profile_numbers v)) r ∙ ap (λ m. is_some (option_and_then (with_members (entries standard)) m)) o
+    some_map profile_of (option_and_then profile_numbers (read (json_of text))) ∙ ap (λ v. is_some (option_and_then profile_numbers v)) r ∙ ap (λ m. is_some (option_and_then (with_members (entries standard)) m)) o
 
-pub empty_if_profile : (text : List ℕ) (value : Data) (ms : Members) → read text ≡ Some value → as_object value ≡ Some ms → (hint_in_members ms ≡ []) ↔ IsSome (profile_in_text text)
+pub empty_if_profile : (text : List ℕ) (value : Data) (ms : Members) → read (json_of text) ≡ Some value → as_object value ≡ Some ms → (hint_in_members ms ≡ []) ↔ IsSome (profile_in_text text)
 empty_if_profile text value ms r o =
     let given = given_by_members text value ms r o in
     let empty = empty_if_set (entries standard) ms in

@@ -24,7 +24,7 @@ strategy_of asked = None
 -- what is read for it
 abbrev pub reads_of : Asked → Reads
 reads_of Lint = Text
-reads_of Compare = Sources
+reads_of (Compare text) = Sources
 reads_of (Check text) = Documents
 reads_of asked = Source
 

@@ -7,3 +7,4 @@ pub mod ProfileGiven
 pub mod ProfileRefusals
 pub mod ProfileHint
 pub mod ProfileExamples
+pub mod Changes

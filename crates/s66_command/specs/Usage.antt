@@ -214,15 +214,15 @@ GivesSumStyle words style = GivesFlag (codes "trace") words style.trace × Gives
 -- they ask for this, by the name of a subcommand, which works so, and by its own options
 abbrev pub AsksBy : List Text → Asked → Type 0
 AsksBy words (Time trace) = AsksFor words (codes "time") work.Plain × GivesFlag (codes "trace") words trace
-AsksBy words Deps = AsksFor words (codes "deps") work.Plain
-AsksBy words (Chart text) = AsksFor words (codes "chart") work.Plain × GivesFlag (codes "text") words text
+AsksBy words (Deps text) = AsksFor words (codes "deps") work.Plain × GivesFlag (codes "text") words text
+AsksBy words (Chart text units) = AsksFor words (codes "chart") work.Plain × GivesFlag (codes "text") words text × GivesFlag (codes "units") words units
 AsksBy words (Why order text) = AsksFor words (codes "why") work.Search × GivesOrder words order × GivesFlag (codes "text") words text
 AsksBy words (Page strategy) = AsksFor words (codes "page") work.Search × GivesSearch words strategy
 AsksBy words (Order strategy style) = AsksFor words (codes "order") work.Search × GivesSearch words strategy × GivesStyle words style
 AsksBy words (Prove strategy) = AsksFor words (codes "prove") work.Search × GivesSearch words strategy
 AsksBy words (Check text) = AsksFor words (codes "check") work.Check × GivesFlag (codes "text") words text
 AsksBy words (Sum strategy style) = AsksFor words (codes "sum") work.Search × GivesSearch words strategy × GivesSumStyle words style
-AsksBy words Compare = AsksFor words (codes "compare") work.Plain
+AsksBy words (Compare text) = AsksFor words (codes "compare") work.Plain × GivesFlag (codes "text") words text
 AsksBy words (Json order) = AsksFor words (codes "json") work.Search × GivesOrder words order
 AsksBy words Lint = AsksFor words (codes "lint") work.Plain
 AsksBy words Guard = AsksFor words (codes "guard") work.Plain
@@ -231,6 +231,7 @@ AsksBy words Guard = AsksFor words (codes "guard") work.Plain
 abbrev pub Asks : List Text → Command → Type 0
 Asks words command =
     AsksBy words command.asked × GivesFlag (codes "cut") words command.cut × GivesBlock words command.block × GivesProfile words command.profile
+    × GivesFlag (codes "strict") words command.strict × GivesFlag (codes "some") words command.some
 
 -- a kind of error that is no mistake
 abbrev pub IsHelp : ErrorKind → Type 0

@@ -9,6 +9,10 @@ pub struct Command<'a> {
     pub block: Option<u32>,
     /// The text of the profile, if it isn't the standard one.
     pub profile: Option<&'a str>,
+    /// Whether a source that is accepted in the place of another one is no success while `lint` lists lines of the other.
+    pub strict: bool,
+    /// Whether there has to be a document.
+    pub some: bool,
     /// What is written, and how.
     pub asked: Asked,
 }
@@ -22,11 +26,16 @@ pub enum Asked {
         trace: bool,
     },
     /// On which instructions each instruction of a block depends.
-    Deps,
+    Deps {
+        /// Whether each pair has a line with their texts, and with why the second depends on the first.
+        text: bool,
+    },
     /// A chart of each block of a source, as it was written.
     Chart {
         /// Whether each row comes after the text of its instruction, below a ruler.
         text: bool,
+        /// Whether below such rows each functional unit has one and each register, with the instructions that hold it.
+        units: bool,
     },
     /// Why the instructions of each block of a source wait.
     Why {
@@ -65,7 +74,10 @@ pub enum Asked {
         style: SumStyle,
     },
     /// Whether one source is another but for legal orders of its blocks.
-    Compare,
+    Compare {
+        /// Whether an order that isn't legal is told by lines and instructions.
+        text: bool,
+    },
     /// Each block of a source as a line of JSON, as it was written and in the best order that was found.
     Json {
         /// How the best order of each block is looked for, if it is.
@@ -152,7 +164,7 @@ impl Asked {
     {
         match self {
             Asked::Lint => Reads::Text,
-            Asked::Compare => Reads::Sources,
+            Asked::Compare { .. } => Reads::Sources,
             Asked::Check { .. } => Reads::Documents,
             _ => Reads::Source,
         }

@@ -3,8 +3,8 @@
 
 ghost use Rattle.std.specs.Prelude.{[], ◌∷◌, ◌≡◌, ◌++◌, Some, None, codes};
 ghost use Rattle.s66_command.specs.ProfileExamples.{standard_but};
-ghost use Rattle.s66_command.specs.ProfileHint.{hint_in_text};
-ghost use Rattle.s66_command.specs.ProfileText.{profile_numbers_in_text};
+ghost use Rattle.s66_command.specs.ProfileHint.{hint_in_text, wrong_name};
+ghost use Rattle.s66_command.specs.ProfileText.{object_of_list, profile_numbers_in_text};
 
 /// Texts that give a profile.
 #[tactic(auto, unfolding(serde_json::proofs::OnLiterals::serde_json_on_literals))]
@@ -55,28 +55,56 @@ pub fn refusal_examples()
     ensures last_comma { profile_numbers_in_text (codes "{\"boolean\":1,}") ≡ None }
 {}
 
+/// Lists, which give what the JSON objects give for which they stand, and texts that are no lists.
+#[tactic(auto, unfolding(serde_json::proofs::OnLiterals::serde_json_on_literals))]
+pub fn list_examples()
+    ensures object { object_of_list (codes "units_add=2,load=5") ≡ codes "{\"units_add\":2,\"load\":5}" }
+    ensures two_names { profile_numbers_in_text (codes "units_add=2,load=5") ≡
+        Some (3 ∷ 3 ∷ 4 ∷ 4 ∷ 3 ∷ 10 ∷ 29 ∷ 8 ∷ 3 ∷ 5 ∷ 1 ∷ 1 ∷ 2 ∷ 1 ∷ 2 ∷ 1 ∷ 2 ∷ []) }
+    ensures one_name { profile_numbers_in_text (codes "boolean=100") ≡ standard_but 0 100 }
+    ensures last_of_equal_names { profile_numbers_in_text (codes "boolean=0,boolean=7") ≡ standard_but 0 7 }
+    ensures no_number { profile_numbers_in_text (codes "units_add") ≡ None }
+    ensures no_digit { profile_numbers_in_text (codes "units_add=") ≡ None }
+    ensures no_name { profile_numbers_in_text (codes "=2") ≡ None }
+    ensures last_comma { profile_numbers_in_text (codes "units_add=2,") ≡ None }
+    ensures first_comma { profile_numbers_in_text (codes ",units_add=2") ≡ None }
+    ensures semicolon { profile_numbers_in_text (codes "units_add=2;load=5") ≡ None }
+    ensures blank { profile_numbers_in_text (codes "units_add=2, load=5") ≡ None }
+    ensures leading_zero { profile_numbers_in_text (codes "units_add=02") ≡ None }
+    ensures point { profile_numbers_in_text (codes "units_add=2.0") ≡ None }
+    ensures word { profile_numbers_in_text (codes "boolean=true,boolean=7") ≡ None }
+    ensures quotes { profile_numbers_in_text (codes "boolean==,,boolean=7") ≡ None }
+    ensures zero { profile_numbers_in_text (codes "boolean=0") ≡ None }
+    ensures other_name { profile_numbers_in_text (codes "branch=3") ≡ None }
+{}
+
 /// Why texts give no profile.
 #[tactic(auto, unfolding(serde_json::proofs::OnLiterals::serde_json_on_literals))]
 pub fn hint_examples()
-    ensures file_name { hint_in_text (codes "slow.json") ≡ codes "no JSON object; --profile takes a text, not a file" }
-    ensures nothing { hint_in_text [] ≡ codes "no JSON object; --profile takes a text, not a file" }
-    ensures array { hint_in_text (codes "[]") ≡ codes "no JSON object; --profile takes a text, not a file" }
+    ensures file_name { hint_in_text (codes "slow.json") ≡ codes "no JSON object such as {\"units_add\":2}, nor units_add=2" }
+    ensures nothing { hint_in_text [] ≡ codes "no JSON object such as {\"units_add\":2}, nor units_add=2" }
+    ensures array { hint_in_text (codes "[]") ≡ codes "no JSON object such as {\"units_add\":2}, nor units_add=2" }
     ensures other_key { hint_in_text (codes "{\"units_mult\":1}") ≡
-        codes "no number of a profile is called \"units_mult\"" }
+        codes "no number of a profile is called \"units_mult\"\nthe names are boolean, shift, normalise, add, longadd, multiply, divide,\n" ++
+        codes "population, increment, load, units_boolean, units_shift, units_add,\nunits_longadd, units_multiply, units_divide, units_increment" }
     ensures zero { hint_in_text (codes "{\"multiply\":0}") ≡ codes "\"multiply\" is no whole number 1 to 100" }
     ensures above { hint_in_text (codes "{\"multiply\":101}") ≡ codes "\"multiply\" is no whole number 1 to 100" }
     ensures text { hint_in_text (codes "{\"multiply\":\"5\"}") ≡ codes "\"multiply\" is no whole number 1 to 100" }
     ensures key_before_value { hint_in_text (codes "{\"branch\":0}") ≡
-        codes "no number of a profile is called \"branch\"" }
+        wrong_name (codes "\"branch\"") }
     ensures first_in_order_of_keys { hint_in_text (codes "{\"units_mult\":1,\"multiply\":0}") ≡
         codes "\"multiply\" is no whole number 1 to 100" }
     ensures after_good_keys { hint_in_text (codes "{\"add\":5,\"multiply\":0,\"load\":2}") ≡
         codes "\"multiply\" is no whole number 1 to 100" }
     ensures last_of_equal_keys { hint_in_text (codes "{\"multiply\":5,\"multiply\":0}") ≡
         codes "\"multiply\" is no whole number 1 to 100" }
-    ensures newline { hint_in_text (codes "{\"add\\n\":5}") ≡ codes "no number of a profile is called \"add\\n\"" }
+    ensures newline { hint_in_text (codes "{\"add\\n\":5}") ≡ wrong_name (codes "\"add\\n\"") }
     ensures escape { hint_in_text (codes "{\"\\u001b[2J\":5}") ≡
-        codes "no number of a profile is called \"\\u001b[2J\"" }
-    ensures quote { hint_in_text (codes "{\"\\\"\":5}") ≡ codes "no number of a profile is called \"\\\"\"" }
+        wrong_name (codes "\"\\u001b[2J\"") }
+    ensures quote { hint_in_text (codes "{\"\\\"\":5}") ≡ wrong_name (codes "\"\\\"\"") }
+    ensures in_a_list { hint_in_text (codes "units_add=2,units_mult=1") ≡ wrong_name (codes "\"units_mult\"") }
+    ensures above_in_a_list { hint_in_text (codes "multiply=101") ≡ codes "\"multiply\" is no whole number 1 to 100" }
+    ensures no_list { hint_in_text (codes "units_add=2;load=5") ≡
+        codes "no JSON object such as {\"units_add\":2}, nor units_add=2" }
     ensures profile { hint_in_text (codes "{\"multiply\":5}") ≡ [] }
 {}

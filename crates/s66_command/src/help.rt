@@ -59,8 +59,8 @@ Blocks are straight-line COMPASS code for the CDC 6600. s66 orders, times, draws
 and explains them, and proves that no order is faster.";
 
 const PROFILE_LONG: &str = "\
-The timing profile, a JSON object [default: {}]; what it does not
-name is standard.
+The timing profile, a JSON object or a list as units_add=2,load=5
+[default: {}]; what it does not name is standard.
 
 Times in minor cycles: boolean, shift, normalise, add, longadd,
 multiply, divide, population, increment, load.
@@ -68,7 +68,8 @@ Units of each kind: units_boolean, units_shift, units_add,
 units_longadd, units_multiply, units_divide, units_increment.
 Each is 1 to 100.
 
-A third Multiply unit: --profile '{\"units_multiply\":3}'";
+A third Multiply unit: --profile units_multiply=3
+or, as JSON: --profile '{\"units_multiply\":3}'";
 
 const NODES_LONG: &str = "\
 The most splits of a block's search, 0 to 1000000 [default: 100000]

@@ -1,15 +1,22 @@
 ghost use Rattle.std.specs.Prelude.{[], ◌≡◌, ◌↔◌, ◌++◌, IfOk, IsSome, codes, string_bytes};
 ghost use Rattle.serde_json.specs.View.{members_view};
-ghost use Rattle.s66_command.specs.ProfileHint.{hint_in_members, hint_in_text, shown};
+ghost use Rattle.s66_command.specs.ProfileHint.{hint_in_members, hint_in_text, shown, wrong_name};
 ghost use Rattle.s66_command.specs.ProfileText.{profile_in_text};
 
-use crate::profile::{number, place};
+use crate::profile::{number, place, value_of};
+use crate::profile_error::ProfileError;
 use s66_isa::PROFILE_LIMIT;
 use serde_json::{Map, Value};
 use std::alloc::{AllocError, Global};
 
-/// What is wrong with a text that is no JSON object.
-const NO_OBJECT: &str = "no JSON object; --profile takes a text, not a file";
+/// What is wrong with a text that is no JSON object, nor stands for one.
+const NO_OBJECT: &str = "no JSON object such as {\"units_add\":2}, nor units_add=2";
+
+/// What comes after a name that is wrong.
+const RIGHT_NAMES: &str = "\n\
+    the names are boolean, shift, normalise, add, longadd, multiply, divide,\n\
+    population, increment, load, units_boolean, units_shift, units_add,\n\
+    units_longadd, units_multiply, units_divide, units_increment";
 
 /// A key as JSON writes it: in quotes, with each quote, each backslash and each byte below a space escaped. Other bytes stand as they
 /// are, also those of the control characters U+007F to U+009F.
@@ -21,10 +28,11 @@ fn shown(alloc: Global, key: &str) -> Result<String, AllocError>
 
 /// What is wrong with a key that names no number.
 fn no_such_number(alloc: Global, key: &str) -> Result<String, AllocError>
-    ensures { IfOk result (λ hint. string_bytes hint ≡ codes "no number of a profile is called " ++ shown key.now) }
+    ensures { IfOk result (λ hint. string_bytes hint ≡ wrong_name (shown key.now)) }
 {
     let mut hint = String::from_str(alloc, "no number of a profile is called ")?;
     hint.push_str(shown(alloc, key)?.as_str())?;
+    hint.push_str(RIGHT_NAMES)?;
     Ok(hint)
 }
 
@@ -55,7 +63,7 @@ fn hint_in(alloc: Global, members: &Map<String, Value>) -> Result<String, AllocE
     Ok(String::new(alloc))
 }
 
-/// Why a text gives no profile, as a line without its newline; empty if it gives one. For after `read_profile` gave `BadProfile`.
+/// Why a text gives no profile, as lines without the last newline; empty if it gives one. For after `read_profile` gave `BadProfile`.
 ///
 /// # Errors
 ///
@@ -64,12 +72,12 @@ pub fn profile_hint(alloc: Global, text: &str) -> Result<String, AllocError>
     ensures value { IfOk result (λ hint. string_bytes hint ≡ hint_in_text text.now) }
     ensures empty { IfOk result (λ hint. (string_bytes hint ≡ []) ↔ IsSome (profile_in_text text.now)) }
 {
-    match Value::from_str(alloc, text) {
+    match value_of(alloc, text) {
         Ok(value) => match value.as_object() {
             Some(members) => hint_in(alloc, members),
             None => String::from_str(alloc, NO_OBJECT),
         },
-        Err(e) if e.is_memory() => Err(AllocError),
-        Err(_) => String::from_str(alloc, NO_OBJECT),
+        Err(ProfileError::BadProfile) => String::from_str(alloc, NO_OBJECT),
+        Err(ProfileError::OutOfMemory) => Err(AllocError),
     }
 }

@@ -1,7 +1,8 @@
-//! The command line: what the words that the program is called with ask for, and the timing profile that they give as a JSON text.
+//! The command line: what the words that the program is called with ask for, and the timing profile that they give as a JSON text or a list.
 #![tactic(auto)]
 
 mod app;
+mod changes;
 mod command;
 mod examples;
 mod help;
@@ -10,13 +11,15 @@ mod limits;
 mod options;
 mod profile;
 mod profile_error;
+mod profile_list;
 mod strategy;
 mod subcommand;
 mod usage;
 
 pub use app::VERSION;
+pub use changes::{Change, changes_of, push_changes};
 pub use command::{Asked, Command, OrderStyle, Reads, SumStyle};
-pub use examples::{hint_examples, profile_examples, refusal_examples};
+pub use examples::{hint_examples, list_examples, profile_examples, refusal_examples};
 pub use hint::profile_hint;
 pub use limits::{BLOCK_NUMBER_LIMIT, NODES_DEFAULT, WORKERS_DEFAULT};
 pub use profile::read_profile;

@@ -1,18 +1,20 @@
-ghost use Rattle.std.specs.Prelude.{◌≡◌, ◌<◌, ◌≤◌, IfOk, IfSome, Some, length, option_map};
+ghost use Rattle.std.specs.Prelude.{◌≡◌, ◌<◌, ◌≤◌, Err, IfOk, IfSome, None, Some, length, option_map};
 ghost use Rattle.serde_json.specs.View.{view};
 ghost use Rattle.s66_isa.specs.Profiles.{profile_of};
 ghost use Rattle.s66_isa.specs.Table.{entries};
 ghost use Rattle.s66_command.specs.ProfileGiven.{Gives};
-ghost use Rattle.s66_command.specs.ProfileText.{profile_number, profile_numbers, profile_numbers_in_text, place_of, profile_in_text};
-ghost use Rattle.s66_command.specs.declared.profile_error.ProfileError.TheVariants.{OutOfMemory};
+ghost use Rattle.serde_json.specs.Read.{read};
+ghost use Rattle.s66_command.specs.ProfileText.{json_of, profile_number, profile_numbers, profile_numbers_in_text, place_of, profile_in_text};
+ghost use Rattle.s66_command.specs.declared.profile_error.ProfileError.TheVariants.{BadProfile, OutOfMemory};
 
 use crate::profile_error::ProfileError;
+use crate::profile_list::object_of_list;
 use s66_isa::{PROFILE_LENGTH, PROFILE_LIMIT, Profile};
 use serde_json::Value;
 use std::alloc::Global;
 
 /// The name of each number of a profile, in the order of `Profile::entries`.
-const NAMES: [&str; PROFILE_LENGTH] = [
+pub(crate) const NAMES: [&str; PROFILE_LENGTH] = [
     "boolean",
     "shift",
     "normalise",
@@ -68,9 +70,21 @@ fn profile_in(value: &Value) -> Option<Profile>
     Profile::of(&numbers)
 }
 
-/// The profile that a JSON object gives. Its keys are names of the numbers of a profile, as `boolean` or `units_multiply`, and
-/// its values whole numbers 1 to `PROFILE_LIMIT`, written in digits alone. A number that has no key is the standard profile's,
-/// and of equal keys the last counts.
+/// The JSON value of a text, or of the object for which the text stands if it is a list.
+pub(crate) fn value_of(alloc: Global, text: &str) -> Result<Value, ProfileError>
+    ensures value { IfOk result (λ value. read (json_of text.now) ≡ Some (view value)) }
+    ensures refused { result ≡ Err BadProfile → read (json_of text.now) ≡ None }
+    ensures memory { result ≡ Err OutOfMemory → 0 < length text.now }
+{
+    match object_of_list(alloc, text)? {
+        Some(object) => Ok(Value::from_str(alloc, object.as_str())?),
+        None => Ok(Value::from_str(alloc, text)?),
+    }
+}
+
+/// The profile that a JSON object gives, or a list that stands for one, as `units_add=2,load=5`. Its keys are names of the numbers of
+/// a profile, as `boolean` or `units_multiply`, and its values whole numbers 1 to `PROFILE_LIMIT`, written in digits alone. A number
+/// that has no key is the standard profile's, and of equal keys the last counts.
 ///
 /// # Errors
 ///
@@ -81,6 +95,6 @@ pub fn read_profile(alloc: Global, text: &str) -> Result<Profile, ProfileError>
     ensures numbers { IfOk result (λ p. profile_numbers_in_text text.now ≡ Some (entries p)) }
     ensures memory { result ≡ Err OutOfMemory → 0 < length text.now }
 {
-    let value = Value::from_str(alloc, text)?;
+    let value = value_of(alloc, text)?;
     profile_in(&value).ok_or(ProfileError::BadProfile)
 }

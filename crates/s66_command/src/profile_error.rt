@@ -2,6 +2,7 @@ ghost use Rattle.std.specs.Prelude.{◌≡◌};
 ghost use Rattle.serde_json.specs.Errors.{IsMemory};
 ghost use Rattle.s66_command.specs.declared.profile_error.ProfileError.TheVariants.{BadProfile, OutOfMemory};
 
+use std::alloc::AllocError;
 use std::{error, fmt};
 
 /// Why a text gave no profile. It is displayed as the line that reports it.
@@ -9,9 +10,18 @@ use std::{error, fmt};
 /// `OutOfMemory` is for a growth that was refused, and may be returned in place of any other answer.
 #[derive(Clone, Copy, Debug, Drop, PartialEq, Eq)]
 pub enum ProfileError {
-    /// It is no JSON object whose keys all name numbers of a profile, each with a whole number 1 to `PROFILE_LIMIT`.
+    /// It is neither a JSON object whose keys all name numbers of a profile, each with a whole number 1 to `PROFILE_LIMIT`, nor a list
+    /// that stands for one.
     BadProfile,
     OutOfMemory,
+}
+
+impl From<AllocError> for ProfileError {
+    ghost from_gives = { λ _ fault. fault ≡ OutOfMemory };
+
+    fn from(_e: AllocError) -> ProfileError {
+        ProfileError::OutOfMemory
+    }
 }
 
 impl From<serde_json::Error> for ProfileError {

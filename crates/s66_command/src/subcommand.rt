@@ -57,7 +57,7 @@ const CUT: OptionRow = (
 const PROFILE: OptionRow = (
     "profile",
     Written,
-    "The timing profile, a JSON object [default: {}]",
+    "The timing profile, as units_add=2,load=5 or in JSON",
 );
 
 const BLOCK_NUMBER: Value = Number {
@@ -173,14 +173,29 @@ pub(crate) const SUBCOMMANDS: &[SubcommandRow] = &[
     (
         "compare",
         Plain,
-        &[CUT, PROFILE],
+        &[
+            CUT,
+            PROFILE,
+            (
+                "strict",
+                Flag,
+                "Ends with 8, where it would with 0, if lint lists lines\n\
+                 of OLD that order may harm",
+            ),
+            (
+                "text",
+                Flag,
+                "Tells by lines and instructions which order isn't legal,\n\
+                 and why",
+            ),
+        ],
         "Tells whether one source is another but for legal orders of blocks:\n\
          OLD, a line *S66 NEW, then NEW",
         "s66 compare [OPTIONS] < SOURCES",
         help_ending!(
             "s66 compare --cut < SOURCES",
             "a source or the profile was refused",
-            ",\n        5 something else is changed"
+            ",\n        5 something else is changed, 8 lint lists lines of OLD (--strict)"
         ),
     ),
     (
@@ -195,8 +210,8 @@ pub(crate) const SUBCOMMANDS: &[SubcommandRow] = &[
             (
                 "words",
                 Flag,
-                "Prints the words of each block, as written and in the\n\
-                 best order found",
+                "Prints the words of each block, or of the loop that a\n\
+                 branch behind it closes, as written and as found",
             ),
             BLOCK,
         ],
@@ -215,13 +230,16 @@ pub(crate) const SUBCOMMANDS: &[SubcommandRow] = &[
     (
         "check",
         Check,
-        &[("text", Flag, "Says in sentences why no order is faster")],
+        &[
+            ("text", Flag, "Says in sentences why no order is faster"),
+            ("some", Flag, "Ends with 5 if there is no certificate"),
+        ],
         "Checks each certificate by itself",
         "s66 check [OPTIONS] < CERTIFICATES",
         help_ending!(
             "s66 check < CERTIFICATES",
             "the documents were refused",
-            ",\n        5 some verdict is NO"
+            ",\n        5 some verdict is NO or (--some) there is none"
         ),
     ),
     (
@@ -270,6 +288,12 @@ pub(crate) const SUBCOMMANDS: &[SubcommandRow] = &[
                 "Puts the text of each instruction before its row, and a\n\
                  ruler above the rows",
             ),
+            (
+                "units",
+                Flag,
+                "Also draws below such rows which instruction holds each\n\
+                 functional unit and each register",
+            ),
             BLOCK,
         ],
         "Draws each block as it is written",
@@ -279,7 +303,16 @@ pub(crate) const SUBCOMMANDS: &[SubcommandRow] = &[
     (
         "deps",
         Plain,
-        &[CUT, BLOCK],
+        &[
+            CUT,
+            (
+                "text",
+                Flag,
+                "Prints a line for each pair, with their texts and why\n\
+                 the one depends on the other: X6 RAW, MEMORY WAR",
+            ),
+            BLOCK,
+        ],
         "Prints what each instruction depends on",
         "s66 deps [OPTIONS] < SOURCE",
         help_ending!("s66 deps < SOURCE", "the source was refused"),

@@ -116,7 +116,7 @@ fn asked_by(name: &str, given: &ArgMatches) -> Asked
             };
             Asked::Order { strategy, style }
         }
-        "compare" => Asked::Compare,
+        "compare" => Asked::Compare { text },
         "sum" => {
             let style = SumStyle {
                 trace,
@@ -128,8 +128,11 @@ fn asked_by(name: &str, given: &ArgMatches) -> Asked
         "check" => Asked::Check { text },
         "time" => Asked::Time { trace },
         "why" => Asked::Why { order, text },
-        "chart" => Asked::Chart { text },
-        "deps" => Asked::Deps,
+        "chart" => {
+            let units = flag_in(given, "units");
+            Asked::Chart { text, units }
+        }
+        "deps" => Asked::Deps { text },
         "page" => Asked::Page { strategy },
         "json" => Asked::Json { order },
         _ => unreachable!(),
@@ -145,6 +148,8 @@ fn command_by<'a>(name: &str, given: &ArgMatches<'a>) -> Command<'a>
         cut: flag_in(given, "cut"),
         block: block_in(given),
         profile: profile_in(given),
+        strict: flag_in(given, "strict"),
+        some: flag_in(given, "some"),
         asked: asked_by(name, given),
     }
 }

@@ -8,6 +8,6 @@ use Rattle.s66_command.proofs.hint.profile_hint.Goals as goal
 
 pub returns-in-Some-clause-empty : goal.returns-in-Some-clause-empty
 returns-in-Some-clause-empty c =
-    let empty = empty_if_profile c.args.text.now _ _ c.in-Ok.ensures.ok (sym c.in-Some.ensures) in
+    let empty = empty_if_profile c.args.text.now _ _ c.in-Ok.ensures.value (sym c.in-Some.ensures) in
     IfOk-weaker c.hint_in.result (λ hint. string_bytes hint ≡ hint_in_members (members_view c.in-Some.members.now.entries)) (λ hint. (string_bytes hint ≡ []) ↔ IsSome (profile_in_text c.args.text.now))
     (λ hint said. ((λ e. empty.0 (sym said ∙ e)), (λ e. said ∙ empty.1 e))) c.hint_in.ensures
