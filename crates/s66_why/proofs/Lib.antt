@@ -4,10 +4,13 @@ pub mod Appended
 pub mod Earlier
 pub mod Forbidden
 pub mod Found
+pub mod HazardFound
 pub mod Last
 pub mod Lines
 pub mod Numbers
 pub mod Paths
+pub mod PointCount
 pub mod Runs
+pub mod UnitRows
 pub mod Writes
 pub mod WrittenRows

@@ -1,10 +1,13 @@
 pub mod Chart
 pub mod Examples
 pub mod Forbids
+pub mod Hazards
 pub mod KeptPoints
 pub mod Numbers
 pub mod Paths
+pub mod Reservations
 pub mod Runs
 pub mod Sums
 pub mod TextChart
+pub mod Units
 pub mod Why

@@ -1,4 +1,4 @@
--- Used by contracts within the crate alone: numbers that name instructions of a block.
+-- Used by contracts: numbers that name instructions of a block.
 use Rattle.std.specs.Prelude.{ℕ, ◌≤◌, List, length}
 use Rattle.s66_isa.specs.Lists.{Among}
 use Rattle.s66_line.specs.Block.{Block, instrs_of}

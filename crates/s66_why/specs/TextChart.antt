@@ -31,13 +31,17 @@ ruler width cycles =
 
 -- THE ROWS
 
-abbrev pub text_row : Block → TimedOrder → ℕ → List ℕ
-text_row block t position = in_places (text_width block) (text_of block (point_at t position).number) ++ instruction_row t position
+-- its text in this many places
+abbrev pub text_row : (width : ℕ) → Block → TimedOrder → ℕ → List ℕ
+text_row width block t position = in_places width (text_of block (point_at t position).number) ++ instruction_row t position
 
 -- a NO has no text
-abbrev pub blank_row : Block → TimedOrder → ℕ → List ℕ
-blank_row block t position = if has_filler t position then in_places (text_width block) [] ++ filler_row t position else []
+abbrev pub blank_row : (width : ℕ) → TimedOrder → ℕ → List ℕ
+blank_row width t position = if has_filler t position then in_places width [] ++ filler_row t position else []
+
+abbrev pub chart_in_places : (width : ℕ) → Block → TimedOrder → List ℕ
+chart_in_places width block t =
+    ruler width (cycles_of t) ++ flat_map (λ position. text_row width block t position ++ blank_row width t position) (range_with_len 0 (length t.numbers))
 
 abbrev pub text_chart : Block → TimedOrder → List ℕ
-text_chart block t =
-    ruler (text_width block) (cycles_of t) ++ flat_map (λ position. text_row block t position ++ blank_row block t position) (range_with_len 0 (length t.numbers))
+text_chart block t = chart_in_places (text_width block) block t

@@ -7,6 +7,8 @@ ghost use Rattle.s66_model.specs.Examples.{standard_problem, first_order, one_lo
 ghost use Rattle.s66_line.specs.Block.{Block as BlockOf};
 ghost use Rattle.s66_why.specs.Chart.{chart_text};
 ghost use Rattle.s66_why.specs.Examples.{one_load_lines, packing_gap_lines};
+ghost use Rattle.s66_why.specs.Hazards.{hazards, hazards_text};
+ghost use Rattle.s66_why.specs.Reservations.{units_chart};
 ghost use Rattle.s66_why.specs.TextChart.{text_chart};
 ghost use Rattle.s66_why.specs.Why.{why_text};
 
@@ -52,6 +54,31 @@ pub fn text_chart_example()
         codes "IX4 X5+X6    3 ..I==.......\n" ++
         codes "            NO ...I........\n" ++
         codes "SA1 A1+100   4 ....I=======\n" }
+{}
+
+/// A block whose texts are shorter than the names of units: a unit that is taken again when it is free, while a register that is loaded
+/// is reserved for longer than its unit.
+#[tactic(auto, unfolding(s66_isa::specs::Table::row, s66_model::specs::Timing::issue_of, s66_model::specs::Timing::start_of, s66_model::specs::Timing::point, crate::specs::Chart::digits))]
+pub fn units_chart_example()
+    ensures { units_chart one_load_lines (record { problem = standard_problem one_load; numbers = 1 ∷ 2 ∷ 3 ∷ [] }) ≡
+        codes "                  0         10\n" ++
+        codes "SA1 A1+B1       1 I=======........\n" ++
+        codes "BX6 X1          2 .IWWWWWW===.....\n" ++
+        codes "BX7 X2          3 ............I==.\n" ++
+        codes "BOOLEAN   1       .2----------3---\n" ++
+        codes "INCREMENT 1       1---............\n" ++
+        codes "A1                1--.............\n" ++
+        codes "X1                1-------........\n" ++
+        codes "X6                .2---------.....\n" ++
+        codes "X7                ............3--.\n" }
+{}
+
+/// Hazards of each kind in one register, `FX1 X1*X2` and `FX1 X1+X3`; in memory, `SA6 A6+B1` and `SA1 A2+B2`; and none, of two loads.
+#[tactic(auto, unfolding(crate::specs::Why::digits))]
+pub fn hazard_examples()
+    ensures registers { hazards_text (hazards (instr 0o40 1 1 2) (instr 0o30 1 1 3)) ≡ codes "X1 RAW, X1 WAR, X1 WAW" }
+    ensures memory { hazards_text (hazards (instr 0o54 6 6 1) (instr 0o54 1 2 2)) ≡ codes "MEMORY RAW" }
+    ensures none { hazards_text (hazards (instr 0o54 1 3 1) (instr 0o54 2 4 2)) ≡ [] }
 {}
 
 /// Each cause: a unit, a result that is written or read, memory, and a reader of a register, also of one that is loaded; an order

@@ -1,10 +1,13 @@
 //! What is true of all that is written: contracts of functions that do nothing.
 
-ghost use Rattle.std.specs.Prelude.{ℕ, List, ◌≤◌, length};
+ghost use Rattle.std.specs.Prelude.{ℕ, List, ◌≡◌, ◌≤◌, length, nat_lt};
 ghost use Rattle.s66_isa.specs.Lists.{Among};
 ghost use Rattle.s66_isa.specs.declared.limits.TheConstants.{BLOCK_LIMIT};
+ghost use Rattle.s66_isa.specs.Table.{Instr};
+ghost use Rattle.s66_model.specs.Dependence.{conflict};
 ghost use Rattle.s66_model.specs.Timing.{Problem, points_of, point_of};
 ghost use Rattle.s66_why.specs.Forbids.{AreFromOne, IsForbidden};
+ghost use Rattle.s66_why.specs.Hazards.{hazards};
 ghost use Rattle.s66_why.specs.Paths.{AddsUp, AreOnce};
 ghost use Rattle.s66_why.specs.Why.{stretches_at};
 ghost use Rattle.s66_why.specs.declared.stretch.Stretch.{Stretch as StretchOf};
@@ -21,4 +24,9 @@ pub fn cause_law()
 /// each of its instructions the next one waits by a rule, or stands in line behind it, and what the steps add is that time.
 pub fn path_law()
     ensures { (b : Problem) (ns : List ℕ) → 1 ≤ length ns → AreFromOne ns → AreOnce ns → AddsUp b (points_of b ns) }
+{}
+
+/// Two instructions must keep their order exactly when a hazard is told between them.
+pub fn hazard_law()
+    ensures { (m n : Instr) → nat_lt 0 (length (hazards m n)) ≡ conflict m n }
 {}

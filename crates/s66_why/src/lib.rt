@@ -4,6 +4,7 @@
 mod activity;
 mod cause;
 mod examples;
+mod hazard;
 mod holders;
 mod laws;
 mod lost;
@@ -11,24 +12,33 @@ mod path;
 mod picture;
 mod placed;
 mod points;
+mod reservation;
 mod row;
 mod stretch;
 mod text;
 mod text_chart;
+mod units;
+mod units_chart;
 mod waits;
+mod work;
 
 pub use cause::{Cause, Holder};
 pub use examples::{
-    cause_examples, chart_examples, equal_cause_examples, path_example, text_chart_example,
-    text_example,
+    cause_examples, chart_examples, equal_cause_examples, hazard_examples, path_example,
+    text_chart_example, text_example, units_chart_example,
 };
-pub use laws::{cause_law, path_law};
+pub use hazard::{Access, Hazard, Place, push_hazards, push_hazards_text, push_register_name};
+pub use laws::{cause_law, hazard_law, path_law};
 pub use lost::Lost;
 pub use path::{Step, path_of, steps_of};
 pub use picture::chart;
 pub use placed::PlacedInstr;
 pub use points::points_of;
+pub use reservation::{Reservation, register_reservations};
 pub use stretch::{Conflict, Stretch};
 pub use text::{bank_name, conflict_name, push_in_three, push_why};
 pub use text_chart::{push_blanks, push_in_places, push_text_chart, text_width};
+pub use units::{left, taken, works_of_kind};
+pub use units_chart::push_units_chart;
 pub use waits::waits_of;
+pub use work::{Work, works_of};

@@ -1,6 +1,6 @@
 ghost use Rattle.std.specs.Prelude.{◌≡◌, ◌+◌, ◌≤◌, ◌==◌, if◌then◌else◌, max, reverse};
 ghost use Rattle.s66_isa.specs.Table.{same_reg};
-ghost use Rattle.s66_model.specs.Timing.{done_at, end_of, readers_wait};
+ghost use Rattle.s66_model.specs.Timing.{done_at, end_of, readers_wait, writes_reg};
 ghost use Rattle.s66_time.specs.declared.limits.TheConstants.{TOTAL_LIMIT};
 ghost use Rattle.s66_why.specs.Why.{lets_go};
 
@@ -78,6 +78,18 @@ impl PlacedInstr {
             done = done.max(time_in(made, register));
         }
         done
+    }
+
+    /// Whether it has a result in a register.
+    pub fn writes(&self, register: Reg) -> bool
+        ensures { result ≡ writes_reg register self.now }
+    {
+        for made in self.results.as_slice() {
+            if is_same_register(made.reg, register) {
+                return true;
+            }
+        }
+        false
     }
 
     /// When its unit is free and its results are done.

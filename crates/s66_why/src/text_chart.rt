@@ -6,7 +6,7 @@ ghost use Rattle.s66_model.specs.Timing.{total_of};
 ghost use Rattle.s66_why.specs.declared.row.TheConstants.{NAME_ROOM, ROW_FRAME};
 ghost use Rattle.s66_why.specs.Runs.{IsInOrder};
 ghost use Rattle.s66_why.specs.Chart.{instruction_row, row_text};
-ghost use Rattle.s66_why.specs.TextChart.{blank_row, in_places, in_ten, ruler, text_chart, text_row, text_width};
+ghost use Rattle.s66_why.specs.TextChart.{blank_row, chart_in_places, in_places, in_ten, ruler, text_chart, text_row, text_width};
 
 use crate::activity::Activity;
 use crate::picture::{count, has_filler};
@@ -134,11 +134,10 @@ fn push_text_row(
     page: &mut [u8],
 ) -> Result<(), AllocError>
     requires block { timed.now.problem.block ≡ instrs_of block.now }
-    requires width { width ≡ text_width block.now }
     requires position { position < length timed.now.numbers }
     requires page { total_of timed.now.problem timed.now.numbers + ROW_FRAME ≤ length page.old }
     ensures page { length page.new ≡ length page.old }
-    ensures text { OnOk result (out.new.items ≡ out.old.items ++ text_row block.now timed.now position) }
+    ensures text { OnOk result (out.new.items ≡ out.old.items ++ text_row width block.now timed.now position) }
 {
     let number = timed.order().numbers()[position];
     let text = block.text(number as usize);
@@ -149,17 +148,15 @@ fn push_text_row(
 /// The row of the `NO` after the instruction at a position, if there is one.
 fn push_blank_row(
     out: &mut Vec<u8>,
-    block: &Block,
     width: usize,
     timed: &Timed,
     position: usize,
     page: &mut [u8],
 ) -> Result<(), AllocError>
-    requires width { width ≡ text_width block.now }
     requires position { position < length timed.now.numbers }
     requires page { total_of timed.now.problem timed.now.numbers + ROW_FRAME ≤ length page.old }
     ensures page { length page.new ≡ length page.old }
-    ensures text { OnOk result (out.new.items ≡ out.old.items ++ blank_row block.now timed.now position) }
+    ensures text { OnOk result (out.new.items ≡ out.old.items ++ blank_row width timed.now position) }
 {
     if !has_filler(timed, position) {
         return Ok(());
@@ -178,29 +175,41 @@ fn push_rows(
     page: &mut [u8],
 ) -> Result<(), AllocError>
     requires block { timed.now.problem.block ≡ instrs_of block.now }
-    requires width { width ≡ text_width block.now }
     requires page { total_of timed.now.problem timed.now.numbers + ROW_FRAME ≤ length page.old }
     ensures { OnOk result (out.new.items ≡ out.old.items ++
-        flat_map (λ position. text_row block.now timed.now position ++ blank_row block.now timed.now position)
+        flat_map (λ position. text_row width block.now timed.now position ++ blank_row width timed.now position)
         (range_with_len 0 (length timed.now.numbers))) }
 {
     for position in 0..count(timed) {
         push_text_row(out, block, width, timed, position, page)?;
-        push_blank_row(out, block, width, timed, position, page)?;
+        push_blank_row(out, width, timed, position, page)?;
     }
     Ok(())
 }
 
-/// Appends a timed order of a block as `chart` draws it, each row after the text of its instruction, below a ruler.
+/// Appends a timed order of a block as `chart` draws it, each row after the text of its instruction in this many places, below a ruler.
 ///
-/// A text is on the left of as many places as the longest of the block needs, and a blank follows it; the row of a `NO` has none.
-/// The ruler has the number of every tenth minor cycle, from 0 to the end, above its column. `Err` is out of memory. It takes time
-/// linear in the length of what it appends, and allocates nothing but room in `out`.
+/// A text is on the left of its places, and a blank follows it; the row of a `NO` has none. The ruler has the number of every tenth
+/// minor cycle, from 0 to the end, above its column. `Err` is out of memory. It takes time linear in the length of what it appends,
+/// and allocates nothing but room in `out`.
+pub fn push_chart_in_places(
+    out: &mut Vec<u8>,
+    block: &Block,
+    width: usize,
+    timed: &Timed,
+) -> Result<(), AllocError>
+    requires block { timed.now.problem.block ≡ instrs_of block.now }
+    requires width { width ≤ TEXT_LIMIT }
+    ensures { OnOk result (out.new.items ≡ out.old.items ++ chart_in_places width block.now timed.now) }
+{
+    push_ruler(out, width, timed.total())?;
+    push_rows(out, block, width, timed, &mut [0; ROW_LIMIT])
+}
+
+/// As `push_chart_in_places`, in as many places as the longest text of the block needs.
 pub fn push_text_chart(out: &mut Vec<u8>, block: &Block, timed: &Timed) -> Result<(), AllocError>
     requires { timed.now.problem.block ≡ instrs_of block.now }
     ensures { OnOk result (out.new.items ≡ out.old.items ++ text_chart block.now timed.now) }
 {
-    let width = text_width(block);
-    push_ruler(out, width, timed.total())?;
-    push_rows(out, block, width, timed, &mut [0; ROW_LIMIT])
+    push_chart_in_places(out, block, text_width(block), timed)
 }

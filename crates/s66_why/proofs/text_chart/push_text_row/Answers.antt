@@ -1,4 +1,4 @@
-use Rattle.std.proofs.Common.{ℕ, List, ◌≡◌, ◌++◌, ◌∙◌, ap, ap₂, append_assoc, get_or, sym}
+use Rattle.std.proofs.Common.{ℕ, List, ◌≡◌, ◌++◌, ◌∙◌, ap, append_assoc, get_or, sym}
 use Rattle.std.proofs.lemmas.Result.{IfOk-equal}
 use Rattle.s66_dep.specs.Ordered.{Ordered}
 use Rattle.s66_line.specs.Block.{text_of}
@@ -21,4 +21,4 @@ returns-clause-text c =
     in
     IfOk-equal c.push_instruction.result _ _ _ c.push_instruction.ensures.text
     (ap (λ xs. xs ++ row) c.in_ok-push_in_places.ensures ∙ append_assoc out (in_places c.args.width c.as_slice.result.now) row
-    ∙ ap₂ (λ width xs. out ++ (in_places width xs ++ row)) c.requires.width text)
+    ∙ ap (λ xs. out ++ (in_places c.args.width xs ++ row)) text)

@@ -1,0 +1,11 @@
+use Rattle.std.proofs.Common.{ℕ, ◌≡◌, ◌-◌, ◌++◌, flat_map}
+use Rattle.std.specs.List.{range_with_len}
+use Rattle.s66_isa.specs.declared.reg.TheConstants.{REGISTER_COUNT}
+use Rattle.s66_isa.specs.Registers.{register_at}
+use Rattle.s66_why.specs.Reservations.{register_row, register_rows}
+use Rattle.s66_why.proofs.units_chart.push_register_rows.Given as goal
+
+abbrev pub invariant-loop-index : goal.invariant-loop-index
+invariant-loop-index l =
+    l.out.items ++ flat_map (λ (index : ℕ). register_row l.width l.cycles l.points (register_at index)) (range_with_len l.index (REGISTER_COUNT - l.index))
+    ≡ l.fn.out.items ++ register_rows l.width l.cycles l.points
