@@ -1,4 +1,4 @@
--- The points of a timed order, the first first, and what is written of them one after the other.
+-- What is written of the points of a timed order, one after the other.
 use Rattle.std.proofs.Common.{ℕ, suc, ◌+◌, ◌-◌, ◌<◌, ◌≡◌, List, [], ◌∷◌, ◌++◌, ap, append_assoc, arith, flat_map, length, take, get_or, reverse, sym, ◌∙◌}
 use Rattle.std.specs.List.{range_with_len}
 use Rattle.std.proofs.lemmas.Grind.{flat_map-append}
@@ -7,16 +7,12 @@ use Rattle.s66_isa.proofs.Lists.{weigh-append}
 use Rattle.s66_isa.specs.Lists.{weigh}
 use Rattle.s66_isa.specs.declared.instr.Kind.{Kind}
 use Rattle.s66_line.specs.Block.{Block, bytes_of}
-use Rattle.s66_model.specs.Timing.{Point, points_of}
-use Rattle.s66_model.proofs.PointTimes.{points_after-length}
-use Rattle.s66_time.specs.TimedOrder.{TimedOrder}
+use Rattle.s66_model.specs.Timing.{Point}
 use Rattle.s66_why.specs.Why.{stretches_at}
 use Rattle.s66_why.proofs.Earlier.{earlier-more}
-use Rattle.s66_page.specs.declared.work.Work.{Work}
-use Rattle.s66_page.specs.Page.{instruction_row, instruction_rows, left_from, row_head, row_marks, taken_from, unit_row_of, unit_rows, work}
-
-pub points_length : (t : TimedOrder) → length (reverse (points_of t.problem t.numbers)) ≡ length t.numbers
-points_length t = omega (arith, length-reverse (points_of t.problem t.numbers), points_after-length t.problem [] t.numbers)
+use Rattle.s66_why.specs.declared.work.Work.{Work}
+use Rattle.s66_page.specs.Page.{instruction_row, instruction_rows, row_head, row_marks, unit_row_of, unit_rows}
+use Rattle.s66_why.specs.Units.{left_from, taken_from, work}
 
 -- ONE MORE
 

@@ -1,5 +1,5 @@
 -- A page holds the row of each instruction of an order, and a row its times and its bars.
-use Rattle.std.proofs.Common.{ℕ, ◌+◌, ◌-◌, ◌<◌, ◌≡◌, ◌∙◌, List, [], ◌∷◌, ◌++◌, ap, append_assoc, codes, decimal, drop, flat_map, get_or, inl, inr, length, refl, subst, sym, take}
+use Rattle.std.proofs.Common.{ℕ, ◌+◌, ◌-◌, ◌<◌, ◌≡◌, ◌∙◌, List, [], ◌∷◌, ◌++◌, ap, append_assoc, codes, decimal, drop, flat_map, get_or, inl, inr, length, refl, reverse, subst, sym, take}
 use Rattle.std.proofs.lemmas.List.{append-nil, take-append-drop}
 use Rattle.s66_isa.specs.KindNames.{kind_name}
 use Rattle.s66_isa.specs.Lists.{Among}
@@ -12,7 +12,8 @@ use Rattle.s66_time.proofs.Positions.{point-at, points-push}
 use Rattle.s66_why.specs.declared.stretch.Stretch.{Stretch}
 use Rattle.s66_why.specs.Why.{conflict_name, stretches_at}
 use Rattle.s66_page.specs.declared.row.Shown.TheVariants.{Bar}
-use Rattle.s66_page.specs.Page.{all_kind_rows, bar, bar_start, cycles_of, instruction_row, instruction_rows, on_path, order_head, order_text, row_head, row_marks, row_words, shown_as, span, stretch_bar, stretch_title, why_below, work, work_bar, work_title, works}
+use Rattle.s66_page.specs.Page.{all_kind_rows, all_rows, bar, bar_start, cycles_of, instruction_row, instruction_rows, on_path, order_head, order_text, register_rows, row_head, row_marks, row_words, shown_as, span, stretch_bar, stretch_title, why_below, work_bar, work_title}
+use Rattle.s66_why.specs.Units.{work, works}
 use Rattle.s66_page.specs.Rows.{Holds, place_of_bar, title_of_times}
 
 -- PARTS
@@ -121,13 +122,13 @@ order-rows block title t i lt =
     let row : List ℕ = instruction_row block (on_path t) s (point_at t i) in
     let front = order_head title (cycles_of t) in
     let rows : List ℕ = instruction_rows block (on_path t) (points_of b ns) in
-    let units = all_kind_rows (cycles_of t) (works t) in
+    let above = all_kind_rows (cycles_of t) (works t) ++ register_rows (reverse (points_of b ns)) in
     let more = later-points b (p ∷ s) (drop (i + 1) ns) in
     let split : points_of b ns ≡ more.0 ++ p ∷ s =
     ap (points_of b) (sym (take-append-drop (i + 1) ns)) ∙ points_after-append b [] (take (i + 1) ns) (drop (i + 1) ns)
     ∙ ap (λ (u : List Point). points_after b u (drop (i + 1) ns)) (points-push b ns i lt) ∙ more.1 in
     let held : Holds (instruction_rows block (on_path t) (more.0 ++ p ∷ s)) row =
     subst (λ (q : Point). Holds (instruction_rows block (on_path t) (more.0 ++ p ∷ s)) (instruction_row block (on_path t) s q)) (sym (point-at t i lt)) (rows-hold block (on_path t) more.0 p s) in
-    holds-left row (front ++ rows ++ units) (why_below block t)
-    (holds-left row (front ++ rows) units
-    (holds-right row front rows (subst (λ (u : List Point). Holds (instruction_rows block (on_path t) u) row) (sym split) held)))
+    holds-left row (front ++ all_rows block t) (why_below block t)
+    (holds-right row front (all_rows block t)
+    (holds-right row above rows (subst (λ (u : List Point). Holds (instruction_rows block (on_path t) u) row) (sym split) held)))

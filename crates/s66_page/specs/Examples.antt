@@ -5,6 +5,7 @@ use Rattle.s66_isa.specs.Table.{instr}
 use Rattle.s66_line.specs.Block.{Block}
 use Rattle.s66_model.specs.Examples.{standard_problem}
 use Rattle.s66_time.specs.TimedOrder.{TimedOrder}
+use Rattle.s66_page.specs.FoundOrders.{FoundOrder}
 
 abbrev pub in_order : List Instr → List ℕ → TimedOrder
 in_order block numbers = record { problem = standard_problem block; numbers = numbers }
@@ -25,3 +26,7 @@ third_order_lines = record {
       record { instr = instr 0o44 1 2 3; line = 1; bytes = codes "FX1 X2/X3" } ∷ record { instr = instr 0o11 4 1 5; line = 2; bytes = codes "BX4 X1*X5" }
       ∷ record { instr = instr 0o76 5 1 0; line = 3; bytes = codes "SX5 B1" } ∷ [];
 }
+
+-- for a block that is entered by this name
+abbrev pub found_for : List ℕ → FoundOrder
+found_for name = record { entry = name; order = record { block = []; numbers = [] }; bound = 0; reasons = [] }

@@ -3,8 +3,10 @@ use Rattle.std.specs.Prelude.{ℕ, ◌≡◌, List, [], ◌∷◌, ⊤}
 use Rattle.s66_dep.specs.Ordered.{Ordered}
 use Rattle.s66_line.specs.Block.{Block, instrs_of}
 
--- an order, what every order takes at least, and sentences that say why no order is faster; none if they aren't shown
+-- the name by which it is entered, empty if there is none; an order, what every order takes at least, and sentences that say why no
+-- order is faster; none if they aren't shown
 pub record FoundOrder : Type 0 where
+  pub entry : List ℕ
   pub order : Ordered
   pub bound : ℕ
   pub reasons : List ℕ

@@ -1,27 +1,35 @@
--- To be believed: the page that shows orders of blocks, a row for each instruction and each unit, in minor cycles.
-use Rattle.std.specs.Prelude.{ℕ, zero, suc, Bool, false, ◌+◌, ◌-◌, ◌*◌, ◌/◌, if◌then◌else◌, ◌==◌, List, [], ◌∷◌, ◌++◌, codes, decimal, filter, flat_map, length, map, nat_le, nat_lt, reverse}
+-- To be believed: the page that shows orders of blocks, a row for each unit, each register and each instruction, in minor cycles.
+use Rattle.std.specs.Prelude.{ℕ, zero, suc, Bool, false, ◌+◌, ◌-◌, ◌*◌, ◌/◌, if◌then◌else◌, ◌==◌, List, [], ◌∷◌, ◌++◌, codes, decimal, flat_map, length, nat_lt, reverse}
 use Rattle.std.specs.List.{range_with_len, list_any}
 use Rattle.s66_isa.specs.Lists.{tally, weigh}
 use Rattle.s66_isa.specs.declared.profile.Profile.{Profile}
-use Rattle.s66_isa.specs.Table.{latency_of, same_kind, numbers}
+use Rattle.s66_isa.specs.declared.reg.TheConstants.{REGISTER_COUNT}
+use Rattle.s66_isa.specs.Registers.{register_at}
+use Rattle.s66_isa.specs.Table.{Reg, numbers}
 use Rattle.s66_isa.specs.declared.instr.Kind.{Kind}
 use Rattle.s66_isa.specs.declared.instr.Kind.TheVariants.{Boolean, Shift, Add, LongAdd, Multiply, Divide, Increment}
+use Rattle.s66_command.specs.Changes.{changes, changes_text}
+use Rattle.s66_command.specs.declared.changes.Change.{Change}
 use Rattle.s66_line.specs.Block.{Block, bytes_of, instrs_of, line_of}
-use Rattle.s66_model.specs.Timing.{Point, latest_result, points_of, total_of}
+use Rattle.s66_model.specs.Timing.{Point, points_of, total_of}
 use Rattle.s66_time.specs.TimedOrder.{TimedOrder}
 use Rattle.s66_why.specs.declared.cause.Cause.{Cause}
 use Rattle.s66_why.specs.declared.cause.Cause.TheVariants.{Writes, Takes, References, Reads, Ends}
 use Rattle.s66_why.specs.declared.cause.Holder.{Holder}
 use Rattle.s66_why.specs.declared.stretch.Stretch.{Stretch}
+use Rattle.s66_why.specs.declared.reservation.Reservation.{Reservation}
+use Rattle.s66_why.specs.declared.work.Work.{Work}
+use Rattle.s66_why.specs.Hazards.{register_name}
+use Rattle.s66_why.specs.Reservations.{register_reservations}
+use Rattle.s66_why.specs.Units.{left_from, taken_from, work, works, works_of_kind}
 use Rattle.s66_why.specs.Why.{bank_name, conflict_name, in_three, path, stretches_at, why_text}
 use Rattle.s66_isa.specs.KindNames.{kind_name}
-use Rattle.s66_page.specs.declared.work.Work.{Work}
 use Rattle.s66_page.specs.declared.row.Shown.{Shown}
 use Rattle.s66_page.specs.declared.row.Shown.TheVariants.{Bar, Words}
 use Rattle.s66_page.specs.declared.summary.Summary.{Summary}
 use Rattle.s66_page.specs.declared.page.Part.{Part}
 use Rattle.s66_page.specs.declared.page.Part.TheVariants.{Row, Orders}
-use Rattle.s66_page.specs.declared.start.TheConstants.{PAGE_START, PAGE_HEAD}
+use Rattle.s66_page.specs.declared.start.TheConstants.{PAGE_START, PAGE_HEAD, PAGE_LIST}
 use Rattle.s66_page.specs.FoundOrders.{FoundOrder}
 use Rattle.s66_page.specs.Escape.{escaped, escaped_lines}
 
@@ -63,20 +71,6 @@ abbrev pub shown_as : Shown → Stretch → List ℕ
 shown_as Bar x = stretch_bar x
 shown_as Words x = stretch_words x
 
--- the times of an instruction as it is drawn
-abbrev pub work : Point → Work
-work p =
-    record {
-      number = p.number;
-      kind = p.row.kind;
-      issue = p.issue;
-      start = p.start;
-      latency = latency_of p.row;
-      done = latest_result p;
-      free = p.free;
-      hold = p.row.hold;
-    }
-
 unfoldable pub work_title : Work → List ℕ
 work_title w = codes "ISSUE " ++ decimal w.issue ++ codes " START " ++ decimal w.start ++ codes " DONE " ++ decimal w.done ++ codes " FREE " ++ decimal w.free
 
@@ -115,25 +109,16 @@ instruction_rows block on_path (p ∷ s) = instruction_rows block on_path s ++ i
 
 -- ROWS OF UNITS
 
--- what a unit does that is free at t: it takes the first instruction that issues then or later, and so on
-abbrev pub taken_from : ℕ → List Work → List Work
-taken_from t [] = []
-taken_from t (w ∷ ws) = if nat_le t w.issue then w ∷ taken_from w.free ws else taken_from t ws
-
--- and what is left to other units
-abbrev pub left_from : ℕ → List Work → List Work
-left_from t [] = []
-left_from t (w ∷ ws) = if nat_le t w.issue then left_from w.free ws else w ∷ left_from t ws
-
 unfoldable pub numbered_bar : (class : List ℕ) (from cycles number : ℕ) → List ℕ
 numbered_bar class from cycles number = bar class from cycles (decimal number)
 
-unfoldable pub unit_number : Work → List ℕ
-unit_number w = codes "<text x='" ++ decimal w.start ++ codes "em' y='12'><tspan>" ++ decimal w.number ++ codes "</tspan></text>"
+-- a number from a minor cycle on
+unfoldable pub number_at : (cycle number : ℕ) → List ℕ
+number_at cycle number = codes "<text x='" ++ decimal cycle ++ codes "em' y='12'><tspan>" ++ decimal number ++ codes "</tspan></text>"
 
 -- taken from issue to free, and at work from start on
 unfoldable pub unit_bars : Work → List ℕ
-unit_bars w = numbered_bar (codes "taken") w.issue (w.free - w.issue) w.number ++ numbered_bar (kind_name w.kind) w.start w.hold w.number ++ unit_number w
+unit_bars w = numbered_bar (codes "taken") w.issue (w.free - w.issue) w.number ++ numbered_bar (kind_name w.kind) w.start w.hold w.number ++ number_at w.start w.number
 
 -- of the time of the order, in per cent, rounded down; every order takes some time
 abbrev pub share : (cycles total : ℕ) → ℕ
@@ -166,7 +151,7 @@ unit_rows (suc most) kind total ws = unit_row_of kind total (taken_from 0 ws) ++
 
 -- of the units of a kind
 unfoldable pub kind_rows : (total : ℕ) → List Work → Kind → List ℕ
-kind_rows total ws kind = unit_rows (length ws) kind total (filter (λ (w : Work). same_kind w.kind kind) ws)
+kind_rows total ws kind = unit_rows (length ws) kind total (works_of_kind kind ws)
 
 -- of all units
 unfoldable pub all_kind_rows : (total : ℕ) → List Work → List ℕ
@@ -174,11 +159,33 @@ all_kind_rows total ws =
     kind_rows total ws Boolean ++ kind_rows total ws Shift ++ kind_rows total ws Add ++ kind_rows total ws LongAdd ++ kind_rows total ws Multiply
     ++ kind_rows total ws Divide ++ kind_rows total ws Increment
 
+-- ROWS OF REGISTERS
+
+-- from the issue of an instruction until its result is done
+unfoldable pub register_bar : Reservation → List ℕ
+register_bar x = numbered_bar (codes "taken") x.from (x.until - x.from) x.number ++ number_at x.from x.number
+
+unfoldable pub register_head : Reg → List ℕ
+register_head r = codes "<tr class='register'><th>     " ++ register_name r ++ codes "<td><svg>"
+
+unfoldable pub register_row : Reg → List Reservation → List ℕ
+register_row r xs = register_head r ++ flat_map register_bar xs ++ codes "</svg>\n"
+
+-- if it is reserved at all
+abbrev pub register_row_of : Reg → List Reservation → List ℕ
+register_row_of r [] = []
+register_row_of r (x ∷ xs) = register_row r (x ∷ xs)
+
+-- of all registers that these write
+abbrev pub register_rows : List Point → List ℕ
+register_rows points =
+    flat_map (λ index. register_row_of (register_at index) (register_reservations (register_at index) points)) (range_with_len 0 REGISTER_COUNT)
+
 -- ORDERS
 
 -- a number above every tenth minor cycle
-unfoldable pub tick : ℕ → List ℕ
-tick ten = codes "<text x='" ++ decimal (10 * ten) ++ codes "em' y='12'><tspan>" ++ decimal (10 * ten) ++ codes "</tspan></text>"
+abbrev pub tick : ℕ → List ℕ
+tick ten = number_at (10 * ten) (10 * ten)
 
 abbrev pub ticks : (total : ℕ) → List ℕ
 ticks total = flat_map tick (range_with_len 0 (total / 10 + 1))
@@ -200,19 +207,21 @@ order_head title total = heading title total ++ table_start total ++ ticks total
 abbrev pub on_path : TimedOrder → List ℕ
 on_path t = path (points_of t.problem t.numbers)
 
-abbrev pub works : TimedOrder → List Work
-works t = map work (reverse (points_of t.problem t.numbers))
-
 abbrev pub cycles_of : TimedOrder → ℕ
 cycles_of t = total_of t.problem t.numbers
+
+-- of the units, of the registers, and of the instructions
+abbrev pub all_rows : Block → TimedOrder → List ℕ
+all_rows block t =
+    all_kind_rows (cycles_of t) (works t) ++ register_rows (reverse (points_of t.problem t.numbers))
+    ++ instruction_rows block (on_path t) (points_of t.problem t.numbers)
 
 -- what `why` says of it, without texts
 unfoldable pub why_below : Block → TimedOrder → List ℕ
 why_below block t = codes "</table>\n<pre>" ++ why_text false block t ++ codes "</pre>\n"
 
 unfoldable pub order_text : Block → (title : List ℕ) → TimedOrder → List ℕ
-order_text block title t =
-    order_head title (cycles_of t) ++ instruction_rows block (on_path t) (points_of t.problem t.numbers) ++ all_kind_rows (cycles_of t) (works t) ++ why_below block t
+order_text block title t = order_head title (cycles_of t) ++ all_rows block t ++ why_below block t
 
 -- BLOCKS
 
@@ -233,14 +242,14 @@ block_times source time = codes " SOURCE " ++ decimal source ++ codes " TIME " +
 unfoldable pub block_anchor : (number : ℕ) → List ℕ
 block_anchor number = codes "<h2 id='b" ++ decimal number ++ codes "'>"
 
-unfoldable pub block_title : (label : List ℕ) → Summary → List ℕ
-block_title label b = block_anchor b.number ++ escaped label ++ block_place b.number b.line b.count
+unfoldable pub block_title : (entry : List ℕ) → Summary → List ℕ
+block_title entry b = block_anchor b.number ++ escaped entry ++ block_place b.number b.line b.count
 
 unfoldable pub block_verdict : Summary → List ℕ
 block_verdict b = block_times b.source b.time ++ bound_text b.time b.bound ++ codes " <a href='#top'>&#8593;</a></h2>\n"
 
-unfoldable pub block_head : (label : List ℕ) → Summary → List ℕ
-block_head label b = block_title label b ++ block_verdict b
+unfoldable pub block_head : (entry : List ℕ) → Summary → List ℕ
+block_head entry b = block_title entry b ++ block_verdict b
 
 -- the best order, if it takes less
 abbrev pub best_text : Block → (source best : TimedOrder) → List ℕ
@@ -254,9 +263,9 @@ listing text = codes "<pre style='columns:auto'>" ++ escaped_lines text ++ codes
 abbrev pub reasons_below : (reasons : List ℕ) → List ℕ
 reasons_below reasons = if length reasons == 0 then [] else listing reasons
 
-unfoldable pub block_text : ℕ → Block → (source best : TimedOrder) (bound : ℕ) (reasons : List ℕ) → List ℕ
-block_text n block source best bound reasons =
-    block_head block.label (summary n block source best bound) ++ order_text block (codes "As it is written") source ++ best_text block source best
+unfoldable pub block_text : ℕ → (entry : List ℕ) → Block → (source best : TimedOrder) (bound : ℕ) (reasons : List ℕ) → List ℕ
+block_text n entry block source best bound reasons =
+    block_head entry (summary n block source best bound) ++ order_text block (codes "As it is written") source ++ best_text block source best
     ++ reasons_below reasons
 
 -- THE LIST OF BLOCKS
@@ -271,15 +280,15 @@ cell n = codes "<td>" ++ decimal n
 unfoldable pub bound_cell : (time bound : ℕ) → List ℕ
 bound_cell time bound = codes "<td>" ++ bound_text time bound ++ codes "\n"
 
-unfoldable pub label_cell : (label : List ℕ) → List ℕ
-label_cell label = codes "<td>" ++ escaped label
+unfoldable pub entry_cell : (entry : List ℕ) → List ℕ
+entry_cell entry = codes "<td>" ++ escaped entry
 
 -- of the source order and of the best one, and how much less that takes
 unfoldable pub time_cells : (source time : ℕ) → List ℕ
 time_cells source time = cell source ++ cell time ++ cell (source - time)
 
-unfoldable pub index_row : (label : List ℕ) → Summary → List ℕ
-index_row label b = index_link b.number ++ label_cell label ++ cell b.line ++ cell b.count ++ time_cells b.source b.time ++ bound_cell b.time b.bound
+unfoldable pub index_row : (entry : List ℕ) → Summary → List ℕ
+index_row entry b = index_link b.number ++ entry_cell entry ++ cell b.line ++ cell b.count ++ time_cells b.source b.time ++ bound_cell b.time b.bound
 
 unfoldable pub best_cell : (best : ℕ) → List ℕ
 best_cell best = codes "<td>BEST " ++ decimal best ++ codes "\n"
@@ -306,10 +315,10 @@ as_found p block f = record { problem = record { block = instrs_of block; profil
 
 -- of the n-th block
 unfoldable pub index_entry : Profile → ℕ → Block → FoundOrder → List ℕ
-index_entry p n block f = index_row block.label (summary n block (as_written p block) (as_found p block f) f.bound)
+index_entry p n block f = index_row f.entry (summary n block (as_written p block) (as_found p block f) f.bound)
 
 unfoldable pub block_entry : Profile → ℕ → Block → FoundOrder → List ℕ
-block_entry p n block f = block_text n block (as_written p block) (as_found p block f) f.bound f.reasons
+block_entry p n block f = block_text n f.entry block (as_written p block) (as_found p block f) f.bound f.reasons
 
 abbrev pub entry : Part → Profile → ℕ → Block → FoundOrder → List ℕ
 entry Row p n block f = index_entry p n block f
@@ -326,13 +335,18 @@ summaries p n (b ∷ bs) (f ∷ fs) = summary (n + 1) b (as_written p b) (as_fou
 summaries p n (b ∷ bs) [] = []
 summaries p n [] fs = []
 
--- the label and the number of the first of these blocks, before which n come
-abbrev pub page_title : ℕ → List Block → List ℕ
+-- the name and the number of the first of these blocks, before which n come
+abbrev pub page_title : ℕ → List FoundOrder → List ℕ
 page_title n [] = codes "s66"
-page_title n (b ∷ bs) = escaped b.label ++ codes " BLOCK " ++ decimal (n + 1)
+page_title n (f ∷ fs) = escaped f.entry ++ codes " BLOCK " ++ decimal (n + 1)
 
-abbrev pub page_head : ℕ → List Block → List ℕ
-page_head n blocks = PAGE_START.now ++ page_title n blocks ++ PAGE_HEAD.now
+-- the numbers of the profile that aren't the standard profile's, if there are any
+abbrev pub profile_line : List Change → List ℕ
+profile_line [] = []
+profile_line (c ∷ cs) = codes "<p>Profile:" ++ changes_text (c ∷ cs) ++ codes "</p>\n"
+
+abbrev pub page_head : Profile → ℕ → List FoundOrder → List ℕ
+page_head p n found = PAGE_START.now ++ page_title n found ++ PAGE_HEAD.now ++ profile_line (changes p) ++ PAGE_LIST.now
 
 -- the list of these blocks, before which n come, and their total
 abbrev pub index : Profile → ℕ → List Block → List FoundOrder → List ℕ
@@ -340,4 +354,4 @@ index p n blocks found = entries (entry Row p) n blocks found ++ total_of_all (s
 
 -- the list, and the blocks
 abbrev pub page_text : Profile → ℕ → List Block → List FoundOrder → List ℕ
-page_text p n blocks found = page_head n blocks ++ index p n blocks found ++ entries (entry Orders p) n blocks found
+page_text p n blocks found = page_head p n found ++ index p n blocks found ++ entries (entry Orders p) n blocks found

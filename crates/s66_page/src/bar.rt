@@ -1,17 +1,16 @@
 ghost use Rattle.std.specs.Prelude.{◌≡◌, ◌-◌, ◌++◌, OnOk, codes, decimal};
-ghost use Rattle.s66_page.specs.Page.{bar, bar_start, span, cause_words, words, stretch_title, stretch_bar, stretch_words, work_title, work_bar};
+ghost use Rattle.s66_page.specs.Page.{bar, bar_start, numbered_bar, span, cause_words, words, stretch_title, stretch_bar, stretch_words, work_title, work_bar};
 ghost use Rattle.s66_why.specs.Why.{bank_name};
 ghost use Rattle.s66_isa.specs.KindNames.{kind_name};
 
 use crate::text::{push_number, push_text};
-use crate::work::Work;
 use s66_device::push_field;
 use s66_isa::{Kind, Reg, kind_name};
-use s66_why::{Cause, Holder, Stretch, bank_name, conflict_name};
+use s66_why::{Cause, Holder, Stretch, Work, bank_name, conflict_name};
 use std::alloc::AllocError;
 
 /// The end of a bar, after its title.
-pub const BAR_END: &[u8] = b"</title></rect>";
+const BAR_END: &[u8] = b"</title></rect>";
 
 /// The class of a bar, with which it begins.
 fn push_class(out: &mut Vec<u8>, class: &[u8]) -> Result<(), AllocError>
@@ -34,12 +33,7 @@ fn push_span(out: &mut Vec<u8>, from: u32, cycles: u32) -> Result<(), AllocError
 
 /// A bar from a minor cycle on, up to its title.
 #[tactic(auto, unfolding(crate::specs::Page::bar_start))]
-pub fn push_bar_start(
-    out: &mut Vec<u8>,
-    class: &[u8],
-    from: u32,
-    cycles: u32,
-) -> Result<(), AllocError>
+fn push_bar_start(out: &mut Vec<u8>, class: &[u8], from: u32, cycles: u32) -> Result<(), AllocError>
     ensures { OnOk result (out.new.items ≡ out.old.items ++ bar_start class.now from cycles) }
 {
     push_class(out, class)?;
@@ -147,4 +141,20 @@ pub fn push_work_bar(out: &mut Vec<u8>, work: &Work) -> Result<(), AllocError>
     ensures { OnOk result (out.new.items ≡ out.old.items ++ work_bar work.now) }
 {
     push_worked(out, kind_name(work.kind), work)
+}
+
+/// A bar whose title is the number of an instruction.
+#[tactic(auto, unfolding(crate::specs::Page::numbered_bar))]
+pub fn push_numbered_bar(
+    out: &mut Vec<u8>,
+    class: &[u8],
+    from: u32,
+    cycles: u32,
+    number: u8,
+) -> Result<(), AllocError>
+    ensures { OnOk result (out.new.items ≡ out.old.items ++ numbered_bar class.now from cycles number) }
+{
+    push_bar_start(out, class, from, cycles)?;
+    push_number(out, number)?;
+    push_text(out, BAR_END)
 }

@@ -1,6 +1,6 @@
 ghost use Rattle.std.specs.Prelude.{◌≡◌, ◌<◌, ◌^◌, ◌++◌, OnOk};
 ghost use Rattle.s66_line.specs.Block.{instrs_of};
-ghost use Rattle.s66_page.specs.Page.{best_cell, best_text, block_anchor, block_head, block_place, block_text, block_times, block_title, block_verdict, bound_cell, bound_text, cell, index_link, index_row, label_cell, listing, reasons_below, summary, time_cells, total_row};
+ghost use Rattle.s66_page.specs.Page.{best_cell, best_text, block_anchor, block_head, block_place, block_text, block_times, block_title, block_verdict, bound_cell, bound_text, cell, entry_cell, index_link, index_row, listing, reasons_below, summary, time_cells, total_row};
 
 use crate::escape::{push_escaped, push_escaped_lines};
 use crate::order::push_order;
@@ -80,11 +80,11 @@ fn push_block_times(out: &mut Vec<u8>, source: u32, time: u32) -> Result<(), All
 
 /// The first half of the heading of a block.
 #[tactic(auto, unfolding(crate::specs::Page::block_title))]
-fn push_block_title(out: &mut Vec<u8>, label: &[u8], summary: &Summary) -> Result<(), AllocError>
-    ensures { OnOk result (out.new.items ≡ out.old.items ++ block_title label.now summary.now) }
+fn push_block_title(out: &mut Vec<u8>, entry: &[u8], summary: &Summary) -> Result<(), AllocError>
+    ensures { OnOk result (out.new.items ≡ out.old.items ++ block_title entry.now summary.now) }
 {
     push_block_anchor(out, summary.number)?;
-    push_escaped(out, label)?;
+    push_escaped(out, entry)?;
     push_block_place(out, summary.number, summary.line, summary.count)
 }
 
@@ -100,10 +100,10 @@ fn push_block_verdict(out: &mut Vec<u8>, summary: &Summary) -> Result<(), AllocE
 
 /// The heading of a block.
 #[tactic(auto, unfolding(crate::specs::Page::block_head))]
-fn push_block_head(out: &mut Vec<u8>, label: &[u8], summary: &Summary) -> Result<(), AllocError>
-    ensures { OnOk result (out.new.items ≡ out.old.items ++ block_head label.now summary.now) }
+fn push_block_head(out: &mut Vec<u8>, entry: &[u8], summary: &Summary) -> Result<(), AllocError>
+    ensures { OnOk result (out.new.items ≡ out.old.items ++ block_head entry.now summary.now) }
 {
-    push_block_title(out, label, summary)?;
+    push_block_title(out, entry, summary)?;
     push_block_verdict(out, summary)
 }
 
@@ -145,13 +145,14 @@ fn push_reasons_below(out: &mut Vec<u8>, reasons: &[u8]) -> Result<(), AllocErro
     }
 }
 
-/// Appends a block, whose number is from 1: its heading, its source order, the best order found if that takes less, and the sentences
+/// Appends a block, whose number is from 1, and which is entered by this name: its heading, its source order, the best order found if that takes less, and the sentences
 /// that say why no order is faster, if there are some. No order takes less than the bound. It takes time quadratic in the length of the block, which is at most `BLOCK_LIMIT`, and allocates
 /// nothing but room in `out`. `Err` is out of memory.
 #[tactic(auto, unfolding(crate::specs::Page::block_text))]
 pub fn push_block(
     out: &mut Vec<u8>,
     number: usize,
+    entry: &[u8],
     block: &Block,
     source: &Timed,
     best: &Timed,
@@ -161,10 +162,10 @@ pub fn push_block(
     requires source { source.now.problem.block ≡ instrs_of block.now }
     requires best { best.now.problem.block ≡ instrs_of block.now }
     ensures { OnOk result (out.new.items ≡ out.old.items ++
-        block_text number block.now source.now best.now bound reasons.now) }
+        block_text number entry.now block.now source.now best.now bound reasons.now) }
 {
     let summary = summary_of(number, block, source, best, bound);
-    push_block_head(out, block.label(), &summary)?;
+    push_block_head(out, entry, &summary)?;
     push_order(out, block, b"As it is written", source)?;
     push_best(out, block, source, best)?;
     push_reasons_below(out, reasons)
@@ -186,13 +187,13 @@ fn push_cell(out: &mut Vec<u8>, number: usize) -> Result<(), AllocError>
     push_field(out, b"<td>", number)
 }
 
-/// The label of a block.
-#[tactic(auto, unfolding(crate::specs::Page::label_cell))]
-fn push_label_cell(out: &mut Vec<u8>, label: &[u8]) -> Result<(), AllocError>
-    ensures { OnOk result (out.new.items ≡ out.old.items ++ label_cell label.now) }
+/// The name by which a block is entered.
+#[tactic(auto, unfolding(crate::specs::Page::entry_cell))]
+fn push_entry_cell(out: &mut Vec<u8>, entry: &[u8]) -> Result<(), AllocError>
+    ensures { OnOk result (out.new.items ≡ out.old.items ++ entry_cell entry.now) }
 {
     push_text(out, b"<td>")?;
-    push_escaped(out, label)
+    push_escaped(out, entry)
 }
 
 /// The times of a row, and how much less the second is.
@@ -217,11 +218,11 @@ fn push_bound_cell(out: &mut Vec<u8>, time: u32, bound: u32) -> Result<(), Alloc
 
 /// The row of a block in the list of all blocks.
 #[tactic(auto, unfolding(crate::specs::Page::index_row))]
-fn push_summary(out: &mut Vec<u8>, label: &[u8], summary: &Summary) -> Result<(), AllocError>
-    ensures { OnOk result (out.new.items ≡ out.old.items ++ index_row label.now summary.now) }
+fn push_summary(out: &mut Vec<u8>, entry: &[u8], summary: &Summary) -> Result<(), AllocError>
+    ensures { OnOk result (out.new.items ≡ out.old.items ++ index_row entry.now summary.now) }
 {
     push_index_link(out, summary.number)?;
-    push_label_cell(out, label)?;
+    push_entry_cell(out, entry)?;
     push_cell(out, summary.line as usize)?;
     push_cell(out, summary.count)?;
     push_time_cells(out, summary.source as usize, summary.time as usize)?;
@@ -248,21 +249,18 @@ pub fn push_total_row(out: &mut Vec<u8>, total: &Total) -> Result<(), AllocError
     push_best_cell(out, total.best)
 }
 
-/// Appends the row of a block in the list of all blocks, which links to the block. Its number is from 1. `Err` is out of memory.
+/// Appends the row of a block, which is entered by this name, in the list of all blocks. It links to the block, whose number is from 1. `Err` is out of memory.
 pub fn push_index_row(
     out: &mut Vec<u8>,
     number: usize,
+    entry: &[u8],
     block: &Block,
     source: &Timed,
     best: &Timed,
     bound: u32,
 ) -> Result<(), AllocError>
     ensures { OnOk result (out.new.items ≡ out.old.items ++
-        index_row block.now.label (summary number block.now source.now best.now bound)) }
+        index_row entry.now (summary number block.now source.now best.now bound)) }
 {
-    push_summary(
-        out,
-        block.label(),
-        &summary_of(number, block, source, best, bound),
-    )
+    push_summary(out, entry, &summary_of(number, block, source, best, bound))
 }

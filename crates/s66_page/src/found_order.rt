@@ -1,10 +1,11 @@
 use s66_dep::Order;
 use std::marker::Model;
 
-/// What was found for a block: an order, what every order takes at least, in minor cycles of 100 ns, and sentences that say why no
+/// What is shown of a block beside its source order: the name by which it is entered, empty if there is none; an order, what every order takes at least, in minor cycles of 100 ns, and sentences that say why no
 /// order is faster; none if they aren't shown.
 #[derive(Drop)]
 pub struct FoundOrder {
+    pub entry: Vec<u8>,
     pub order: Order,
     pub bound: u32,
     pub reasons: Vec<u8>,
@@ -15,5 +16,5 @@ impl Model for FoundOrder {
 
     ghost Value = { FoundOrder };
 
-    ghost view = { λ f. record { order = f.order; bound = f.bound; reasons = f.reasons.items } };
+    ghost view = { λ f. record { entry = f.entry.items; order = f.order; bound = f.bound; reasons = f.reasons.items } };
 }

@@ -9,16 +9,18 @@ mod found_order;
 mod laws;
 mod order;
 mod page;
+mod register;
 mod row;
 mod start;
 mod summary;
 mod text;
 mod unit;
-mod work;
 
 pub use block::{push_block, push_index_row};
 pub use escape::push_escaped;
-pub use examples::{block_example, index_example, row_example, title_example, unit_example};
+pub use examples::{
+    block_example, index_example, profile_line_example, row_example, title_example, unit_example,
+};
 pub use found_order::FoundOrder;
 pub use laws::{escape_law, head_law, row_law, still_examples};
 pub use order::push_order;

@@ -2,32 +2,24 @@ ghost use Rattle.std.specs.Prelude.{◌≡◌, ◌+◌, ◌*◌, ◌/◌, ◌≤
 ghost use Rattle.std.specs.List.{range_with_len};
 ghost use Rattle.s66_line.specs.Block.{instrs_of};
 ghost use Rattle.s66_model.specs.Timing.{points_of};
-ghost use Rattle.s66_page.specs.Page.{all_kind_rows, instruction_rows, on_path, works, cycles_of, heading, heading_end, order_head, order_text, table_start, why_below, tick, ticks};
+ghost use Rattle.s66_page.specs.Page.{all_rows, on_path, cycles_of, heading, heading_end, order_head, order_text, table_start, why_below, tick, ticks};
+ghost use Rattle.s66_why.specs.Units.{works};
 
+use crate::register::push_register_rows;
 use crate::row::push_rows;
-use crate::text::{push_between, push_text, push_two};
+use crate::text::{push_between, push_number_at, push_text};
 use crate::unit::push_all_kind_rows;
-use crate::work::works_of;
 use s66_line::Block;
 use s66_time::Timed;
-use s66_why::{path_of, points_of, push_why, steps_of};
+use s66_why::{path_of, points_of, push_why, steps_of, works_of};
 use std::alloc::AllocError;
 
 /// The number above a tenth minor cycle.
-#[tactic(auto, unfolding(crate::specs::Page::tick))]
 fn push_tick(out: &mut Vec<u8>, ten: usize) -> Result<(), AllocError>
     requires { ten < 2 ^ 32 }
     ensures { OnOk result (out.new.items ≡ out.old.items ++ tick ten) }
 {
-    let cycle = 10 * ten;
-    push_two(
-        out,
-        b"<text x='",
-        cycle,
-        b"em' y='12'><tspan>",
-        cycle,
-        b"</tspan></text>",
-    )
+    push_number_at(out, 10 * ten, 10 * ten)
 }
 
 /// The numbers above the minor cycles of an order.
@@ -83,12 +75,10 @@ fn push_order_head(out: &mut Vec<u8>, title: &[u8], total: u32) -> Result<(), Al
     push_text(out, b"</svg>\n<tbody>\n")
 }
 
-/// The rows of the instructions of an order, and those of its units.
+/// The rows of the units and the registers that an order takes, and those of its instructions.
 fn push_all_rows(out: &mut Vec<u8>, block: &Block, timed: &Timed) -> Result<(), AllocError>
     requires { timed.now.problem.block ≡ instrs_of block.now }
-    ensures { OnOk result (out.new.items ≡ out.old.items ++
-        (instruction_rows block.now (on_path timed.now) (points_of timed.now.problem timed.now.numbers) ++
-        all_kind_rows (cycles_of timed.now) (works timed.now))) }
+    ensures { OnOk result (out.new.items ≡ out.old.items ++ all_rows block.now timed.now) }
 {
     let points = points_of(timed);
     let points = points.as_slice();
@@ -96,8 +86,9 @@ fn push_all_rows(out: &mut Vec<u8>, block: &Block, timed: &Timed) -> Result<(), 
     let works = works.as_slice();
     let steps = steps_of(points, timed.total());
     let on_path = path_of(steps.as_slice());
-    push_rows(out, block, timed, on_path.as_slice(), points, works)?;
-    push_all_kind_rows(out, timed.total(), works)
+    push_all_kind_rows(out, timed.total(), works)?;
+    push_register_rows(out, points)?;
+    push_rows(out, block, timed, on_path.as_slice(), points, works)
 }
 
 /// What `why` says of an order, below its table.
@@ -111,7 +102,8 @@ fn push_why_below(out: &mut Vec<u8>, block: &Block, timed: &Timed) -> Result<(),
     push_text(out, b"</pre>\n")
 }
 
-/// Appends an order of a block under a heading: a row for each instruction, a row for each unit that is taken, and what `why` says.
+/// Appends an order of a block under a heading: a row for each unit that is taken, for each register that is written and for each
+/// instruction, and what `why` says.
 /// Coordinates are minor cycles of 100 ns. It takes time quadratic in the length of the order, which is at most `BLOCK_LIMIT`, and
 /// allocates nothing but room in `out`. `Err` is out of memory.
 #[tactic(auto, unfolding(crate::specs::Page::order_text))]

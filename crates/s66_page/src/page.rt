@@ -2,17 +2,19 @@ ghost use Rattle.std.specs.Prelude.{◌≡◌, ◌<◌, ◌^◌, ◌++◌, OnOk,
 ghost use Rattle.s66_isa.specs.Lists.{tally, weigh};
 ghost use Rattle.s66_line.specs.Block.{instrs_of};
 ghost use Rattle.s66_page.specs.FoundOrders.{AreOf};
-ghost use Rattle.s66_page.specs.Page.{as_found, as_written, entries, entry, index, is_best, page_head, page_text, page_title, summaries, summary};
+ghost use Rattle.s66_page.specs.Page.{as_found, as_written, entries, entry, index, is_best, page_head, page_text, page_title, profile_line, summaries, summary};
 ghost use Rattle.s66_page.specs.declared.summary.Summary.{Summary as SummaryOf};
 
 use crate::block::{push_block, push_index_row, push_total_row, summary_of};
 use crate::escape::push_escaped;
 use crate::found_order::FoundOrder;
-use crate::start::{PAGE_HEAD, PAGE_START};
+use crate::start::{PAGE_HEAD, PAGE_LIST, PAGE_START};
 use crate::summary::{Summary, Total};
 use crate::text::push_text;
+use s66_command::{Change, changes_of, push_changes};
 use s66_dep::Order;
 use s66_device::push_field;
+use s66_isa::Profile;
 use s66_line::Block;
 use s66_time::Timer;
 use std::alloc::AllocError;
@@ -40,11 +42,21 @@ fn push_entry(
 {
     let source = timer.time(block, &Order::source(block));
     let best = timer.time(block, &found.order);
+    let entry = found.entry.as_slice();
     match part {
-        Part::Row => push_index_row(out, number, block, &source, &best, found.bound),
+        Part::Row => push_index_row(out, number, entry, block, &source, &best, found.bound),
         Part::Orders => {
             let reasons = found.reasons.as_slice();
-            push_block(out, number, block, &source, &best, found.bound, reasons)
+            push_block(
+                out,
+                number,
+                entry,
+                block,
+                &source,
+                &best,
+                found.bound,
+                reasons,
+            )
         }
     }
 }
@@ -137,27 +149,48 @@ fn total_of(timer: &mut Timer, before: usize, blocks: &[Block], found: &[FoundOr
 }
 
 /// The title of a page of these blocks, before which so many come.
-fn push_title(out: &mut Vec<u8>, before: usize, blocks: &[Block]) -> Result<(), AllocError>
+fn push_title(out: &mut Vec<u8>, before: usize, found: &[FoundOrder]) -> Result<(), AllocError>
     requires { before < 2 ^ 32 }
-    ensures { OnOk result (out.new.items ≡ out.old.items ++ page_title before blocks.now) }
+    ensures { OnOk result (out.new.items ≡ out.old.items ++ page_title before found.now) }
 {
-    match blocks {
+    match found {
         [] => push_text(out, b"s66"),
         [first, ..] => {
-            push_escaped(out, first.label())?;
+            push_escaped(out, first.entry.as_slice())?;
             push_field(out, b" BLOCK ", before + 1)
         }
     }
 }
 
+/// The numbers of a profile that aren't the standard profile's, if there are any.
+fn push_profile_line(out: &mut Vec<u8>, changes: &[Change]) -> Result<(), AllocError>
+    ensures { OnOk result (out.new.items ≡ out.old.items ++ profile_line changes.now) }
+{
+    match changes {
+        [] => Ok(()),
+        _ => {
+            push_text(out, b"<p>Profile:")?;
+            push_changes(out, changes)?;
+            push_text(out, b"</p>\n")
+        }
+    }
+}
+
 /// All that stands before the list of blocks.
-fn push_head(out: &mut Vec<u8>, before: usize, blocks: &[Block]) -> Result<(), AllocError>
+fn push_head(
+    out: &mut Vec<u8>,
+    profile: &Profile,
+    before: usize,
+    found: &[FoundOrder],
+) -> Result<(), AllocError>
     requires { before < 2 ^ 32 }
-    ensures { OnOk result (out.new.items ≡ out.old.items ++ page_head before blocks.now) }
+    ensures { OnOk result (out.new.items ≡ out.old.items ++ page_head profile.now before found.now) }
 {
     push_text(out, PAGE_START)?;
-    push_title(out, before, blocks)?;
-    push_text(out, PAGE_HEAD)
+    push_title(out, before, found)?;
+    push_text(out, PAGE_HEAD)?;
+    push_profile_line(out, changes_of(profile).as_slice())?;
+    push_text(out, PAGE_LIST)
 }
 
 /// The list of blocks.
@@ -179,14 +212,14 @@ fn push_index(
     push_text(out, b"</table>\n")
 }
 
-/// Appends a page that shows blocks of a source, before which `before` blocks come, under the timer's profile: each in its source
-/// order, in the order that was found for it if that takes less, and with the sentences that say why no order is faster. Above them is a list of all with a total, which links to each. The page is
-/// a file that stands alone: no script, and nothing to be fetched. It takes time and room linear in the number of blocks and
-/// quadratic in the length of each, which is at most `BLOCK_LIMIT`, and allocates nothing but room in `out`. `Err` is out of
-/// memory.
+/// Appends a page that shows blocks of a source, before which `before` blocks come, under a profile: each in its source order, in the
+/// order that was found for it if that takes less, and with the sentences that say why no order is faster. Above them is a list of all
+/// with a total, which links to each, and, unless the profile is the standard one, what is otherwise in it. The page is a file that
+/// stands alone: no script, and nothing to be fetched. It takes time and room linear in the number of blocks and quadratic in the
+/// length of each, which is at most `BLOCK_LIMIT`, and allocates nothing but room in `out`. `Err` is out of memory.
 pub fn push_page(
     out: &mut Vec<u8>,
-    timer: &mut Timer,
+    profile: &Profile,
     before: usize,
     blocks: &[Block],
     found: &[FoundOrder],
@@ -194,10 +227,10 @@ pub fn push_page(
     requires before { before < 2 ^ 32 }
     requires few { length blocks.now < 2 ^ 31 }
     requires found { AreOf blocks.now found.now }
-    ensures profile { timer.new ≡ timer.old }
-    ensures text { OnOk result (out.new.items ≡ out.old.items ++ page_text timer.old before blocks.now found.now) }
+    ensures { OnOk result (out.new.items ≡ out.old.items ++ page_text profile.now before blocks.now found.now) }
 {
-    push_head(out, before, blocks)?;
-    push_index(out, timer, before, blocks, found)?;
-    push_entries(out, timer, Part::Orders, before, blocks, found)
+    let mut timer = Timer::new(profile);
+    push_head(out, profile, before, found)?;
+    push_index(out, &mut timer, before, blocks, found)?;
+    push_entries(out, &mut timer, Part::Orders, before, blocks, found)
 }

@@ -3,16 +3,16 @@ ghost use Rattle.s66_line.specs.Block.{bytes_of, instrs_of};
 ghost use Rattle.s66_model.specs.Timing.{points_of};
 ghost use Rattle.s66_time.specs.TimedOrder.{point_at};
 ghost use Rattle.s66_why.specs.Why.{stretches_at};
-ghost use Rattle.s66_page.specs.Page.{arrow, row_start, row_head, row_marks, row_words, shown_as, work, instruction_rows};
+ghost use Rattle.s66_page.specs.Page.{arrow, row_start, row_head, row_marks, row_words, shown_as, instruction_rows};
+ghost use Rattle.s66_why.specs.Units.{work};
 
 use crate::bar::{push_stretch_bar, push_stretch_words, push_work_bar};
 use crate::escape::push_escaped;
 use crate::text::push_text;
-use crate::work::Work;
 use s66_device::push_field;
 use s66_line::Block;
 use s66_time::Timed;
-use s66_why::{PlacedInstr, Stretch, push_in_three, waits_of};
+use s66_why::{PlacedInstr, Stretch, Work, push_in_three, waits_of};
 use std::alloc::AllocError;
 
 /// Where an instruction moved that has a place in an order, from 1.

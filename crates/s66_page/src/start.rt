@@ -5,7 +5,7 @@ pub const PAGE_START: &[u8] = b"<!DOCTYPE html>
 <meta name='viewport' content='width=device-width'>
 <title>";
 
-/// What follows the title, up to the rows of the list of blocks: how a page looks, and what its colours mean. Bars differ in height
+/// What follows the title, up to the profile: how a page looks, and what its colours mean. Bars differ in height
 /// too, so that the colours needn't be told apart. It follows the reader's choice of dark or light. `--n` is how many minor cycles
 /// an order takes, `--one` how wide each is, and `--room` what stands right of the last for words. On paper, and on a screen whose
 /// reader wants it, a minor cycle is no wider than what lets all stand side by side; words stay as they are, and of the ruler each
@@ -32,7 +32,7 @@ p span{display:inline-block;margin-right:16px}
 p svg{display:inline-block;vertical-align:middle}
 text{fill:CanvasText;word-spacing:calc(var(--em)/2)}
 tspan{font-size:var(--em);word-spacing:0}
-.unit tspan{font-size:min(var(--em),4*var(--one))}
+.unit tspan,.register tspan{font-size:min(var(--em),4*var(--one))}
 .ruler text:not(:nth-child(20n+1)){fill-opacity:calc(1 - var(--close)*(var(--n) - 800))}
 .ruler text:not(:nth-child(5n+1)){fill-opacity:calc(1 - var(--close)*(var(--n) - 200))}
 rect{y:2px;height:12px}
@@ -48,13 +48,14 @@ tspan.SECOND{fill:var(--word)}
 .DIVIDE{fill:#5566cc}
 .INCREMENT{fill:#8d99ae}
 .taken{fill:CanvasText;opacity:.18}
+.register rect{stroke:Canvas}
 .unit text{fill:#000}
 pre{font:12px/15px monospace;margin:4px 0;columns:46ch;white-space:pre-wrap}
 .path th{--mark:3px;font-weight:bold}
 .path~tr:not(.path):has(~.path) th{--mark:1px}
 .path rect:not(.FIRST,.SECOND,.THIRD),rect.path{stroke:CanvasText;stroke-width:var(--frame,2px)}
 #fit:checked~.order{--one:min(var(--em),(68vw - 40px - var(--room))/var(--n));--room:calc(24*var(--em));--side:28vw;--close:1;--frame:1px}
-@media(max-width:600px){:root{--em:8px}.order{--side:52vw}#fit:checked~.order{--room:calc(14*var(--em))}.order th{font-size:9px;padding-right:2px}.index td,.index th{font-size:10px;padding-right:8px}h2{font-size:15px}}
+@media(max-width:600px){:root{--em:8px}.order{--side:52vw}#fit:checked~.order{--room:calc(14*var(--em))}#fit:checked~.order .unit th{white-space:pre-wrap}.order th{font-size:9px;padding-right:2px}.index td,.index th{font-size:10px;padding-right:8px}h2{font-size:15px}}
 @media(min-width:1800px){:root{--em:14px}svg{height:20px}th,td{font-size:16px;line-height:20px}body{font-size:18px}pre{font:16px/20px monospace}}
 @media print{
 :root{--em:7px}
@@ -65,20 +66,18 @@ pre{font:12px/15px monospace;margin:4px 0;columns:46ch;white-space:pre-wrap}
 .order svg{height:16px;margin:-2px 0 -1px}
 thead{break-inside:avoid}
 tr{break-inside:avoid}
-h2{break-before:page}
-h2:first-of-type{break-before:auto}
 h2,h3{break-after:avoid}
 pre{font:8px/10px monospace}
 tspan{font-family:sans-serif}
 }
 </style>
 <p id='top'>A row for each instruction, in minor cycles of 100 ns:
-<span><svg><rect class='FIRST' width='2em'/></svg>it can't issue (FIRST)</span>
-<span><svg><rect class='SECOND' width='2em'/></svg>it waits for operands (SECOND)</span>
+<span><svg><rect class='FIRST' width='2em'/></svg>it can't issue (FIRST: structural hazard or WAW)</span>
+<span><svg><rect class='SECOND' width='2em'/></svg>it waits for operands (SECOND: RAW)</span>
 <span><svg><rect class='ADD' width='2em'/></svg>it works</span>
-<span><svg><rect class='THIRD' width='2em'/></svg>its result is held (THIRD)</span>
+<span><svg><rect class='THIRD' width='2em'/></svg>its result is held (THIRD: WAR)</span>
 <span><svg><rect class='ADD path' width='2em'/></svg>the end waits for it (PATH)</span>
-<span><svg><rect class='taken' width='2em'/></svg>a unit is taken</span>
+<span><svg><rect class='taken' width='2em'/></svg>a unit or a register is taken</span>
 </p>
 <p>Units:
 <span><svg><rect class='BOOLEAN' width='2em'/></svg>BOOLEAN</span>
@@ -89,7 +88,10 @@ tspan{font-family:sans-serif}
 <span><svg><rect class='DIVIDE' width='2em'/></svg>DIVIDE</span>
 <span><svg><rect class='INCREMENT' width='2em'/></svg>INCREMENT</span>
 </p>
-<input type='checkbox' id='fit'><label for='fit'>fit to width</label>
+";
+
+/// What follows the profile, up to the rows of the list of blocks.
+pub const PAGE_LIST: &[u8] = b"<input type='checkbox' id='fit'><label for='fit'>fit to width</label>
 <table class='index'>
 <tr><th>BLOCK<th>LABEL<th>LINE<th>COUNT<th>SOURCE<th>TIME<th>SAVED<th>BOUND
 ";

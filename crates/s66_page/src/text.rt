@@ -1,4 +1,5 @@
 ghost use Rattle.std.specs.Prelude.{◌≡◌, ◌++◌, OnOk, decimal};
+ghost use Rattle.s66_page.specs.Page.{number_at};
 
 use s66_device::push_field;
 use std::alloc::AllocError;
@@ -45,4 +46,19 @@ pub fn push_two(
     push_field(out, before, first)?;
     push_field(out, between, second)?;
     push_text(out, after)
+}
+
+/// Appends a number that is drawn from a minor cycle on.
+#[tactic(auto, unfolding(crate::specs::Page::number_at))]
+pub fn push_number_at(out: &mut Vec<u8>, cycle: usize, number: usize) -> Result<(), AllocError>
+    ensures { OnOk result (out.new.items ≡ out.old.items ++ number_at cycle number) }
+{
+    push_two(
+        out,
+        b"<text x='",
+        cycle,
+        b"em' y='12'><tspan>",
+        number,
+        b"</tspan></text>",
+    )
 }

@@ -1,93 +1,13 @@
-ghost use Rattle.std.specs.Prelude.{◌≡◌, ◌*◌, ◌<◌, ◌≤◌, ◌^◌, ◌++◌, OnOk, codes, filter, flat_map, length};
+ghost use Rattle.std.specs.Prelude.{◌≡◌, ◌*◌, ◌<◌, ◌≤◌, ◌^◌, ◌++◌, OnOk, flat_map, length};
 ghost use Rattle.s66_isa.specs.declared.limits.TheConstants.{BLOCK_LIMIT};
-ghost use Rattle.s66_isa.specs.Table.{same_kind};
-ghost use Rattle.s66_page.specs.Page.{bar, taken_from, left_from, unit_bars, unit_number, numbered_bar, share, taken, worked, unit_head, unit_shares, unit_row, unit_row_of, unit_rows, kind_rows, all_kind_rows};
-ghost use Rattle.s66_page.specs.declared.work.Work.{Work as WorkOf};
+ghost use Rattle.s66_page.specs.Page.{unit_bars, share, taken, worked, unit_head, unit_shares, unit_row, unit_row_of, unit_rows, kind_rows, all_kind_rows};
 
-use crate::bar::{BAR_END, push_bar_start};
-use crate::text::{push_number, push_text, push_two};
-use crate::work::Work;
+use crate::bar::push_numbered_bar;
+use crate::text::{push_number_at, push_text, push_two};
 use arrayvec::ArrayVec;
-use s66_isa::{BLOCK_LIMIT, Kind, is_same_kind, kind_name};
+use s66_isa::{BLOCK_LIMIT, Kind, kind_name};
+use s66_why::{Work, left, taken, works_of_kind};
 use std::alloc::AllocError;
-
-/// The instructions whose units are of a kind.
-fn works_of_kind(works: &[Work], kind: Kind) -> ArrayVec<Work, BLOCK_LIMIT>
-    requires { length works.now ≤ BLOCK_LIMIT }
-    ensures { result.items ≡ filter (λ (w : WorkOf). same_kind w.kind kind) works.now }
-{
-    let mut same = ArrayVec::new();
-    for work in works {
-        if is_same_kind(work.kind, kind) {
-            same.push(*work);
-        }
-    }
-    same
-}
-
-/// What a unit does that takes the first of these instructions, then the next that issues when it is free, and so on.
-fn taken(works: &[Work]) -> ArrayVec<Work, BLOCK_LIMIT>
-    requires { length works.now ≤ BLOCK_LIMIT }
-    ensures { result.items ≡ taken_from 0 works.now }
-{
-    let mut taken = ArrayVec::new();
-    let mut free = 0;
-    for work in works {
-        if free <= work.issue {
-            taken.push(*work);
-            free = work.free;
-        }
-    }
-    taken
-}
-
-/// What that unit leaves to others.
-fn left(works: &[Work]) -> ArrayVec<Work, BLOCK_LIMIT>
-    requires { length works.now ≤ BLOCK_LIMIT }
-    ensures { result.items ≡ left_from 0 works.now }
-{
-    let mut left = ArrayVec::new();
-    let mut free = 0;
-    for work in works {
-        if free <= work.issue {
-            free = work.free;
-        } else {
-            left.push(*work);
-        }
-    }
-    left
-}
-
-/// A bar in the row of a unit, whose title is the number of the instruction.
-#[tactic(auto, unfolding(crate::specs::Page::numbered_bar))]
-fn push_numbered_bar(
-    out: &mut Vec<u8>,
-    class: &[u8],
-    from: u32,
-    cycles: u32,
-    number: u8,
-) -> Result<(), AllocError>
-    ensures { OnOk result (out.new.items ≡ out.old.items ++ numbered_bar class.now from cycles number) }
-{
-    push_bar_start(out, class, from, cycles)?;
-    push_number(out, number)?;
-    push_text(out, BAR_END)
-}
-
-/// The number of an instruction where its unit starts.
-#[tactic(auto, unfolding(crate::specs::Page::unit_number))]
-fn push_unit_number(out: &mut Vec<u8>, work: &Work) -> Result<(), AllocError>
-    ensures { OnOk result (out.new.items ≡ out.old.items ++ unit_number work.now) }
-{
-    push_two(
-        out,
-        b"<text x='",
-        work.start as usize,
-        b"em' y='12'><tspan>",
-        work.number as usize,
-        b"</tspan></text>",
-    )
-}
 
 /// What is drawn of an instruction in the row of its unit.
 #[tactic(auto, unfolding(crate::specs::Page::unit_bars))]
@@ -103,7 +23,7 @@ fn push_unit_bars(out: &mut Vec<u8>, work: &Work) -> Result<(), AllocError>
         work.hold,
         work.number,
     )?;
-    push_unit_number(out, work)
+    push_number_at(out, work.start as usize, work.number as usize)
 }
 
 /// What is drawn of instructions in the row of their unit.

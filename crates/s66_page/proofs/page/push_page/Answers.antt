@@ -1,18 +1,23 @@
-use Rattle.s66_page.specs.declared.page.Part.TheVariants.{Orders}
-use Rattle.std.proofs.Common.{OnOk, ◌≡◌, ◌++◌, subst}
+use Rattle.s66_page.specs.declared.page.Part.TheVariants.{Orders, Row}
+use Rattle.std.proofs.Common.{OnOk, ◌≡◌, ◌++◌, ◌∙◌, ap, codes, subst}
+use Rattle.s66_isa.specs.declared.profile.Profile.{Profile}
 use Rattle.s66_page.specs.Page.{entries, entry, index, page_head}
 use Rattle.s66_page.proofs.Pieces.{more, last}
 use Rattle.s66_page.proofs.page.push_page.Goals as goal
 
-pub returns-clause-text : goal.returns-clause-text
-returns-clause-text c =
+pub returns : goal.returns
+returns c =
     let out = c.args.out.now.items in
     let blocks = c.args.blocks.now in
     let found = c.args.found.now in
-    let p = c.args.timer.now in
+    let p = c.args.profile.now in
     let n = c.args.before in
-    let head = page_head n blocks in
+    let head = page_head p n found in
     let list = index p n blocks found in
-    let first = more out c.push_head.new.out.items c.push_index.new.out.items head list c.in_ok-push_head.ensures c.in_ok-push_index.ensures.text in
+    let listed : c.push_index.new.out.items ≡ c.push_head.new.out.items ++ list =
+    c.in_ok-push_index.ensures.text ∙ ap (λ (q : Profile). c.push_head.new.out.items ++ index q n blocks found) c.new-timer.ensures
+    in
+    let first = more out c.push_head.new.out.items c.push_index.new.out.items head list c.in_ok-push_head.ensures listed in
     last c.push_entries.result out c.push_index.new.out.items c.push_entries.new.out.items (head ++ list) (entries (entry Orders p) n blocks found) first
-    (subst (λ q. OnOk c.push_entries.result (c.push_entries.new.out.items ≡ c.push_index.new.out.items ++ entries (entry Orders q) n blocks found)) c.in_ok-push_index.ensures.profile c.push_entries.ensures.text)
+    (subst (λ (q : Profile). OnOk c.push_entries.result (c.push_entries.new.out.items ≡ c.push_index.new.out.items ++ entries (entry Orders q) n blocks found))
+    (c.in_ok-push_index.ensures.profile ∙ c.new-timer.ensures) c.push_entries.ensures.text)

@@ -5,9 +5,11 @@ use Rattle.s66_isa.specs.declared.instr.Kind.TheVariants.{Boolean}
 use Rattle.s66_line.specs.Block.{bytes_of}
 use Rattle.s66_model.specs.Timing.{Point, points_of}
 use Rattle.s66_time.specs.TimedOrder.{point_at, no_point}
-use Rattle.s66_page.specs.declared.work.Work.{Work}
-use Rattle.s66_page.specs.Page.{instruction_rows, work}
-use Rattle.s66_page.proofs.Points.{points_length, rows-more}
+use Rattle.s66_why.specs.declared.work.Work.{Work}
+use Rattle.s66_page.specs.Page.{instruction_rows}
+use Rattle.s66_why.specs.Units.{work}
+use Rattle.s66_why.proofs.PointCount.{points_length}
+use Rattle.s66_page.proofs.Points.{rows-more}
 use Rattle.s66_page.proofs.row.push_rows.Goals as goal
 
 pub bounds-points-position : goal.bounds-points-position
