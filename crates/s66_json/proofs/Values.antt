@@ -5,6 +5,8 @@ use Rattle.json.specs.Print.{escape_byte}
 use Rattle.serde_json.specs.Data.{Data, null, boolean, Items, no_items, item, Members, no_members, member}
 use Rattle.serde_json.specs.Written.{comma_if, compact_text, items_text, members_text}
 use Rattle.s66_isa.specs.declared.profile.Profile.{Profile}
+use Rattle.s66_command.specs.Changes.{changes, name_at}
+use Rattle.s66_command.specs.declared.changes.Change.{Change}
 use Rattle.s66_isa.specs.Table.{Reg, Row, Write, numbers}
 use Rattle.s66_line.specs.Block.{Block, instrs_of, line_of, whole_text_of}
 use Rattle.s66_model.specs.Dependence.{needs}
@@ -12,8 +14,8 @@ use Rattle.s66_model.specs.Timing.{Point, ResultAt, latest_result, total_of}
 use Rattle.s66_time.specs.TimedOrder.{TimedOrder}
 use Rattle.s66_why.specs.declared.stretch.Stretch.{Stretch}
 use Rattle.s66_why.specs.Why.{added, path, stretches, stretches_at}
-use Rattle.s66_json.specs.Json.{block_data, fillers_in, found_data, instruction_data, items_of, json_line, list_of, num, order_members, parcels_in, point_data, points, points_items, register_data, result_data, result_register, row_of, wait_data, written_data}
-use Rattle.s66_json.specs.Pieces.{bound_text, cause_text, conflict_text, head_text, instruction_text, instructions_text, is_some, label_text, lines_text, list_text, listed, lists_text, lost_of, lost_text, memory_text, name_of_block, name_text, needs_text, numbers_text, operands_text, order_text, path_text, place_text, point_text, points_text, register_text, registers_text, result_text, results_text, size_text, sort_text, source_text, start_text, steps_text, string_text, timed_text, times_text, truth_text, unit_text, wait_start, wait_text, waits_text, work_text, write_text, writes_text}
+use Rattle.s66_json.specs.Json.{block_data, change_members, profile_members, fillers_in, found_data, instruction_data, items_of, json_line, list_of, num, order_members, parcels_in, point_data, points, points_items, register_data, result_data, result_register, row_of, wait_data, written_data}
+use Rattle.s66_json.specs.Pieces.{bound_text, changes_listed, profile_text, cause_text, conflict_text, head_text, instruction_text, instructions_text, is_some, label_text, lines_text, list_text, listed, lists_text, lost_of, lost_text, memory_text, name_of_block, name_text, needs_text, numbers_text, operands_text, order_text, path_text, place_text, point_text, points_text, register_text, registers_text, result_text, results_text, size_text, sort_text, source_text, start_text, steps_text, string_text, timed_text, times_text, truth_text, unit_text, wait_start, wait_text, waits_text, work_text, write_text, writes_text}
 
 -- PIECES OF PIECES
 
@@ -149,9 +151,20 @@ instruction-text p block n =
 
 -- A BLOCK
 
-pub block-text : (n : ℕ) (block : Block) (t : TimedOrder) (found : Data) → compact_text (block_data n block t found) ≡ start_text n block t ++ (compact_text found ++ codes "}")
+change-members : (later : Bool) (cs : List Change) → members_text later (change_members cs) ≡ changes_listed later cs
+unfolding string_text
+change-members later [] = refl
+change-members later (c ∷ cs) = ap (λ t. comma_if later ++ (string_text (name_at c.place) ++ (codes ":" ++ (decimal c.value ++ t)))) (change-members true cs)
+
+profile-members : (cs : List Change) (more : Members) → members_text true (profile_members cs more) ≡ profile_text cs ++ members_text true more
+unfolding escape_byte
+profile-members [] more = refl
+profile-members (c ∷ cs) more = ap (λ t. codes ",\"profile\":{" ++ (t ++ members_text true more)) (change-members false (c ∷ cs))
+
+pub block-text : (n : ℕ) (entry : List ℕ) (block : Block) (t : TimedOrder) (found : Data) →
+    compact_text (block_data n entry block t found) ≡ start_text n entry block t ++ (compact_text found ++ codes "}")
 unfolding start_text head_text name_of_block lines_text size_text instructions_text label_text digits escape_byte
-block-text n block t found =
+block-text n entry block t found =
     let rest = compact_text found ++ codes "}" in
     let ns = numbers (instrs_of block) in
     let p = t.problem.profile in
@@ -159,34 +172,40 @@ block-text n block t found =
     let last = decimal (line_of block (length (instrs_of block))) in
     let count = decimal (length (instrs_of block)) in
     let parcels = decimal (parcels_in (instrs_of block)) in
+    let profile = profile_text (changes p) in
     let all = list_text (instruction_text p block) ns in
-    let name : List ℕ → List ℕ = λ u. codes "{\"schema\":1,\"block\":" ++ (decimal n ++ (codes ",\"label\":" ++ (label_text block.label ++ u))) in
+    let name : List ℕ → List ℕ =
+    λ u. codes "{\"schema\":1,\"block\":" ++ (decimal n ++ (codes ",\"label\":" ++ (label_text block.label ++ (codes ",\"entry\":" ++ (label_text entry ++ u))))) in
     let lines : List ℕ → List ℕ = λ u. codes ",\"line\":" ++ (first ++ (codes ",\"last_line\":" ++ (last ++ u))) in
     let size : List ℕ → List ℕ = λ u. codes ",\"count\":" ++ (count ++ (codes ",\"parcels\":" ++ (parcels ++ u))) in
     let orders : List ℕ → List ℕ → List ℕ = λ a w. codes ",\"instructions\":" ++ (a ++ (codes ",\"written\":" ++ (w ++ (codes ",\"found\":" ++ rest)))) in
     let ending = codes ",\"written\":" ++ (timed_text t ++ codes "},\"found\":") in
     let following = instructions_text p block ++ ending in
-    ap₂ (λ a w. name (lines (size (orders a w)))) (list-text (instruction_data p block) (instruction_text p block) (instruction-text p block) ns) (written-text t)
-    ∙ ap (λ w. name (lines (size (codes ",\"instructions\":" ++ (all ++ (codes ",\"written\":" ++ w)))))) (append_assoc (timed_text t) (codes "}") (codes ",\"found\":" ++ rest))
+    let more : Members =
+    member (codes "instructions") (list_of (instruction_data p block) ns) (member (codes "written") (written_data t) (member (codes "found") found no_members)) in
+    ap (λ u. name (lines (size u))) (profile-members (changes p) more)
+    ∙ ap₂ (λ a w. name (lines (size (profile ++ orders a w)))) (list-text (instruction_data p block) (instruction_text p block) (instruction-text p block) ns) (written-text t)
+    ∙ ap (λ w. name (lines (size (profile ++ (codes ",\"instructions\":" ++ (all ++ (codes ",\"written\":" ++ w))))))) (append_assoc (timed_text t) (codes "}") (codes ",\"found\":" ++ rest))
     ∙ sym
-    (append_assoc (head_text n block) following rest
-    ∙ two (name_of_block n block.label) (lines_text block) (size_text block) (following ++ rest)
-    ∙ ap (λ u. codes "{\"schema\":1,\"block\":" ++ u) (two (decimal n) (codes ",\"label\":") (label_text block.label) (lines_text block ++ (size_text block ++ (following ++ rest))))
-    ∙ ap (λ u. name (codes ",\"line\":" ++ u)) (two first (codes ",\"last_line\":") last (size_text block ++ (following ++ rest)))
-    ∙ ap (λ u. name (lines (codes ",\"count\":" ++ u))) (two count (codes ",\"parcels\":") parcels (following ++ rest))
-    ∙ ap (λ u. name (lines (size u))) (append_assoc (instructions_text p block) ending rest)
-    ∙ ap (λ u. name (lines (size (codes ",\"instructions\":" ++ (all ++ (codes ",\"written\":" ++ u)))))) (append_assoc (timed_text t) (codes "},\"found\":") rest))
+    (append_assoc (head_text n entry p block) following rest
+    ∙ two (name_of_block n block.label entry) (lines_text block) (size_text block ++ profile) (following ++ rest)
+    ∙ ap (λ u. name_of_block n block.label entry ++ (lines_text block ++ u)) (append_assoc (size_text block) profile (following ++ rest))
+    ∙ ap (λ u. codes "{\"schema\":1,\"block\":" ++ u) (three (decimal n) (codes ",\"label\":") (label_text block.label) (codes ",\"entry\":") (label_text entry) (lines_text block ++ (size_text block ++ (profile ++ (following ++ rest)))))
+    ∙ ap (λ u. name (codes ",\"line\":" ++ u)) (two first (codes ",\"last_line\":") last (size_text block ++ (profile ++ (following ++ rest))))
+    ∙ ap (λ u. name (lines (codes ",\"count\":" ++ u))) (two count (codes ",\"parcels\":") parcels (profile ++ (following ++ rest)))
+    ∙ ap (λ u. name (lines (size (profile ++ u)))) (append_assoc (instructions_text p block) ending rest)
+    ∙ ap (λ u. name (lines (size (profile ++ (codes ",\"instructions\":" ++ (all ++ (codes ",\"written\":" ++ u))))))) (append_assoc (timed_text t) (codes "},\"found\":") rest))
 
 -- LINES
 
-pub written-line : (n : ℕ) (block : Block) (t : TimedOrder) → json_line n block t null ≡ start_text n block t ++ codes "null}\n"
-written-line n block t = ap (λ u. u ++ codes "\n") (block-text n block t null) ∙ append_assoc (start_text n block t) (codes "null}") (codes "\n")
+pub written-line : (n : ℕ) (entry : List ℕ) (block : Block) (t : TimedOrder) → json_line n entry block t null ≡ start_text n entry block t ++ codes "null}\n"
+written-line n entry block t = ap (λ u. u ++ codes "\n") (block-text n entry block t null) ∙ append_assoc (start_text n entry block t) (codes "null}") (codes "\n")
 
-pub found-line : (n : ℕ) (block : Block) (t f : TimedOrder) (bound splits : ℕ) →
-    json_line n block t (found_data f bound splits) ≡ start_text n block t ++ (timed_text f ++ (bound_text bound splits (bound == total_of f.problem f.numbers) ++ codes "}}\n"))
-found-line n block t f bound splits =
-    let start = start_text n block t in
+pub found-line : (n : ℕ) (entry : List ℕ) (block : Block) (t f : TimedOrder) (bound splits : ℕ) →
+    json_line n entry block t (found_data f bound splits) ≡ start_text n entry block t ++ (timed_text f ++ (bound_text bound splits (bound == total_of f.problem f.numbers) ++ codes "}}\n"))
+found-line n entry block t f bound splits =
+    let start = start_text n entry block t in
     let found = compact_text (found_data f bound splits) in
     let bounds = bound_text bound splits (bound == total_of f.problem f.numbers) in
-    ap (λ u. u ++ codes "\n") (block-text n block t (found_data f bound splits)) ∙ append_assoc start (found ++ codes "}") (codes "\n")
+    ap (λ u. u ++ codes "\n") (block-text n entry block t (found_data f bound splits)) ∙ append_assoc start (found ++ codes "}") (codes "\n")
     ∙ ap (λ u. start ++ u) (append_assoc found (codes "}") (codes "\n") ∙ ap (λ u. u ++ codes "}\n") (found-text f bound splits) ∙ two (timed_text f) bounds (codes "}") (codes "}\n"))

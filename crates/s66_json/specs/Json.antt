@@ -11,6 +11,8 @@ use Rattle.s66_isa.specs.declared.profile.Profile.{Profile}
 use Rattle.s66_isa.specs.Lists.{weigh}
 use Rattle.s66_isa.specs.Table.{Reg, Row, Write, instr_at, numbers, parcels_of, row}
 use Rattle.s66_line.specs.Block.{Block, instrs_of, line_of, whole_text_of}
+use Rattle.s66_command.specs.Changes.{changes, name_at}
+use Rattle.s66_command.specs.declared.changes.Change.{Change}
 use Rattle.s66_model.specs.Dependence.{needs}
 use Rattle.s66_model.specs.Packing.{fillers, len_at}
 use Rattle.s66_model.specs.Timing.{Point, ResultAt, latest_result, points_of, total_of}
@@ -169,15 +171,25 @@ label_data (b ∷ bs) = text_data (without_blank (b ∷ bs))
 abbrev pub parcels_in : List Instr → ℕ
 parcels_in block = weigh (λ (n : Instr). parcels_of n.op.code) block
 
--- the n-th block, from 1, as it is written, and what is found of it, or null
-abbrev pub block_data : ℕ → Block → (written : TimedOrder) (found : Data) → Data
-block_data n block t found =
+-- numbers of a profile, by their names
+abbrev pub change_members : List Change → Members
+change_members [] = no_members
+change_members (c ∷ cs) = member (characters (name_at c.place)) (num c.value) (change_members cs)
+
+-- those that aren't the standard profile's, if there are any, and then more
+abbrev pub profile_members : List Change → Members → Members
+profile_members [] more = more
+profile_members (c ∷ cs) more = member (codes "profile") (object (change_members (c ∷ cs))) more
+
+-- the n-th block, from 1, which is entered by this name, as it is written, and what is found of it, or null
+abbrev pub block_data : ℕ → (entry : List ℕ) → Block → (written : TimedOrder) (found : Data) → Data
+block_data n entry block t found =
     object (member (codes "schema") (num 1) (member (codes "block") (num n) (member (codes "label") (label_data block.label)
-    (member (codes "line") (num (line_of block 1)) (member (codes "last_line") (num (line_of block (length (instrs_of block))))
+    (member (codes "entry") (label_data entry) (member (codes "line") (num (line_of block 1)) (member (codes "last_line") (num (line_of block (length (instrs_of block))))
     (member (codes "count") (num (length (instrs_of block))) (member (codes "parcels") (num (parcels_in (instrs_of block)))
-    (member (codes "instructions") (list_of (instruction_data t.problem.profile block) (numbers (instrs_of block)))
-    (member (codes "written") (written_data t) (member (codes "found") found no_members))))))))))
+    (profile_members (changes t.problem.profile) (member (codes "instructions") (list_of (instruction_data t.problem.profile block) (numbers (instrs_of block)))
+    (member (codes "written") (written_data t) (member (codes "found") found no_members))))))))))))
 
 -- its line
-abbrev pub json_line : ℕ → Block → (written : TimedOrder) (found : Data) → List ℕ
-json_line n block t found = compact_text (block_data n block t found) ++ codes "\n"
+abbrev pub json_line : ℕ → (entry : List ℕ) → Block → (written : TimedOrder) (found : Data) → List ℕ
+json_line n entry block t found = compact_text (block_data n entry block t found) ++ codes "\n"

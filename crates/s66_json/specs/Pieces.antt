@@ -5,6 +5,8 @@ use Rattle.s66_isa.specs.declared.instr.Kind.{Kind}
 use Rattle.s66_isa.specs.declared.instr.Memory.{Memory}
 use Rattle.s66_isa.specs.declared.profile.Profile.{Profile}
 use Rattle.s66_isa.specs.Table.{Reg, Row, Write, numbers}
+use Rattle.s66_command.specs.Changes.{changes, name_at}
+use Rattle.s66_command.specs.declared.changes.Change.{Change}
 use Rattle.s66_line.specs.Block.{Block, instrs_of, line_of, whole_text_of}
 use Rattle.s66_model.specs.Dependence.{needs}
 use Rattle.s66_model.specs.Timing.{Point, ResultAt, latest_result, total_of}
@@ -160,8 +162,9 @@ instructions_text p block = codes ",\"instructions\":" ++ list_text (instruction
 
 -- A BLOCK
 
-unfoldable pub name_of_block : ℕ → List ℕ → List ℕ
-name_of_block n label = codes "{\"schema\":1,\"block\":" ++ (decimal n ++ (codes ",\"label\":" ++ label_text label))
+unfoldable pub name_of_block : ℕ → (label entry : List ℕ) → List ℕ
+name_of_block n label entry =
+    codes "{\"schema\":1,\"block\":" ++ (decimal n ++ (codes ",\"label\":" ++ (label_text label ++ (codes ",\"entry\":" ++ label_text entry))))
 
 unfoldable pub lines_text : Block → List ℕ
 lines_text block = codes ",\"line\":" ++ (decimal (line_of block 1) ++ (codes ",\"last_line\":" ++ decimal (line_of block (length (instrs_of block)))))
@@ -169,10 +172,19 @@ lines_text block = codes ",\"line\":" ++ (decimal (line_of block 1) ++ (codes ",
 unfoldable pub size_text : Block → List ℕ
 size_text block = codes ",\"count\":" ++ (decimal (length (instrs_of block)) ++ (codes ",\"parcels\":" ++ decimal (parcels_in (instrs_of block))))
 
-unfoldable pub head_text : ℕ → Block → List ℕ
-head_text n block = name_of_block n block.label ++ (lines_text block ++ size_text block)
+-- these numbers after others or not, with the brace that closes them
+abbrev pub changes_listed : Bool → List Change → List ℕ
+changes_listed later [] = codes "}"
+changes_listed later (c ∷ cs) = comma_if later ++ (string_text (name_at c.place) ++ (codes ":" ++ (decimal c.value ++ changes_listed true cs)))
+
+abbrev pub profile_text : List Change → List ℕ
+profile_text [] = []
+profile_text (c ∷ cs) = codes ",\"profile\":{" ++ changes_listed false (c ∷ cs)
+
+unfoldable pub head_text : ℕ → (entry : List ℕ) → Profile → Block → List ℕ
+head_text n entry p block = name_of_block n block.label entry ++ (lines_text block ++ (size_text block ++ profile_text (changes p)))
 
 -- to where it is said what is found
-unfoldable pub start_text : ℕ → Block → TimedOrder → List ℕ
-start_text n block t =
-    head_text n block ++ (instructions_text t.problem.profile block ++ (codes ",\"written\":" ++ (timed_text t ++ codes "},\"found\":")))
+unfoldable pub start_text : ℕ → (entry : List ℕ) → Block → TimedOrder → List ℕ
+start_text n entry block t =
+    head_text n entry t.problem.profile block ++ (instructions_text t.problem.profile block ++ (codes ",\"written\":" ++ (timed_text t ++ codes "},\"found\":")))

@@ -5,20 +5,24 @@ ghost use Rattle.s66_json.specs.Pieces.{head_text, lines_text, name_of_block, si
 use crate::instruction::push_instructions;
 use crate::label::push_label;
 use crate::order::push_timed;
+use crate::profile::push_profile;
 use crate::text::push_text;
 use s66_device::push_field;
+use s66_isa::Profile;
 use s66_line::Block;
 use s66_time::Timed;
 use std::alloc::AllocError;
 
-/// The number and the label of a block.
+/// The number of a block, its label and the name by which it is entered.
 #[tactic(auto, unfolding(crate::specs::Pieces::name_of_block))]
-fn push_name(out: &mut Vec<u8>, number: usize, label: &[u8]) -> Result<(), AllocError>
-    ensures { OnOk result (out.new.items ≡ out.old.items ++ name_of_block number label.now) }
+fn push_name(out: &mut Vec<u8>, number: usize, label: &[u8], entry: &[u8]) -> Result<(), AllocError>
+    ensures { OnOk result (out.new.items ≡ out.old.items ++ name_of_block number label.now entry.now) }
 {
     push_field(out, b"{\"schema\":1,\"block\":", number)?;
     push_text(out, b",\"label\":")?;
-    push_label(out, label)
+    push_label(out, label)?;
+    push_text(out, b",\"entry\":")?;
+    push_label(out, entry)
 }
 
 /// Its first and its last line.
@@ -40,14 +44,21 @@ fn push_size(out: &mut Vec<u8>, block: &Block) -> Result<(), AllocError>
     push_field(out, b",\"parcels\":", block.parcels() as usize)
 }
 
-/// What a block is.
+/// What a block is, and under which profile it is timed.
 #[tactic(auto, unfolding(crate::specs::Pieces::head_text))]
-fn push_head(out: &mut Vec<u8>, number: usize, block: &Block) -> Result<(), AllocError>
-    ensures { OnOk result (out.new.items ≡ out.old.items ++ head_text number block.now) }
+fn push_head(
+    out: &mut Vec<u8>,
+    number: usize,
+    entry: &[u8],
+    profile: &Profile,
+    block: &Block,
+) -> Result<(), AllocError>
+    ensures { OnOk result (out.new.items ≡ out.old.items ++ head_text number entry.now profile.now block.now) }
 {
-    push_name(out, number, block.label())?;
+    push_name(out, number, block.label(), entry)?;
     push_lines(out, block)?;
-    push_size(out, block)
+    push_size(out, block)?;
+    push_profile(out, profile)
 }
 
 /// A block, whose number is from 1, as it is written, to where it is said what is found.
@@ -55,13 +66,14 @@ fn push_head(out: &mut Vec<u8>, number: usize, block: &Block) -> Result<(), Allo
 pub fn push_start(
     out: &mut Vec<u8>,
     number: usize,
+    entry: &[u8],
     block: &Block,
     written: &Timed,
 ) -> Result<(), AllocError>
     requires { written.now.problem.block ≡ instrs_of block.now }
-    ensures { OnOk result (out.new.items ≡ out.old.items ++ start_text number block.now written.now) }
+    ensures { OnOk result (out.new.items ≡ out.old.items ++ start_text number entry.now block.now written.now) }
 {
-    push_head(out, number, block)?;
+    push_head(out, number, entry, written.profile(), block)?;
     push_instructions(out, written.profile(), block)?;
     push_text(out, b",\"written\":")?;
     push_timed(out, block, written)?;

@@ -2,17 +2,24 @@
 //! from outside, and the functions do nothing.
 
 ghost use Rattle.std.specs.Prelude.{[], ◌∷◌, ◌≡◌, ◌++◌, codes};
-ghost use Rattle.serde_json.specs.Data.{null};
+ghost use Rattle.serde_json.specs.Data.{no_members, null, object};
 ghost use Rattle.serde_json.specs.Written.{compact_text};
 ghost use Rattle.s66_isa.specs.Table.{standard};
 ghost use Rattle.s66_json.specs.Examples.{in_order, labelled, loads_and_two};
-ghost use Rattle.s66_json.specs.Json.{found_data, instruction_data, json_line, written_data};
+ghost use Rattle.s66_json.specs.Json.{found_data, instruction_data, json_line, profile_members, written_data};
 
 /// A block of one store: its label has a quote and a byte that is no ASCII, its text is in upper case, and it writes a register alone.
 #[tactic(auto, unfolding(s66_isa::specs::Table::row, s66_model::specs::Timing::issue_of, s66_model::specs::Timing::start_of, s66_model::specs::Timing::point, s66_why::specs::Why::digits, json::specs::Print::escape_byte))]
 pub fn label_example()
-    ensures { json_line 7 labelled (in_order labelled (1 ∷ [])) null ≡
-        codes "{\"schema\":1,\"block\":7,\"label\":\"A\\\"" ++ 195 ∷ 169 ∷ codes "\",\"line\":3,\"last_line\":3,\"count\":1,\"parcels\":1,\"instructions\":[{\"n\":1,\"line\":3,\"text\":\"SA6 B1\",\"unit\":\"increment\",\"parcels\":1,\"works\":3,\"reads\":[\"B1\",\"X6\"],\"writes\":[\"A6\"],\"memory\":\"store\",\"after\":[]}],\"written\":{\"time\":4,\"no\":0,\"order\":[1],\"at\":[{\"n\":1,\"parcel\":0,\"issue\":0,\"start\":0,\"done\":3,\"free\":4,\"results\":[{\"register\":\"A6\",\"done\":3}],\"waits\":[]}],\"path\":[1],\"steps\":[4],\"lost\":{\"first\":0,\"second\":0,\"third\":0}},\"found\":null}\n" }
+    ensures { json_line 7 (codes "A\"" ++ 233 ∷ []) labelled (in_order labelled (1 ∷ [])) null ≡
+        codes "{\"schema\":1,\"block\":7,\"label\":\"A\\\"" ++ 195 ∷ 169 ∷ codes "\",\"entry\":\"A\\\"" ++ 195 ∷ 169 ∷ codes "\",\"line\":3,\"last_line\":3,\"count\":1,\"parcels\":1,\"instructions\":[{\"n\":1,\"line\":3,\"text\":\"SA6 B1\",\"unit\":\"increment\",\"parcels\":1,\"works\":3,\"reads\":[\"B1\",\"X6\"],\"writes\":[\"A6\"],\"memory\":\"store\",\"after\":[]}],\"written\":{\"time\":4,\"no\":0,\"order\":[1],\"at\":[{\"n\":1,\"parcel\":0,\"issue\":0,\"start\":0,\"done\":3,\"free\":4,\"results\":[{\"register\":\"A6\",\"done\":3}],\"waits\":[]}],\"path\":[1],\"steps\":[4],\"lost\":{\"first\":0,\"second\":0,\"third\":0}},\"found\":null}\n" }
+{}
+
+/// Two numbers that aren't the standard profile's.
+#[tactic(auto, unfolding(s66_why::specs::Why::digits, json::specs::Print::escape_byte))]
+pub fn profile_example()
+    ensures { compact_text (object (profile_members (record { place = 9; value = 5 } ∷ record { place = 12; value = 2 } ∷ []) no_members)) ≡
+        codes "{\"profile\":{\"load\":5,\"units_add\":2}}" }
 {}
 
 /// A load.

@@ -11,15 +11,15 @@ ghost use Rattle.s66_json.specs.Labels.{bytes_in};
 
 /// Who reads a line finds in it the numbers of the order that it is of, and nothing found where nothing was.
 pub fn order_law()
-    ensures written { (n : ℕ) (block : BlockOf) (t : TimedOrder) →
+    ensures written { (n : ℕ) (entry : List ℕ) (block : BlockOf) (t : TimedOrder) →
         option_and_then (get (codes "order"))
-        (option_and_then (get (codes "written")) (Some (block_data n block t null))) ≡ Some (list_of num t.numbers) }
-    ensures found { (n : ℕ) (block : BlockOf) (t f : TimedOrder) (bound splits : ℕ) →
+        (option_and_then (get (codes "written")) (Some (block_data n entry block t null))) ≡ Some (list_of num t.numbers) }
+    ensures found { (n : ℕ) (entry : List ℕ) (block : BlockOf) (t f : TimedOrder) (bound splits : ℕ) →
         option_and_then (get (codes "order"))
-        (option_and_then (get (codes "found")) (Some (block_data n block t (found_data f bound splits)))) ≡
+        (option_and_then (get (codes "found")) (Some (block_data n entry block t (found_data f bound splits)))) ≡
         Some (list_of num f.numbers) }
-    ensures nothing { (n : ℕ) (block : BlockOf) (t : TimedOrder) →
-        option_and_then (get (codes "found")) (Some (block_data n block t null)) ≡ Some null }
+    ensures nothing { (n : ℕ) (entry : List ℕ) (block : BlockOf) (t : TimedOrder) →
+        option_and_then (get (codes "found")) (Some (block_data n entry block t null)) ≡ Some null }
 {}
 
 /// The bytes of any text can be got back from its characters.

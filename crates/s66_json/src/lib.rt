@@ -10,11 +10,14 @@ mod line;
 mod list;
 mod order;
 mod point;
+mod profile;
 mod string;
 mod text;
 mod wait;
 mod words;
 
-pub use examples::{found_example, instruction_example, label_example, written_example};
+pub use examples::{
+    found_example, instruction_example, label_example, profile_example, written_example,
+};
 pub use laws::{bytes_law, order_law};
 pub use line::{push_found_line, push_written_line};

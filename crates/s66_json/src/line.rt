@@ -10,21 +10,22 @@ use s66_line::Block;
 use s66_time::Timed;
 use std::alloc::AllocError;
 
-/// Appends the line of a block, whose number is from 1, in its source order: what each instruction is and when it does what. `Err` is
-/// out of memory.
+/// Appends the line of a block, whose number is from 1, in its source order: what each instruction is and when it does what. The block
+/// is entered by this name, which is empty if there is none. `Err` is out of memory.
 ///
 /// The line is one JSON object without spaces. It takes time quadratic in the length of the block, which is at most `BLOCK_LIMIT`, and
 /// allocates nothing but room in `out`.
 pub fn push_written_line(
     out: &mut Vec<u8>,
     number: usize,
+    entry: &[u8],
     block: &Block,
     written: &Timed,
 ) -> Result<(), AllocError>
     requires { written.now.problem.block ≡ instrs_of block.now }
-    ensures { OnOk result (out.new.items ≡ out.old.items ++ json_line number block.now written.now null) }
+    ensures { OnOk result (out.new.items ≡ out.old.items ++ json_line number entry.now block.now written.now null) }
 {
-    push_start(out, number, block, written)?;
+    push_start(out, number, entry, block, written)?;
     push_text(out, b"null}\n")
 }
 
@@ -33,6 +34,7 @@ pub fn push_written_line(
 pub fn push_found_line(
     out: &mut Vec<u8>,
     number: usize,
+    entry: &[u8],
     block: &Block,
     written: &Timed,
     found: &Timed,
@@ -42,9 +44,9 @@ pub fn push_found_line(
     requires written { written.now.problem.block ≡ instrs_of block.now }
     requires found { found.now.problem.block ≡ instrs_of block.now }
     ensures { OnOk result (out.new.items ≡ out.old.items ++
-        json_line number block.now written.now (found_data found.now bound splits)) }
+        json_line number entry.now block.now written.now (found_data found.now bound splits)) }
 {
-    push_start(out, number, block, written)?;
+    push_start(out, number, entry, block, written)?;
     push_timed(out, block, found)?;
     push_bound(out, bound, splits, bound == found.total())?;
     push_text(out, b"}}\n")

@@ -12,7 +12,7 @@ returns c =
     let block = c.args.block.now in
     let t = c.args.written.now in
     let f = c.args.found.now in
-    let start = start_text n block t in
+    let start = start_text n c.args.entry.now block t in
     let best = c.args.bound == total_of f.problem f.numbers in
     let bounds = bound_text c.args.bound c.args.splits best in
     let last = codes "}}\n" in
@@ -20,4 +20,4 @@ returns c =
     (ap (λ zs. zs ++ last) (c.in_ok-push_bound.ensures ∙ ap (λ k. c.push_timed.new.out.items ++ bound_text c.args.bound c.args.splits (c.args.bound == k)) c.total.ensures.value
     ∙ ap (λ zs. zs ++ bounds) (c.in_ok-push_timed.ensures ∙ ap (λ zs. zs ++ timed_text f) c.in_ok-push_start.ensures))
     ∙ append_assoc ((out ++ start) ++ timed_text f) bounds last ∙ append_assoc (out ++ start) (timed_text f) (bounds ++ last)
-    ∙ append_assoc out start (timed_text f ++ (bounds ++ last)) ∙ ap (λ zs. out ++ zs) (sym (found-line n block t f c.args.bound c.args.splits)))
+    ∙ append_assoc out start (timed_text f ++ (bounds ++ last)) ∙ ap (λ zs. out ++ zs) (sym (found-line n c.args.entry.now block t f c.args.bound c.args.splits)))

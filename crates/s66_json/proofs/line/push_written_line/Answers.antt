@@ -10,6 +10,6 @@ returns c =
     let n = c.args.number in
     let block = c.args.block.now in
     let t = c.args.written.now in
-    let start = start_text n block t in
+    let start = start_text n c.args.entry.now block t in
     IfOk-equal c.push_text.result _ _ _ c.push_text.ensures
-    (ap (λ zs. zs ++ codes "null}\n") c.in_ok-push_start.ensures ∙ append_assoc out start (codes "null}\n") ∙ ap (λ zs. out ++ zs) (sym (written-line n block t)))
+    (ap (λ zs. zs ++ codes "null}\n") c.in_ok-push_start.ensures ∙ append_assoc out start (codes "null}\n") ∙ ap (λ zs. out ++ zs) (sym (written-line n c.args.entry.now block t)))
