@@ -14,3 +14,5 @@ pub mod LinesAgain
 pub mod PlacedPairs
 pub mod Texts
 pub mod Totals
+pub mod Places
+pub mod BlockPlaces

@@ -1,14 +1,14 @@
 -- To be believed: what `compare` writes of an old source and a new one.
-use Rattle.std.specs.Prelude.{ℕ, ◌≡◌, ◌+◌, Bool, ◌&&◌, List, [], ◌∷◌, ◌++◌, Option, None, Some, Ok, codes, decimal, is_none}
+use Rattle.std.specs.Prelude.{ℕ, ◌≡◌, ◌+◌, Bool, true, ◌&&◌, if◌then◌else◌, List, [], ◌∷◌, ◌++◌, Option, None, Some, Ok, codes, decimal, is_none, slice_get}
 use Rattle.s66_isa.specs.Lists.{after_blanks, every, tally, weigh}
 use Rattle.s66_isa.specs.declared.profile.Profile.{Profile}
 use Rattle.s66_line.specs.Block.{Block}
 use Rattle.s66_source.specs.Frame.{frame_of}
 use Rattle.s66_source.specs.LeftAlone.{Reading}
 use Rattle.s66_source.specs.Source.{source_of}
+use Rattle.s66_compare.specs.Broken.{broken_text}
 use Rattle.s66_compare.specs.Difference.{first_difference}
-use Rattle.s66_compare.specs.Rows.{has_new, has_old, is_legal, new_time, old_time, rows_of}
-use Rattle.s66_compare.specs.Verdict.{Judged}
+use Rattle.s66_compare.specs.Rows.{AreAligned, has_new, has_old, is_legal, new_time, old_time}
 use Rattle.s66_compare.specs.declared.difference.Difference.{Difference}
 use Rattle.s66_compare.specs.declared.rows.Row.{Row}
 use Rattle.s66_compare.specs.declared.rows.Row.TheVariants.{Both, NewAlone, OldAlone}
@@ -18,26 +18,37 @@ use Rattle.s66_compare.specs.declared.verdict.Verdict.TheVariants.{NotLegal, Oth
 
 -- BLOCKS
 
-abbrev pub verdict_text : Verdict → (order : List ℕ) → List ℕ
-verdict_text Same order = codes " SAME"
-verdict_text Reordered order = codes " ORDER" ++ after_blanks order
-verdict_text (NotLegal number missing) order = codes " NOT LEGAL " ++ decimal number ++ codes " AFTER " ++ decimal missing
-verdict_text (OtherNew line) order = codes " OTHER CODE NEW LINE " ++ decimal line
-verdict_text (OtherOld line) order = codes " OTHER CODE LINE " ++ decimal line
+-- with texts by lines and instructions of the new block, else by numbers of the old one's instructions
+abbrev pub not_legal_text : (texts : Bool) (new : Option Block) (order : List ℕ) (number missing : ℕ) → List ℕ
+not_legal_text true (Some new) order number missing = broken_text new order number missing
+not_legal_text texts new order number missing = codes " NOT LEGAL " ++ decimal number ++ codes " AFTER " ++ decimal missing
+
+abbrev pub verdict_text : (texts : Bool) (new : Option Block) → Verdict → (order : List ℕ) → List ℕ
+verdict_text texts new Same order = codes " SAME"
+verdict_text texts new Reordered order = codes " ORDER" ++ after_blanks order
+verdict_text texts new (NotLegal number missing) order = not_legal_text texts new order number missing
+verdict_text texts new (OtherNew line) order = codes " OTHER CODE NEW LINE " ++ decimal line
+verdict_text texts new (OtherOld line) order = codes " OTHER CODE LINE " ++ decimal line
 
 abbrev pub side_text : Side → List ℕ
 side_text s = codes " LINE " ++ decimal s.line ++ codes " COUNT " ++ decimal s.count ++ codes " TIME " ++ decimal s.time
 
--- a block that one source lacks has its own half of the line, and no verdict
-abbrev pub row_text : Row → List ℕ
-row_text (Both old new said) = side_text old ++ codes " NEW" ++ side_text new ++ verdict_text said.verdict said.order
-row_text (OldAlone old) = side_text old
-row_text (NewAlone new) = codes " NEW" ++ side_text new
+-- a block that one source lacks has its own half of the line
+abbrev pub row_text : (texts : Bool) (block : Option Block) → Row → List ℕ
+row_text texts block (Both old new said) = side_text old ++ codes " NEW" ++ side_text new ++ verdict_text texts block said.verdict said.order
+row_text texts block (OldAlone old) = side_text old ++ codes " GONE"
+row_text texts block (NewAlone new) = codes " NEW" ++ side_text new ++ codes " ADDED"
 
--- of these rows, before which n come
-abbrev pub row_lines : ℕ → List Row → List ℕ
-row_lines n [] = []
-row_lines n (row ∷ rows) = codes "BLOCK " ++ decimal (n + 1) ++ row_text row ++ codes "\n" ++ row_lines (n + 1) rows
+-- a block more, if there is one
+abbrev pub counted : Bool → ℕ → ℕ
+counted is n = if is then n + 1 else n
+
+-- of these rows, before which n blocks of the old source and m of the new one come; a block has the old source's number if it is in it
+abbrev pub row_lines : (texts : Bool) (new : List Block) (n m : ℕ) → List Row → List ℕ
+row_lines texts new n m [] = []
+row_lines texts new n m (row ∷ rows) =
+    codes "BLOCK " ++ decimal (if has_old row then n + 1 else m + 1) ++ row_text texts (slice_get new m) row ++ codes "\n"
+    ++ row_lines texts new (counted (has_old row) n) (counted (has_new row) m) rows
 
 -- WHAT STANDS BESIDE THEM
 
@@ -63,16 +74,18 @@ total_text blocks time new_blocks new_time legal =
 abbrev pub total_line : List Row → List ℕ
 total_line rows = total_text (tally has_old rows) (weigh old_time rows) (tally has_new rows) (weigh new_time rows) (tally is_legal rows)
 
-abbrev pub compared_text : List Row → Option Difference → List ℕ
-compared_text rows difference = row_lines 0 rows ++ difference_line difference ++ total_line rows
+abbrev pub compared_text : (texts : Bool) (new : List Block) → List Row → Option Difference → List ℕ
+compared_text texts new rows difference = row_lines texts new 0 0 rows ++ difference_line difference ++ total_line rows
 
 -- each block is the old one in a legal order, and nothing else differs
 abbrev pub is_accepted : List Row → Option Difference → Bool
 is_accepted rows difference = every is_legal rows && is_none difference
 
--- both sources are accepted; the text is of their blocks and frames, and the new one is the old one in legal orders or not
-abbrev pub IsCompared : Profile → (old new : Reading) (text : List ℕ) → Bool → Type 0
-IsCompared p old new text accepted =
+-- both sources are accepted; the text is of their blocks, as they are aligned, and of their frames, and the new one is the old one in
+-- legal orders or not
+abbrev pub IsCompared : Profile → (texts : Bool) (old new : Reading) (text : List ℕ) → Bool → Type 0
+IsCompared p texts old new text accepted =
     (blocks : List Block) × (again : List Block) × (source_of old ≡ Ok blocks) × (source_of new ≡ Ok again)
-    × ((text ≡ compared_text (rows_of p blocks again) (first_difference (frame_of old) (frame_of new)))
-    × (accepted ≡ is_accepted (rows_of p blocks again) (first_difference (frame_of old) (frame_of new))))
+    × ((rows : List Row) × AreAligned p blocks again rows
+    × ((text ≡ compared_text texts again rows (first_difference (frame_of old) (frame_of new)))
+    × (accepted ≡ is_accepted rows (first_difference (frame_of old) (frame_of new)))))

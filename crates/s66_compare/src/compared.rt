@@ -2,7 +2,7 @@ ghost use Rattle.std.specs.Prelude.{◌≡◌, IfOk};
 ghost use Rattle.s66_compare.specs.Compared.{IsCompared, is_accepted};
 
 use crate::difference::{Difference, difference_of};
-use crate::rows::{Row, rows_of};
+use crate::rows::{Row, aligned_rows, are_legal};
 use crate::text::compared_text;
 use s66_isa::Profile;
 use s66_source::Source;
@@ -21,29 +21,28 @@ pub struct Compared {
 fn is_accepted(rows: &[Row], difference: Option<Difference>) -> bool
     ensures { result ≡ is_accepted rows.now difference }
 {
-    for row in rows {
-        if !row.is_legal() {
-            return false;
-        }
-    }
-    difference.is_none()
+    are_legal(rows) && difference.is_none()
 }
 
-/// Compares a new source with an old one, block by block, and what stands beside the blocks, under a profile. `Err` is out of memory.
+/// Compares a new source with an old one, block by block as they are aligned, and what stands beside the blocks, under a profile; with
+/// `text` by lines and instructions where it isn't legal. `Err` is out of memory.
 pub fn compare(
     alloc: Global,
     profile: &Profile,
+    text: bool,
     old: &Source,
     new: &Source,
 ) -> Result<Compared, AllocError>
     ensures { IfOk result (λ compared.
-        IsCompared profile.now old.now new.now compared.text.items compared.is_accepted) }
+        IsCompared profile.now text old.now new.now compared.text.items compared.is_accepted) }
 {
-    let rows = rows_of(alloc, profile, old.blocks(), new.blocks())?;
+    let old_blocks = old.blocks();
+    let new_blocks = new.blocks();
+    let rows = aligned_rows(alloc, profile, old_blocks, new_blocks)?;
     let difference = difference_of(alloc, old, new)?;
-    let text = compared_text(alloc, rows.as_slice(), difference)?;
+    let written = compared_text(alloc, text, new_blocks, rows.as_slice(), difference)?;
     Ok(Compared {
-        text,
+        text: written,
         is_accepted: is_accepted(rows.as_slice(), difference),
     })
 }

@@ -1,6 +1,6 @@
 //! What an accepted comparison means: contracts of functions that do nothing.
 
-ghost use Rattle.std.specs.Prelude.{ℕ, List, [], ◌∷◌, ◌≡◌, true, false, None, Some, codes};
+ghost use Rattle.std.specs.Prelude.{ℕ, Bool, List, [], ◌∷◌, ◌≡◌, true, false, None, Some, codes};
 ghost use Rattle.s66_isa.specs.declared.profile.Profile.{Profile};
 ghost use Rattle.s66_line.specs.Block.{block_of_texts};
 ghost use Rattle.s66_source.specs.Frame.{FramePart, frame_of};
@@ -17,7 +17,8 @@ ghost use Rattle.s66_compare.specs.declared.verdict.Verdict.TheVariants.{NotLega
 /// legal order, and so leaves the same in all registers and in memory; and what stands beside the blocks is the same. Comments and
 /// remarks are no part of that, whatever reads them.
 pub fn same_meaning_law()
-    ensures { (p : Profile) (old new : Reading) (text : List ℕ) → IsCompared p old new text true → KeepsSource old new }
+    ensures { (p : Profile) (texts : Bool) (old new : Reading) (text : List ℕ) → IsCompared p texts old new text true →
+        KeepsSource old new }
 {}
 
 /// The first difference of two frames is none if these are the same but for their lines, and else the first place at which they aren't.

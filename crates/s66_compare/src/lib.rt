@@ -1,9 +1,13 @@
 //! Whether one source is another but for the legal orders of its blocks, and what is written of that.
 #![tactic(auto)]
 
+mod alignment;
+mod broken;
 mod compared;
 mod difference;
+mod fingerprint;
 mod laws;
+mod limits;
 mod pairing;
 mod rows;
 mod text;

@@ -1,7 +1,10 @@
-ghost use Rattle.std.specs.Prelude.{List, ◌≡◌, ◌+◌, [], ◌∷◌, ◌++◌, drop, length, IfOk, OnOk};
+ghost use Rattle.std.specs.Prelude.{List, ◌≡◌, ◌≤◌, ◌+◌, [], ◌∷◌, ◌++◌, drop, length, IfOk, OnOk};
 ghost use Rattle.s66_line.specs.Block.{Block as BlockOf};
-ghost use Rattle.s66_compare.specs.Rows.{rows_of, side_of};
+ghost use Rattle.s66_compare.specs.declared.alignment.Step.{Step as StepOf};
+ghost use Rattle.s66_isa.specs.Lists.{every};
+ghost use Rattle.s66_compare.specs.Rows.{AreAligned, both, is_legal, rows_by, rows_of, side_of};
 
+use crate::alignment::{Step, align};
 use crate::verdict::{Judged, judge};
 use s66_dep::Order;
 use s66_isa::Profile;
@@ -20,7 +23,7 @@ pub struct Side {
     pub time: u32,
 }
 
-/// The blocks of one number.
+/// Two blocks that are compared, or one that the other source lacks.
 #[derive(Drop)]
 pub enum Row {
     Both {
@@ -51,6 +54,18 @@ fn side_of(timer: &mut Timer, block: &Block) -> Side
     }
 }
 
+/// The row of an old block and a new one.
+fn both(timer: &mut Timer, old: &Block, new: &Block) -> Row
+    ensures profile { timer.new ≡ timer.old }
+    ensures row { result ≡ both timer.old old.now new.now }
+{
+    Row::Both {
+        old: side_of(timer, old),
+        new: side_of(timer, new),
+        judged: judge(old, new),
+    }
+}
+
 /// The row of an old block and the new one at its place, from 0, if there is one.
 #[tactic(auto, using(crate::proofs::RowSteps::old_row, crate::proofs::RowSteps::both_row))]
 fn row_at(timer: &mut Timer, old: &Block, new: &[Block], place: usize) -> Row
@@ -63,12 +78,7 @@ fn row_at(timer: &mut Timer, old: &Block, new: &[Block], place: usize) -> Row
             old: side_of(timer, old),
         };
     }
-    let new = &new[place];
-    Row::Both {
-        old: side_of(timer, old),
-        new: side_of(timer, new),
-        judged: judge(old, new),
-    }
+    both(timer, old, &new[place])
 }
 
 /// Appends a row for each old block.
@@ -108,18 +118,146 @@ fn push_new(
     Ok(())
 }
 
-/// The blocks of two sources, side by side, all of which one timer times. `Err` is out of memory.
-pub(crate) fn rows_of(
+/// Appends the rows of blocks that are paired by number.
+fn push_by_number(
+    rows: &mut Vec<Row>,
+    timer: &mut Timer,
+    old: &[Block],
+    new: &[Block],
+) -> Result<(), AllocError>
+    ensures profile { timer.new ≡ timer.old }
+    ensures rows { OnOk result (rows.new.items ≡ rows.old.items ++ rows_of timer.old old.now new.now) }
+{
+    push_old(rows, timer, old, new)?;
+    push_new(rows, timer, new, old.len())
+}
+
+/// How many blocks of each source have a row.
+#[derive(Clone, Copy)]
+struct Places {
+    old: usize,
+    new: usize,
+}
+
+/// Appends the row of a step, if the blocks that it takes are there; and returns how many blocks of each source then have a row.
+#[tactic(auto, using(crate::proofs::RowSteps::pair_step, crate::proofs::RowSteps::gone_step, crate::proofs::RowSteps::added_step, crate::proofs::RowSteps::no_pair_old, crate::proofs::RowSteps::no_pair_new, crate::proofs::RowSteps::no_gone, crate::proofs::RowSteps::no_added, crate::proofs::RowSteps::row_pushed))]
+fn push_step(
+    rows: &mut Vec<Row>,
+    timer: &mut Timer,
+    step: Step,
+    old: &[Block],
+    new: &[Block],
+    places: Places,
+) -> Result<Places, AllocError>
+    requires old { places.old ≤ length old.now }
+    requires new { places.new ≤ length new.now }
+    ensures profile { timer.new ≡ timer.old }
+    ensures old { IfOk result (λ after. after.old ≤ length old.now) }
+    ensures new { IfOk result (λ after. after.new ≤ length new.now) }
+    ensures rows { IfOk result (λ after. (steps : List StepOf) →
+        rows.new.items ++ rows_by timer.old steps (drop after.old old.now) (drop after.new new.now) ≡
+        rows.old.items ++ rows_by timer.old (step ∷ steps) (drop places.old old.now) (drop places.new new.now)) }
+{
+    match step {
+        Step::Pair => {
+            if places.old >= old.len() || places.new >= new.len() {
+                return Ok(places);
+            }
+            rows.push(both(timer, &old[places.old], &new[places.new]))?;
+            Ok(Places {
+                old: places.old + 1,
+                new: places.new + 1,
+            })
+        }
+        Step::Gone => {
+            if places.old >= old.len() {
+                return Ok(places);
+            }
+            rows.push(Row::OldAlone {
+                old: side_of(timer, &old[places.old]),
+            })?;
+            Ok(Places {
+                old: places.old + 1,
+                new: places.new,
+            })
+        }
+        Step::Added => {
+            if places.new >= new.len() {
+                return Ok(places);
+            }
+            rows.push(Row::NewAlone {
+                new: side_of(timer, &new[places.new]),
+            })?;
+            Ok(Places {
+                old: places.old,
+                new: places.new + 1,
+            })
+        }
+    }
+}
+
+/// Appends the rows of blocks that these steps pair, and of those that they leave by number.
+#[tactic(auto, using(crate::proofs::RowSteps::drop_at))]
+fn push_by_steps(
+    rows: &mut Vec<Row>,
+    timer: &mut Timer,
+    steps: &[Step],
+    old: &[Block],
+    new: &[Block],
+) -> Result<(), AllocError>
+    ensures profile { timer.new ≡ timer.old }
+    ensures rows { OnOk result (rows.new.items ≡ rows.old.items ++ rows_by timer.old steps.now old.now new.now) }
+{
+    let mut places = Places { old: 0, new: 0 };
+    for step in steps {
+        places = push_step(rows, timer, *step, old, new, places)?;
+    }
+    push_by_number(rows, timer, &old[places.old..], &new[places.new..])
+}
+
+/// The blocks of two sources, side by side by these steps, all of which one timer times. `Err` is out of memory.
+fn rows_by(
+    alloc: Global,
+    profile: &Profile,
+    steps: &[Step],
+    old: &[Block],
+    new: &[Block],
+) -> Result<Vec<Row>, AllocError>
+    ensures { IfOk result (λ rows. rows.items ≡ rows_by profile.now steps.now old.now new.now) }
+{
+    let mut timer = Timer::new(profile);
+    let mut rows = Vec::new(alloc);
+    push_by_steps(&mut rows, &mut timer, steps, old, new)?;
+    Ok(rows)
+}
+
+/// Whether each row is of an old block and of the new one that is the old one in a legal order.
+pub(crate) fn are_legal(rows: &[Row]) -> bool
+    ensures { result ≡ every is_legal rows.now }
+{
+    for row in rows {
+        if !row.is_legal() {
+            return false;
+        }
+    }
+    true
+}
+
+/// The blocks of two sources, side by side: by number if each new block is the old one in a legal order, and else as `align` pairs
+/// them. `Err` is out of memory.
+pub(crate) fn aligned_rows(
     alloc: Global,
     profile: &Profile,
     old: &[Block],
     new: &[Block],
 ) -> Result<Vec<Row>, AllocError>
-    ensures { IfOk result (λ rows. rows.items ≡ rows_of profile.now old.now new.now) }
+    ensures { IfOk result (λ rows. AreAligned profile.now old.now new.now rows.items) }
 {
-    let mut timer = Timer::new(profile);
-    let mut rows = Vec::new(alloc);
-    push_old(&mut rows, &mut timer, old, new)?;
-    push_new(&mut rows, &mut timer, new, old.len())?;
-    Ok(rows)
+    let numbered = rows_by(alloc, profile, &[], old, new)?;
+    if are_legal(numbered.as_slice()) {
+        return Ok(numbered);
+    }
+    let steps = align(alloc, old, new)?;
+    let aligned = rows_by(alloc, profile, steps.as_slice(), old, new)?;
+    Ok(aligned)
 }

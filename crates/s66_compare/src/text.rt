@@ -1,14 +1,15 @@
-ghost use Rattle.std.specs.Prelude.{◌≡◌, ◌≤◌, ◌*◌, ◌++◌, [], codes, length, IfOk, OnOk};
+ghost use Rattle.std.specs.Prelude.{◌≡◌, ◌≤◌, ◌*◌, ◌++◌, codes, decimal, length, slice_get, IfOk, OnOk};
 ghost use Rattle.s66_isa.specs.Lists.{after_blanks, tally, weigh};
 ghost use Rattle.s66_source.specs.declared.limits.TheConstants.{SOURCE_LINES_LIMIT};
-ghost use Rattle.s66_compare.specs.Compared.{compared_text, difference_line, line_text, row_lines, row_text, side_text, sums_text, total_text, verdict_text};
-ghost use Rattle.s66_compare.specs.declared.verdict.Verdict.TheVariants.{NotLegal, Reordered};
+ghost use Rattle.s66_compare.specs.Compared.{compared_text, difference_line, line_text, row_lines, not_legal_text, row_text, side_text, sums_text, total_text, verdict_text};
 ghost use Rattle.s66_compare.specs.Rows.{has_new, has_old, is_legal, new_time, old_time};
 
+use crate::broken::push_broken;
 use crate::difference::Difference;
 use crate::rows::{Row, Side};
 use crate::verdict::{Judged, Verdict};
 use s66_device::push_field;
+use s66_line::Block;
 use std::alloc::{AllocError, Global};
 
 /// These numbers, each after a blank.
@@ -22,26 +23,62 @@ fn push_numbers(out: &mut Vec<u8>, numbers: &[u8]) -> Result<(), AllocError>
 }
 
 fn push_order(out: &mut Vec<u8>, order: &[u8]) -> Result<(), AllocError>
-    ensures { OnOk result (out.new.items ≡ out.old.items ++ verdict_text Reordered order.now) }
+    ensures { OnOk result (out.new.items ≡ out.old.items ++ (codes " ORDER" ++ after_blanks order.now)) }
 {
     out.extend_from_slice(b" ORDER")?;
     push_numbers(out, order)
 }
 
-fn push_not_legal(out: &mut Vec<u8>, number: u8, missing: u8) -> Result<(), AllocError>
-    ensures { OnOk result (out.new.items ≡ out.old.items ++ verdict_text (NotLegal number missing) []) }
+/// By numbers of the old block's instructions.
+fn push_numbers_broken(out: &mut Vec<u8>, number: u8, missing: u8) -> Result<(), AllocError>
+    ensures { OnOk result (out.new.items ≡ out.old.items ++
+        (codes " NOT LEGAL " ++ decimal number ++ codes " AFTER " ++ decimal missing)) }
 {
     push_field(out, b" NOT LEGAL ", number as usize)?;
     push_field(out, b" AFTER ", missing as usize)
 }
 
-fn push_verdict(out: &mut Vec<u8>, judged: &Judged) -> Result<(), AllocError>
-    ensures { OnOk result (out.new.items ≡ out.old.items ++ verdict_text judged.now.verdict judged.now.order) }
+/// That an order of the new block at a place, from 0, isn't legal: with `text` by lines and instructions.
+#[tactic(auto, using(crate::proofs::BlockPlaces::told_by_number, crate::proofs::BlockPlaces::told_past, crate::proofs::BlockPlaces::told_by_text))]
+fn push_not_legal(
+    out: &mut Vec<u8>,
+    text: bool,
+    new: &[Block],
+    place: usize,
+    order: &[u8],
+    number: u8,
+    missing: u8,
+) -> Result<(), AllocError>
+    ensures { OnOk result (out.new.items ≡ out.old.items ++
+        not_legal_text text (slice_get new.now place) order.now number missing) }
+{
+    if !text {
+        return push_numbers_broken(out, number, missing);
+    }
+    if place >= new.len() {
+        return push_numbers_broken(out, number, missing);
+    }
+    push_broken(out, &new[place], order, number, missing)
+}
+
+/// What is said of the new block at a place, from 0.
+fn push_verdict(
+    out: &mut Vec<u8>,
+    text: bool,
+    new: &[Block],
+    place: usize,
+    judged: &Judged,
+) -> Result<(), AllocError>
+    ensures { OnOk result (out.new.items ≡ out.old.items ++
+        verdict_text text (slice_get new.now place) judged.now.verdict judged.now.order) }
 {
     match judged.verdict {
         Verdict::Same => out.extend_from_slice(b" SAME"),
         Verdict::Reordered => push_order(out, judged.order.as_slice()),
-        Verdict::NotLegal { number, missing } => push_not_legal(out, number, missing),
+        Verdict::NotLegal { number, missing } => {
+            let order = judged.order.as_slice();
+            push_not_legal(out, text, new, place, order, number, missing)
+        }
         Verdict::OtherNew { line } => push_field(out, b" OTHER CODE NEW LINE ", line as usize),
         Verdict::OtherOld { line } => push_field(out, b" OTHER CODE LINE ", line as usize),
     }
@@ -62,29 +99,62 @@ fn push_new_side(out: &mut Vec<u8>, side: &Side) -> Result<(), AllocError>
     push_side(out, side)
 }
 
-/// A row without its number.
-fn push_row(out: &mut Vec<u8>, row: &Row) -> Result<(), AllocError>
-    ensures { OnOk result (out.new.items ≡ out.old.items ++ row_text row.now) }
+/// A row without its number; its new block has this place, from 0.
+fn push_row(
+    out: &mut Vec<u8>,
+    text: bool,
+    new: &[Block],
+    place: usize,
+    row: &Row,
+) -> Result<(), AllocError>
+    ensures { OnOk result (out.new.items ≡ out.old.items ++ row_text text (slice_get new.now place) row.now) }
 {
     match row {
-        Row::Both { old, new, judged } => {
+        Row::Both {
+            old,
+            new: side,
+            judged,
+        } => {
             push_side(out, old)?;
-            push_new_side(out, new)?;
-            push_verdict(out, judged)
+            push_new_side(out, side)?;
+            push_verdict(out, text, new, place, judged)
         }
-        Row::OldAlone { old } => push_side(out, old),
-        Row::NewAlone { new } => push_new_side(out, new),
+        Row::OldAlone { old } => {
+            push_side(out, old)?;
+            out.extend_from_slice(b" GONE")
+        }
+        Row::NewAlone { new } => {
+            push_new_side(out, new)?;
+            out.extend_from_slice(b" ADDED")
+        }
     }
 }
 
 /// A line for each row.
-fn push_rows(out: &mut Vec<u8>, rows: &[Row]) -> Result<(), AllocError>
-    ensures { OnOk result (out.new.items ≡ out.old.items ++ row_lines 0 rows.now) }
+fn push_rows(out: &mut Vec<u8>, text: bool, new: &[Block], rows: &[Row]) -> Result<(), AllocError>
+    ensures { OnOk result (out.new.items ≡ out.old.items ++ row_lines text new.now 0 0 rows.now) }
 {
-    for (i, row) in rows.iter().enumerate() {
-        push_field(out, b"BLOCK ", i + 1)?;
-        push_row(out, row)?;
+    let mut old_count = 0;
+    let mut new_count = 0;
+    for row in rows {
+        let number = if row.has_old() {
+            old_count + 1
+        } else {
+            new_count + 1
+        };
+        push_field(out, b"BLOCK ", number)?;
+        push_row(out, text, new, new_count, row)?;
         out.extend_from_slice(b"\n")?;
+        old_count = if row.has_old() {
+            old_count + 1
+        } else {
+            old_count
+        };
+        new_count = if row.has_new() {
+            new_count + 1
+        } else {
+            new_count
+        };
     }
     Ok(())
 }
@@ -222,18 +292,21 @@ fn push_total(out: &mut Vec<u8>, total: &Total) -> Result<(), AllocError>
     out.extend_from_slice(b"\n")
 }
 
-/// What is written of these rows, and of where what stands beside the blocks first differs. `Err` is out of memory.
+/// What is written of these rows, with `text` by lines and instructions of the new source's blocks, and of where what stands beside the
+/// blocks first differs. `Err` is out of memory.
 pub(crate) fn compared_text(
     alloc: Global,
+    text: bool,
+    new: &[Block],
     rows: &[Row],
     difference: Option<Difference>,
 ) -> Result<Vec<u8>, AllocError>
     requires { length rows.now ≤ 2 * SOURCE_LINES_LIMIT }
-    ensures { IfOk result (λ text. text.items ≡ compared_text rows.now difference) }
+    ensures { IfOk result (λ out. out.items ≡ compared_text text new.now rows.now difference) }
 {
-    let mut text = Vec::new(alloc);
-    push_rows(&mut text, rows)?;
-    push_difference(&mut text, difference)?;
-    push_total(&mut text, &total_of(rows))?;
-    Ok(text)
+    let mut out = Vec::new(alloc);
+    push_rows(&mut out, text, new, rows)?;
+    push_difference(&mut out, difference)?;
+    push_total(&mut out, &total_of(rows))?;
+    Ok(out)
 }
