@@ -1,5 +1,5 @@
 -- What is found by answers to blocks is of these blocks.
-use Rattle.std.proofs.Common.{List, [], ◌∷◌, refl}
+use Rattle.std.proofs.Common.{ℕ, ◌+◌, List, [], ◌∷◌, refl}
 use Rattle.s66_isa.specs.declared.profile.Profile.{Profile}
 use Rattle.s66_line.specs.Block.{Block}
 use Rattle.s66_model.specs.declared.rule.Rule.{Rule}
@@ -8,8 +8,9 @@ use Rattle.s66_page.specs.FoundOrders.{AreOf}
 use Rattle.s66_answer.specs.Answers.{Answer, AreAnswers}
 use Rattle.s66_program.specs.PageText.{all_found}
 
-pub found-of : (strategy : Strategy) (rule : Rule) (p : Profile) (blocks : List Block) (answers : List Answer) → AreAnswers strategy p blocks answers → AreOf blocks (all_found rule p blocks answers)
-found-of strategy rule p [] [] are = tt
-found-of strategy rule p [] (a ∷ answers) are = absurd are
-found-of strategy rule p (block ∷ blocks) [] are = absurd are
-found-of strategy rule p (block ∷ blocks) (a ∷ answers) are = (refl, found-of strategy rule p blocks answers are.1)
+pub found-of : (entries : List (List ℕ)) (strategy : Strategy) (rule : Rule) (p : Profile) (n : ℕ) (blocks : List Block) (answers : List Answer) →
+    AreAnswers strategy p blocks answers → AreOf blocks (all_found entries rule p n blocks answers)
+found-of entries strategy rule p n [] [] are = tt
+found-of entries strategy rule p n [] (a ∷ answers) are = absurd are
+found-of entries strategy rule p n (block ∷ blocks) [] are = absurd are
+found-of entries strategy rule p n (block ∷ blocks) (a ∷ answers) are = (refl, found-of entries strategy rule p (n + 1) blocks answers are.1)

@@ -30,8 +30,8 @@ IsMost command most = IfSome most (λ n. (n ≡ SOURCE_FRONT) × (reads_source c
 accepted-by : (p : Profile) (asked : Asked) (only : Option ℕ) (source : Reading) (text : List ℕ) (status : Status) → reads_source asked ≡ true → IsAskedOutput p asked only source text status →
     (blocks : List Block) × (source_of source ≡ Ok blocks)
 accepted-by p (Time trace) only source text status reads (blocks, ok, is, done) = (blocks, ok)
-accepted-by p Deps only source text status reads (blocks, ok, is, done) = (blocks, ok)
-accepted-by p (Chart texts) only source text status reads (blocks, ok, is, done) = (blocks, ok)
+accepted-by p (Deps texts) only source text status reads (blocks, ok, is, done) = (blocks, ok)
+accepted-by p (Chart texts units) only source text status reads (blocks, ok, is, done) = (blocks, ok)
 accepted-by p (Why None texts) only source text status reads (blocks, ok, is, done) = (blocks, ok)
 accepted-by p (Why (Some strategy) texts) only source text status reads (blocks, ok, is) = (blocks, ok)
 accepted-by p (Page strategy) only source text status reads (blocks, ok, is) = (blocks, ok)
@@ -43,7 +43,7 @@ accepted-by p (Check texts) only source text status reads is = absurd (cc)
 accepted-by p Lint only source text status reads is = absurd (cc)
 accepted-by p Guard only source text status reads (blocks, ok, is, done) = (blocks, ok)
 accepted-by p (Sum strategy style) only source text status reads (blocks, ok, is) = (blocks, ok)
-accepted-by p Compare only source text status reads is = absurd (cc)
+accepted-by p (Compare texts) only source text status reads is = absurd (cc)
 
 accepted : (p : Profile) (command : Command) (input text : List ℕ) (status : Status) → reads_source command.asked ≡ true → IsOutput p command input text status → (blocks : List Block) × (source_of (source_in command input) ≡ Ok blocks)
 accepted p command input text status reads is = accepted-by p command.asked command.block (source_in command input) text status reads is

@@ -1,5 +1,6 @@
 pub mod Calls
 pub mod CheckedAnswers
+pub mod CountedSources
 pub mod Dependences
 pub mod FoundAnswers
 pub mod Fronts
@@ -8,9 +9,9 @@ pub mod KeptInput
 pub mod LongestRuns
 pub mod OrderCompared
 pub mod OrderedAgain
-pub mod Parcels
 pub mod Pieces
 pub mod PlacedAnswers
+pub mod PlacedBlocks
 pub mod ReadInput
 pub mod RefusedInput
 pub mod Reports

@@ -86,23 +86,30 @@ module _ (strategy : Strategy) (p q : Profile) (style : OrderStyle) (only : Opti
       is_accepted (rows_of q blocks again) (first_difference (frame_of source) (frame_of (record { cut = source.cut; text = text }))) ≡ true
   all-accepted blocks again is read other = ap₂ (λ (b : Bool) (d : Option Difference). b && is_none d) (blocks-compared blocks again is read other) (beside-same again is other)
 
-  pub order-compared : (again : List Block) → IsOrdered strategy p style only source text status → source_of (record { cut = source.cut; text = text }) ≡ Ok again → (compared : List ℕ) × IsCompared q source (record { cut = source.cut; text = text }) compared true
-  order-compared again (found, accepted, made) other =
+  pub order-compared : (texts : Bool) (again : List Block) → IsOrdered strategy p style only source text status → source_of (record { cut = source.cut; text = text }) ≡ Ok again → (compared : List ℕ) × IsCompared q texts source (record { cut = source.cut; text = text }) compared true
+  order-compared texts again (found, accepted, made) other =
       let new : Reading = record { cut = source.cut; text = text } in
-      (compared_text (rows_of q found again) (first_difference (frame_of source) (frame_of new)), (found, again, accepted, other, (refl, sym (all-accepted found again (found, accepted, made) accepted other))))
+      let rows = rows_of q found again in (
+        compared_text texts again rows (first_difference (frame_of source) (frame_of new)),
+        (found, again, accepted, other, (rows, ([], refl, λ legal. refl), (refl, sym (all-accepted found again (found, accepted, made) accepted other)))),
+      )
 
-pub compared-accepted : (strategy : Strategy) (p q : Profile) (style : OrderStyle) (only : Option ℕ) (source : Reading) (text compared : List ℕ) (status : Status) (accepted : Bool) → IsOrdered strategy p style only source text status →
-    IsCompared q source (record { cut = source.cut; text = text }) compared accepted → accepted ≡ true
-compared-accepted strategy p q style only source text compared status accepted is (blocks, again, read, other, (whole, ends)) = ends ∙ all-accepted strategy p q style only source text status blocks again is read other
+pub compared-accepted : (strategy : Strategy) (p q : Profile) (style : OrderStyle) (only : Option ℕ) (source : Reading) (texts : Bool) (text compared : List ℕ) (status : Status) (accepted : Bool) → IsOrdered strategy p style only source text status →
+    IsCompared q texts source (record { cut = source.cut; text = text }) compared accepted → accepted ≡ true
+compared-accepted strategy p q style only source texts text compared status accepted is (blocks, again, read, other, (rows, (steps, by, number), (whole, ends))) =
+    let difference = first_difference (frame_of source) (frame_of (record { cut = source.cut; text = text })) in
+    ends
+    ∙ ap (λ rs. is_accepted rs difference) (number (blocks-compared strategy p q style only source text status blocks again is read other))
+    ∙ all-accepted strategy p q style only source text status blocks again is read other
 
 one-of : (found halves : Halves) (o : Option Halves) → o ≡ Some found → o ≡ Some halves → found ≡ halves
 one-of found halves o h k = cc
 
-pub compared-done : (strategy : Strategy) (p q : Profile) (style : OrderStyle) (only : Option ℕ) (cut : Bool) (halves : Halves) (input compared : List ℕ) (status ended : Status) → halves_of input ≡ Some halves →
-    IsOrdered strategy p style only (record { cut = cut; text = halves.old }) halves.new status → IsCompareOutput q cut input compared ended → ended ≡ Done
-compared-done strategy p q style only cut halves input compared status ended there is (found, here, (accepted, compares, ends)) =
+pub compared-done : (strategy : Strategy) (p q : Profile) (style : OrderStyle) (only : Option ℕ) (texts cut : Bool) (halves : Halves) (input compared : List ℕ) (status ended : Status) → halves_of input ≡ Some halves →
+    IsOrdered strategy p style only (record { cut = cut; text = halves.old }) halves.new status → IsCompareOutput q texts cut input compared ended → ended ≡ Done
+compared-done strategy p q style only texts cut halves input compared status ended there is (found, here, (accepted, compares, ends)) =
     let same : found ≡ halves = one-of found halves (halves_of input) here there in
     ends
     ∙ ap (λ (t : Bool). if t then Done else Denied)
-    (compared-accepted strategy p q style only (record { cut = cut; text = halves.old }) halves.new compared status accepted is
-    (subst (λ (h : Halves). IsCompared q (record { cut = cut; text = h.old }) (record { cut = cut; text = h.new }) compared accepted) same compares))
+    (compared-accepted strategy p q style only (record { cut = cut; text = halves.old }) texts halves.new compared status accepted is
+    (subst (λ (h : Halves). IsCompared q texts (record { cut = cut; text = h.old }) (record { cut = cut; text = h.new }) compared accepted) same compares))

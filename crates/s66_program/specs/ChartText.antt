@@ -1,8 +1,9 @@
 -- To be believed: what `chart` writes of a source, and how it ends: for each block a line, and the chart of the block as it was
--- written, with `--text` also its texts and a ruler.
+-- written, with `--text` also its texts and a ruler, and with `--units` below these what holds units and registers.
 use Rattle.std.specs.Prelude.{ℕ, Bool, if◌then◌else◌, List, ◌++◌, Option}
 use Rattle.s66_isa.specs.declared.profile.Profile.{Profile}
 use Rattle.s66_why.specs.Chart.{chart_text}
+use Rattle.s66_why.specs.Reservations.{units_chart}
 use Rattle.s66_why.specs.TextChart.{text_chart}
 use Rattle.s66_line.specs.Block.{instrs_of, Block}
 use Rattle.s66_time.specs.TimedOrder.{TimedOrder}
@@ -13,13 +14,13 @@ use Rattle.s66_program.specs.BlockHead.{timed_line}
 use Rattle.s66_program.specs.Listing.{IsListing}
 
 -- its chart in an order
-abbrev pub chart_of : Bool → Block → TimedOrder → List ℕ
-chart_of text block t = if text then text_chart block t else chart_text t
+abbrev pub chart_of : (texts units : Bool) → Block → TimedOrder → List ℕ
+chart_of texts units block t = if units then units_chart block t else (if texts then text_chart block t else chart_text t)
 
 -- the lines of the n-th block, from 1
-abbrev pub chart_lines : Profile → Bool → ℕ → Block → List ℕ
-chart_lines p text n block = timed_line n block (as_written p (instrs_of block)) ++ chart_of text block (as_written p (instrs_of block))
+abbrev pub chart_lines : Profile → (texts units : Bool) → ℕ → Block → List ℕ
+chart_lines p texts units n block = timed_line n block (as_written p (instrs_of block)) ++ chart_of texts units block (as_written p (instrs_of block))
 
 -- the lines of the blocks that are shown
-abbrev pub IsChartOutput : Profile → (texts : Bool) (only : Option ℕ) (source : Reading) (text : List ℕ) → Status → Type 0
-IsChartOutput p texts only source text status = IsListing (chart_lines p texts) only source text status
+abbrev pub IsChartOutput : Profile → (texts units : Bool) (only : Option ℕ) (source : Reading) (text : List ℕ) → Status → Type 0
+IsChartOutput p texts units only source text status = IsListing (chart_lines p texts units) only source text status

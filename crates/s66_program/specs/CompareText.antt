@@ -7,7 +7,7 @@ use Rattle.s66_answer.specs.declared.outcome.Status.{Status}
 use Rattle.s66_answer.specs.declared.outcome.Status.TheVariants.{Done, Denied}
 
 -- done if the new source is accepted
-abbrev pub IsCompareOutput : Profile → (cut : Bool) (input text : List ℕ) → Status → Type 0
-IsCompareOutput p cut input text status =
+abbrev pub IsCompareOutput : Profile → (texts cut : Bool) (input text : List ℕ) → Status → Type 0
+IsCompareOutput p texts cut input text status =
     (halves : Halves) × (halves_of input ≡ Some halves)
-    × ((accepted : Bool) × IsCompared p (record { cut = cut; text = halves.old }) (record { cut = cut; text = halves.new }) text accepted × (status ≡ (if accepted then Done else Denied)))
+    × ((accepted : Bool) × IsCompared p texts (record { cut = cut; text = halves.old }) (record { cut = cut; text = halves.new }) text accepted × (status ≡ (if accepted then Done else Denied)))

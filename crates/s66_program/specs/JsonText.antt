@@ -5,6 +5,7 @@ use Rattle.s66_isa.specs.declared.profile.Profile.{Profile}
 use Rattle.s66_line.specs.Block.{instrs_of, Block}
 use Rattle.s66_source.specs.LeftAlone.{Reading}
 use Rattle.s66_command.specs.declared.strategy.Strategy.{Strategy}
+use Rattle.s66_program.specs.Entries.{entries_of, entry_at}
 use Rattle.s66_json.specs.Json.{found_data, json_line}
 use Rattle.s66_answer.specs.Answers.{Answer, problem_of}
 use Rattle.s66_answer.specs.declared.outcome.Status.{Status}
@@ -13,17 +14,17 @@ use Rattle.s66_answer.specs.Shown.{before}
 use Rattle.s66_program.specs.AsWritten.{as_written}
 use Rattle.s66_program.specs.Listing.{IsListing}
 
--- of the n-th block, from 1, as it was written
-abbrev pub written_line : Profile → ℕ → Block → List ℕ
-written_line p n block = json_line n block (as_written p (instrs_of block)) null
+-- of the n-th block, from 1, as it was written, by the names by which all are entered
+abbrev pub written_line : (entries : List (List ℕ)) → Profile → ℕ → Block → List ℕ
+written_line entries p n block = json_line n (entry_at entries n) block (as_written p (instrs_of block)) null
 
 -- also in the order of an answer, with its bound and its splits
-abbrev pub answer_line : Profile → ℕ → Block → Answer → List ℕ
-answer_line p n block a =
-    json_line n block (as_written p (instrs_of block)) (found_data (record { problem = problem_of p block; numbers = a.order }) a.bound a.splits)
+abbrev pub answer_line : (entries : List (List ℕ)) → Profile → ℕ → Block → Answer → List ℕ
+answer_line entries p n block a =
+    json_line n (entry_at entries n) block (as_written p (instrs_of block)) (found_data (record { problem = problem_of p block; numbers = a.order }) a.bound a.splits)
 
 -- the lines of the blocks that are shown, as they were written, or also in the best orders that are found so
 abbrev pub IsJsonOutput : Profile → Option Strategy → (only : Option ℕ) (source : Reading) (text : List ℕ) → Status → Type 0
-IsJsonOutput p None only source text status = IsListing (written_line p) only source text status
+IsJsonOutput p None only source text status = IsListing (written_line (entries_of source) p) only source text status
 IsJsonOutput p (Some strategy) only source text status =
-    IsOfAnswers (λ blocks answers. text ≡ all_parts (answer_line p) (before only) blocks answers) strategy p only source status
+    IsOfAnswers (λ blocks answers. text ≡ all_parts (answer_line (entries_of source) p) (before only) blocks answers) strategy p only source status

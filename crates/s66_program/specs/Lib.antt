@@ -6,6 +6,8 @@ pub mod DepsText
 pub mod ChartText
 pub mod BestReasons
 pub mod WhyText
+pub mod Statement
+pub mod Entries
 pub mod JsonText
 pub mod OrderText
 pub mod PageText
@@ -15,6 +17,7 @@ pub mod LintText
 pub mod GuardText
 pub mod Moved
 pub mod Words
+pub mod Loops
 pub mod SumText
 pub mod CompareText
 pub mod OrderedAgain

@@ -55,8 +55,8 @@ source_in command input = record { cut = reads_cut command; text = input }
 -- what is asked for writes the text for a source under a profile, of all blocks or of one, and ends so
 abbrev pub IsAskedOutput : Profile → Asked → (only : Option ℕ) (source : Reading) (text : List ℕ) → Status → Type 0
 IsAskedOutput p (Time trace) only source text status = IsTimeOutput p trace only source text status
-IsAskedOutput p Deps only source text status = IsDepsOutput only source text status
-IsAskedOutput p (Chart texts) only source text status = IsChartOutput p texts only source text status
+IsAskedOutput p (Deps texts) only source text status = IsDepsOutput texts only source text status
+IsAskedOutput p (Chart texts units) only source text status = IsChartOutput p texts units only source text status
 IsAskedOutput p (Why order texts) only source text status = IsWhyOutput p order texts only source text status
 IsAskedOutput p (Json order) only source text status = IsJsonOutput p order only source text status
 IsAskedOutput p (Page strategy) only source text status = IsPageOutput strategy p only source text status
@@ -66,7 +66,7 @@ IsAskedOutput p (Check texts) only source text status = IsCheckOutput texts sour
 IsAskedOutput p Lint only source text status = IsLintOutput source text status
 IsAskedOutput p Guard only source text status = IsGuardOutput source text status
 IsAskedOutput p (Sum strategy style) only source text status = IsSumOutput strategy p style only source text status
-IsAskedOutput p Compare only source text status = IsCompareOutput p source.cut source.text text status
+IsAskedOutput p (Compare texts) only source text status = IsCompareOutput p texts source.cut source.text text status
 
 -- for this input, under a profile, a command writes the text and ends so
 abbrev pub IsOutput : Profile → Command → (input text : List ℕ) → Status → Type 0

@@ -1,10 +1,11 @@
--- To be believed: what is told of a source after a success, and what standard error gets of that.
-use Rattle.std.specs.Prelude.{ℕ, ◌≡◌, ◌==◌, ◌&&◌, Bool, true, false, if◌then◌else◌, List, [], ◌∷◌, ◌++◌, Result, Ok, codes, decimal, length}
+-- To be believed: what is told of an input after a success, what standard error gets of that, and the status by it.
+use Rattle.std.specs.Prelude.{ℕ, ◌≡◌, ◌==◌, ◌&&◌, Bool, true, false, if◌then◌else◌, List, [], ◌∷◌, ◌++◌, Option, None, Some, Result, Ok, Err, codes, decimal, length, nat_lt, option_map}
 use Rattle.std.specs.Option.{is_some}
 use Rattle.s66_device.specs.Devices.{IsUntouched, Writer}
 use Rattle.s66_line.specs.Block.{Block}
 use Rattle.s66_line.specs.Fields.{lines_of}
 use Rattle.s66_source.specs.declared.error.SourceError.{SourceError}
+use Rattle.s66_source.specs.Halves.{halves_of}
 use Rattle.s66_source.specs.LeftAlone.{Reading}
 use Rattle.s66_source.specs.Source.{source_of}
 use Rattle.s66_lint.specs.Guarded.{IsGuard}
@@ -12,7 +13,13 @@ use Rattle.s66_lint.specs.Listing.{IsFindings}
 use Rattle.s66_command.specs.declared.command.Command.{Command}
 use Rattle.s66_command.specs.declared.command.Asked.{Asked}
 use Rattle.s66_command.specs.declared.command.Asked.TheVariants.{Guard}
-use Rattle.s66_command.specs.CommandParts.{reads_cut, strategy_of}
+use Rattle.s66_command.specs.declared.command.Reads.{Reads}
+use Rattle.s66_command.specs.declared.command.Reads.TheVariants.{Documents, Sources}
+use Rattle.s66_command.specs.CommandParts.{reads_cut, reads_of, strategy_of}
+use Rattle.s66_answer.specs.declared.outcome.Status.{Status}
+use Rattle.s66_answer.specs.declared.outcome.Status.TheVariants.{Denied, Done, Listed}
+use Rattle.s66_program.specs.declared.remark.Missing.{Missing}
+use Rattle.s66_program.specs.declared.remark.Missing.TheVariants as missing
 use Rattle.s66_program.specs.declared.remark.Remark.{Remark}
 use Rattle.s66_program.specs.Device.{Tells}
 use Rattle.s66_program.specs.Output.{shows_blocks, source_in}
@@ -46,13 +53,16 @@ regions_line regions lines =
     ++ (if regions == 1 then codes " is left alone\n" else codes " are left alone\n")
     )
 
--- that a source has no block
-abbrev pub block_line : (has_no_block : Bool) → List ℕ
-block_line false = []
-block_line true = codes "no block: an instruction's operation begins in column 3 or later\n"
+-- what an input lacks; nothing if it lacks nothing
+abbrev pub missing_line : Missing → List ℕ
+missing_line missing.Nothing = []
+missing_line missing.Lines = codes "no block: the source is empty\n"
+missing_line missing.Blocks = codes "no block: an instruction's operation begins in column 3 or later\n"
+missing_line (missing.Block number last) = codes "no block " ++ decimal number ++ codes ": the last is " ++ decimal last ++ codes "\n"
+missing_line missing.Documents = codes "no document: s66 check reads what s66 prove prints\n"
 
 abbrev pub remark_text : Remark → List ℕ
-remark_text r = block_line r.has_no_block ++ listed_line r.cut r.listed ++ regions_line r.regions r.lines
+remark_text r = missing_line r.missing ++ listed_line r.cut r.listed ++ regions_line r.regions r.lines
 
 -- a text was printed; without one the writer isn't called
 abbrev pub IsTold : List ℕ → Writer → Writer → Type 0
@@ -65,15 +75,51 @@ IsTold (b ∷ text) old new = Tells old new (b ∷ text)
 abbrev pub prints_orders : Command → Bool
 prints_orders command = is_some (strategy_of command.asked)
 
--- a source is accepted, and has no block
-abbrev pub has_no_block : Result (List Block) SourceError → Bool
-has_no_block (Ok []) = true
-has_no_block result = false
+-- what a source of this text lacks that has no block: a line, or an instruction among its lines
+abbrev pub without_blocks : (text : List ℕ) → Missing
+without_blocks [] = missing.Lines
+without_blocks (b ∷ text) = missing.Blocks
+
+-- what a source lacks whose last block has this number, if one block alone is asked for or all are
+abbrev pub without_block : (only : Option ℕ) (last : ℕ) → Missing
+without_block None last = missing.Nothing
+without_block (Some number) last = if nat_lt last number then missing.Block number last else missing.Nothing
+
+-- what a source of this text lacks, by its blocks if it is accepted
+abbrev pub missing_of_source : (only : Option ℕ) (text : List ℕ) → Result (List Block) SourceError → Missing
+missing_of_source only text (Ok []) = without_blocks text
+missing_of_source only text (Ok (block ∷ blocks)) = without_block only (length (block ∷ blocks))
+missing_of_source only text (Err e) = missing.Nothing
+
+-- what a text of documents lacks
+abbrev pub missing_of_documents : (text : List ℕ) → Missing
+missing_of_documents [] = missing.Documents
+missing_of_documents (b ∷ text) = missing.Nothing
+
+abbrev pub is_documents : Reads → Bool
+is_documents Documents = true
+is_documents reads = false
+
+-- what an input lacks of which blocks or documents are shown
+abbrev pub missing_in : Command → (input : List ℕ) → Missing
+missing_in command input =
+    if shows_blocks command.asked then missing_of_source command.block input (source_of (source_in command input))
+    else (if is_documents (reads_of command.asked) then missing_of_documents input else missing.Nothing)
+
+abbrev pub are_sources : Reads → Bool
+are_sources Sources = true
+are_sources reads = false
+
+-- the source that `lint` may list lines of: the one whose best orders are looked for or, of two, the old one
+abbrev pub counted_source : Command → (input : List ℕ) → Option Reading
+counted_source command input =
+    if prints_orders command then Some (source_in command input)
+    else (if are_sources (reads_of command.asked) then option_map (λ halves. source_in command halves.old) (halves_of input) else None)
 
 -- how many lines a text has that `lint` may write for a source, with `--cut` or without, or nothing of that
-abbrev pub IsCount : (prints_orders : Bool) (source : Reading) (listed : ℕ) → Type 0
-IsCount true source listed = (text : List ℕ) × IsFindings source text × (listed ≡ length (lines_of text))
-IsCount false source listed = listed ≡ 0
+abbrev pub IsCount : Option Reading → (listed : ℕ) → Type 0
+IsCount (Some source) listed = (text : List ℕ) × IsFindings source text × (listed ≡ length (lines_of text))
+IsCount None listed = listed ≡ 0
 
 -- how many regions of an input `guard` put between switches in the text that it wrote, and how many lines they have; of others none
 abbrev pub AreRegions : Asked → (input text : List ℕ) → (regions lines : ℕ) → Type 0
@@ -83,6 +129,18 @@ AreRegions asked input text regions lines = (regions ≡ 0) × (lines ≡ 0)
 -- what is told after a command has written this text for this input
 abbrev pub IsRemark : Command → (input text : List ℕ) → Remark → Type 0
 IsRemark command input text r =
-    (r.has_no_block ≡ (shows_blocks command.asked && has_no_block (source_of (source_in command input))))
-    × (r.cut ≡ reads_cut command) × IsCount (prints_orders command) (source_in command input) r.listed
+    (r.missing ≡ missing_in command input) × (r.cut ≡ reads_cut command) × IsCount (counted_source command input) r.listed
     × AreRegions command.asked input text r.regions r.lines
+
+-- THE STATUS
+
+abbrev pub lacks_documents : Missing → Bool
+lacks_documents missing.Documents = true
+lacks_documents lacking = false
+
+-- how a command ends that is done when its text is written, by what is told: with `--some` it is denied if there is no document, and with
+-- `--strict` lines that `lint` lists are its status
+abbrev pub raised : Command → Remark → Status → Status
+raised command r Done =
+    if command.some && lacks_documents r.missing then Denied else (if command.strict && nat_lt 0 r.listed then Listed else Done)
+raised command r status = status

@@ -16,7 +16,7 @@ use Rattle.s66_program.specs.declared.fault.Fault.TheVariants as fault
 use Rattle.s66_program.specs.declared.remark.Ended.{Ended}
 use Rattle.s66_program.specs.Device.{ReadFails, ReadsAll, ReadsSome}
 use Rattle.s66_program.specs.Output.{IsOutput, IsUnder, profile_asked, reads_source, source_in}
-use Rattle.s66_program.specs.Remarks.{IsRemark}
+use Rattle.s66_program.specs.Remarks.{IsRemark, raised}
 
 -- the only source of an input is refused, or the first of two
 abbrev pub RefusesSource : Command → List ℕ → SourceError → Type 0
@@ -40,12 +40,13 @@ IsRefusal command input fault.Memory = Unit {0}
 IsRefusal command input fault.Read = ⊥
 IsRefusal command input fault.Write = ⊥
 
--- what a command leaves of its reader and its writer under a profile, by its result, with what is to be told; out of memory is Memory and
--- never Source or Document
+-- what a command leaves of its reader and its writer under a profile, by its result, with what is to be told and the status by that; out of
+-- memory is Memory and never Source or Document
 abbrev pub IsOutcomeUnder : Profile → Command → Reader → Reader → Writer → Writer → Result Ended Fault → Type 0
 IsOutcomeUnder p command reader reader' writer writer' (Ok ended) =
     (input : List ℕ) × ReadsAll reader reader' input
-    × ((text : List ℕ) × IsOutput p command input text ended.status × Writes writer writer' text × IsRemark command input text ended.remark)
+    × ((text : List ℕ) × (status : Status) × IsOutput p command input text status × Writes writer writer' text
+    × IsRemark command input text ended.remark × (ended.status ≡ raised command ended.remark status))
 IsOutcomeUnder p command reader reader' writer writer' (Err (fault.Source e)) =
     ((input : List ℕ) × ReadsAll reader reader' input × IsRefusal command input (fault.Source e)) × IsUntouched writer writer'
 IsOutcomeUnder p command reader reader' writer writer' (Err (fault.NewSource e)) =

@@ -1,6 +1,7 @@
 -- To be believed: what `sum` writes for a source, and how it ends. There is a row for each block, those first whose orders save
 -- most time, what all blocks take, and how many instructions their orders move, for answers of searches as those of `order`. With the trace each line has its splits, and with
--- `--words` the words that a block takes.
+-- `--words` the words that a block takes, or the loop that a branch behind it closes. A row ends with the name by which its block is entered. Before them stands what a profile has
+-- otherwise than the standard one.
 use Rattle.std.specs.Prelude.{ℕ, ◌+◌, ◌-◌, ◌≡◌, ◌≤◌, ◌<◌, ◌⊎◌, ◌==◌, if◌then◌else◌, Bool, List, [], ◌∷◌, ◌++◌, Option, None, Some, IsPermutation, codes, decimal, length, slice_index_or, unwrap_or}
 use Rattle.s66_isa.specs.Lists.{tally, weigh}
 use Rattle.s66_isa.specs.Table.{numbers}
@@ -14,7 +15,12 @@ use Rattle.s66_answer.specs.OfAnswers.{IsOfAnswers}
 use Rattle.s66_answer.specs.Shown.{before, shown}
 use Rattle.s66_answer.specs.declared.outcome.Status.{Status}
 use Rattle.s66_program.specs.Moved.{moved}
+use Rattle.s66_program.specs.Entries.{entries_of, entry_at}
+use Rattle.s66_program.specs.Loops.{Orders, loop_at, loops_of}
 use Rattle.s66_program.specs.Words.{words_of}
+use Rattle.s66_program.specs.declared.loops.Loop.{Loop}
+use Rattle.s66_command.specs.Changes.{changes, changes_text}
+use Rattle.s66_command.specs.declared.changes.Change.{Change}
 use Rattle.s66_program.specs.OrderText.{all_placed}
 use Rattle.s66_program.specs.declared.sum_text.LineEnd.{LineEnd}
 use Rattle.s66_program.specs.declared.sum_text.Row.{Row}
@@ -72,23 +78,42 @@ splits_text (Some splits) = codes " SPLITS " ++ decimal splits
 abbrev pub words_text : (shown : Bool) → LineEnd → List ℕ
 words_text shown e = if shown then (codes " WORDS " ++ decimal e.source_words ++ codes " FOUND " ++ decimal e.words) else []
 
--- the end of a line: how many instructions the orders move, splits and words
+-- how many instructions orders move, splits and words
+abbrev pub counts_text : (words : Bool) → LineEnd → List ℕ
+counts_text words e = codes " MOVED " ++ decimal e.moved ++ splits_text e.splits ++ words_text words e
+
+-- the end of a line
 abbrev pub line_end : (words : Bool) → LineEnd → List ℕ
-line_end words e = codes " MOVED " ++ decimal e.moved ++ splits_text e.splits ++ words_text words e ++ codes "\n"
+line_end words e = counts_text words e ++ codes "\n"
 
--- that of a row
-abbrev pub ending_of : Row → LineEnd
-ending_of r = record { moved = r.moved; splits = r.splits; source_words = r.source_words; words = r.words }
+-- that of a row; the words are those of the loop that a branch behind its block closes, or else of the block
+abbrev pub ending_of : Option Loop → Row → LineEnd
+ending_of None r = record { moved = r.moved; splits = r.splits; source_words = r.source_words; words = r.words }
+ending_of (Some l) r = record { moved = r.moved; splits = r.splits; source_words = l.source_words; words = l.words }
 
-abbrev pub row_line : (words : Bool) → Row → List ℕ
-row_line words r =
+-- that words are those of a loop, if they are printed
+abbrev pub loop_mark : (shown : Bool) → Option Loop → List ℕ
+loop_mark shown None = []
+loop_mark shown (Some l) = if shown then codes " LOOP" else []
+
+-- the name by which a block is entered, if there is one
+abbrev pub entry_text : (name : List ℕ) → List ℕ
+entry_text [] = []
+entry_text (b ∷ name) = codes " ENTRY " ++ b ∷ name
+
+abbrev pub row_end : (words : Bool) → Option Loop → (entry : List ℕ) → Row → List ℕ
+row_end words closed entry r = counts_text words (ending_of closed r) ++ loop_mark words closed ++ entry_text entry ++ codes "\n"
+
+abbrev pub row_line : (words : Bool) → Option Loop → (entry : List ℕ) → Row → List ℕ
+row_line words closed entry r =
     codes "BLOCK " ++ decimal r.number ++ codes " LINE " ++ decimal r.line ++ codes " COUNT " ++ decimal r.count ++ codes " SOURCE "
     ++ decimal r.source ++ codes " TIME " ++ decimal r.time ++ bound_text r
-    ++ line_end words (ending_of r)
+    ++ row_end words closed entry r
 
-abbrev pub row_lines : (words : Bool) → List Row → List ℕ
-row_lines words [] = []
-row_lines words (r ∷ rows) = row_line words r ++ row_lines words rows
+-- by the loops behind all blocks of the source, and their names
+abbrev pub row_lines : (words : Bool) → List (Option Loop) → (entries : List (List ℕ)) → List Row → List ℕ
+row_lines words loops entries [] = []
+row_lines words loops entries (r ∷ rows) = row_line words (loop_at loops r.number) (entry_at entries r.number) r ++ row_lines words loops entries rows
 
 -- the splits of a row
 abbrev pub splits_in : Row → ℕ
@@ -117,12 +142,23 @@ total_times t = codes "TOTAL BLOCKS " ++ decimal t.blocks ++ codes " SOURCE " ++
 abbrev pub total_line : (words : Bool) → Total → List ℕ
 total_line words t = total_times t ++ codes " BEST " ++ decimal t.best ++ line_end words t.ending
 
--- the rows in their order, and their sums
-abbrev pub IsSumText : SumStyle → (rows : List Row) (text : List ℕ) → Type 0
-IsSumText style rows text =
-    (ordered : List Row) × IsPermutation rows ordered × AreInOrder ordered × (text ≡ row_lines style.words ordered ++ total_line style.words (total_of style.trace rows))
+-- the numbers of the profile that aren't the standard profile's, if there are any
+abbrev pub profile_line : List Change → List ℕ
+profile_line [] = []
+profile_line (c ∷ cs) = codes "PROFILE" ++ changes_text (c ∷ cs) ++ codes "\n"
+
+-- the profile, the rows in their order, and their sums
+abbrev pub IsSumText : Profile → SumStyle → List (Option Loop) → (entries : List (List ℕ)) (rows : List Row) (text : List ℕ) → Type 0
+IsSumText p style loops entries rows text =
+    (ordered : List Row) × IsPermutation rows ordered × AreInOrder ordered
+    × (text ≡ profile_line (changes p) ++ row_lines style.words loops entries ordered ++ total_line style.words (total_of style.trace rows))
+
+-- the blocks that are shown with the orders that were found for them
+abbrev pub orders_of : (only : Option ℕ) → List Block → List Placed → Orders
+orders_of only blocks ps = record { before = before only; blocks = blocks; found = ps }
 
 -- the rows of what `order` would print of the blocks that are shown
 abbrev pub IsSumOutput : Strategy → Profile → SumStyle → (only : Option ℕ) (source : Reading) (text : List ℕ) → Status → Type 0
 IsSumOutput strategy p style only source text status =
-    IsOfAnswers (λ blocks answers. IsSumText style (rows_of (before only) blocks (all_placed p style.trace blocks answers)) text) strategy p only source status
+    IsOfAnswers (λ blocks answers. let ps = all_placed p style.trace blocks answers in
+    IsSumText p style (loops_of (orders_of only blocks ps) source) (entries_of source) (rows_of (before only) blocks ps) text) strategy p only source status

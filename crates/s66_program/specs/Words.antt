@@ -4,10 +4,13 @@ use Rattle.s66_isa.specs.declared.instr.Instr.{Instr}
 use Rattle.s66_isa.specs.Lists.{weigh}
 use Rattle.s66_model.specs.Packing.{fillers, len_at}
 
--- the parcels of its instructions, and the NOs that fill up words
-abbrev pub parcels_taken : List Instr → List ℕ → ℕ
-parcels_taken block order = weigh (len_at block) order + length (fillers 0 (map (len_at block) order))
+-- the parcel behind an order that begins with a parcel: the parcels of its instructions, and the NOs that fill up words
+abbrev pub parcel_after : List Instr → ℕ → List ℕ → ℕ
+parcel_after block q order = q + (weigh (len_at block) order + length (fillers q (map (len_at block) order)))
 
--- four parcels a word, where the last word may be begun only
+-- how many words this many parcels take, of which the last may be begun only
+abbrev pub words_for : (parcels : ℕ) → ℕ
+words_for parcels = (parcels + 3) / 4
+
 abbrev pub words_of : List Instr → List ℕ → ℕ
-words_of block order = (parcels_taken block order + 3) / 4
+words_of block order = words_for (parcel_after block 0 order)

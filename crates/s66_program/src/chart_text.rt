@@ -11,9 +11,18 @@ use s66_isa::Profile;
 use s66_line::Block;
 use s66_source::Source;
 use s66_time::{Timed, Timer};
-use s66_why::{chart, push_text_chart};
+use s66_why::{chart, push_text_chart, push_units_chart};
 use std::alloc::{AllocError, Global};
 use std::mem;
+
+/// The charts of blocks as they were written.
+#[derive(Drop)]
+struct Charts {
+    /// Whether each row comes after the text of its instruction.
+    text: bool,
+    /// Whether rows of units and registers stand below these.
+    units: bool,
+}
 
 /// The chart of a timed order.
 fn push_chart(alloc: Global, out: &mut Vec<u8>, timed: &Timed) -> Result<(), AllocError>
@@ -28,36 +37,31 @@ fn push_chart(alloc: Global, out: &mut Vec<u8>, timed: &Timed) -> Result<(), All
     }
 }
 
-/// The lines of a block, whose number is from 1, under the timer's profile: its chart, with its texts or without.
+/// The lines of a block, whose number is from 1, under the timer's profile.
 fn push_chart_lines(
     alloc: Global,
     out: &mut Vec<u8>,
     timer: &mut Timer,
-    text: bool,
+    charts: &Charts,
     number: usize,
     block: &Block,
 ) -> Result<(), AllocError>
     ensures profile { timer.new ≡ timer.old }
-    ensures lines { OnOk result (out.new.items ≡ out.old.items ++ chart_lines timer.old text number block.now) }
+    ensures lines { OnOk result (out.new.items ≡ out.old.items ++ chart_lines timer.old charts.now.text charts.now.units number block.now) }
 {
     let timed = timer.time(block, &Order::source(block));
     push_timed_line(out, number, block, &timed)?;
-    if text {
+    if charts.units {
+        push_units_chart(out, block, &timed)
+    } else if charts.text {
         push_text_chart(out, block, &timed)
     } else {
         push_chart(alloc, out, &timed)
     }
 }
 
-/// The charts of blocks as they were written.
-#[derive(Drop)]
-struct Charts {
-    /// Whether each row comes after the text of its instruction.
-    text: bool,
-}
-
 impl Listing for Charts {
-    ghost lines = { λ charts p. chart_lines p charts.text };
+    ghost lines = { λ charts p. chart_lines p charts.text charts.units };
 
     fn push_lines(
         &self,
@@ -67,20 +71,22 @@ impl Listing for Charts {
         number: usize,
         block: &Block,
     ) -> Result<(), AllocError> {
-        push_chart_lines(alloc, out, timer, self.text, number, block)
+        push_chart_lines(alloc, out, timer, self, number, block)
     }
 }
 
-/// A chart of each block of a source, or of the only one that is printed, with its texts or without. `Err` is out of memory.
+/// A chart of each block of a source, or of the only one that is printed: with its texts or without, and with rows of its units and
+/// registers below them. `Err` is out of memory.
 pub(crate) fn chart_output(
     alloc: Global,
     profile: &Profile,
     text: bool,
+    units: bool,
     only: Option<u32>,
     source: &Source,
 ) -> Result<Output, AllocError>
     ensures { IfOk result (λ output.
-        IsChartOutput profile.now text only source.now output.text.items output.status) }
+        IsChartOutput profile.now text units only source.now output.text.items output.status) }
 {
-    listing_output(alloc, profile, &Charts { text }, only, source)
+    listing_output(alloc, profile, &Charts { text, units }, only, source)
 }

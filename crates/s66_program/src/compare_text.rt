@@ -11,18 +11,19 @@ use s66_isa::Profile;
 use s66_source::{Source, halves_of, read_source_with};
 use std::alloc::{AllocError, Global};
 
-/// What is written of an old source and a new one. `Err` is out of memory.
+/// What is written of an old source and a new one, with `text` by lines and instructions where it isn't legal. `Err` is out of memory.
 fn compared_output(
     alloc: Global,
     profile: &Profile,
+    text: bool,
     old: &Source,
     new: &Source,
 ) -> Result<Output, AllocError>
     ensures { IfOk result (λ output. (accepted : Bool) ×
-        IsCompared profile.now old.now new.now output.text.items accepted ×
+        IsCompared profile.now text old.now new.now output.text.items accepted ×
         (output.status ≡ (if accepted then Done else Denied))) }
 {
-    let Compared { text, is_accepted } = compare(alloc, profile, old, new)?;
+    let Compared { text, is_accepted } = compare(alloc, profile, text, old, new)?;
     let status = if is_accepted {
         Status::Done
     } else {
@@ -47,9 +48,10 @@ pub(crate) fn compare_output(
     alloc: Global,
     cut: bool,
     profile: &Profile,
+    text: bool,
     input: &[u8],
 ) -> Result<Output, Fault>
-    ensures ok { IfOk result (λ output. IsCompareOutput profile.now cut input.now output.text.items output.status) }
+    ensures ok { IfOk result (λ output. IsCompareOutput profile.now text cut input.now output.text.items output.status) }
     ensures err { IfErr result (IsCompareRefusal cut input.now) }
 {
     let Some(halves) = halves_of(input) else {
@@ -57,5 +59,5 @@ pub(crate) fn compare_output(
     };
     let old = read_source_with(alloc, cut, halves.old)?;
     let new = read_new(alloc, cut, halves.new)?;
-    Ok(compared_output(alloc, profile, &old, &new)?)
+    Ok(compared_output(alloc, profile, text, &old, &new)?)
 }

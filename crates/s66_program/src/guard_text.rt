@@ -1,13 +1,14 @@
-ghost use Rattle.std.specs.Prelude.{◌≡◌, false, true, IfErr, IfOk};
+ghost use Rattle.std.specs.Prelude.{◌≡◌, true, IfErr, IfOk};
 ghost use Rattle.s66_isa.specs.declared.profile.Profile.{Profile};
 ghost use Rattle.s66_command.specs.declared.command.Asked.TheVariants.{Guard};
 ghost use Rattle.s66_answer.specs.declared.outcome.Status.TheVariants.{Done};
+ghost use Rattle.s66_program.specs.declared.remark.Missing.TheVariants.{Nothing};
 ghost use Rattle.s66_program.specs.Output.{IsOutput};
 ghost use Rattle.s66_program.specs.Remarks.{IsRemark};
 ghost use Rattle.s66_program.specs.Run.{IsRefusal};
 
 use crate::fault::Fault;
-use crate::remark::{Finished, Remark};
+use crate::remark::{Finished, Missing, Remark};
 use s66_answer::{Output, Status};
 use s66_command::Command;
 use s66_lint::{Guarded, guard_text};
@@ -19,7 +20,7 @@ fn finished_with(guarded: Guarded) -> Finished
     ensures text { result.output.text ≡ guarded.text }
     ensures status { result.output.status ≡ Done }
     ensures remark { result.remark ≡
-        record { has_no_block = false; cut = true; listed = 0; regions = guarded.regions; lines = guarded.lines } }
+        record { missing = Nothing; cut = true; listed = 0; regions = guarded.regions; lines = guarded.lines } }
 {
     Finished {
         output: Output {
@@ -27,7 +28,7 @@ fn finished_with(guarded: Guarded) -> Finished
             status: Status::Done,
         },
         remark: Remark {
-            has_no_block: false,
+            missing: Missing::Nothing,
             cut: true,
             listed: 0,
             regions: guarded.regions,

@@ -5,6 +5,7 @@ ghost use Rattle.s66_answer.specs.SearchWithin.{IsSearchWithin};
 ghost use Rattle.s66_program.specs.AsWritten.{as_written};
 ghost use Rattle.s66_program.specs.JsonText.{IsJsonOutput, answer_line, written_line};
 
+use crate::entries::{Entry, entries_of, entry_at};
 use crate::listing::{Listing, listing_output};
 use s66_answer::{BlockAnswer, Keep, Observer, Output, text_of_answers};
 use s66_command::Strategy;
@@ -22,20 +23,22 @@ use std::thread::Threads;
 fn push_json_line(
     out: &mut Vec<u8>,
     timer: &mut Timer,
+    entries: &[Entry],
     number: usize,
     block: &Block,
 ) -> Result<(), AllocError>
     ensures profile { timer.new ≡ timer.old }
-    ensures line { OnOk result (out.new.items ≡ out.old.items ++ written_line timer.old number block.now) }
+    ensures line { OnOk result (out.new.items ≡ out.old.items ++ written_line entries.now timer.old number block.now) }
 {
     let written = timer.time(block, &Order::source(block));
-    push_written_line(out, number, block, &written)
+    push_written_line(out, number, entry_at(entries, number), block, &written)
 }
 
 /// The line of a block also in an order that was found by so many splits, when every order takes the bound at least.
 fn push_json_found(
     out: &mut Vec<u8>,
     timer: &mut Timer,
+    entry: &[u8],
     number: usize,
     block: &Block,
     order: &Order,
@@ -45,22 +48,25 @@ fn push_json_found(
     requires { order.now.block ≡ instrs_of block.now }
     ensures profile { timer.new ≡ timer.old }
     ensures line { OnOk result (out.new.items ≡ out.old.items ++
-        json_line number block.now (as_written timer.old (instrs_of block.now))
+        json_line number entry.now block.now (as_written timer.old (instrs_of block.now))
         (found_data
         (record { problem = record { block = instrs_of block.now; profile = timer.old }; numbers = order.now.numbers })
         bound splits)) }
 {
     let written = timer.time(block, &Order::source(block));
     let found = timer.time(block, order);
-    push_found_line(out, number, block, &written, &found, bound, splits)
+    push_found_line(out, number, entry, block, &written, &found, bound, splits)
 }
 
 /// The lines of JSON of blocks, as they were written, or also with the orders of answers.
 #[derive(Drop)]
-struct JsonLines;
+struct JsonLines<'e, 'a> {
+    /// The names by which all blocks of the source are entered.
+    entries: &'e [Entry<'a>],
+}
 
-impl Listing for JsonLines {
-    ghost lines = { λ _. written_line };
+impl<'e, 'a> Listing for JsonLines<'e, 'a> {
+    ghost lines = { λ x. written_line x.entries.now };
 
     fn push_lines(
         &self,
@@ -70,12 +76,12 @@ impl Listing for JsonLines {
         number: usize,
         block: &Block,
     ) -> Result<(), AllocError> {
-        push_json_line(out, timer, number, block)
+        push_json_line(out, timer, self.entries, number, block)
     }
 }
 
-impl Keep<u8> for JsonLines {
-    ghost part = { λ _ strategy. answer_line };
+impl<'e, 'a> Keep<u8> for JsonLines<'e, 'a> {
+    ghost part = { λ x strategy. answer_line x.entries.now };
 
     fn keep(&self, parts: &mut Vec<u8>, answer: BlockAnswer) -> Result<(), AllocError> {
         let mut timer = Timer::new(answer.profile);
@@ -83,6 +89,7 @@ impl Keep<u8> for JsonLines {
         push_json_found(
             parts,
             &mut timer,
+            entry_at(self.entries, answer.number),
             answer.number,
             answer.block,
             found.order(),
@@ -106,10 +113,13 @@ pub(crate) fn json_output<R: AllocGlobal + Threads + Wait + Sync, O: Observer>(
     requires { IfSome order (λ strategy. IsSearchWithin strategy.search) }
     ensures { IfOk result (λ output. IsJsonOutput profile.now order only source.now output.text.items output.status) }
 {
+    let alloc = rt.alloc();
+    let entries = entries_of(alloc, source)?;
+    let lines = JsonLines {
+        entries: entries.as_slice(),
+    };
     match order {
-        None => listing_output(rt.alloc(), profile, &JsonLines, only, source),
-        Some(strategy) => {
-            text_of_answers(rt, &JsonLines, source, only, profile, strategy, observer)
-        }
+        None => listing_output(alloc, profile, &lines, only, source),
+        Some(strategy) => { text_of_answers(rt, &lines, source, only, profile, strategy, observer) }
     }
 }

@@ -7,6 +7,7 @@ mod chart_text;
 mod check_text;
 mod compare_text;
 mod deps_text;
+mod entries;
 mod examples;
 mod fault;
 mod guard_text;
@@ -16,6 +17,8 @@ mod laws;
 mod limits;
 mod lint_text;
 mod listing;
+mod loop_examples;
+mod loops;
 mod moved;
 mod order_laws;
 mod order_text;
@@ -27,6 +30,7 @@ mod prove_text;
 mod reading;
 mod remark;
 mod run;
+mod statement;
 mod sum_text;
 mod telling;
 mod time_text;
@@ -40,10 +44,11 @@ pub use laws::{
     total_limit_law,
 };
 pub use limits::{FEED_CALLS, FEED_ROOM, SOURCE_FRONT};
+pub use loop_examples::{entry_examples, statement_examples};
 pub use order_laws::{compared_law, reported_law};
 pub use program::run_program;
 pub use progress::Progress;
-pub use remark::{Ended, Remark};
+pub use remark::{Ended, Missing, Remark};
 pub use run::run_command;
 pub use s66_answer::{Observer, Silent, Status, Task, document_of, make_each};
 pub use s66_command::{

@@ -11,6 +11,9 @@ pub const FEED_CALLS: u32 = 16_777_216;
 /// How many bytes each of these calls has room for.
 pub const FEED_ROOM: usize = 65_536;
 
+/// How many blocks and lines may stand from the name to which a branch goes back to the branch, so that they count as a loop.
+pub(crate) const LOOP_LIMIT: usize = 100;
+
 /// How many bytes there is room for of what is told after a success.
 pub(crate) const REMARK_ROOM: usize = 256;
 

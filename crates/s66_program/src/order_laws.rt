@@ -29,14 +29,14 @@ pub fn reported_law()
 /// legal order, or as it stands, and nothing that stands beside the blocks differs. So `compare` of the two ends with status 0.
 pub fn compared_law()
     ensures compared { (strategy : Strategy) (p q : Profile) (style : OrderStyle) (only : Option ℕ) (source : Reading)
-        (text : List ℕ) (status : Status) (again : List Block) → IsOrdered strategy p style only source text status →
+        (texts : Bool) (text : List ℕ) (status : Status) (again : List Block) → IsOrdered strategy p style only source text status →
         source_of (record { cut = source.cut; text = text }) ≡ Ok again →
-        (compared : List ℕ) × IsCompared q source (record { cut = source.cut; text = text }) compared true }
+        (compared : List ℕ) × IsCompared q texts source (record { cut = source.cut; text = text }) compared true }
     ensures accepted { (strategy : Strategy) (p q : Profile) (style : OrderStyle) (only : Option ℕ) (source : Reading)
-        (text compared : List ℕ) (status : Status) (accepted : Bool) → IsOrdered strategy p style only source text status →
-        IsCompared q source (record { cut = source.cut; text = text }) compared accepted → accepted ≡ true }
-    ensures done { (strategy : Strategy) (p q : Profile) (style : OrderStyle) (only : Option ℕ) (cut : Bool)
+        (texts : Bool) (text compared : List ℕ) (status : Status) (accepted : Bool) → IsOrdered strategy p style only source text status →
+        IsCompared q texts source (record { cut = source.cut; text = text }) compared accepted → accepted ≡ true }
+    ensures done { (strategy : Strategy) (p q : Profile) (style : OrderStyle) (only : Option ℕ) (texts cut : Bool)
         (halves : Halves) (input compared : List ℕ) (status ended : Status) → halves_of input ≡ Some halves →
         IsOrdered strategy p style only (record { cut = cut; text = halves.old }) halves.new status →
-        IsCompareOutput q cut input compared ended → ended ≡ Done }
+        IsCompareOutput q texts cut input compared ended → ended ≡ Done }
 {}

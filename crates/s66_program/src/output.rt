@@ -1,5 +1,7 @@
 ghost use Rattle.std.specs.Prelude.{◌≡◌, true, IfOk, IfErr};
-ghost use Rattle.s66_program.specs.Output.{IsAskedOutput, IsOutput, IsWithinLimits, reads_source, shows_blocks};
+ghost use Rattle.s66_command.specs.CommandParts.{reads_of};
+ghost use Rattle.s66_command.specs.declared.command.Reads.TheVariants as reads;
+ghost use Rattle.s66_program.specs.Output.{IsAskedOutput, IsOutput, IsWithinLimits, shows_blocks};
 ghost use Rattle.s66_program.specs.Remarks.{IsRemark};
 ghost use Rattle.s66_program.specs.Run.{IsRefusal};
 
@@ -14,7 +16,9 @@ use crate::lint_text::lint_output;
 use crate::order_text::ordered_output;
 use crate::page_text::page_output;
 use crate::prove_text::prove_output;
-use crate::remark::{Finished, remark_of, untold};
+use crate::remark::{
+    Finished, Missing, listed_of_old, missing_of_documents, remark_of, remark_with,
+};
 use crate::sum_text::sum_output;
 use crate::time_text::time_output;
 use crate::why_text::why_output;
@@ -43,8 +47,8 @@ fn output_of<R: AllocGlobal + Threads + Wait + Sync, O: Observer>(
     let only = command.block;
     match command.asked {
         Asked::Time { trace } => time_output(alloc, profile, trace, only, source),
-        Asked::Deps => deps_output(alloc, profile, only, source),
-        Asked::Chart { text } => chart_output(alloc, profile, text, only, source),
+        Asked::Deps { text } => deps_output(alloc, profile, text, only, source),
+        Asked::Chart { text, units } => { chart_output(alloc, profile, text, units, only, source) },
         Asked::Why { order, text } => why_output(rt, source, order, text, only, profile, observer),
         Asked::Json { order } => json_output(rt, source, order, only, profile, observer),
         Asked::Page { strategy } => page_output(rt, source, only, profile, strategy, observer),
@@ -55,7 +59,7 @@ fn output_of<R: AllocGlobal + Threads + Wait + Sync, O: Observer>(
         Asked::Sum { strategy, style } => {
             sum_output(rt, source, profile, strategy, style, only, observer)
         }
-        Asked::Check { .. } | Asked::Lint | Asked::Compare | Asked::Guard => unreachable!(),
+        Asked::Check { .. } | Asked::Lint | Asked::Compare { .. } | Asked::Guard => unreachable!(),
     }
 }
 
@@ -69,7 +73,7 @@ fn source_output<R: AllocGlobal + Threads + Wait + Sync, O: Observer>(
     observer: &mut O,
 ) -> Result<Finished, Fault>
     requires within { IsWithinLimits command }
-    requires reads { reads_source command.asked ≡ true }
+    requires reads { reads_of command.asked ≡ reads.Source }
     requires shows { shows_blocks command.asked ≡ true }
     ensures ok { IfOk result (λ finished.
         IsOutput profile.now command.entry input.now finished.output.text.items finished.output.status) }
@@ -102,13 +106,21 @@ pub(crate) fn output_for<R: AllocGlobal + Threads + Wait + Sync, O: Observer>(
     let alloc = rt.alloc();
     match command.asked {
         Asked::Check { text } => {
-            Ok(untold(command, check_output(alloc, text, input, observer)?))
+            let remark = remark_with(command, missing_of_documents(input), 0);
+            let output = check_output(alloc, text, input, observer)?;
+            Ok(Finished { output, remark })
         }
-        Asked::Lint => Ok(untold(command, lint_output(alloc, input, command.reads_cut())?)),
-        Asked::Compare => Ok(untold(
-            command,
-            compare_output(alloc, command.reads_cut(), profile, input)?,
-        )),
+        Asked::Lint => {
+            let remark = remark_with(command, Missing::Nothing, 0);
+            let output = lint_output(alloc, input, command.reads_cut())?;
+            Ok(Finished { output, remark })
+        }
+        Asked::Compare { text } => {
+            let listed = listed_of_old(alloc, command, input)?;
+            let remark = remark_with(command, Missing::Nothing, listed);
+            let output = compare_output(alloc, command.reads_cut(), profile, text, input)?;
+            Ok(Finished { output, remark })
+        }
         Asked::Guard => guard_output(alloc, command, input),
         _ => source_output(rt, command, profile, input, observer),
     }

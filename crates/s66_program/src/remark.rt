@@ -1,7 +1,10 @@
-ghost use Rattle.std.specs.Prelude.{ℕ, List, ◌≡◌, ◌==◌, ◌<◌, ◌≤◌, ◌++◌, true, false, if◌then◌else◌, codes, IfOk, length};
+ghost use Rattle.std.specs.Prelude.{ℕ, List, [], ◌≡◌, ◌==◌, ◌<◌, ◌≤◌, ◌++◌, Some, true, false, if◌then◌else◌, codes, IfOk, length};
+ghost use Rattle.s66_command.specs.CommandParts.{reads_cut, reads_of};
+ghost use Rattle.s66_command.specs.declared.command.Reads.TheVariants as reads;
 ghost use Rattle.s66_source.specs.Source.{source_of};
 ghost use Rattle.s66_program.specs.Output.{shows_blocks, source_in};
-ghost use Rattle.s66_program.specs.Remarks.{AreRegions, IsCount, IsRemark, block_line, found_words, has_no_block, lines_word, lint_words, listed_line, prints_orders, regions_line};
+ghost use Rattle.s66_program.specs.Remarks.{IsCount, IsRemark, counted_source, found_words, lines_word, lint_words, listed_line, missing_line, missing_of_documents, missing_of_source, prints_orders, raised, regions_line, without_block, without_blocks};
+ghost use Rattle.s66_program.specs.declared.remark.Missing.TheVariants as missing;
 
 use crate::limits::REMARK_ROOM;
 use arrayvec::ArrayString;
@@ -9,14 +12,28 @@ use itoa::Buffer;
 use s66_answer::{Output, Status};
 use s66_command::Command;
 use s66_lint::findings_in;
-use s66_source::Source;
+use s66_source::{Source, halves_of};
 use std::alloc::{AllocError, Global};
+
+/// What an input lacks of which blocks or documents are shown.
+#[derive(Clone, Copy)]
+pub enum Missing {
+    Nothing,
+    /// A line, and so a block.
+    Lines,
+    /// A block, though there are lines.
+    Blocks,
+    /// The only block that was asked for, by its number; the last has another one.
+    Block { number: u32, last: usize },
+    /// A document.
+    Documents,
+}
 
 /// What standard error gets after a success.
 #[derive(Clone, Copy)]
 pub struct Remark {
-    /// Whether the source has no block.
-    pub has_no_block: bool,
+    /// What the input lacks.
+    pub missing: Missing,
     /// Whether `lint` is to be called with `--cut`.
     pub cut: bool,
     /// How many lines `lint` then lists.
@@ -33,15 +50,38 @@ pub struct Ended {
     pub remark: Remark,
 }
 
-fn block_line(has_no_block: bool) -> &'static str
-    ensures text { result.now ≡ block_line has_no_block }
-    ensures short { length result.now ≤ 66 }
+/// That a block isn't there.
+fn push_no_block(text: &mut ArrayString<REMARK_ROOM>, number: u32, last: usize)
+    requires { text.old.bytes ≡ [] }
+    ensures text { text.new.bytes ≡ missing_line (missing.Block number last) }
+    ensures short { length text.new.bytes ≤ 66 }
 {
-    if has_no_block {
-        "no block: an instruction's operation begins in column 3 or later\n"
-    } else {
-        ""
+    let mut digits = Buffer::new();
+    text.push_str("no block ");
+    text.push_str(digits.format(number));
+    text.push_str(": the last is ");
+    text.push_str(digits.format(last));
+    text.push_str("\n");
+}
+
+/// What an input lacks.
+fn missing_line(missing: Missing) -> ArrayString<REMARK_ROOM>
+    ensures text { result.bytes ≡ missing_line missing }
+    ensures short { length result.bytes ≤ 66 }
+{
+    let mut text = ArrayString::new();
+    match missing {
+        Missing::Nothing => {}
+        Missing::Lines => text.push_str("no block: the source is empty\n"),
+        Missing::Blocks => {
+            text.push_str("no block: an instruction's operation begins in column 3 or later\n")
+        }
+        Missing::Block { number, last } => push_no_block(&mut text, number, last),
+        Missing::Documents => {
+            text.push_str("no document: s66 check reads what s66 prove prints\n")
+        }
     }
+    text
 }
 
 fn lint_words(cut: bool) -> &'static str
@@ -137,8 +177,7 @@ impl Remark {
     pub fn text(&self) -> ArrayString<REMARK_ROOM>
         ensures { result.bytes ≡ remark_text self.now }
     {
-        let mut text = ArrayString::new();
-        text.push_str(block_line(self.has_no_block));
+        let mut text = missing_line(self.missing);
         push_listed(&mut text, self.cut, self.listed);
         push_regions(&mut text, self.regions, self.lines);
         text
@@ -159,24 +198,97 @@ fn prints_orders(command: Command) -> bool
     command.asked.strategy().is_some()
 }
 
-/// Whether a source has no block.
-fn has_no_block(source: &Source) -> bool
-    ensures { result ≡ has_no_block (source_of source.now) }
+/// Why a source has no block.
+fn without_blocks(text: &[u8]) -> Missing
+    ensures { result ≡ without_blocks text.now }
 {
-    match source.blocks() {
-        [] => true,
-        [_, ..] => false,
+    match text {
+        [] => Missing::Lines,
+        [_, ..] => Missing::Blocks,
     }
 }
 
-/// How many lines `lint` lists of this input, or 0 if that isn't told.
-fn listed_of(alloc: Global, command: Command, input: &[u8]) -> Result<usize, AllocError>
-    ensures { IfOk result (IsCount (prints_orders command.entry) (source_in command.entry input.now)) }
+/// Whether a source whose last block has this number lacks the only one that is to be printed.
+fn without_block(only: Option<u32>, last: usize) -> Missing
+    ensures { result ≡ without_block only last }
 {
-    if !prints_orders(command) {
-        return Ok(0);
+    let Some(number) = only else {
+        return Missing::Nothing;
+    };
+    if last < number as usize {
+        Missing::Block { number, last }
+    } else {
+        Missing::Nothing
     }
-    Ok(findings_in(alloc, input, command.reads_cut())?.lines)
+}
+
+/// What a source of this text lacks.
+fn missing_of_source(source: &Source, only: Option<u32>, text: &[u8]) -> Missing
+    ensures { result ≡ missing_of_source only text.now (source_of source.now) }
+{
+    let blocks = source.blocks();
+    match blocks {
+        [] => without_blocks(text),
+        [_, ..] => without_block(only, blocks.len()),
+    }
+}
+
+/// What a text of documents lacks.
+pub(crate) fn missing_of_documents(text: &[u8]) -> Missing
+    ensures { result ≡ missing_of_documents text.now }
+{
+    match text {
+        [] => Missing::Documents,
+        [_, ..] => Missing::Nothing,
+    }
+}
+
+/// How many lines `lint` lists of a source.
+fn listed_in(alloc: Global, source: &[u8], cut: bool) -> Result<usize, AllocError>
+    ensures { IfOk result (IsCount (Some (record { cut = cut; text = source.now }))) }
+{
+    Ok(findings_in(alloc, source, cut)?.lines)
+}
+
+/// How many lines `lint` lists of the only source of an input, or 0 if that isn't told.
+fn listed_of(alloc: Global, command: Command, input: &[u8]) -> Result<usize, AllocError>
+    requires { reads_of command.asked ≡ reads.Source }
+    ensures { IfOk result (IsCount (counted_source command.entry input.now)) }
+{
+    if prints_orders(command) {
+        listed_in(alloc, input, command.reads_cut())
+    } else {
+        Ok(0)
+    }
+}
+
+/// How many lines `lint` lists of the old source of two.
+pub(crate) fn listed_of_old(
+    alloc: Global,
+    command: Command,
+    input: &[u8],
+) -> Result<usize, AllocError>
+    requires prints { prints_orders command ≡ false }
+    requires reads { reads_of command.asked ≡ reads.Sources }
+    ensures { IfOk result (IsCount (counted_source command.entry input.now)) }
+{
+    match halves_of(input) {
+        Some(halves) => listed_in(alloc, halves.old, command.reads_cut()),
+        None => Ok(0),
+    }
+}
+
+/// What is told of an input that `guard` doesn't read.
+pub(crate) fn remark_with(command: Command, missing: Missing, listed: usize) -> Remark
+    ensures { result ≡ record { missing = missing; cut = reads_cut command.entry; listed = listed; regions = 0; lines = 0 } }
+{
+    Remark {
+        missing,
+        cut: command.reads_cut(),
+        listed,
+        regions: 0,
+        lines: 0,
+    }
 }
 
 /// What is told after a command has written its text for a source, which was read from this input.
@@ -186,36 +298,30 @@ pub(crate) fn remark_of(
     source: &Source,
     input: &[u8],
 ) -> Result<Remark, AllocError>
+    requires reads { reads_of command.asked ≡ reads.Source }
     requires shows { shows_blocks command.asked ≡ true }
     requires source { source.now ≡ source_in command input.now }
     ensures { (text : List ℕ) → IfOk result (IsRemark command.entry input.now text) }
 {
     let listed = listed_of(alloc, command, input)?;
-    Ok(Remark {
-        has_no_block: has_no_block(source),
-        cut: command.reads_cut(),
-        listed,
-        regions: 0,
-        lines: 0,
-    })
+    let missing = missing_of_source(source, command.block, input);
+    Ok(remark_with(command, missing, listed))
 }
 
-/// What a command writes that reads no source, or has nothing to tell of it.
-pub(crate) fn untold(command: Command, output: Output) -> Finished
-    requires shows { shows_blocks command.asked ≡ false }
-    requires prints { prints_orders command ≡ false }
-    requires regions { (input text : List ℕ) → AreRegions command.asked input text 0 0 }
-    ensures output { result.output ≡ output }
-    ensures remark { (input text : List ℕ) → IsRemark command.entry input text result.remark }
+/// How a command ends whose text ends so, by what is told.
+pub(crate) fn raised(command: Command, remark: Remark, status: Status) -> Status
+    ensures { result ≡ raised command.entry remark status }
 {
-    Finished {
-        output,
-        remark: Remark {
-            has_no_block: false,
-            cut: command.reads_cut(),
-            listed: 0,
-            regions: 0,
-            lines: 0,
-        },
+    match status {
+        Status::Done => {
+            if command.some && matches!(remark.missing, Missing::Documents) {
+                Status::Denied
+            } else if command.strict && 0 < remark.listed {
+                Status::Listed
+            } else {
+                Status::Done
+            }
+        }
+        _ => status,
     }
 }

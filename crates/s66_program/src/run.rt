@@ -7,7 +7,7 @@ use crate::fault::Fault;
 use crate::limits::SOURCE_FRONT;
 use crate::output::output_for;
 use crate::reading::read_all;
-use crate::remark::Ended;
+use crate::remark::{Ended, raised};
 use s66_answer::Observer;
 use s66_command::{Command, Reads, read_profile};
 use s66_device::{Feed, Sink, write_all};
@@ -59,7 +59,7 @@ fn run_under<R: AllocGlobal + Threads + Wait + Sync, F: Feed, S: Sink, O: Observ
     let finished = finished?;
     match write_all(writer, finished.output.text.as_slice()) {
         Ok(()) => Ok(Ended {
-            status: finished.output.status,
+            status: raised(command, finished.remark, finished.output.status),
             remark: finished.remark,
         }),
         Err(_) => Err(Fault::Write),
@@ -67,8 +67,9 @@ fn run_under<R: AllocGlobal + Threads + Wait + Sync, F: Feed, S: Sink, O: Observ
 }
 
 /// Runs a command whose numbers are within their limits: reads to the end, builds all text, and only then writes. Returns what is to be
-/// told, and `Bounded` if `order`, `sum` or `prove` left a block only bounded, `Denied` if `check` has a verdict that isn't yes, `lint`
-/// lists a line that is refused or `compare` finds more than legal orders, `Listed` if `lint` lists other lines alone, and else `Done`.
+/// told, and `Bounded` if `order`, `sum` or `prove` left a block only bounded, `Denied` if `check` has a verdict that isn't yes or no
+/// document although it has to have one, `lint` lists a line that is refused or `compare` finds more than legal orders, `Listed` if `lint`
+/// lists other lines alone, or a strict `compare` tells of lines that it would list, and else `Done`.
 /// An observer is called as the work goes on, and when it has ended, before anything is written; what it does changes nothing of what is
 /// written and returned.
 ///

@@ -2,7 +2,7 @@ use Rattle.s66_program.proofs.OrderCompared.{compared-accepted, compared-done, o
 use Rattle.s66_program.proofs.order_laws.compared_law.Goals as goal
 
 pub returns-clause-compared : goal.returns-clause-compared
-returns-clause-compared c = λ strategy p q style only source text status again is other. order-compared strategy p q style only source text status again is other
+returns-clause-compared c = λ strategy p q style only source texts text status again is other. order-compared strategy p q style only source text status texts again is other
 
 pub returns-clause-accepted : goal.returns-clause-accepted
 returns-clause-accepted c = compared-accepted

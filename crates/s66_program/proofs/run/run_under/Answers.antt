@@ -17,7 +17,7 @@ returns-in-Ok g c =
     let seen = subst (IsKeptInput _ input) (sym c.as_slice.ensures.value) kept in
     let whole = whole-output c.args.profile.now c.args.command _ input _ _ _ c.most_kept.ensures seen c.in_ok-finished.ensures.ok in
     let told = whole-remark c.args.profile.now c.args.command _ input _ _ _ _ c.most_kept.ensures seen c.in_ok-finished.ensures.ok c.in_ok-finished.ensures.remark in
-    (input, reads, (_, whole, search rules, told))
+    (input, reads, (_, _, whole, search rules, told, c.raised.ensures))
 
 pub returns : goal.returns
 returns g c =

@@ -1,7 +1,7 @@
 use Rattle.std.proofs.Common.{◌∙◌, ap, subst}
 use Rattle.s66_isa.specs.Lists.{Among}
 use Rattle.s66_source.specs.Printed.{Placed}
-use Rattle.s66_program.proofs.Parcels.{source-within}
+use Rattle.s66_program.proofs.PlacedBlocks.{source-within}
 use Rattle.s66_program.proofs.sum_text.row_of.Goals as goal
 
 pub words_of-requires-clause-numbers : goal.words_of-requires-clause-numbers

@@ -12,9 +12,12 @@ use Rattle.s66_answer.specs.OfAnswers.{status_of}
 use Rattle.s66_answer.specs.Shown.{before, shown}
 use Rattle.s66_answer.specs.Kept.{AreAnswered}
 use Rattle.s66_answer.proofs.KeptParts.{kept-whole, of-read}
+use Rattle.s66_program.specs.Entries.{entries_of}
+use Rattle.s66_program.specs.Loops.{Orders, loops_of}
+use Rattle.s66_program.specs.declared.loops.Loop.{Loop}
 use Rattle.s66_program.specs.declared.sum_text.Row.{Row}
 use Rattle.s66_program.specs.OrderText.{all_placed, placed_part}
-use Rattle.s66_program.specs.SumText.{AreNumbered, IsSumText, rows_of}
+use Rattle.s66_program.specs.SumText.{AreNumbered, IsSumText, orders_of, rows_of}
 use Rattle.s66_program.proofs.PlacedAnswers.{all-within}
 use Rattle.s66_program.proofs.SumRows.{few-rows, length-placed, rows-numbered}
 use Rattle.s66_program.proofs.sum_text.sum_output.Goals as goal
@@ -37,13 +40,19 @@ rows_of-requires-clause-found g c =
     let blocks = c.blocks-2.result.now in
     let all = c.in_ok-all.all in
     let are = placed-shown c.args.strategy c.args.profile.now c.args.style.trace only c.args.source.now all.status blocks all.parts.items c.blocks-2.ensures c.in_ok-all.ensures in
-    ap (λ (ps : List Placed). length ps) c.as_slice.ensures.value ∙ length-placed (shown only blocks) all.parts.items are ∙ sym (ap (λ (bs : List Block). length bs) c.shown-blocks.ensures)
+    ap (λ (ps : List Placed). length ps) c.as_slice-found.ensures.value ∙ length-placed (shown only blocks) all.parts.items are ∙ sym (ap (λ (bs : List Block). length bs) c.shown-blocks.ensures)
 
 pub rows_of-requires-clause-placed : goal.rows_of-requires-clause-placed
 rows_of-requires-clause-placed g c =
     let all = c.in_ok-all.all in
     let are = placed-shown c.args.strategy c.args.profile.now c.args.style.trace c.args.only c.args.source.now all.status c.blocks-2.result.now all.parts.items c.blocks-2.ensures c.in_ok-all.ensures in
-    subst (λ (bs : List Block). ArePlaced bs c.as_slice.result.now) (sym c.shown-blocks.ensures) (subst (ArePlaced (shown c.args.only c.blocks-2.result.now)) (sym c.as_slice.ensures.value) are)
+    subst (λ (bs : List Block). ArePlaced bs c.as_slice-found.result.now) (sym c.shown-blocks.ensures) (subst (ArePlaced (shown c.args.only c.blocks-2.result.now)) (sym c.as_slice-found.ensures.value) are)
+
+pub loops_of-requires-clause-placed : goal.loops_of-requires-clause-placed
+loops_of-requires-clause-placed g c =
+    let all = c.in_ok-all.all in
+    let are = placed-shown c.args.strategy c.args.profile.now c.args.style.trace c.args.only c.args.source.now all.status c.blocks-2.result.now all.parts.items c.blocks-2.ensures c.in_ok-all.ensures in
+    subst (λ (bs : List Block). ArePlaced bs c.as_slice-found.result.now) (sym c.shown-blocks.ensures) (subst (ArePlaced (shown c.args.only c.blocks-2.result.now)) (sym c.as_slice-found.ensures.value) are)
 
 pub sum_text-requires : goal.sum_text-requires
 sum_text-requires g c =
@@ -51,7 +60,7 @@ sum_text-requires g c =
     let blocks = c.blocks-2.result.now in
     let ps = c.in_ok-all.all.parts.items in
     let same : c.in_ok-rows.rows.items ≡ rows_of (before only) (shown only blocks) ps =
-    c.in_ok-rows.ensures ∙ ap (rows_of c.blocks_before.result c.shown-blocks.result.now) c.as_slice.ensures.value ∙ ap₂ (λ n bs. rows_of n bs ps) c.blocks_before.ensures.value c.shown-blocks.ensures
+    c.in_ok-rows.ensures ∙ ap (rows_of c.blocks_before-before.result c.shown-blocks.result.now) c.as_slice-found.ensures.value ∙ ap₂ (λ n bs. rows_of n bs ps) c.blocks_before-before.ensures.value c.shown-blocks.ensures
     in
     record {
       numbered = subst AreNumbered (sym same) (rows-numbered (before only) (shown only blocks) ps);
@@ -62,13 +71,28 @@ pub returns : goal.returns
 returns g c =
     let p = c.args.profile.now in
     let only = c.args.only in
-    let trace = c.args.style.trace in
+    let style = c.args.style in
+    let source = c.args.source.now in
     let blocks = c.blocks-2.result.now in
     let all = c.in_ok-all.all in
-    let text = c.in_ok-sum_text.field-0.items in
-    let (answers, are, is, ends) = placed c.args.strategy p trace only c.args.source.now all.status blocks all.parts.items c.blocks-2.ensures c.in_ok-all.ensures in
-    let same : c.in_ok-rows.rows.items ≡ rows_of (before only) (shown only blocks) (all_placed p trace (shown only blocks) answers) =
-    c.in_ok-rows.ensures ∙ ap (rows_of c.blocks_before.result c.shown-blocks.result.now) (c.as_slice.ensures.value ∙ is)
-    ∙ ap₂ (λ n bs. rows_of n bs (all_placed p trace (shown only blocks) answers)) c.blocks_before.ensures.value c.shown-blocks.ensures
+    let text = c.in_ok-text.text.items in
+    let (answers, are, is, ends) = placed c.args.strategy p style.trace only source all.status blocks all.parts.items c.blocks-2.ensures c.in_ok-all.ensures in
+    let ps = all_placed p style.trace (shown only blocks) answers in
+    let found : c.as_slice-found.result.now ≡ ps = c.as_slice-found.ensures.value ∙ is in
+    let rows : c.in_ok-rows.rows.items ≡ rows_of (before only) (shown only blocks) ps =
+    c.in_ok-rows.ensures ∙ ap (rows_of c.blocks_before-before.result c.shown-blocks.result.now) found
+    ∙ ap₂ (λ n bs. rows_of n bs ps) c.blocks_before-before.ensures.value c.shown-blocks.ensures
     in
-    (blocks, c.blocks-2.ensures, (answers, are, subst (λ rows. IsSumText c.args.style rows text) same c.in_ok-sum_text.ensures, ends))
+    let orders : record { before = c.blocks_before-before.result; blocks = c.shown-blocks.result.now; found = c.as_slice-found.result.now } ≡ orders_of only (shown only blocks) ps =
+    rw (c.blocks_before-before.ensures.value, c.shown-blocks.ensures, found) refl
+    in
+    let loops : c.as_slice.result.now ≡ loops_of (orders_of only (shown only blocks) ps) source =
+    c.as_slice.ensures.value ∙ c.in_ok-loops.ensures ∙ ap (λ (o : Orders). loops_of o source) orders
+    in
+    let names : c.as_slice-2.result.now ≡ entries_of source = c.as_slice-2.ensures.value ∙ c.in_ok-entries.ensures in
+    let said : IsSumText p style (loops_of (orders_of only (shown only blocks) ps) source) (entries_of source) (rows_of (before only) (shown only blocks) ps) text =
+    subst (λ (xs : List Row). IsSumText p style (loops_of (orders_of only (shown only blocks) ps) source) (entries_of source) xs text) rows
+    (subst (λ (names : List (List ℕ)). IsSumText p style (loops_of (orders_of only (shown only blocks) ps) source) names c.in_ok-rows.rows.items text) names
+    (subst (λ (ls : List (Option Loop)). IsSumText p style ls c.as_slice-2.result.now c.in_ok-rows.rows.items text) loops c.in_ok-text.ensures))
+    in
+    (blocks, c.blocks-2.ensures, (answers, are, said, ends))

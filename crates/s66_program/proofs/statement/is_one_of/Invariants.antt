@@ -1,0 +1,8 @@
+use Rattle.std.proofs.Common.{◌≡◌, drop, map, List, ℕ}
+use Rattle.std.specs.Borrow.{Bor}
+use Rattle.s66_program.specs.Statement.{is_one_of}
+use Rattle.s66_program.proofs.statement.is_one_of.Given as goal
+
+abbrev pub invariant-loop-known : goal.invariant-loop-known
+invariant-loop-known l =
+    is_one_of (map (λ (known : Bor (List ℕ)). known.now) (drop l.known-index l.names)) l.name ≡ is_one_of (map (λ (known : Bor (List ℕ)). known.now) l.names) l.name
