@@ -14,7 +14,9 @@ pub const PLAIN: Command<'static> = Command {
     cut: false,
     block: None,
     profile: None,
-    asked: Asked::Deps,
+    strict: false,
+    some: false,
+    asked: Asked::Deps { text: false },
 };
 
 /// `check` without sentences.

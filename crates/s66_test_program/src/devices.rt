@@ -148,7 +148,7 @@ fn reads_nothing_for_a_bad_profile(rt: HostRuntime) {
     assert!(rt; ran.status == 3 && ran.written.is_empty());
     assert!(rt;
         ran.stated.as_slice()
-            == b"BAD PROFILE\nno JSON object; --profile takes a text, not a file\n".as_slice()
+            == b"BAD PROFILE\nno JSON object such as {\"units_add\":2}, nor units_add=2\n".as_slice()
     );
     assert!(rt; reader.reads == 0 && reader.failed == 0);
 }

@@ -25,6 +25,10 @@ const PROFILES: &[(&str, &str)] = &[
         "[3, 3, 4, 4, 3, 10, 29, 8, 3, 100, 1, 1, 1, 1, 3, 1, 2]",
     ),
     (
+        "units_increment=27,units_add=2,shift=12,units_add=23",
+        "[3, 12, 4, 4, 3, 10, 29, 8, 3, 8, 1, 1, 23, 1, 2, 1, 27]",
+    ),
+    (
         EACH_KEY,
         "[11, 12, 13, 14, 15, 16, 17, 18, 19, 20, 21, 22, 23, 24, 25, 26, 27]",
     ),
@@ -41,18 +45,22 @@ const REFUSED: &[&str] = &[
     "{\"boolean\":\"3\"}",
     "{\"branch\":3}",
     "{\"boolean\":5} x",
+    "boolean==,,boolean=5",
 ];
 
 /// Texts, and why they give no profile.
 const HINTS: &[(&str, &str)] = &[
     (
         "slow.json",
-        "no JSON object; --profile takes a text, not a file",
+        "no JSON object such as {\"units_add\":2}, nor units_add=2",
     ),
-    ("[]", "no JSON object; --profile takes a text, not a file"),
+    (
+        "[]",
+        "no JSON object such as {\"units_add\":2}, nor units_add=2",
+    ),
     (
         "{\"units_mult\":1}",
-        "no number of a profile is called \"units_mult\"",
+        "no number of a profile is called \"units_mult\"\nthe names are boolean, shift, normalise, add, longadd, multiply, divide,\npopulation, increment, load, units_boolean, units_shift, units_add,\nunits_longadd, units_multiply, units_divide, units_increment",
     ),
     (
         "{\"multiply\":0}",
@@ -60,7 +68,7 @@ const HINTS: &[(&str, &str)] = &[
     ),
     (
         "{\"a\\u001b\\n\":5}",
-        "no number of a profile is called \"a\\u001b\\n\"",
+        "no number of a profile is called \"a\\u001b\\n\"\nthe names are boolean, shift, normalise, add, longadd, multiply, divide,\npopulation, increment, load, units_boolean, units_shift, units_add,\nunits_longadd, units_multiply, units_divide, units_increment",
     ),
     ("{}", ""),
 ];

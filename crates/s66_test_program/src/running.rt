@@ -30,6 +30,8 @@ pub(crate) const COMPARE: &[&str] = &["s66", "compare"];
 
 pub(crate) const COMPARE_CUT: &[&str] = &["s66", "compare", "--cut"];
 
+pub(crate) const COMPARE_TEXT: &[&str] = &["s66", "compare", "--text"];
+
 pub(crate) const ORDER: &[&str] = &["s66", "order", "--workers", "1"];
 
 pub(crate) const SUM: &[&str] = &["s66", "sum", "--workers", "1"];

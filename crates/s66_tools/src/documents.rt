@@ -90,6 +90,8 @@ pub fn summed<R: AllocGlobal + Threads + Wait + Sync>(rt: &R) -> Result<Answered
         cut: false,
         block: None,
         profile: None,
+        strict: false,
+        some: false,
         asked: Asked::Sum {
             strategy,
             style: SumStyle {

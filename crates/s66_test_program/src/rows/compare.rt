@@ -1,5 +1,5 @@
 use crate::rows::Row;
-use crate::running::{COMPARE, COMPARE_CUT};
+use crate::running::{COMPARE, COMPARE_CUT, COMPARE_TEXT};
 
 pub(crate) const ROWS: &[Row] = &[
     (
@@ -63,14 +63,28 @@ pub(crate) const ROWS: &[Row] = &[
         COMPARE,
         "  BX1 X2\n*S66 NEW\n  BX1 X2\n  EQ L\n  BX1 X2\n",
         5,
-        "BLOCK 1 LINE 1 COUNT 1 TIME 4 NEW LINE 1 COUNT 1 TIME 4 SAME\nBLOCK 2 NEW LINE 3 COUNT 1 TIME 4\nDIFFERS NEW LINE 2\nTOTAL BLOCKS 1 TIME 4 NEW BLOCKS 2 TIME 8 LEGAL 1\n",
+        "BLOCK 1 LINE 1 COUNT 1 TIME 4 NEW LINE 1 COUNT 1 TIME 4 SAME\nBLOCK 2 NEW LINE 3 COUNT 1 TIME 4 ADDED\nDIFFERS NEW LINE 2\nTOTAL BLOCKS 1 TIME 4 NEW BLOCKS 2 TIME 8 LEGAL 1\n",
     ),
     (
         "a block less",
         COMPARE,
         "  BX1 X2\n  EQ L\n  BX1 X2\n*S66 NEW\n  BX1 X2\n",
         5,
-        "BLOCK 1 LINE 1 COUNT 1 TIME 4 NEW LINE 1 COUNT 1 TIME 4 SAME\nBLOCK 2 LINE 3 COUNT 1 TIME 4\nDIFFERS LINE 2\nTOTAL BLOCKS 2 TIME 8 NEW BLOCKS 1 TIME 4 LEGAL 1\n",
+        "BLOCK 1 LINE 1 COUNT 1 TIME 4 NEW LINE 1 COUNT 1 TIME 4 SAME\nBLOCK 2 LINE 3 COUNT 1 TIME 4 GONE\nDIFFERS LINE 2\nTOTAL BLOCKS 2 TIME 8 NEW BLOCKS 1 TIME 4 LEGAL 1\n",
+    ),
+    (
+        "a block more before others",
+        COMPARE,
+        "  BX1 X2\n  EQ L\n  BX3 X4\n  EQ M\n  BX5 X6\n  BX5 X7\n*S66 NEW\n  BX1 X2\n  EQ N\n  BX0 X0\n  EQ L\n  BX3 X4\n  EQ M\n  BX5 X7\n  BX5 X6\n",
+        5,
+        "BLOCK 1 LINE 1 COUNT 1 TIME 4 NEW LINE 1 COUNT 1 TIME 4 SAME\nBLOCK 2 NEW LINE 3 COUNT 1 TIME 4 ADDED\nBLOCK 2 LINE 3 COUNT 1 TIME 4 NEW LINE 5 COUNT 1 TIME 4 SAME\nBLOCK 3 LINE 5 COUNT 2 TIME 8 NEW LINE 7 COUNT 2 TIME 8 NOT LEGAL 2 AFTER 1\nDIFFERS LINE 2 NEW LINE 2\nTOTAL BLOCKS 3 TIME 16 NEW BLOCKS 4 TIME 20 LEGAL 2\n",
+    ),
+    (
+        "blocks that are gone, changed and added between others",
+        COMPARE,
+        "  BX0 X0\n  PS\n  BX1 X2\n  PS\n  BX3 X4\n  PS\n  BX5 X6\n  PS\n  BX7 X7\n*S66 NEW\n  BX0 X1\n  PS\n  BX1 X2\n  PS\n  BX5 X6\n  PS\n  BX4 X4\n  PS\n  BX6 X6\n",
+        5,
+        "BLOCK 1 LINE 1 COUNT 1 TIME 4 NEW LINE 1 COUNT 1 TIME 4 OTHER CODE NEW LINE 1\nBLOCK 2 LINE 3 COUNT 1 TIME 4 NEW LINE 3 COUNT 1 TIME 4 SAME\nBLOCK 3 LINE 5 COUNT 1 TIME 4 GONE\nBLOCK 4 LINE 7 COUNT 1 TIME 4 NEW LINE 5 COUNT 1 TIME 4 SAME\nBLOCK 5 LINE 9 COUNT 1 TIME 4 NEW LINE 7 COUNT 1 TIME 4 OTHER CODE NEW LINE 7\nBLOCK 5 NEW LINE 9 COUNT 1 TIME 4 ADDED\nTOTAL BLOCKS 5 TIME 20 NEW BLOCKS 5 TIME 20 LEGAL 2\n",
     ),
     (
         "label in column 2",
@@ -129,6 +143,41 @@ pub(crate) const ROWS: &[Row] = &[
         "BLOCK 1 LINE 1 COUNT 2 TIME 9 NEW LINE 1 COUNT 2 TIME 9 ORDER 2 1\nTOTAL BLOCKS 1 TIME 9 NEW BLOCKS 1 TIME 9 LEGAL 1\n",
     ),
     (
+        "read after write, by text",
+        COMPARE_TEXT,
+        "L   SA1 A1+B1\n  BX6 X1\n  BX7 X2\n*S66 NEW\n* NOTE\nL bx6  x1\n  BX7 X2\n  SA1 A1+B1\n",
+        5,
+        "BLOCK 1 LINE 1 COUNT 3 TIME 16 NEW LINE 2 COUNT 3 TIME 13 NOT LEGAL LINE 2 BX6 X1 BEFORE LINE 4 SA1 A1+B1: X1 read after write\nTOTAL BLOCKS 1 TIME 16 NEW BLOCKS 1 TIME 13 LEGAL 0\n",
+    ),
+    (
+        "write after write, by text",
+        COMPARE_TEXT,
+        "  BX5 X6\n  BX5 X7\n*S66 NEW\n  BX5 X7\n  BX5 X6\n",
+        5,
+        "BLOCK 1 LINE 1 COUNT 2 TIME 8 NEW LINE 1 COUNT 2 TIME 8 NOT LEGAL LINE 1 BX5 X7 BEFORE LINE 2 BX5 X6: X5 write after write\nTOTAL BLOCKS 1 TIME 8 NEW BLOCKS 1 TIME 8 LEGAL 0\n",
+    ),
+    (
+        "write after read, by text",
+        COMPARE_TEXT,
+        "  BX6 X1\n  BX1 X2\n*S66 NEW\n  BX1 X2\n  BX6 X1\n",
+        5,
+        "BLOCK 1 LINE 1 COUNT 2 TIME 8 NEW LINE 1 COUNT 2 TIME 8 NOT LEGAL LINE 1 BX1 X2 BEFORE LINE 2 BX6 X1: X1 write after read\nTOTAL BLOCKS 1 TIME 8 NEW BLOCKS 1 TIME 8 LEGAL 0\n",
+    ),
+    (
+        "memory read after write, by text",
+        COMPARE_TEXT,
+        "  SA6 A6+B1\n  SA1 A2+B2\n*S66 NEW\n  SA1 A2+B2\n  SA6 A6+B1\n",
+        5,
+        "BLOCK 1 LINE 1 COUNT 2 TIME 9 NEW LINE 1 COUNT 2 TIME 8 NOT LEGAL LINE 1 SA1 A2+B2 BEFORE LINE 2 SA6 A6+B1: memory read after write\nTOTAL BLOCKS 1 TIME 9 NEW BLOCKS 1 TIME 8 LEGAL 0\n",
+    ),
+    (
+        "legal, by text",
+        COMPARE_TEXT,
+        "  SA1 A2+B2\n  SA3 A4+B4\n*S66 NEW\n  SA3 A4+B4\n  SA1 A2+B2\n",
+        0,
+        "BLOCK 1 LINE 1 COUNT 2 TIME 9 NEW LINE 1 COUNT 2 TIME 9 ORDER 2 1\nTOTAL BLOCKS 1 TIME 9 NEW BLOCKS 1 TIME 9 LEGAL 1\n",
+    ),
+    (
         "lower case mark",
         COMPARE,
         "  BX1 X2\n*s66\tnew  BY HAND\n  BX1 X2\n*S66 NEW\n",
@@ -147,7 +196,7 @@ pub(crate) const ROWS: &[Row] = &[
         COMPARE,
         "*S66 NEW\r\n  BX1 X2",
         5,
-        "BLOCK 1 NEW LINE 1 COUNT 1 TIME 4\nDIFFERS NEW LINE 1\nTOTAL BLOCKS 0 TIME 0 NEW BLOCKS 1 TIME 4 LEGAL 0\n",
+        "BLOCK 1 NEW LINE 1 COUNT 1 TIME 4 ADDED\nDIFFERS NEW LINE 1\nTOTAL BLOCKS 0 TIME 0 NEW BLOCKS 1 TIME 4 LEGAL 0\n",
     ),
     (
         "moved line",

@@ -2,6 +2,8 @@ use crate::rows::{B0, Row, STORE_THEN_LOAD, UNPACK_THEN_SHIFT};
 use crate::running::DEPS;
 use s66_test_search::ONE_LOAD;
 
+const DEPS_TEXT: &[&str] = &["s66", "deps", "--text"];
+
 pub(crate) const ROWS: &[Row] = &[
     ("empty input", DEPS, "", 0, ""),
     (
@@ -53,6 +55,48 @@ pub(crate) const ROWS: &[Row] = &[
         "  BX1 X2\n  EQ B1,B2,L\n  SA1 A1+B1\n  BX6 X1\n",
         0,
         "BLOCK 1 LINE 1 COUNT 1 DEPENDENCES 0\nBLOCK 2 LINE 3 COUNT 2 DEPENDENCES 1\n2 AFTER 1\n",
+    ),
+    (
+        "a load, its copy and its store, with texts",
+        DEPS_TEXT,
+        "  SA1 A1+B1\n  BX6 X1\n  SA6 A6+B1\n",
+        0,
+        "BLOCK 1 LINE 1 COUNT 3 DEPENDENCES 3\n2 BX6 X1 AFTER 1 SA1 A1+B1: X1 RAW\n3 SA6 A6+B1 AFTER 1 SA1 A1+B1: MEMORY WAR\n3 SA6 A6+B1 AFTER 2 BX6 X1: X6 RAW\n",
+    ),
+    (
+        "each kind in one register, with texts",
+        DEPS_TEXT,
+        "  FX1 X1*X2   PRODUCT\n  fx1 x1+x3\n",
+        0,
+        "BLOCK 1 LINE 1 COUNT 2 DEPENDENCES 1\n2 FX1 X1+X3 AFTER 1 FX1 X1*X2: X1 RAW, X1 WAR, X1 WAW\n",
+    ),
+    (
+        "two registers, with texts",
+        DEPS_TEXT,
+        UNPACK_THEN_SHIFT,
+        0,
+        "BLOCK 1 LINE 1 COUNT 2 DEPENDENCES 1\n2 LX1 B1 AFTER 1 UX1 B1,X1: X1 RAW, B1 RAW, X1 WAR, X1 WAW\n",
+    ),
+    (
+        "each kind in memory, with texts",
+        DEPS_TEXT,
+        "  SA6 A6+B1\n  SA1 A2+B2\n  SA7 A3+B3\n",
+        0,
+        "BLOCK 1 LINE 1 COUNT 3 DEPENDENCES 3\n2 SA1 A2+B2 AFTER 1 SA6 A6+B1: MEMORY RAW\n3 SA7 A3+B3 AFTER 1 SA6 A6+B1: MEMORY WAW\n3 SA7 A3+B3 AFTER 2 SA1 A2+B2: MEMORY WAR\n",
+    ),
+    (
+        "B0, with texts",
+        DEPS_TEXT,
+        B0,
+        0,
+        "BLOCK 1 LINE 1 COUNT 3 DEPENDENCES 0\n",
+    ),
+    (
+        "the second block, with texts",
+        &["s66", "deps", "--text", "--block", "2"],
+        "  BX1 X2\n  EQ B1,B2,L\n  BX1 X2\n  BX2 X3\n",
+        0,
+        "BLOCK 2 LINE 3 COUNT 2 DEPENDENCES 1\n2 BX2 X3 AFTER 1 BX1 X2: X2 WAR\n",
     ),
     (
         "a refused source",

@@ -27,6 +27,13 @@ pub(crate) const ROWS: &[Row] = &[
         "LINE 1 NOT AN INSTRUCTION BX\nLINE 2 NOT AN INSTRUCTION bx8\nLINE 3 NOT AN INSTRUCTION SAl\nLINE 4 NOT AN INSTRUCTION BX11\nLINE 7 NOT AN INSTRUCTION SX\n",
     ),
     (
+        "comments of other assemblers",
+        LINT,
+        "  BX1 X2\n# load\n  ; Sum of X\n//c\n; BX1 X2\n/ BX1 X2\n* # c\n  SX1 B1 # c\n  PERIPH\n# load\n",
+        8,
+        "LINE 2 NOT A COMMENT # load\nLINE 3 NOT A COMMENT ; Sum\nLINE 4 NOT A COMMENT //c\nLINE 5 NOT A COMMENT ; BX1\n",
+    ),
+    (
         "lines are counted",
         LINT,
         "A DUP 3,2\n  BX1 X2\n  echo 1\n  BX1 X2\n  IFEQ N,1,3\n  BX1 X2\n  IFEQ N,1,END\n  BX1 X2\n  IFGT N,\n  ifcp6 2\n  IF DEF,N,2 LINES\n  NO\n  IFC EQ,*A B*/*,10\n  ELSE 2\n  ENDIF\n  IX1 X2*X3\n",

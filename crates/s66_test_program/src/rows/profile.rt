@@ -24,6 +24,27 @@ pub(crate) const ROWS: &[Row] = &[
         "BLOCK 1 LINE 1 COUNT 1 PARCELS 1 NO 0 TIME 6\nI 1 PARCEL 0 ISSUE 0 START 0 DONE 5 FREE 6\n",
     ),
     (
+        "one Boolean, of 5, behind a load of 2",
+        &["s66", "time", "--profile", "load=2,boolean=5"],
+        ONE_BOOLEAN,
+        0,
+        "BLOCK 1 LINE 1 COUNT 1 PARCELS 1 NO 0 TIME 6\n",
+    ),
+    (
+        "one Boolean, of 5, before a load of 2",
+        &["s66", "time", "--profile=boolean=5,load=2"],
+        ONE_BOOLEAN,
+        0,
+        "BLOCK 1 LINE 1 COUNT 1 PARCELS 1 NO 0 TIME 6\n",
+    ),
+    (
+        "one Boolean, of 5 at last",
+        &["s66", "time", "--profile", "boolean=9,boolean=5"],
+        ONE_BOOLEAN,
+        0,
+        "BLOCK 1 LINE 1 COUNT 1 PARCELS 1 NO 0 TIME 6\n",
+    ),
+    (
         "one Boolean, of the standard profile",
         &["s66", "time", "--profile", "{}"],
         ONE_BOOLEAN,
@@ -53,6 +74,13 @@ pub(crate) const ROWS: &[Row] = &[
     (
         "three multiplies in three units, proved",
         &["s66", "prove", "--profile", "{\"units_multiply\":3}"],
+        MULTIPLIES,
+        0,
+        THREE_UNITS,
+    ),
+    (
+        "three multiplies in three units, by a list",
+        &["s66", "prove", "--profile", "units_multiply=3"],
         MULTIPLIES,
         0,
         THREE_UNITS,
@@ -107,18 +135,62 @@ pub(crate) const BAD: &[(&str, &str)] = &[
     ),
     (
         "{\"branch\":3}",
-        "BAD PROFILE\nno number of a profile is called \"branch\"\n",
+        "BAD PROFILE\nno number of a profile is called \"branch\"\nthe names are boolean, shift, normalise, add, longadd, multiply, divide,\npopulation, increment, load, units_boolean, units_shift, units_add,\nunits_longadd, units_multiply, units_divide, units_increment\n",
+    ),
+    (
+        "load=5,units_mult=2",
+        "BAD PROFILE\nno number of a profile is called \"units_mult\"\nthe names are boolean, shift, normalise, add, longadd, multiply, divide,\npopulation, increment, load, units_boolean, units_shift, units_add,\nunits_longadd, units_multiply, units_divide, units_increment\n",
+    ),
+    (
+        "load=5,boolean=101",
+        "BAD PROFILE\n\"boolean\" is no whole number 1 to 100\n",
     ),
     (
         "[]",
-        "BAD PROFILE\nno JSON object; --profile takes a text, not a file\n",
+        "BAD PROFILE\nno JSON object such as {\"units_add\":2}, nor units_add=2\n",
     ),
     (
         "{",
-        "BAD PROFILE\nno JSON object; --profile takes a text, not a file\n",
+        "BAD PROFILE\nno JSON object such as {\"units_add\":2}, nor units_add=2\n",
     ),
     (
         "",
-        "BAD PROFILE\nno JSON object; --profile takes a text, not a file\n",
+        "BAD PROFILE\nno JSON object such as {\"units_add\":2}, nor units_add=2\n",
+    ),
+    (
+        "units_add",
+        "BAD PROFILE\nno JSON object such as {\"units_add\":2}, nor units_add=2\n",
+    ),
+    (
+        "units_add=",
+        "BAD PROFILE\nno JSON object such as {\"units_add\":2}, nor units_add=2\n",
+    ),
+    (
+        "=2",
+        "BAD PROFILE\nno JSON object such as {\"units_add\":2}, nor units_add=2\n",
+    ),
+    (
+        "units_add=2,",
+        "BAD PROFILE\nno JSON object such as {\"units_add\":2}, nor units_add=2\n",
+    ),
+    (
+        "units_add=2;load=5",
+        "BAD PROFILE\nno JSON object such as {\"units_add\":2}, nor units_add=2\n",
+    ),
+    (
+        "units_add=02",
+        "BAD PROFILE\nno JSON object such as {\"units_add\":2}, nor units_add=2\n",
+    ),
+    (
+        "units_add=2.0",
+        "BAD PROFILE\nno JSON object such as {\"units_add\":2}, nor units_add=2\n",
+    ),
+    (
+        "units_add=2, load=5",
+        "BAD PROFILE\nno JSON object such as {\"units_add\":2}, nor units_add=2\n",
+    ),
+    (
+        "units_add=true,units_add=2",
+        "BAD PROFILE\nno JSON object such as {\"units_add\":2}, nor units_add=2\n",
     ),
 ];

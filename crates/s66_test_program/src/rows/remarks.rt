@@ -1,24 +1,35 @@
 use crate::rows::Row;
-use crate::running::{CHECK, DEPS, ORDER, SUM, WHY};
+use crate::running::{CHECK, COMPARE, COMPARE_CUT, DEPS, ORDER, SUM, TIME, WHY};
 use s66_test_search::ONE_LOAD;
 
+const NO_LINE: &str = "no block: the source is empty\n";
+
 const NO_BLOCK: &str = "no block: an instruction's operation begins in column 3 or later\n";
+
+const NO_DOCUMENT: &str = "no document: s66 check reads what s66 prove prints\n";
+
+const ONE_LINE: &str = "s66 lint lists 1 line that order may harm\n";
+
+const TWO_LINES: &str = "s66 lint lists 2 lines that order may harm\n";
+
+const TWO_FINDINGS: &str =
+    "s66 lint --cut lists 2 findings; s66 guard puts switches around the code\n";
 
 /// Two lines that `lint` lists, one of which `--cut` leaves alone.
 const HARMED: &str = "  SA1 A1+B1\n*CALL COMXAMP\n  BX6 X1\n  BX7 X2\n  NZ X1,*-1\n";
 
 /// What standard error gets of rows that succeed: name, subcommand, lines. Of other such rows it gets nothing.
 pub(crate) const TOLD: &[(&str, &str, &str)] = &[
-    ("empty input", "time", NO_BLOCK),
-    ("empty input", "deps", NO_BLOCK),
-    ("empty input", "chart", NO_BLOCK),
-    ("empty input, why", "why", NO_BLOCK),
-    ("empty input, page", "page", NO_BLOCK),
-    ("empty input, json", "json", NO_BLOCK),
-    ("empty input", "order", NO_BLOCK),
-    ("empty input", "prove", NO_BLOCK),
-    ("empty input", "sum", NO_BLOCK),
-    ("nothing to keep", "order", NO_BLOCK),
+    ("empty input", "time", NO_LINE),
+    ("empty input", "deps", NO_LINE),
+    ("empty input", "chart", NO_LINE),
+    ("empty input, why", "why", NO_LINE),
+    ("empty input, page", "page", NO_LINE),
+    ("empty input, json", "json", NO_LINE),
+    ("empty input", "order", NO_LINE),
+    ("empty input", "prove", NO_LINE),
+    ("empty input", "sum", NO_LINE),
+    ("nothing to keep", "order", NO_LINE),
     ("20,000 lines", "time", NO_BLOCK),
     ("a macro stays as it is", "order", NO_BLOCK),
     (
@@ -142,7 +153,53 @@ pub(crate) const TOLD: &[(&str, &str, &str)] = &[
         "no block: an instruction's operation begins in column 3 or later\ns66 lint lists 1 line that order may harm\n",
     ),
     ("an instruction in column 1", "deps", NO_BLOCK),
+    ("an empty line", "time", NO_BLOCK),
+    ("an empty source has no second block", "time", NO_LINE),
+    ("a comment has no second block", "deps", NO_BLOCK),
+    ("no such block", "order", "no block 3: the last is 2\n"),
+    (
+        "one block's certificate",
+        "prove",
+        "no block 3: the last is 2\n",
+    ),
+    ("no third block, why", "why", "no block 3: the last is 2\n"),
+    (
+        "no third block, chart",
+        "chart",
+        "no block 3: the last is 2\n",
+    ),
+    (
+        "no second block, and a line is told",
+        "sum",
+        "no block 20000: the last is 1\ns66 lint lists 1 line that order may harm\n",
+    ),
+    ("empty input", "check", NO_DOCUMENT),
+    ("no document", "check", NO_DOCUMENT),
+    ("equal texts that write nothing", "compare", TWO_LINES),
+    ("a macro is read", "compare", ONE_LINE),
+    ("an instruction is moved out of *IF", "compare", TWO_LINES),
+    ("a store is moved into code", "compare", TWO_FINDINGS),
+    (
+        "code is changed, and the old source counts words",
+        "compare",
+        ONE_LINE,
+    ),
 ];
+
+/// An instruction between directives, and then before them.
+const OUT_OF_IF: &str =
+    "L  SA1 B1\n*IF DEF,A\n   BX2 X3\n*ENDIF\n   BX6 X1\n*S66 NEW\nL  SA1 B1\n   BX2 X3\n*IF DEF,A\n*ENDIF\n   BX6 X1\n";
+
+/// A store into the code, which counts the words before its branch.
+const INTO_CODE: &str =
+    "L     SA1 B1\n      BX2 X3\n      SA6 L\n      SX7 B1\n      ZR X1,*-1\n*S66 NEW\nL     BX2 X3\n      SA1 B1\n      SX7 B1\n      SA6 L\n      ZR X1,*-1\n";
+
+/// `lint` lists one line of the old source, and three of the new one.
+const MORE_COUNTS: &str =
+    "  BX1 X2\n  BX6 X3\n  NZ X1,*-1\n*S66 NEW\n  BX1 X2\n  BX7 X3\n  NZ X1,*-1\n  NZ X2,*-1\n  NZ X3,*-1\n";
+
+/// `lint` lists a line of the new source alone.
+const NEW_COUNTS: &str = "  BX1 X2\n  BX6 X3\n*S66 NEW\n  BX1 X2\n  BX6 X3\n  NZ X1,*-1\n";
 
 pub(crate) const ROWS: &[Row] = &[
     (
@@ -229,5 +286,112 @@ pub(crate) const ROWS: &[Row] = &[
         "  SA1 A1+B1",
         3,
         "TRUNCATED\ns66 check reads what s66 prove prints\n",
+    ),
+    ("an empty line", TIME, "\n", 0, ""),
+    (
+        "an empty source has no second block",
+        &["s66", "time", "--block", "2"],
+        "",
+        0,
+        "",
+    ),
+    (
+        "a comment has no second block",
+        &["s66", "deps", "--block", "2"],
+        "* NOTE\n",
+        0,
+        "",
+    ),
+    (
+        "the last block is there",
+        &["s66", "deps", "--block", "2"],
+        "  BX1 X2\n  EQ L\n  BX1 X2\n",
+        0,
+        "BLOCK 2 LINE 3 COUNT 1 DEPENDENCES 0\n",
+    ),
+    (
+        "no second block, and a line is told",
+        &["s66", "sum", "--block", "20000"],
+        "  BX1 X2\n  BX6 X3\n  NZ X1,*-1\n",
+        0,
+        "TOTAL BLOCKS 0 SOURCE 0 TIME 0 BEST 0 MOVED 0\n",
+    ),
+    ("no document", &["s66", "check", "--some"], "", 5, ""),
+    (
+        "some document",
+        &["s66", "check", "--some"],
+        "S66 CERTIFICATE 1\nPROFILE 3 3 4 4 3 10 29 8 3 8 1 1 1 1 2 1 2\nBLOCK 1\nI BX1 X2\nTIME 4\nBOUND 4\nORDER 1\nP\nEND\n",
+        0,
+        "DOCUMENT 1 YES TIME 4 BOUND 4\n",
+    ),
+    (
+        "some document, which isn't right",
+        &["s66", "check", "--some"],
+        "S66 CERTIFICATE 1\nPROFILE 3 3 4 4 3 10 29 8 3 8 1 1 1 1 2 1 2\nBLOCK 1\nI BX1 X2\nTIME 5\nBOUND 5\nORDER 1\nP\nEND\n",
+        5,
+        "DOCUMENT 1 NO LINE 5 REASON 2\n",
+    ),
+    (
+        "an instruction is moved out of *IF",
+        COMPARE,
+        OUT_OF_IF,
+        0,
+        "BLOCK 1 LINE 1 COUNT 3 TIME 12 NEW LINE 1 COUNT 3 TIME 12 SAME\nTOTAL BLOCKS 1 TIME 12 NEW BLOCKS 1 TIME 12 LEGAL 1\n",
+    ),
+    (
+        "an instruction is moved out of *IF",
+        &["s66", "compare", "--strict"],
+        OUT_OF_IF,
+        8,
+        "BLOCK 1 LINE 1 COUNT 3 TIME 12 NEW LINE 1 COUNT 3 TIME 12 SAME\nTOTAL BLOCKS 1 TIME 12 NEW BLOCKS 1 TIME 12 LEGAL 1\n",
+    ),
+    (
+        "an instruction is moved out of *IF, which --cut sees",
+        &["s66", "compare", "--strict", "--cut"],
+        OUT_OF_IF,
+        5,
+        "BLOCK 1 LINE 1 COUNT 1 TIME 8 NEW LINE 1 COUNT 2 TIME 8 OTHER CODE NEW LINE 2\nBLOCK 2 LINE 3 COUNT 1 TIME 4 GONE\nBLOCK 3 LINE 5 COUNT 1 TIME 4 NEW LINE 5 COUNT 1 TIME 4 SAME\nDIFFERS LINE 3 NEW LINE 4\nTOTAL BLOCKS 3 TIME 16 NEW BLOCKS 2 TIME 12 LEGAL 1\n",
+    ),
+    (
+        "a store is moved into code",
+        COMPARE_CUT,
+        INTO_CODE,
+        0,
+        "BLOCK 1 LINE 1 COUNT 4 TIME 8 NEW LINE 1 COUNT 4 TIME 9 ORDER 2 1 4 3\nTOTAL BLOCKS 1 TIME 8 NEW BLOCKS 1 TIME 9 LEGAL 1\n",
+    ),
+    (
+        "a store is moved into code",
+        &["s66", "compare", "--cut", "--strict"],
+        INTO_CODE,
+        8,
+        "BLOCK 1 LINE 1 COUNT 4 TIME 8 NEW LINE 1 COUNT 4 TIME 9 ORDER 2 1 4 3\nTOTAL BLOCKS 1 TIME 8 NEW BLOCKS 1 TIME 9 LEGAL 1\n",
+    ),
+    (
+        "code is changed, and the old source counts words",
+        &["s66", "compare", "--strict"],
+        MORE_COUNTS,
+        5,
+        "BLOCK 1 LINE 1 COUNT 2 TIME 8 NEW LINE 1 COUNT 2 TIME 8 OTHER CODE NEW LINE 2\nDIFFERS NEW LINE 4\nTOTAL BLOCKS 1 TIME 8 NEW BLOCKS 1 TIME 8 LEGAL 0\n",
+    ),
+    (
+        "the new source alone counts words",
+        &["s66", "compare", "--strict"],
+        NEW_COUNTS,
+        5,
+        "BLOCK 1 LINE 1 COUNT 2 TIME 8 NEW LINE 1 COUNT 2 TIME 8 SAME\nDIFFERS NEW LINE 3\nTOTAL BLOCKS 1 TIME 8 NEW BLOCKS 1 TIME 8 LEGAL 1\n",
+    ),
+    (
+        "nothing is listed",
+        &["s66", "compare", "--strict"],
+        "  BX1 X2\n  BX6 X3\n*S66 NEW\n  BX6 X3\n  BX1 X2\n",
+        0,
+        "BLOCK 1 LINE 1 COUNT 2 TIME 8 NEW LINE 1 COUNT 2 TIME 8 ORDER 2 1\nTOTAL BLOCKS 1 TIME 8 NEW BLOCKS 1 TIME 8 LEGAL 1\n",
+    ),
+    (
+        "a refused source isn't compared",
+        &["s66", "compare", "--strict"],
+        "  NZ X1,*-1\n*S66 NEW\n  SA1 *+2\n",
+        3,
+        "NEW LINE 1 BAD OPERAND\ns66 lint lists all such lines, --cut leaves them alone\n",
     ),
 ];

@@ -10,6 +10,13 @@ const FOUR_BLOCKS: &str =
 /// into two words.
 const TWO_FILLERS: &str = "  SB5 B1+B2\n  SB4 7\n  SB3 B3+1\n  BX6 X1\n  SA1 A1+100\n";
 
+/// A loop of 28 instructions of a parcel each: with the branch that closes it it takes a word more.
+const SEVEN_WORDS: &str =
+    "LOOP BX6 X1\n  BX7 X2\n  BX7 X2\n  BX7 X2\n  BX7 X2\n  BX7 X2\n  BX7 X2\n  BX7 X2\n  BX7 X2\n  BX7 X2\n  BX7 X2\n  BX7 X2\n  BX7 X2\n  BX7 X2\n  BX7 X2\n  BX7 X2\n  BX7 X2\n  BX7 X2\n  BX7 X2\n  BX7 X2\n  BX7 X2\n  BX7 X2\n  BX7 X2\n  BX7 X2\n  BX7 X2\n  BX7 X2\n  BX7 X2\n  BX7 X2\n  NZ B7,LOOP\n";
+
+/// Blocks with a branch out of the loop between them.
+const TWO_BLOCKS: &str = "A BX6 X1\n  ZR X1,OUT\n  BX7 X2\n  EQ B1,B2,A\n";
+
 /// Orders of which one is as good as any other.
 pub(crate) const ROWS: &[Row] = &[
     (
@@ -38,7 +45,7 @@ pub(crate) const ROWS: &[Row] = &[
         SUM,
         MIXED_SOURCE,
         0,
-        "BLOCK 1 LINE 2 COUNT 2 SOURCE 12 TIME 12 BEST MOVED 0\nBLOCK 2 LINE 6 COUNT 1 SOURCE 4 TIME 4 BEST MOVED 0\nBLOCK 3 LINE 8 COUNT 1 SOURCE 4 TIME 4 BEST MOVED 0\nTOTAL BLOCKS 3 SOURCE 20 TIME 20 BEST 3 MOVED 0\n",
+        "BLOCK 1 LINE 2 COUNT 2 SOURCE 12 TIME 12 BEST MOVED 0 ENTRY LOOP\nBLOCK 2 LINE 6 COUNT 1 SOURCE 4 TIME 4 BEST MOVED 0\nBLOCK 3 LINE 8 COUNT 1 SOURCE 4 TIME 4 BEST MOVED 0\nTOTAL BLOCKS 3 SOURCE 20 TIME 20 BEST 3 MOVED 0\n",
     ),
     (
         "three multiplies, one split short",
@@ -87,7 +94,7 @@ pub(crate) const ROWS: &[Row] = &[
         &["s66", "sum", "--profile", "{\"units_multiply\":3}"],
         MULTIPLIES,
         0,
-        "BLOCK 1 LINE 1 COUNT 3 SOURCE 13 TIME 13 BEST MOVED 0\nTOTAL BLOCKS 1 SOURCE 13 TIME 13 BEST 1 MOVED 0\n",
+        "PROFILE units_multiply 3\nBLOCK 1 LINE 1 COUNT 3 SOURCE 13 TIME 13 BEST MOVED 0\nTOTAL BLOCKS 1 SOURCE 13 TIME 13 BEST 1 MOVED 0\n",
     ),
     (
         "four blocks, one of which is printed",
@@ -130,6 +137,55 @@ pub(crate) const ROWS: &[Row] = &[
         "  SA1 A1+100\n  EQ L\n  SB4 7\n  SB3 B3+1\n  SB2 B2+1\n",
         0,
         "BLOCK 2 LINE 3 COUNT 3 SOURCE 8 TIME 8 BEST MOVED 0 WORDS 2 FOUND 2\nTOTAL BLOCKS 1 SOURCE 8 TIME 8 BEST 1 MOVED 0 WORDS 2 FOUND 2\n",
+    ),
+    (
+        "a loop of eight words",
+        &["s66", "sum", "--workers", "1", "--nodes", "0", "--words"],
+        SEVEN_WORDS,
+        0,
+        "BLOCK 1 LINE 1 COUNT 28 SOURCE 112 TIME 112 BEST MOVED 0 WORDS 8 FOUND 8 LOOP ENTRY LOOP\nTOTAL BLOCKS 1 SOURCE 112 TIME 112 BEST 1 MOVED 0 WORDS 7 FOUND 7\n",
+    ),
+    (
+        "a loop of two blocks",
+        &["s66", "sum", "--workers", "1", "--words"],
+        TWO_BLOCKS,
+        0,
+        "BLOCK 1 LINE 1 COUNT 1 SOURCE 4 TIME 4 BEST MOVED 0 WORDS 1 FOUND 1 ENTRY A\nBLOCK 2 LINE 3 COUNT 1 SOURCE 4 TIME 4 BEST MOVED 0 WORDS 2 FOUND 2 LOOP\nTOTAL BLOCKS 2 SOURCE 8 TIME 8 BEST 2 MOVED 0 WORDS 2 FOUND 2\n",
+    ),
+    (
+        "one block of a loop of two",
+        &["s66", "sum", "--workers", "1", "--block", "2", "--words"],
+        TWO_BLOCKS,
+        0,
+        "BLOCK 2 LINE 3 COUNT 1 SOURCE 4 TIME 4 BEST MOVED 0 WORDS 1 FOUND 1\nTOTAL BLOCKS 1 SOURCE 4 TIME 4 BEST 1 MOVED 0 WORDS 1 FOUND 1\n",
+    ),
+    (
+        "a label within a loop begins a word, and names have either case",
+        &["s66", "sum", "--workers", "1", "--words"],
+        "a bx6 x1\nB BX7 X2\n  JP A\n",
+        0,
+        "BLOCK 1 LINE 1 COUNT 1 SOURCE 4 TIME 4 BEST MOVED 0 WORDS 1 FOUND 1 ENTRY a\nBLOCK 2 LINE 2 COUNT 1 SOURCE 4 TIME 4 BEST MOVED 0 WORDS 2 FOUND 2 LOOP ENTRY B\nTOTAL BLOCKS 2 SOURCE 8 TIME 8 BEST 2 MOVED 0 WORDS 2 FOUND 2\n",
+    ),
+    (
+        "a loop whose name stands on the line before",
+        &["s66", "sum", "--workers", "1", "--words"],
+        "LOOP BSS 0\n* NOTE\n  BX6 X1\n  PL X1,LOOP\n",
+        0,
+        "BLOCK 1 LINE 3 COUNT 1 SOURCE 4 TIME 4 BEST MOVED 0 WORDS 1 FOUND 1 LOOP ENTRY LOOP\nTOTAL BLOCKS 1 SOURCE 4 TIME 4 BEST 1 MOVED 0 WORDS 1 FOUND 1\n",
+    ),
+    (
+        "a branch forward, and a call in a loop",
+        &["s66", "sum", "--workers", "1", "--words"],
+        "  BX6 X1\n  NZ X1,L\nL BX7 X2\n  RJ SUB\n  BX5 X3\n  NZ X3,L\n",
+        0,
+        "BLOCK 1 LINE 1 COUNT 1 SOURCE 4 TIME 4 BEST MOVED 0 WORDS 1 FOUND 1\nBLOCK 2 LINE 3 COUNT 1 SOURCE 4 TIME 4 BEST MOVED 0 WORDS 1 FOUND 1 ENTRY L\nBLOCK 3 LINE 5 COUNT 1 SOURCE 4 TIME 4 BEST MOVED 0 WORDS 1 FOUND 1\nTOTAL BLOCKS 3 SOURCE 12 TIME 12 BEST 3 MOVED 0 WORDS 3 FOUND 3\n",
+    ),
+    (
+        "a loop of a word less, with a branch out of it before the one that closes it",
+        &["s66", "sum", "--deep", "--words"],
+        "L SB5 B1+B2\n  SB4 7\n  SB3 B3+1\n  BX6 X1\n  SA1 A1+100\n  ZR X1,OUT\n  NZ X2,L\n",
+        0,
+        "BLOCK 1 LINE 1 COUNT 5 SOURCE 16 TIME 10 BEST MOVED 2 WORDS 4 FOUND 3 LOOP ENTRY L\nTOTAL BLOCKS 1 SOURCE 16 TIME 10 BEST 1 MOVED 2 WORDS 3 FOUND 2\n",
     ),
     (
         "a refused source",

@@ -105,7 +105,7 @@ pub(crate) const ROWS: &[Row] = &[
         &["a/b", "--version"],
         "  SA1 *+2\n",
         0,
-        "s66 0.7.0\n",
+        "s66 0.8.0\n",
     ),
     (
         "help, of a subcommand without options",
@@ -119,6 +119,6 @@ pub(crate) const ROWS: &[Row] = &[
         &["a/b", "deps", "--help"],
         "",
         0,
-        "Prints what each instruction depends on\n\nUsage: s66 deps [OPTIONS] < SOURCE\n\nOptions:\n      --cut        Leaves alone, rather than refuses, lines that can't be\n                   read, and code that directives, macros or counts cover\n      --block <N>  Prints only the block of this number, 1 to 20000\n  -h, --help       Print help\n\nExample: s66 deps < SOURCE\n\nStatus: 0 done, 2 usage, 3 the source was refused,\n        4 out of memory, 6 a read or write failed\n",
+        "Prints what each instruction depends on\n\nUsage: s66 deps [OPTIONS] < SOURCE\n\nOptions:\n      --cut        Leaves alone, rather than refuses, lines that can't be\n                   read, and code that directives, macros or counts cover\n      --text       Prints a line for each pair, with their texts and why\n                   the one depends on the other: X6 RAW, MEMORY WAR\n      --block <N>  Prints only the block of this number, 1 to 20000\n  -h, --help       Print help\n\nExample: s66 deps < SOURCE\n\nStatus: 0 done, 2 usage, 3 the source was refused,\n        4 out of memory, 6 a read or write failed\n",
     ),
 ];
