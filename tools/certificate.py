@@ -648,6 +648,8 @@ def main():
     except Refused as refused:
         print(refused, file=sys.stderr)
         return 3
+    if not verdicts:
+        print("no document: s66 check reads what s66 prove prints", file=sys.stderr)
     for number, verdict in enumerate(verdicts, 1):
         print("DOCUMENT", number, verdict)
     return 5 if any(verdict.startswith("NO") for verdict in verdicts) else 0

@@ -1,4 +1,4 @@
-# Puts files in the best order found, in their places: for ./s66 improve with -i or -n, which reads this file.
+# Puts files in the best order found: for ./s66 improve, which reads this file.
 
 # Says why a file stays as it is, and gives the status of that.
 stays() {
@@ -22,21 +22,44 @@ replace() {
     return 1
 } 2>/dev/null
 
-# Improves one file, and says what that saves. If all its lines end in carriage returns, which order leaves out, those of the new text do
-# too. It is taken only if compare accepts it, byte for byte.
-improve_file() {
-    file=$1
-    take_name "$1"
-    shift 2
-    [ "$file" != - ] || stays "standard input is no file" 2 || return
-    can_read "$file" || return
-    cat <"$file" >"$room/old" || stays "it can't be copied to $room" 6 || return
-    told=$("$program" order --cut --deep --keep --columns --quiet "$@" <"$room/old" 2>&1 >"$room/new")
+# Puts switches around the code of a text that order could harm. A control character in those of an earlier guard tells them from
+# the ones that this adds, so that they stay when these are taken out.
+put_switches() {
+    LC_ALL=C sed "s/^\(\*S66 O[NF]* \)G\(UARD\)/\1$marked\2/" "$1" | "$program" guard
+}
+
+# Takes them out again.
+take_switches() {
+    LC_ALL=C sed -e '/^\*S66 O[NF]* GUARD/d' -e "s/^\(\*S66 O[NF]* \)$marked\(UARD\)/\1G\2/" "$1"
+}
+
+# Ends the lines of the new text in carriage returns, which order leaves out, if all of the old one do.
+keep_ends() {
+    grep -qv "$cr\$" "$room/old" || { sed "s/\$/$cr/" "$room/new" >"$room/ended" && mv "$room/ended" "$room/new"; }
+}
+
+# Makes the new text of the old one, and gives the status of order. What order tells after a success isn't told, since it is of what the
+# switches leave.
+make_new() {
+    { told=$(put_switches "$room/old" 2>&1 >&4 4>&-); } 4>"$room/guarded"
     last=$?
     tell "$name" "$told"
-    [ "$last" -eq 0 ] || [ "$last" -eq 7 ] || return "$last"
-    grep -qv "$cr\$" "$room/old" || { sed "s/\$/$cr/" "$room/new" >"$room/ended" && mv "$room/ended" "$room/new"; } ||
-        stays "it can't be copied to $room" 6 || return
+    [ "$last" -eq 0 ] || return "$last"
+    { told=$("$program" order --cut --deep --keep --columns --quiet "$@" <"$room/guarded" 2>&1 >&4 4>&-); } 4>"$room/ordered"
+    last=$?
+    case $last in
+    0 | 7) take_switches "$room/ordered" >"$room/new" || stays "it can't be copied to $room" 6 || return ;;
+    *) tell "$name" "$told" ;;
+    esac
+    return "$last"
+}
+
+# Whether the new text can be taken, and what that saves: if guard finds the same code in it again, so that another run harms none
+# either, and if compare accepts it, byte for byte.
+accept_new() {
+    put_switches "$room/new" 2>/dev/null | cmp -s - "$room/ordered" ||
+        stays "guard leaves other code alone in what order makes of it" 5 || return
+    keep_ends || stays "it can't be copied to $room" 6 || return
     ! is_parted "$room/old" || stays "it has a line *S66 NEW, by which compare parts two sources" 3 || return
     join_sources "$room/old" "$room/new" | "$program" compare --cut "$@" >"$room/compared" 2>&1 ||
         stays "compare doesn't accept what order makes of it" 5 || return
@@ -44,12 +67,40 @@ improve_file() {
         / ORDER / { moved++ }
         /^TOTAL / { print $5 (moved ? " to " $10 " in " moved " of " $3 " blocks" : ", nothing to save") }
     ' "$room/compared")
-    [ "$last" -eq 0 ] || saved="$saved; some block may be faster still"
+}
+
+# Prints the new text, behind the file's name if there are several.
+print_new() (
+    [ "$file_count" -le 1 ] || print_name
+    cat "$room/new"
+) 2>/dev/null
+
+# Improves one file: prints its new text, or says what that saves, and with -i writes it.
+improve_file() {
+    file=$1
+    take_name "$1"
+    shift 2
+    case $mode,$file in
+    -[in],-) stays "standard input is no file" 2 || return ;;
+    esac
+    (open_file "$file" && cat) >"$room/old" || {
+        can_read "$file" 2>/dev/null && stays "it can't be copied to $room" 6
+        return 6
+    }
+    make_new "$@"
+    ordered=$?
+    [ "$ordered" -eq 0 ] || [ "$ordered" -eq 7 ] || return "$ordered"
+    accept_new "$@" || return
+    [ "$ordered" -eq 0 ] || saved="$saved; some block may be faster still"
+    if [ "$mode" = print ]; then
+        print_new || return 6
+        return "$ordered"
+    fi
     last=0
     case $mode,$saved in
     *nothing*) ;;
-    -n,[0-9]*) last=1 ;;
-    -i,[0-9]*)
+    -n,*) last=1 ;;
+    -i,*)
         replace "$file" || {
             cmp -s "$room/old" "$file" && why="it can't be written" || why="it has changed meanwhile"
             stays "$why" 6 || return
@@ -64,6 +115,7 @@ improve_file() {
 improve() {
     beside=
     cr=$(printf '\r')
+    marked=$(printf '\001')
     make_room
     trap 'rm -f -- "$beside"; clear_room' EXIT
     status=0

@@ -24,7 +24,7 @@ from source_rules import COMMAS, COMMENT, INSTRUCTION, MOST, MOST_LINES, OTHER, 
 
 BRANCHES = "RJ JP ZR NZ PL NG MI IR OR DF ID EQ NE GE GT LT LE XJ".split()
 REFUSED = "refused"
-FINDINGS = (r"(?m)^(?:LINE \d+ )?(TOO LONG|TOO MANY LINES|BAD OPERAND|FAR OPERAND|REDEFINED|NOT AN INSTRUCTION|IN COLUMN|DIRECTIVE|HAS A BODY"
+FINDINGS = (r"(?m)^(?:LINE \d+ )?(TOO LONG|TOO MANY LINES|BAD OPERAND|FAR OPERAND|REDEFINED|NOT A COMMENT|NOT AN INSTRUCTION|IN COLUMN|DIRECTIVE|HAS A BODY"
             "|LOADS CODE|STORES INTO CODE|TAKES CODE|PASSES CODE|SKIPS WORDS|JOINS A WORD|COUNTS WORDS|FALLS INTO DATA|ROW OF NO|COUNTS LINES)")
 ADDED = re.compile(rb"(?m)^\*S66 (?:OFF|ON) GUARD.*\n")
 SWITCHED = [["switched", "by", "line"], ["switched", "by", "stretch"]]
@@ -155,17 +155,22 @@ def order_fault(reading, output):
     return "" if printed == wanted + [""] else f"wanted {wanted}"
 
 
+def listed_line(text, cut):
+    """What is told of the lines that `lint` lists of a source, or nothing if it lists none."""
+    listed = lint_of(text, cut)[0].count(b"\n")
+    many = "s" * (listed > 1)
+    if cut:
+        line = f"s66 lint --cut lists {listed} finding{many}; s66 guard puts switches around the code\n"
+    else:
+        line = f"s66 lint lists {listed} line{many} that order may harm\n"
+    return line if listed else ""
+
+
 def remark_of(words, text, reading):
     """What is told of a source after a success."""
-    told = "" if reading.blocks else "no block: an instruction's operation begins in column 3 or later\n"
-    listed = lint_of(text, "--cut" in words)[0].count(b"\n") if words[0] == "order" else 0
-    if listed:
-        many = "s" * (listed > 1)
-        if "--cut" in words:
-            told += f"s66 lint --cut lists {listed} finding{many}; s66 guard puts switches around the code\n"
-        else:
-            told += f"s66 lint lists {listed} line{many} that order may harm\n"
-    return told
+    why = "an instruction's operation begins in column 3 or later" if text else "the source is empty"
+    told = "" if reading.blocks else f"no block: {why}\n"
+    return told + (listed_line(text, "--cut" in words) if words[0] == "order" else "")
 
 
 def fault_of(words, text, seen):

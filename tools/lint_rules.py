@@ -620,6 +620,8 @@ class Findings:
             yield "FAR OPERAND", line.written, line.written_operand, "(CUT)"
         if self.source.is_redefined(at):
             yield "REDEFINED", line.written, line.written_operand, "(CUT)"
+        if not self.deck.peripheral[at] and re.match("#|;|//", line.location or line.operation):
+            yield "NOT A COMMENT", *((line.label.lstrip(" "), line.written) if line.location else (line.written, line.written_operand))
         if is_other and not self.deck.peripheral[at] and re.fullmatch(LETTERS + "([^0-7]|[0-9]{2,})?", line.operation, re.DOTALL):
             yield "NOT AN INSTRUCTION", line.written
         if is_other and column and takes(line.location, line.operation) and not re.fullmatch("[A-Z]+|=", line.operation):

@@ -2,15 +2,19 @@
 """Opens pages of the built program in headless Chromium, and compares what they show with what its other subcommands print.
 
     tools/page.py PROGRAM [FOLDER]
+    tools/page.py PROGRAM --picture
 
 Pages are made of the sources of examples/, of random sources, of a long block, and of sources that are meant to break out of their
 text. Each is opened at a phone's width, at that of a desk and at a projector's, dark and light, and as it is printed on A4 and Letter,
 upright and across. It must have no error, no script and no request but for itself, no row or heading may lie over another, none may be
 hidden, and all that `why` says must be seen. Its bars must begin and end where `time --trace` and `why` say of the source order, and
-`time --trace` of what `order` prints and `why --order` of the best one, and its list must say what `sum` says. Below the orders of a
+`time --trace` of what `order` prints and `why --order` of the best one, and its list must say what `sum` says. Above a source order
+must stand the units and registers that `chart --units` draws, each held by the same instruction in each minor cycle. Below the orders of a
 block whose best order is `BEST` must stand the sentences that `check --text` and `why --order` write of it. On paper nothing may stand
 past the sheet, nor may a bar on a screen once the page is to fit its width. Each wrong thing is told, and the last line counts
 the pages. The status is 1 if something is wrong.
+
+With --picture docs/page.png is taken anew, which docs/check.py asks for when the page in it has changed.
 
 With FOLDER a picture of each page of an example is written there, for each width, dark and light, and its sheets as PDF. Chromium is
 Debian's; if it is missing, `apt-get install chromium` is run, which has to be allowed.
@@ -27,6 +31,10 @@ import sys
 import tempfile
 
 ROOT = os.path.dirname(os.path.dirname(os.path.abspath(__file__)))
+sys.dont_write_bytecode = True
+sys.path.append(os.path.join(ROOT, "docs"))
+import picture
+
 WIDTHS = {"phone": 390, "desk": 1280, "projector": 1920}
 SCHEMES = "light", "dark"
 SEARCH = ["--workers", "1", "--dominate-tree"]
@@ -36,9 +44,10 @@ DOTS = 96  # an inch has so many
 HEIGHT = 900
 HIGHEST = 12_000  # the most lines of dots of a picture
 WAIT = re.compile(r" *(\d+) (FIRST|SECOND|THIRD) (\d+) TO (\d+) (REGISTER (\w\d)|UNIT (\w+)|MEMORY) BY (\d+)")
+HELD = re.compile(r"(\S+)(?: +\d+)? {5,}([-.0-9]+)")  # a row of a unit or a register in a chart
 TRACE = re.compile(r"I (\d+) PARCEL \d+ ISSUE (\d+) START (\d+) DONE (\d+) FREE (\d+)")
 INSTRUCTION = re.compile(rb"(?![*])\S*[ +-] *((?:[A-Z]X[0-7]|S[AB][0-7])\b.*)")
-SUM = re.compile(r"BLOCK (\d+) LINE (\d+) COUNT (\d+) SOURCE (\d+) TIME (\d+) (BEST|AT LEAST \d+) MOVED \d+")
+SUM = re.compile(r"BLOCK (\d+) LINE (\d+) COUNT (\d+) SOURCE (\d+) TIME (\d+) (BEST|AT LEAST \d+) MOVED \d+(?: ENTRY .*)?")
 TOTAL = re.compile(r"TOTAL BLOCKS \d+ SOURCE (\d+) TIME (\d+) (BEST \d+) MOVED \d+")
 
 HOSTILE = {
@@ -248,6 +257,27 @@ def cause(found):
     return f"{found[7]} taken by {found[8]}" if found[7] else f"memory used by {found[8]}"
 
 
+def held_rows(order, time):
+    """The rows of units and registers that an order shows, as `chart --units` draws them: in each minor cycle who holds."""
+    rows = []
+    for row in order["rows"]:
+        if row["class"] in ("unit", "register"):
+            cells = ["."] * time
+            for bar in row["bars"]:
+                if bar["class"] == "taken":
+                    begin, end = span(bar)
+                    cells[begin:end] = (bar["title"] + "-" * time)[: end - begin]
+            rows.append((row["head"].split()[0], "".join(cells)))
+    return rows
+
+
+def held_faults(shown, orders, charts):
+    """Source orders whose rows of units and registers aren't those of their charts."""
+    written = [(order, time) for order, (is_source, time, *_) in zip(shown["orders"], orders) if is_source]
+    wanted = [[found.groups() for found in map(HELD.fullmatch, lines) if found] for lines in charts]
+    return [f"holds {held_rows(order, time)}, not {rows}" for (order, time), rows in zip(written, wanted) if held_rows(order, time) != rows]
+
+
 def order_faults(order, time, trace, why):
     """What an order shows otherwise than `time --trace` and `why` say."""
     rows = [row for row in order["rows"] if row["class"] in ("", "path")]
@@ -389,13 +419,14 @@ def sheet_faults(browser, path, rows, total, orders, reasons, folder):
     return faults
 
 
-def screen_faults(browser, path, given, rows, total, orders, reasons, folder):
+def screen_faults(browser, path, given, rows, total, orders, reasons, charts, folder):
     """What is wrong with a page on screens, of which pictures are written to this folder, if any."""
     faults = []
     for name, width in WIDTHS.items():
         for scheme in SCHEMES:
             shown, events = browser.open(path, width, scheme)
             found = faults_of(shown, events, path, rows, total, orders, reasons) + text_faults(shown, orders, given)
+            found += held_faults(shown, orders, charts)
             if folder:
                 browser.picture(f"{folder}-{name}-{scheme}.png", width, shown["height"])
             fitted = browser.fitted()
@@ -406,10 +437,24 @@ def screen_faults(browser, path, given, rows, total, orders, reasons, folder):
     return faults
 
 
+def take_picture(browser, program):
+    """Takes docs/page.png anew."""
+    page = picture.page(program)
+    with tempfile.NamedTemporaryFile(suffix=".html") as file:
+        file.write(page)
+        file.flush()
+        width = WIDTHS["desk"]
+        shown, _ = browser.open(file.name, width, "light")
+        browser.picture(picture.PICTURE, width, shown["height"])
+    with open(picture.SUM, "w", encoding="utf-8") as file:
+        file.write(picture.checksum(page))
+
+
 def check_page(browser, program, name, given, pictures):
     """What is wrong with the page of a source, on screens and on paper. Pictures are written to this folder, if any."""
     rows, total, orders = orders_of(program, given)
     reasons = reasons_of(program, given)
+    charts = by_blocks(run(program, ["chart", "--units"], given))
     below = [waits_and_reasons(lines)[1] for lines in by_blocks(run(program, ["why", "--order", *SEARCH], given))]
     if [lines for lines in below if lines] != reasons:
         return [f"{name}, why --order says otherwise than check --text why no order is faster"]
@@ -417,7 +462,7 @@ def check_page(browser, program, name, given, pictures):
     with tempfile.NamedTemporaryFile(suffix=".html") as file:
         file.write(run(program, ["page", *SEARCH], given))
         file.flush()
-        faults = screen_faults(browser, file.name, given, rows, total, orders, reasons, folder)
+        faults = screen_faults(browser, file.name, given, rows, total, orders, reasons, charts, folder)
         faults += sheet_faults(browser, file.name, rows, total, orders, reasons, folder)
     return [f"{name}, {fault}" for fault in faults]
 
@@ -425,9 +470,12 @@ def check_page(browser, program, name, given, pictures):
 def main():
     program = os.path.abspath(sys.argv[1])
     folder = sys.argv[2] if len(sys.argv) > 2 else None
+    browser = Browser()
+    if folder == "--picture":
+        take_picture(browser, program)
+        return browser.close()
     if folder:
         os.makedirs(folder, exist_ok=True)
-    browser = Browser()
     right = wrong = 0
     try:
         for name, given, is_pictured in pages(program):
