@@ -1,0 +1,116 @@
+"""The Debian packages whose code is measured: fetched by apt-get into a folder, and compiled to clang's text form."""
+import dataclasses
+import pathlib
+import re
+import subprocess
+
+CLANG = ["clang", "-O2", "-fno-vectorize", "-fno-slp-vectorize", "-w", "-S", "-emit-llvm", "-o", "-"]
+ARCHIVE = "deb http://deb.debian.org/debian bookworm main\ndeb-src http://deb.debian.org/debian bookworm main\n"
+TOOLS = ["f2c", "libf2c2-dev", "libgpg-error-dev"]  # binary packages that are unpacked in the folder, and not installed
+SECONDS = 120  # that clang may take for a file
+
+
+@dataclasses.dataclass(frozen=True)
+class Package:
+    """A source package, which of its files are taken, and what clang needs to know of them."""
+
+    source: str
+    files: str
+    flags: tuple = ()
+    folders: tuple = (".",)
+    prepare: str = ""  # a command that makes what is missing
+
+
+JPEG = ("-DBITS_IN_JSAMPLE=8", "-DJPEG_LIB_VERSION=80", "-DINLINE=inline", "-DTHREAD_LOCAL=", "-DSIZEOF_SIZE_T=8", "-DFALLTHROUGH=",
+        "-DC_ARITH_CODING_SUPPORTED", "-DD_ARITH_CODING_SUPPORTED", '-DBUILD=""', '-DPACKAGE_NAME=""', '-DVERSION=""')  # fmt: skip
+GSL = ("-DHAVE_INLINE", "-DGSL_COERCE_DBL(x)=(x)", "-DRELEASED=1", "-DHAVE_DECL_FINITE=1", "-DHAVE_DECL_ISNAN=1")
+LUA_HEADER = "echo '#define DEB_HOST_MULTIARCH \"\"' > src/lua5.4-deb-multiarch.h"
+GSL_HEADERS = "mkdir -p headers/gsl && cp gsl_*.h */gsl_*.h headers/gsl/"
+PACKAGES = {
+    "zlib": Package("zlib", "*.c"),
+    "bzip2": Package("bzip2", "*.c"),
+    "lua": Package("lua5.4", "src/*.c", prepare=LUA_HEADER),
+    "minpack": Package("minpack", "*.f"),
+    "jpeg": Package("libjpeg-turbo", "*.c", JPEG),
+    "xfoil": Package("xfoil", "src/*.f"),
+    "blas": Package("lapack", "BLAS/SRC/*.f"),
+    "lapack": Package("lapack", "SRC/*.f"),
+    "sqlite": Package("sqlite3", "tsrc/*.c", folders=("tsrc",), prepare="./configure && make .target_source"),
+    "gsl": Package("gsl", "*/*.c", GSL, (".", "headers"), GSL_HEADERS),
+    "fftw": Package("fftw3", "*/scalar/*/*.c", ("-DSIZEOF_VOID_P=8", "-DSIZEOF_UNSIGNED_LONG=8"), (".", "dft", "rdft", "kernel")),
+    "gcrypt": Package("libgcrypt20", "[cm]*/*.c", ("-DHAVE_CONFIG_H",), (".", "src", "mpi", "mpi/generic", "cipher"), "./configure --disable-asm"),
+    "phalanx": Package("phalanx", "*.c"),
+}
+
+
+class Archive:
+    """A folder into which apt-get puts packages; it has lists and caches of its own."""
+
+    def __init__(self, folder):
+        self.folder = pathlib.Path(folder).resolve()
+        for name in ("lists/partial", "cache/archives/partial", "sources", "tools", "headers"):
+            (self.folder / name).mkdir(parents=True, exist_ok=True)
+        for name in ("config.h", "jconfig.h", "jconfigint.h"):
+            (self.folder / "headers" / name).touch()
+        (self.folder / "sources.list").write_text(ARCHIVE)
+
+    def apt_get(self, *words):
+        options = {"Dir::Etc::sourcelist": "sources.list", "Dir::State::lists": "lists", "Dir::Cache": "cache"}
+        settings = [word for name, place in options.items() for word in ("-o", f"{name}={self.folder / place}")]
+        self.run(["apt-get", "-qq", "-o", "Dir::Etc::sourceparts=-", "-o", "APT::Sandbox::User=", *settings, *words], self.folder / "sources")
+
+    def run(self, words, folder):
+        with open(self.folder / "log", "ab") as log:
+            subprocess.run(words, cwd=folder, stdin=subprocess.DEVNULL, stdout=log, stderr=log, check=True)
+
+    def tools(self):
+        """Fetches what compiles Fortran and what libgcrypt includes, unless they are there."""
+        if not any((self.folder / "lists").glob("*_Sources*")):
+            self.apt_get("update")
+        if not (self.folder / "tools/usr").exists():
+            self.apt_get("download", *TOOLS)
+            for file in (self.folder / "sources").glob("*.deb"):
+                self.run(["dpkg", "-x", str(file), str(self.folder / "tools")], self.folder)
+
+    def source(self, package):
+        """The folder of a package's source, fetched and prepared unless it is there."""
+        place = self.place(package)
+        if not place:
+            self.apt_get("source", "--only-source", package.source)
+            place = self.place(package)
+        if package.prepare and not (place / "is-prepared").exists():
+            self.run(["sh", "-c", package.prepare], place)
+            (place / "is-prepared").touch()
+        return place
+
+    def place(self, package):
+        """The folder of a package's source, whose name ends in its version."""
+        found = [path for path in (self.folder / "sources").iterdir() if path.is_dir() and re.fullmatch(re.escape(package.source) + r"-\d.*", path.name)]
+        return found[0] if found else None
+
+    def compiled(self, package, file):
+        """A file in clang's text form, or nothing if it isn't compiled."""
+        place, tools = self.place(package), self.folder / "tools/usr"
+        folders = [place / name for name in package.folders] + [file.parent, self.folder / "headers", tools / "include", tools / "include/x86_64-linux-gnu"]
+        words = [*CLANG, *package.flags, *(f"-I{folder}" for folder in folders)]
+        given = None
+        if file.suffix == ".f":
+            made = subprocess.run([str(tools / "bin/f2c"), "-A", "-w", f"-I{file.parent}"], stdin=open(file, "rb"), capture_output=True, cwd=file.parent)
+            if made.returncode:
+                return ""
+            words, given = [*words, "-x", "c", "-"], made.stdout
+        else:
+            words.append(str(file))
+        try:
+            done = subprocess.run(words, input=given, capture_output=True, timeout=SECONDS)
+        except subprocess.TimeoutExpired:
+            return ""
+        return "" if done.returncode else done.stdout.decode("latin-1")
+
+
+def spread(files, count):
+    """So many of the files, evenly spread; all of them if there is no count."""
+    files = sorted(files)
+    if not count or len(files) <= count:
+        return files
+    return [files[n * len(files) // count] for n in range(count)]
