@@ -1,6 +1,6 @@
 -- To be believed: what is made of answers to the blocks of a source that are shown, and how it ends.
-use Rattle.std.specs.Prelude.{ℕ, ◌+◌, ◌≡◌, ◌==◌, if◌then◌else◌, Bool, List, [], ◌∷◌, ◌++◌, Ok, Option}
-use Rattle.s66_isa.specs.Lists.{every}
+use Rattle.std.specs.Prelude.{ℕ, ◌+◌, ◌≡◌, ◌==◌, if◌then◌else◌, Bool, true, false, List, [], ◌∷◌, ◌++◌, Ok, Option, length}
+use Rattle.s66_isa.specs.Lists.{weigh}
 use Rattle.s66_isa.specs.declared.profile.Profile.{Profile}
 use Rattle.s66_line.specs.Block.{Block}
 use Rattle.s66_source.specs.LeftAlone.{Reading}
@@ -11,13 +11,21 @@ use Rattle.s66_answer.specs.declared.outcome.Status.{Status}
 use Rattle.s66_answer.specs.declared.outcome.Status.TheVariants.{Done, Bounded}
 use Rattle.s66_answer.specs.Shown.{shown}
 
--- each is best: its time is its bound
-abbrev pub all_best : List Answer → Bool
-all_best answers = every (λ (a : Answer). a.bound == a.time) answers
+-- an answer that isn't best counts as one that is only bounded
+abbrev pub bounded_if : (is_best : Bool) → ℕ
+bounded_if true = 0
+bounded_if false = 1
 
--- done if each answer is best
+-- how many aren't best; of one that is, the time is the bound
+abbrev pub count_bounded : List Answer → ℕ
+count_bounded answers = weigh (λ (a : Answer). bounded_if (a.bound == a.time)) answers
+
+-- done if each is best, of so many that aren't and of so many answers
+abbrev pub status_by : (bounded of : ℕ) → Status
+status_by bounded of = if bounded == 0 then Done else Bounded bounded of
+
 abbrev pub status_of : List Answer → Status
-status_of answers = if all_best answers then Done else Bounded
+status_of answers = status_by (count_bounded answers) (length answers)
 
 -- the parts of answers to these blocks, before which n come, one after the other
 abbrev pub all_parts : {X : Type 0} → (ℕ → Block → Answer → List X) → ℕ → List Block → List Answer → List X

@@ -6,5 +6,5 @@ use Rattle.s66_answer.specs.declared.outcome.Status.TheVariants.{Done, Denied, B
 abbrev pub status_code : Status → ℕ
 status_code Done = 0
 status_code Denied = 5
-status_code Bounded = 7
+status_code (Bounded blocks of) = 7
 status_code Listed = 8

@@ -54,7 +54,7 @@ pub fn keep_answers<
     let kept = keep_each(rt, &searches, observer)?;
     Ok(Answered {
         parts: kept.parts,
-        status: status_by(kept.all_best),
+        status: status_by(kept.bounded, blocks.len()),
     })
 }
 

@@ -3,7 +3,8 @@ ghost use Rattle.s66_isa.specs.declared.profile.Profile.{Profile as ProfileOf};
 ghost use Rattle.s66_line.specs.Block.{Block as BlockOf};
 ghost use Rattle.s66_command.specs.declared.strategy.Strategy.{Strategy as StrategyOf};
 ghost use Rattle.s66_answer.specs.Answers.{Answer as AnswerOf};
-ghost use Rattle.s66_answer.specs.Kept.{AreKept, IsKept, IsKeptAt, are_best, parts_in};
+ghost use Rattle.s66_answer.specs.Kept.{AreKept, IsKept, IsKeptAt, bounded_in, parts_in};
+ghost use Rattle.s66_answer.specs.OfAnswers.{bounded_if};
 ghost use Rattle.s66_answer.specs.SearchWithin.{IsSearchWithin};
 ghost use Rattle.s66_answer.specs.Stored.{IsFor, answer_in};
 
@@ -45,11 +46,18 @@ pub trait Keep<X> {
             (answer_in answer.entry.found)) };
 }
 
-/// What is kept of answers to blocks, one after the other, and whether all are best.
+/// What is kept of an answer, and whether it is best.
+#[derive(Drop)]
+pub(crate) struct KeptBlock<X> {
+    pub parts: Vec<X>,
+    pub is_best: bool,
+}
+
+/// What is kept of answers to blocks, one after the other, and how many of them aren't best.
 #[derive(Drop)]
 pub(crate) struct Kept<X> {
     pub parts: Vec<X>,
-    pub all_best: bool,
+    pub bounded: usize,
 }
 
 /// The searches of blocks, before which so many come, and what is kept of their answers.
@@ -95,7 +103,7 @@ fn keep_found<X: Drop, K: Keep<X>>(
 fn kept_at<X: Drop, K: Keep<X>>(
     searches: &Searches<'_, '_, K>,
     place: usize,
-) -> Result<Kept<X>, AllocError>
+) -> Result<KeptBlock<X>, AllocError>
     requires search { IsSearchWithin searches.now.strategy.search }
     requires deep { searches.now.strategy.deep ≡ true }
     requires before { searches.now.before < 2 ^ 32 }
@@ -113,38 +121,46 @@ fn kept_at<X: Drop, K: Keep<X>>(
         prints,
     )?;
     let mut parts = Vec::new(searches.alloc);
-    let all_best = keep_found(searches, &mut parts, place, block, found)?;
-    Ok(Kept { parts, all_best })
+    let is_best = keep_found(searches, &mut parts, place, block, found)?;
+    Ok(KeptBlock { parts, is_best })
 }
 
-impl<'s, 'b, X: Drop, K: Keep<X>> Task<Kept<X>> for Searches<'s, 'b, K> {
+impl<'s, 'b, X: Drop, K: Keep<X>> Task<KeptBlock<X>> for Searches<'s, 'b, K> {
     ghost accepts = { λ t i. (i < length t.blocks.now) × (t.before < 2 ^ 32) ×
         IsSearchWithin t.strategy.search × (t.strategy.deep ≡ true) };
 
     ghost gives = { λ t i kept. IsKeptAt (K.part t.what.now t.strategy t.profile.now) t.strategy t.profile.now t.before
         t.blocks.now i kept };
 
-    fn make(&self, number: usize) -> Result<Kept<X>, AllocError> {
+    fn make(&self, number: usize) -> Result<KeptBlock<X>, AllocError> {
         kept_at(self, number)
     }
 }
 
+/// So many, and one more if an answer isn't best.
+fn counted(bounded: usize, is_best: bool) -> usize
+    requires { bounded < 2 ^ 63 }
+    ensures { result ≡ bounded + bounded_if is_best }
+{
+    if is_best { bounded } else { bounded + 1 }
+}
+
 /// What was kept of each block, one after the other.
-fn joined<X: Drop>(alloc: Global, each: Vec<Kept<X>>) -> Result<Kept<X>, AllocError>
+fn joined<X: Drop>(alloc: Global, each: Vec<KeptBlock<X>>) -> Result<Kept<X>, AllocError>
     ensures parts { IfOk result (λ all. all.parts.items ≡ parts_in each.items) }
-    ensures best { IfOk result (λ all. all.all_best ≡ are_best each.items) }
+    ensures bounded { IfOk result (λ all. all.bounded ≡ bounded_in each.items) }
 {
     let mut parts = Vec::new(alloc);
-    let mut all_best = true;
+    let mut bounded = 0;
     for kept in each {
-        let Kept {
+        let KeptBlock {
             parts: mut own,
-            all_best: best,
+            is_best,
         } = kept;
         parts.append(&mut own)?;
-        all_best = all_best && best;
+        bounded = counted(bounded, is_best);
     }
-    Ok(Kept { parts, all_best })
+    Ok(Kept { parts, bounded })
 }
 
 /// Searches the orders of blocks side by side, with facts, each by one thread.
@@ -159,7 +175,7 @@ fn keep_side_by_side<
     requires before { searches.now.before < 2 ^ 32 }
     ensures { let s = searches.now in IfOk result
         (λ all. AreKept (K.part s.what.now s.strategy s.profile.now) s.strategy s.profile.now s.before s.blocks.now
-        all.parts.items all.all_best) }
+        all.parts.items all.bounded) }
 {
     let alloc = searches.alloc;
     let count = searches.blocks.len();
@@ -179,18 +195,18 @@ fn keep_in_turn<R: AllocGlobal + Threads + Wait + Sync, X: Drop, K: Keep<X>, O: 
     requires before { searches.now.before < 2 ^ 32 }
     ensures { let s = searches.now in IfOk result
         (λ all. AreKept (K.part s.what.now s.strategy s.profile.now) s.strategy s.profile.now s.before s.blocks.now
-        all.parts.items all.all_best) }
+        all.parts.items all.bounded) }
 {
     let blocks = searches.blocks;
     let mut parts = Vec::new(searches.alloc);
-    let mut all_best = true;
+    let mut bounded = 0;
     for (done, block) in blocks.iter().enumerate() {
         observer.done(done, blocks.len());
         let found = answer_to(rt, block, searches.profile, searches.strategy)?;
-        let best = keep_found(searches, &mut parts, done, block, found)?;
-        all_best = all_best && best;
+        let is_best = keep_found(searches, &mut parts, done, block, found)?;
+        bounded = counted(bounded, is_best);
     }
-    Ok(Kept { parts, all_best })
+    Ok(Kept { parts, bounded })
 }
 
 /// What is kept of an answer to each block. With facts the blocks are searched side by side, each by one thread; else one after the
@@ -205,7 +221,7 @@ pub(crate) fn keep_each<
     requires before { searches.now.before < 2 ^ 32 }
     ensures { let s = searches.now in IfOk result
         (λ all. AreKept (K.part s.what.now s.strategy s.profile.now) s.strategy s.profile.now s.before s.blocks.now
-        all.parts.items all.all_best) }
+        all.parts.items all.bounded) }
 {
     if searches.strategy.deep {
         keep_side_by_side(rt, searches, observer)

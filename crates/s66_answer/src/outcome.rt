@@ -1,5 +1,5 @@
-ghost use Rattle.std.specs.Prelude.{◌≡◌, if◌then◌else◌};
-ghost use Rattle.s66_answer.specs.declared.outcome.Status.TheVariants.{Done, Bounded};
+ghost use Rattle.std.specs.Prelude.{◌≡◌};
+ghost use Rattle.s66_answer.specs.OfAnswers.{status_by};
 
 /// How a command that wrote all its text ended.
 #[derive(Clone, Copy, Debug, PartialEq, Eq)]
@@ -7,8 +7,8 @@ pub enum Status {
     Done,
     /// What the input claims was found wrong.
     Denied,
-    /// A bound on the work was met before the end.
-    Bounded,
+    /// Of so many blocks so many are only bounded: what they were given to search was spent before the end.
+    Bounded { blocks: usize, of: usize },
     /// Something may be wrong with the input, and nothing is refused.
     Listed,
 }
@@ -31,19 +31,22 @@ impl Status {
         match self {
             Status::Done => 0,
             Status::Denied => 5,
-            Status::Bounded => 7,
+            Status::Bounded { .. } => 7,
             Status::Listed => 8,
         }
     }
 }
 
-/// Done if all orders are best.
-pub(crate) fn status_by(all_best: bool) -> Status
-    ensures { result ≡ (if all_best then Done else Bounded) }
+/// Done if all orders are best, of so many that aren't and of so many in all.
+pub(crate) fn status_by(bounded: usize, of: usize) -> Status
+    ensures { result ≡ status_by bounded of }
 {
-    if all_best {
+    if bounded == 0 {
         Status::Done
     } else {
-        Status::Bounded
+        Status::Bounded {
+            blocks: bounded,
+            of,
+        }
     }
 }

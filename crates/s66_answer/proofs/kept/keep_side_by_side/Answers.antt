@@ -1,5 +1,5 @@
 use Rattle.std.proofs.Common.{subst, sym}
-use Rattle.s66_answer.specs.Kept.{AreKept, are_best}
+use Rattle.s66_answer.specs.Kept.{AreKept, bounded_in}
 use Rattle.s66_answer.proofs.KeptParts.{kept-each}
 use Rattle.s66_answer.proofs.kept.keep_side_by_side.Goals as goal
 
@@ -12,6 +12,6 @@ returns g c =
     let blocks = s.blocks.now in
     let each = c.in_ok-each.each.items in
     let all = c.in_ok-all.all in
-    subst (AreKept part s.strategy p n blocks all.parts.items) (sym c.in_ok-all.ensures.best)
-    (subst (λ xs. AreKept part s.strategy p n blocks xs (are_best each)) (sym c.in_ok-all.ensures.parts)
+    subst (AreKept part s.strategy p n blocks all.parts.items) (sym c.in_ok-all.ensures.bounded)
+    (subst (λ xs. AreKept part s.strategy p n blocks xs (bounded_in each)) (sym c.in_ok-all.ensures.parts)
     (kept-each part s.strategy p n blocks each c.in_ok-each.ensures.count c.in_ok-each.ensures.made))
