@@ -1,5 +1,5 @@
 -- To be believed: the loops of a source that branches behind its blocks close, and how many words each takes.
-use Rattle.std.specs.Prelude.{ℕ, suc, Bool, true, false, ◌+◌, ◌-◌, ◌*◌, ◌||◌, ◌==◌, if◌then◌else◌, List, [], ◌∷◌, Option, None, Some, drop, get_or, nat_lt, reverse, slice_get, take}
+use Rattle.std.specs.Prelude.{ℕ, suc, Bool, true, false, not, ◌+◌, ◌-◌, ◌*◌, ◌||◌, ◌==◌, if◌then◌else◌, List, [], ◌∷◌, Option, None, Some, drop, get_or, nat_lt, reverse, slice_get, take}
 use Rattle.s66_isa.specs.Table.{numbers}
 use Rattle.s66_line.specs.Block.{Block, instrs_of}
 use Rattle.s66_model.specs.Packing.{fits_at}
@@ -62,13 +62,16 @@ loop_through o place parts =
 
 -- WHERE A LOOP BEGINS
 
--- of the parts before a branch, the nearest first, those from the nearest with this name on, if a loop may go through all of them:
--- how many they are, after so many, and how many of them are blocks
+-- of the parts before a branch, the nearest first, those from the nearest with this name on, if a loop may go through all of them, that
+-- one too: how many they are, after so many, and how many of them are blocks
 abbrev pub start_before : (name : List ℕ) (parts blocks : ℕ) → List FramePart → Option Start
 start_before name parts blocks [] = None
 start_before name parts blocks (p ∷ earlier) =
+    if not (passes p) then None
+    else (
     if is_same (name_of p) name then Some (record { parts = suc parts; blocks = counted blocks p })
-    else (if passes p then start_before name (suc parts) (counted blocks p) earlier else None)
+    else start_before name (suc parts) (counted blocks p) earlier
+    )
 
 -- the parts from a place to before another one
 abbrev pub between : (from to : ℕ) → List FramePart → List FramePart

@@ -115,13 +115,13 @@ fn start_before(earlier: &[FramePart], name: &[u8]) -> Option<Start>
     let mut parts = 0;
     let mut blocks = 0;
     while let [before @ .., part] = rest {
+        if !passes(part) {
+            return None;
+        }
         parts += 1;
         blocks = counted(blocks, part);
         if is_same(name_of(part), name) {
             return Some(Start { parts, blocks });
-        }
-        if !passes(part) {
-            return None;
         }
         rest = before;
     }

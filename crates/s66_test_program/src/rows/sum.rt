@@ -181,6 +181,13 @@ pub(crate) const ROWS: &[Row] = &[
         "BLOCK 1 LINE 1 COUNT 1 SOURCE 4 TIME 4 BEST MOVED 0 WORDS 1 FOUND 1\nBLOCK 2 LINE 3 COUNT 1 SOURCE 4 TIME 4 BEST MOVED 0 WORDS 1 FOUND 1 ENTRY L\nBLOCK 3 LINE 5 COUNT 1 SOURCE 4 TIME 4 BEST MOVED 0 WORDS 1 FOUND 1\nTOTAL BLOCKS 3 SOURCE 12 TIME 12 BEST 3 MOVED 0 WORDS 3 FOUND 3\n",
     ),
     (
+        "a return to the entry of a routine closes no loop",
+        &["s66", "sum", "--workers", "1", "--words"],
+        "SUB PS\n  BX7 X1\n  ZR X1,SUB\nL BX6 X1\n  NZ X6,L\n  EQ SUB\n",
+        0,
+        "BLOCK 1 LINE 2 COUNT 1 SOURCE 4 TIME 4 BEST MOVED 0 WORDS 1 FOUND 1 ENTRY SUB\nBLOCK 2 LINE 4 COUNT 1 SOURCE 4 TIME 4 BEST MOVED 0 WORDS 1 FOUND 1 LOOP ENTRY L\nTOTAL BLOCKS 2 SOURCE 8 TIME 8 BEST 2 MOVED 0 WORDS 2 FOUND 2\n",
+    ),
+    (
         "a loop of a word less, with a branch out of it before the one that closes it",
         &["s66", "sum", "--deep", "--words"],
         "L SB5 B1+B2\n  SB4 7\n  SB3 B3+1\n  BX6 X1\n  SA1 A1+100\n  ZR X1,OUT\n  NZ X2,L\n",
