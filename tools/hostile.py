@@ -29,7 +29,7 @@ MOST_FACTS, MOST, MEGABYTE_SECONDS = 4096, 128, 30
 GIGABYTE = 1 << 30
 # the second lines after a source that is refused, and after what is no certificate
 LISTED, LONG = b"s66 lint lists all such lines, --cut leaves them alone\n", b"a line has at most 200 bytes; s66 lint lists all that have more\n"
-MANY, PROVED = b"a source has at most 20000 lines\n", b"s66 check reads what s66 prove prints\n"
+MANY, PROVED = b"a source has at most 20000 lines; s66 order --quiet adds none\n", b"s66 check reads what s66 prove prints\n"
 CHUNK = 1 << 20
 TRUNCATED = (3, b"", b"TRUNCATED\n" + PROVED)
 

@@ -7,13 +7,15 @@ use Rattle.s66_answer.specs.StatusCode.{status_code}
 use Rattle.s66_program.specs.declared.fault.Fault.{Fault}
 use Rattle.s66_program.specs.declared.fault.Fault.TheVariants.{Memory, Profile, Write}
 use Rattle.s66_program.specs.declared.remark.Ended.{Ended}
+use Rattle.s66_command.specs.declared.command.Command.{Command}
 use Rattle.s66_command.specs.declared.usage.Usage.{Usage}
 use Rattle.s66_command.specs.declared.usage.Usage.TheVariants.{Help, Bad, OutOfMemory}
+use Rattle.s66_command.specs.CommandParts.{profile_text}
 use Rattle.s66_command.specs.Usage.{usage_code}
 use Rattle.s66_program.specs.Device.{Tells}
 use Rattle.s66_program.specs.Hints.{hint_of}
 use Rattle.s66_program.specs.Fault.{fault_code, fault_line}
-use Rattle.s66_program.specs.Remarks.{IsTold, remark_text}
+use Rattle.s66_program.specs.Remarks.{IsTold, told_text}
 
 -- the line of a fault was printed, and the status is the fault's
 abbrev pub EndsAt : Fault → Writer → Writer → ℕ → Type 0
@@ -23,12 +25,16 @@ EndsAt fault errors errors' status = Tells errors errors' (fault_line fault ++ c
 abbrev pub EndsWith : List ℕ → Fault → Writer → Writer → ℕ → Type 0
 EndsWith hint fault errors errors' status = Tells errors errors' ((fault_line fault ++ codes "\n") ++ hint) × (status ≡ fault_code fault)
 
--- what the result of a command, which asks for a profile of this text, leaves of standard error, and the status; if memory runs out for
--- what is wrong with the profile, that is told in its place
-abbrev pub EndsBy : Option (List ℕ) → Result Ended Fault → Writer → Writer → ℕ → Type 0
-EndsBy profile (Ok ended) errors errors' status = IsTold (remark_text ended.remark) errors errors' × (status ≡ status_code ended.status)
-EndsBy profile (Err fault) errors errors' status =
+-- what a fault leaves of standard error, where a profile of this text was asked for; if memory runs out for what is wrong with the
+-- profile, that is told in its place
+abbrev pub EndsByFault : (profile : Option (List ℕ)) → Fault → Writer → Writer → ℕ → Type 0
+EndsByFault profile fault errors errors' status =
     EndsWith (hint_of profile fault) fault errors errors' status ⊎ ((fault ≡ Profile) × EndsAt Memory errors errors' status)
+
+-- what the result of a command leaves of standard error, and the status
+abbrev pub EndsBy : Command → Result Ended Fault → Writer → Writer → ℕ → Type 0
+EndsBy command (Ok ended) errors errors' status = IsTold (told_text command ended) errors errors' × (status ≡ status_code ended.status)
+EndsBy command (Err fault) errors errors' status = EndsByFault (profile_text command) fault errors errors' status
 
 -- help goes to the writer, which may fail, a mistake to the writer for what goes wrong
 abbrev pub ShowsUsage : Usage → Writer → Writer → Writer → Writer → ℕ → Type 0

@@ -11,7 +11,7 @@ use Rattle.s66_command.specs.ProfileHint.{hint_in_text}
 abbrev pub source_way_out : SourceError → List ℕ
 source_way_out (BadOperand line) = codes "s66 lint lists all such lines, --cut leaves them alone\n"
 source_way_out (LineTooLong line) = codes "a line has at most 200 bytes; s66 lint lists all that have more\n"
-source_way_out TooLarge = codes "a source has at most 20000 lines\n"
+source_way_out TooLarge = codes "a source has at most 20000 lines; s66 order --quiet adds none\n"
 source_way_out OutOfMemory = []
 
 -- with its newline; nothing if there is none

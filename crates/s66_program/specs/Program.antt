@@ -5,7 +5,6 @@ use Rattle.s66_command.specs.declared.command.Command.{Command}
 use Rattle.s66_program.specs.declared.fault.Fault.{Fault}
 use Rattle.s66_program.specs.declared.remark.Ended.{Ended}
 use Rattle.s66_command.specs.declared.usage.Usage.{Usage}
-use Rattle.s66_command.specs.CommandParts.{profile_text}
 use Rattle.s66_program.specs.Ends.{EndsBy, ShowsUsage}
 use Rattle.s66_program.specs.Run.{IsOutcome}
 use Rattle.s66_command.specs.Usage.{Asks, Refuses, Text}
@@ -14,7 +13,7 @@ use Rattle.s66_command.specs.Usage.{Asks, Refuses, Text}
 abbrev pub RunsCommand : List Text → Reader → Reader → Writer → Writer → Writer → Writer → ℕ → Type 0
 RunsCommand words reader reader' writer writer' errors errors' status =
     (command : Command) × Asks words command
-    × ((result : Result Ended Fault) × IsOutcome command reader reader' writer writer' result × EndsBy (profile_text command) result errors errors' status)
+    × ((result : Result Ended Fault) × IsOutcome command reader reader' writer writer' result × EndsBy command result errors errors' status)
 
 -- the words give none, which was printed, and nothing was read
 abbrev pub RefusesWords : List Text → Reader → Reader → Writer → Writer → Writer → Writer → ℕ → Type 0

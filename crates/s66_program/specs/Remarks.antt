@@ -1,5 +1,5 @@
 -- To be believed: what is told of an input after a success, what standard error gets of that, and the status by it.
-use Rattle.std.specs.Prelude.{ℕ, ◌≡◌, ◌==◌, ◌&&◌, Bool, true, false, if◌then◌else◌, List, [], ◌∷◌, ◌++◌, Option, None, Some, Result, Ok, Err, codes, decimal, length, nat_lt, option_map}
+use Rattle.std.specs.Prelude.{ℕ, ◌≡◌, ◌==◌, ◌&&◌, Bool, true, false, if◌then◌else◌, List, [], ◌∷◌, ◌++◌, Option, None, Some, Result, Ok, Err, codes, decimal, length, nat_lt, option_map, unwrap_or}
 use Rattle.std.specs.Option.{is_some}
 use Rattle.s66_device.specs.Devices.{IsUntouched, Writer}
 use Rattle.s66_line.specs.Block.{Block}
@@ -15,9 +15,11 @@ use Rattle.s66_command.specs.declared.command.Asked.{Asked}
 use Rattle.s66_command.specs.declared.command.Asked.TheVariants.{Guard}
 use Rattle.s66_command.specs.declared.command.Reads.{Reads}
 use Rattle.s66_command.specs.declared.command.Reads.TheVariants.{Documents, Sources}
+use Rattle.s66_command.specs.declared.strategy.Strategy.{Strategy}
 use Rattle.s66_command.specs.CommandParts.{reads_cut, reads_of, strategy_of}
 use Rattle.s66_answer.specs.declared.outcome.Status.{Status}
-use Rattle.s66_answer.specs.declared.outcome.Status.TheVariants.{Denied, Done, Listed}
+use Rattle.s66_answer.specs.declared.outcome.Status.TheVariants.{Bounded, Denied, Done, Listed}
+use Rattle.s66_program.specs.declared.remark.Ended.{Ended}
 use Rattle.s66_program.specs.declared.remark.Missing.{Missing}
 use Rattle.s66_program.specs.declared.remark.Missing.TheVariants as missing
 use Rattle.s66_program.specs.declared.remark.Remark.{Remark}
@@ -63,6 +65,21 @@ missing_line missing.Documents = codes "no document: s66 check reads what s66 pr
 
 abbrev pub remark_text : Remark → List ℕ
 remark_text r = missing_line r.missing ++ listed_line r.cut r.listed ++ regions_line r.regions r.lines
+
+-- it asks for a search by facts
+abbrev pub is_deep : Command → Bool
+is_deep command = unwrap_or (option_map (λ (s : Strategy). s.deep) (strategy_of command.asked)) false
+
+-- that so many of so many blocks are only bounded, and what may decide them
+abbrev pub bounded_line : Status → List ℕ
+bounded_line (Bounded blocks of) =
+    decimal blocks ++ codes " of " ++ decimal of ++ (if of == 1 then codes " block" else codes " blocks")
+    ++ (if blocks == 1 then codes " is only bounded; --deep may decide it\n" else codes " are only bounded; --deep decides most of these\n")
+bounded_line status = []
+
+-- what is told of the input, and without `--deep` of what is only bounded
+abbrev pub told_text : Command → Ended → List ℕ
+told_text command ended = remark_text ended.remark ++ (if is_deep command then [] else bounded_line ended.status)
 
 -- a text was printed; without one the writer isn't called
 abbrev pub IsTold : List ℕ → Writer → Writer → Type 0

@@ -1,7 +1,8 @@
 //! What is told after a success, worked: contracts of a function that does nothing.
 
 ghost use Rattle.std.specs.Prelude.{true, false, [], ◌≡◌, ◌++◌, codes};
-ghost use Rattle.s66_program.specs.Remarks.{remark_text};
+ghost use Rattle.s66_answer.specs.declared.outcome.Status.TheVariants.{Bounded, Done};
+ghost use Rattle.s66_program.specs.Remarks.{bounded_line, remark_text};
 ghost use Rattle.s66_program.specs.declared.remark.Missing.TheVariants as missing;
 
 /// What is told of an input that lacks something or nothing, by how many lines `lint` lists, and of one with switches around regions.
@@ -29,4 +30,9 @@ pub fn remark_examples()
         codes "1 place with 1 line is left alone\n" }
     ensures one_region_of_several { remark_text (record { missing = missing.Nothing; cut = true; listed = 0; regions = 1; lines = 2 }) ≡
         codes "1 place with 2 lines is left alone\n" }
+    ensures none_bounded { bounded_line Done ≡ [] }
+    ensures one_bounded { bounded_line (Bounded 1 1) ≡ codes "1 of 1 block is only bounded; --deep may decide it\n" }
+    ensures one_of_several { bounded_line (Bounded 1 12) ≡ codes "1 of 12 blocks is only bounded; --deep may decide it\n" }
+    ensures several_bounded { bounded_line (Bounded 112 1243) ≡
+        codes "112 of 1243 blocks are only bounded; --deep decides most of these\n" }
 {}

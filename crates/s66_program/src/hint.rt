@@ -20,7 +20,7 @@ fn source_way_out(refusal: SourceError) -> &'static [u8]
         SourceError::LineTooLong { .. } => {
             b"a line has at most 200 bytes; s66 lint lists all that have more\n"
         }
-        SourceError::TooLarge => b"a source has at most 20000 lines\n",
+        SourceError::TooLarge => b"a source has at most 20000 lines; s66 order --quiet adds none\n",
         SourceError::OutOfMemory => &[],
     }
 }

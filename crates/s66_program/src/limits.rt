@@ -15,7 +15,7 @@ pub const FEED_ROOM: usize = 65_536;
 pub(crate) const LOOP_LIMIT: usize = 100;
 
 /// How many bytes there is room for of what is told after a success.
-pub(crate) const REMARK_ROOM: usize = 256;
+pub(crate) const REMARK_ROOM: usize = 384;
 
 // a block has a line of its own at least
 const _: () = prove!(SOURCE_LINES_LIMIT == BLOCK_NUMBER_LIMIT);

@@ -33,7 +33,7 @@ pub fn run_program<
         Err(usage) => return show_usage(&usage, writer, errors),
     };
     match run_command(rt, command, reader, writer, observer) {
-        Ok(ended) => tell_end(errors, &ended),
+        Ok(ended) => tell_end(errors, command, &ended),
         Err(fault) => tell_failure(rt.alloc(), errors, command.profile, fault),
     }
 }

@@ -3,7 +3,7 @@ ghost use Rattle.s66_command.specs.CommandParts.{reads_cut, reads_of};
 ghost use Rattle.s66_command.specs.declared.command.Reads.TheVariants as reads;
 ghost use Rattle.s66_source.specs.Source.{source_of};
 ghost use Rattle.s66_program.specs.Output.{shows_blocks, source_in};
-ghost use Rattle.s66_program.specs.Remarks.{IsCount, IsRemark, counted_source, found_words, lines_word, lint_words, listed_line, missing_line, missing_of_documents, missing_of_source, prints_orders, raised, regions_line, without_block, without_blocks};
+ghost use Rattle.s66_program.specs.Remarks.{IsCount, IsRemark, bounded_line, counted_source, found_words, is_deep, lines_word, lint_words, listed_line, missing_line, missing_of_documents, missing_of_source, prints_orders, raised, regions_line, without_block, without_blocks};
 ghost use Rattle.s66_program.specs.declared.remark.Missing.TheVariants as missing;
 
 use crate::limits::REMARK_ROOM;
@@ -156,7 +156,8 @@ fn push_listed(text: &mut ArrayString<REMARK_ROOM>, cut: bool, count: usize)
 /// How many regions `guard` put between switches, if it did so, and how many lines they have.
 fn push_regions(text: &mut ArrayString<REMARK_ROOM>, regions: usize, lines: usize)
     requires { length text.old.bytes ≤ 158 }
-    ensures { text.new.bytes ≡ text.old.bytes ++ regions_line regions lines }
+    ensures text { text.new.bytes ≡ text.old.bytes ++ regions_line regions lines }
+    ensures short { length text.new.bytes ≤ 233 }
 {
     if regions == 0 {
         return;
@@ -173,13 +174,74 @@ impl Remark {
     ghost use Rattle.std.specs.Prelude.{◌≡◌};
     ghost use Rattle.s66_program.specs.Remarks.{remark_text};
 
-    /// The lines that standard error gets, each with its newline.
-    pub fn text(&self) -> ArrayString<REMARK_ROOM>
-        ensures { result.bytes ≡ remark_text self.now }
+    /// The lines that standard error gets of an input, each with its newline.
+    fn text(&self) -> ArrayString<REMARK_ROOM>
+        ensures text { result.bytes ≡ remark_text self.now }
+        ensures short { length result.bytes ≤ 233 }
     {
         let mut text = missing_line(self.missing);
         push_listed(&mut text, self.cut, self.listed);
         push_regions(&mut text, self.regions, self.lines);
+        text
+    }
+}
+
+/// Whether a command asks for a search by facts.
+fn is_deep(command: Command) -> bool
+    ensures { result ≡ is_deep command.entry }
+{
+    match command.asked.strategy() {
+        Some(strategy) => strategy.deep,
+        None => false,
+    }
+}
+
+fn blocks_word(count: usize) -> &'static str
+    ensures text { result.now ≡ (if count == 1 then codes " block" else codes " blocks") }
+    ensures short { length result.now ≤ 7 }
+{
+    if count == 1 { " block" } else { " blocks" }
+}
+
+/// What may decide so many blocks that are only bounded.
+fn bounded_end(count: usize) -> &'static str
+    ensures text { result.now ≡ (if count == 1 then codes " is only bounded; --deep may decide it\n" else codes " are only bounded; --deep decides most of these\n") }
+    ensures short { length result.now ≤ 49 }
+{
+    if count == 1 {
+        " is only bounded; --deep may decide it\n"
+    } else {
+        " are only bounded; --deep decides most of these\n"
+    }
+}
+
+/// That blocks are only bounded, if some are.
+fn push_bounded(text: &mut ArrayString<REMARK_ROOM>, status: Status)
+    requires { length text.old.bytes ≤ 233 }
+    ensures { text.new.bytes ≡ text.old.bytes ++ bounded_line status }
+{
+    if let Status::Bounded { blocks, of } = status {
+        let mut digits = Buffer::new();
+        text.push_str(digits.format(blocks));
+        text.push_str(" of ");
+        text.push_str(digits.format(of));
+        text.push_str(blocks_word(of));
+        text.push_str(bounded_end(blocks));
+    }
+}
+
+impl Ended {
+    ghost use Rattle.std.specs.Prelude.{◌≡◌};
+    ghost use Rattle.s66_program.specs.Remarks.{told_text};
+
+    /// The lines that standard error gets after a command, each with its newline.
+    pub fn text(&self, command: Command) -> ArrayString<REMARK_ROOM>
+        ensures { result.bytes ≡ told_text command.entry self.now }
+    {
+        let mut text = self.remark.text();
+        if !is_deep(command) {
+            push_bounded(&mut text, self.status);
+        }
         text
     }
 }

@@ -1,15 +1,15 @@
-ghost use Rattle.std.specs.Prelude.{◌≡◌, ◌-◌, ◌^◌, ◌<◌, ◌++◌, Err, IfOk, codes, option_map, string_bytes};
+ghost use Rattle.std.specs.Prelude.{◌≡◌, ◌-◌, ◌^◌, ◌<◌, ◌++◌, IfOk, codes, option_map, string_bytes};
 ghost use Rattle.s66_command.specs.ProfileHint.{hint_in_text};
 ghost use Rattle.s66_answer.specs.StatusCode.{status_code};
 ghost use Rattle.std.specs.IoError.{error_kind};
 ghost use Rattle.s66_program.specs.Device.{Tells};
-ghost use Rattle.s66_program.specs.Ends.{EndsAt, EndsBy, EndsWith, LacksWords, ShowsUsage};
-ghost use Rattle.s66_program.specs.Remarks.{IsTold, remark_text};
+ghost use Rattle.s66_program.specs.Ends.{EndsAt, EndsByFault, EndsWith, LacksWords, ShowsUsage};
+ghost use Rattle.s66_program.specs.Remarks.{IsTold, told_text};
 
 use crate::fault::Fault;
 use crate::hint::way_out;
 use crate::remark::Ended;
-use s66_command::{Usage, profile_hint};
+use s66_command::{Command, Usage, profile_hint};
 use s66_device::{Sink, write_all};
 use std::alloc::{AllocError, Global};
 use std::io;
@@ -61,7 +61,7 @@ pub fn tell_failure<S: Sink>(
     fault: Fault,
 ) -> u8
     requires { (S.seen errors.old).failures < 2 ^ 64 - 1 }
-    ensures { EndsBy (option_map (λ text. text.now) profile.entry) (Err fault) (S.seen errors.old)
+    ensures { EndsByFault (option_map (λ text. text.now) profile.entry) fault (S.seen errors.old)
         (S.seen errors.new) result }
 {
     match (fault, profile) {
@@ -85,12 +85,12 @@ fn tell_any<S: Sink>(errors: &mut S, text: &[u8])
 }
 
 /// Writes what is told of a command that wrote all its text, and returns the status.
-pub fn tell_end<S: Sink>(errors: &mut S, ended: &Ended) -> u8
+pub fn tell_end<S: Sink>(errors: &mut S, command: Command, ended: &Ended) -> u8
     requires { (S.seen errors.old).failures < 2 ^ 64 - 1 }
-    ensures told { IsTold (remark_text ended.now.remark) (S.seen errors.old) (S.seen errors.new) }
+    ensures told { IsTold (told_text command.entry ended.now) (S.seen errors.old) (S.seen errors.new) }
     ensures status { result ≡ status_code ended.now.status }
 {
-    tell_any(errors, ended.remark.text().as_bytes());
+    tell_any(errors, ended.text(command).as_bytes());
     ended.status.code()
 }
 

@@ -135,7 +135,7 @@ fn reads_an_end_at_the_last_call(rt: HostRuntime) {
         true,
         0,
         3,
-        b"TOO MANY LINES\na source has at most 20000 lines\n",
+        b"TOO MANY LINES\na source has at most 20000 lines; s66 order --quiet adds none\n",
     );
 }
 

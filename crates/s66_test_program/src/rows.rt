@@ -125,7 +125,7 @@ const REPEATED: &[(&str, &[&str], &str, usize, u8, &str)] = &[
         "*\n",
         20_001,
         3,
-        "TOO MANY LINES\na source has at most 20000 lines\n",
+        "TOO MANY LINES\na source has at most 20000 lines; s66 order --quiet adds none\n",
     ),
     ("20,000 lines, listed", LINT, "*\n", 20_000, 0, ""),
     (
@@ -142,7 +142,7 @@ const REPEATED: &[(&str, &[&str], &str, usize, u8, &str)] = &[
         "*\n",
         20_001,
         3,
-        "TOO MANY LINES\na source has at most 20000 lines\n",
+        "TOO MANY LINES\na source has at most 20000 lines; s66 order --quiet adds none\n",
     ),
     (
         "17,039,360 lines",
@@ -150,7 +150,7 @@ const REPEATED: &[(&str, &[&str], &str, usize, u8, &str)] = &[
         "\n",
         17_039_360,
         3,
-        "TOO MANY LINES\na source has at most 20000 lines\n",
+        "TOO MANY LINES\na source has at most 20000 lines; s66 order --quiet adds none\n",
     ),
 ];
 

@@ -25,7 +25,13 @@ fn check_order<R: AllocGlobal + Abort + Threads + Wait + Sync>(rt: &R, workers: 
     let order = order_by(workers, 10, Rule::NoneNamed);
     check_output(rt, order, MULTIPLIES, Status::Done, BEST_ORDER);
     let order = order_by(workers, 9, Rule::NoneNamed);
-    check_output(rt, order, MULTIPLIES, Status::Bounded, BOUNDED_ORDER);
+    check_output(
+        rt,
+        order,
+        MULTIPLIES,
+        Status::Bounded { blocks: 1, of: 1 },
+        BOUNDED_ORDER,
+    );
 }
 
 /// Checks what `prove` prints. If one split is missing, the workers' steps decide which node stays a leaf, but not what `check`
@@ -37,7 +43,7 @@ fn check_proof<R: AllocGlobal + Abort + Threads + Wait + Sync>(rt: &R, workers: 
     check_output(rt, prove, MULTIPLIES, Status::Done, THREE_MULTIPLIES);
     let prove = prove_by(workers, 9, Rule::NoneNamed);
     let (result, document) = run(rt, prove, MULTIPLIES.as_bytes());
-    assert_eq!(rt; result, Ok(Status::Bounded));
+    assert_eq!(rt; result, Ok(Status::Bounded { blocks: 1, of: 1 }));
     let (result, verdict) = run(rt, PLAIN_CHECK, document.as_slice());
     assert_eq!(rt; result, Ok(Status::Done));
     let yes = b"DOCUMENT 1 YES TIME 22 BOUND 17\n";

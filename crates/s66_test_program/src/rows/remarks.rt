@@ -12,6 +12,8 @@ const ONE_LINE: &str = "s66 lint lists 1 line that order may harm\n";
 
 const TWO_LINES: &str = "s66 lint lists 2 lines that order may harm\n";
 
+const ONE_BOUNDED: &str = "1 of 1 block is only bounded; --deep may decide it\n";
+
 const TWO_FINDINGS: &str =
     "s66 lint --cut lists 2 findings; s66 guard puts switches around the code\n";
 
@@ -145,7 +147,21 @@ pub(crate) const TOLD: &[(&str, &str, &str)] = &[
     (
         "one is told of a block that is only bounded",
         "order",
-        "s66 lint lists 1 line that order may harm\n",
+        "s66 lint lists 1 line that order may harm\n1 of 1 block is only bounded; --deep may decide it\n",
+    ),
+    ("the same without facts", "order", ONE_BOUNDED),
+    ("three multiplies, one split short", "order", ONE_BOUNDED),
+    ("three multiplies, one split short", "sum", ONE_BOUNDED),
+    (
+        "three multiplies twice, one split short",
+        "sum",
+        "2 of 2 blocks are only bounded; --deep decides most of these\n",
+    ),
+    ("three multiplies, why, one split short", "why", ONE_BOUNDED),
+    (
+        "three multiplies, one split short, page",
+        "page",
+        ONE_BOUNDED,
     ),
     (
         "an instruction in column 1",
