@@ -30,7 +30,7 @@ copied as a whole: its commands write nothing and have status 0. No other fence 
 
 The commands of a document run one after the other, in one folder of its own. At first that holds what a reader at the
 root of the repository has at hand: the script ./s66, with the program as it is built, and examples/. On the PATH s66 is
-the program itself.
+a link to the script, as README.md makes it.
 
 Names stand in backquotes outside of fences. The name of a file or folder may leave out folders in front, and a star or
 a word of capitals in it stands for any text. A name with a `_`, a `::` or a capital inside is that of a crate or of
@@ -110,7 +110,7 @@ def run(commands, program):
     with tempfile.TemporaryDirectory() as top:
         folder, bin = os.path.join(top, "s66"), os.path.join(top, "bin")
         os.mkdir(bin)
-        os.symlink(os.path.abspath(program), os.path.join(bin, "s66"))
+        os.symlink(os.path.join(folder, "s66"), os.path.join(bin, "s66"))
         shutil.copytree(os.path.join(ROOT, "examples"), os.path.join(folder, "examples"))
         put_script(folder, program)
         told = 'status=$?; printf "\\036%s\\036" $status; (exit $status)\n'

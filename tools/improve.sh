@@ -93,7 +93,7 @@ improve_file() {
     accept_new "$@" || return
     [ "$ordered" -eq 0 ] || saved="$saved; some block may be faster still"
     if [ "$mode" = print ]; then
-        print_new || return 6
+        print_new || { tell_unwritten; return 6; }
         return "$ordered"
     fi
     last=0
@@ -107,7 +107,7 @@ improve_file() {
         }
         ;;
     esac
-    printf '%s: %s\n' "$name" "$saved" 2>/dev/null || last=6
+    printf '%s: %s\n' "$name" "$saved" 2>/dev/null || { tell_unwritten; last=6; }
     return "$last"
 }
 
