@@ -1,4 +1,4 @@
-ghost use Rattle.std.specs.Prelude.{◌≡◌, ◌<◌, ◌^◌, ◌+◌, ◌++◌, ℕ, List, true, IfOk, OnOk, length};
+ghost use Rattle.std.specs.Prelude.{◌≡◌, ◌≤◌, ◌<◌, ◌^◌, ◌+◌, ◌++◌, ℕ, List, true, IfOk, OnOk, length};
 ghost use Rattle.s66_isa.specs.declared.profile.Profile.{Profile as ProfileOf};
 ghost use Rattle.s66_line.specs.Block.{Block as BlockOf};
 ghost use Rattle.s66_command.specs.declared.strategy.Strategy.{Strategy as StrategyOf};
@@ -140,7 +140,8 @@ impl<'s, 'b, X: Drop, K: Keep<X>> Task<KeptBlock<X>> for Searches<'s, 'b, K> {
 /// So many, and one more if an answer isn't best.
 fn counted(bounded: usize, is_best: bool) -> usize
     requires { bounded < 2 ^ 63 }
-    ensures { result ≡ bounded + bounded_if is_best }
+    ensures value { result ≡ bounded + bounded_if is_best }
+    ensures near { result ≤ bounded + 1 }
 {
     if is_best { bounded } else { bounded + 1 }
 }

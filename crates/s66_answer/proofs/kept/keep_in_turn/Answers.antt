@@ -12,8 +12,8 @@ loop-done-preserved g c =
     let s = c.args.searches.now in
     record {
       kept = goes-on (g.K.Keep.part s.what.now s.strategy s.profile.now) s.strategy s.profile.now s.before s.blocks.now c.loop-done.done c.index-blocks-done.result c.loop-done.parts.items c.keep_found.new.parts.items
-          c.loop-done.bounded c.counted.result c.in_ok-is_best.is_best c.loop-done-test.true c.index-blocks-done.is c.in_ok-is_best.ensures c.counted.ensures c.loop-done.invariant.kept;
-      few = omega (arith, c.counted.ensures, c.loop-done.invariant.few);
+          c.loop-done.bounded c.counted-bounded.result c.in_ok-is_best.is_best c.loop-done-test.true c.index-blocks-done.is c.in_ok-is_best.ensures c.counted-bounded.ensures.value c.loop-done.invariant.kept;
+      few = omega (arith, c.counted-bounded.ensures.near, c.loop-done.invariant.few);
     }
 
 pub returns : goal.returns
