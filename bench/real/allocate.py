@@ -7,7 +7,7 @@ clears the one that was filled first.
 import collections
 import itertools
 
-from real.code import Address
+from real.code import Address, copy_pattern
 from real.ir import Unsupported
 
 ANY_X = [f"X{n}" for n in range(8)]
@@ -18,8 +18,8 @@ NEVER = 1 << 30
 
 
 class Allocator:
-    def __init__(self, operations, careful, taken, entry):
-        self.operations, self.careful = operations, careful
+    def __init__(self, operations, is_careful, taken, entry):
+        self.operations, self.is_careful = operations, is_careful
         self.pool = [name for name in ANY_X + ANY_B if name not in taken]
         self.freed = dict.fromkeys(self.pool, 0)
         self.holds, self.place, self.filled = {}, {}, {}
@@ -56,7 +56,7 @@ class Allocator:
         free = [name for name in allowed if name not in self.holds and name not in pinned]
         if free:
             free = [name for name in free if name in preferred] or free
-            return min(free, key=lambda name: self.freed[name]) if self.careful else free[0]
+            return min(free, key=lambda name: self.freed[name]) if self.is_careful else free[0]
         full = [name for name in allowed if name in self.holds and name not in pinned and self.may_clear(name, pinned)]
         if not full:
             raise Unsupported("too few registers")
@@ -64,7 +64,7 @@ class Allocator:
         return next(name for name in allowed if name not in self.holds and name not in pinned)
 
     def order_of_clearing(self, name):
-        if not self.careful:
+        if not self.is_careful:
             return -self.filled[name]
         register = self.holds[name]
         return self.next_use(register), bool(register.memory or register.again)
@@ -82,7 +82,7 @@ class Allocator:
             through = name
             if name not in STORED:
                 through = self.choose(STORED, [*pinned, *self.read, name])
-                self.write(f"{'S' if name[0] == 'B' else 'B'}X{through[1]} {name}")
+                self.copy(name, through)
             self.set_address(through[1], register.memory)
         self.free(name)
 
@@ -96,7 +96,7 @@ class Allocator:
             self.set_address(name[1], register.memory)
             if register.bank == "B":
                 index = self.choose(ANY_B, pinned)
-                self.write(f"SB{index[1]} {name}")
+                self.copy(name, index)
                 name = index
         else:
             raise Unsupported("a value that isn't made yet")
@@ -110,11 +110,14 @@ class Allocator:
     def write(self, text):
         self.lines.append(text)
 
+    def copy(self, name, target):
+        self.write(copy_pattern(target[0], name[0]).format(r=target[1], a=name))
+
     def set_address(self, digit, address, operands=()):
         """Sets an A register, and so loads or stores; the careful manner does it by another A register where that is shorter."""
         key = None if address.index else (address.symbol, address.base)
         text = address.pattern().format(**dict(zip("ab", operands)))
-        if self.careful and key and (address.symbol or address.offset):
+        if self.is_careful and key and (address.symbol or address.offset):
             text = self.near(key, address.offset) or text
         self.addresses.pop(digit, None)
         if key:
@@ -159,7 +162,7 @@ class Allocator:
         if name in STORED:
             return name
         through = self.choose(STORED, pinned)
-        self.write(f"{'S' if name[0] == 'B' else 'B'}X{through[1]} {name}")
+        self.copy(name, through)
         self.freed[through] = next(self.clock)
         return through
 
@@ -176,7 +179,7 @@ class Allocator:
             else:
                 self.freed[own] = next(self.clock)
         if operation.in_place and names[0] != own:
-            self.write(f"BX{own[1]} {names[0]}")
+            self.copy(names[0], own)
         more = {}
         if len(operation.results) > 1:
             more["s"] = self.choose(ANY_B, [own])

@@ -9,7 +9,7 @@ naive one works out each address, makes constants anew, and stores at once what 
 """
 import dataclasses
 
-from real.ir import Unsupported
+from real.ir import Unsupported, Value
 
 INLINE = ("@llvm.fabs", "@llvm.abs", "@llvm.smax", "@llvm.smin", "@llvm.umax", "@llvm.umin", "@llvm.ctpop", "@llvm.fmuladd", "@llvm.fshl")
 ENDS = ("br", "switch", "ret", "unreachable")
@@ -75,6 +75,24 @@ class Part:
     end: object
     entry: str = ""  # the result of the call before it
     successors: list = dataclasses.field(default_factory=list)
+
+
+def copy_pattern(to_bank, from_bank):
+    """The instruction that copies a register of one bank into one of another or the same."""
+    if to_bank == "B":
+        return "SB{r} {a}"
+    return "BX{r} {a}" if from_bank == "X" else "SX{r} {a}"
+
+
+def exponent_of(value):
+    """Which power of two a constant is, or nothing if it is none."""
+    is_power = value.kind == "int" and value.number > 0 and value.number & (value.number - 1) == 0
+    return value.number.bit_length() - 1 if is_power else None
+
+
+def relation(predicate):
+    """The relation of a predicate, whatever it says of signs and order: eq, ne, lt, le, gt or ge, or another of the rare ord and uno."""
+    return predicate[-2:]
 
 
 def is_call(this):
@@ -175,9 +193,9 @@ class Uses:
 class Homes:
     """Which registers and words values have in the whole function."""
 
-    def __init__(self, uses, careful):
+    def __init__(self, uses, is_careful):
         self.uses, self.group, self.fixed, self.word = uses, {}, {}, {}
-        if careful:
+        if is_careful:
             self.join_steps()
             self.give_registers()
 
@@ -237,8 +255,8 @@ class Names:
 class PartCode:
     """Makes the operations of a part."""
 
-    def __init__(self, uses, homes, names, careful, part):
-        self.uses, self.homes, self.names, self.careful, self.part = uses, homes, names, careful, part
+    def __init__(self, uses, homes, names, is_careful, part):
+        self.uses, self.homes, self.names, self.is_careful, self.part = uses, homes, names, is_careful, part
         self.operations, self.at, self.folded, self.constants, self.waiting = [], {}, {}, {}, []
         self.entry = None
 
@@ -258,16 +276,16 @@ class PartCode:
         if value.kind == "global":
             return self.made_anew(f"SX{{r}} {self.symbol(value)}")
         register = self.local(value.name)
-        return register if register.bank == "X" else self.emit("SX{r} {a}", register)
+        return register if register.bank == "X" else self.emit(copy_pattern("X", "B"), register)
 
     def b(self, value):
         """The B register of a value."""
         if value.kind == "local":
             register = self.local(value.name)
-            return register if register.bank == "B" else self.emit("SB{r} {a}", register, bank="B")
+            return register if register.bank == "B" else self.emit(copy_pattern("B", "X"), register, bank="B")
         if value.kind == "int" and abs(value.number) < SHORT:
             return self.emit(f"SB{{r}} {value.number}", bank="B")
-        return self.emit("SB{r} {a}", self.x(value), bank="B")
+        return self.emit(copy_pattern("B", "X"), self.x(value), bank="B")
 
     def symbol(self, value):
         name = self.names.of("G", value.name)
@@ -288,7 +306,7 @@ class PartCode:
 
     def store(self, register, address, is_kept=False):
         if register.bank == "B":
-            register = self.emit("SX{r} {a}", register)
+            register = self.emit(copy_pattern("X", "B"), register)
         self.operations.append(Operation("SA{v} {address}", [], address.registers(), value=register, address=address, is_kept=is_kept))
 
     def constant(self, number):
@@ -301,9 +319,9 @@ class PartCode:
 
     def made_anew(self, pattern):
         """A constant; the careful manner makes it once, and again where its register was taken."""
-        if self.careful and pattern in self.constants:
+        if self.is_careful and pattern in self.constants:
             return self.constants[pattern]
-        self.constants[pattern] = self.emit(pattern, result=Register("X", again=pattern if self.careful else ""))
+        self.constants[pattern] = self.emit(pattern, result=Register("X", again=pattern if self.is_careful else ""))
         return self.constants[pattern]
 
     # Results
@@ -316,9 +334,9 @@ class PartCode:
         home = self.homes.register(name)
         if home:
             if home is not register:
-                self.emit("SB{r} {a}" if home.bank == "B" else "BX{r} {a}" if register.bank == "X" else "SX{r} {a}", register, result=home)
+                self.emit(copy_pattern(home.bank, register.bank), register, result=home)
             self.at[name] = home
-        elif self.careful:
+        elif self.is_careful:
             self.waiting.append(name)
         else:
             self.keep(name)
@@ -366,7 +384,7 @@ class PartCode:
         for index, step in zip(this.operands[1:], steps):
             address = self.indexed(address, index, step)
         address = self.moved(address, offset)
-        if not self.careful:
+        if not self.is_careful:
             address = Address(base=self.address_value(address))
         if this.result in self.uses.crossing:
             self.define(this.result, self.address_value(address, this.result))
@@ -386,7 +404,7 @@ class PartCode:
         if step == 1:
             register = self.b(index)
         else:
-            register = self.emit("SB{r} {a}", self.times(self.x(index), step), bank="B")
+            register = self.emit(copy_pattern("B", "X"), self.times(self.x(index), step), bank="B")
         if address.symbol and not address.base:
             return dataclasses.replace(address, base=register)
         if address.symbol or address.offset or address.index:
@@ -396,9 +414,13 @@ class PartCode:
     # Integers
 
     def times(self, register, number):
-        if number > 0 and number & (number - 1) == 0:
-            return self.emit(f"LX{{r}} {number.bit_length() - 1}", register, in_place=True) if number > 1 else register
-        if self.careful and number in (3, 5, 9):
+        """The product of an integer and a constant."""
+        if number == 1:
+            return register
+        exponent = exponent_of(Value("int", number=number))
+        if exponent:
+            return self.emit(f"LX{{r}} {exponent}", register, in_place=True)
+        if self.is_careful and number in (3, 5, 9):
             shifted = self.emit(f"LX{{r}} {number.bit_length() - 1}", register, in_place=True)
             return self.emit("IX{r} {a}+{b}", shifted, register)
         return self.product(register, self.constant(number))
@@ -448,8 +470,9 @@ class PartCode:
 
     def divided(self, this):
         one, other = this.operands
-        if other.kind == "int" and other.number > 0 and other.number & (other.number - 1) == 0:
-            return self.emit(f"AX{{r}} {other.number.bit_length() - 1}", self.x(one), in_place=True)
+        exponent = exponent_of(other)
+        if exponent is not None:
+            return self.emit(f"AX{{r}} {exponent}", self.x(one), in_place=True)
         return self.quotient(self.x(one), self.x(other))
 
     def do_sdiv(self, this):
@@ -457,8 +480,9 @@ class PartCode:
 
     def do_srem(self, this):
         one, other = this.operands
-        if other.kind == "int" and other.number > 0 and other.number & (other.number - 1) == 0:
-            return self.define(this.result, self.masked(self.x(one), other.number.bit_length() - 1))
+        exponent = exponent_of(other)
+        if exponent is not None:
+            return self.define(this.result, self.masked(self.x(one), exponent))
         whole = self.product(self.divided(this), self.x(other))
         self.define(this.result, self.emit("IX{r} {a}-{b}", self.x(one), whole))
 
@@ -506,11 +530,9 @@ class PartCode:
     def sign(self, register):
         return self.emit("AX{r} 59", register, in_place=True)
 
-    def compared(self, predicate, one, other, letter):
-        """A word of ones if two values compare so, else of zeros."""
+    def compared(self, kind, one, other, letter):
+        """A word of ones if two values have a relation, else of zeros."""
         difference = letter + "X{r} {a}-{b}"
-        kind = predicate.lstrip("ou") if predicate not in ("one", "oeq", "ord", "uno") else predicate[-2:]
-        kind = kind.lstrip("s")
         if kind in ("lt", "ge"):
             result = self.sign(self.emit(difference, self.x(one), self.x(other)))
         elif kind in ("gt", "le"):
@@ -526,13 +548,12 @@ class PartCode:
         users = self.uses.used.get(this.result, [])
         return len(users) == 1 and users[0][2] is self.part.end and self.part.end.operation == "br" and users[0][0] == self.part.number
 
-    def do_icmp(self, this):
+    def do_icmp(self, this, letter="I"):
         if not self.is_fused(this):
-            self.define(this.result, self.compared(this.detail, *this.operands, "I"))
+            self.define(this.result, self.compared(relation(this.detail), *this.operands, letter))
 
     def do_fcmp(self, this):
-        if not self.is_fused(this):
-            self.define(this.result, self.compared(this.detail, *this.operands, "F"))
+        self.do_icmp(this, letter="F")
 
     def chosen(self, mask, one, other):
         """The first where the mask has ones, the second where it has zeros."""
@@ -546,17 +567,21 @@ class PartCode:
     def normalised(self, pattern, one, other):
         return self.emit("NX{r} {a}", self.emit(pattern, one, other))
 
+    def floating(self, sign):
+        """The instruction of an operation on floating numbers, which the careful manner rounds."""
+        return ("R" if self.is_careful else "F") + "X{r} {a}" + sign + "{b}"
+
     def do_fadd(self, this):
-        self.define(this.result, self.normalised("RX{r} {a}+{b}" if self.careful else "FX{r} {a}+{b}", *map(self.x, this.operands)))
+        self.define(this.result, self.normalised(self.floating("+"), *map(self.x, this.operands)))
 
     def do_fsub(self, this):
-        self.define(this.result, self.normalised("RX{r} {a}-{b}" if self.careful else "FX{r} {a}-{b}", *map(self.x, this.operands)))
+        self.define(this.result, self.normalised(self.floating("-"), *map(self.x, this.operands)))
 
     def do_fmul(self, this):
-        self.define(this.result, self.emit("RX{r} {a}*{b}" if self.careful else "FX{r} {a}*{b}", *map(self.x, this.operands)))
+        self.define(this.result, self.emit(self.floating("*"), *map(self.x, this.operands)))
 
     def do_fdiv(self, this):
-        self.define(this.result, self.emit("RX{r} {a}/{b}" if self.careful else "FX{r} {a}/{b}", *map(self.x, this.operands)))
+        self.define(this.result, self.emit(self.floating("/"), *map(self.x, this.operands)))
 
     def do_fneg(self, this):
         self.define(this.result, self.emit("BX{r} -{a}", self.x(this.operands[0])))
@@ -645,10 +670,9 @@ class PartCode:
         maker = self.uses.maker.get(value.name)
         if maker not in self.part.instructions or maker.operation not in ("icmp", "fcmp") or not self.is_fused(maker):
             return "NG {a}", [self.x(value)]
-        kind = maker.detail if maker.operation == "icmp" else maker.detail[1:] if maker.detail not in ("true", "false") else "eq"
-        kind = kind.lstrip("su") if kind not in ("eq", "ne") else kind
+        kind = relation(maker.detail)
         one, other = maker.operands
-        if self.careful and maker.operation == "icmp" and self.in_b(one) and self.in_b(other):
+        if self.is_careful and maker.operation == "icmp" and self.in_b(one) and self.in_b(other):
             return self.compared_in_b(kind, one, other)
         if kind in ("gt", "le"):
             one, other = other, one
@@ -686,11 +710,11 @@ class PartCode:
     def make_moves(self):
         moves = [(phi, self.x(value) if value.kind != "local" else self.local(value.name)) for _, phi, value in self.moves()]
         written = [self.homes.register(phi) for phi, _ in moves]
-        moves = [(phi, self.emit("SX{r} {a}" if register.bank == "B" else "BX{r} {a}", register) if register in written else register) for phi, register in moves]
+        moves = [(phi, self.emit(copy_pattern("X", register.bank), register) if register in written else register) for phi, register in moves]
         for phi, register in moves:
             home = self.homes.register(phi)
             if home:
-                self.emit("SB{r} {a}" if home.bank == "B" else "BX{r} {a}" if register.bank == "X" else "SX{r} {a}", register, result=home)
+                self.emit(copy_pattern(home.bank, register.bank), register, result=home)
             else:
                 self.store(register, self.homes.memory(phi))
 

@@ -248,39 +248,34 @@ class Reader:
         operation = tokens.next()
         tokens.skip_words(FLAGS)
         found = Instruction(operation, result)
-        if operation in BINARY:
-            self.binary(tokens, found)
-        elif operation in CASTS:
-            self.cast(tokens, found)
-        elif operation in ("fneg", "freeze"):
-            found.operands = [self.typed(tokens)]
-        elif operation in ("icmp", "fcmp"):
-            found.detail = tokens.next()
-            self.binary(tokens, found)
-        elif operation == "select":
-            found.operands = self.listed(tokens)
-        elif operation == "load":
-            found.is_float = self.type(tokens) == ("float",)
-            tokens.expect(",")
-            found.operands = [self.typed(tokens)]
-        elif operation == "store":
-            found.operands = self.listed(tokens)[:2]
-        elif operation == "getelementptr":
-            base, offset, steps = self.address(tokens)
-            found.operands, found.detail = [base] + [index for index, _ in steps], (offset, [step for _, step in steps])
-        elif operation == "phi":
-            self.phi(tokens, found)
-        elif operation == "call":
-            self.call(tokens, found)
-        elif operation == "alloca":
-            found.detail = self.words(self.type(tokens))
-        elif operation == "extractvalue":
-            found.operands = [self.typed(tokens)]
-        elif operation in ("br", "switch", "ret", "unreachable"):
-            self.branch(tokens, found)
-        else:
+        if operation not in self.READERS:
             raise Unsupported(operation)
+        self.READERS[operation](self, tokens, found)
         return found
+
+    # What stands behind the name of an operation
+
+    def single(self, tokens, found):
+        found.operands = [self.typed(tokens)]
+
+    def several(self, tokens, found):
+        found.operands = self.listed(tokens)
+
+    def comparison(self, tokens, found):
+        found.detail = tokens.next()
+        self.binary(tokens, found)
+
+    def load(self, tokens, found):
+        found.is_float = self.type(tokens) == ("float",)
+        tokens.expect(",")
+        found.operands = [self.typed(tokens)]
+
+    def stepped(self, tokens, found):
+        base, offset, steps = self.address(tokens)
+        found.operands, found.detail = [base] + [index for index, _ in steps], (offset, [step for _, step in steps])
+
+    def room(self, tokens, found):
+        found.detail = self.words(self.type(tokens))
 
     def listed(self, tokens):
         """Operands with their types, with a comma between."""
@@ -347,6 +342,12 @@ class Reader:
         while tokens.peek():
             if tokens.next() == "label":
                 found.detail.append(tokens.next())
+
+    READERS = {
+        **dict.fromkeys(BINARY, binary), **dict.fromkeys(CASTS, cast), **dict.fromkeys(("fneg", "freeze", "extractvalue"), single),
+        **dict.fromkeys(("icmp", "fcmp"), comparison), **dict.fromkeys(("select", "store"), several), "load": load, "alloca": room,
+        "getelementptr": stepped, "phi": phi, "call": call, **dict.fromkeys(("br", "switch", "ret", "unreachable"), branch),
+    }  # fmt: skip
 
 
 def parameters_of(reader, line):
