@@ -134,9 +134,9 @@ def block_of(make, sizes, is_careful):
 
 def searched(program, samples):
     """Searches the blocks with --deep: the seconds of the processor, and what is wrong."""
-    measurement = measure.Measurement([program], SPLITS, 0, 0, ["deep"])
-    for held, deck in measure.decks(samples):
-        measurement.measure(held, deck)
+    measurement = measure.Measurement(measure.Plan([program], SPLITS, ["deep"], short=0))
+    for held in measure.decks(samples):
+        measurement.measure(held)
     return measurement.seconds["deep"], measurement.wrong
 
 

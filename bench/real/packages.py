@@ -2,12 +2,19 @@
 import dataclasses
 import pathlib
 import re
+import shutil
 import subprocess
 
+CLANG_VERSION = "14"  # a later one writes pointers without their types
 CLANG = ["clang", "-O2", "-fno-vectorize", "-fno-slp-vectorize", "-w", "-S", "-emit-llvm", "-o", "-"]
 ARCHIVE = "deb http://deb.debian.org/debian bookworm main\ndeb-src http://deb.debian.org/debian bookworm main\n"
 TOOLS = ["f2c", "libf2c2-dev", "libgpg-error-dev"]  # binary packages that are unpacked in the folder, and not installed
+COMMANDS = ("apt-get", "dpkg", "dpkg-source", "clang")  # that all packages need
 SECONDS = 120  # that clang may take for a file
+
+
+class Missing(Exception):
+    """What can't be done here, and why, in one line."""
 
 
 @dataclasses.dataclass(frozen=True)
@@ -19,6 +26,7 @@ class Package:
     flags: tuple = ()
     folders: tuple = (".",)
     prepare: str = ""  # a command that makes what is missing
+    commands: tuple = ()  # that this takes
 
 
 JPEG = ("-DBITS_IN_JSAMPLE=8", "-DJPEG_LIB_VERSION=80", "-DINLINE=inline", "-DTHREAD_LOCAL=", "-DSIZEOF_SIZE_T=8", "-DFALLTHROUGH=",
@@ -35,12 +43,23 @@ PACKAGES = {
     "xfoil": Package("xfoil", "src/*.f"),
     "blas": Package("lapack", "BLAS/SRC/*.f"),
     "lapack": Package("lapack", "SRC/*.f"),
-    "sqlite": Package("sqlite3", "tsrc/*.c", folders=("tsrc",), prepare="./configure && make .target_source"),
+    "sqlite": Package("sqlite3", "tsrc/*.c", folders=("tsrc",), prepare="./configure && make .target_source", commands=("cc", "make", "tclsh")),
     "gsl": Package("gsl", "*/*.c", GSL, (".", "headers"), GSL_HEADERS),
     "fftw": Package("fftw3", "*/scalar/*/*.c", ("-DSIZEOF_VOID_P=8", "-DSIZEOF_UNSIGNED_LONG=8"), (".", "dft", "rdft", "kernel")),
-    "gcrypt": Package("libgcrypt20", "[cm]*/*.c", ("-DHAVE_CONFIG_H",), (".", "src", "mpi", "mpi/generic", "cipher"), "./configure --disable-asm"),
+    "gcrypt": Package("libgcrypt20", "[cm]*/*.c", ("-DHAVE_CONFIG_H",), (".", "src", "mpi", "mpi/generic", "cipher"), "./configure --disable-asm", ("cc",)),
     "phalanx": Package("phalanx", "*.c"),
 }
+
+
+def look_about(names):
+    """Fails if a command is missing that these packages take, or clang is another."""
+    needed = dict.fromkeys([*COMMANDS, *(command for name in names for command in PACKAGES[name].commands)])
+    missing = [command for command in needed if not shutil.which(command)]
+    if missing:
+        raise Missing(f"not on the PATH: {', '.join(missing)}; on Debian 12, apt-get install clang dpkg-dev gcc make tcl")
+    version = subprocess.run(["clang", "-dumpversion"], capture_output=True, text=True).stdout.strip()
+    if version.split(".")[0] != CLANG_VERSION:
+        raise Missing(f"clang is {version}, and only the text form of clang {CLANG_VERSION} is read here")
 
 
 class Archive:
@@ -55,13 +74,18 @@ class Archive:
         (self.folder / "sources.list").write_text(ARCHIVE)
 
     def apt_get(self, *words):
-        options = {"Dir::Etc::sourcelist": "sources.list", "Dir::State::lists": "lists", "Dir::Cache": "cache"}
-        settings = [word for name, place in options.items() for word in ("-o", f"{name}={self.folder / place}")]
-        self.run(["apt-get", "-qq", "-o", "Dir::Etc::sourceparts=-", "-o", "APT::Sandbox::User=", *settings, *words], self.folder / "sources")
+        places = {"Dir::Etc::sourcelist": "sources.list", "Dir::State::lists": "lists", "Dir::Cache": "cache"}
+        settings = {"Dir::Etc::sourceparts": "-", "APT::Sandbox::User": "", "APT::Update::Error-Mode": "any"}
+        settings.update((name, self.folder / place) for name, place in places.items())
+        options = [word for name, value in settings.items() for word in ("-o", f"{name}={value}")]
+        self.run(["apt-get", "-qq", *options, *words], self.folder / "sources", f"apt-get {words[0]} fails: no network, or no way to Debian's archive")
 
-    def run(self, words, folder):
+    def run(self, words, folder, failing):
+        """Runs a command whose output goes to the log; `failing` tells why it may fail."""
         with open(self.folder / "log", "ab") as log:
-            subprocess.run(words, cwd=folder, stdin=subprocess.DEVNULL, stdout=log, stderr=log, check=True)
+            ended = subprocess.run(words, cwd=folder, stdin=subprocess.DEVNULL, stdout=log, stderr=log)
+        if ended.returncode:
+            raise Missing(f"{failing}; the end of {self.folder / 'log'} says more")
 
     def tools(self):
         """Fetches what compiles Fortran and what libgcrypt includes, unless they are there."""
@@ -70,7 +94,7 @@ class Archive:
         if not (self.folder / "tools/usr").exists():
             self.apt_get("download", *TOOLS)
             for file in (self.folder / "sources").glob("*.deb"):
-                self.run(["dpkg", "-x", str(file), str(self.folder / "tools")], self.folder)
+                self.run(["dpkg", "-x", str(file), str(self.folder / "tools")], self.folder, f"dpkg doesn't unpack {file.name}")
 
     def source(self, package):
         """The folder of a package's source, fetched and prepared unless it is there."""
@@ -79,7 +103,7 @@ class Archive:
             self.apt_get("source", "--only-source", package.source)
             place = self.place(package)
         if package.prepare and not (place / "is-prepared").exists():
-            self.run(["sh", "-c", package.prepare], place)
+            self.run(["sh", "-c", package.prepare], place, f"{package.prepare} fails")
             (place / "is-prepared").touch()
         return place
 
