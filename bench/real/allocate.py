@@ -18,14 +18,21 @@ NEVER = 1 << 30
 
 
 class Allocator:
+    """Allocates the registers of a part that no value has in the whole function (`taken`). What a call before it left in X6 is `entry`.
+
+    A register is `pinned` while the instruction that is being written needs what it holds.
+    """
+
     def __init__(self, operations, is_careful, taken, entry):
         self.operations, self.is_careful = operations, is_careful
+        self.lines, self.branch = [], ""  # what is written
         self.pool = [name for name in ANY_X + ANY_B if name not in taken]
-        self.freed = dict.fromkeys(self.pool, 0)
-        self.holds, self.place, self.filled = {}, {}, {}
-        self.uses, self.lines, self.addresses = collections.defaultdict(collections.deque), [], {}
-        self.spills, self.clock = itertools.count(1), itertools.count(1)
-        self.branch = ""
+        self.holds, self.place = {}, {}  # the value in each register, and the register of each value
+        self.freed, self.filled = dict.fromkeys(self.pool, 0), {}  # when, by the clock, each register last was
+        self.clock = itertools.count(1)
+        self.uses = collections.defaultdict(collections.deque)  # the operations that still need each value
+        self.addresses = {}  # what the A registers hold
+        self.spills = itertools.count(1)  # the words of values that registers had no room for
         self.read = []  # the registers that the next instruction reads
         for n, operation in enumerate(operations):
             for register in self.needed(operation):
@@ -132,6 +139,7 @@ class Allocator:
         return ""
 
     def do(self, n):
+        """Writes an operation, by its number, behind what brings its operands into registers."""
         operation = self.operations[n]
         pinned, self.read = [], []
         for register in self.needed(operation):
@@ -167,6 +175,7 @@ class Allocator:
         return through
 
     def make_result(self, operation, names):
+        """Writes an operation that has a result, with operands in these registers."""
         result = operation.results[0]
         pinned = [] if not operation.in_place else [name for name in names if name in self.holds]
         if result.fixed:
@@ -180,14 +189,14 @@ class Allocator:
                 self.freed[own] = next(self.clock)
         if operation.in_place and names[0] != own:
             self.copy(names[0], own)
-        more = {}
+        second = ""
         if len(operation.results) > 1:
-            more["s"] = self.choose(ANY_B, [own])
-            self.put(operation.results[1], more["s"])
+            second = self.choose(ANY_B, [own])
+            self.put(operation.results[1], second)
         if operation.address:
             self.set_address(own[1], operation.address, names)
         else:
-            self.write(operation.pattern.format(r=own[1], **more, **dict(zip("ab", names))))
+            self.write(operation.pattern.format(r=own[1], s=second, **dict(zip("ab", names))))
 
     def wanted(self, operation, result, names, pinned):
         """The registers that a result may have, those that it may not, and those that are best."""

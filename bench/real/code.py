@@ -123,7 +123,11 @@ def parts_of(function):
 
 
 class Uses:
-    """Where the values of a function are made and used."""
+    """Where the values of a function are made and used.
+
+    A value is `made` in a part, by its `maker`, and `used` in parts, at places, by instructions. At the end of a part there are
+    `incoming` values for the phis behind it. Values that are used in another part than that which makes them are `crossing`.
+    """
 
     def __init__(self, function, parts, last):
         self.parts, self.made, self.used = parts, {name: 0 for name in function.parameters}, {}
@@ -194,7 +198,9 @@ class Homes:
     """Which registers and words values have in the whole function."""
 
     def __init__(self, uses, is_careful):
-        self.uses, self.group, self.fixed, self.word = uses, {}, {}, {}
+        self.uses = uses
+        self.group = {}  # for a value that shares the place of another, its leader, this other
+        self.fixed, self.word = {}, {}  # the register or the word of each leader
         if is_careful:
             self.join_steps()
             self.give_registers()
@@ -218,6 +224,7 @@ class Homes:
         return self.group.get(name, name)
 
     def give_registers(self):
+        """Gives the few registers to the values that are used most, by a guess that a loop is run eight times."""
         weights = {}
         for name in self.uses.crossing:
             weight = sum(8 ** self.uses.depth[min(part, len(self.uses.depth) - 1)] for part, _, _ in self.uses.used[name])
@@ -257,7 +264,11 @@ class PartCode:
 
     def __init__(self, uses, homes, names, is_careful, part):
         self.uses, self.homes, self.names, self.is_careful, self.part = uses, homes, names, is_careful, part
-        self.operations, self.at, self.folded, self.constants, self.waiting = [], {}, {}, {}, []
+        self.operations = []
+        self.at = {}  # the register of each value that the part has met
+        self.folded = {}  # the addresses that are worked out where they are used
+        self.constants = {}  # registers of constants, by what makes them
+        self.waiting = []  # values to be stored at the end of the part, for others
         self.entry = None
 
     def emit(self, pattern, *operands, result=None, bank="X", in_place=False):
