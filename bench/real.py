@@ -4,10 +4,10 @@
     bench/real.py FOLDER [--packages NAMES] [--files N | --again] [--every N] [--modes NAMES] [--nodes N] [--short N]
                   [--beginnings N] [--certified N] [--jobs N] [-- PROGRAM]
 
-It needs Debian 12 with clang 14, dpkg-dev and, for SQLite, tclsh and make, the network, and about 1 GB in FOLDER. There it fetches by
-apt-get, with lists of its own, the sources of zlib, bzip2, Lua, MINPACK, libjpeg-turbo, XFOIL, LAPACK with BLAS, SQLite, GSL, FFTW,
-libgcrypt and the chess program Phalanx, and f2c for what is in Fortran; nothing is installed, and no list of the machine has to name
-sources. What is there already isn't fetched again.
+It needs Debian 12 with what `apt-get install clang dpkg-dev gcc make tcl` installs, the network, and half a GB in FOLDER. There it
+fetches by apt-get, with lists of its own, the sources of zlib, bzip2, Lua, MINPACK, libjpeg-turbo, XFOIL, LAPACK with BLAS, SQLite, GSL,
+FFTW, libgcrypt and the chess program Phalanx, and f2c for what is in Fortran. Nothing is installed by it, the machine's own lists need
+no deb-src line, and nobody has to be root. What is there already isn't fetched again.
 
 clang compiles each file to its text form, without vectors, and bench/real/ translates that block by block in two manners, as compilers
 of the time might have: one with a careful allocation of registers, one with a naive one. A block ends at a branch or a call, or behind

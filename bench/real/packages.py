@@ -69,7 +69,7 @@ class Archive:
         self.folder = pathlib.Path(folder).resolve()
         for name in ("lists/partial", "cache/archives/partial", "sources", "tools", "headers"):
             (self.folder / name).mkdir(parents=True, exist_ok=True)
-        for name in ("config.h", "jconfig.h", "jconfigint.h"):
+        for name in ("config.h", "jconfig.h", "jconfigint.h"):  # what configure would make; empty ones do
             (self.folder / "headers" / name).touch()
         (self.folder / "sources.list").write_text(ARCHIVE)
 
