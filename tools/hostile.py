@@ -3,12 +3,13 @@
 
     tools/hostile.py PROGRAM
 
-Documents for `check`: each front of one, numbers of 10,000 digits, a million nodes and one more, a tree of the deepest block,
-names that point to each wrong place, 362,879 leaves that name one node, and as many fact lines as there may be. Sources: a gigabyte
-of newlines, of blanks without a newline, and of instructions, for each subcommand. What each has to answer stands beside it. None
-may take more than 10 seconds of processor time, a document of fact lines no more than 30 for each megabyte that it has; or more than
-200 MB of address space, and a source of a gigabyte no more than 32 MB. The status is 1 if something is
-wrong.
+Documents for `check`: each front of one, numbers of 10,000 digits, a million nodes and one more, a tree of the deepest block, trees
+of two million lines whose splits are as wide as may be, names that point to each wrong place, 362,879 leaves that name one node, and
+as many fact lines as there may be; some also for `check --text`. Sources: a gigabyte of newlines, of blanks without a newline, and of
+instructions, for each subcommand but `lint`; for that a part of it, and the longest ones with many macros in each other, many places
+of a name, long sums, continuations, redefinitions and counts. What each has to answer stands beside it. None may take more than 10
+seconds of processor time, a document of fact lines no more than 30 for each megabyte that it has, or 60 with `--text`; or more than
+200 MB of address space, and a source of a gigabyte no more than 32 MB. The status is 1 if something is wrong.
 """
 import itertools
 import os
@@ -25,7 +26,8 @@ ALIKE = ("S66 CERTIFICATE 3\n" + PROFILE + "BLOCK 3\nI SB0 B1\nI SB0 B1\nI SB0 B
          "S 1 2 3\nS 2 3\nS 3\nT\nS 2\nT\nS 1 3\nD 1 2\nS 1\nT\nS 1 2\nD 1 3\nD 2 3\nEND\n")
 CHAIN = ("S66 CERTIFICATE 1\n" + PROFILE + "BLOCK 3\nI SA1 A1+B1\nI BX6 X1\nI BX7 X2\nTIME 12\nBOUND 12\nORDER 1 3 2\nC 1 2\nEND\n")
 SECONDS, MEGABYTES, FRONT_MEGABYTES = 10, 200, 32
-MOST_FACTS, MOST, MEGABYTE_SECONDS = 4096, 128, 30
+MOST_FACTS, MOST, MEGABYTE_SECONDS, TEXT_MEGABYTE_SECONDS = 4096, 128, 30, 60
+MOST_LINES, LONGEST = 20000, 200  # of a source
 GIGABYTE = 1 << 30
 # the second lines after a source that is refused, and after what is no certificate
 LISTED, LONG = b"s66 lint lists all such lines, --cut leaves them alone\n", b"a line has at most 200 bytes; s66 lint lists all that have more\n"
@@ -89,6 +91,28 @@ def deep_trees():
     yield "a tree of depth 128", document, yes(512, 512)
     yield "that with a leaf below its deepest", altered(document, "T\nEND", "S 128\nT\nEND"), no(263, 3)
     yield "that with one split less", altered(document, "S 128\nT", "T"), no(262, 6)
+
+
+def wide_document(leaf_at):
+    """128 that don't differ, and a tree whose splits have all children there are: 16,385 splits, and 2,048,256 leaves, each by the
+    numbers of its prefix."""
+    numbers = range(1, MOST + 1)
+    lines = [f"S66 CERTIFICATE 4\n{PROFILE}BLOCK {MOST}", *["I SB0 B1"] * MOST, "TIME 257\nBOUND 0"]
+    lines += ["ORDER " + " ".join(map(str, numbers)), "S " + " ".join(map(str, numbers))]
+    for first in numbers:
+        lines.append("S " + " ".join(str(n) for n in numbers if n != first))
+        for second in numbers:
+            if second != first:
+                left = [n for n in numbers if n not in (first, second)]
+                lines += ["S " + " ".join(map(str, left)), *leaf_at(left)]
+    return "\n".join([*lines, "END", ""])
+
+
+def wide_trees():
+    """The name of each, and what stands below its last splits."""
+    yield "leaves P", lambda left: ["P"] * len(left)
+    yield "leaves U", lambda left: ["U INCREMENT"] * len(left)
+    yield "leaves E", lambda left: [f"E {left[-1]}"] * (len(left) - 1) + [f"E {left[0]}"]
 
 
 def wrong_names():
@@ -157,9 +181,58 @@ def fact_lines():
         yield f"{MOST_FACTS} fact lines: {name}", text, yes(time, 0)
 
 
+def with_reasons(text):
+    """A document of fact lines with a leaf that is said by them."""
+    return altered(text, "\nP\nEND", "\nE 1\nEND")
+
+
 def fronts():
     for length in range(1, len(MULTIPLIES)):
         yield f"a front of {length} bytes", MULTIPLIES[:length], TRUNCATED
+
+
+def text_of(lines):
+    return "".join(f"{line}\n" for line in lines).encode()
+
+
+def hostile_decks():
+    """Sources of as many lines as there may be, and the status and the lines of `lint`."""
+    code = ["LAB  BX1 X2", "  BX3 X4"]
+    most = (MOST_LINES - len(code)) // 3
+    parameters = ",".join(a + b for a in "ABC" for b in "ABCDEFGHIJKLMNOPQRST")
+    macros = [f"M{n} MACRO {parameters}" for n in range(most)] + ["  ENDM"] * most + [f"  M{n} LAB" for n in range(most)]
+    found = [f"LINE {2 * most + 3 + n} PASSES CODE M{n} LAB" for n in range(most - 3)]
+    yield f"{most} macros, each in the one before", code + macros, 8, found
+    loads = [f"  SA1 L+{n}" for n in range(MOST_LINES // 2)]
+    found = [f"LINE {MOST_LINES // 2 + 1 + n} {words} SA1 L+{n}" for n in range(len(loads))
+             for words in ("LOADS CODE", "COUNTS WORDS")[: 2 if n else 1]]
+    yield "a name at 5,000 places, and so many words from it", ["L  BX1 X2", "  BX2 X3"] * (MOST_LINES // 4) + loads, 8, found
+    counts = itertools.count(1)
+    sums = ["  CALLX " + ",".join(f"L+{next(counts)}" for _ in range(20)) for _ in range(MOST_LINES // 2)]
+    yield "a name at 100 places, and 200,000 words from it", ["L  BX1 X2", " ZR X1,OUT"] * 100 + sums, 0, []
+    yield "sums of 90 terms", ["L SA1 " + "+".join(["L"] * 90)] * MOST_LINES, 0, []
+    found = [f"LINE {n} BAD OPERAND MORE (CUT)" for n in range(2, MOST_LINES + 1)]
+    yield "an instruction with 19,999 continuations", ["  BX1 X2"] + [",  MORE"] * (MOST_LINES - 1), 5, found
+    half = MOST_LINES // 2
+    found = [f"LINE {n} REDEFINED BX1 X2 (CUT)" for n in range(half + 1, MOST_LINES + 1)]
+    yield "10,000 redefinitions", [f"BX{n % 8} OPSYN BX1" for n in range(half)] + ["  BX1 X2"] * half, 8, found
+    yield "counts that all go on to the end", ["  DUP 2,19999"] * MOST_LINES, 0, []
+    yield "names of names", [f"N{n} EQU N{n + 1}+1" for n in range(MOST_LINES)], 0, []
+    yield "lines that are as long as they may be", ["X" * LONGEST] * MOST_LINES, 0, []
+
+
+class Ends:
+    """An answer of many lines, by its status, its first line and its last."""
+
+    def __init__(self, status, first, last):
+        self.parts = status, first, last
+
+    def __eq__(self, seen):
+        lines = seen[1].splitlines(keepends=True) or [b""]
+        return (seen[0], lines[0], lines[-1]) == self.parts and seen[2] == b""
+
+    def __repr__(self):
+        return f"{self.parts}"
 
 
 def run(command, feed, megabytes):
@@ -195,6 +268,8 @@ def repeated(line, size):
 def long_sources():
     """Words, what is fed, its answer, and the most megabytes."""
     code = b"  BX1 X2*X3\n"
+    # which reads all, since a line that it lists may be of any length
+    yield ["lint"], "32 megabytes of newlines", repeated(b"\n", 32 * CHUNK), (5, b"TOO MANY LINES\n", b""), MEGABYTES
     for word in ("time", "deps", "chart", "why", "page", "json", "order", "prove", "sum", "guard"):
         yield [word], "a gigabyte of newlines", repeated(b"\n", GIGABYTE), (3, b"", b"TOO MANY LINES\n" + MANY), FRONT_MEGABYTES
     yield ["time"], "a gigabyte without a newline", repeated(b" ", GIGABYTE), (3, b"", b"LINE 1 TOO LONG\n" + LONG), FRONT_MEGABYTES
@@ -207,21 +282,34 @@ def long_sources():
     yield ["time"], "a line past the limit that is too long", last, (3, b"", b"LINE 20001 TOO LONG\n" + LONG), FRONT_MEGABYTES
 
 
+def in_sentences():
+    """Documents for `check --text`: what is fed, the answer, and the most seconds."""
+    text = wide_document(dict(wide_trees())["leaves P"])
+    told = b"DOCUMENT 1 YES TIME 257 BOUND 0\nEvery order takes 0 or more, by 16385 splits.\nThe order found takes 257.\n"
+    yield "a wide tree", text, (0, told, b""), SECONDS
+    for name, text, (status, verdict, _) in fact_lines():
+        text, time = with_reasons(text), verdict.split()[4]
+        yield name, text, Ends(status, verdict, b"The order found takes %s.\n" % time), TEXT_MEGABYTE_SECONDS * len(text) / 1e6
+
+
 def main(arguments):
     if len(arguments) != 1 or arguments[0].startswith("-"):
         print(__doc__.strip())
         return 2
     program, wrong, count, most = os.path.abspath(arguments[0]), 0, 0, (0, "")
-    documents = itertools.chain(fronts(), long_numbers(), many_nodes(), deep_trees(), wrong_names(), many_leaves())
+    wide = ((f"a wide tree, {name}", wide_document(leaf_at), yes(257, 0)) for name, leaf_at in wide_trees())
+    documents = itertools.chain(fronts(), long_numbers(), many_nodes(), deep_trees(), wide, wrong_names(), many_leaves())
     checks = ((["check"], name, [text.encode()], answer, MEGABYTES, SECONDS) for name, text, answer in documents)
     facts = ((["check"], name, [text.encode()], answer, MEGABYTES, MEGABYTE_SECONDS * len(text) / 1e6) for name, text, answer in fact_lines())
+    texts = ((["check", "--text"], name, [text.encode()], answer, MEGABYTES, limit) for name, text, answer, limit in in_sentences())
+    decks = ((["lint"], name, [text_of(lines)], (status, text_of(found), b""), MEGABYTES, SECONDS) for name, lines, status, found in hostile_decks())
     sources = ((*source, SECONDS) for source in long_sources())
-    for words, name, feed, answer, megabytes, limit in itertools.chain(checks, facts, sources):
+    for words, name, feed, answer, megabytes, limit in itertools.chain(checks, facts, texts, decks, sources):
         seen, seconds = run([program, *words], feed, megabytes)
         count += 1
         label = f"{' '.join(words)}: {name}"
         most = max(most, (seconds, label))
-        if seen != answer or seconds > limit:
+        if answer != seen or seconds > limit:
             wrong += 1
             print(f"wrong: {label}: {seen[0], seen[1][:80], seen[2][:80]} after {seconds:.1f} seconds; wanted {answer}")
     print(f"{count - wrong} passed, {wrong} failed (inputs; the longest took {most[0]:.1f} seconds: {most[1]})")

@@ -3,7 +3,7 @@
 
     tools/limits.py PROGRAM [--quick]
 
-- Address space (`ulimit -v`), from 12,000 to 60,000 KB in steps of 200: each subcommand, those that search by 1, 4 and 16 workers.
+- Address space (`ulimit -v`), from 4,000 to 60,000 KB in steps of 200: each subcommand, those that search by 1, 4 and 16 workers.
   It ends as with ample memory, or with status 4, no output and OUT OF MEMORY; never by a signal. --quick takes every tenth step,
   and sizes at which a worker's stack just fits; for 16 workers, which are slow on few processors, every eighth of these.
 - Threads (`ulimit -u`), where this runs as root, as a user who has no other processes: it ends as with any number.
@@ -38,7 +38,7 @@ UNWRITTEN = (6, b"", b"WRITE FAILED\n")
 GONE = (6, b"", b"")
 REFUSED = (4, b"", b"OUT OF MEMORY\n")
 STEP = 200
-FIRST, LAST = 12_000, 60_000
+FIRST, LAST = 4_000, 60_000
 STACK = 8_200  # of a thread, in KB, with the page that guards it
 
 

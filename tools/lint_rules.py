@@ -14,6 +14,7 @@ PARCELS = 4  # of a word
 AHEAD = 40  # statements in which the use of an address is looked for
 SKIPPED = 3  # words behind a call that its routine may skip
 FEW = 100  # places of a name that are looked at one by one
+DEEP = 3  # definitions in each other; a macro with so many in its body isn't read
 MOST_MARK = 72  # bytes of a line that `guard` adds
 MARK = "*S66 %s GUARD"
 WITH_WORDS = BRANCHES | FALL_THROUGH | {"PS", "SUBR"}
@@ -382,9 +383,17 @@ class Findings:
             parameters = line.operand.split(",")
             if line.word != "OPDEF":
                 name = line.location or parameters.pop(0)
+                parameters = [parameter.split("=")[0] for parameter in parameters]
                 sums = [[term for _, term in terms] for at in range(begin + 1, end - 1) for _, terms in sums_of(self.lines[at].operand)]
-                macros[name] = [parameter.split("=")[0] for parameter in parameters], sums
+                if self.is_deep(begin, end):
+                    sums = [[parameter, None] for parameter in parameters]
+                macros[name] = parameters, sums
         return macros
+
+    def is_deep(self, begin, end):
+        """Whether definitions nest three deep in the body of one."""
+        inner = [part for part in self.source.definitions if begin < part[0] < end]
+        return any(sum(first <= at < last for first, last in inner) >= DEEP for at, _ in inner)
 
     def find_skipping(self):
         """Operands of loads behind which, before the next entry, stands a jump by a B register and another term."""

@@ -186,7 +186,7 @@ impl Harms {
     }
 
     /// The texts of the findings that harm a line from the first to the last, in the order of the lines in which they are, each text
-    /// once: the words of the rule, and up to two words of the line.
+    /// once: the words of the rule, and up to two words of the line. It looks once at each finding, and at each answer that they share.
     pub fn texts_in(
         &self,
         alloc: Global,
@@ -199,9 +199,10 @@ impl Harms {
         };
         let runs = self.changing.touched(lines);
         let mut known: BTreeMap<&[u8], ()> = BTreeMap::new(alloc);
+        let mut answers: BTreeMap<(usize, usize), bool> = BTreeMap::new(alloc);
         let mut texts = Vec::new(alloc);
         for finding in self.findings.as_slice() {
-            if self.harms(finding, lines, runs) {
+            if self.harms(finding, lines, runs, &mut answers)? {
                 let Span { first, end } = finding.text;
                 let text = self.texts.get(first..end).unwrap_or(&[]);
                 if known.insert(text, ())?.is_none() {
@@ -212,24 +213,51 @@ impl Harms {
         Ok(texts)
     }
 
-    fn harms(&self, finding: &HarmingFinding, lines: Span, runs: Option<RunRange>) -> bool {
+    fn harms(
+        &self,
+        finding: &HarmingFinding,
+        lines: Span,
+        runs: Option<RunRange>,
+        answers: &mut BTreeMap<(usize, usize), bool>,
+    ) -> Result<bool, AllocError> {
         match &finding.harm {
-            Harm::Nothing => false,
-            Harm::Itself => finding.line >= lines.first && finding.line < lines.end,
+            Harm::Nothing => Ok(false),
+            Harm::Itself => Ok(finding.line >= lines.first && finding.line < lines.end),
             Harm::Runs(parts) => match runs {
-                Some(runs) => self.harms_runs(parts.as_slice(), &runs),
-                None => false,
+                Some(runs) => self.harms_runs(parts.as_slice(), &runs, answers),
+                None => Ok(false),
             },
         }
     }
 
-    fn harms_runs(&self, parts: &[Span], runs: &RunRange) -> bool {
+    /// Whether one of these parts of a harm meets some runs. Findings share parts, so what each does is kept.
+    fn harms_runs(
+        &self,
+        parts: &[Span],
+        runs: &RunRange,
+        answers: &mut BTreeMap<(usize, usize), bool>,
+    ) -> Result<bool, AllocError> {
         for part in parts {
-            let own = self.runs.get(part.first..part.end).unwrap_or(&[]);
-            if are_met(own, runs) {
-                return true;
+            if self.meets(part, runs, answers)? {
+                return Ok(true);
             }
         }
-        false
+        Ok(false)
+    }
+
+    fn meets(
+        &self,
+        part: &Span,
+        runs: &RunRange,
+        answers: &mut BTreeMap<(usize, usize), bool>,
+    ) -> Result<bool, AllocError> {
+        let key = (part.first, part.end);
+        if let Some(known) = answers.get(&key) {
+            return Ok(*known);
+        }
+        let own = self.runs.get(part.first..part.end).unwrap_or(&[]);
+        let meets = are_met(own, runs);
+        let _before = answers.insert(key, meets)?;
+        Ok(meets)
     }
 }

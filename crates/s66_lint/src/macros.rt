@@ -9,6 +9,9 @@ use crate::way::Way;
 use std::alloc::{AllocError, Global};
 use std::collections::BTreeMap;
 
+/// In the body of how many macros a line is looked at, so that the time doesn't grow with their nesting.
+const NEST_LIMIT: usize = 3;
+
 /// A set of parameters, by their places.
 #[derive(Clone, Copy)]
 struct Parameters([u64; 4]);
@@ -65,6 +68,8 @@ struct Macro<'a> {
     first: usize,
     end: usize,
     is_read: bool,
+    /// In its body so many definitions nest that it isn't read.
+    is_deep: bool,
     parameters: Vec<Parameter<'a>>,
 }
 
@@ -118,15 +123,19 @@ fn macro_name<'a>(line: &Line<'a>) -> Option<&'a [u8]> {
     line.words.operand.split(|byte| *byte == b',').next()
 }
 
-/// The parameters that the line of a macro names.
-fn parameters_of<'a>(alloc: Global, line: &Line<'a>) -> Result<Vec<Parameter<'a>>, AllocError> {
+/// The parameters that the line of a macro names, before its body is read; that of a deep one isn't, and a term may stand with each.
+fn parameters_of<'a>(
+    alloc: Global,
+    line: &Line<'a>,
+    is_deep: bool,
+) -> Result<Vec<Parameter<'a>>, AllocError> {
     let mut parameters = Vec::new(alloc);
     let mut is_name = line.words.location.is_empty();
     for text in line.words.operand.split(|byte| *byte == b',') {
         if !is_name {
             parameters.push(Parameter {
                 name: around_equals(text).0,
-                has_term: false,
+                has_term: is_deep,
                 parameters: Parameters::none(),
             })?;
         }
@@ -162,6 +171,7 @@ impl<'a> Macros<'a> {
         let end = deck.lines().len();
         for (at, line) in deck.lines().iter().enumerate() {
             if begins_definition(line.operation()) {
+                self.mark_deep(open.as_slice());
                 let id = self.begin(alloc, at, end, line)?;
                 open.push(id)?;
             } else if line.operation() == b"ENDM".as_slice() {
@@ -171,6 +181,18 @@ impl<'a> Macros<'a> {
             }
         }
         Ok(())
+    }
+
+    /// Marks the macro in which one more definition is as many deep as there may be; those around it have been marked.
+    fn mark_deep(&mut self, open: &[Option<usize>]) {
+        let Some(place) = open.len().checked_sub(NEST_LIMIT) else {
+            return;
+        };
+        if let Some(Some(id)) = open.get(place) {
+            if let Some(known) = self.macros.get_mut(*id) {
+                known.is_deep = true;
+            }
+        }
     }
 
     /// The number of the macro that a line begins, if it does. If no line ends it, all but the last is of it.
@@ -189,6 +211,7 @@ impl<'a> Macros<'a> {
             first: at,
             end: end.saturating_sub(1),
             is_read: false,
+            is_deep: false,
             parameters: Vec::new(alloc),
         })?;
         let _before = self.ids.insert(name, id)?;
@@ -217,7 +240,10 @@ impl<'a> Macros<'a> {
         let Some(definition) = lines.get(called.first) else {
             return Ok(());
         };
-        called.parameters = parameters_of(alloc, definition)?;
+        called.parameters = parameters_of(alloc, definition, called.is_deep)?;
+        if called.is_deep {
+            return Ok(());
+        }
         let body = lines.get(called.first.saturating_add(1)..called.end);
         for line in body.unwrap_or(&[]) {
             if !line.is_comment() {
