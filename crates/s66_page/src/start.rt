@@ -24,7 +24,7 @@ th{white-space:pre}
 .index tr:last-child td{border-top:1px solid}
 .order{--one:var(--em);--room:calc(40*var(--em));--side:44vw;--close:0;--frame:2px}
 .index{margin-top:8px}
-.order th{position:sticky;left:0;z-index:1;background:linear-gradient(CanvasText,CanvasText) 0/var(--mark,0) no-repeat Canvas;max-width:var(--side);overflow:hidden;padding-left:6px}
+.order th{position:sticky;left:0;z-index:1;background:linear-gradient(CanvasText,CanvasText) 0/var(--mark,0) no-repeat Canvas;max-width:var(--side);overflow:hidden;text-overflow:ellipsis;padding-left:6px}
 .ruler{position:sticky;top:0;z-index:2;background:Canvas}
 svg{display:block;width:3em;height:16px;font-size:var(--em);overflow:visible}
 .order svg{width:calc(var(--n)*1em + var(--room));font-size:var(--one);background:repeating-linear-gradient(90deg,rgb(136 136 136/min(.5,.5 - var(--close)*(var(--n) - 800))) 0 1px,#0000 1px 10em) 0/calc(var(--n)*1em) no-repeat,repeating-linear-gradient(90deg,#8886 0 1px,#0000 1px 100em) 0/calc(var(--n)*1em) no-repeat,linear-gradient(#8888,#8888) calc(var(--n)*1em)/1px no-repeat}
@@ -60,7 +60,7 @@ pre{font:12px/15px monospace;margin:4px 0;columns:46ch;white-space:pre-wrap}
 @media print{
 :root{--em:7px}
 #fit,#fit+label{display:none}
-.order{--one:min(var(--em),(72vw - 40px - var(--room))/var(--n));--room:calc(24*var(--em));--side:26vw;--close:1;--frame:1px}
+.order{--one:min(var(--em),(72vw - 40px - var(--room))/var(--n));--room:calc(24*var(--em));--side:max(26vw,96vw - 40px - var(--room) - var(--n)*var(--one));--close:1;--frame:1px}
 .order th,.order td{font-size:8px;line-height:13px}
 .order th,.ruler{position:static}
 .order svg{height:16px;margin:-2px 0 -1px}
@@ -93,5 +93,5 @@ tspan{font-family:sans-serif}
 /// What follows the profile, up to the rows of the list of blocks.
 pub const PAGE_LIST: &[u8] = b"<input type='checkbox' id='fit'><label for='fit'>fit to width</label>
 <table class='index'>
-<tr><th>BLOCK<th>LABEL<th>LINE<th>COUNT<th>SOURCE<th>TIME<th>SAVED<th>BOUND
+<tr><th>BLOCK<th>ENTRY<th>LINE<th>COUNT<th>SOURCE<th>TIME<th>SAVED<th>BOUND
 ";
