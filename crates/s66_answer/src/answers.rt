@@ -15,7 +15,7 @@ ghost use Rattle.s66_answer.specs.Stored.{AreBeside, IsFor, IsFound, IsSearchOf,
 use crate::documents::{document_by, document_of, is_accepted};
 use s66_cert::{Document, Evidence, Tree};
 use s66_command::Strategy;
-use s66_deep::{Look, Looked, faster, look_at};
+use s66_deep::{Look, Looked, faster, look_at, show_best};
 use s66_dep::Order;
 use s66_isa::{BLOCK_LIMIT, Profile};
 use s66_ledger::Answer;
@@ -31,8 +31,11 @@ use std::thread::Threads;
 /// How many splits a search makes before facts are looked for, as a multiple of the square of the block's length.
 const SQUARE_SPLITS: u32 = 20;
 
-/// How many lines a tree has at most that no document by facts is sought to shorten.
-const SHORT_TREE: usize = 8;
+/// How many lines a tree has at most that no document by facts is sought to shorten: it would save less than the search for it costs.
+const SHORT_TREE: usize = 200;
+
+/// A tree by facts that is to be shorter has at most one split for so many lines of the other.
+const SHORTER_SHARE: usize = 2;
 
 /// An answer that facts show, by a document which the checker accepts.
 #[derive(Drop)]
@@ -440,8 +443,18 @@ fn in_fewer_lines(
     shown_or_searched(alloc, block, profile, answer, beside, evidence)
 }
 
-/// The answer of a search that found a best order; if documents are printed, one by facts if that is shorter, whose tree has at most so
-/// many splits.
+/// How many splits a tree may have that is to be shorter than one of so many lines, if it may have so many.
+fn shorter_splits(lines: usize, most: u32) -> u32
+    ensures { result ≤ most }
+{
+    match u32::try_from(lines / SHORTER_SHARE) {
+        Ok(splits) => splits.min(most),
+        Err(_) => most,
+    }
+}
+
+/// The answer of a search that found a best order; if documents are printed and its tree is long, one by facts if that is shorter, whose
+/// tree has at most so many splits.
 fn found_best(
     alloc: Global,
     block: &Block,
@@ -457,13 +470,15 @@ fn found_best(
 {
     let found = search.finish()?;
     let answer = nearest(block, found);
-    if !is_printed || answer.line_count() <= SHORT_TREE {
+    let lines = answer.line_count();
+    if !is_printed || lines <= SHORT_TREE {
         return Ok(by_search(answer, 0));
     }
-    let look = look_at(alloc, block, profile, answer.best(), most, true)?;
+    let few = shorter_splits(lines, most);
+    let look = show_best(alloc, block, profile, answer.best(), few)?;
     let Look { found, splits } = look;
     match found {
-        Some(looked) => in_fewer_lines(alloc, block, profile, answer, looked, splits, most),
+        Some(looked) => in_fewer_lines(alloc, block, profile, answer, looked, splits, few),
         None => Ok(by_search(answer, splits)),
     }
 }

@@ -20,6 +20,6 @@ pub use beam::beam_below;
 pub use best_first::{Branched, Limits, branch};
 pub use facts::Finder;
 pub use floors::{Left, PathBounds, Tails};
-pub use look::{Look, Looked, look_at};
+pub use look::{Look, Looked, look_at, show_best};
 pub use orders::faster;
 pub use walk::Prefix;

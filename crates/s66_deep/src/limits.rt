@@ -36,6 +36,13 @@ pub const HALVES_LIMIT: u32 = 8;
 /// By how many minor cycles a bound is raised at most.
 pub const RAISES_LIMIT: u32 = 128;
 
+/// How many splits a search of a long block has at least, so that wide beams and the middles of bounds are tried beside it: they take as
+/// long as so many, and decide hardly a block that fewer splits don't.
+pub const WIDE_SPLITS: u32 = 8_192;
+
+/// How many instructions a block has at most for which they are always tried, since they take little time.
+pub const SHORT_COUNT: usize = 48;
+
 /// What part of its splits a search makes before the widest beam is tried, which takes longer than most searches.
 pub const FIRST_SHARE: u32 = 16;
 

@@ -33,6 +33,16 @@ pub(crate) struct Halved {
     pub(crate) bound: Bound,
 }
 
+impl Lined {
+    /// What its lines show of all orders, which is at most what the best one takes. `Err` is out of memory.
+    pub(crate) fn bound(&self) -> Result<Bound, AllocError> {
+        Ok(Bound {
+            value: self.below.root().1.min(self.best.total()),
+            finder: self.below.duplicate()?,
+        })
+    }
+}
+
 /// An order that a beam of this width finds by fact lines for orders below a limit, if there is one.
 pub(crate) fn beam_by(
     instance: &Instance<'_>,
@@ -120,13 +130,9 @@ pub(crate) fn halve(instance: &Instance<'_>, lined: Lined) -> Result<Halved, All
     requires { IsGood instance.now lined.best }
     ensures { IfOk result (λ halved. IsGood instance.now halved.best) }
 {
+    let mut bound = lined.bound()?;
     let Lined { mut best, below } = lined;
-    let (_, reached) = below.root();
     let mut above = best.total();
-    let mut bound = Bound {
-        value: reached.min(above),
-        finder: below.duplicate()?,
-    };
     for _ in 0..HALVES_LIMIT {
         let middle = middle_of(bound.value, above);
         if middle <= bound.value {

@@ -8,7 +8,7 @@ use crate::facts::Finder;
 use crate::instance::Instance;
 use crate::lines::best_by_beams;
 use crate::orders::{faster, source_order};
-use crate::search::{Searched, Written, search};
+use crate::search::{Searched, Tried, Written, search, show};
 use s66_cert::Evidence;
 use s66_isa::Profile;
 use s66_line::Block;
@@ -94,4 +94,42 @@ pub fn look_at(
         found: fitting(best, source, written, most, splits),
         splits,
     })
+}
+
+/// Fact lines and a tree of at most so many splits, by which a certificate can show that no order of a block takes less than this one,
+/// which is known to be best. No other order is sought, so this takes far less time than a look. Whether the lines show it is for a
+/// checker to say.
+///
+/// `Err` is out of memory.
+pub fn show_best(
+    alloc: Global,
+    block: &Block,
+    profile: &Profile,
+    best: &Timed,
+    most: u32,
+) -> Result<Look, AllocError>
+    requires { best.now.problem ≡ record { block = instrs_of block.now; profile = profile.now } }
+    ensures found { IfOk result (λ look. IfSome look.found
+        (IsLooked (record { block = instrs_of block.now; profile = profile.now }) most look.splits)) }
+    ensures splits { IfOk result (λ look. look.splits ≤ most) }
+{
+    let written = source_order(block, profile);
+    let source = written.total();
+    let first = faster(written, Some(best.duplicate()));
+    let instance = Instance {
+        alloc,
+        block,
+        profile,
+    };
+    let finder = Finder::new(alloc, block, profile)?;
+    let Tried {
+        best,
+        splits,
+        shown,
+    } = show(&instance, &finder, first, most)?;
+    let found = match shown {
+        Some(written) => fitting(best, source, written, most, splits),
+        None => None,
+    };
+    Ok(Look { found, splits })
 }

@@ -6,7 +6,9 @@ ghost use Rattle.s66_deep.specs.Orders.{IsGood};
 use crate::best_first::{Branched, Limits, branch};
 use crate::facts::Finder;
 use crate::instance::Instance;
-use crate::limits::{BEAM_WIDTH, FIRST_SHARE, RAISES_LIMIT, WIDE_WIDTH, WIDEST_WIDTH};
+use crate::limits::{
+    BEAM_WIDTH, FIRST_SHARE, RAISES_LIMIT, SHORT_COUNT, WIDE_SPLITS, WIDE_WIDTH, WIDEST_WIDTH,
+};
 use crate::lines::{Bound, Halved, Lined, beam_by, best_by_lines, found_below, halve};
 use crate::orders::faster;
 use s66_cert::{Tree, TreeLine};
@@ -54,10 +56,10 @@ struct Goal {
 
 /// What a search of so many splits found: the best order, and what its tree shows, if that is more than was known.
 #[derive(Drop)]
-struct Tried {
-    best: Timed,
-    splits: u32,
-    shown: Option<Written>,
+pub(crate) struct Tried {
+    pub(crate) best: Timed,
+    pub(crate) splits: u32,
+    pub(crate) shown: Option<Written>,
 }
 
 /// The finder of a bound. If its lines are to be printed, it has only those that the bound needs.
@@ -237,29 +239,21 @@ fn raise(
     })
 }
 
-/// Goes on from what was found, unless no order takes less, by the fact lines of orders that take less: beams of this width, and a search
-/// of at most so many more splits.
-fn go_on(
+/// Goes on from what was found, unless no order takes less: a search by fact lines of orders that take less, of at most so many more
+/// splits.
+fn search_lines(
     instance: &Instance<'_>,
-    finder: &Finder,
-    searched: Searched,
-    width: usize,
+    lined: Lined,
+    shown: Shown,
+    splits: u32,
     most: u32,
 ) -> Result<Searched, AllocError>
-    requires { IsGood instance.now searched.best }
+    requires { IsGood instance.now lined.best }
     ensures best { IfOk result (λ next. IsGood instance.now next.best) }
-    ensures splits { IfOk result (λ next. next.splits ≤ searched.splits + most) }
+    ensures splits { IfOk result (λ next. next.splits ≤ splits + most) }
 {
-    let bound = searched.shown.bound();
-    if searched.best.total() <= bound {
-        return Ok(searched);
-    }
-    let Searched {
-        best,
-        shown,
-        splits,
-    } = searched;
-    let Lined { best, below } = best_by_lines(instance, finder, width, best)?;
+    let Lined { best, below } = lined;
+    let bound = shown.bound();
     if best.total() <= bound {
         return Ok(Searched {
             best,
@@ -280,8 +274,34 @@ fn go_on(
     })
 }
 
+/// Goes on from what was found, unless no order takes less, by the fact lines of orders that take less: beams of this width, and a search
+/// of at most so many more splits.
+fn go_on(
+    instance: &Instance<'_>,
+    finder: &Finder,
+    searched: Searched,
+    width: usize,
+    most: u32,
+) -> Result<Searched, AllocError>
+    requires { IsGood instance.now searched.best }
+    ensures best { IfOk result (λ next. IsGood instance.now next.best) }
+    ensures splits { IfOk result (λ next. next.splits ≤ searched.splits + most) }
+{
+    if searched.best.total() <= searched.shown.bound() {
+        return Ok(searched);
+    }
+    let Searched {
+        best,
+        shown,
+        splits,
+    } = searched;
+    let lined = best_by_lines(instance, finder, width, best)?;
+    search_lines(instance, lined, shown, splits, most)
+}
+
 /// The best order that is found, and what shows that none takes less, or how little less: fact lines and a leaf, or a tree of at most
 /// this many splits. At most half as many more are made to raise what is shown, after those for orders that take less than the best.
+/// Beside few splits of a long block nothing is tried that takes longer than they do.
 pub(crate) fn search(
     instance: &Instance<'_>,
     finder: &Finder,
@@ -293,6 +313,10 @@ pub(crate) fn search(
     ensures splits { IfOk result (λ searched. searched.splits ≤ most + most / 2) }
 {
     let lined = best_by_lines(instance, finder, BEAM_WIDTH, best)?;
+    if most < WIDE_SPLITS && SHORT_COUNT < instance.block.count() {
+        let shown = Shown::ByLeaf(lined.bound()?);
+        return search_lines(instance, lined, shown, 0, most);
+    }
     let Halved { best, below, bound } = halve(instance, lined)?;
     let searched = Searched {
         best,
@@ -303,4 +327,39 @@ pub(crate) fn search(
     let left = most.saturating_sub(first.splits);
     let second = go_on(instance, &below, first, WIDEST_WIDTH, left)?;
     raise(instance, &below, second, most / 2)
+}
+
+/// What shows that no order takes less than this one, which is known to be best: fact lines and a leaf, or a tree of at most so many
+/// splits. The lines are those that are needed, since they are for print.
+pub(crate) fn show(
+    instance: &Instance<'_>,
+    finder: &Finder,
+    best: Timed,
+    most: u32,
+) -> Result<Tried, AllocError>
+    requires { IsGood instance.now best }
+    ensures best { IfOk result (λ tried. IsGood instance.now tried.best) }
+    ensures splits { IfOk result (λ tried. tried.splits ≤ most) }
+{
+    let total = best.total();
+    let below = found_below(finder, total)?;
+    if total <= below.root().1 {
+        let bound = Bound {
+            value: total,
+            finder: below,
+        };
+        let written = by_leaf(instance.alloc, bound, true)?;
+        return Ok(Tried {
+            best,
+            splits: 0,
+            shown: Some(written),
+        });
+    }
+    let goal = Goal {
+        limit: total,
+        // a tree that shows less is of no use
+        bound: total.saturating_sub(1),
+        splits: most,
+    };
+    search_below(instance, below, best, goal)
 }

@@ -17,6 +17,13 @@ fn over(work: u32, copies: u32) -> u32 {
     }
 }
 
+/// Whether so many units take no longer than this for work of such a sum, even if the last turn is of one instruction, for so long.
+fn are_far(sum: i64, last: u32, copies: u32, than: i64) -> bool {
+    let units = copies.max(1) as i64;
+    let idle = (units - 1).saturating_mul(last as i64);
+    sum.saturating_add(idle) <= units.saturating_mul(than)
+}
+
 impl Work {
     /// The same with one more.
     pub fn with(&self, amount: u32) -> Work {
@@ -39,5 +46,16 @@ impl Work {
     /// No less than they have by any of them.
     pub fn longest_time(&self, copies: u32) -> u32 {
         over(self.sum, copies).max(over(self.count, copies).saturating_mul(self.greatest))
+    }
+
+    /// Whether `time` is more than this. Mostly it is far from that, which shows without a division.
+    pub fn takes_longer(&self, copies: u32, than: i64) -> bool {
+        !are_far(self.sum as i64, self.least, copies, than) && self.time(copies) as i64 > than
+    }
+
+    /// Whether `longest_time` is more than this. Mostly it is far from that, which shows without a division.
+    pub fn may_take_longer(&self, copies: u32, than: i64) -> bool {
+        let most = (self.count as i64).saturating_mul(self.greatest as i64);
+        !are_far(most, self.greatest, copies, than) && self.longest_time(copies) as i64 > than
     }
 }

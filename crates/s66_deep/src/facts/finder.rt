@@ -10,6 +10,7 @@ use crate::facts::precedence::Precedence;
 use crate::facts::sketch::Sketch;
 use crate::facts::spans::{FROM_ORIGIN, Spans, TO_END, at_issue};
 use crate::facts::taken::{Taken, word};
+use crate::facts::tried::Tried;
 use crate::facts::ways::Ways;
 use crate::floors::Tails;
 use crate::limits::{PASSES_LIMIT, ROUNDS_LIMIT, WAIT_LIMIT};
@@ -30,6 +31,20 @@ pub struct Finder {
     taken: Box<Taken>,
     lines: Vec<FactLine>,
     ways: Ways,
+    tried: Tried,
+    /// The bound for which there is nothing more to be found, if there is one.
+    settled: Option<u32>,
+}
+
+/// What a look for pairs came to.
+#[derive(Clone, Copy, PartialEq, Eq)]
+enum Pairs {
+    /// A path takes the bound.
+    ReachBound,
+    /// There are no more.
+    AreAll,
+    /// There may be more.
+    AreSome,
 }
 
 /// Where a load line leads from; 0 is the origin.
@@ -61,6 +76,17 @@ fn back_place(n: u8) -> usize {
     match n {
         0 => TO_END,
         _ => at_issue(n),
+    }
+}
+
+/// The number from which a line makes paths grow; 0 is the origin.
+fn number_of(line: &FactLine) -> u8 {
+    match line {
+        FactLine::Pair(m, _) => *m,
+        FactLine::Load(load) => match load.from {
+            Moment::At(n, _) => n,
+            _ => 0,
+        },
     }
 }
 
@@ -116,6 +142,8 @@ impl Finder {
             ground,
             lines: Vec::new(alloc),
             ways: Ways::new(alloc),
+            tried: Tried::new(alloc)?,
+            settled: None,
         })
     }
 
@@ -132,8 +160,18 @@ impl Finder {
     /// Takes pairs that are forced in all orders that take less than the bound, and load lines, until no path grows, or one takes the
     /// bound, or `ROUNDS_LIMIT` rounds are over. `Err` is out of memory.
     pub fn find_below(&mut self, bound: u32) -> Result<(), AllocError> {
+        if self.settled == Some(bound) {
+            return Ok(());
+        }
         for _round in 0..ROUNDS_LIMIT {
-            if self.take_pairs(bound)? || !self.take_loads(true)? {
+            let pairs = self.take_pairs(bound)?;
+            if pairs == Pairs::ReachBound {
+                return Ok(());
+            }
+            if !self.take_loads(true)? {
+                if pairs == Pairs::AreAll {
+                    self.settled = Some(bound);
+                }
                 return Ok(());
             }
         }
@@ -184,6 +222,8 @@ impl Finder {
             taken: Box::new(self.alloc, self.taken.duplicate())?,
             lines: copies_of(self.alloc, self.lines.as_slice())?,
             ways: Ways::new(self.alloc),
+            tried: self.tried.duplicate(self.alloc)?,
+            settled: self.settled,
         })
     }
 
@@ -222,20 +262,20 @@ impl Finder {
         Network::of(self.alloc, &self.ground, known, self.lines.as_slice())
     }
 
-    /// Takes pairs until there are no more, or a path takes the bound; whether one does.
-    fn take_pairs(&mut self, bound: u32) -> Result<bool, AllocError> {
+    /// Takes pairs until there are no more, or a path takes the bound, or `PASSES_LIMIT` passes are over.
+    fn take_pairs(&mut self, bound: u32) -> Result<Pairs, AllocError> {
         for _pass in 0..PASSES_LIMIT {
             if self.root().1 >= bound {
-                return Ok(true);
+                return Ok(Pairs::ReachBound);
             }
             let known = Precedence::of(self.taken.facts());
             let network = self.network(&known)?;
             let forced = Forced::of(&self.ground, &known, &network, bound);
             if !self.take_forced(&known, &forced, bound)? {
-                return Ok(false);
+                return Ok(Pairs::AreAll);
             }
         }
-        Ok(false)
+        Ok(Pairs::AreSome)
     }
 
     /// Takes forced pairs; whether there are some. With one of a ring some path takes the bound.
@@ -261,9 +301,22 @@ impl Finder {
     fn take(&mut self, bound: u32, line: FactLine) -> Result<bool, AllocError> {
         let is_taken = self.taken.take(bound, &line);
         if is_taken {
+            self.settled = None;
+            self.forget_before(number_of(&line));
             self.lines.push(line)?;
         }
         Ok(is_taken)
+    }
+
+    /// Paths from a number grew, 0 for the origin, and so did those through it: from numbers before it, and from the origin.
+    fn forget_before(&mut self, number: u8) {
+        self.tried.forget(0);
+        for position in 0..self.taken.facts().count() {
+            let n = position + 1;
+            if n == number || self.taken.is_before(n, number) {
+                self.tried.forget(n);
+            }
+        }
     }
 
     /// Takes the pairs of m and of these numbers; whether some are taken.
@@ -316,16 +369,17 @@ impl Finder {
         Ok(is_more)
     }
 
-    /// What says most between two places, if with it a path from the origin or to the end grows.
+    /// What says most between two places, and more than a wait.
     fn best_between(
         &mut self,
         known: &Precedence,
         spans: &Spans,
         from: u8,
         to: u8,
+        wait: u32,
     ) -> Result<Option<FoundLoad>, AllocError> {
         let between = known.between(from, to);
-        let mut wait = wait_known(spans, from, to);
+        let mut wait = wait;
         let mut found = None;
         for kind in KINDS {
             let numbers = between.both(&self.ground.users(kind));
@@ -366,7 +420,12 @@ impl Finder {
         from: u8,
         to: u8,
     ) -> Result<bool, AllocError> {
-        let Some(found) = self.best_between(known, spans, from, to)? else {
+        let known_wait = wait_known(spans, from, to);
+        if self.tried.has(from, to, known_wait) {
+            return Ok(false);
+        }
+        let Some(found) = self.best_between(known, spans, from, to, known_wait)? else {
+            self.tried.add(from, to, known_wait);
             return Ok(false);
         };
         let wait = u32::try_from(found.best.wait).unwrap_or(u32::MAX);

@@ -15,6 +15,7 @@ mod sketch;
 mod sort;
 mod spans;
 mod taken;
+mod tried;
 mod ways;
 
 pub use copies::copy_of;

@@ -29,6 +29,17 @@ impl Share {
     }
 }
 
+/// How long so many units have work by those of these at most that begin so late.
+fn longest_after(shares: &[Share], copies: u32, after: u32) -> u32 {
+    let mut work = Work::default();
+    for share in shares {
+        if share.head >= after {
+            work = work.with(share.amount);
+        }
+    }
+    work.longest_time(copies)
+}
+
 /// How long so many units have work by any of these at most.
 fn longest_time(shares: &[Share], copies: u32) -> u32 {
     let mut work = Work::default();
@@ -38,8 +49,9 @@ fn longest_time(shares: &[Share], copies: u32) -> u32 {
     work.longest_time(copies)
 }
 
-/// Whether some of these that begin so late may say more than a wait. They are sorted, and any of them take no longer than this.
-fn pass_after(shares: &[Share], copies: u32, longest: u32, after: u32, wait: u32) -> bool {
+/// Whether some of these that begin so late may say more than a wait. They are sorted.
+fn pass_after(shares: &[Share], copies: u32, after: u32, wait: u32) -> bool {
+    let longest = longest_after(shares, copies, after);
     let mut work = Work::default();
     for share in shares {
         let room = wait as i64 - after as i64 - share.tail as i64 + share.amount as i64;
@@ -49,7 +61,7 @@ fn pass_after(shares: &[Share], copies: u32, longest: u32, after: u32, wait: u32
         }
         if share.head >= after {
             work = work.with(share.amount);
-            if work.longest_time(copies) as i64 > room {
+            if work.may_take_longer(copies, room) {
                 return true;
             }
         }
@@ -113,9 +125,8 @@ impl Shares {
         }
         sort(self.shares.as_mut_slice(), |share| share.left());
         let shares = self.shares.as_slice();
-        let longest = longest_time(shares, copies);
         for share in shares {
-            if pass_after(shares, copies, longest, share.head, wait) {
+            if pass_after(shares, copies, share.head, wait) {
                 return true;
             }
         }

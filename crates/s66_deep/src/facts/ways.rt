@@ -11,7 +11,36 @@ use s66_dep::Set;
 use s66_isa::BLOCK_LIMIT;
 use std::alloc::{AllocError, Global};
 
-/// The best of those that begin so late, or what was better. The ways are sorted, and any of their uses take no longer than this.
+/// When an instruction begins its use at the latest, as far as paths show, and how long it has its unit.
+#[derive(Clone, Copy)]
+struct Latest {
+    head: u32,
+    amount: u32,
+}
+
+/// How long so many units have work at most by those that begin so late.
+fn longest_after(latest: &[Latest], copies: u32, after: u32) -> u32 {
+    let mut work = Work::default();
+    for one in latest {
+        if one.head >= after {
+            work = work.with(one.amount);
+        }
+    }
+    work.longest_time(copies)
+}
+
+/// Whether a head is one of these.
+fn has_head(heads: &[u32], head: u32) -> bool {
+    for one in heads {
+        if *one == head {
+            return true;
+        }
+    }
+    false
+}
+
+/// The best of those that begin so late, or what was better. The ways are sorted, and the uses of those that begin so late take no longer
+/// than this.
 fn best_after(ways: &[Way], copies: u32, longest: u32, after: u32, best: Best) -> Best {
     let mut best = best;
     let mut seen = Set::empty();
@@ -25,12 +54,15 @@ fn best_after(ways: &[Way], copies: u32, longest: u32, after: u32, best: Best) -
         if way.head >= after && !seen.has(n) && n >= 1 && n as usize <= BLOCK_LIMIT {
             seen = seen.with(n);
             work = work.with(way.amount);
-            let wait = (after as i64 + work.time(copies) as i64).saturating_add(way.left);
-            if wait > best.wait {
+            let room = best
+                .wait
+                .saturating_sub(way.left)
+                .saturating_sub(after as i64);
+            if work.takes_longer(copies, room) {
                 best = Best {
                     after,
                     left: way.left,
-                    wait,
+                    wait: (after as i64 + work.time(copies) as i64).saturating_add(way.left),
                 };
             }
         }
@@ -43,6 +75,10 @@ fn best_after(ways: &[Way], copies: u32, longest: u32, after: u32, best: Best) -
 pub struct Ways {
     shares: Shares,
     ways: Vec<Way>,
+    /// The last way of each number.
+    latest: Vec<Latest>,
+    /// The heads after which the best was sought.
+    heads: Vec<u32>,
 }
 
 impl Ways {
@@ -51,6 +87,8 @@ impl Ways {
         Ways {
             shares: Shares::new(alloc),
             ways: Vec::new(alloc),
+            latest: Vec::new(alloc),
+            heads: Vec::new(alloc),
         }
     }
 
@@ -62,13 +100,26 @@ impl Ways {
         Ok(())
     }
 
+    /// Adds the ways of an instruction of a load: its use begins at its issue or at its start, which comes later.
+    fn add_both(&mut self, load: &Load, n: u8) -> Result<(), AllocError> {
+        let (issue, start) = (load.way(n, at_issue(n)), load.way(n, at_start(n)));
+        if let Some(way) = start.or(issue) {
+            self.latest.push(Latest {
+                head: way.head,
+                amount: way.amount,
+            })?;
+        }
+        self.add(issue)?;
+        self.add(start)
+    }
+
     /// Finds those of a load, sorted by what is left, the most first.
     fn find(&mut self, load: &Load) -> Result<(), AllocError> {
         self.ways.clear();
+        self.latest.clear();
         let mut rest = load.numbers;
         while let Some(n) = rest.pop_first() {
-            self.add(load.way(n, at_issue(n)))?;
-            self.add(load.way(n, at_start(n)))?;
+            self.add_both(load, n)?;
         }
         sort(self.ways.as_mut_slice(), |way| way.left);
         Ok(())
@@ -79,20 +130,23 @@ impl Ways {
     /// `Err` is out of memory.
     pub fn best(&mut self, load: &Load, wait: u32) -> Result<Option<Best>, AllocError> {
         self.shares.find(load)?;
-        let longest = self.shares.longest_time(load.copies);
         if !self.shares.may_pass(load.copies, wait) {
             return Ok(None);
         }
         self.find(load)?;
-        let ways = self.ways.as_slice();
+        self.heads.clear();
+        let (ways, latest) = (self.ways.as_slice(), self.latest.as_slice());
         let mut best = Best {
             after: 0,
             left: 0,
             wait: wait as i64,
         };
         for way in ways {
-            if way.head <= WAIT_LIMIT {
-                best = best_after(ways, load.copies, longest, way.head, best);
+            let after = way.head;
+            if after <= WAIT_LIMIT && !has_head(self.heads.as_slice(), after) {
+                self.heads.push(after)?;
+                let longest = longest_after(latest, load.copies, after);
+                best = best_after(ways, load.copies, longest, after, best);
             }
         }
         if best.wait > wait as i64 {

@@ -1,0 +1,60 @@
+//! Between which instructions no load line was found, so that none is sought there again before paths grow.
+
+use s66_isa::BLOCK_LIMIT;
+use std::alloc::{AllocError, Global};
+
+/// How many numbers there are, with 0 for the origin and the end.
+const NUMBER_COUNT: usize = BLOCK_LIMIT + 1;
+
+/// The waits from a number from which none was tried.
+const UNKNOWN: [u32; NUMBER_COUNT] = [u32::MAX; NUMBER_COUNT];
+
+/// From each number, and at 0 from the origin, to each: a wait than which no load line says more.
+#[derive(Drop)]
+pub struct Tried {
+    waits: Vec<[u32; NUMBER_COUNT]>,
+}
+
+impl Tried {
+    /// Knows nothing. `Err` is out of memory.
+    pub fn new(alloc: Global) -> Result<Tried, AllocError> {
+        let mut waits = Vec::new(alloc);
+        for _ in 0..NUMBER_COUNT {
+            waits.push(UNKNOWN)?;
+        }
+        Ok(Tried { waits })
+    }
+
+    /// The same. `Err` is out of memory.
+    pub fn duplicate(&self, alloc: Global) -> Result<Tried, AllocError> {
+        let mut waits = Vec::new(alloc);
+        for row in self.waits.as_slice() {
+            waits.push(*row)?;
+        }
+        Ok(Tried { waits })
+    }
+
+    /// Whether no load line from one number to another says more than this wait.
+    pub fn has(&self, from: u8, to: u8, wait: u32) -> bool {
+        match self.waits.get(from as usize) {
+            Some(row) => (to as usize) < NUMBER_COUNT && row[to as usize] <= wait,
+            None => false,
+        }
+    }
+
+    /// None says more than this wait.
+    pub fn add(&mut self, from: u8, to: u8, wait: u32) {
+        let place = from as usize;
+        if place < self.waits.len() && (to as usize) < NUMBER_COUNT {
+            self.waits[place][to as usize] = wait;
+        }
+    }
+
+    /// Paths from a number grew.
+    pub fn forget(&mut self, from: u8) {
+        let place = from as usize;
+        if place < self.waits.len() {
+            self.waits[place] = UNKNOWN;
+        }
+    }
+}
