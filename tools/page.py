@@ -11,8 +11,9 @@ hidden, and all that `why` says must be seen. Its bars must begin and end where 
 `time --trace` of what `order` prints and `why --order` of the best one, and its list must say what `sum` says. Above a source order
 must stand the units and registers that `chart --units` draws, each held by the same instruction in each minor cycle. Below the orders of a
 block whose best order is `BEST` must stand the sentences that `check --text` and `why --order` write of it. On paper nothing may stand
-past the sheet, nor may a bar on a screen once the page is to fit its width. Each wrong thing is told, and the last line counts
-the pages. The status is 1 if something is wrong.
+past the sheet, nor may a bar on a screen once the page is to fit its width. The same holds of pages of two sources, whose list must be
+what `compare --text` prints, and whose orders those that `time --trace` and `why` have of the two. Each wrong thing is told, and the last
+line counts the pages. The status is 1 if something is wrong.
 
 With --picture docs/page.png is taken anew, which docs/check.py asks for when the page in it has changed.
 
@@ -47,6 +48,8 @@ WAIT = re.compile(r" *(\d+) (FIRST|SECOND|THIRD) (\d+) TO (\d+) (REGISTER (\w\d)
 HELD = re.compile(r"(\S+)(?: +\d+)? {5,}([-.0-9]+)")  # a row of a unit or a register in a chart
 TRACE = re.compile(r"I (\d+) PARCEL \d+ ISSUE (\d+) START (\d+) DONE (\d+) FREE (\d+)")
 INSTRUCTION = re.compile(rb"(?![*])\S*[ +-] *((?:[A-Z]X[0-7]|S[AB][0-7])\b.*)")
+SIDE = r"LINE \d+ COUNT \d+ TIME (\d+)"
+PAIR = re.compile(rf"BLOCK \d+(?: {SIDE})?(?: NEW {SIDE})? (?:(SAME)|ORDER ([ \d]+)|(?:NOT LEGAL|OTHER CODE|GONE|ADDED)\b.*)")
 SUM = re.compile(r"BLOCK (\d+) LINE (\d+) COUNT (\d+) SOURCE (\d+) TIME (\d+) (BEST|AT LEAST \d+) MOVED \d+(?: ENTRY .*)?")
 TOTAL = re.compile(r"TOTAL BLOCKS \d+ SOURCE (\d+) TIME (\d+) (BEST \d+) MOVED \d+")
 
@@ -77,7 +80,7 @@ LOOK = """(() => {
     elements: [...new Set([...document.querySelectorAll('*')].map(e => e.localName))].sort(),
     attributes: [...new Set([...document.querySelectorAll('*')].flatMap(e => e.getAttributeNames()))].sort(),
     list: [...document.querySelectorAll('.index tr')].slice(1).map(e => [...e.querySelectorAll('td')].map(t => t.textContent.trim())),
-    links: [...document.querySelectorAll('.index a')].every(a => document.getElementById(a.getAttribute('href').slice(1))),
+    links: [...document.querySelectorAll('a')].every(a => document.getElementById(a.getAttribute('href').slice(1))),
     blocks: [...document.querySelectorAll('h2')].map(e => e.textContent),
     pieces: [...document.querySelectorAll('body > *:not(input, label)')].map(e => [e.localName, ...place(e)]),
     seen: [...document.querySelectorAll('h2, h3, pre, table, p')].every(isSeen),
@@ -198,9 +201,9 @@ class Browser:
 
 
 def run(program, words, given):
-    """What the program writes; all that it is given is a source, so that its status is 0 or 7."""
+    """What the program writes; all that it is given is a source or two, so that its status is 0, 5 or 7."""
     done = subprocess.run([program, *words], input=given, stdout=subprocess.PIPE, stderr=subprocess.PIPE)
-    if done.returncode not in (0, 7):
+    if done.returncode not in (0, 5, 7):
         raise RuntimeError(f"{' '.join(words)}: status {done.returncode}, {done.stderr}")
     return done.stdout
 
@@ -332,8 +335,15 @@ def list_faults(shown, rows, total):
     return faults if shown["title"] == (names + ["s66"])[0] else faults + [f"title {shown['title']}, not {names[:1]}"]
 
 
+def pair_list_faults(shown, lines):
+    """What the headings and the title of a page of two sources say otherwise than `compare --text` does."""
+    headings = [heading.removesuffix(" \u2191") for heading in shown["blocks"]]
+    faults = [] if headings == lines and shown["links"] else [f"headings {headings}, not {lines}"]
+    return faults if shown["title"] == "s66 compare" else faults + [f"title {shown['title']}"]
+
+
 def faults_of(shown, events, path, rows, total, orders, reasons):
-    """What is wrong with a page that was opened."""
+    """What is wrong with a page that was opened; one of two sources has no total."""
     faults = []
     asked = [event["params"]["request"]["url"] for event in events if event.get("method") == "Network.requestWillBeSent"]
     if asked != ["file://" + path]:
@@ -346,7 +356,7 @@ def faults_of(shown, events, path, rows, total, orders, reasons):
         faults.append("something is hidden")
     if not shown["whole"]:
         faults.append("a part of what why says isn't seen")
-    faults += list_faults(shown, rows, total)
+    faults += list_faults(shown, rows, total) if total else pair_list_faults(shown, rows)
     if len(shown["blocks"]) != len(rows) or len(shown["orders"]) != len(orders):
         return faults + [f"{len(shown['blocks'])} blocks and {len(shown['orders'])} orders, not {len(rows)} and {len(orders)}"]
     if overlaps([piece[1:] for piece in shown["pieces"]]):
@@ -467,6 +477,83 @@ def check_page(browser, program, name, given, pictures):
     return [f"{name}, {fault}" for fault in faults]
 
 
+def renumbered(lines, order):
+    """What `why` says, with the numbers that these instructions have in another source. Where the end waits for several, `PATH` goes to that
+    of the least number, which may be another one there: so in blocks of which this is asked it has to wait for one."""
+    def number(text):
+        return order[int(text) - 1]
+
+    for line in lines:
+        found = WAIT.match(line)
+        if found:
+            line = f"{number(found[1]):3}{line[3:found.start(8)]}{number(found[8])}"
+        elif line.startswith("PATH"):
+            line = " ".join(["PATH", *(str(number(text)) for text in line.split()[1:])])
+        yield line
+
+
+def pairs_of(program, old, new, is_best):
+    """What `compare --text` says of two sources, line by line; how many lines are of blocks; and of each of these the orders of both, as
+    `orders_of` has them, by the numbers of the old source if the new one has its instructions. `why --order` has these of a new source
+    that is the old one in the best order."""
+    lines = run(program, ["compare", "--text"], old + b"*S66 NEW\n" + new).decode().splitlines()
+    rows = [row for row in map(PAIR.fullmatch, lines) if row]
+    traces = [iter(by_blocks(run(program, ["time", "--trace"], text))) for text in (old, new)]
+    whys = [by_blocks(run(program, *words)) for words in ((["why"], old), (["why", "--order", *SEARCH], old) if is_best else (["why"], new))]
+    whys = [iter([waits_and_reasons(block)[0] for block in blocks]) for blocks in whys]
+    orders = []
+    for row in rows:
+        for side in (side for side in (0, 1) if row[side + 1]):
+            trace, why = next(traces[side]), next(whys[side])
+            if row[4] and side and not is_best:
+                why = list(renumbered(why, [int(number) for number in row[4].split()]))
+            if not row[3] or not side:
+                orders.append((not side, int(row[side + 1]), [TRACE.fullmatch(line) for line in trace], why))
+    return lines, len(rows), orders
+
+
+def check_pair(browser, program, name, old, new, is_best):
+    """What is wrong with the page of two sources, on screens and on paper."""
+    lines, count, orders = pairs_of(program, old, new, is_best)
+    faults = []
+    with tempfile.NamedTemporaryFile(suffix=".html") as file:
+        file.write(run(program, ["page", "--compare"], old + b"*S66 NEW\n" + new))
+        file.flush()
+        for width in WIDTHS.values():
+            for scheme in SCHEMES:
+                shown, events = browser.open(file.name, width, scheme)
+                faults += faults_of(shown, events, file.name, lines[:count], None, orders, [lines])
+        faults += sheet_faults(browser, file.name, lines[:count], None, orders, [lines], None)
+    return [f"{name}, {fault}" for fault in faults]
+
+
+def changed(program, given):
+    """A source in the best order found, which comes first, one that lost its first block, and one whose first block is turned round."""
+    lines = given.splitlines(keepends=True)
+    ends = [index for index, line in enumerate(lines) if b" PS" in line][0]
+    yield run(program, ["order", "--quiet", *SEARCH], given)
+    yield b"".join(lines[ends + 1:])
+    yield b"".join(lines[:ends][::-1] + lines[ends:])
+
+
+def pairs(program):
+    """Old and new sources by name."""
+    for seed in range(8):
+        old = random_source(seed)
+        for index, new in enumerate(changed(program, old)):
+            yield f"pair {seed} {index}", old, new, index == 0
+    for name, source in HOSTILE.items():
+        yield f"pair {name}", source, b"".join(source.splitlines(keepends=True)[::-1]), False
+
+
+def checks(browser, program, folder):
+    """What is wrong with each page. Pictures of some are written to this folder, if any."""
+    for name, given, is_pictured in pages(program):
+        yield check_page(browser, program, name, given, folder if is_pictured else None)
+    for name, old, new, is_best in pairs(program):
+        yield check_pair(browser, program, name, old, new, is_best)
+
+
 def main():
     program = os.path.abspath(sys.argv[1])
     folder = sys.argv[2] if len(sys.argv) > 2 else None
@@ -478,8 +565,7 @@ def main():
         os.makedirs(folder, exist_ok=True)
     right = wrong = 0
     try:
-        for name, given, is_pictured in pages(program):
-            faults = check_page(browser, program, name, given, folder if is_pictured else None)
+        for faults in checks(browser, program, folder):
             for fault in faults:
                 print(fault)
             right, wrong = right + (not faults), wrong + bool(faults)

@@ -1,5 +1,5 @@
 -- What was found of an option of a subcommand is what the words give.
-use Rattle.std.proofs.Common.{◌≡◌, ◌∙◌, inl, inr, Bool, cond, true, false, true≢false, List, [], ◌∷◌, Option, Some, is_some, refl, sym, ap, subst, find, drop, map, bytes_eq, codes, option_and_then, option_map, slice_get}
+use Rattle.std.proofs.Common.{◌≡◌, ◌∙◌, inl, inr, Bool, cond, true, false, true≢false, List, [], ◌∷◌, Option, None, Some, is_some, refl, sym, ap, subst, find, drop, map, bytes_eq, codes, option_and_then, option_map, slice_get}
 use Rattle.std.specs.Prelude.{unwrap_or}
 use Rattle.std.specs.Borrow.{Bor}
 use Rattle.std.specs.Option.{option_map_or}
@@ -13,7 +13,7 @@ use Rattle.clap.specs.declared.parser.matches.ArgMatches.{ArgMatches}
 use Rattle.clap.specs.declared.parser.matches.Found.{Found}
 use Rattle.clap.proofs.WalkLemmas.{first_value-rows, one_text-rows}
 use Rattle.s66_command.specs.FoundOptions.{IsFlagName, IsFoundBy, IsTaken, rule_called}
-use Rattle.s66_command.specs.Usage.{GivesFlag, GivesProfile, Limits, flag_rule, number_rule, option_text, s66_app}
+use Rattle.s66_command.specs.Usage.{GivesFlag, GivesProfile, Limits, flag_rule, has_value, number_rule, option_text, plain_text, s66_app}
 use Rattle.s66_command.proofs.Flags.{IsFlagOf, flag-is}
 use Rattle.s66_command.proofs.Named.{named}
 use Rattle.s66_command.proofs.OptionRanges.{IsNumber, number-is}
@@ -87,9 +87,21 @@ number-given found words id name limits P is-number is same read =
     let there = number-of found words id name limits is-number is same in
     subst P there.1 (read there.0)
 
+-- the text of an option, as it stands
+pub plain-of : (found : Found) (words : List Text) (name : Text) → IsFoundBy found words → first_value found name ≡ plain_text name words
+plain-of found words name is =
+    let (s, rest, met, rows, none, are-called) = matched found words is in
+    first_value-rows found name ∙ ap (first_of name) rows ∙ sym (ap (option_and_then (λ (p : Text × List Row). first_of name p.1)) met)
+
 pub profile-of : (found : Found) (words : List Text) (name : Text) (profile : Option (Bor Text)) → IsFoundBy found words → name ≡ codes "profile" →
     option_map (λ text. text.now) profile ≡ first_value found name → GivesProfile words profile
-profile-of found words name profile is same given =
-    let (s, rest, met, rows, none, are-called) = matched found words is in
-    given ∙ ap (first_value found) same ∙ first_value-rows found (codes "profile") ∙ ap (first_of (codes "profile")) rows
-    ∙ sym (ap (option_and_then (λ (p : Text × List Row). first_of (codes "profile") p.1)) met)
+profile-of found words name profile is same given = given ∙ ap (first_value found) same ∙ plain-of found words (codes "profile") is
+
+some-shown : (text : Option (Bor Text)) → is_some text ≡ is_some (option_map (λ t. t.now) text)
+some-shown None = refl
+some-shown (Some text) = refl
+
+-- an option with a value is given
+pub value-of : (found : Found) (words : List Text) (name : Text) (text : Option (Bor Text)) → IsFoundBy found words → option_map (λ t. t.now) text ≡ first_value found name →
+    is_some text ≡ has_value name words
+value-of found words name text is given = some-shown text ∙ ap is_some (given ∙ plain-of found words name is)

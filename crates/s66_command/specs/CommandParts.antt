@@ -1,7 +1,7 @@
 -- To be believed: what a command has of a profile and of a search, and what it reads.
 use Rattle.std.specs.Prelude.{ℕ, Bool, true, List, Option, None, Some, option_map}
 use Rattle.s66_command.specs.declared.command.Asked.{Asked}
-use Rattle.s66_command.specs.declared.command.Asked.TheVariants.{Why, Page, Order, Prove, Check, Sum, Compare, Json, Lint, Guard}
+use Rattle.s66_command.specs.declared.command.Asked.TheVariants.{Why, Page, Pairs, Order, Prove, Check, Sum, Compare, Json, Lint, Guard}
 use Rattle.s66_command.specs.declared.command.Command.{Command}
 use Rattle.s66_command.specs.declared.command.Reads.{Reads}
 use Rattle.s66_command.specs.declared.command.Reads.TheVariants.{Source, Sources, Documents, Text}
@@ -25,6 +25,7 @@ strategy_of asked = None
 abbrev pub reads_of : Asked → Reads
 reads_of Lint = Text
 reads_of (Compare text) = Sources
+reads_of Pairs = Sources
 reads_of (Check text) = Documents
 reads_of asked = Source
 

@@ -1,6 +1,6 @@
 -- To be believed: the command line, by clap's rules: the subcommands, which options each takes, what words ask for by them, which words are
 -- refused, and which ask for calls that go deep.
-use Rattle.std.specs.Prelude.{◌≡◌, ◌≢◌, ◌⊎◌, ◌≤◌, ◌&&◌, ◌||◌, not, if◌then◌else◌, IfSome, ℕ, Bool, List, [], ◌∷◌, ◌++◌, fold, find, bytes_eq, false, true, Option, None, Some, codes, option_and_then, pos, map}
+use Rattle.std.specs.Prelude.{◌≡◌, ◌≢◌, ◌⊎◌, ◌≤◌, ◌&&◌, ◌||◌, not, if◌then◌else◌, IfSome, is_some, ℕ, Bool, List, [], ◌∷◌, ◌++◌, fold, find, bytes_eq, false, true, Option, None, Some, codes, option_and_then, pos, map}
 use Rattle.std.specs.Borrow.{Bor}
 use Rattle.std.specs.Option.{option_map, option_map_or}
 use Rattle.std.specs.Str.Parse.{digits_value, without_leading_plus}
@@ -28,7 +28,7 @@ use Rattle.s66_command.specs.declared.command.Command.{Command}
 use Rattle.s66_command.specs.declared.command.OrderStyle.{OrderStyle}
 use Rattle.s66_command.specs.declared.command.SumStyle.{SumStyle}
 use Rattle.s66_command.specs.declared.command.Asked.{Asked}
-use Rattle.s66_command.specs.declared.command.Asked.TheVariants.{Time, Deps, Chart, Why, Page, Order, Prove, Check, Sum, Compare, Json, Lint, Guard}
+use Rattle.s66_command.specs.declared.command.Asked.TheVariants.{Time, Deps, Chart, Why, Page, Pairs, Order, Prove, Check, Sum, Compare, Json, Lint, Guard}
 use Rattle.s66_command.specs.declared.options.SearchFlags.{SearchFlags}
 use Rattle.s66_command.specs.declared.strategy.Strategy.{Strategy}
 use Rattle.s66_command.specs.declared.usage.Usage.{Usage}
@@ -130,6 +130,10 @@ option_text id words = option_and_then (λ s. one_of id s.1) (subcommand_of s66_
 abbrev pub plain_text : Text → List Text → Option Text
 plain_text id words = option_and_then (λ s. first_of id s.1) (subcommand_of s66_app words)
 
+-- the words give the subcommand a value for this option, which has no other
+abbrev pub has_value : Text → List Text → Bool
+has_value id words = is_some (plain_text id words)
+
 -- the number that a text is
 abbrev pub number_in : Text → ℕ
 number_in text = digits_value 10 (without_leading_plus text)
@@ -155,9 +159,21 @@ rule_by flags = if flags.dominate_tree || flags.deep then ClampedStanding else (
 abbrev pub are_two : SearchFlags → Bool
 are_two flags = (flags.dominate && flags.dominate_tree) || ((flags.dominate && flags.deep) || (flags.dominate_tree && flags.deep))
 
--- the words give the subcommand flags that don't go together: two of those of a search, or `--columns` without `--keep`, which it needs
+-- one of them holds
+abbrev pub is_one : SearchFlags → Bool
+is_one flags = flags.dominate || (flags.dominate_tree || flags.deep)
+
+-- the words give the subcommand an option of a search, or the number of a block
+abbrev pub gives_search : List Text → Bool
+gives_search words =
+    is_one (search_flags words) || (has_value (codes "nodes") words || (has_value (codes "workers") words || has_value (codes "block") words))
+
+-- the words give the subcommand options that don't go together: two flags of a search, `--columns` without `--keep`, which it needs, or
+-- `--compare`, which shows all blocks and makes no search, with an option of one
 abbrev pub gives_conflict : List Text → Bool
-gives_conflict words = are_two (search_flags words) || (has_option (codes "columns") words && not (has_option (codes "keep") words))
+gives_conflict words =
+    are_two (search_flags words)
+    || ((has_option (codes "columns") words && not (has_option (codes "keep") words)) || (has_option (codes "compare") words && gives_search words))
 
 -- the words, of which the first is the program's name, have no fault, give no options that don't go together, and name this subcommand
 abbrev pub Calls : List Text → (name : Text) → Type 0
@@ -217,7 +233,8 @@ AsksBy words (Time trace) = AsksFor words (codes "time") work.Plain × GivesFlag
 AsksBy words (Deps text) = AsksFor words (codes "deps") work.Plain × GivesFlag (codes "text") words text
 AsksBy words (Chart text units) = AsksFor words (codes "chart") work.Plain × GivesFlag (codes "text") words text × GivesFlag (codes "units") words units
 AsksBy words (Why order text) = AsksFor words (codes "why") work.Search × GivesOrder words order × GivesFlag (codes "text") words text
-AsksBy words (Page strategy) = AsksFor words (codes "page") work.Search × GivesSearch words strategy
+AsksBy words (Page strategy) = AsksFor words (codes "page") work.Search × GivesSearch words strategy × GivesFlag (codes "compare") words false
+AsksBy words Pairs = AsksFor words (codes "page") work.Search × GivesFlag (codes "compare") words true
 AsksBy words (Order strategy style) = AsksFor words (codes "order") work.Search × GivesSearch words strategy × GivesStyle words style
 AsksBy words (Prove strategy) = AsksFor words (codes "prove") work.Search × GivesSearch words strategy
 AsksBy words (Check text) = AsksFor words (codes "check") work.Check × GivesFlag (codes "text") words text

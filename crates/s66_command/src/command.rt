@@ -49,6 +49,8 @@ pub enum Asked {
         /// How the best order of each block is looked for.
         strategy: Strategy,
     },
+    /// A page that shows the blocks of two sources in pairs, each in the orders of both.
+    Pairs,
     /// Each block of a source in the best order that was found. The others are left as they stand if one block is asked for.
     Order {
         /// How the best order of each block is looked for.
@@ -164,7 +166,7 @@ impl Asked {
     {
         match self {
             Asked::Lint => Reads::Text,
-            Asked::Compare { .. } => Reads::Sources,
+            Asked::Compare { .. } | Asked::Pairs => Reads::Sources,
             Asked::Check { .. } => Reads::Documents,
             _ => Reads::Source,
         }

@@ -3,7 +3,7 @@
 ghost use Rattle.std.specs.Prelude.{◌≡◌, IfSome, List, is_some};
 ghost use Rattle.clap.specs.Words.{Text, found_of};
 ghost use Rattle.s66_command.specs.FoundOptions.{IsFlagName, IsFoundBy};
-ghost use Rattle.s66_command.specs.Usage.{GivesBlock, GivesFlag, GivesNodes, GivesOrder, GivesProfile, GivesSearch, GivesWorkers, IsMistake, are_two, gives_conflict, rule_by, search_flags};
+ghost use Rattle.s66_command.specs.Usage.{GivesBlock, GivesFlag, GivesNodes, GivesOrder, GivesProfile, GivesSearch, GivesWorkers, IsMistake, are_two, gives_conflict, gives_search, has_value, is_one, rule_by, search_flags};
 
 use crate::limits::{NODES_DEFAULT, WORKERS_DEFAULT};
 use crate::strategy::Strategy;
@@ -17,6 +17,13 @@ pub(crate) fn flag_in(matches: &ArgMatches, flag: &str) -> bool
         GivesFlag flag.now words result }
 {
     matches.get_flag(flag)
+}
+
+/// Whether a value is given for an option that has no other.
+fn has_value(matches: &ArgMatches, name: &str) -> bool
+    ensures { (words : List Text) → IsFoundBy (found_of matches.now) words → result ≡ has_value name.now words }
+{
+    matches.get_str(name).is_some()
 }
 
 /// The flags of a search, of which one at most may be given.
@@ -124,6 +131,24 @@ fn conflict_of(flags: SearchFlags) -> Option<&'static str>
     }
 }
 
+/// Whether one of these flags is given.
+fn is_one(flags: SearchFlags) -> bool
+    ensures { result ≡ is_one flags }
+{
+    flags.dominate || flags.dominate_tree || flags.deep
+}
+
+/// Whether an option of a search is given, or the number of a block.
+fn gives_search(matches: &ArgMatches) -> bool
+    ensures { (words : List Text) → IsFoundBy (found_of matches.now) words → result ≡ gives_search words }
+{
+    let flag = is_one(search_flags_in(matches));
+    let nodes = has_value(matches, "nodes");
+    let workers = has_value(matches, "workers");
+    let block = has_value(matches, "block");
+    flag || nodes || workers || block
+}
+
 /// What is wrong with the options of a subcommand together, if anything is: the kind of the mistake, and its text.
 pub(crate) fn conflict_in(matches: &ArgMatches) -> Option<(ErrorKind, &'static str)>
     ensures kind { IfSome result (λ conflict. IsMistake conflict.0) }
@@ -132,12 +157,19 @@ pub(crate) fn conflict_in(matches: &ArgMatches) -> Option<(ErrorKind, &'static s
 {
     let columns = flag_in(matches, "columns");
     let keep = flag_in(matches, "keep");
+    let compare = flag_in(matches, "compare");
+    let search = gives_search(matches);
     if let Some(message) = conflict_of(search_flags_in(matches)) {
         return Some((ErrorKind::ArgumentConflict, message));
     }
     if columns && !keep {
         let message = "the following required arguments were not provided:\n  --keep";
         return Some((ErrorKind::MissingRequiredArgument, message));
+    }
+    if compare && search {
+        let message =
+            "the argument '--compare' cannot be used with options of a search, nor with '--block'";
+        return Some((ErrorKind::ArgumentConflict, message));
     }
     None
 }

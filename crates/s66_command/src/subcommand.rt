@@ -320,11 +320,25 @@ pub(crate) const SUBCOMMANDS: &[SubcommandRow] = &[
     (
         "page",
         Search,
-        &[BLOCK],
+        &[
+            (
+                "compare",
+                Flag,
+                "Reads OLD, a line *S66 NEW, then NEW, and shows their\n\
+                 blocks in pairs, as compare does, each in both orders;\n\
+                 goes with --cut and --profile alone",
+            ),
+            BLOCK,
+        ],
         "Writes a page for a browser: each block as it is written and in the\n\
          best order found",
         "s66 page [OPTIONS] < SOURCE > PAGE",
-        search_ending!("s66 page --deep < SOURCE > page.html", ""),
+        help_ending!(
+            "s66 page --deep < SOURCE > page.html",
+            "a source or the profile was refused",
+            ",\n        5 with --compare: something else is changed,\n        \
+             7 some block is only bounded"
+        ),
     ),
     (
         "json",

@@ -104,6 +104,7 @@ fn asked_by(name: &str, given: &ArgMatches) -> Asked
     let trace = flag_in(given, "trace");
     let strategy = strategy_in(given);
     let order = order_in(given);
+    let compare = flag_in(given, "compare");
     match name {
         "lint" => Asked::Lint,
         "guard" => Asked::Guard,
@@ -133,7 +134,13 @@ fn asked_by(name: &str, given: &ArgMatches) -> Asked
             Asked::Chart { text, units }
         }
         "deps" => Asked::Deps { text },
-        "page" => Asked::Page { strategy },
+        "page" => {
+            if compare {
+                Asked::Pairs
+            } else {
+                Asked::Page { strategy }
+            }
+        }
         "json" => Asked::Json { order },
         _ => unreachable!(),
     }

@@ -1,6 +1,7 @@
 pub mod Firsts
 pub mod Pairs
 pub mod RowSteps
+pub mod RowBlocks
 pub mod Differences
 pub mod Legal
 pub mod WholeTexts

@@ -8,7 +8,7 @@ use Rattle.s66_source.specs.LeftAlone.{Reading}
 use Rattle.s66_source.specs.Source.{source_of}
 use Rattle.s66_compare.specs.Broken.{broken_text}
 use Rattle.s66_compare.specs.Difference.{first_difference}
-use Rattle.s66_compare.specs.Rows.{AreAligned, has_new, has_old, is_legal, new_time, old_time}
+use Rattle.s66_compare.specs.Rows.{AreAligned, counted, has_new, has_old, is_legal, new_time, old_time}
 use Rattle.s66_compare.specs.declared.difference.Difference.{Difference}
 use Rattle.s66_compare.specs.declared.rows.Row.{Row}
 use Rattle.s66_compare.specs.declared.rows.Row.TheVariants.{Both, NewAlone, OldAlone}
@@ -39,16 +39,15 @@ row_text texts block (Both old new said) = side_text old ++ codes " NEW" ++ side
 row_text texts block (OldAlone old) = side_text old ++ codes " GONE"
 row_text texts block (NewAlone new) = codes " NEW" ++ side_text new ++ codes " ADDED"
 
--- a block more, if there is one
-abbrev pub counted : Bool → ℕ → ℕ
-counted is n = if is then n + 1 else n
+-- of a row, before which n blocks of the old source and m of the new one come; a block has the old source's number if it is in it
+abbrev pub row_line : (texts : Bool) (new : List Block) (n m : ℕ) → Row → List ℕ
+row_line texts new n m row = codes "BLOCK " ++ decimal (if has_old row then n + 1 else m + 1) ++ row_text texts (slice_get new m) row
 
--- of these rows, before which n blocks of the old source and m of the new one come; a block has the old source's number if it is in it
+-- of these rows
 abbrev pub row_lines : (texts : Bool) (new : List Block) (n m : ℕ) → List Row → List ℕ
 row_lines texts new n m [] = []
 row_lines texts new n m (row ∷ rows) =
-    codes "BLOCK " ++ decimal (if has_old row then n + 1 else m + 1) ++ row_text texts (slice_get new m) row ++ codes "\n"
-    ++ row_lines texts new (counted (has_old row) n) (counted (has_new row) m) rows
+    row_line texts new n m row ++ codes "\n" ++ row_lines texts new (counted (has_old row) n) (counted (has_new row) m) rows
 
 -- WHAT STANDS BESIDE THEM
 
@@ -74,8 +73,12 @@ total_text blocks time new_blocks new_time legal =
 abbrev pub total_line : List Row → List ℕ
 total_line rows = total_text (tally has_old rows) (weigh old_time rows) (tally has_new rows) (weigh new_time rows) (tally is_legal rows)
 
+-- the lines beside the rows
+abbrev pub ending_text : List Row → Option Difference → List ℕ
+ending_text rows difference = difference_line difference ++ total_line rows
+
 abbrev pub compared_text : (texts : Bool) (new : List Block) → List Row → Option Difference → List ℕ
-compared_text texts new rows difference = row_lines texts new 0 0 rows ++ difference_line difference ++ total_line rows
+compared_text texts new rows difference = row_lines texts new 0 0 rows ++ ending_text rows difference
 
 -- each block is the old one in a legal order, and nothing else differs
 abbrev pub is_accepted : List Row → Option Difference → Bool

@@ -18,7 +18,7 @@ pub struct Compared {
 }
 
 /// Whether each block is the old one in a legal order, and nothing else differs.
-fn is_accepted(rows: &[Row], difference: Option<Difference>) -> bool
+pub fn is_accepted(rows: &[Row], difference: Option<Difference>) -> bool
     ensures { result ≡ is_accepted rows.now difference }
 {
     are_legal(rows) && difference.is_none()

@@ -55,7 +55,7 @@ fn first_difference(old: &[FramePart], new: &[FramePart]) -> Option<Difference>
 }
 
 /// Where what stands beside the blocks of two sources first differs. `Err` is out of memory.
-pub(crate) fn difference_of(
+pub fn difference_of(
     alloc: Global,
     old: &Source,
     new: &Source,

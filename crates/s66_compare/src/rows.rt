@@ -2,7 +2,7 @@ ghost use Rattle.std.specs.Prelude.{List, ◌≡◌, ◌≤◌, ◌+◌, [], ◌
 ghost use Rattle.s66_line.specs.Block.{Block as BlockOf};
 ghost use Rattle.s66_compare.specs.declared.alignment.Step.{Step as StepOf};
 ghost use Rattle.s66_isa.specs.Lists.{every};
-ghost use Rattle.s66_compare.specs.Rows.{AreAligned, both, is_legal, rows_by, rows_of, side_of};
+ghost use Rattle.s66_compare.specs.Rows.{AreAligned, AreOfBlocks, both, is_legal, rows_by, rows_of, side_of};
 
 use crate::alignment::{Step, align};
 use crate::verdict::{Judged, judge};
@@ -23,7 +23,7 @@ pub struct Side {
     pub time: u32,
 }
 
-/// Two blocks that are compared, or one that the other source lacks.
+/// Two blocks that are compared, with what is said of them, or one that the other source lacks.
 #[derive(Drop)]
 pub enum Row {
     Both {
@@ -223,7 +223,8 @@ fn rows_by(
     old: &[Block],
     new: &[Block],
 ) -> Result<Vec<Row>, AllocError>
-    ensures { IfOk result (λ rows. rows.items ≡ rows_by profile.now steps.now old.now new.now) }
+    ensures rows { IfOk result (λ rows. rows.items ≡ rows_by profile.now steps.now old.now new.now) }
+    ensures blocks { IfOk result (λ rows. AreOfBlocks old.now new.now 0 0 rows.items) }
 {
     let mut timer = Timer::new(profile);
     let mut rows = Vec::new(alloc);
@@ -245,13 +246,14 @@ pub(crate) fn are_legal(rows: &[Row]) -> bool
 
 /// The blocks of two sources, side by side: by number if each new block is the old one in a legal order, and else as `align` pairs
 /// them. `Err` is out of memory.
-pub(crate) fn aligned_rows(
+pub fn aligned_rows(
     alloc: Global,
     profile: &Profile,
     old: &[Block],
     new: &[Block],
 ) -> Result<Vec<Row>, AllocError>
-    ensures { IfOk result (λ rows. AreAligned profile.now old.now new.now rows.items) }
+    ensures rows { IfOk result (λ rows. AreAligned profile.now old.now new.now rows.items) }
+    ensures blocks { IfOk result (λ rows. AreOfBlocks old.now new.now 0 0 rows.items) }
 {
     let numbered = rows_by(alloc, profile, &[], old, new)?;
     if are_legal(numbered.as_slice()) {

@@ -1,7 +1,7 @@
-ghost use Rattle.std.specs.Prelude.{◌≡◌, ◌≤◌, ◌*◌, ◌++◌, codes, decimal, length, slice_get, IfOk, OnOk};
+ghost use Rattle.std.specs.Prelude.{◌≡◌, ◌≤◌, ◌*◌, ◌^◌, ◌<◌, ◌++◌, codes, decimal, length, slice_get, IfOk, OnOk};
 ghost use Rattle.s66_isa.specs.Lists.{after_blanks, tally, weigh};
 ghost use Rattle.s66_source.specs.declared.limits.TheConstants.{SOURCE_LINES_LIMIT};
-ghost use Rattle.s66_compare.specs.Compared.{compared_text, difference_line, line_text, row_lines, not_legal_text, row_text, side_text, sums_text, total_text, verdict_text};
+ghost use Rattle.s66_compare.specs.Compared.{compared_text, difference_line, ending_text, line_text, row_line, row_lines, not_legal_text, row_text, side_text, sums_text, total_text, verdict_text};
 ghost use Rattle.s66_compare.specs.Rows.{has_new, has_old, is_legal, new_time, old_time};
 
 use crate::broken::push_broken;
@@ -99,8 +99,8 @@ fn push_new_side(out: &mut Vec<u8>, side: &Side) -> Result<(), AllocError>
     push_side(out, side)
 }
 
-/// A row without its number; its new block has this place, from 0.
-fn push_row(
+/// What a row says; its new block has this place, from 0.
+fn push_row_text(
     out: &mut Vec<u8>,
     text: bool,
     new: &[Block],
@@ -130,6 +130,28 @@ fn push_row(
     }
 }
 
+/// Appends the line of a row without its end. So many blocks of each source come before it. `Err` is out of memory.
+pub fn push_row(
+    out: &mut Vec<u8>,
+    text: bool,
+    new: &[Block],
+    old_count: usize,
+    new_count: usize,
+    row: &Row,
+) -> Result<(), AllocError>
+    requires old { old_count < 2 ^ 63 }
+    requires new { new_count < 2 ^ 63 }
+    ensures { OnOk result (out.new.items ≡ out.old.items ++ row_line text new.now old_count new_count row.now) }
+{
+    let number = if row.has_old() {
+        old_count + 1
+    } else {
+        new_count + 1
+    };
+    push_field(out, b"BLOCK ", number)?;
+    push_row_text(out, text, new, new_count, row)
+}
+
 /// A line for each row.
 fn push_rows(out: &mut Vec<u8>, text: bool, new: &[Block], rows: &[Row]) -> Result<(), AllocError>
     ensures { OnOk result (out.new.items ≡ out.old.items ++ row_lines text new.now 0 0 rows.now) }
@@ -137,13 +159,7 @@ fn push_rows(out: &mut Vec<u8>, text: bool, new: &[Block], rows: &[Row]) -> Resu
     let mut old_count = 0;
     let mut new_count = 0;
     for row in rows {
-        let number = if row.has_old() {
-            old_count + 1
-        } else {
-            new_count + 1
-        };
-        push_field(out, b"BLOCK ", number)?;
-        push_row(out, text, new, new_count, row)?;
+        push_row(out, text, new, old_count, new_count, row)?;
         out.extend_from_slice(b"\n")?;
         old_count = if row.has_old() {
             old_count + 1
@@ -197,14 +213,14 @@ impl Row {
     ghost use Rattle.s66_compare.specs.Rows.{has_new, has_old, is_legal, new_time, old_time};
 
     /// Whether the old source has a block.
-    fn has_old(&self) -> bool
+    pub fn has_old(&self) -> bool
         ensures { result ≡ has_old self.now }
     {
         !matches!(self, Row::NewAlone { .. })
     }
 
     /// Whether the new source has a block.
-    fn has_new(&self) -> bool
+    pub fn has_new(&self) -> bool
         ensures { result ≡ has_new self.now }
     {
         !matches!(self, Row::OldAlone { .. })
@@ -292,6 +308,20 @@ fn push_total(out: &mut Vec<u8>, total: &Total) -> Result<(), AllocError>
     out.extend_from_slice(b"\n")
 }
 
+/// Appends the lines beside these rows: where what stands beside the blocks first differs, if it does, and the sums. `Err` is out of
+/// memory.
+pub fn push_ending(
+    out: &mut Vec<u8>,
+    rows: &[Row],
+    difference: Option<Difference>,
+) -> Result<(), AllocError>
+    requires { length rows.now ≤ 2 * SOURCE_LINES_LIMIT }
+    ensures { OnOk result (out.new.items ≡ out.old.items ++ ending_text rows.now difference) }
+{
+    push_difference(out, difference)?;
+    push_total(out, &total_of(rows))
+}
+
 /// What is written of these rows, with `text` by lines and instructions of the new source's blocks, and of where what stands beside the
 /// blocks first differs. `Err` is out of memory.
 pub(crate) fn compared_text(
@@ -306,7 +336,6 @@ pub(crate) fn compared_text(
 {
     let mut out = Vec::new(alloc);
     push_rows(&mut out, text, new, rows)?;
-    push_difference(&mut out, difference)?;
-    push_total(&mut out, &total_of(rows))?;
+    push_ending(&mut out, rows, difference)?;
     Ok(out)
 }

@@ -53,6 +53,29 @@ impl Model for Judged {
     ghost view = { λ j. record { verdict = j.verdict; order = j.order.items } };
 }
 
+impl Judged {
+    ghost use Rattle.std.specs.Prelude.{◌≡◌, IfSome, is_some};
+    ghost use Rattle.s66_line.specs.Block.{Block as BlockOf, instrs_of};
+    ghost use Rattle.s66_compare.specs.Verdict.{is_kept, judged};
+
+    /// The order in which the new block has the old one's instructions, if that keeps every dependence. It looks at each two instructions
+    /// once.
+    pub fn kept_order(&self, old: &Block) -> Option<Order>
+        requires { (new : BlockOf) × (self.now ≡ judged old.now new) }
+        ensures kept { is_some result ≡ is_kept self.now.verdict }
+        ensures block { IfSome result (λ order. order.block ≡ instrs_of old.now) }
+        ensures numbers { IfSome result (λ order. order.numbers ≡ self.now.order) }
+    {
+        if !self.verdict.is_kept() {
+            return None;
+        }
+        match Order::new(old, self.order.as_slice()) {
+            Ok(order) => Some(order),
+            Err(_) => unreachable!(),
+        }
+    }
+}
+
 /// Whether the instruction of a number depends on another, which isn't among those before it.
 fn is_missing(old: &Block, before: &[u8], number: u8, other: u8) -> bool
     requires number { (1 ≤ number) × (number ≤ length (instrs_of old.now)) }

@@ -42,7 +42,7 @@ fn push_bound(out: &mut Vec<u8>, time: u32, bound: u32) -> Result<(), AllocError
 
 /// The beginning of a block, to which its number links.
 #[tactic(auto, unfolding(crate::specs::Page::block_anchor))]
-fn push_block_anchor(out: &mut Vec<u8>, number: usize) -> Result<(), AllocError>
+pub fn push_block_anchor(out: &mut Vec<u8>, number: usize) -> Result<(), AllocError>
     ensures { OnOk result (out.new.items ≡ out.old.items ++ block_anchor number) }
 {
     push_between(out, b"<h2 id='b", number, b"'>")

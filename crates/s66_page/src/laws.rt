@@ -8,7 +8,7 @@ ghost use Rattle.s66_page.specs.Escape.{escaped_byte, escaped, escaped_lines, is
 ghost use Rattle.s66_page.specs.Page.{instruction_row, on_path, order_text};
 ghost use Rattle.s66_page.specs.Rows.{Holds, place_of_bar, title_of_times};
 ghost use Rattle.s66_page.specs.Still.{is_still};
-ghost use Rattle.s66_page.specs.declared.start.TheConstants.{PAGE_START, PAGE_HEAD, PAGE_LIST};
+ghost use Rattle.s66_page.specs.declared.start.TheConstants.{PAGE_START, PAGE_HEAD, PAGE_LIST, PAGE_PAIRS};
 ghost use Rattle.s66_why.specs.Why.{stretches_at};
 ghost use Rattle.s66_why.specs.declared.stretch.Stretch.{Stretch as StretchOf};
 
@@ -27,6 +27,7 @@ pub fn head_law()
     ensures start { is_still PAGE_START.now ≡ true }
     ensures head { is_still PAGE_HEAD.now ≡ true }
     ensures list { is_still PAGE_LIST.now ≡ true }
+    ensures pairs { is_still PAGE_PAIRS.now ≡ true }
 {}
 
 /// What is shown of an order holds a row for each instruction. The row tells the times that `time --trace` prints, and has a bar

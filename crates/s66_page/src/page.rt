@@ -21,7 +21,7 @@ use std::alloc::AllocError;
 
 /// What a page has of each block: its row in the list of blocks, or its orders.
 #[derive(Clone, Copy)]
-enum Part {
+pub enum Part {
     Row,
     Orders,
 }
@@ -163,7 +163,7 @@ fn push_title(out: &mut Vec<u8>, before: usize, found: &[FoundOrder]) -> Result<
 }
 
 /// The numbers of a profile that aren't the standard profile's, if there are any.
-fn push_profile_line(out: &mut Vec<u8>, changes: &[Change]) -> Result<(), AllocError>
+pub fn push_profile_line(out: &mut Vec<u8>, changes: &[Change]) -> Result<(), AllocError>
     ensures { OnOk result (out.new.items ≡ out.old.items ++ profile_line changes.now) }
 {
     match changes {

@@ -90,6 +90,11 @@ tspan{font-family:sans-serif}
 </p>
 ";
 
+/// What follows the profile on a page of two sources, up to the list of their blocks in pairs.
+pub const PAGE_PAIRS: &[u8] =
+    b"<input type='checkbox' id='fit'><label for='fit'>fit to width</label>
+<pre style='columns:auto'>";
+
 /// What follows the profile, up to the rows of the list of blocks.
 pub const PAGE_LIST: &[u8] = b"<input type='checkbox' id='fit'><label for='fit'>fit to width</label>
 <table class='index'>

@@ -8,7 +8,7 @@ use Rattle.s66_source.specs.Source.{source_of}
 use Rattle.s66_source.specs.declared.error.SourceError.{SourceError}
 use Rattle.s66_command.specs.declared.command.Command.{Command}
 use Rattle.s66_command.specs.declared.command.Asked.{Asked}
-use Rattle.s66_command.specs.declared.command.Asked.TheVariants.{Time, Deps, Chart, Why, Page, Json, Order, Prove, Check, Lint, Sum, Compare, Guard}
+use Rattle.s66_command.specs.declared.command.Asked.TheVariants.{Time, Deps, Chart, Why, Page, Pairs, Json, Order, Prove, Check, Lint, Sum, Compare, Guard}
 use Rattle.s66_command.specs.declared.command.Reads.{Reads}
 use Rattle.s66_command.specs.declared.command.Reads.TheVariants.{Documents, Sources}
 use Rattle.s66_command.specs.CommandParts.{reads_cut, reads_of}
@@ -44,6 +44,7 @@ accepted-by p Lint only source text status reads is = absurd (cc)
 accepted-by p Guard only source text status reads (blocks, ok, is, done) = (blocks, ok)
 accepted-by p (Sum strategy style) only source text status reads (blocks, ok, is) = (blocks, ok)
 accepted-by p (Compare texts) only source text status reads is = absurd (cc)
+accepted-by p Pairs only source text status reads is = absurd (cc)
 
 accepted : (p : Profile) (command : Command) (input text : List ℕ) (status : Status) → reads_source command.asked ≡ true → IsOutput p command input text status → (blocks : List Block) × (source_of (source_in command input) ≡ Ok blocks)
 accepted p command input text status reads is = accepted-by p command.asked command.block (source_in command input) text status reads is

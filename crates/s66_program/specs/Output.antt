@@ -7,7 +7,7 @@ use Rattle.s66_command.specs.declared.limits.TheConstants.{BLOCK_NUMBER_LIMIT}
 use Rattle.s66_command.specs.ProfileText.{profile_in_text}
 use Rattle.s66_command.specs.declared.command.Command.{Command}
 use Rattle.s66_command.specs.declared.command.Asked.{Asked}
-use Rattle.s66_command.specs.declared.command.Asked.TheVariants.{Time, Deps, Chart, Why, Page, Json, Order, Prove, Check, Lint, Sum, Compare, Guard}
+use Rattle.s66_command.specs.declared.command.Asked.TheVariants.{Time, Deps, Chart, Why, Page, Pairs, Json, Order, Prove, Check, Lint, Sum, Compare, Guard}
 use Rattle.s66_command.specs.CommandParts.{reads_cut, profile_text, reads_of, strategy_of}
 use Rattle.s66_command.specs.declared.command.Reads.{Reads}
 use Rattle.s66_command.specs.declared.command.Reads.TheVariants.{Source}
@@ -25,7 +25,7 @@ use Rattle.s66_program.specs.CheckText.{IsCheckOutput}
 use Rattle.s66_program.specs.LintText.{IsLintOutput}
 use Rattle.s66_program.specs.GuardText.{IsGuardOutput}
 use Rattle.s66_program.specs.SumText.{IsSumOutput}
-use Rattle.s66_program.specs.CompareText.{IsCompareOutput}
+use Rattle.s66_program.specs.CompareText.{IsCompareOutput, IsPairsOutput}
 
 -- the number of the only block that is printed, if there is one
 abbrev pub IsBlockWithin : (only : Option ℕ) → Type 0
@@ -67,6 +67,7 @@ IsAskedOutput p Lint only source text status = IsLintOutput source text status
 IsAskedOutput p Guard only source text status = IsGuardOutput source text status
 IsAskedOutput p (Sum strategy style) only source text status = IsSumOutput strategy p style only source text status
 IsAskedOutput p (Compare texts) only source text status = IsCompareOutput p texts source.cut source.text text status
+IsAskedOutput p Pairs only source text status = IsPairsOutput p source.cut source.text text status
 
 -- for this input, under a profile, a command writes the text and ends so
 abbrev pub IsOutput : Profile → Command → (input text : List ℕ) → Status → Type 0

@@ -1,29 +1,54 @@
 ghost use Rattle.std.specs.Prelude.{◌≡◌, if◌then◌else◌, Bool, IfOk, IfErr};
-ghost use Rattle.s66_compare.specs.Compared.{IsCompared};
 ghost use Rattle.s66_answer.specs.declared.outcome.Status.TheVariants.{Denied, Done};
 ghost use Rattle.s66_program.specs.Comparing.{IsCompareRefusal, IsNewRefusal};
-ghost use Rattle.s66_program.specs.CompareText.{IsCompareOutput};
+ghost use Rattle.s66_program.specs.CompareText.{IsViewOf, IsViewOutput};
 
 use crate::fault::Fault;
 use s66_answer::{Output, Status};
 use s66_compare::{Compared, compare};
 use s66_isa::Profile;
+use s66_page::pairs_page;
 use s66_source::{Source, halves_of, read_source_with};
 use std::alloc::{AllocError, Global};
 
-/// What is written of an old source and a new one, with `text` by lines and instructions where it isn't legal. `Err` is out of memory.
+/// How two sources are shown.
+#[derive(Clone, Copy)]
+pub(crate) enum View {
+    /// A line for each row, with `text` by lines and instructions where an order isn't legal.
+    InLines { text: bool },
+    /// A page.
+    InPairs,
+}
+
+/// An old source and a new one. `Err` is out of memory.
+fn show(
+    alloc: Global,
+    profile: &Profile,
+    view: View,
+    old: &Source,
+    new: &Source,
+) -> Result<Compared, AllocError>
+    ensures { IfOk result (λ shown. IsViewOf profile.now view old.now new.now shown.text.items shown.is_accepted) }
+{
+    match view {
+        View::InLines { text } => compare(alloc, profile, text, old, new),
+        View::InPairs => pairs_page(alloc, profile, old, new),
+    }
+}
+
+/// What is written of an old source and a new one. `Err` is out of memory.
 fn compared_output(
     alloc: Global,
     profile: &Profile,
-    text: bool,
+    view: View,
     old: &Source,
     new: &Source,
 ) -> Result<Output, AllocError>
     ensures { IfOk result (λ output. (accepted : Bool) ×
-        IsCompared profile.now text old.now new.now output.text.items accepted ×
+        IsViewOf profile.now view old.now new.now output.text.items accepted ×
         (output.status ≡ (if accepted then Done else Denied))) }
 {
-    let Compared { text, is_accepted } = compare(alloc, profile, text, old, new)?;
+    let Compared { text, is_accepted } = show(alloc, profile, view, old, new)?;
     let status = if is_accepted {
         Status::Done
     } else {
@@ -48,10 +73,10 @@ pub(crate) fn compare_output(
     alloc: Global,
     cut: bool,
     profile: &Profile,
-    text: bool,
+    view: View,
     input: &[u8],
 ) -> Result<Output, Fault>
-    ensures ok { IfOk result (λ output. IsCompareOutput profile.now text cut input.now output.text.items output.status) }
+    ensures ok { IfOk result (λ output. IsViewOutput profile.now view cut input.now output.text.items output.status) }
     ensures err { IfErr result (IsCompareRefusal cut input.now) }
 {
     let Some(halves) = halves_of(input) else {
@@ -59,5 +84,5 @@ pub(crate) fn compare_output(
     };
     let old = read_source_with(alloc, cut, halves.old)?;
     let new = read_new(alloc, cut, halves.new)?;
-    Ok(compared_output(alloc, profile, text, &old, &new)?)
+    Ok(compared_output(alloc, profile, view, &old, &new)?)
 }

@@ -1,13 +1,14 @@
-ghost use Rattle.std.specs.Prelude.{◌≡◌, true, IfOk, IfErr};
-ghost use Rattle.s66_command.specs.CommandParts.{reads_of};
+ghost use Rattle.std.specs.Prelude.{◌≡◌, false, true, IfOk, IfErr};
+ghost use Rattle.s66_command.specs.CommandParts.{reads_cut, reads_of};
 ghost use Rattle.s66_command.specs.declared.command.Reads.TheVariants as reads;
 ghost use Rattle.s66_program.specs.Output.{IsAskedOutput, IsOutput, IsWithinLimits, shows_blocks};
-ghost use Rattle.s66_program.specs.Remarks.{IsRemark};
+ghost use Rattle.s66_program.specs.CompareText.{IsViewOutput};
+ghost use Rattle.s66_program.specs.Remarks.{IsRemark, prints_orders};
 ghost use Rattle.s66_program.specs.Run.{IsRefusal};
 
 use crate::chart_text::chart_output;
 use crate::check_text::check_output;
-use crate::compare_text::compare_output;
+use crate::compare_text::{View, compare_output};
 use crate::deps_text::deps_output;
 use crate::fault::Fault;
 use crate::guard_text::guard_output;
@@ -26,7 +27,7 @@ use s66_answer::{Observer, Output};
 use s66_command::{Asked, Command};
 use s66_isa::Profile;
 use s66_source::{Source, read_source_with};
-use std::alloc::AllocError;
+use std::alloc::{AllocError, Global};
 use std::sync::Wait;
 use std::thread::Threads;
 
@@ -59,7 +60,8 @@ fn output_of<R: AllocGlobal + Threads + Wait + Sync, O: Observer>(
         Asked::Sum { strategy, style } => {
             sum_output(rt, source, profile, strategy, style, only, observer)
         }
-        Asked::Check { .. } | Asked::Lint | Asked::Compare { .. } | Asked::Guard => unreachable!(),
+        Asked::Check { .. } | Asked::Lint | Asked::Compare { .. } | Asked::Pairs | Asked::Guard =>
+            unreachable!(),
     }
 }
 
@@ -84,6 +86,29 @@ fn source_output<R: AllocGlobal + Threads + Wait + Sync, O: Observer>(
     let source = read_source_with(rt.alloc(), command.reads_cut(), input)?;
     let remark = remark_of(rt.alloc(), command, &source, input)?;
     let output = output_of(rt, command, profile, &source, observer)?;
+    Ok(Finished { output, remark })
+}
+
+/// What a command that shows two sources so writes for an input under a profile, and what is told after that, or why the input was
+/// refused.
+fn sources_output(
+    alloc: Global,
+    command: Command,
+    profile: &Profile,
+    view: View,
+    input: &[u8],
+) -> Result<Finished, Fault>
+    requires prints { prints_orders command ≡ false }
+    requires reads { reads_of command.asked ≡ reads.Sources }
+    ensures ok { IfOk result (λ finished.
+        IsViewOutput profile.now view (reads_cut command.entry) input.now finished.output.text.items finished.output.status) }
+    ensures remark { IfOk result (λ finished.
+        IsRemark command.entry input.now finished.output.text.items finished.remark) }
+    ensures err { IfErr result (IsRefusal command.entry input.now) }
+{
+    let listed = listed_of_old(alloc, command, input)?;
+    let remark = remark_with(command, Missing::Nothing, listed);
+    let output = compare_output(alloc, command.reads_cut(), profile, view, input)?;
     Ok(Finished { output, remark })
 }
 
@@ -115,12 +140,14 @@ pub(crate) fn output_for<R: AllocGlobal + Threads + Wait + Sync, O: Observer>(
             let output = lint_output(alloc, input, command.reads_cut())?;
             Ok(Finished { output, remark })
         }
-        Asked::Compare { text } => {
-            let listed = listed_of_old(alloc, command, input)?;
-            let remark = remark_with(command, Missing::Nothing, listed);
-            let output = compare_output(alloc, command.reads_cut(), profile, text, input)?;
-            Ok(Finished { output, remark })
-        }
+        Asked::Compare { text } => sources_output(
+            alloc,
+            command,
+            profile,
+            View::InLines { text },
+            input,
+        ),
+        Asked::Pairs => sources_output(alloc, command, profile, View::InPairs, input),
         Asked::Guard => guard_output(alloc, command, input),
         _ => source_output(rt, command, profile, input, observer),
     }

@@ -20,6 +20,8 @@ pub(crate) const JSON: &[&str] = &["s66", "json"];
 
 pub(crate) const PAGE: &[&str] = &["s66", "page", "--workers", "1"];
 
+pub(crate) const PAIRS: &[&str] = &["s66", "page", "--compare"];
+
 pub(crate) const CHECK: &[&str] = &["s66", "check"];
 
 pub(crate) const LINT: &[&str] = &["s66", "lint"];

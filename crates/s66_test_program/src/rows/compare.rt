@@ -1,5 +1,5 @@
 use crate::rows::Row;
-use crate::running::{COMPARE, COMPARE_CUT, COMPARE_TEXT};
+use crate::running::{COMPARE, COMPARE_CUT, COMPARE_TEXT, PAIRS};
 
 pub(crate) const ROWS: &[Row] = &[
     (
@@ -223,6 +223,13 @@ pub(crate) const ROWS: &[Row] = &[
         "no mark",
         COMPARE,
         "  BX1 X2\n* S66 NEW\n*S66NEW\n *S66 NEW\n*S66 NEWER\n",
+        3,
+        "NO NEW SOURCE\ns66 compare reads the old source, a line *S66 NEW, and the new source\n",
+    ),
+    (
+        "no mark, page",
+        PAIRS,
+        "  BX1 X2\n",
         3,
         "NO NEW SOURCE\ns66 compare reads the old source, a line *S66 NEW, and the new source\n",
     ),

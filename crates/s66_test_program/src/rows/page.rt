@@ -1,5 +1,5 @@
 use crate::rows::Row;
-use crate::running::PAGE;
+use crate::running::{PAGE, PAIRS};
 use s66_test_search::{MULTIPLIES, ONE_LOAD};
 
 /// What could hide a row, run or fetch something in a page, beside the words of which `head_law` says that no head has them.
@@ -16,7 +16,7 @@ pub(crate) const RESTLESS: &[&str] = &[
     "<embed",
 ];
 
-/// Runs as `Row`, whose text is how the page ends, from the head of its list of blocks on.
+/// Runs as `Row`, whose text is how the page ends, from the head of its list of blocks on; of two sources, from the box above it.
 pub(crate) const ENDS: &[Row] = &[
     (
         "empty input, page",
@@ -59,5 +59,26 @@ pub(crate) const ENDS: &[Row] = &[
         "  BX6 X1   \0\t\x7f\x1bé\n",
         0,
         "<tr><th>BLOCK<th>ENTRY<th>LINE<th>COUNT<th>SOURCE<th>TIME<th>SAVED<th>BOUND\n<tr><td><a href='#b1'>1</a><td><td>1<td>1<td>4<td>4<td>0<td>BEST\n<tr><td>TOTAL<td><td><td>1<td>4<td>4<td>0<td>BEST 1\n</table>\n<h2 id='b1'> BLOCK 1 LINE 1 COUNT 1 SOURCE 4 TIME 4 BEST <a href='#top'>&#8593;</a></h2>\n<h3>As it is written: 4 minor cycles</h3>\n<table class='order' style='--n:4'>\n<thead><tr class='ruler'><th><td><svg><text x='0em' y='12'><tspan>0</tspan></text></svg>\n<tbody>\n<tr class='unit'><th>     BOOLEAN TAKEN 100 % WORKS 75 %<td><svg><rect class='taken' x='0em' width='4em'><title>1</title></rect><rect class='BOOLEAN' x='0em' width='3em'><title>1</title></rect><text x='0em' y='12'><tspan>1</tspan></text></svg>\n<tr class='register'><th>     X6<td><svg><rect class='taken' x='0em' width='3em'><title>1</title></rect><text x='0em' y='12'><tspan>1</tspan></text></svg>\n<tr class='path'><th>  1  BX6 X1   &#65533;\t&#65533;&#65533;&#195;&#169;<td><svg><rect class='BOOLEAN' x='0em' width='3em'><title>ISSUE 0 START 0 DONE 3 FREE 4</title></rect><text x='3em' y='12' dx='2'></text></svg>\n</table>\n<pre>PATH 1\nSTEPS 4 TIME 4\nLOST FIRST 0 SECOND 0 THIRD 0\n</pre>\n<pre style='columns:auto'>Every order takes 4 or more:\n   4  the unit of 1 BX6 X1 is free, and that is the end\nSo the order of 4 is best.\n</pre>\n",
+    ),
+    (
+        "no block in two sources, page",
+        PAIRS,
+        "*S66 NEW\n",
+        0,
+        "<input type='checkbox' id='fit'><label for='fit'>fit to width</label>\n<pre style='columns:auto'>TOTAL BLOCKS 0 TIME 0 NEW BLOCKS 0 TIME 0 LEGAL 0\n</pre>\n",
+    ),
+    (
+        "another order, page",
+        PAIRS,
+        "  BX6 X1\n  BX7 X1\n*S66 NEW\n  BX7 X1\n  BX6 X1\n",
+        0,
+        "<input type='checkbox' id='fit'><label for='fit'>fit to width</label>\n<pre style='columns:auto'><a href='#b1'>BLOCK 1 LINE 1 COUNT 2 TIME 8 NEW LINE 1 COUNT 2 TIME 8 ORDER 2 1</a>\nTOTAL BLOCKS 1 TIME 8 NEW BLOCKS 1 TIME 8 LEGAL 1\n</pre>\n<h2 id='b1'>BLOCK 1 LINE 1 COUNT 2 TIME 8 NEW LINE 1 COUNT 2 TIME 8 ORDER 2 1 <a href='#top'>&#8593;</a></h2>\n<h3>In the old source: 8 minor cycles</h3>\n<table class='order' style='--n:8'>\n<thead><tr class='ruler'><th><td><svg><text x='0em' y='12'><tspan>0</tspan></text></svg>\n<tbody>\n<tr class='unit'><th>     BOOLEAN TAKEN 100 % WORKS 75 %<td><svg><rect class='taken' x='0em' width='4em'><title>1</title></rect><rect class='BOOLEAN' x='0em' width='3em'><title>1</title></rect><text x='0em' y='12'><tspan>1</tspan></text><rect class='taken' x='4em' width='4em'><title>2</title></rect><rect class='BOOLEAN' x='4em' width='3em'><title>2</title></rect><text x='4em' y='12'><tspan>2</tspan></text></svg>\n<tr class='register'><th>     X6<td><svg><rect class='taken' x='0em' width='3em'><title>1</title></rect><text x='0em' y='12'><tspan>1</tspan></text></svg>\n<tr class='register'><th>     X7<td><svg><rect class='taken' x='4em' width='3em'><title>2</title></rect><text x='4em' y='12'><tspan>2</tspan></text></svg>\n<tr class='path'><th>  1  BX6 X1<td><svg><rect class='BOOLEAN' x='0em' width='3em'><title>ISSUE 0 START 0 DONE 3 FREE 4</title></rect><text x='3em' y='12' dx='2'></text></svg>\n<tr class='path'><th>  2  BX7 X1<td><svg><rect class='FIRST' x='1em' width='3em'><title>FIRST 1 TO 4: BOOLEAN taken by 1</title></rect><rect class='BOOLEAN' x='4em' width='3em'><title>ISSUE 4 START 4 DONE 7 FREE 8</title></rect><text x='7em' y='12' dx='2'> <tspan class='FIRST'>BOOLEAN taken by 1</tspan></text></svg>\n</table>\n<pre>  2 FIRST 1 TO 4 UNIT BOOLEAN BY 1\nPATH 1 2\nSTEPS 4 4 TIME 8\nLOST FIRST 3 SECOND 0 THIRD 0\n</pre>\n<h3>In the new source: 8 minor cycles</h3>\n<table class='order' style='--n:8'>\n<thead><tr class='ruler'><th><td><svg><text x='0em' y='12'><tspan>0</tspan></text></svg>\n<tbody>\n<tr class='unit'><th>     BOOLEAN TAKEN 100 % WORKS 75 %<td><svg><rect class='taken' x='0em' width='4em'><title>2</title></rect><rect class='BOOLEAN' x='0em' width='3em'><title>2</title></rect><text x='0em' y='12'><tspan>2</tspan></text><rect class='taken' x='4em' width='4em'><title>1</title></rect><rect class='BOOLEAN' x='4em' width='3em'><title>1</title></rect><text x='4em' y='12'><tspan>1</tspan></text></svg>\n<tr class='register'><th>     X6<td><svg><rect class='taken' x='4em' width='3em'><title>1</title></rect><text x='4em' y='12'><tspan>1</tspan></text></svg>\n<tr class='register'><th>     X7<td><svg><rect class='taken' x='0em' width='3em'><title>2</title></rect><text x='0em' y='12'><tspan>2</tspan></text></svg>\n<tr class='path'><th>  2&#8593; BX7 X1<td><svg><rect class='BOOLEAN' x='0em' width='3em'><title>ISSUE 0 START 0 DONE 3 FREE 4</title></rect><text x='3em' y='12' dx='2'></text></svg>\n<tr class='path'><th>  1&#8595; BX6 X1<td><svg><rect class='FIRST' x='1em' width='3em'><title>FIRST 1 TO 4: BOOLEAN taken by 2</title></rect><rect class='BOOLEAN' x='4em' width='3em'><title>ISSUE 4 START 4 DONE 7 FREE 8</title></rect><text x='7em' y='12' dx='2'> <tspan class='FIRST'>BOOLEAN taken by 2</tspan></text></svg>\n</table>\n<pre>  1 FIRST 1 TO 4 UNIT BOOLEAN BY 2\nPATH 2 1\nSTEPS 4 4 TIME 8\nLOST FIRST 3 SECOND 0 THIRD 0\n</pre>\n",
+    ),
+    (
+        "a block less, page",
+        PAIRS,
+        "  BX6 X1\n*S66 NEW\n",
+        5,
+        "<input type='checkbox' id='fit'><label for='fit'>fit to width</label>\n<pre style='columns:auto'><a href='#b1'>BLOCK 1 LINE 1 COUNT 1 TIME 4 GONE</a>\nDIFFERS LINE 1\nTOTAL BLOCKS 1 TIME 4 NEW BLOCKS 0 TIME 0 LEGAL 0\n</pre>\n<h2 id='b1'>BLOCK 1 LINE 1 COUNT 1 TIME 4 GONE <a href='#top'>&#8593;</a></h2>\n<h3>In the old source: 4 minor cycles</h3>\n<table class='order' style='--n:4'>\n<thead><tr class='ruler'><th><td><svg><text x='0em' y='12'><tspan>0</tspan></text></svg>\n<tbody>\n<tr class='unit'><th>     BOOLEAN TAKEN 100 % WORKS 75 %<td><svg><rect class='taken' x='0em' width='4em'><title>1</title></rect><rect class='BOOLEAN' x='0em' width='3em'><title>1</title></rect><text x='0em' y='12'><tspan>1</tspan></text></svg>\n<tr class='register'><th>     X6<td><svg><rect class='taken' x='0em' width='3em'><title>1</title></rect><text x='0em' y='12'><tspan>1</tspan></text></svg>\n<tr class='path'><th>  1  BX6 X1<td><svg><rect class='BOOLEAN' x='0em' width='3em'><title>ISSUE 0 START 0 DONE 3 FREE 4</title></rect><text x='3em' y='12' dx='2'></text></svg>\n</table>\n<pre>PATH 1\nSTEPS 4 TIME 4\nLOST FIRST 0 SECOND 0 THIRD 0\n</pre>\n",
     ),
 ];

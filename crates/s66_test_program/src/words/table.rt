@@ -84,6 +84,8 @@ pub(crate) const COMMANDS: &[(&[&str], Command<'static>)] = &[
     (&["s66", "json", "--order", "--deep", "--block=2"],
         Command { block: Some(2), asked: Asked::Json { order: Some(DEEP) }, ..PLAIN }),
     (&["s66", "page", "--block", "3"], Command { block: Some(3), asked: Asked::Page { strategy: STRATEGY }, ..PLAIN }),
+    (&["s66", "page", "--compare"], Command { asked: Asked::Pairs, ..PLAIN }),
+    (&["s66", "page", "--compare", "--cut", "--profile={}"], Command { cut: true, profile: Some("{}"), asked: Asked::Pairs, ..PLAIN }),
     (&["s66", "page", "--cut", "--nodes=7", "--dominate-tree"],
         Command { cut: true, asked: Asked::Page {
             strategy: Strategy { search: Options { nodes: 7, ..DOMINATE_TREE }, ..STRATEGY } }, ..PLAIN }),

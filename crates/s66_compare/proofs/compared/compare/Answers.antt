@@ -10,7 +10,7 @@ use Rattle.s66_compare.proofs.compared.compare.Goals as goal
 pub compared_text-requires : goal.compared_text-requires
 compared_text-requires c =
     subst (λ (rs : List Row). length rs ≤ 2 * SOURCE_LINES_LIMIT) (sym c.as_slice.ensures.value)
-    (few-rows c.args.profile.now c.args.old.now c.args.new.now c.blocks-old_blocks.result.now c.blocks-new_blocks.result.now c.in_ok-rows.rows.items c.blocks-old_blocks.ensures c.blocks-new_blocks.ensures c.in_ok-rows.ensures)
+    (few-rows c.args.profile.now c.args.old.now c.args.new.now c.blocks-old_blocks.result.now c.blocks-new_blocks.result.now c.in_ok-rows.rows.items c.blocks-old_blocks.ensures c.blocks-new_blocks.ensures c.in_ok-rows.ensures.rows)
 
 pub returns : goal.returns
 returns c =
@@ -18,4 +18,4 @@ returns c =
     let again = c.blocks-new_blocks.result.now in
     let rows = c.in_ok-rows.rows.items in
     let difference : c.in_ok-difference.difference ≡ first_difference (frame_of c.args.old.now) (frame_of c.args.new.now) = c.in_ok-difference.ensures in
-    (blocks, again, c.blocks-old_blocks.ensures, c.blocks-new_blocks.ensures, (rows, c.in_ok-rows.ensures, (c.in_ok-written.ensures ∙ ap₂ (compared_text c.args.text again) c.as_slice.ensures.value difference, c.is_accepted.ensures ∙ ap₂ is_accepted c.as_slice-2.ensures.value difference)))
+    (blocks, again, c.blocks-old_blocks.ensures, c.blocks-new_blocks.ensures, (rows, c.in_ok-rows.ensures.rows, (c.in_ok-written.ensures ∙ ap₂ (compared_text c.args.text again) c.as_slice.ensures.value difference, c.is_accepted.ensures ∙ ap₂ is_accepted c.as_slice-2.ensures.value difference)))
