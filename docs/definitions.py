@@ -47,7 +47,8 @@ ORDER, TOTAL, BOUND = "s66_model/LegalOrder/IsLegal", "s66_model/Timing/total_of
 DOCUMENT, CLAIMED, SOURCE = "s66_cert/Document/Document", "s66_checker/Verdict/problem_of", "s66_source/Source/source_of"
 # what only a run of another subcommand writes, and what of `order` follows from its law
 OTHERS = [f"s66_program/{of}Text/Is{of}Output" for of in "Time Deps Chart Why Json Page Prove Check Lint Guard Sum Compare".split()]
-OTHERS += ["s66_program/OrderText/IsOrdered", "s66_program/Remarks/AreRegions", "s66_source/Halves/halves_of", "s66_cert/Faults/IsFault"]
+OTHERS += ["s66_program/CompareText/IsPairsOutput", "s66_program/OrderText/IsOrdered", "s66_program/Remarks/AreRegions"]
+OTHERS += ["s66_source/Halves/halves_of", "s66_cert/Faults/IsFault"]
 # what a reader who wants to believe this has to read: these definitions, with all that they use
 TO_BELIEVE = [
     ("that an order is legal", [ORDER]),
