@@ -19,4 +19,4 @@ returns-in-Pairs-clause-ok g c =
     let p = c.args.profile.now in
     let input = c.args.input.now in
     let command = c.args.command in
-    subst (λ (asked : Asked). IfOk c.sources_output.result (λ (f : Finished). IsAskedOutput p asked command.block (source_in command input) f.output.text.items f.output.status)) (sym c.in-Pairs.is) c.sources_output.ensures.ok
+    subst (λ (asked : Asked). IfOk c.sources_output-in-Pairs.result (λ (f : Finished). IsAskedOutput p asked command.block (source_in command input) f.output.text.items f.output.status)) (sym c.in-Pairs.is) c.sources_output-in-Pairs.ensures.ok
