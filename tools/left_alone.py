@@ -166,11 +166,19 @@ def listed_line(text, cut):
     return line if listed else ""
 
 
-def remark_of(words, text, reading):
-    """What is told of a source after a success."""
+def bounded_line(reports):
+    """What is told of blocks that are only bounded, by the reports of all, or nothing if none is."""
+    bounded, blocks = sum("AT LEAST" in report for report in reports), f"{len(reports)} block{'s' * (len(reports) > 1)}"
+    if bounded > 1:
+        return f"{bounded} of {blocks} are only bounded; --deep decides most of these\n"
+    return f"1 of {blocks} is only bounded; --deep may decide it\n" if bounded else ""
+
+
+def remark_of(words, text, reading, reports):
+    """What is told of a source after a success, by the reports of its blocks."""
     why = "an instruction's operation begins in column 3 or later" if text else "the source is empty"
     told = "" if reading.blocks else f"no block: {why}\n"
-    return told + (listed_line(text, "--cut" in words) if words[0] == "order" else "")
+    return told + (listed_line(text, "--cut" in words) + bounded_line(reports) if words[0] == "order" else "")
 
 
 def fault_of(words, text, seen):
@@ -184,12 +192,13 @@ def fault_of(words, text, seen):
         return "" if seen == guard_of(text) else f"wanted {guard_of(text)}"
     reading, output, told = Reading(text, cut), output.decode("latin-1"), told.decode("latin-1")
     heads = [f"BLOCK {n} LINE {block[0] + 1} COUNT {len(block)}" for n, block in enumerate(reading.blocks, 1)]
-    is_bounded = re.search(r"(?m)^\* BLOCK .* AT LEAST \d+$", output)
-    ending = 3 if reading.refusal else 7 if is_bounded else 0, reading.refusal
+    reports = re.findall(r"(?m)^\* BLOCK .* (?:BEST|AT LEAST \d+)$", output)
+    remark = remark_of(words, text, reading, reports)
+    ending = 3 if reading.refusal else 7 if bounded_line(reports) else 0, reading.refusal
     if (status, told.split("\n")[0] if reading.refusal else "") != ending or reading.refusal and output:
         return f"wanted {ending}"
-    if not reading.refusal and told != remark_of(words, text, reading):
-        return f"wanted {remark_of(words, text, reading)!r}"
+    if not reading.refusal and told != remark:
+        return f"wanted {remark!r}"
     if words[0] == "order" or reading.refusal:
         return "" if reading.refusal else order_fault(reading, output)
     return "" if re.findall(r"(?m)^(BLOCK.*) DEPENDENCES \d+$", output) == heads else f"wanted {heads}"
