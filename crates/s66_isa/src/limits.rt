@@ -1,3 +1,5 @@
+//! Limits of a block and of a profile.
+
 /// The most instructions of a block, and so the greatest number that one has.
 pub const BLOCK_LIMIT: usize = 128;
 

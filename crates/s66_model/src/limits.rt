@@ -1,3 +1,5 @@
+//! Limits of a search: workers and splits.
+
 /// How many workers search at most.
 pub const WORKERS_LIMIT: u8 = 16;
 

@@ -1,4 +1,4 @@
-//! Trees with values in place of leaves.
+//! Trees with the values of their leaves in place of the leaves.
 
 ghost use Rattle.std.specs.Prelude.{ℕ, List, ◌≡◌, [], ◌∷◌};
 ghost use Rattle.s66_model.specs.declared.rule.Rule.{Rule};
