@@ -1,4 +1,5 @@
-//! The command line: what the words that the program is called with ask for, and the timing profile that they give as a JSON text or a list.
+//! The command line: what the words that the program is called with ask for, and the timing profile that they give as a JSON text or a
+//! list. `clap` parses the words, `serde_json` the text. Begin at `specs/Usage.antt`, then `usage.rt`.
 #![tactic(auto)]
 
 mod app;

@@ -1,3 +1,5 @@
+//! Defaults and limits of the options.
+
 /// How many workers search if the words give no number.
 pub const WORKERS_DEFAULT: u8 = 4;
 

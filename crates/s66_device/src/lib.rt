@@ -1,4 +1,4 @@
-//! The devices that bytes come from and go to, and short texts.
+//! The devices that bytes come from and go to, and short texts. Begin at `specs/Devices.antt`, then `device.rt`.
 #![tactic(auto)]
 
 mod device;

@@ -1,4 +1,4 @@
-//! The lines of a tree as an answer gives them, and as a certificate keeps them.
+//! The lines of a tree as an answer gives them, and as a certificate keeps them. Begin at `specs/Lines.antt`, then `tree.rt`.
 #![tactic(auto)]
 
 mod tree;
