@@ -1,4 +1,5 @@
-//! Lines of a COMPASS source: their fields, their classes, what operands spell, and straight-line blocks.
+//! Lines of a COMPASS source: their fields, their classes, what operands spell, and straight-line blocks. One line is looked at by
+//! itself here; a whole source is `s66_source`. Begin at `class.rt`.
 #![tactic(auto)]
 
 mod block;

@@ -1,3 +1,5 @@
+//! Limits of a line.
+
 /// The most bytes of a line, its newline not counted.
 pub const LINE_BYTES_LIMIT: usize = 200;
 

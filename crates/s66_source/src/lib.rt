@@ -1,4 +1,5 @@
-//! Sources: their lines are read into straight-line blocks, and printed with the blocks in other orders.
+//! Sources: their lines are read into straight-line blocks, and printed with the blocks in other orders. Begin at
+//! `specs/LeftAlone.antt`, then `source.rt`; printing begins at `keeper.rt`.
 #![tactic(auto)]
 
 mod block_text;

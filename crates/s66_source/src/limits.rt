@@ -1,3 +1,5 @@
+//! Limits of a source and of a directive.
+
 /// The most lines of a source.
 pub const SOURCE_LINES_LIMIT: u32 = 20_000;
 

@@ -1,3 +1,5 @@
+//! A text cut into lines at its newlines.
+
 ghost use Rattle.std.specs.Prelude.{◌≡◌, ◌<◌, [], ◌∷◌, IfSome, IfNone, length};
 ghost use Rattle.s66_line.specs.Fields.{lines_from};
 
