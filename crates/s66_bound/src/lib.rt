@@ -1,4 +1,6 @@
-//! Lower bounds of all orders that begin with what a clock has placed.
+//! Lower bounds of all orders that begin with what a clock has placed: chain, load, parcels, and the greatest of them, the floor. A
+//! search closes a prefix whose floor is no less than the best time. Begin at `bounds.rt`. Sharper bounds, by longest paths through all
+//! moments, are in `s66_deep`.
 #![tactic(auto)]
 
 mod bounds;

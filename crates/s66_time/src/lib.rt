@@ -1,4 +1,5 @@
-//! How an order of a block is packed, and when each of its instructions issues, starts and is done.
+//! How an order of a block is packed, and when each of its instructions issues, starts and is done. Begin at `timed.rt`, which times a
+//! whole order, and `clock.rt`, which times a beginning that grows and shrinks.
 #![tactic(auto)]
 
 mod clock;
