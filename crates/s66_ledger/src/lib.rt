@@ -1,5 +1,6 @@
-//! The ledger of a search over one block's orders: which prefixes are open, handed out, split or closed, the best order so far,
-//! and who may spend how many splits.
+//! The ledger of a search over one block's orders: which prefixes are open, handed out, split or closed, the best order so far, and
+//! what is left of the budget. One thread searches with it here; `s66_pool` puts it under a lock for several. Begin at `search.rt`, the
+//! loop, then `ledger.rt` and `machine.rt`.
 #![tactic(auto)]
 
 mod answer;

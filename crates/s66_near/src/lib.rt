@@ -1,4 +1,4 @@
-//! Of the legal orders of a block that take as long, one that is nearer to the source order.
+//! Of the legal orders of a block that take as long, one that is nearer to the source order. Begin at `nearest.rt`.
 #![tactic(auto)]
 
 mod draft;

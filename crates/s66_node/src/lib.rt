@@ -1,4 +1,5 @@
-//! Expansion of one subtree of a search: a walk over the beginnings of a block's legal orders, and the piece that it makes.
+//! Expansion of one subtree of a search: a walk over the beginnings of a block's legal orders, and the piece that it makes. Branch and
+//! bound, depth first, within an allowance of splits. Begin at `expansion.rt`, then `grow.rt`.
 #![tactic(auto)]
 
 mod chains;
