@@ -1,4 +1,5 @@
-//! The workers of a search: its ledger under a lock, a hint of its best time, a seat at each for every worker, and threads.
+//! The workers of a search: its ledger under a lock, a hint of its best time, a seat at each for every worker, and threads. Begin at
+//! `search.rt`, which decides who searches, then `worker.rt`, the steps of one worker.
 #![tactic(auto)]
 
 mod calls;

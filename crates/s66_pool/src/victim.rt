@@ -1,3 +1,5 @@
+//! Another worker's lane, as a thief sees it.
+
 use s66_machine::Ticket;
 use s66_share::{Lane, Pass, Thief};
 use std::marker::Model;

@@ -1,3 +1,5 @@
+//! Limits of waiting at a lock, and of lanes.
+
 /// How often a worker checks whether the lock is free before it lets other threads run. Most turns at the lock are over in less.
 pub const SPINS: u32 = 100;
 

@@ -1,3 +1,5 @@
+//! The ghost record of a seat at the lock.
+
 use std::marker::Model;
 
 /// What a seat at the lock knows. No value of it is made.

@@ -1,3 +1,5 @@
+//! Steals the first ticket of another worker's lane (`Thief`).
+
 use crate::lanes::pass::Pass;
 use crate::lanes::protocol::{Hand, Rule, Takes};
 use crossbeam_deque::{Steal, Stealer};
