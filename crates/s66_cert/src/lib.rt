@@ -1,4 +1,6 @@
 //! Certificates: what a document claims of a block, and its text. Examples are functions that do nothing: each clause is one.
+//! Begin at `specs/Document.antt`, then `document.rt`; reading begins at `reading.rt` and `reader.rt`, printing at `printing.rt`.
+//! Whether a claim is true is for `s66_checker` to say.
 #![tactic(auto)]
 
 mod document;

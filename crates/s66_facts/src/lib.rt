@@ -1,5 +1,6 @@
 //! What the fact lines of a certificate give of a block: which number stands before which, and the longest paths between its moments.
 //! Nothing here schedules or allocates.
+//! A checker and a finder both ask it whether a line is right. Begin at `facts.rt`.
 #![tactic(auto, unfolding(s66_isa::specs::Table::row))]
 
 mod again;
