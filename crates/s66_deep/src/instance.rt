@@ -1,4 +1,5 @@
 //! A block under a profile, whose orders are sought.
+//! What most functions here begin with.
 
 use s66_isa::Profile;
 use s66_line::Block;
