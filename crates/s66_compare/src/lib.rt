@@ -1,4 +1,5 @@
-//! Whether one source is another but for the legal orders of its blocks, and what is written of that.
+//! Whether one source is another but for the legal orders of its blocks, and what is written of that. Begin at `specs/Compared.antt`,
+//! then `compared.rt`.
 #![tactic(auto)]
 
 mod alignment;

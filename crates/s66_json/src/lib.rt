@@ -1,4 +1,4 @@
-//! A block as a line of JSON: its instructions, and the orders in which it is timed.
+//! A block as a line of JSON: its instructions, and the orders in which it is timed. Begin at `specs/Json.antt`, then `line.rt`.
 #![tactic(auto)]
 
 mod block;

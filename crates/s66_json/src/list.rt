@@ -1,3 +1,5 @@
+//! Lists of numbers, of steps and of registers.
+
 ghost use Rattle.std.specs.Prelude.{◌≡◌, ◌++◌, OnOk, map};
 ghost use Rattle.s66_why.specs.declared.path.Step.{Step as StepOf};
 ghost use Rattle.s66_json.specs.Pieces.{numbers_text, registers_text, writes_text};

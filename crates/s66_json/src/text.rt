@@ -1,3 +1,5 @@
+//! Texts and commas, as all files here append them.
+
 ghost use Rattle.std.specs.Prelude.{◌≡◌, ◌++◌, OnOk};
 ghost use Rattle.serde_json.specs.Written.{comma_if};
 

@@ -1,4 +1,5 @@
-//! Orders of blocks as a page for a browser: one HTML file that stands alone.
+//! Orders of blocks as a page for a browser: one HTML file that stands alone. Begin at `specs/Page.antt`, then `page.rt`; the page of
+//! two sources begins at `pairs.rt`.
 #![tactic(auto)]
 
 mod bar;

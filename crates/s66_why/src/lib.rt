@@ -1,4 +1,5 @@
 //! Timed orders as pictures, and why their instructions wait: what each waits for, and which waits the time of its order comes from.
+//! Begin at `picture.rt` for charts, and at `specs/Why.antt` and `text.rt` for waits.
 #![tactic(auto)]
 
 mod activity;

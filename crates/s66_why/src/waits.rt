@@ -1,3 +1,5 @@
+//! All stretches of one instruction.
+
 ghost use Rattle.std.specs.Prelude.{◌≡◌, ◌≤◌, ◌+◌, ◌++◌, length, option_to_list, reverse};
 ghost use Rattle.s66_why.specs.Why.{stretches_at};
 
