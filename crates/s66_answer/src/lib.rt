@@ -1,4 +1,5 @@
-//! What is answered for a block, and for the blocks of a source; of each answer only what is asked for is kept.
+//! What is answered for a block, and for the blocks of a source; of each answer only what is asked for is kept. Nothing is printed
+//! here. Begin at `specs/Answers.antt`, then `answers.rt`.
 #![tactic(auto)]
 
 mod answered;

@@ -1,4 +1,5 @@
-//! The program but for its process: what is read for a command, and what is written.
+//! The program but for its process: what is read for a command, and what is written. What a subcommand writes is one file, named after
+//! it (`time_text.rt`, `order_text.rt`), beside a file of `specs/` of that name. Begin at `program.rt`, then `run.rt` and `output.rt`.
 #![tactic(auto)]
 
 mod best_reasons;

@@ -1,3 +1,5 @@
+//! What `lint` writes, and its status.
+
 ghost use Rattle.std.specs.Prelude.{◌≡◌, IfOk, is_err};
 ghost use Rattle.s66_source.specs.Source.{source_of};
 ghost use Rattle.s66_program.specs.LintText.{IsLintOutput, lint_status};

@@ -1,3 +1,5 @@
+//! The line of progress on a terminal.
+
 use s66_answer::Observer;
 use std::io::Write;
 use std::time::{Clock, Duration, Instant};
