@@ -1,3 +1,5 @@
+//! Tests of the line of each fault.
+
 use s66_cert::CertError;
 use s66_program::Fault;
 use s66_source::SourceError;

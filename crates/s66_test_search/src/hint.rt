@@ -1,3 +1,5 @@
+//! A test of the hint.
+
 use s66_pool::Hint;
 
 #[test]

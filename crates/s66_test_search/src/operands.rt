@@ -1,3 +1,5 @@
+//! Tests of operands: what each operation takes and refuses.
+
 use crate::reading::check_reading;
 use std::process::Abort;
 

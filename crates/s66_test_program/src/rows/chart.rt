@@ -1,3 +1,5 @@
+//! Rows of `chart`.
+
 use crate::rows::Row;
 use crate::running::CHART;
 use s66_test_search::{ONE_LOAD, PACKING_GAP, THIRD_ORDER};

@@ -1,3 +1,5 @@
+//! Rows of `compare`.
+
 use crate::rows::Row;
 use crate::running::{COMPARE, COMPARE_CUT, COMPARE_TEXT, PAIRS};
 

@@ -1,3 +1,5 @@
+//! Rows of `deps`.
+
 use crate::rows::{B0, Row, STORE_THEN_LOAD, UNPACK_THEN_SHIFT};
 use crate::running::DEPS;
 use s66_test_search::ONE_LOAD;

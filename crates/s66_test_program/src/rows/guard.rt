@@ -1,3 +1,5 @@
+//! Rows of `guard`.
+
 use crate::rows::Row;
 use crate::running::GUARD;
 use s66_test_search::ONE_LOAD;

@@ -1,3 +1,5 @@
+//! Rows of `json`.
+
 use crate::rows::Row;
 use crate::running::JSON;
 use s66_test_search::ONE_LOAD;

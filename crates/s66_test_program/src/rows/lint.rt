@@ -1,3 +1,5 @@
+//! Rows of `lint`.
+
 use crate::rows::{MIXED_SOURCE, Row};
 use crate::running::LINT;
 use s66_test_search::ONE_LOAD;

@@ -1,3 +1,5 @@
+//! Rows of `order`.
+
 use crate::rows::{MIXED_SOURCE, Row, STORE_THEN_LOAD};
 use crate::running::{CHECK, ORDER, ORDER_TRACE};
 use s66_test_search::{MULTIPLIES, ONE_LOAD, THIRD_ORDER};

@@ -1,3 +1,5 @@
+//! Rows of `--profile`, and texts that give none.
+
 use crate::rows::Row;
 use crate::running::CHECK;
 use s66_test_search::{MULTIPLIES, ONE_LOAD};

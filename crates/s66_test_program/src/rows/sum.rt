@@ -1,3 +1,5 @@
+//! Rows of `sum`.
+
 use crate::rows::{MIXED_SOURCE, Row};
 use crate::running::SUM;
 use s66_test_search::{MULTIPLIES, THREE_ALIKE};

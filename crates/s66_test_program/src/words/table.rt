@@ -1,3 +1,5 @@
+//! Words, and the command that they ask for.
+
 use crate::commands::{PLAIN, STYLE, TRACED};
 use s66_model::{Options, Rule};
 use s66_program::{Asked, Command, OrderStyle, Strategy, SumStyle};
