@@ -1,4 +1,4 @@
--- To be believed: certificates, and their texts.
+-- To be believed: certificates as documents, with the ranges of their numbers and their trees, and their texts.
 use Rattle.std.specs.Prelude.{◌≡◌, ℕ, Bool, true, false, List, [], ◌∷◌, ◌++◌, ◌≤◌, Option, None, Some, is_some, codes, decimal, length}
 use Rattle.s66_model.specs.declared.rule.Rule.{Rule}
 use Rattle.s66_model.specs.declared.rule.Rule.TheVariants.{NoneNamed, WrittenEarlier, ClampedStanding}

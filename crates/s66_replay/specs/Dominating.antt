@@ -1,4 +1,4 @@
--- To be believed: beginnings of one set, as tests that can be computed.
+-- To be believed: when one beginning dominates another of the same set, as tests that can be computed: as written, clamped, and in use.
 use Rattle.std.specs.Prelude.{ℕ, ◌+◌, ◌==◌, ◌&&◌, ◌||◌, Bool, true, false, max, List, [], ◌∷◌, ◌++◌, get_or, nat_le, nat_lt}
 use Rattle.s66_isa.specs.declared.instr.Instr.{Instr}
 use Rattle.s66_isa.specs.declared.profile.Profile.{Profile}
