@@ -9,7 +9,9 @@ A part is what stands between `<!-- made by docs/definitions.py -->` and the nex
 - DEFINITIONS.md: how many definitions each promise needs; then, of each file of a crate's specs/ that says "To be believed" in
   its first line, all definitions, in the words of the comments above them, with a paragraph of NOTES.md where that has one; and
   the laws and the examples of the crate;
-- ARCHITECTURE.md: the files of specs/, and the lemma files of proofs/, each by its first line;
+- ARCHITECTURE.md: the crates, by the heads (`//!`) of their lib.rt: what each is for, and where to begin;
+- FILES.md: the files of each crate's src/, by the first paragraphs of their heads, those of its specs/ and its lemma files, by their
+  first lines. A file without a head or a first line is told;
 - PROMISES.md: the laws, and the types and functions that the crates offer, with their calls that have a contract.
 
 A definition without a comment is given by its own text if that is one short line, and else named alone.
@@ -408,17 +410,65 @@ def definitions(house):
                 yield f"\n#### {title}\n\n" + "".join(f"- `{function.name}`: {function.comment}\n" for function in found)
 
 
-def map_of(house):
-    """The files of specs/ and the lemma files of each crate, by their first lines."""
-    yield "\n## Definitions and lemmas, file by file\n\n"
-    yield "Made of the first line of each. A star marks what a reader must believe (`DEFINITIONS.md`).\n"
+class Head:
+    """What a file of code says of itself: the first paragraph of its `//!` lines."""
+
+    def __init__(self, path):
+        lines = read(path).splitlines()
+        end = next((place for place, line in enumerate(lines) if not line.startswith("//! ")), len(lines))
+        self.text = " ".join(line[4:].strip() for line in lines[:end])
+        if not self.text:
+            raise Wrong(f"{path}: no head: a line that begins with //! has to say what it is for")
+
+    def sentences(self, is_beginning):
+        """Those that say where to begin, or the others."""
+        said = re.split(r"(?<=\.)\s+(?=[A-Z`])", self.text)
+        return [sentence for sentence in said if sentence.startswith("Begin ") == is_beginning]
+
+
+def root_of(crate):
+    """The file whose head is the crate's."""
+    top = f"crates/{crate}/src/"
+    return top + ("lib.rt" if os.path.isfile(os.path.join(ROOT, top + "lib.rt")) else "main.rt")
+
+
+def crates_of():
+    """What ARCHITECTURE.md has of the crates: a row each, by their heads."""
+    yield "\n| Crate | What it is for | Where to begin |\n|---|---|---|\n"
+    for crate in crates():
+        head = Head(root_of(crate))
+        begins = " ".join(head.sentences(True)).removeprefix("Begin at ")
+        if not begins:
+            raise Wrong(f"{root_of(crate)}: its head doesn't say where to begin")
+        yield f"| `{crate}` | {cell(head.sentences(False)[0])} | {cell(begins[:1].upper() + begins[1:])} |\n"
+
+
+def source_rows(crate):
+    """The files of a crate's src/, but for that of its head."""
+    for path in sources_of(crate):
+        if path != root_of(crate):
+            yield path.removeprefix(f"crates/{crate}/"), Head(path).text
+
+
+def lemma_rows(crate):
+    """The lemma files of a crate."""
+    for name in files_in(crate, "proofs"):
+        said = first_comment(read(f"crates/{crate}/proofs/{name}.antt").splitlines())
+        if not said:
+            raise Wrong(f"crates/{crate}/proofs/{name}.antt: its first line doesn't say what it shows")
+        yield f"proofs/{name}.antt", said
+
+
+def files_of(house):
+    """What FILES.md has after its head: the files of each crate."""
     for crate in crates():
         specs = [house.specs[crate, name] for name in files_in(crate, "specs")]
-        rows = [("★ " * file.is_believed() + f"`specs/{file.name}.antt`", file.subject()) for file in specs]
-        for name in files_in(crate, "proofs"):
-            rows.append((f"`proofs/{name}.antt`", first_comment(read(f"crates/{crate}/proofs/{name}.antt").splitlines())))
+        rows = [(f"`{path}`", words) for path, words in source_rows(crate)]
+        rows += [("★ " * file.is_believed() + f"`specs/{file.name}.antt`", file.subject()) for file in specs]
+        rows += [(f"`{path}`", words) for path, words in lemma_rows(crate)]
+        yield f"\n## `{crate}`\n\n{Head(root_of(crate)).text}\n"
         if rows:
-            yield f"\n| `{crate}` | |\n|---|---|\n" + "".join(f"| {file} | {cell(words)} |\n" for file, words in rows)
+            yield "\n| File | What is in it |\n|---|---|\n" + "".join(f"| {file} | {cell(words)} |\n" for file, words in rows)
 
 
 def first_sentence(comment):
@@ -490,13 +540,15 @@ def cell(text):
 def made():
     """Of each document, its path, its text, and the text that it should have."""
     house = House()
-    for path, make in (("docs/DEFINITIONS.md", definitions), ("docs/ARCHITECTURE.md", map_of), ("docs/PROMISES.md", laws_and_calls)):
+    parts = {"DEFINITIONS": definitions(house), "ARCHITECTURE": crates_of(), "FILES": files_of(house), "PROMISES": laws_and_calls(house)}
+    for name, part in parts.items():
+        path = f"docs/{name}.md"
         text = read(path)
         before, start, rest = text.partition(START)
         _, end, after = rest.partition(END)
         if not start or not end:
             raise Wrong(f"{path}: lacks {START.strip()} or {END.strip()}")
-        yield path, text, before + start + "".join(make(house)) + "\n" + end + after
+        yield path, text, before + start + "".join(part) + "\n" + end + after
 
 
 def stale():
