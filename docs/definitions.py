@@ -7,8 +7,8 @@
 A part is what stands between `<!-- made by docs/definitions.py -->` and the next `<!-- end -->` of a document:
 
 - DEFINITIONS.md: how many definitions each promise needs; then, of each file of a crate's specs/ that says "To be believed" in
-  its first line, all definitions, in the words of the comments above them, with a paragraph of NOTES.md where that has one; and
-  the laws and the examples of the crate;
+  its first line, what its first lines say after an empty comment line, and all definitions, in the words of the comments above
+  them; and the laws and the examples of the crate;
 - ARCHITECTURE.md: the crates, by the heads (`//!`) of their lib.rt: what each is for, and where to begin;
 - FILES.md: the files of each crate's src/, by the first paragraphs of their heads, those of its specs/ and its lemma files, by their
   first lines. A file without a head or a first line is told;
@@ -36,7 +36,6 @@ GHOST = re.compile(r"^ *ghost use Rattle\.(s66_\w+)\.specs\.(\w+)\.\{([^}]*)\}",
 EMPTY = re.compile(r"((?:^///.*\n)+)(?:^#\[.*\n)*^pub fn (\w+)\(\)\n((?:^ .*\n)+)^\{\}$", re.MULTILINE)
 TYPE = r"((?:^///.*\n)+)(?:^#\[.*\n)*^pub(?:\(\w+\))? (struct|enum) %s\b(?:.*\{\n((?:(?!\}).*\n)*))?"
 CASE = re.compile(r"((?:^    ///.*\n)*)(?:^    #\[.*\n)*^    (\w+)", re.MULTILINE)
-WORDS = re.compile(r"^- `([^`\s]+)`: (.*)\n", re.MULTILINE)
 OFFERED = re.compile(r"pub (?:const )?(fn|struct|enum|trait) (\w+)")
 IMPL = re.compile(r"impl(?:<.*?>)? (?:.* for )?([A-Za-z]\w*)")
 EXPORTED = re.compile(r"^pub use (?:\w+::)+(?:\{([^}]*)\}|(\w+));", re.MULTILINE)
@@ -167,14 +166,13 @@ class Definition:
         body = clauses[0].split(" = ", 1)[1]
         return body if len(body) <= LONGEST_BODY else ""
 
-    def meaning(self, note=""):
-        """What it is, in the words of its comments and of a note; nothing if it has neither these nor a short body."""
-        said = "; ".join(words for words in (self.comment, note) if words)
+    def meaning(self):
+        """What it is, in the words of its comments; nothing if it has neither these nor a short body."""
         if self.kind:
             parts = [f"`{name}`: {words}" if words else f"`{name}`" for name, words in self.parts()]
             fields = ("with " if self.kind == "record" else "one of ") + "; ".join(parts) if parts else ""
-            return " — ".join(part for part in (said, fields) if part)
-        return said or (f"`{self.body()}`" if self.body() else "")
+            return " — ".join(part for part in (self.comment, fields) if part)
+        return self.comment or (f"`{self.body()}`" if self.body() else "")
 
     def words(self):
         code = "\n".join(line for line in self.lines if not line.strip().startswith("--"))
@@ -182,22 +180,29 @@ class Definition:
 
 
 def first_comment(lines):
-    """Takes out of lines the comment with which they begin, but for one of what follows directly, and returns it."""
-    taken = []
-    while lines[0].startswith("--") and not (taken and lines[1].startswith("unfoldable pub use ")):
-        taken.append(lines.pop(0)[2:].strip())
-    return " ".join(taken)
+    """Takes out of lines the comment with which they begin, but for one of what follows directly, and returns its paragraphs: at least
+    one, which may be empty. A row of a table stays a line by itself."""
+    paragraphs = [""]
+    while lines[0].startswith("--") and not (paragraphs[0] and lines[1].startswith("unfoldable pub use ")):
+        words = lines.pop(0)[2:].strip()
+        if not words:
+            paragraphs.append("")
+        elif paragraphs[-1]:
+            paragraphs[-1] += ("\n" if words.startswith("|") else " ") + words
+        else:
+            paragraphs[-1] = words
+    return paragraphs
 
 
 class Specs:
-    """A file of a crate's specs/: what its first line says of it, and its definitions, under its notes."""
+    """A file of a crate's specs/: what its first lines say of it, and its definitions, under its notes."""
 
     def __init__(self, crate, name):
         self.crate, self.name = crate, name
         self.path = f"crates/{crate}/specs/{name}.antt"
         text = read(self.path)
         lines = text.splitlines()
-        self.first = first_comment(lines)
+        self.first, *self.paragraphs = first_comment(lines)
         self.imports = {}
         for of, file, names in IMPORTED.findall(text):
             self.imports.update({name.strip(): (of, file, name.strip()) for name in names.split(",")})
@@ -301,22 +306,11 @@ def needs(house):
         yield f"| {words} | {listed(root.split('/')[-1] for root in roots)}: {files} | {len(seen)} |\n"
 
 
-def notes():
-    """What NOTES.md says of each file: its paragraphs, and words for single definitions."""
-    found = {}
-    for path, text in re.findall(r"^## `(\S+)`\n((?:(?!## ).*\n)*)", read("docs/NOTES.md"), re.MULTILINE):
-        found[path] = (WORDS.sub("", text).strip(), dict(WORDS.findall(text)))
-    return found
-
-
-def definitions_of(specs, paragraphs, words, worked, needed):
+def definitions_of(specs, worked, needed):
     """A file of definitions: its subject, its paragraphs, and each definition; those without words at the end."""
-    yield f"\n#### `{specs.crate}/specs/{specs.name}.antt`\n\n{specs.subject()}\n"
-    if paragraphs:
-        yield f"\n{paragraphs}\n"
-    for name in words:
-        if name not in {definition.name for definition in specs.definitions()}:
-            raise Wrong(f"docs/NOTES.md: no {name} in {specs.path}")
+    yield f"\n#### `{specs.crate}/specs/{specs.name}.antt`\n"
+    for paragraph in (specs.subject(), *specs.paragraphs):
+        yield f"\n{paragraph}\n"
     in_list, alone = False, []
     for item in specs.items:
         if isinstance(item, str):
@@ -325,7 +319,7 @@ def definitions_of(specs, paragraphs, words, worked, needed):
             continue
         place = specs.crate, specs.name, item.name
         head = f"**`{item.head()}`**" if place in needed else f"`{item.head()}`"
-        meaning = item.meaning(words.get(item.name, ""))
+        meaning = item.meaning()
         if not meaning:
             alone.append(head)
             continue
@@ -380,14 +374,11 @@ def empty_functions(crate):
 
 def definitions(house):
     """What DEFINITIONS.md has after its head."""
-    said = notes()
     functions = [(function, crate) for crate in crates() for function in empty_functions(crate)]
     worked = {}
     for function, _ in functions:
         for used in function.used if function.is_example else ():
             worked.setdefault(used, []).append(function.name)
-    for path in sorted(set(said) - {specs.path.removeprefix("crates/") for specs in house.specs.values() if specs.is_believed()}):
-        raise Wrong(f"docs/NOTES.md: no file {path} that is to be believed")
     yield "\n## How much a promise needs\n\n"
     yield from needs(house)
     needed = house.used_by(root for _, roots in TO_BELIEVE for root in roots)
@@ -400,7 +391,7 @@ def definitions(house):
             continue
         yield f"\n### `{crate}`\n"
         for specs in believed:
-            yield from definitions_of(specs, *said.get(specs.path.removeprefix("crates/"), ("", {})), worked, needed)
+            yield from definitions_of(specs, worked, needed)
         types = list(types_of(crate, house))
         if types:
             yield "\n#### Types of the code of which these speak\n\n" + "".join(f"- `{name}`: {words}\n" for name, words in types)
@@ -453,7 +444,7 @@ def source_rows(crate):
 def lemma_rows(crate):
     """The lemma files of a crate."""
     for name in files_in(crate, "proofs"):
-        said = first_comment(read(f"crates/{crate}/proofs/{name}.antt").splitlines())
+        said = first_comment(read(f"crates/{crate}/proofs/{name}.antt").splitlines())[0]
         if not said:
             raise Wrong(f"crates/{crate}/proofs/{name}.antt: its first line doesn't say what it shows")
         yield f"proofs/{name}.antt", said
