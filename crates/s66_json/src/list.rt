@@ -1,4 +1,4 @@
-//! Lists of numbers, of steps and of registers.
+//! Lists in JSON: of numbers, of steps, of registers, and of the registers that an instruction writes.
 
 ghost use Rattle.std.specs.Prelude.{◌≡◌, ◌++◌, OnOk, map};
 ghost use Rattle.s66_why.specs.declared.path.Step.{Step as StepOf};

@@ -1,4 +1,4 @@
-//! Texts and commas, as all files here append them.
+//! A piece of text or a comma appended to a line of JSON.
 
 ghost use Rattle.std.specs.Prelude.{◌≡◌, ◌++◌, OnOk};
 ghost use Rattle.serde_json.specs.Written.{comma_if};

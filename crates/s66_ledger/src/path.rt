@@ -1,4 +1,4 @@
-//! The prefix of a node, read up its parents.
+//! The prefix of a node in the table, read up its parents and turned around; and the name of a dominated one.
 
 ghost use Rattle.std.specs.Prelude.{[], ◌∷◌, ◌++◌, ◌≡◌, ◌<◌, ◌≤◌, ◌↔◌, length, get_or, IsTrue};
 ghost use Rattle.s66_isa.specs.declared.limits.TheConstants.{BLOCK_LIMIT};

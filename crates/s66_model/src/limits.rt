@@ -1,4 +1,4 @@
-//! Limits of a search: workers and splits.
+//! Limits of a search: how many workers (`WORKERS_LIMIT`), and how many splits (`BUDGET_LIMIT`).
 
 /// How many workers search at most.
 pub const WORKERS_LIMIT: u8 = 16;

@@ -1,4 +1,4 @@
-//! Another worker's lane, as a thief sees it.
+//! Another worker's lane with a pass at it, from which a worker steals.
 
 use s66_machine::Ticket;
 use s66_share::{Lane, Pass, Thief};

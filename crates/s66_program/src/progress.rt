@@ -1,4 +1,4 @@
-//! The line of progress on a terminal.
+//! The line on a terminal that shows how many blocks are done, once work has taken a second.
 
 use s66_answer::Observer;
 use std::io::Write;

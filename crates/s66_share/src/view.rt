@@ -1,4 +1,4 @@
-//! The ghost record of a seat at the lock.
+//! What a seat at the lock knows, as a ghost: no value of it is made.
 
 use std::marker::Model;
 

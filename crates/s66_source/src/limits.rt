@@ -1,4 +1,4 @@
-//! Limits of a source and of a directive.
+//! How many lines a source has at most (`SOURCE_LINES_LIMIT`), and how far a directive is looked for.
 
 /// The most lines of a source.
 pub const SOURCE_LINES_LIMIT: u32 = 20_000;

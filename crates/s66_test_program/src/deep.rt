@@ -1,4 +1,4 @@
-//! Tests of `--deep` with few splits.
+//! Tests of `--deep` with few splits: facts show what splits alone don't.
 
 use crate::running::{CHECK, check, run};
 

@@ -1,4 +1,4 @@
-//! Documents of each version, for other tests.
+//! Documents of each version as texts, which other tests alter and check.
 
 /// The document of three multiplies.
 pub const THREE_MULTIPLIES: &str =

@@ -1,4 +1,4 @@
-//! Tests of the line of each fault.
+//! Tests of the line that each fault and each refusal is shown as.
 
 use s66_cert::CertError;
 use s66_program::Fault;

@@ -1,4 +1,4 @@
-//! A test of the hint.
+//! A test of the hint: its word goes down, and never up.
 
 use s66_pool::Hint;
 

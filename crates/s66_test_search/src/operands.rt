@@ -1,4 +1,4 @@
-//! Tests of operands: what each operation takes and refuses.
+//! Tests of operands: spellings that each operation takes, and such as it refuses.
 
 use crate::reading::check_reading;
 use std::process::Abort;

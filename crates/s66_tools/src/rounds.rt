@@ -1,4 +1,4 @@
-//! Pushes and undoes of a clock, to be measured.
+//! Pushes and undoes of a clock, so often as a mode says, to be measured.
 
 ghost use Rattle.std.specs.Prelude.{◌≡◌, ◌≤◌, [], length};
 ghost use Rattle.s66_line.specs.Block.{instrs_of};

@@ -1,4 +1,5 @@
 //! Copies of what is found.
+//! For finders that go on from another one's lines.
 
 use arrayvec::ArrayVec;
 use s66_isa::BLOCK_LIMIT;

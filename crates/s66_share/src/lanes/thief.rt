@@ -1,4 +1,4 @@
-//! Steals the first ticket of another worker's lane (`Thief`).
+//! What others steal with from a worker's lane (`Thief`): each try takes the first ticket, or nothing.
 
 use crate::lanes::pass::Pass;
 use crate::lanes::protocol::{Hand, Rule, Takes};

@@ -1,4 +1,4 @@
-//! Rows of `chart`.
+//! Rows of `chart`, `chart --text` and `chart --units`: a source, and the picture to the byte.
 
 use crate::rows::Row;
 use crate::running::CHART;

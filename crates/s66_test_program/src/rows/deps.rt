@@ -1,4 +1,4 @@
-//! Rows of `deps`.
+//! Rows of `deps` and `deps --text`: sources with each sort of dependence.
 
 use crate::rows::{B0, Row, STORE_THEN_LOAD, UNPACK_THEN_SHIFT};
 use crate::running::DEPS;

@@ -1,4 +1,4 @@
-//! Rows of `guard`.
+//! Rows of `guard`: sources, and these with switches around what is in danger.
 
 use crate::rows::Row;
 use crate::running::GUARD;

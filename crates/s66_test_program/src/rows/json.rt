@@ -1,4 +1,4 @@
-//! Rows of `json`.
+//! Rows of `json`: a block's line as written and as found, to the byte.
 
 use crate::rows::Row;
 use crate::running::JSON;

@@ -1,4 +1,4 @@
-//! Rows of `lint`.
+//! Rows of `lint`: a source for each rule, and the lines that are listed.
 
 use crate::rows::{MIXED_SOURCE, Row};
 use crate::running::LINT;

@@ -1,4 +1,4 @@
-//! Rows of `--profile`, and texts that give none.
+//! Rows of `--profile`: what a text sets, and texts that give none, with what is wrong in them.
 
 use crate::rows::Row;
 use crate::running::CHECK;

@@ -1,4 +1,4 @@
-//! Rows of what standard error gets after a success.
+//! Rows of what standard error gets after a success, of any subcommand.
 
 use crate::rows::Row;
 use crate::running::{CHECK, COMPARE, COMPARE_CUT, DEPS, ORDER, SUM, TIME, WHY};

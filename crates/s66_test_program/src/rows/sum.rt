@@ -1,4 +1,4 @@
-//! Rows of `sum`.
+//! Rows of `sum`, also with the trace and with words and loops.
 
 use crate::rows::{MIXED_SOURCE, Row};
 use crate::running::SUM;

@@ -1,4 +1,4 @@
-//! Rows of `time`.
+//! Rows of `time` and `time --trace`: what blocks of each sort take.
 
 use crate::rows::{B0, MIXED_SOURCE, Row, STORE_THEN_LOAD, UNPACK_THEN_SHIFT};
 use crate::running::{TIME, TRACE};

@@ -1,4 +1,4 @@
-//! Rows of `why`.
+//! Rows of `why`: each conflict, the path and the sums, and why no order is faster.
 
 use crate::rows::{Row, STORE_THEN_LOAD};
 use crate::running::WHY;

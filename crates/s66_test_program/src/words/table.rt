@@ -1,4 +1,4 @@
-//! Words, and the command that they ask for.
+//! The table of words, each with the command that it asks for.
 
 use crate::commands::{PLAIN, STYLE, TRACED};
 use s66_model::{Options, Rule};
