@@ -1,4 +1,4 @@
-//! Dependence: which instruction must stay after which, by registers or by memory.
+//! Examples of dependence: which instruction must stay after which, by registers or by memory.
 
 ghost use Rattle.std.specs.Prelude.{◌≡◌, [], ◌∷◌};
 ghost use Rattle.s66_model.specs.Dependence.{all_needs};

@@ -1,4 +1,4 @@
-//! Trees with the values of their leaves in place of the leaves.
+//! Laws and examples of trees that have of each leaf only the value or the name.
 
 ghost use Rattle.std.specs.Prelude.{ℕ, List, ◌≡◌, [], ◌∷◌};
 ghost use Rattle.s66_model.specs.declared.rule.Rule.{Rule};
