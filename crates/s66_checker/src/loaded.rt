@@ -1,4 +1,5 @@
 //! Whether a prefix is closed by what units of one kind have to do for some numbers that remain. All times are in minor cycles.
+//!
 //! It is energetic reasoning below a prefix: from a minor cycle on at the soonest these instructions use units of one kind, for so long
 //! in sum, and after any of them so much is left; so each order that begins with the prefix takes the bound at least.
 

@@ -1,4 +1,5 @@
 //! The longest paths once something more is known: only the times of numbers that may change are found again.
+//!
 //! A number is settled once all that comes sooner is. If its times change, those that come later have to be settled again; all others
 //! keep what was found before. So one more fact costs a step for each number whose times may change, and not the whole network.
 
