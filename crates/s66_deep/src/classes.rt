@@ -1,5 +1,5 @@
 //! Instructions by what they wait for.
-//! As which registers they read or write, which unit they take, and whether they load or store.
+//! These are the registers that they read or write, the units that they take, and memory.
 
 ghost use Rattle.std.specs.Prelude.{◌≤◌, length};
 ghost use Rattle.s66_isa.specs.declared.limits.TheConstants.{BLOCK_LIMIT};

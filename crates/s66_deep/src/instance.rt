@@ -1,5 +1,5 @@
 //! A block under a profile, whose orders are sought.
-//! What most functions here begin with.
+//! Most functions of `look.rt`, `lines.rt` and `search.rt` take one.
 
 use s66_isa::Profile;
 use s66_line::Block;

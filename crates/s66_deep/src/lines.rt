@@ -1,5 +1,5 @@
 //! A good order and a bound by fact lines alone.
-//! By fact lines for orders below a time a beam finds a faster order, or a longest path shows that there is none.
+//! By the lines for orders below a time a beam may find a faster order, or a longest path shows that there is none.
 //!
 //! The bound is found by supposing a time: if facts that all orders below it would share lead to a path as long as that, there are none
 //! (R. Klein and A. Scholl, Computing lower bounds by destructive improvement, European Journal of Operational Research 112, 1999).

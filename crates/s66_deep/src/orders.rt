@@ -1,5 +1,5 @@
 //! A good order of a block.
-//! The source order, and the faster of two.
+//! Here are the source order, and the faster of two.
 
 ghost use Rattle.std.specs.Prelude.{◌≡◌, ◌<◌, IfSome};
 ghost use Rattle.s66_isa.specs.Table.{numbers};

@@ -1,5 +1,5 @@
 //! What units of one kind have to do.
-//! Of some instructions the sum, the least and the greatest of what they need, and how long so many units take for it at least.
+//! Kept are the sum, the least and the greatest of what some instructions need, by which so many units take at least so long.
 
 /// How long some instructions have units of one kind, in minor cycles.
 #[derive(Clone, Copy, Default)]

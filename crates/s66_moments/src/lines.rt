@@ -1,5 +1,5 @@
 //! Lines that each give a fact, and trees that show a bound by them.
-//! The laws by which a fact line may be founded on those before it.
+//! Laws say on what a fact line may be founded, and what a tree shows by lines.
 
 ghost use Rattle.std.specs.Prelude.{ℕ, List, [], ◌∷◌, ◌++◌, ◌+◌, ◌≡◌, ◌≤◌, true};
 ghost use Rattle.s66_model.specs.declared.rule.Rule.{Rule};

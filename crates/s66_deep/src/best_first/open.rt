@@ -1,5 +1,5 @@
 //! The prefixes that are to be split.
-//! A heap, of which the first has the least floor and of equal ones the longest prefix.
+//! They are in a heap, of which the first has the least floor and of equal ones the longest prefix.
 
 use crate::best_first::waits::word;
 use std::alloc::{AllocError, Global};

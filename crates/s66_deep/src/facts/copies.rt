@@ -1,5 +1,5 @@
 //! Copies of what is found.
-//! For finders that go on from another one's lines.
+//! Finders that go on from another one's lines make them.
 
 use arrayvec::ArrayVec;
 use s66_isa::BLOCK_LIMIT;
