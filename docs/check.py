@@ -8,13 +8,12 @@ PROGRAM is the built program. Without a DOCUMENT all are checked:
 - README.md, CONTRIBUTING.md, CHANGELOG.md, the README.md of bench/, *.md of examples/, and docs/*.md;
 - the manual page docs/s66.1: that its literal displays are what a terminal shows;
 - what docs/manual.py makes of what the program shows, which is docs/help and a part of the page: that it is as that makes it now;
-- ARCHITECTURE.md's table of crates: that each file of a crate's code is in a row of that crate, where a star stands for any text;
-- what docs/definitions.py makes in documents: that it is as that makes it now;
+- what docs/definitions.py makes in documents: that it is as that makes it now, and that each file of the crates says what it is for;
 - docs/page.png: that it is of the page that the program writes now, by docs/page.sum;
 - the files of examples/: that each NAME.time, NAME.chart and NAME.order is to the byte what the program writes of NAME.compass, and
   that check says yes to each document that prove writes of it, at the times of NAME.order; and that it says yes to each NAME.cert.
 
-Each wrong place is told, wrong output as a diff. The last line counts in how many documents, and of the last six, nothing is wrong
+Each wrong place is told, wrong output as a diff. The last line counts in how many documents, and of the last five, nothing is wrong
 and something is. The status is 1 where something is.
 
 Two kinds of fences hold commands. In
@@ -37,7 +36,6 @@ a word of capitals in it stands for any text. A name with a `_`, a `::` or a cap
 something in the code of one; in a column of contracts, each name is one of something in the crates of its row.
 """
 import difflib
-import fnmatch
 import glob
 import os
 import re
@@ -64,8 +62,6 @@ DISPLAY = re.compile(r"^\.Bd -literal.*\n((?:.*\n)*?)^\.Ed$", re.MULTILINE)
 COMMENT = re.compile(r"^\s*(//|--).*$", re.MULTILINE)
 BEST = re.compile(r"^\* BLOCK (\d+) COUNT \d+ SOURCE \d+ TIME (\d+) BEST$", re.MULTILINE)
 CLAIM = re.compile(r"^TIME (\d+)\nBOUND (\d+)$", re.MULTILINE)
-ROW = re.compile(r"^\| (?:`(s66_\w+)` )?\| ([^|]*?) ?\| ([^|]*) \|$", re.MULTILINE)
-NAMED_BY_THEMSELVES = {"lib.rt", "main.rt", "limits.rt", "error.rt", "laws.rt", "examples.rt"}
 DOCUMENTS = ["README.md", "CONTRIBUTING.md", "CHANGELOG.md", "bench/README.md"]
 DOCUMENTS += ["examples/README.md", "examples/CERTIFICATES.md"]
 EXAMPLES = {"time": ["time"], "chart": ["chart"], "order": ["order", "--workers", "1", "--trace"]}
@@ -256,22 +252,6 @@ def wrong_manual(name, program):
         yield from wrong_commands(name, "```console\n" + display.replace(r"\e", "\\") + "```\n", program)
 
 
-def unplaced_files():
-    """Yields a line for each file of code that its crate's rows of ARCHITECTURE.md don't name."""
-    with open(os.path.join(ROOT, "docs/ARCHITECTURE.md"), encoding="utf-8") as file:
-        rows = ROW.findall(file.read())
-    crate, named = "", {}
-    for first, files, _ in rows:
-        crate = first or crate
-        named.setdefault(crate, set()).update(SPAN.findall(files))
-    for crate in sorted(named):
-        top = os.path.join(ROOT, "crates", crate, "src")
-        for name in sorted(os.listdir(top)):
-            name += "/" * os.path.isdir(os.path.join(top, name))
-            if name not in NAMED_BY_THEMSELVES and not any(fnmatch.fnmatch(name, row) for row in named[crate]):
-                yield f"docs/ARCHITECTURE.md: no row of {crate} has {name}"
-
-
 def wrong_in(document, program, repository):
     """What is wrong in a document."""
     name = os.path.relpath(document, ROOT)
@@ -288,7 +268,7 @@ def main(arguments):
     if not documents:
         documents = [os.path.join(ROOT, name) for name in DOCUMENTS]
         documents += sorted(glob.glob(os.path.join(ROOT, "docs/*.md")))
-        checks = [wrong_manual("docs/s66.1", program), manual.stale(program), unplaced_files()]
+        checks = [wrong_manual("docs/s66.1", program), manual.stale(program)]
         checks += [definitions.stale(), picture.stale(program), wrong_examples(program)]
     repository = Repository()
     checks += [wrong_in(document, program, repository) for document in documents]

@@ -7,9 +7,11 @@
 A part is what stands between `<!-- made by docs/definitions.py -->` and the next `<!-- end -->` of a document:
 
 - DEFINITIONS.md: how many definitions each promise needs; then, of each file of a crate's specs/ that says "To be believed" in
-  its first line, all definitions, in the words of the comments above them, with a paragraph of NOTES.md where that has one; and
-  the laws and the examples of the crate;
-- ARCHITECTURE.md: the files of specs/, and the lemma files of proofs/, each by its first line;
+  its first line, what its first lines say after an empty comment line, and all definitions, in the words of the comments above
+  them; and the laws and the examples of the crate;
+- ARCHITECTURE.md: the crates, by the heads (`//!`) of their lib.rt: what each is for, and where to begin;
+- FILES.md: the files of each crate's src/, by the first paragraphs of their heads, those of its specs/ and its lemma files, by their
+  first lines. A file without a head or a first line is told;
 - PROMISES.md: the laws, and the types and functions that the crates offer, with their calls that have a contract.
 
 A definition without a comment is given by its own text if that is one short line, and else named alone.
@@ -34,7 +36,6 @@ GHOST = re.compile(r"^ *ghost use Rattle\.(s66_\w+)\.specs\.(\w+)\.\{([^}]*)\}",
 EMPTY = re.compile(r"((?:^///.*\n)+)(?:^#\[.*\n)*^pub fn (\w+)\(\)\n((?:^ .*\n)+)^\{\}$", re.MULTILINE)
 TYPE = r"((?:^///.*\n)+)(?:^#\[.*\n)*^pub(?:\(\w+\))? (struct|enum) %s\b(?:.*\{\n((?:(?!\}).*\n)*))?"
 CASE = re.compile(r"((?:^    ///.*\n)*)(?:^    #\[.*\n)*^    (\w+)", re.MULTILINE)
-WORDS = re.compile(r"^- `([^`\s]+)`: (.*)\n", re.MULTILINE)
 OFFERED = re.compile(r"pub (?:const )?(fn|struct|enum|trait) (\w+)")
 IMPL = re.compile(r"impl(?:<.*?>)? (?:.* for )?([A-Za-z]\w*)")
 EXPORTED = re.compile(r"^pub use (?:\w+::)+(?:\{([^}]*)\}|(\w+));", re.MULTILINE)
@@ -165,14 +166,13 @@ class Definition:
         body = clauses[0].split(" = ", 1)[1]
         return body if len(body) <= LONGEST_BODY else ""
 
-    def meaning(self, note=""):
-        """What it is, in the words of its comments and of a note; nothing if it has neither these nor a short body."""
-        said = "; ".join(words for words in (self.comment, note) if words)
+    def meaning(self):
+        """What it is, in the words of its comments; nothing if it has neither these nor a short body."""
         if self.kind:
             parts = [f"`{name}`: {words}" if words else f"`{name}`" for name, words in self.parts()]
             fields = ("with " if self.kind == "record" else "one of ") + "; ".join(parts) if parts else ""
-            return " — ".join(part for part in (said, fields) if part)
-        return said or (f"`{self.body()}`" if self.body() else "")
+            return " — ".join(part for part in (self.comment, fields) if part)
+        return self.comment or (f"`{self.body()}`" if self.body() else "")
 
     def words(self):
         code = "\n".join(line for line in self.lines if not line.strip().startswith("--"))
@@ -180,22 +180,29 @@ class Definition:
 
 
 def first_comment(lines):
-    """Takes out of lines the comment with which they begin, but for one of what follows directly, and returns it."""
-    taken = []
-    while lines[0].startswith("--") and not (taken and lines[1].startswith("unfoldable pub use ")):
-        taken.append(lines.pop(0)[2:].strip())
-    return " ".join(taken)
+    """Takes out of lines the comment with which they begin, but for one of what follows directly, and returns its paragraphs: at least
+    one, which may be empty. A row of a table stays a line by itself."""
+    paragraphs = [""]
+    while lines[0].startswith("--") and not (paragraphs[0] and lines[1].startswith("unfoldable pub use ")):
+        words = lines.pop(0)[2:].strip()
+        if not words:
+            paragraphs.append("")
+        elif paragraphs[-1]:
+            paragraphs[-1] += ("\n" if words.startswith("|") else " ") + words
+        else:
+            paragraphs[-1] = words
+    return paragraphs
 
 
 class Specs:
-    """A file of a crate's specs/: what its first line says of it, and its definitions, under its notes."""
+    """A file of a crate's specs/: what its first lines say of it, and its definitions, under its notes."""
 
     def __init__(self, crate, name):
         self.crate, self.name = crate, name
         self.path = f"crates/{crate}/specs/{name}.antt"
         text = read(self.path)
         lines = text.splitlines()
-        self.first = first_comment(lines)
+        self.first, *self.paragraphs = first_comment(lines)
         self.imports = {}
         for of, file, names in IMPORTED.findall(text):
             self.imports.update({name.strip(): (of, file, name.strip()) for name in names.split(",")})
@@ -299,22 +306,11 @@ def needs(house):
         yield f"| {words} | {listed(root.split('/')[-1] for root in roots)}: {files} | {len(seen)} |\n"
 
 
-def notes():
-    """What NOTES.md says of each file: its paragraphs, and words for single definitions."""
-    found = {}
-    for path, text in re.findall(r"^## `(\S+)`\n((?:(?!## ).*\n)*)", read("docs/NOTES.md"), re.MULTILINE):
-        found[path] = (WORDS.sub("", text).strip(), dict(WORDS.findall(text)))
-    return found
-
-
-def definitions_of(specs, paragraphs, words, worked, needed):
+def definitions_of(specs, worked, needed):
     """A file of definitions: its subject, its paragraphs, and each definition; those without words at the end."""
-    yield f"\n#### `{specs.crate}/specs/{specs.name}.antt`\n\n{specs.subject()}\n"
-    if paragraphs:
-        yield f"\n{paragraphs}\n"
-    for name in words:
-        if name not in {definition.name for definition in specs.definitions()}:
-            raise Wrong(f"docs/NOTES.md: no {name} in {specs.path}")
+    yield f"\n#### `{specs.crate}/specs/{specs.name}.antt`\n"
+    for paragraph in (specs.subject(), *specs.paragraphs):
+        yield f"\n{paragraph}\n"
     in_list, alone = False, []
     for item in specs.items:
         if isinstance(item, str):
@@ -323,7 +319,7 @@ def definitions_of(specs, paragraphs, words, worked, needed):
             continue
         place = specs.crate, specs.name, item.name
         head = f"**`{item.head()}`**" if place in needed else f"`{item.head()}`"
-        meaning = item.meaning(words.get(item.name, ""))
+        meaning = item.meaning()
         if not meaning:
             alone.append(head)
             continue
@@ -378,14 +374,11 @@ def empty_functions(crate):
 
 def definitions(house):
     """What DEFINITIONS.md has after its head."""
-    said = notes()
     functions = [(function, crate) for crate in crates() for function in empty_functions(crate)]
     worked = {}
     for function, _ in functions:
         for used in function.used if function.is_example else ():
             worked.setdefault(used, []).append(function.name)
-    for path in sorted(set(said) - {specs.path.removeprefix("crates/") for specs in house.specs.values() if specs.is_believed()}):
-        raise Wrong(f"docs/NOTES.md: no file {path} that is to be believed")
     yield "\n## How much a promise needs\n\n"
     yield from needs(house)
     needed = house.used_by(root for _, roots in TO_BELIEVE for root in roots)
@@ -398,7 +391,7 @@ def definitions(house):
             continue
         yield f"\n### `{crate}`\n"
         for specs in believed:
-            yield from definitions_of(specs, *said.get(specs.path.removeprefix("crates/"), ("", {})), worked, needed)
+            yield from definitions_of(specs, worked, needed)
         types = list(types_of(crate, house))
         if types:
             yield "\n#### Types of the code of which these speak\n\n" + "".join(f"- `{name}`: {words}\n" for name, words in types)
@@ -408,17 +401,65 @@ def definitions(house):
                 yield f"\n#### {title}\n\n" + "".join(f"- `{function.name}`: {function.comment}\n" for function in found)
 
 
-def map_of(house):
-    """The files of specs/ and the lemma files of each crate, by their first lines."""
-    yield "\n## Definitions and lemmas, file by file\n\n"
-    yield "Made of the first line of each. A star marks what a reader must believe (`DEFINITIONS.md`).\n"
+class Head:
+    """What a file of code says of itself: the first paragraph of its `//!` lines."""
+
+    def __init__(self, path):
+        lines = read(path).splitlines()
+        end = next((place for place, line in enumerate(lines) if not line.startswith("//! ")), len(lines))
+        self.text = " ".join(line[4:].strip() for line in lines[:end])
+        if not self.text:
+            raise Wrong(f"{path}: no head: a line that begins with //! has to say what it is for")
+
+    def sentences(self, is_beginning):
+        """Those that say where to begin, or the others."""
+        said = re.split(r"(?<=\.)\s+(?=[A-Z`])", self.text)
+        return [sentence for sentence in said if sentence.startswith("Begin ") == is_beginning]
+
+
+def root_of(crate):
+    """The file whose head is the crate's."""
+    top = f"crates/{crate}/src/"
+    return top + ("lib.rt" if os.path.isfile(os.path.join(ROOT, top + "lib.rt")) else "main.rt")
+
+
+def crates_of():
+    """What ARCHITECTURE.md has of the crates: a row each, by their heads."""
+    yield "\n| Crate | What it is for | Where to begin |\n|---|---|---|\n"
+    for crate in crates():
+        head = Head(root_of(crate))
+        begins = " ".join(head.sentences(True)).removeprefix("Begin at ")
+        if not begins:
+            raise Wrong(f"{root_of(crate)}: its head doesn't say where to begin")
+        yield f"| `{crate}` | {cell(head.sentences(False)[0])} | {cell(begins[:1].upper() + begins[1:])} |\n"
+
+
+def source_rows(crate):
+    """The files of a crate's src/, but for that of its head."""
+    for path in sources_of(crate):
+        if path != root_of(crate):
+            yield path.removeprefix(f"crates/{crate}/"), Head(path).text
+
+
+def lemma_rows(crate):
+    """The lemma files of a crate."""
+    for name in files_in(crate, "proofs"):
+        said = first_comment(read(f"crates/{crate}/proofs/{name}.antt").splitlines())[0]
+        if not said:
+            raise Wrong(f"crates/{crate}/proofs/{name}.antt: its first line doesn't say what it shows")
+        yield f"proofs/{name}.antt", said
+
+
+def files_of(house):
+    """What FILES.md has after its head: the files of each crate."""
     for crate in crates():
         specs = [house.specs[crate, name] for name in files_in(crate, "specs")]
-        rows = [("★ " * file.is_believed() + f"`specs/{file.name}.antt`", file.subject()) for file in specs]
-        for name in files_in(crate, "proofs"):
-            rows.append((f"`proofs/{name}.antt`", first_comment(read(f"crates/{crate}/proofs/{name}.antt").splitlines())))
+        rows = [(f"`{path}`", words) for path, words in source_rows(crate)]
+        rows += [("★ " * file.is_believed() + f"`specs/{file.name}.antt`", file.subject()) for file in specs]
+        rows += [(f"`{path}`", words) for path, words in lemma_rows(crate)]
+        yield f"\n## `{crate}`\n\n{Head(root_of(crate)).text}\n"
         if rows:
-            yield f"\n| `{crate}` | |\n|---|---|\n" + "".join(f"| {file} | {cell(words)} |\n" for file, words in rows)
+            yield "\n| File | What is in it |\n|---|---|\n" + "".join(f"| {file} | {cell(words)} |\n" for file, words in rows)
 
 
 def first_sentence(comment):
@@ -490,13 +531,15 @@ def cell(text):
 def made():
     """Of each document, its path, its text, and the text that it should have."""
     house = House()
-    for path, make in (("docs/DEFINITIONS.md", definitions), ("docs/ARCHITECTURE.md", map_of), ("docs/PROMISES.md", laws_and_calls)):
+    parts = {"DEFINITIONS": definitions(house), "ARCHITECTURE": crates_of(), "FILES": files_of(house), "PROMISES": laws_and_calls(house)}
+    for name, part in parts.items():
+        path = f"docs/{name}.md"
         text = read(path)
         before, start, rest = text.partition(START)
         _, end, after = rest.partition(END)
         if not start or not end:
             raise Wrong(f"{path}: lacks {START.strip()} or {END.strip()}")
-        yield path, text, before + start + "".join(make(house)) + "\n" + end + after
+        yield path, text, before + start + "".join(part) + "\n" + end + after
 
 
 def stale():

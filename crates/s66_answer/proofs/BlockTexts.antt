@@ -1,4 +1,4 @@
--- The texts of a block's instructions, one after the other.
+-- The texts of a block's instructions, made or appended one after the other.
 use Rattle.std.proofs.Common.{ℕ, suc, ◌+◌, ◌-◌, ◌≡◌, ◌<◌, ◌∙◌, List, [], ◌∷◌, ◌++◌, inl, inr, length, map, ap, sym, subst, arith, append_assoc}
 use Rattle.std.proofs.lemmas.Bool.{cases_lt}
 use Rattle.s66_isa.specs.Lists.{rising}

@@ -1,4 +1,4 @@
--- What is put in places and made in order, one more at a time.
+-- What workers made is put in the places of its numbers, and taken out of these in order (`make_each`).
 use Rattle.std.proofs.Common.{ℕ, ◌≡◌, ◌<◌, List, [], ◌∷◌, ◌++◌, Option, None, All, IfSome, arith, inl, inr, get_or, length, set, subst, sym}
 use Rattle.std.proofs.lemmas.Bool.{cases_eq}
 use Rattle.std.proofs.lemmas.Grind.{common_steps}

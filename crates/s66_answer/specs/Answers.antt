@@ -61,6 +61,7 @@ searched found = record { order = found.order; time = found.time; bound = found.
 abbrev pub AreAll : Strategy → (own all : ℕ) → Type 0
 AreAll strategy own all = (own ≤ all) × (2 * all ≤ 2 * own + 5 * strategy.search.nodes) × (strategy.deep ≡ false → all ≡ own)
 
+-- it is what a search with these options answers, without fact lines, and with the splits of all searches
 abbrev pub IsSearched : Strategy → Problem → Answer → Type 0
 IsSearched strategy b a =
     (found : search.Answer) × search.IsAnswer strategy.search.rule b strategy.search.nodes found × (a ≡ record (searched found) { splits = a.splits }) × AreAll strategy found.splits a.splits
@@ -92,6 +93,7 @@ pub record IsShown (options : Options) (p : Profile) (block : Block) (a : Answer
 
 -- WHAT IS ANSWERED
 
+-- it is searched, or with `--deep` it may be shown
 abbrev pub IsAnswer : Strategy → Profile → Block → Answer → Type 0
 IsAnswer strategy p block a = IsSearched strategy (problem_of p block) a ⊎ ((strategy.deep ≡ true) × IsShown strategy.search p block a)
 

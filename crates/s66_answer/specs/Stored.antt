@@ -1,4 +1,4 @@
--- Used by contracts: an answer as code stores it.
+-- Used by contracts: an answer as code stores it: that of a search with the splits of those beside it, or an order with its document.
 use Rattle.std.specs.Prelude.{ℕ, ◌*◌, ◌≡◌, ◌≤◌, ◌⊎◌, false, List, Some}
 use Rattle.s66_isa.specs.declared.limits.TheConstants.{BLOCK_LIMIT}
 use Rattle.s66_isa.specs.Table.{entries}

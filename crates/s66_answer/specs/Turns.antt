@@ -1,4 +1,4 @@
--- Used by contracts: what is made for numbers.
+-- Used by contracts: what workers make for the numbers of a task, and what is put in their places.
 use Rattle.std.specs.Prelude.{ℕ, ◌<◌, List, Option, IfSome, length, slice_index_or}
 
 -- each has what is made for its number

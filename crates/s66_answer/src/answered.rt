@@ -1,4 +1,4 @@
-//! What is made of answers to the blocks of a source.
+//! What is kept of the answers to all blocks of a source that are shown (`keep_answers`), and how the command ends by that.
 
 ghost use Rattle.std.specs.Prelude.{IfOk};
 ghost use Rattle.s66_answer.specs.Kept.{AreAnswered};

@@ -1,4 +1,8 @@
-//! What is answered for a block.
+//! What is answered for a block: by a search of its orders, shared by all workers (`answer_to`), or by one thread with facts
+//! (`answer_alone`).
+//!
+//! With facts a few splits come first, which decide most blocks. Else `s66_deep` looks for a better order and what shows a bound; its
+//! document counts only if the checker accepts it; and the search goes on to that bound if no order that takes so little was found.
 
 ghost use Rattle.std.specs.Prelude.{◌≡◌, ◌≤◌, ◌+◌, ◌/◌, true, IfOk, IfSome};
 ghost use Rattle.s66_line.specs.Block.{instrs_of, Block as BlockOf};

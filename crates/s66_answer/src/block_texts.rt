@@ -1,3 +1,5 @@
+//! The instructions of a block with their texts, as a document has them.
+
 ghost use Rattle.std.specs.Prelude.{◌≡◌, IfOk};
 ghost use Rattle.s66_answer.specs.Answers.{texts_of};
 ghost use Rattle.s66_answer.specs.ProvedAnswers.{IsSpelled};

@@ -1,3 +1,6 @@
+//! The document of an answer: what it claims, with the tree of a search (`document_of`) or with fact lines (`document_by`), and whether
+//! the checker accepts it.
+
 ghost use Rattle.std.specs.Prelude.{◌≡◌, ◌≤◌, if◌then◌else◌, IfOk, IsTrue};
 ghost use Rattle.s66_cert.specs.declared.limits.TheConstants.{TIME_LIMIT};
 ghost use Rattle.s66_line.specs.Block.{instrs_of};

@@ -1,3 +1,6 @@
+//! One answer after another, of which only what is asked for is kept (`Keep`): blocks in turn, each by all workers, or with facts side
+//! by side, each by one thread.
+
 ghost use Rattle.std.specs.Prelude.{◌≡◌, ◌≤◌, ◌<◌, ◌^◌, ◌+◌, ◌++◌, ℕ, List, true, IfOk, OnOk, length};
 ghost use Rattle.s66_isa.specs.declared.profile.Profile.{Profile as ProfileOf};
 ghost use Rattle.s66_line.specs.Block.{Block as BlockOf};

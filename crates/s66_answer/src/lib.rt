@@ -1,4 +1,8 @@
-//! What is answered for a block, and for the blocks of a source; of each answer only what is asked for is kept.
+//! What is answered for a block, and for the blocks of a source; of each answer only what is asked for is kept. Nothing is printed
+//! here. Begin at `specs/Answers.antt`, then `answers.rt`.
+//!
+//! It promises that the order of an answer is legal, with its time, and that no legal order takes less than its bound: by a search, or
+//! by a document that the checker accepts.
 #![tactic(auto)]
 
 mod answered;

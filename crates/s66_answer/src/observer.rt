@@ -1,3 +1,5 @@
+//! What is called as long work goes on, so that a terminal can show how far it is.
+
 /// What is called as long work goes on.
 pub trait Observer {
     /// A block, or a document, is begun, before which `count` of the `of` were begun, so never all. Where one is done before the next

@@ -1,3 +1,5 @@
+//! How a command ended that wrote all its text (`Status`), and its text with that (`Output`).
+
 ghost use Rattle.std.specs.Prelude.{◌≡◌};
 ghost use Rattle.s66_answer.specs.OfAnswers.{status_by};
 

@@ -1,3 +1,5 @@
+//! Which blocks of a source are shown: all, or the one of `--block`.
+
 ghost use Rattle.std.specs.Prelude.{◌≡◌, ◌<◌, ◌^◌, drop, take};
 ghost use Rattle.s66_answer.specs.Shown.{before, shown};
 

@@ -1,3 +1,5 @@
+//! What one worker takes and makes: the next number, until all are taken.
+
 ghost use Rattle.std.specs.Prelude.{ℕ, ◌<◌, All};
 
 use crate::observer::Observer;

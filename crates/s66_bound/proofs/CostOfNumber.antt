@@ -1,4 +1,4 @@
--- The cost of a number is at the place below it.
+-- The cost of a number is at the place below it, for the chain that is printed.
 use Rattle.std.proofs.Common.{ℕ, ◌+◌, ◌-◌, ◌≤◌, ◌≡◌, List, length, get_or, subst, arith}
 use Rattle.s66_model.specs.Timing.{Problem, row_at}
 use Rattle.s66_bound.specs.declared.cost.Cost.{Cost}

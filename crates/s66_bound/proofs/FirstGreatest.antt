@@ -1,4 +1,4 @@
--- The first greatest of the leaves, whose value is known: the first that has it.
+-- The floor by its value: of the greatest leaves the first, without a look at those that come later.
 use Rattle.std.proofs.Common.{ℕ, ◌≡◌, ◌≢◌, ◌≤◌, ◌<◌, List, [], ◌∷◌, length, get_or, refl, sym, ap, arith, inl, inr, ◌∙◌}
 use Rattle.std.proofs.lemmas.Bool.{cases_lt}
 use Rattle.s66_isa.specs.declared.instr.Kind.{Kind}

@@ -1,4 +1,4 @@
--- Numbers of the least word.
+-- The numbers of the least spare, as a set that is made number by number.
 use Rattle.std.proofs.Common.{ℕ, ◌+◌, ◌-◌, ◌≤◌, ◌<◌, ◌≡◌, true, ◌&&◌, ◌||◌, eqb, List, [], ◌∷◌, length, get_or, refl, sym, ap, arith, inl, inr, ◌∙◌, eq-eqb, ne_eqb}
 use Rattle.std.proofs.lemmas.Bool.{cases_eq, and_parts, or_left}
 use Rattle.s66_isa.specs.Lists.{least, has, Among}

@@ -1,4 +1,4 @@
--- What a walk over the numbers of a set has found so far, and what is left.
+-- What a walk over the numbers of a set has found so far of the least word, and what is left.
 use Rattle.std.proofs.Common.{ℕ, ◌≤◌, ◌<◌, ◌≡◌, min, List, [], ◌∷◌, length, refl, sym, ap, arith, ◌∙◌}
 use Rattle.s66_isa.specs.Lists.{least}
 

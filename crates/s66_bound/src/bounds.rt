@@ -1,3 +1,8 @@
+//! The lower bounds of a block's beginnings (`Bounds`), with what they share worked out once; the floor of what a clock has placed.
+//!
+//! A chain is the critical path of what remains, a load the work that remains for one kind of unit, and parcels what has still to be
+//! issued: the usual bounds of branch and bound for machine scheduling. The floor is the greatest of them, and its leaf says which.
+
 use crate::cost::{Cost, costs_of};
 use crate::floors::floor_of_value;
 use crate::leaf::Leaf;

@@ -1,3 +1,5 @@
+//! What the bounds know of an instruction, worked out once, and how long a later instruction waits for it at least (`link`).
+
 ghost use Rattle.std.specs.Prelude.{◌≡◌, if◌then◌else◌};
 ghost use Rattle.s66_isa.specs.Lists.{greatest};
 ghost use Rattle.s66_isa.specs.Table.{Row, Write as WriteOf, Reg as RegOf, row, has_reg};

@@ -1,5 +1,5 @@
-//! The floor: the first of the greatest bounds, with the chain before the loads, and the parcels after them. Values are in minor
-//! cycles.
+//! The leaf of a floor, by its value: the first of the bounds that has it, with the chain before the loads, and the parcels after them.
+//! Values are in minor cycles.
 
 ghost use Rattle.std.specs.Prelude.{◌≡◌, ◌<◌, length};
 ghost use Rattle.s66_line.specs.Block.{instrs_of};

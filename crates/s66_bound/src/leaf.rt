@@ -1,3 +1,5 @@
+//! A lower bound as a value (`Leaf`): a whole order's total, a chain, a load, or parcels.
+
 use arrayvec::ArrayVec;
 use s66_isa::{BLOCK_LIMIT, Kind};
 

@@ -1,3 +1,5 @@
+//! The longest tail of each instruction: the longest path along links to later ones, from the last number back to the first.
+
 ghost use Rattle.std.specs.Prelude.{◌≡◌, ◌+◌, ◌-◌, ◌<◌, ◌≤◌, length};
 ghost use Rattle.s66_model.specs.Timing.{Problem};
 ghost use Rattle.s66_model.specs.Tails.{longest_tail, walk_to, HasWords};

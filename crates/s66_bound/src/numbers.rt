@@ -1,4 +1,4 @@
-//! Words of the numbers of a set: the word of n is at place n - 1.
+//! Words of the numbers of a set: the greatest or the least of them. The word of n is at place n - 1.
 
 ghost use Rattle.std.specs.Prelude.{◌≡◌, ◌-◌, ◌<◌, ◌≤◌, get_or, length};
 ghost use Rattle.s66_isa.specs.Lists.{least};

@@ -1,4 +1,4 @@
-//! The chain that is printed: of the greatest ones the first in a dictionary.
+//! The chain that is printed: of the longest ones the first by its numbers.
 
 ghost use Rattle.std.specs.Prelude.{ℕ, List, ◌≡◌, ◌≤◌, ◌<◌, ◌+◌, ◌&&◌, ◌==◌, ◌∷◌, not, true, length};
 ghost use Rattle.s66_isa.specs.Lists.{Among};

@@ -1,3 +1,6 @@
+//! What the bounds look up: for each number its longest tail and its rank, for each register the ranks of its users, for each kind of
+//! unit its work.
+
 ghost use Rattle.std.specs.Prelude.{◌≡◌, ◌+◌, ◌≤◌, ◌<◌, ◌==◌, true, length};
 ghost use Rattle.s66_isa.specs.declared.reg.TheConstants.{REGISTER_COUNT};
 ghost use Rattle.s66_isa.specs.Lists.{some_of};

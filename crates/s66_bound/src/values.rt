@@ -1,4 +1,5 @@
-//! The values of the bounds, by the tables of the clock's block. All are in minor cycles.
+//! The value of each bound by the tables of the clock's block: chain, loads and parcels, and the greatest of them. All are in minor
+//! cycles.
 
 ghost use Rattle.std.specs.Prelude.{◌≡◌, ◌+◌, ◌-◌, ◌<◌, ◌≤◌, ◌^◌, Bool, true, length, max, get_or};
 ghost use Rattle.s66_isa.specs.Lists.{greatest, least};

@@ -1,4 +1,4 @@
--- The lines of documents.
+-- The text of documents, as the lines of which it consists.
 use Rattle.std.specs.Prelude.{ℕ, List, [], ◌∷◌, ◌++◌, Option, None, Some, is_some, length}
 use Rattle.s66_model.specs.Tree.{Vertex, flat}
 use Rattle.s66_model.specs.DominatedLeaves.{Ending}

@@ -1,4 +1,4 @@
--- How many lines the tree of a document has.
+-- The tree of a document has at least one line, and few for its splits.
 use Rattle.std.proofs.Common.{◌≤◌, ◌<◌, ◌+◌, ◌*◌, ◌^◌, ℕ, List, [], ◌∷◌, length, ap, arith, length-append}
 use Rattle.s66_isa.specs.declared.limits.TheConstants.{BLOCK_LIMIT}
 use Rattle.s66_model.specs.Tree.{Tree, Alone, Parted, Siblings, NoMore, Unsplit, Split, flat_siblings, flat, sibling_splits, splits}

@@ -1,4 +1,4 @@
--- The lines of a tree with their prefixes, and the way from a line down to the one at a place.
+-- The lines of a tree with their prefixes, and the way from a line down to the one at a place (`line_at`).
 use Rattle.std.proofs.Common.{◌≡◌, ℕ, zero, suc, ◌+◌, ◌-◌, ◌<◌, ◌≤◌, List, [], ◌∷◌, ◌++◌, length, drop, slice_get, None, Some, refl, sym, ap, ◌∙◌, arith, length-append}
 use Rattle.std.proofs.lemmas.List.{drop_all, length-drop}
 use Rattle.s66_isa.specs.declared.limits.TheConstants.{BLOCK_LIMIT}

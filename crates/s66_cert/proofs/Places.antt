@@ -1,4 +1,4 @@
--- A line at a place where it doesn't come, and what is known at the place where it does.
+-- A line of a document where none of its kind may come is refused, and what is known of a reader at each place.
 use Rattle.std.proofs.Common.{Bool, ◌≡◌, ◌≤◌, ◌+◌, ◌*◌, ◌^◌, ℕ, zero, suc, true, false, List, [], ◌∷◌, length, refl, arith, subst}
 use Rattle.std.specs.Prelude.{Err}
 use Rattle.s66_isa.specs.declared.limits.TheConstants.{BLOCK_LIMIT}

@@ -1,4 +1,4 @@
--- Short words, and numbers that are too long.
+-- Words of few digits give numbers that fit, and those of more are refused (`number_in`).
 use Rattle.std.proofs.Common.{◌≡◌, ◌≤◌, ◌<◌, ◌+◌, ◌^◌, ℕ, zero, suc, Bool, true, false, List, [], ◌∷◌, ◌++◌, length, Option, None, Some, refl, sym, ap, ◌∙◌, arith, leb, eqb, le-leb, length-append, append_assoc}
 use Rattle.std.proofs.lemmas.Bool.{lt-leb, leb-true, leb-false}
 use Rattle.std.proofs.lemmas.Fmt.{length-decimal-le}

@@ -1,4 +1,4 @@
--- The test of an instruction's text.
+-- The test that a line of a document has the text of an instruction is right, either way.
 use Rattle.std.proofs.Common.{◌≡◌, ◌&&◌, ℕ, Bool, true, false, List, length, Option, None, Some, is_some, refl, ap, nat_le, le-leb, leb-true}
 use Rattle.std.proofs.lemmas.Bool.{and_parts}
 use Rattle.std.proofs.lemmas.Slice.Eq.{bytes_eq-Decides}

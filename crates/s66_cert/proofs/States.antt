@@ -1,4 +1,4 @@
--- States of reading, and which line comes next.
+-- Which kind of line the reader expects while instructions or trees are still to come.
 use Rattle.std.proofs.Common.{◌≡◌, ℕ, suc, List, arith, eqb}
 use Rattle.std.proofs.lemmas.Bool.{cond-false, ne_eqb}
 use Rattle.s66_cert.specs.Document.{Document}

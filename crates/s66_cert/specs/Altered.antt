@@ -1,4 +1,4 @@
--- Texts with lines changed, for worked examples.
+-- Used by examples alone: texts of documents with lines changed.
 use Rattle.std.specs.Prelude.{ℕ, ◌-◌, ◌+◌, Bool, true, false, List, [], ◌∷◌, ◌++◌, codes, take, drop, replicate, Result, Ok, Err}
 use Rattle.s66_isa.specs.Lists.{every, after_blanks}
 use Rattle.s66_cert.specs.Document.{Document}

@@ -1,4 +1,4 @@
--- To be believed: certificates, and their texts.
+-- To be believed: certificates as documents, with the ranges of their numbers and their trees, and their texts.
 use Rattle.std.specs.Prelude.{◌≡◌, ℕ, Bool, true, false, List, [], ◌∷◌, ◌++◌, ◌≤◌, Option, None, Some, is_some, codes, decimal, length}
 use Rattle.s66_model.specs.declared.rule.Rule.{Rule}
 use Rattle.s66_model.specs.declared.rule.Rule.TheVariants.{NoneNamed, WrittenEarlier, ClampedStanding}
@@ -120,6 +120,7 @@ siblings_placed prefix (n ∷ ns) (Unsplit ending siblings) = (prefix ++ n ∷ [
 siblings_placed prefix (n ∷ ns) (Split numbers sub siblings) =
     (prefix ++ n ∷ [], AtSplit numbers) ∷ (siblings_placed (prefix ++ n ∷ []) numbers sub ++ siblings_placed prefix ns siblings)
 
+-- the lines of a tree in preorder, each with its prefix
 abbrev pub tree_placed : List ℕ → Tree Ending → List (List ℕ × Vertex Ending)
 tree_placed prefix (Alone ending) = (prefix, AtTerminal ending) ∷ []
 tree_placed prefix (Parted numbers siblings) = (prefix, AtSplit numbers) ∷ siblings_placed prefix numbers siblings
@@ -219,6 +220,6 @@ AreDocumentsWithin limit most (d ∷ ds) = IsDocumentWithin limit most d × AreD
 abbrev pub IsTextWithin : ℕ → ℕ → List ℕ → List Document → Type 0
 IsTextWithin limit most text ds = AreDocumentsWithin limit most ds × (text ≡ documents_text ds)
 
--- what a text is read as
+-- what a text is read as; these documents, one after the other, and nothing else
 abbrev pub IsText : ℕ → List ℕ → List Document → Type 0
 IsText limit text ds = IsTextWithin limit SPLIT_LIMIT text ds

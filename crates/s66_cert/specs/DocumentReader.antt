@@ -1,4 +1,4 @@
--- Used by contracts: what a reader shows, and how it goes on.
+-- Used by contracts: what a reader of documents shows between two lines, and how it goes on by one.
 use Rattle.std.specs.Prelude.{◌≡◌, ◌==◌, ℕ, Bool, length, List, map, Result, Ok, Err}
 use Rattle.s66_cert.specs.DocumentParts.{document_of}
 use Rattle.s66_cert.specs.Reading.{DocumentState}

@@ -27,7 +27,7 @@ BeginsWithin most text =
     (more : List ℕ) × (ds : List Document) × (d : Document) × AreDocumentsWithin BLOCK_LIMIT most ds × IsOpenWithin BLOCK_LIMIT most d
     × (text ++ more ≡ documents_text ds ++ text_before_end d)
 
--- some text of documents begins so, with one more up to its last line
+-- some text of documents begins so, with one more up to its last line; which may still lack its dominated leaf (`IsOpenWithin`)
 abbrev pub Begins : List ℕ → Type 0
 Begins text = BeginsWithin SPLIT_LIMIT text
 

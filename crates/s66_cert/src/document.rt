@@ -1,3 +1,6 @@
+//! A document (`Document`): a certificate as data, which is well formed by its type, with its numbers in range and its tree whole. What
+//! it claims may be false: that `s66_checker` says.
+
 use crate::indexed_tree::IndexedTree;
 use crate::instruction::InstructionText;
 use arrayvec::ArrayVec;

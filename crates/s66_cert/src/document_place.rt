@@ -1,3 +1,5 @@
+//! Which line of a document the reader expects next: the states of `reader.rt`.
+
 /// Which line of a document comes next.
 #[derive(Clone, Copy)]
 pub(crate) enum DocumentPlace {

@@ -1,3 +1,5 @@
+//! The errors of reading documents, and the line that reports each.
+
 ghost use Rattle.std.specs.Prelude.{◌≡◌};
 ghost use Rattle.s66_cert.specs.declared.error.CertError.TheVariants.{OutOfMemory};
 

@@ -1,3 +1,5 @@
+//! What is to show a bound, if a document may have it (`Evidence`): fact lines and a tree. `s66_deep` makes one of what it found.
+
 ghost use Rattle.std.specs.Prelude.{◌≡◌, ◌≤◌, ◌↔◌, IsTrue};
 ghost use Rattle.s66_isa.specs.declared.limits.TheConstants.{BLOCK_LIMIT};
 ghost use Rattle.s66_model.specs.Tree.{flat, splits};

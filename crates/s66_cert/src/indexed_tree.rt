@@ -1,3 +1,6 @@
+//! A tree whose nodes are found by their names and by their lines: beside each line stands where its subtree ends, so that a look skips
+//! whole subtrees.
+
 ghost use Rattle.std.specs.Prelude.{◌≡◌, get_or};
 ghost use Rattle.s66_tree.specs.Lines.{vertex_of};
 ghost use Rattle.s66_cert.specs.NodePlaces.{end_behind, sibling_count};

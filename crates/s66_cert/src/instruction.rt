@@ -1,3 +1,5 @@
+//! The text of an instruction in a document, with the instruction that it spells.
+
 ghost use Rattle.s66_line.specs.InstructionText.{IsTextOf};
 
 use s66_isa::Instr;

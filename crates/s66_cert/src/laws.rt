@@ -1,4 +1,5 @@
 //! Laws of documents and their texts.
+//! A text determines its documents and is determined by them.
 
 ghost use Rattle.std.specs.Prelude.{ℕ, List, ◌≡◌, ◌<◌, ◌^◌, ◌⊎◌};
 ghost use Rattle.s66_isa.specs.declared.limits.TheConstants.{BLOCK_LIMIT};

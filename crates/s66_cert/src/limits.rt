@@ -1,3 +1,5 @@
+//! Limits of documents.
+
 /// The greatest time, and the greatest bound, that a document claims.
 pub const TIME_LIMIT: u32 = 100_000;
 

@@ -1,3 +1,5 @@
+//! What one line of a document says (`LineOf`). `parse.rt` makes it of bytes, `reader.rt` takes it.
+
 use crate::instruction::ReadText;
 use arrayvec::ArrayVec;
 use s66_isa::PROFILE_LENGTH;

@@ -1,3 +1,6 @@
+//! A buffer for printing, of some thousand bytes, and the text of each kind of line. Which lines a document has, in which order, is in
+//! `printing.rt`.
+
 ghost use Rattle.std.specs.Prelude.{◌≡◌, ◌+◌, ◌-◌, ◌^◌, ◌<◌, ◌≤◌, ◌++◌, length, decimal, OnOk};
 ghost use Rattle.s66_isa.specs.Lists.{after_blanks};
 ghost use Rattle.s66_isa.specs.declared.limits.TheConstants.{BLOCK_LIMIT};

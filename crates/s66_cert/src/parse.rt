@@ -1,3 +1,5 @@
+//! One line of a document, from its bytes to what it says (`line_of`). Whether that line may come next is `reader.rt`'s.
+
 ghost use Rattle.std.specs.Prelude.{◌≡◌, ◌≤◌};
 ghost use Rattle.std.specs.Str.{bytes_eq};
 ghost use Rattle.std.specs.Option.{option_map};

@@ -1,3 +1,5 @@
+//! Prints a document (`print`): its lines in order, from the version to `END`.
+
 ghost use Rattle.std.specs.Option.{option_map};
 ghost use Rattle.std.specs.Prelude.{◌≡◌, ◌-◌, ◌^◌, ◌<◌, ◌++◌, ℕ, [], codes};
 ghost use Rattle.s66_device.specs.Devices.{Written};

@@ -1,3 +1,5 @@
+//! Reads a text as documents (`read`), or tells its first fault: the call that others make, over `reader.rt`.
+
 ghost use Rattle.std.specs.Prelude.{ℕ, map, IfOk};
 ghost use Rattle.s66_isa.specs.declared.limits.TheConstants.{BLOCK_LIMIT};
 ghost use Rattle.s66_cert.specs.Document.{IsText};

@@ -1,4 +1,5 @@
 //! What texts are read as.
+//! Worked examples of reading: texts, and the documents or the faults that they give.
 
 ghost use Rattle.std.specs.Prelude.{false, List, Some, [], ◌∷◌, ◌++◌, ◌-◌, ◌≡◌, codes, Ok, Err, take, replicate, true, length};
 ghost use Rattle.s66_isa.specs.Lists.{rising};

@@ -1,3 +1,5 @@
+//! Words and numbers in the bytes of a line.
+
 ghost use Rattle.std.specs.Prelude.{◌≡◌, ◌≤◌, ◌<◌, ◌+◌, ◌-◌, ◌*◌, ◌^◌, true, if◌then◌else◌, length, IfSome};
 ghost use Rattle.std.specs.Option.{option_map};
 ghost use Rattle.s66_isa.specs.Lists.{every};

@@ -1,4 +1,5 @@
 //! The text of documents.
+//! Worked examples of printing: documents, and their texts.
 
 ghost use Rattle.std.specs.Prelude.{ℕ, List, [], ◌∷◌, ◌++◌, ◌≡◌, codes};
 ghost use Rattle.s66_isa.specs.Table.{entries, standard};

@@ -1,4 +1,4 @@
--- Bounds of what the values of leaves are made of.
+-- The parts of which leaves' values are made fit into the machine's numbers: heads, links, tails, and work.
 use Rattle.std.proofs.Common.{ℕ, ◌+◌, ◌≤◌, ◌≡◌, true, false, true≢false, ◌&&◌, cond, max, List, [], ◌∷◌, reverse, refl, sym, ap, arith, inl, inr, ◌∙◌}
 use Rattle.std.proofs.lemmas.Bool.{cond_both, cases_Bool, and_parts, and_from}
 use Rattle.s66_isa.specs.declared.instr.Kind.{Kind}

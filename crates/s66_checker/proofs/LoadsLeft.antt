@@ -1,4 +1,4 @@
--- Numbers that rise and remain are few, and what doesn't remain isn't left.
+-- The numbers of a leaf by a load rise, all remain, and so are few.
 use Rattle.std.proofs.Common.{ℕ, ◌+◌, ◌≤◌, ◌≡◌, Bool, false, true, true≢false, List, [], ◌∷◌, length, refl, arith, inl, inr, ltb}
 use Rattle.std.proofs.lemmas.Bool.{and_parts, and_cases, and_left, and_right, ltb-true}
 use Rattle.s66_isa.specs.declared.instr.Kind.{Kind}

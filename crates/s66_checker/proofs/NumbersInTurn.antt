@@ -1,4 +1,4 @@
--- The numbers of a block in turn, from 1 on.
+-- A loop over the numbers of a block from 1 on, which filters, sums or keeps the least.
 use Rattle.std.proofs.Common.{ℕ, ◌+◌, ◌<◌, ◌≡◌, Bool, true, false, min, List, [], ◌∷◌, ◌++◌, length, Option, None, Some, refl, sym, ap, subst, add-one, arith, ◌∙◌}
 use Rattle.std.proofs.lemmas.List.{append-nil, length-append}
 use Rattle.std.specs.List.{filter}

@@ -23,6 +23,8 @@ line_ending d (Turned first second) = AtLines []
 line_ending d (AtLine line) = DominatedBy (name_of (node_on d line))
 line_ending d (LoadFrom after numbers) = AtLines (load_of (problem_of d) d.bound after numbers ∷ [])
 
+-- its tree as a tree with lines: `Next` and `Turned` are closed by the facts alone, `LoadFrom` by its load, and `AtLine` names the node
+-- of that line
 abbrev pub line_tree : Document → Tree LineEnding
 line_tree d = tree_seen (λ at. line_ending d) [] d.tree
 

@@ -23,11 +23,13 @@ use Rattle.s66_replay.specs.Dominating.{is_beginning, is_same_set, is_earlier, d
 
 -- ITS BLOCK, under its own profile
 
+-- the instructions that the document's texts spell, under its profile
 abbrev pub problem_of : Document → Problem
 problem_of d = record { block = map instr_in_text d.block; profile = profile_of d.profile }
 
 -- ITS ORDER
 
+-- each number is ready when it is placed, and there are as many as instructions
 abbrev pub is_legal_order : List Instr → List ℕ → Bool
 is_legal_order block order = is_beginning block order && length order == length block
 
@@ -192,7 +194,8 @@ proof_verdict d =
     facts_verdict d (fact_line_number d) (known_first (problem_of d)) (facts_of d)
     (lines_verdict d (tree_line_number d) (tree_placed [] d.tree))
 
--- first the order, the time and the bound, and then what shows it
+-- first the order, the time and the bound, and then what shows it; the fact lines one by one, each by what is known before it, and then
+-- the tree line by line
 abbrev pub verdict : Document → Verdict
 verdict d =
     if not (is_legal_order (problem_of d).block d.numbers) then No (order_line_number d) fault.Order

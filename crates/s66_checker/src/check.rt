@@ -1,3 +1,5 @@
+//! The verdict on a document (`verify`): the order and its time, then the fact lines, then the tree.
+
 ghost use Rattle.std.specs.Prelude.{ℕ, ◌≡◌, ◌≤◌, [], Some, None, if◌then◌else◌, length, map};
 ghost use Rattle.s66_isa.specs.Profiles.{profile_of};
 ghost use Rattle.s66_isa.specs.declared.limits.TheConstants.{BLOCK_LIMIT};

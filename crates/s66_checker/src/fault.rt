@@ -1,4 +1,5 @@
 //! What is wrong with a line of a tree.
+//! There is a rule for each kind of line: for a split, and for each kind of leaf.
 
 ghost use Rattle.std.specs.Prelude.{◌≡◌, ◌≤◌, if◌then◌else◌, nat_lt, None, Some, length};
 ghost use Rattle.std.specs.Str.{bytes_eq};

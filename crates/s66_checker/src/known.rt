@@ -1,4 +1,5 @@
 //! What is known after the fact lines of a document, by which further leaves close a prefix.
+//! The fact lines are taken in one after the other (`s66_facts`), and the longest paths to the end kept.
 
 ghost use Rattle.std.specs.Prelude.{◌≡◌, ◌≤◌, ◌<◌, ◌+◌, IsTrue, IfSome, IfNone, length};
 ghost use Rattle.s66_cert.specs.DocumentParts.{document_of};

@@ -1,5 +1,8 @@
 //! The verdict on a certificate, from its document alone: under the document's profile a legal order, its time and a bound
 //! that no order beats, or the first fault.
+//! Begin at `specs/Verdict.antt`, then `check.rt`.
+//!
+//! A yes is proved to mean that what the document claims is true (`yes_law`).
 //!
 //! It goes through the order, then through the fact lines of a document of version 4, and then through the tree of the bound line
 //! by line. A fact line has to be shown by what is known before it. A split has to go on with all instructions that are ready

@@ -1,4 +1,7 @@
 //! Whether a prefix is closed by what units of one kind have to do for some numbers that remain. All times are in minor cycles.
+//!
+//! It is energetic reasoning below a prefix: from a minor cycle on at the soonest these instructions use units of one kind, for so long
+//! in sum, and after any of them so much is left; so each order that begins with the prefix takes the bound at least.
 
 ghost use Rattle.std.specs.Prelude.{◌≡◌, ◌≤◌, ◌<◌, ◌+◌, ◌*◌, ◌^◌, ◌&&◌, Some, true, nat_le, length, map};
 ghost use Rattle.s66_isa.specs.declared.limits.TheConstants.{BLOCK_LIMIT};

@@ -1,4 +1,5 @@
 //! Which names a dominated leaf may have.
+//! It has to be a node of the same tree, of the same set of numbers, that the rule lets be named.
 
 ghost use Rattle.std.specs.Prelude.{◌≡◌, IsTrue, Some};
 ghost use Rattle.std.specs.Option.{option_map};

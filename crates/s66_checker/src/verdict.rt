@@ -1,3 +1,5 @@
+//! What a checker says: yes, or the first line that is wrong and the reason, with its number.
+
 ghost use Rattle.std.specs.Prelude.{◌≡◌};
 ghost use Rattle.s66_checker.specs.Reasons.{number_of};
 

@@ -1,3 +1,5 @@
+//! Goes over the lines of a tree in preorder: one prefix is pushed and popped, so that each line is judged at its own (`tree_verdict`).
+
 ghost use Rattle.std.specs.Prelude.{◌≡◌, []};
 ghost use Rattle.s66_model.specs.Later.{IsNextReady, later};
 ghost use Rattle.s66_tree.specs.Lines.{vertex_of};

@@ -1,4 +1,4 @@
--- A hint is empty just if a profile is given.
+-- What is said of a text for a profile is empty exactly if it gives one (`profile_hint`).
 use Rattle.std.proofs.Common.{◌≡◌, ℕ, List, [], ◌∷◌, refl, sym, ap, ◌∙◌}
 use Rattle.std.specs.Prelude.{◌↔◌, if◌then◌else◌, slice_set, Option, Some, None, IsSome, is_none, is_some, option_and_then, option_map}
 use Rattle.serde_json.specs.Data.{Data, Members, no_members, member}

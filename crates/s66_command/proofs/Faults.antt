@@ -1,4 +1,4 @@
--- If no step of a parse has a fault, neither of two has.
+-- Two steps of a parse by clap have no fault if neither has one.
 use Rattle.std.proofs.Common.{◌≡◌, [], ◌∷◌, List, refl, subst}
 use Rattle.clap.specs.Words.{Kinds}
 use Rattle.clap.specs.Kinds.{or_else}

@@ -1,4 +1,4 @@
--- After words without a fault, a flag is true just if it is given.
+-- After words in which clap finds no fault, a flag is true just if it is given.
 use Rattle.std.proofs.Common.{◌≡◌, ◌==◌, ◌⊎◌, ◌∙◌, inl, inr, arith, Bool, cond, true, false, true≢false, List, length, [], ◌∷◌, ◌++◌, Option, Some, None, option_and_then, refl, sym, ap, ap₂, codes, slice_get}
 use Rattle.std.specs.Prelude.{option_map}
 use Rattle.std.specs.Option.{option_map_or}

@@ -1,4 +1,4 @@
--- Words that clap takes name a subcommand.
+-- Words in which clap finds no fault name a subcommand.
 use Rattle.std.proofs.Common.{◌≡◌, ◌⊎◌, inl, inr, ℕ, Bool, cond, true, false, true≢false, ◌||◌, List, [], ◌∷◌, ◌++◌, Option, Some, None, refl, sym, ap, ◌∙◌, subst, Box, box_value, codes, find, fold, drop, is_some, map, option_map, bytes_eq}
 use Rattle.std.specs.List.{list_all, list_any}
 use Rattle.std.specs.Option.{option_map_or}

@@ -1,4 +1,4 @@
--- Words that clap does not take are refused.
+-- Words in which clap finds a fault give no command, but its usage (`command_of`).
 use Rattle.std.proofs.Common.{◌≡◌, inl, inr, true, refl, subst, List}
 use Rattle.clap.specs.Words.{App, HasKind, Text, fault_of, is_simple_and_free, kind_of}
 use Rattle.clap.specs.declared.error.Error.{Error}

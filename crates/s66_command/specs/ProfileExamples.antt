@@ -1,4 +1,4 @@
--- A word of the examples.
+-- Used by examples alone: the numbers of the standard profile with one of them changed.
 use Rattle.std.specs.Prelude.{ℕ, List, slice_set, Option, Some}
 use Rattle.s66_isa.specs.Table.{entries, standard}
 

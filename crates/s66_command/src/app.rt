@@ -1,4 +1,4 @@
-//! The command line, as clap is told it.
+//! The command line as `clap` is told of it: its subcommands and their options, built from the rows of `subcommand.rt`.
 
 ghost use Rattle.std.specs.Prelude.{◌≡◌, IfOk};
 ghost use Rattle.clap.specs.Words.{App, app_of, new_app};

@@ -1,3 +1,6 @@
+//! The numbers of a profile that differ from the standard profile's, and their text. Other crates print it above what they say under
+//! such a profile.
+
 ghost use Rattle.std.specs.Prelude.{ℕ, List, [], ◌≡◌, ◌≤◌, ◌++◌, OnOk, get_or, length, map};
 ghost use Rattle.std.specs.Borrow.{Bor};
 ghost use Rattle.s66_isa.specs.declared.limits.TheConstants.{PROFILE_LENGTH};

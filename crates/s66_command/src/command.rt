@@ -1,3 +1,6 @@
+//! A command as it is asked for: the subcommand with the options that it takes, in types. Every other crate sees the command line only
+//! through these.
+
 use crate::strategy::Strategy;
 
 /// What the program is asked for.

@@ -1,5 +1,5 @@
-//! What the help says beside the table. Its lines have at most 80 columns: a text of an option at most 56 a line, one of its long help
-//! at most 70.
+//! The texts of the help that the rows of `subcommand.rt` don't have. Lines have at most 80 columns: a text of an option at most 56 a
+//! line, one of its long help at most 70.
 
 use crate::limits::{BLOCK_NUMBER_LIMIT, NODES_DEFAULT, WORKERS_DEFAULT};
 use s66_isa::PROFILE_LIMIT;

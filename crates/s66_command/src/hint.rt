@@ -1,3 +1,5 @@
+//! Why a text is no profile: which key is no name of a number, or which value is no number of a profile.
+
 ghost use Rattle.std.specs.Prelude.{[], ◌≡◌, ◌↔◌, ◌++◌, IfOk, IsSome, codes, string_bytes};
 ghost use Rattle.serde_json.specs.View.{members_view};
 ghost use Rattle.s66_command.specs.ProfileHint.{hint_in_members, hint_in_text, shown, wrong_name};

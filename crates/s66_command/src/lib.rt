@@ -1,4 +1,8 @@
-//! The command line: what the words that the program is called with ask for, and the timing profile that they give as a JSON text or a list.
+//! The command line: what the words that the program is called with ask for, and the timing profile that they give as a JSON text or a
+//! list. `clap` parses the words, `serde_json` the text. Begin at `specs/Usage.antt`, then `usage.rt`.
+//!
+//! It promises that a command comes only from words that give it by the rules of `clap`, and that help, the version or a mistake is
+//! shown only where these rules find it (`command_of`).
 #![tactic(auto)]
 
 mod app;

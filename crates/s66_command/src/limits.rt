@@ -1,3 +1,5 @@
+//! What options are if the words don't give them (workers, splits), and the greatest number of a block that `--block` takes.
+
 /// How many workers search if the words give no number.
 pub const WORKERS_DEFAULT: u8 = 4;
 

@@ -1,4 +1,4 @@
-//! The options of a subcommand, as clap found them among its words. One that the subcommand doesn't take is not given.
+//! The values of a subcommand's options, as `clap` found them among the words. One that the subcommand doesn't take is not given.
 
 ghost use Rattle.std.specs.Prelude.{◌≡◌, IfSome, List, is_some};
 ghost use Rattle.clap.specs.Words.{Text, found_of};

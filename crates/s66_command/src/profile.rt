@@ -1,3 +1,5 @@
+//! A profile read from a JSON object, or from a list that stands for one; and the names of its numbers.
+
 ghost use Rattle.std.specs.Prelude.{◌≡◌, ◌<◌, ◌≤◌, Err, IfOk, IfSome, None, Some, length, option_map};
 ghost use Rattle.serde_json.specs.View.{view};
 ghost use Rattle.s66_isa.specs.Profiles.{profile_of};

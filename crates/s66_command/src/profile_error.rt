@@ -1,3 +1,5 @@
+//! The errors of reading a profile, and the line that reports each.
+
 ghost use Rattle.std.specs.Prelude.{◌≡◌};
 ghost use Rattle.serde_json.specs.Errors.{IsMemory};
 ghost use Rattle.s66_command.specs.declared.profile_error.ProfileError.TheVariants.{BadProfile, OutOfMemory};

@@ -1,3 +1,5 @@
+//! How best orders are looked for: the options of the search, and whether `--deep` was given.
+
 use s66_model::Options;
 
 /// How the best order of a block is looked for.

@@ -1,3 +1,5 @@
+//! From the words of the command line to a command, or to help or a mistake with its text and status.
+
 ghost use Rattle.std.specs.Prelude.{◌≡◌, IfOk, IfErr, List, MatchResult, map};
 ghost use Rattle.clap.specs.Words.{Text, found_of, kind_of};
 ghost use Rattle.clap.specs.declared.error.kind.ErrorKind.TheVariants.{UnknownArgument};

@@ -1,4 +1,4 @@
--- Where two frames first differ.
+-- Two frames that are gone over part by part first differ where the definition says (`difference_of`).
 use Rattle.std.proofs.Common.{ℕ, suc, ◌+◌, ◌≡◌, ◌≢◌, ◌≤◌, ◌<◌, ◌∙◌, Bool, true, false, true≢false, ◌&&◌, not, if◌then◌else◌, List, [], ◌∷◌, Option, None, Some, length, drop, take, map, refl, ap, ap₂, sym, arith, inl, inr}
 use Rattle.std.specs.Prelude.{bytes_eq, slice_get, slice_index_or}
 use Rattle.std.proofs.lemmas.Bool.{and_from, and_parts, cases_Bool, not-true}

@@ -1,4 +1,4 @@
--- The place of a number in an order, as it is looked for from a place on.
+-- The place of a number in an order, as `place_of` looks for it from a place on.
 use Rattle.std.proofs.Common.{ℕ, suc, ◌+◌, ◌-◌, ◌≡◌, ◌≤◌, ◌<◌, ◌∙◌, true, false, List, get_or, refl, ap, arith}
 use Rattle.std.specs.Prelude.{◌==◌}
 use Rattle.s66_isa.specs.Lists.{least_from}

@@ -1,4 +1,4 @@
--- Texts that are appended piece by piece.
+-- The text of a sum line or of a broken pair is that of its pieces, appended one after the other.
 use Rattle.std.proofs.Common.{ℕ, List, ◌≡◌, ◌++◌, ◌∙◌, ap, append_assoc}
 
 pub three-pieces : (out a b c : List ℕ) → out ++ a ++ b ++ c ≡ out ++ (a ++ b ++ c)

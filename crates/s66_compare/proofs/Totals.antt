@@ -1,4 +1,4 @@
--- The sums of rows, as they are written.
+-- The sums of all rows, as `push_total` writes them, are those of the definition.
 use Rattle.std.proofs.Common.{ℕ, List, ◌≡◌, ◌∙◌, ap}
 use Rattle.s66_isa.specs.Lists.{tally, weigh}
 use Rattle.s66_compare.specs.Compared.{total_line, total_text}

@@ -1,3 +1,5 @@
+//! The text of why an order isn't legal: which two lines stand in reverse, and by which register or memory one depends on the other.
+
 ghost use Rattle.std.specs.Prelude.{◌≡◌, ◌≤◌, ◌<◌, ◌+◌, ◌-◌, ◌==◌, ◌++◌, OnOk, decimal, get_or, length};
 ghost use Rattle.s66_isa.specs.Lists.{least_from};
 ghost use Rattle.s66_isa.specs.Table.{instr_at};

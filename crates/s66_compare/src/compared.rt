@@ -1,3 +1,6 @@
+//! The comparison of two sources (`compare`): rows of blocks, what stands beside them, the text, and whether the new source is
+//! accepted.
+
 ghost use Rattle.std.specs.Prelude.{◌≡◌, IfOk};
 ghost use Rattle.s66_compare.specs.Compared.{IsCompared, is_accepted};
 

@@ -1,3 +1,5 @@
+//! Where what stands beside the blocks of two sources first differs.
+
 ghost use Rattle.std.specs.Prelude.{◌≡◌, IfOk};
 ghost use Rattle.s66_source.specs.Frame.{frame_of};
 ghost use Rattle.s66_compare.specs.Difference.{first_difference, is_alike};

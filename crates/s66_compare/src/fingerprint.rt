@@ -1,3 +1,5 @@
+//! A hash of a block's instructions that doesn't depend on their order, by which blocks are aligned.
+
 use s66_line::Block;
 use std::alloc::{AllocError, Global};
 

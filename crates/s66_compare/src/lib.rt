@@ -1,4 +1,7 @@
-//! Whether one source is another but for the legal orders of its blocks, and what is written of that.
+//! Whether one source is another but for the legal orders of its blocks, and what is written of that. Begin at `specs/Compared.antt`,
+//! then `compared.rt`.
+//!
+//! It promises that what is accepted leaves what the old source leaves (`same_meaning_law`).
 #![tactic(auto)]
 
 mod alignment;

@@ -1,3 +1,5 @@
+//! Which instruction of an old block each of a new one is: the first with the same text that isn't taken.
+
 ghost use Rattle.std.specs.Prelude.{◌≡◌, ◌≤◌, IfSome, IfNone, length};
 ghost use Rattle.s66_isa.specs.Lists.{has};
 ghost use Rattle.s66_isa.specs.declared.limits.TheConstants.{BLOCK_LIMIT};

@@ -1,3 +1,5 @@
+//! The blocks of two sources side by side, with their times and what is said of them.
+
 ghost use Rattle.std.specs.Prelude.{List, ◌≡◌, ◌≤◌, ◌+◌, [], ◌∷◌, ◌++◌, drop, length, IfOk, OnOk};
 ghost use Rattle.s66_line.specs.Block.{Block as BlockOf};
 ghost use Rattle.s66_compare.specs.declared.alignment.Step.{Step as StepOf};

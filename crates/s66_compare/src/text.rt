@@ -1,3 +1,5 @@
+//! The text of `compare`: a line for each row, where what stands beside the blocks differs, and the sums.
+
 ghost use Rattle.std.specs.Prelude.{◌≡◌, ◌≤◌, ◌*◌, ◌^◌, ◌<◌, ◌++◌, codes, decimal, length, slice_get, IfOk, OnOk};
 ghost use Rattle.s66_isa.specs.Lists.{after_blanks, tally, weigh};
 ghost use Rattle.s66_source.specs.declared.limits.TheConstants.{SOURCE_LINES_LIMIT};

@@ -1,3 +1,5 @@
+//! What a new block is beside an old one: the same, in another legal order, in one that isn't legal, or with other instructions.
+
 ghost use Rattle.std.specs.Prelude.{◌≡◌, ◌≤◌, [], IfSome, IfNone, length};
 ghost use Rattle.s66_isa.specs.declared.limits.TheConstants.{BLOCK_LIMIT};
 ghost use Rattle.s66_line.specs.Block.{instrs_of};

@@ -1,4 +1,4 @@
--- What is true of each value of an array, and of the one that a read past its end gives.
+-- What is true of each value of an array that is filled in a loop, and of the one that a read past its end gives.
 use Rattle.std.proofs.Common.{ℕ, zero, suc, List, [], ◌∷◌, get_or, set, replicate}
 
 module _ {A : Type 0} (is : A → Type 0) (past : A) where

@@ -1,4 +1,5 @@
--- Used by contracts: what stays so of a search that goes on.
+-- Used by contracts: what stays so of a best-first search that goes on: its block and profile, that its best order gets no slower, and
+-- how many splits it has made.
 use Rattle.std.specs.Prelude.{ℕ, ◌≡◌, ◌≤◌}
 use Rattle.s66_model.specs.Timing.{total_of}
 use Rattle.s66_time.specs.TimedOrder.{TimedOrder}

@@ -1,4 +1,5 @@
 //! Instructions by what they wait for.
+//! These are the registers that they read or write, the units that they take, and memory.
 
 ghost use Rattle.std.specs.Prelude.{◌≤◌, length};
 ghost use Rattle.s66_isa.specs.declared.limits.TheConstants.{BLOCK_LIMIT};

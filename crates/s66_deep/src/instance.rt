@@ -1,4 +1,5 @@
 //! A block under a profile, whose orders are sought.
+//! Most functions of `look.rt`, `lines.rt` and `search.rt` take one.
 
 use s66_isa::Profile;
 use s66_line::Block;

@@ -1,5 +1,9 @@
 //! What is found of a block beside a search of its orders: a good order, and fact lines and a tree by which a certificate shows a bound.
 //! Whether they are right is for a checker to say.
+//! Only that it is safe and its orders legal is proved. Begin at `look.rt`, then `search.rt`.
+//!
+//! There are four parts beside what joins them: `facts/` finds fact lines, `floors/` bounds prefixes by longest paths, `beam/` finds
+//! good orders, and `best_first/` searches all orders and writes a tree.
 #![tactic(auto)]
 
 mod beam;

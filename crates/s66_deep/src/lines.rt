@@ -1,4 +1,9 @@
 //! A good order and a bound by fact lines alone.
+//! By the lines for orders below a time a beam may find a faster order, or a longest path shows that there is none.
+//!
+//! The bound is found by supposing a time: if facts that all orders below it would share lead to a path as long as that, there are none
+//! (R. Klein and A. Scholl, Computing lower bounds by destructive improvement, European Journal of Operational Research 112, 1999).
+//! Between the bound and the best time the middle is tried, again and again.
 
 ghost use Rattle.std.specs.Prelude.{◌≡◌, IfOk, IfSome};
 ghost use Rattle.s66_deep.specs.Orders.{IsGood};

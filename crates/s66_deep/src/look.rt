@@ -1,3 +1,6 @@
+//! What is found of a block (`look_at`): the best order met, and the fact lines and the tree that are to show a bound; if a certificate
+//! may have these. It calls the finder, beams and searches in turn.
+
 ghost use Rattle.std.specs.Prelude.{◌≡◌, ◌≤◌, ◌+◌, ◌/◌, IfOk, IfSome};
 ghost use Rattle.s66_line.specs.Block.{instrs_of};
 ghost use Rattle.s66_model.specs.Answer.{source_time};

@@ -1,4 +1,5 @@
 //! A good order of a block.
+//! Here are the source order, and the faster of two.
 
 ghost use Rattle.std.specs.Prelude.{◌≡◌, ◌<◌, IfSome};
 ghost use Rattle.s66_isa.specs.Table.{numbers};

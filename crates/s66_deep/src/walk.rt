@@ -1,3 +1,5 @@
+//! A walk over beginnings (`Prefix`), as that of `s66_node`, which keeps also what remains by rank, for the longest paths of `floors/`.
+
 ghost use Rattle.std.specs.Prelude.{◌≡◌};
 
 use crate::floors::{Left, PathBounds, Tails};

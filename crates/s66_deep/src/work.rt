@@ -1,4 +1,5 @@
 //! What units of one kind have to do.
+//! Kept are the sum, the least and the greatest of what some instructions need, by which so many units take at least so long.
 
 /// How long some instructions have units of one kind, in minor cycles.
 #[derive(Clone, Copy, Default)]

@@ -1,4 +1,4 @@
--- The numbers in a set, and the bits of its two words.
+-- The numbers in a set of `src/set.rt`, and the bits of its two words.
 use Rattle.std.proofs.Common.{ℕ, zero, suc, ◌+◌, ◌-◌, ◌*◌, ◌/◌, ◌%◌, ◌^◌, ◌≤◌, ◌<◌, ◌≡◌, ◌⊎◌, Bool, true, false, cond, ◌||◌, ◌&&◌, not, ◌==◌, ◌∷◌, ◌++◌, List, length, filter, min, bit_and, bit_or, count_ones, eqb-true, eq-eqb, ne_eqb, refl, sym, ap, subst, ◌∙◌, inl, inr, arith, pow-suc, length-append}
 use Rattle.std.specs.Int.{w64, bit_at, bit_not}
 use Rattle.std.specs.Int.Count.{ones_step}

@@ -1,4 +1,4 @@
--- Conflicts by words of registers.
+-- Two instructions conflict by the words of their registers exactly if one depends on the other.
 use Rattle.std.proofs.Common.{◌+◌, ◌≡◌, true, ◌++◌, ◌∷◌, [], List, subst, inl, inr, length-append, sym, ◌∙◌, length, get_or, arith, refl}
 use Rattle.std.specs.Cmp.{both_ways}
 use Rattle.std.proofs.lemmas.Bool.{cases_lt}

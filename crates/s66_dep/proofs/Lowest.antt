@@ -1,4 +1,4 @@
--- The lowest number of a set, and the others.
+-- The lowest number of a set of `src/set.rt`, and the others (`pop_first`).
 use Rattle.std.proofs.Common.{ℕ, ◌+◌, ◌-◌, ◌^◌, ◌≤◌, ◌<◌, ◌≡◌, ◌==◌, [], ◌∷◌, bit_and, sym, ap, ◌∙◌, inl, inr, arith}
 use Rattle.std.specs.Int.{w64, bit_at, trailing_zeros}
 use Rattle.std.proofs.lemmas.Bool.{cases_lt, eq-eqb, ne_eqb}

@@ -1,3 +1,6 @@
+//! What dependence sees of an instruction: the registers that it reads and writes, each set in one word, and how it references memory.
+//! Two conflict if one writes what the other reads or writes, or both reference memory and one stores.
+
 use s66_isa::{Instr, Memory, Registers, is_memory_conflict};
 
 /// What of an instruction its dependences rest on: the registers that it reads and those that it writes, each in one word, and

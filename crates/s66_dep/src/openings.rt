@@ -1,3 +1,6 @@
+//! Direct dependences (`Openings`): a transitive reduction of the dependence graph, by which what is ready after one more instruction
+//! follows from what was ready before.
+
 ghost use Rattle.std.specs.Prelude.{ℕ, ◌≡◌, ◌≤◌, ◌-◌, List, [], true, length, get_or};
 ghost use Rattle.std.specs.List.{filter};
 ghost use Rattle.s66_isa.specs.Lists.{has, rising};

@@ -1,3 +1,5 @@
+//! Where bytes come from (`Feed`) and where they go to (`Sink`), over the readers and writers of `std`, and writing all of a text.
+
 ghost use Rattle.std.specs.Prelude.{◌≡◌, ◌+◌, ◌-◌, ◌^◌, ◌<◌, ◌≤◌, length, IfOk, OnOk, OnErr};
 ghost use Rattle.std.specs.Io.KnownBytes.{ReadConsumes, WriteAppends};
 ghost use Rattle.s66_device.specs.Devices.{Reader, Writer, Feeds, FeedFails, Written};

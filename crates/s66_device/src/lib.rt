@@ -1,4 +1,6 @@
-//! The devices that bytes come from and go to, and short texts.
+//! The devices that bytes come from and go to, and short texts. Begin at `specs/Devices.antt`, then `device.rt`.
+//!
+//! It promises that `write_all` writes all of a text, or a beginning of it if the writer fails.
 #![tactic(auto)]
 
 mod device;

@@ -1,3 +1,5 @@
+//! Short texts with a number, as the lines of faults are.
+
 ghost use Rattle.std.specs.Prelude.{◌≡◌, ◌++◌, ◌<◌, ◌≤◌, codes, decimal, length, OnOk};
 ghost use Rattle.s66_device.specs.declared.limits.TheConstants.{FAULT_ROOM};
 

@@ -1,4 +1,4 @@
--- What a number between two others hands on.
+-- What a number between two others hands on: the test `covers` of `src/near.rt`, and that numbers which are covered decide no times.
 use Rattle.std.proofs.Common.{ℕ, ◌-◌, ◌≤◌, ◌≡◌, ◌⊎◌, not, ◌||◌, ◌&&◌, ◌==◌, Bool, true, false, true≢false, List, [], ◌∷◌, length, get_or, leb, refl, sym, arith, inl, inr, ◌∙◌, subst, Some}
 use Rattle.std.proofs.lemmas.Bool.{and_parts, and_from, or_cases, not-true, leb-true}
 use Rattle.std.proofs.Math.Bool.{and_comm, or_comm}

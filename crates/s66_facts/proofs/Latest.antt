@@ -1,4 +1,4 @@
--- The latest of some, one after the other.
+-- The latest of some times, taken in one after the other, as paths to a moment are gathered arc by arc.
 use Rattle.std.proofs.Common.{ℕ, zero, suc, ◌-◌, ◌≤◌, ◌<◌, ◌≡◌, not, ◌&&◌, ◌==◌, Bool, true, false, cond, List, [], ◌∷◌, length, map, get_or, refl, sym, ap, arith, inl, inr, ◌∙◌, Option, Some, None}
 use Rattle.std.proofs.lemmas.Bool.{cases_eq, eq-eqb, ne_eqb}
 use Rattle.s66_isa.specs.Lists.{Among}

@@ -1,4 +1,4 @@
--- Times of which one is changed, and the order in which numbers are looked at.
+-- A list of times of which one is changed, and the order in which `settle_each` looks at numbers.
 use Rattle.std.proofs.Common.{ℕ, zero, suc, ◌+◌, ◌-◌, ◌≤◌, ◌<◌, ◌≡◌, ◌≢◌, ◌⊎◌, true, List, length, get_or, set, ap, arith, inl, inr, ◌∙◌}
 use Rattle.std.proofs.lemmas.List.{get_or-set_same, get_or-set_other}
 use Rattle.s66_isa.proofs.Lists.{cases_le}

@@ -1,4 +1,7 @@
 //! The longest paths once something more is known: only the times of numbers that may change are found again.
+//!
+//! A number is settled once all that comes sooner is. If its times change, those that come later have to be settled again; all others
+//! keep what was found before. So one more fact costs a step for each number whose times may change, and not the whole network.
 
 ghost use Rattle.std.specs.Prelude.{ℕ, ◌+◌, ◌≡◌, ◌≤◌, ◌<◌, ◌||◌, IsTrue, true, false, length};
 ghost use Rattle.s66_isa.specs.declared.limits.TheConstants.{BLOCK_LIMIT};

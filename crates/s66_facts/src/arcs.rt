@@ -1,4 +1,5 @@
 //! Arcs of loads, found by their moments.
+//! Those of each number are in a chain; an arc that says no more than another between the same moments is in none.
 
 ghost use Rattle.std.specs.Prelude.{ℕ, ◌-◌, ◌≡◌, ◌≤◌, ◌<◌, ◌++◌, ◌∷◌, [], IsTrue, false, length, get_or};
 ghost use Rattle.s66_isa.specs.declared.limits.TheConstants.{BLOCK_LIMIT};

@@ -1,4 +1,5 @@
 //! Which number stands before which by dependence.
+//! It is the transitive closure of the dependence graph, a word of 128 bits for each number, in one pass over the block.
 
 ghost use Rattle.std.specs.Prelude.{ℕ, ◌≡◌, ◌+◌, ◌≤◌, ◌<◌, length, get_or};
 ghost use Rattle.s66_isa.specs.declared.limits.TheConstants.{BLOCK_LIMIT};

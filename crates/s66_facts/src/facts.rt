@@ -1,4 +1,5 @@
 //! What is known of a block under a profile, with the longest paths from the origin and to the end.
+//! These are the calls of the crate: a line is taken in if what is known shows it (`take_pair`, `take_load`).
 
 ghost use Rattle.std.specs.Prelude.{ℕ, ◌≡◌, ◌≤◌, ◌<◌, ◌||◌, if◌then◌else◌, true, length};
 ghost use Rattle.s66_isa.specs.declared.limits.TheConstants.{BLOCK_LIMIT};

@@ -1,4 +1,5 @@
 //! A block under a profile, and what is known of it: which number stands before which, and arcs of loads.
+//! It is the network in which `paths.rt` follows the longest paths.
 
 ghost use Rattle.std.specs.Prelude.{ℕ, ◌≡◌, ◌≢◌, ◌≤◌, ◌<◌, ◌↔◌, IsTrue, true, false, [], ◌∷◌, ◌++◌, length, map};
 ghost use Rattle.s66_isa.specs.Table.{row};

@@ -1,5 +1,9 @@
 //! What the fact lines of a certificate give of a block: which number stands before which, and the longest paths between its moments.
 //! Nothing here schedules or allocates.
+//! A checker and a finder both ask it whether a line is right. Begin at `facts.rt`.
+//!
+//! It promises that a line is taken in exactly if it passes the tests of `s66_moments`, and that the times that it keeps are the
+//! longest paths by what is known.
 #![tactic(auto, unfolding(s66_isa::specs::Table::row))]
 
 mod again;

@@ -1,4 +1,8 @@
 //! Whether a load line is a fact, by what is known.
+//!
+//! The test is one of energetic reasoning: instructions of one kind of unit begin their use late enough after a moment and have to be
+//! over before another, and their work, shared by the units there are, fills the time between. So the second moment comes so much later
+//! than the first. `s66_deep` looks for such lines; here one is only tested.
 
 ghost use Rattle.std.specs.Prelude.{◌+◌, ◌*◌, ◌^◌, ◌≡◌, ◌≤◌, ◌<◌, ◌&&◌, true, Some, length, map, nat_lt};
 ghost use Rattle.s66_isa.specs.declared.limits.TheConstants.{BLOCK_LIMIT};

@@ -1,3 +1,5 @@
+//! A set of a block's instruction numbers, as one word of 128 bits. `Set` of `s66_dep` is another, for those that search.
+
 ghost use Rattle.std.specs.Prelude.{ℕ, ◌-◌, ◌≡◌, ◌≤◌, ◌<◌, ◌==◌, ◌||◌, ◌&&◌, not, ◌↔◌, IsTrue, IfSome, IfNone, true, false, length, get_or};
 ghost use Rattle.s66_isa.specs.declared.limits.TheConstants.{BLOCK_LIMIT};
 ghost use Rattle.s66_facts.specs.Marked.{is_marked, no_marks};

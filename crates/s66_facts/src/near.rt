@@ -1,5 +1,8 @@
 //! Which of the numbers that stand before one, or after it, decide its times: one between two numbers may hand on all that one of these
 //! waits for of the other.
+//!
+//! It is a reduction of the network, so that longest paths look at few numbers: if k stands between m and n and writes what m hands to
+//! n, then the arc from m to n says nothing that those by k don't say.
 
 ghost use Rattle.std.specs.Prelude.{ℕ, ◌-◌, ◌≡◌, ◌≤◌, ◌⊎◌, ◌||◌, IsTrue, true, false, length, get_or};
 ghost use Rattle.s66_isa.specs.declared.limits.TheConstants.{BLOCK_LIMIT};

@@ -1,4 +1,5 @@
 //! The longest paths between a moment and those of an instruction, in a direction, by those of what comes sooner.
+//! Here is one step of that: the times of a number, by those that decide them.
 
 ghost use Rattle.std.specs.Prelude.{ℕ, ◌≡◌, ◌≤◌, true};
 ghost use Rattle.s66_isa.specs.declared.limits.TheConstants.{BLOCK_LIMIT};

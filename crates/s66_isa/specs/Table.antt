@@ -1,4 +1,26 @@
 -- To be believed: the table of instructions and the standard profile: CDC 6400/6500/6600 Computer Systems Reference Manual, publication 60100000, registers, instruction forms and functional units. The execution times are this project's.
+--
+-- Octal codes (i, j, k are the digits):
+--
+-- | Code | Unit | Reads | Writes |
+-- |---|---|---|---|
+-- | 10, 14 | Boolean | Xj; Xk | Xi |
+-- | 11 to 13, 15 to 17 | Boolean | Xj Xk | Xi |
+-- | 20, 21 | Shift | Xi | Xi |
+-- | 22, 23 | Shift | Bj Xk | Xi |
+-- | 24 to 26 | Shift | Xk | Xi Bj |
+-- | 27 | Shift | Bj Xk | Xi |
+-- | 30 to 35 | Add | Xj Xk | Xi |
+-- | 36, 37 | LongAdd | Xj Xk | Xi |
+-- | 40 to 42 | Multiply | Xj Xk | Xi |
+-- | 43 | Shift | nothing | Xi |
+-- | 44, 45 | Divide | Xj Xk | Xi |
+-- | 47 | Divide | Xk | Xi |
+-- | 50 to 57 | Increment | by form | Ai, and Xi of a load |
+-- | 60 to 67 | Increment | by form | Bi |
+-- | 70 to 77 | Increment | by form | Xi |
+--
+-- `SCOREBOARD.md` has the times and copies of the standard profile.
 use Rattle.std.specs.Prelude.{◌&&◌, ◌||◌, ◌==◌, if◌then◌else◌, ℕ, zero, suc, Bool, true, false, List, [], ◌∷◌, ◌++◌, ◌%◌, ◌≤◌, ◌≢◌, nat_le, nat_lt, map, get_or, length}
 use Rattle.std.proofs.Common.{lit≤}
 use Rattle.s66_isa.specs.Lists.{greatest, rising}
@@ -278,6 +300,7 @@ pub record Row : Type 0 where
   pub hold : ℕ
   pub memory : Memory
 
+-- all of this for one instruction, as timing sees it
 unfoldable pub row : Profile → Instr → Row
 row p n =
     record {

@@ -1,3 +1,9 @@
+//! An instruction by its octal code and its digits i, j and k, and what the instruction table says of it: its kind of functional unit,
+//! parcels, hold, the registers that it reads and writes, and whether it loads or stores.
+//!
+//! The table is that of the CDC 6400/6500/6600 Computer Systems Reference Manual, publication 60100000. What timing reads of it in one
+//! piece is `row.rt`; how an instruction is spelled is `s66_line`.
+
 ghost use Rattle.std.specs.Prelude.{◌≡◌, ◌+◌, ◌<◌, ◌≤◌, ◌++◌, [], ◌∷◌, ℕ, map};
 ghost use Rattle.arrayvec.specs.ArrayVec.{array_vec_len};
 ghost use Rattle.s66_isa.specs.declared.instr.TheConstants.{KIND_COUNT};

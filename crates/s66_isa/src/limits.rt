@@ -1,3 +1,5 @@
+//! How many instructions a block has at most (`BLOCK_LIMIT`), how many numbers a profile has, and the greatest of these.
+
 /// The most instructions of a block, and so the greatest number that one has.
 pub const BLOCK_LIMIT: usize = 128;
 

@@ -1,3 +1,6 @@
+//! A timing profile: the execution times of the functional units, and how many units there are of each kind. How one is read from a
+//! text is in `s66_command`.
+
 ghost use Rattle.std.specs.Prelude.{◌≡◌, ◌≤◌, ◌↔◌, [], ◌∷◌, IfNone, IfSome, IsTrue};
 
 use crate::instr::Kind;

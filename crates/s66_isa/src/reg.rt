@@ -1,3 +1,5 @@
+//! The 24 registers A0 to A7, B0 to B7 and X0 to X7, each by its index.
+
 ghost use Rattle.std.specs.Prelude.{◌≡◌, ◌≤◌};
 ghost use Rattle.s66_isa.specs.Table.{same_reg, is_b0, has_reg};
 

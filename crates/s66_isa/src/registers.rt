@@ -1,3 +1,5 @@
+//! A set of registers, as a word with a bit for each.
+
 ghost use Rattle.std.specs.Prelude.{◌<◌, ◌^◌};
 
 use crate::reg::Reg;

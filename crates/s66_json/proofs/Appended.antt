@@ -1,4 +1,4 @@
--- Pieces that are appended one after the other, in one text.
+-- A member of JSON that is appended in three to seven pieces is their text; cited by each function of `src/` that appends several.
 use Rattle.std.proofs.Common.{ℕ, ◌≡◌, ◌∙◌, List, ◌++◌, append_assoc}
 
 pub of-three : (o a b c : List ℕ) → o ++ a ++ b ++ c ≡ o ++ (a ++ (b ++ c))

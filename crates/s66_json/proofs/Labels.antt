@@ -1,4 +1,4 @@
--- The bytes of a text are those of its characters.
+-- The bytes of a text of a source and the characters of its JSON string determine one another (`bytes_law`).
 use Rattle.std.proofs.Common.{ℕ, ◌+◌, ◌*◌, ◌-◌, ◌/◌, ◌%◌, ◌^◌, ◌≤◌, ◌<◌, ◌≡◌, ◌∙◌, List, [], ◌∷◌, ◌++◌, ap, ap₂, arith, inl, inr, nat_lt, refl}
 use Rattle.std.proofs.lemmas.Bool.{cond-true, cond-false, le-ltb, lt-ltb}
 use Rattle.std.proofs.lemmas.Nat.{div-add-mod'}

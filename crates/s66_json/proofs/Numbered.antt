@@ -1,4 +1,4 @@
--- The numbers of a block from a place on.
+-- The instructions of a block in the list of JSON, from a number on.
 use Rattle.std.proofs.Common.{ℕ, suc, ◌+◌, ◌-◌, ◌<◌, ◌≡◌, ◌∙◌, List, ◌∷◌, length, ap, arith}
 use Rattle.std.proofs.lemmas.List.{length-map}
 use Rattle.s66_isa.specs.declared.instr.Instr.{Instr}

@@ -1,4 +1,4 @@
--- The text of a value is that of its pieces, one after the other.
+-- The compact text of a JSON value, as `serde_json` has it, is that of the pieces that are appended, one after the other.
 use Rattle.std.proofs.Common.{ℕ, ◌≡◌, ◌==◌, ◌∙◌, Bool, true, false, List, [], ◌∷◌, ◌++◌, ap, ap₂, append_assoc, codes, decimal, length, refl, sym}
 use Rattle.std.specs.Fmt.{digits}
 use Rattle.json.specs.Print.{escape_byte}

@@ -1,4 +1,7 @@
 -- To be believed: the JSON value that `json` writes of a block in a line: its instructions, and the orders in which it is timed.
+--
+-- Values are `serde_json`'s `Data`, and `compact_text` is the text of one without spaces. `FORMATS.md`, under `s66 json`, has the keys
+-- of `wait_data`, `point_data`, `order_members` and `instruction_data`.
 use Rattle.std.specs.Prelude.{ℕ, ◌+◌, ◌/◌, ◌%◌, if◌then◌else◌, ◌==◌, List, [], ◌∷◌, ◌++◌, codes, flat_map, length, map, nat_lt}
 use Rattle.serde_json.specs.Data.{Data, null, boolean, number, string, array, object, unsigned, Items, no_items, item, Members, no_members, member}
 use Rattle.serde_json.specs.Written.{compact_text}
@@ -94,6 +97,7 @@ name_data (References memory) = null
 name_data (Reads r) = register_data r
 name_data Ends = null
 
+-- a stretch: the conflict, from when to when, what is waited for, and who holds it
 abbrev pub wait_data : Stretch → Data
 wait_data x =
     object (member (codes "conflict") (conflict_data x.conflict) (member (codes "from") (num x.from) (member (codes "to") (num x.to)
@@ -105,6 +109,7 @@ wait_data x =
 abbrev pub result_data : ResultAt → Data
 result_data d = object (member (codes "register") (register_data d.reg) (member (codes "done") (num d.time) no_members))
 
+-- an instruction of an order, with its times, its results and what it waits for
 abbrev pub point_data : List Point → Point → Data
 point_data s p =
     object (member (codes "n") (num p.number) (member (codes "parcel") (num p.parcel) (member (codes "issue") (num p.issue)
@@ -150,6 +155,7 @@ result_register w = register_data w.reg
 abbrev pub row_of : Profile → Block → ℕ → Row
 row_of p block n = row p (instr_at (instrs_of block) n)
 
+-- what the table has of an instruction, its line and text, and on which it depends
 abbrev pub instruction_data : Profile → Block → ℕ → Data
 instruction_data p block n =
     object (member (codes "n") (num n) (member (codes "line") (num (line_of block n)) (member (codes "text") (text_data (whole_text_of block n))

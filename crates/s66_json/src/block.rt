@@ -1,3 +1,5 @@
+//! The members of a block: number, label, lines, size, profile, instructions and the source order.
+
 ghost use Rattle.std.specs.Prelude.{◌≡◌, ◌++◌, OnOk};
 ghost use Rattle.s66_line.specs.Block.{instrs_of};
 ghost use Rattle.s66_json.specs.Pieces.{head_text, lines_text, name_of_block, size_text, start_text};

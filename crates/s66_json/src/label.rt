@@ -1,3 +1,5 @@
+//! The label of a block as a member, if it has one.
+
 ghost use Rattle.std.specs.Prelude.{◌≡◌, ◌++◌, OnOk};
 ghost use Rattle.s66_json.specs.Json.{without_blank};
 ghost use Rattle.s66_json.specs.Pieces.{label_text};

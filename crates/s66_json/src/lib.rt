@@ -1,4 +1,6 @@
-//! A block as a line of JSON: its instructions, and the orders in which it is timed.
+//! A block as a line of JSON: its instructions, and the orders in which it is timed. Begin at `specs/Json.antt`, then `line.rt`.
+//!
+//! It promises that a line is the text of the defined value, from which the bytes of the source are got back (`bytes_law`).
 #![tactic(auto)]
 
 mod block;

@@ -1,3 +1,5 @@
+//! The line of a block (`push_written_line`, `push_found_line`): one JSON object without spaces.
+
 ghost use Rattle.std.specs.Prelude.{◌≡◌, ◌++◌, OnOk};
 ghost use Rattle.serde_json.specs.Data.{null};
 ghost use Rattle.s66_line.specs.Block.{instrs_of};

@@ -1,3 +1,5 @@
+//! Lists in JSON: of numbers, of steps, of registers, and of the registers that an instruction writes.
+
 ghost use Rattle.std.specs.Prelude.{◌≡◌, ◌++◌, OnOk, map};
 ghost use Rattle.s66_why.specs.declared.path.Step.{Step as StepOf};
 ghost use Rattle.s66_json.specs.Pieces.{numbers_text, registers_text, writes_text};

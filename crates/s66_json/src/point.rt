@@ -1,3 +1,5 @@
+//! The object of an instruction in a timed order: its place, its times, its results, and what it waits for.
+
 ghost use Rattle.std.specs.Prelude.{◌≡◌, ◌++◌, OnOk};
 ghost use Rattle.s66_model.specs.Timing.{latest_result};
 ghost use Rattle.s66_json.specs.Pieces.{lists_text, place_text, point_text, result_text, results_text, times_text};

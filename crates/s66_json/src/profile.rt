@@ -1,3 +1,5 @@
+//! The numbers of a profile that aren't the standard profile's, as a member.
+
 ghost use Rattle.std.specs.Prelude.{◌≡◌, ◌++◌, false, OnOk};
 ghost use Rattle.s66_command.specs.Changes.{changes};
 ghost use Rattle.s66_json.specs.Pieces.{changes_listed, profile_text};

@@ -1,3 +1,5 @@
+//! A text of a source as a JSON string: each byte as the character of its number.
+
 ghost use Rattle.std.specs.Prelude.{◌≡◌, ◌<◌, ◌++◌, OnOk};
 ghost use Rattle.std.specs.Char.{digit_char};
 ghost use Rattle.json.specs.Print.{escape};

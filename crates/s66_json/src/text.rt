@@ -1,3 +1,5 @@
+//! A piece of text or a comma appended to a line of JSON.
+
 ghost use Rattle.std.specs.Prelude.{◌≡◌, ◌++◌, OnOk};
 ghost use Rattle.serde_json.specs.Written.{comma_if};
 

@@ -1,3 +1,5 @@
+//! The object of a stretch in which an instruction waits.
+
 ghost use Rattle.std.specs.Prelude.{◌≡◌, ◌++◌, OnOk, codes};
 ghost use Rattle.s66_json.specs.Pieces.{cause_text, register_text, unit_text, wait_start, wait_text, waits_text};
 

@@ -1,3 +1,5 @@
+//! The names of units, registers, memory and conflicts in JSON.
+
 ghost use Rattle.std.specs.Prelude.{◌≡◌, ◌++◌, ◌∷◌, OnOk};
 ghost use Rattle.json.specs.Print.{escape};
 ghost use Rattle.s66_json.specs.Pieces.{conflict_text, memory_text, register_text, truth_text, unit_text};

@@ -1,4 +1,4 @@
--- Each reply to a piece.
+-- Each reply that the machine may give to a piece: taken, or refused for a reason.
 use Rattle.std.proofs.Common.{ℕ, ◌+◌, ◌-◌, ◌*◌, ◌≤◌, ◌<◌, ◌^◌, ◌≡◌, Bool, true, false, true≢false, cond, List, [], ◌∷◌, ◌++◌, length, drop, get_or, set, refl, sym, ap, arith, subst, ◌∙◌, Some, None, length-append}
 use Rattle.std.proofs.lemmas.List.{length-set}
 use Rattle.s66_isa.specs.declared.limits.TheConstants.{BLOCK_LIMIT}

@@ -1,4 +1,4 @@
--- The nodes of a piece after those of a ledger.
+-- The nodes of a piece appended one by one after those of a ledger, with names that are found or not.
 use Rattle.std.proofs.Common.{ℕ, zero, suc, ◌+◌, ◌^◌, ◌≤◌, ◌<◌, ◌≡◌, min, Bool, true, false, cond, nat_le, List, [], ◌∷◌, ◌++◌, length, take, get_or, refl, sym, ap, arith, inl, inr, ◌∙◌, subst, append_assoc, length-append}
 use Rattle.std.proofs.lemmas.List.{append-nil, take_more}
 use Rattle.s66_isa.proofs.Lists.{cases_le}

@@ -1,4 +1,4 @@
--- A piece that is taken with some of its dominated prefixes left open.
+-- A piece that is taken with some of its dominated prefixes left open, since their nodes weren't found: what it still covers and shows.
 use Rattle.std.proofs.Common.{ℕ, ◌≡◌, ◌≢◌, Bool, true, false, cond, eqb, List, [], ◌∷◌, ◌++◌, length, drop, get_or, refl, sym, ap, arith, inl, inr, ◌∙◌, subst, Option, None, length-append}
 use Rattle.s66_isa.specs.declared.instr.Instr.{Instr}
 use Rattle.s66_line.proofs.OperationLaw.{among-at}

@@ -1,3 +1,5 @@
+//! The answer of a search (`Answer`): an order with its time, a lower bound, and the tree that shows the bound.
+
 use crate::lines::push_line;
 use crate::links::Links;
 use s66_dep::Order;

@@ -1,3 +1,5 @@
+//! Puts the nodes of a piece under a node of the table (a graft, step by step), and looks for the nodes that its dominated leaves name.
+
 ghost use Rattle.std.specs.Prelude.{ℕ, ◌+◌, ◌≡◌, ◌<◌, ◌^◌, ◌↔◌, IsTrue, length, map, IfOk, OnOk, OnErr};
 ghost use Rattle.std.specs.BinaryHeap.{IsHeap, heap_items};
 ghost use Rattle.s66_node.specs.declared.node.State.TheVariants as state;

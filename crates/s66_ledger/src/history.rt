@@ -1,3 +1,5 @@
+//! The history of a ledger: its entries, and the numbers that some of them have.
+
 ghost use Rattle.std.specs.Prelude.{◌≡◌, []};
 
 use crate::event_record::EventRecord;

@@ -1,3 +1,6 @@
+//! The ledger (`Ledger`): a machine that also records each event in its history. These are the calls that workers make: grant, claim,
+//! graft, offer, back and retire.
+
 ghost use Rattle.std.specs.Prelude.{◌≡◌};
 ghost use Rattle.s66_ledger.specs.ClaimedNodes.{claimed_node};
 

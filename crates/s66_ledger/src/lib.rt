@@ -1,5 +1,9 @@
-//! The ledger of a search over one block's orders: which prefixes are open, handed out, split or closed, the best order so far,
-//! and who may spend how many splits.
+//! The ledger of a search over one block's orders: which prefixes are open, handed out, split or closed, the best order so far, and
+//! what is left of the budget. One thread searches with it here; `s66_pool` puts it under a lock for several. Begin at `search.rt`, the
+//! loop, then `ledger.rt` and `machine.rt`.
+//!
+//! It promises that whatever calls come in whatever order, each legal order begins with one node that isn't split, and that an answer's
+//! order is legal and its bound shown by its tree.
 #![tactic(auto)]
 
 mod answer;

@@ -1,3 +1,5 @@
+//! Limits of grants, of ranks among open nodes, and of pieces.
+
 /// The most splits that one grant moves.
 pub const GRANT_LIMIT: u32 = 64;
 

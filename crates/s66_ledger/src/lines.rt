@@ -1,3 +1,5 @@
+//! Writes the tree of an answer as lines, in preorder, for a certificate. What a line is stands in `s66_tree`.
+
 ghost use Rattle.std.specs.Prelude.{◌≡◌, ◌≢◌, ◌<◌, ◌+◌, ◌++◌, [], ◌∷◌, true, length, IfOk, OnOk};
 ghost use Rattle.s66_bound.specs.LeafValues.{leaf_of};
 ghost use Rattle.s66_dep.specs.Members.{numbers_in};

@@ -1,3 +1,6 @@
+//! The machine (`Machine`): the state of a ledger without its history, and what each event does to it. What the events mean is
+//! `s66_machine/specs/Ledger.antt`.
+
 use crate::answer::Answer;
 use crate::limits::GRANT_LIMIT;
 use crate::node_table::NodeTable;

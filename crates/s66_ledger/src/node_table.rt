@@ -1,3 +1,6 @@
+//! The nodes of a ledger by number, and the open ones in a heap by their floors, so that the most promising is claimed first
+//! (best-first branch and bound).
+
 use crate::attaching::{append, set_state, settled_state};
 use crate::rank::rank_of;
 use crate::{live, path};

@@ -1,3 +1,5 @@
+//! The rank of an open node in the heap: least floor first, then the deepest.
+
 ghost use Rattle.std.specs.Prelude.{◌≡◌, ◌<◌};
 ghost use Rattle.s66_ledger.specs.OpenNodes.{rank_of};
 ghost use Rattle.s66_ledger.specs.declared.limits.TheConstants.{DEPTH_RANKS};

@@ -1,3 +1,5 @@
+//! What became of an offer, and why a piece or a node was refused.
+
 ghost use Rattle.std.specs.Prelude.{◌≡◌, ◌≢◌, true, false};
 ghost use Rattle.s66_ledger.specs.declared.reply.Offered.TheVariants as offered;
 

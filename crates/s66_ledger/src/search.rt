@@ -1,3 +1,9 @@
+//! The search of one thread (`Ledger::search`): rounds of grant, claim, expand, offer and graft, until nothing is open below the best
+//! time or the budget is spent.
+//!
+//! It is best-first branch and bound over subtrees: each round expands the open node of the least floor, depth first, by at most 64
+//! splits. After every 256 splits a list schedule is offered, so that the best time falls early.
+
 ghost use Rattle.std.specs.Prelude.{◌≡◌, ◌≤◌, ◌<◌, ◌/◌, ◌↔◌, IsTrue};
 ghost use Rattle.s66_ledger.specs.PieceSplits.{piece_splits};
 ghost use Rattle.s66_ledger.specs.declared.limits.TheConstants.{SCHEDULE_SPLITS};

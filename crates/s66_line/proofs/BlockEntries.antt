@@ -1,4 +1,4 @@
--- What is in the entry of a number.
+-- The instruction of a number of a block, by its entry.
 use Rattle.std.proofs.Common.{ℕ, zero, suc, Some, true≢false, ◌≡◌, sym, ap, ◌∙◌, option_map, is_some}
 use Rattle.std.proofs.lemmas.Option.{get_or_from_slice_get, slice_get-map}
 use Rattle.s66_isa.specs.Table.{instr_at, idle_instr}

@@ -1,4 +1,4 @@
--- An expression is what gathers to no register.
+-- An operand is an expression without registers exactly if its terms gather to none, for shifts and masks.
 use Rattle.std.proofs.Common.{◌≡◌, ℕ, Bool, true, false, List, [], ◌∷◌, ◌++◌, Option, None, Some, length, refl, sym, ap, arith, ◌∙◌, ◌==◌, nat_le, is_some, ◌||◌, ◌&&◌, if◌then◌else◌}
 use Rattle.std.proofs.Math.Bool.{and-false}
 use Rattle.std.proofs.lemmas.Bool.{true≢false}

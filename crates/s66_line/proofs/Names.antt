@@ -1,4 +1,4 @@
--- What is too short or too long for a name is none.
+-- A word that is too short or too long for the name of an operation, or for `NO`, is none.
 use Rattle.std.proofs.Common.{◌≡◌, ◌≤◌, ◌<◌, ℕ, false, List, ◌∷◌, length, None, refl, arith}
 use Rattle.s66_line.specs.Fields.{upper}
 use Rattle.s66_line.specs.Operand.{operation_of}

@@ -1,4 +1,4 @@
--- What is spelled is in the table.
+-- What an operation and its operand spell is an instruction of the table, with digits 0 to 7 (`operation_law`).
 use Rattle.std.proofs.Common.{Bool, ◌&&◌, not, leb, true≢false, ◌≡◌, ◌≤◌, ◌<◌, ◌+◌, ◌-◌, ◌==◌, ℕ, zero, suc, true, List, [], ◌∷◌, length, get_or, None, Some, IfSome, refl, sym, ap, ◌∙◌, subst, inl, inr, arith, eqb-true, lit<}
 use Rattle.std.proofs.lemmas.Option.{IfSome_then}
 use Rattle.std.proofs.lemmas.Bool.{and_parts, leb-true, eq-eqb}

@@ -1,4 +1,4 @@
--- Where a string ends, by how many bytes come before its mark.
+-- Where a string of characters ends, by how many bytes come before its mark.
 use Rattle.std.proofs.Common.{◌≡◌, ◌==◌, ◌+◌, ℕ, suc, true, false, not, cond, if◌then◌else◌, List, [], ◌∷◌, None, Some, length, nat_lt, refl, ap, ◌∙◌, inl, inr, arith}
 use Rattle.std.proofs.lemmas.Bool.{cases_lt, le-ltb, lt-ltb}
 use Rattle.std.specs.List.{prefix_len}

@@ -1,4 +1,4 @@
--- To be believed: the class of a line.
+-- To be believed: the class of a line by itself: a comment, another line, one that is refused, a `NO`, or an instruction.
 use Rattle.std.specs.Prelude.{◌&&◌, ◌==◌, if◌then◌else◌, ℕ, Bool, true, false, List, [], ◌∷◌, Option, None, Some, nat_lt, length, is_some}
 use Rattle.s66_isa.specs.declared.instr.Instr.{Instr}
 use Rattle.s66_isa.specs.Table.{idle_instr}

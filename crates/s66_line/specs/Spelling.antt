@@ -40,6 +40,7 @@ pub record CanMean (operation : List ℕ) (n : Instr) : Type 0 where
 
 -- A SPELLING OF EACH CODE with these digits: operation, operand, and what they spell; a digit that is in neither is 0
 
+-- an operation and an operand of each octal code, with these digits
 abbrev pub spellings : ℕ → ℕ → ℕ → List (List ℕ × List ℕ × Instr)
 spellings i j k =
     (codes "BX" ++ digit i, xj, instr 0o10 i j 0)

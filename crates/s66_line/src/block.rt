@@ -1,3 +1,6 @@
+//! A straight-line block: the instructions of one run of lines, numbered from 1, with their lines and their texts. Nearly all crates
+//! above take a `Block`.
+
 ghost use Rattle.std.specs.Prelude.{◌≡◌};
 ghost use Rattle.s66_line.specs.InstructionText.{instr_in_text, IsInstruction};
 

@@ -1,3 +1,6 @@
+//! Character constants in an operand, as in `=10HREAD ERROR`, which may have blanks, so that the operand goes on behind its blank:
+//! where they end, and where an operand goes on behind them.
+
 ghost use Rattle.std.specs.Prelude.{◌≡◌, ◌≤◌, ◌+◌, ◌*◌, ◌==◌, length, min, not};
 ghost use Rattle.std.specs.List.{prefix_len};
 ghost use Rattle.s66_line.specs.Characters.{after_at_term, after_in_count, after_in_term, begins_blank, characters_in, ends_term, is_decimal, justifies, place_after, runs_on, still_taken, through};

@@ -1,3 +1,6 @@
+//! The class of one line by itself: comment, other, refused, `NO` or instruction. Which lines are left alone by those around them is in
+//! `s66_source`.
+
 ghost use Rattle.std.specs.Prelude.{◌≡◌, ◌≤◌, true, length};
 ghost use Rattle.s66_line.specs.Fields.{upper, body, from_operation, label_bytes};
 ghost use Rattle.s66_line.specs.Class.{IsSpelled, class_of, by_operation, is_code, is_located, is_pad};

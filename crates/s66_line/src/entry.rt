@@ -1,3 +1,5 @@
+//! An instruction of a block, with its line and the bytes that spell it.
+
 use s66_isa::Instr;
 use std::marker::Model;
 

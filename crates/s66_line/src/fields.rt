@@ -1,3 +1,5 @@
+//! The fields of a line: location, operation, operand and remark; and which lines are comments or continuations.
+
 ghost use Rattle.std.specs.Prelude.{◌≡◌, ◌≤◌, ◌<◌, ◌+◌, ◌-◌, ◌==◌, ◌||◌, nat_le, not, length};
 ghost use Rattle.std.specs.List.{prefix_len};
 ghost use Rattle.s66_line.specs.Fields.{is_blank, is_trailing, trim, upper_byte, body, skip_blanks, word, after_word, blanks, is_comment, from_location, location, from_operation, from_operand, label_bytes, continues};

@@ -1,3 +1,5 @@
+//! The text of an instruction, in upper case with one blank: made of a line, and read back.
+
 ghost use Rattle.std.specs.Prelude.{◌≡◌, ◌≤◌, ◌+◌, ◌++◌, ◌↔◌, true, length, IfSome, IfNone};
 ghost use Rattle.s66_line.specs.Characters.{characters_in};
 ghost use Rattle.s66_line.specs.Fields.{upper};

@@ -1,3 +1,5 @@
+//! Laws and worked examples of fields, spellings, constants and characters of operands.
+
 ghost use Rattle.std.specs.Prelude.{◌≡◌, ◌≤◌, ℕ, List, ◌∷◌, ◌++◌, Some, Bool, true, false, map, codes, [], not, ◌==◌, replicate};
 ghost use Rattle.s66_line.specs.Characters.{characters_in, runs_on};
 ghost use Rattle.std.specs.List.{filter};

@@ -1,4 +1,8 @@
-//! Lines of a COMPASS source: their fields, their classes, what operands spell, and straight-line blocks.
+//! Lines of a COMPASS source: their fields, their classes, what operands spell, and straight-line blocks. One line is looked at by
+//! itself here; a whole source is `s66_source`. Begin at `class.rt`.
+//!
+//! It promises that nothing of a line is lost in its fields (`whole_law`), and that an operand is taken exactly if the definition gives
+//! it an instruction.
 #![tactic(auto)]
 
 mod block;

@@ -1,3 +1,5 @@
+//! How many bytes a line has at most (`LINE_BYTES_LIMIT`), and the text of an instruction (`TEXT_LIMIT`).
+
 /// The most bytes of a line, its newline not counted.
 pub const LINE_BYTES_LIMIT: usize = 200;
 

@@ -1,4 +1,5 @@
--- The marks of lines, without where they lie in memory, and a source that is printed so far.
+-- Used by contracts within the crate alone: the marks of lines, without where they lie in memory, and a source with switches that is
+-- printed so far.
 use Rattle.std.specs.Prelude.{◌≡◌, ◌+◌, ◌++◌, ℕ, List, [], ◌∷◌, map}
 use Rattle.std.specs.Global.{Vec}
 use Rattle.s66_isa.specs.Lists.{tally}

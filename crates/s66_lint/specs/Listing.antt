@@ -1,5 +1,7 @@
 -- To be believed: what `lint` prints of a source: a line for each finding, in the order of the lines of the source; with `--cut`, those
 -- alone that aren't marked.
+--
+-- Which findings there are isn't defined: they are advice, and `FORMATS.md` says what they are.
 use Rattle.std.specs.Prelude.{◌≡◌, ℕ, suc, Bool, true, false, ◌&&◌, not, if◌then◌else◌, List, [], ◌∷◌, ◌++◌, codes, decimal, length, min, nat_le, nat_lt}
 use Rattle.s66_line.specs.Fields.{lines_of}
 use Rattle.s66_source.specs.LeftAlone.{Reading}

@@ -1,3 +1,5 @@
+//! The pass from the last line of a source to the first: what is known of each line by those after it.
+
 use crate::before::Before;
 use crate::bodies::Bodies;
 use crate::counts::{Reach, cover_by};

@@ -1,3 +1,5 @@
+//! The pass from the first line on: what is known of each line by those before it, as whether it is in a definition.
+
 use crate::line::{Kind, Line};
 use crate::operations::begins_definition;
 

@@ -1,3 +1,5 @@
+//! Whether a definition or an `ECHO` holds an instruction, kept on the pass from the last line on.
+
 /// What is known of parts of a source that nest, as definitions do, by the lines from one on.
 #[derive(Clone, Copy)]
 pub(crate) struct Bodies {

@@ -1,3 +1,5 @@
+//! The runs whose order or words may change, numbered, and which lines are theirs.
+
 use crate::line::Line;
 use crate::run::Runs;
 use crate::words::Span;

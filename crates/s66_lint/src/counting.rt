@@ -1,3 +1,5 @@
+//! The finding that a line counts words of code, as `*+2`, `NAME+1` or a computed jump do, and what it harms.
+
 use crate::crowd::are_many;
 use crate::distance::Distance;
 use crate::line::{Kind, Line};

@@ -1,3 +1,5 @@
+//! Whether a line counts lines after it of which one is an instruction, kept on the pass from the last line on.
+
 use crate::line::Line;
 use crate::operations::ends_range;
 use s66_line::LINE_BYTES_LIMIT;

@@ -1,3 +1,5 @@
+//! A name with many places, looked at as one stretch from the first place to the last, so that the time doesn't grow with their number.
+
 use crate::names::{Place, Standing};
 use crate::way::Way;
 use crate::words::{Span, Words};

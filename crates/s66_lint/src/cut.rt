@@ -1,3 +1,5 @@
+//! Which lines of a text `--cut` leaves alone, for the marks of findings.
+
 ghost use Rattle.std.specs.Prelude.{◌≡◌, ◌≤◌, ◌<◌, ◌++◌, ◌∷◌, true, [], length, IfOk, OnOk};
 ghost use Rattle.s66_line.specs.declared.limits.TheConstants.{LINE_BYTES_LIMIT};
 ghost use Rattle.s66_source.specs.LeftAlone.{after_line, is_alone};

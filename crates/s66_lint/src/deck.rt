@@ -1,3 +1,5 @@
+//! All lines of a source, with what each pass found out of them: by the lines before, by those after, and by the words of code.
+
 use crate::after::{After, Rest};
 use crate::before::{Before, Standing};
 use crate::changing::Changing;

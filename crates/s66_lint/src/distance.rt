@@ -1,3 +1,5 @@
+//! How many words the terms beside a name in a sum are.
+
 use crate::names::Names;
 use crate::operand::Term;
 

@@ -1,3 +1,6 @@
+//! The list of all rules (`Rule`), a finding in a line, and what a finding harms. When a rule applies is in `rules.rt`, how it is
+//! worded in `listing.rt`.
+
 use crate::line::Line;
 use crate::words::Span;
 use s66_line::split_word;

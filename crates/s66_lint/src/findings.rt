@@ -1,3 +1,5 @@
+//! All findings of a source (`findings_in`), line after line, for `lint`.
+
 ghost use Rattle.std.specs.Prelude.{ℕ, suc, ◌≡◌, ◌≤◌, ◌++◌, true, length, min, nat_lt, is_some, IfOk, OnOk};
 ghost use Rattle.s66_line.specs.Fields.{lines_of};
 ghost use Rattle.s66_source.specs.declared.limits.TheConstants.{SOURCE_LINES_LIMIT};

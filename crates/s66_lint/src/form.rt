@@ -1,3 +1,5 @@
+//! Findings by the form of a line alone: comments of other assemblers, instructions in column 1, and the names of `OPDEF`.
+
 use crate::line::Words;
 use crate::spelling::{are_letters, is_instruction_name};
 use s66_line::{is_instruction, is_table_name};

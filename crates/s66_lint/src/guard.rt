@@ -1,3 +1,6 @@
+//! Prints a source with the switches `*S66 OFF GUARD` and `*S66 ON GUARD` around the lines that are marked (`guard_text`). Which these
+//! are is decided in `marks.rt`.
+
 ghost use Rattle.std.specs.Prelude.{◌≡◌, ◌≤◌, ◌<◌, ◌^◌, ◌++◌, ◌∷◌, ◌||◌, ◌&&◌, Bool, not, [], true, length, take, IfOk, OnOk};
 ghost use Rattle.std.specs.List.{prefix_len, take_while};
 ghost use Rattle.s66_line.specs.Fields.{is_newline};

@@ -1,3 +1,5 @@
+//! Adds to the harm of a finding: the code near all places of a name, by which words near it are meant.
+
 use crate::crowd::are_many;
 use crate::names::{Code, Place, Standing};
 use crate::rules::Rules;

@@ -1,3 +1,5 @@
+//! What all findings of a source harm, by line (`harms_in`): which lines are harmed, and by which findings. `guard` asks it.
+
 use crate::changing::{Changing, RunRange};
 use crate::cut::alone_lines;
 use crate::deck::{Deck, Lines};

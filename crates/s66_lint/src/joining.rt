@@ -1,3 +1,6 @@
+//! Which lines stand in one word of 60 bits with the line before them, by their location fields or for their places, and may come into
+//! another half of it.
+
 use crate::line::{Kind, Line};
 
 /// Which sizes the lines of the open word have that may change.

@@ -1,3 +1,5 @@
+//! Laws and examples of the lines that `--cut` leaves alone: two switches around each do the same.
+
 ghost use Rattle.std.specs.Prelude.{◌≡◌, ℕ, List, [], ◌∷◌, Ok, true, false, codes, map, not};
 ghost use Rattle.s66_isa.specs.Lists.{every};
 ghost use Rattle.s66_line.specs.Block.{Block};

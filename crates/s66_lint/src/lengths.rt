@@ -1,3 +1,5 @@
+//! How far a piece of code goes whose length is a difference of two addresses in the source, as `M-L`.
+
 use crate::deck::Deck;
 use crate::names::{Names, Standing};
 use crate::operand::{Term, ends_sum, names_nothing, terms_of};

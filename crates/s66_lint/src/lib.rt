@@ -1,4 +1,6 @@
-//! What may be wrong with the lines of a source.
+//! What may be wrong with the lines of a source: what `lint` lists, which lines `--cut` leaves alone, and where `guard` puts switches.
+//! Findings are advice: of what is listed only the form is stated, of `guard` what it does to a source. Begin at `rules.rt`, which says
+//! what is found in a line, then `findings.rt`; for `guard`, at `guard.rt`.
 #![tactic(auto)]
 
 mod after;

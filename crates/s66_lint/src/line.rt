@@ -1,3 +1,5 @@
+//! A line by itself as `lint` sees it: its fields, and what kind of statement it is. What lines around it say is in `deck.rt`.
+
 use crate::operand::{decimal, has_registers_alone};
 use crate::operations::{falls_through, has_address, is_wordless, makes_words, renames};
 use crate::spelling::{is_instruction_name, is_register};

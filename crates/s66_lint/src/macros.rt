@@ -1,3 +1,5 @@
+//! The macros of a source, and calls that pass the address of code to a macro that counts words from it.
+
 use crate::deck::Deck;
 use crate::line::Line;
 use crate::names::{Code, Names};

@@ -1,3 +1,5 @@
+//! The marks of lines for `guard`: which lines are in danger, and the reasons above each region.
+
 ghost use Rattle.std.specs.Prelude.{◌≡◌, length, IfOk};
 ghost use Rattle.s66_line.specs.Fields.{lines_of};
 

@@ -1,3 +1,5 @@
+//! The names in the location fields of a source, and where each stands: as code, as an entry of a subroutine, or elsewhere.
+
 use crate::deck::Deck;
 use crate::line::Line;
 use crate::operand::number_of;

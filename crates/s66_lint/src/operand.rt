@@ -1,3 +1,5 @@
+//! The parts of an operand: terms of a sum, numbers, names and registers.
+
 use crate::spelling::{is_index, is_register};
 use s66_line::is_decimal_digit;
 use s66_source::are_digits;

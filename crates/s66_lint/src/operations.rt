@@ -1,3 +1,5 @@
+//! What the assembler's operations do, by their names: branches, data, definitions, counts, and those that make no word.
+
 use s66_source::is_one_of;
 
 /// The branches.

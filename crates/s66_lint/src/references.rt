@@ -1,3 +1,5 @@
+//! The findings that a load or a store meets a word of code, and what these harm.
+
 use crate::distance::Distance;
 use crate::line::Line;
 use crate::names::{Code, Names};

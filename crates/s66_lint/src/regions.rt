@@ -1,3 +1,5 @@
+//! The regions that `guard` puts between switches: lines in danger, and what may stand between them.
+
 use crate::harms::Harms;
 use std::alloc::{AllocError, Global};
 

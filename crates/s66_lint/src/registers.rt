@@ -1,3 +1,5 @@
+//! Sets of registers, and which an instruction reads and writes, by its text.
+
 use crate::line::Line;
 use crate::operand::{ends_name, is_sign};
 use crate::spelling::is_register;

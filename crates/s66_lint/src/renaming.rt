@@ -1,3 +1,5 @@
+//! Names that mean the same address as a label of code, by `EQU` and the like.
+
 use crate::deck::Deck;
 use crate::line::Line;
 use crate::names::{Code, Names};

@@ -1,3 +1,5 @@
+//! The finding of more `NO`s in a row than packing ever needs.
+
 use crate::deck::Deck;
 use crate::line::{Kind, Line};
 use std::alloc::{AllocError, Global};

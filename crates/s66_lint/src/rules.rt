@@ -1,3 +1,6 @@
+//! What is found in a line: each rule with its condition, in the order in which findings of one line are listed. Rules that need more
+//! than a few lines have a file of their own: `counting.rt`, `references.rt`, `taking.rt`, `skipping.rt`, `macros.rt`, `rows.rt`.
+
 use crate::deck::Deck;
 use crate::finding::{Harm, LineFinding, Rule};
 use crate::form::{is_in_column, seems_comment};

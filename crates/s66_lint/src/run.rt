@@ -1,3 +1,5 @@
+//! The runs of a source as `lint` reads it, and which of them may change.
+
 use crate::line::Line;
 use crate::registers::Access;
 use s66_isa::BLOCK_LIMIT;

@@ -1,3 +1,5 @@
+//! The finding that a called routine may skip words behind its call, and what it harms.
+
 use crate::deck::Deck;
 use crate::line::Line;
 use crate::names::Names;

@@ -1,3 +1,5 @@
+//! Words that look like operations or registers: instruction names, slips of them, and names of registers.
+
 use s66_line::is_table_name;
 use s66_source::are_digits;
 

@@ -1,3 +1,5 @@
+//! The finding that the address of code is taken into a register and used with another term, and what it harms.
+
 use crate::line::{Kind, Line};
 use crate::names::Code;
 use crate::operand::{Term, has_other_term, terms_of};

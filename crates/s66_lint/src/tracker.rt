@@ -1,3 +1,5 @@
+//! Collects the harm of one finding after another, as runs; questions that several findings ask are answered once.
+
 use crate::changing::{Changing, RunRange};
 use crate::crowd::Crowd;
 use crate::names::Names;

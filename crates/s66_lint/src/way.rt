@@ -1,3 +1,5 @@
+//! Which words near a name are meant: those around it, so many words further, or to the next name.
+
 use crate::names::Code;
 use crate::tracker::Question;
 use crate::words::{Span, Words};

@@ -1,3 +1,5 @@
+//! Whether a word of code can't change: it holds one instruction at most; kept on the pass from the last line on.
+
 use crate::line::{Kind, Line};
 use crate::operations::closes_word;
 

@@ -1,3 +1,5 @@
+//! Which statements lie within so many words of one, before or after it, where the sizes of the statements are known.
+
 use crate::line::Line;
 use std::alloc::{AllocError, Global};
 

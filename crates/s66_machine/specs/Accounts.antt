@@ -72,6 +72,7 @@ pub record Summary : Type 0 where
   -- of the workers, who count from 1
   pub accounts : List Account
 
+-- all that the rule of a ledger's lock reads of the ledger
 abbrev pub summary_of : Rule → Problem → (budget workers : ℕ) → List (Event × Reply) → Ledger → Summary
 summary_of rule b budget workers history l =
     record {
@@ -123,7 +124,7 @@ least_after least (Offer w own order time) Lower = min least time
 least_after least (Offer w own order time) (NotLower answer) = min least (min time answer)
 least_after least event reply = least
 
--- after an event of its worker
+-- after an event of its worker; an offer of another block shows no time
 abbrev pub after_event : SeatRecord → Event → Reply → SeatRecord
 after_event p event reply = record p { account = counted p.account event reply; least = least_after p.least event reply }
 

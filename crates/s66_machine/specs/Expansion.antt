@@ -22,6 +22,8 @@ TerminalHoldsWhile rule b high low prefix tree at (Passed name) = (DominatesByRu
 abbrev pub HasFrontier : Tree Terminal → Type 0
 HasFrontier tree = Among (AtTerminal Frontier) (flat tree)
 
+-- made while the best time falls from high to low. A prefix has a leaf only if it is complete or its floor is at least low, and is in
+-- the frontier, dominated or split only if it is incomplete and its floor below high
 pub record IsExpansion (rule : Rule) (b : Problem) (high low allowance : ℕ) (prefix : List ℕ) (tree : Tree Terminal) : Type 0 where
   -- a tree over the prefix whose splits have exactly the ready children
   pub piece : TreeHolds b.block (TerminalHoldsWhile rule b high low prefix tree) prefix tree

@@ -1,4 +1,9 @@
 -- To be believed: the ledger of a search as a machine: nodes, events, replies, steps and runs.
+--
+-- A grant moves the least of 64 and what is left to the worker's allowance, and retire gives that back. A claim hands out any open
+-- node, and none only if none is open; back opens it again. A graft takes a piece over a node that is out, if its splits are within the
+-- allowance; it closes each leaf of at least the best time and each dominated prefix, and leaves the rest open. An offer takes an order
+-- that is faster than the best.
 use Rattle.std.specs.Prelude.{ℕ, ◌+◌, ◌-◌, ◌≡◌, ◌<◌, ◌≤◌, Bool, true, false, if◌then◌else◌, min, List, [], ◌∷◌, ◌++◌, length, get_or, set, nat_le, Option, Some, None, replicate}
 use Rattle.s66_isa.specs.Lists.{tally, Among}
 use Rattle.s66_isa.specs.Table.{numbers}

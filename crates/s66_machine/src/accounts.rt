@@ -1,4 +1,4 @@
-//! What a history holds of each worker, and what a worker's seat keeps of a ledger.
+//! Laws and examples of accounts: what a history holds of each worker, and what a worker's seat keeps of a ledger.
 
 ghost use Rattle.std.specs.Prelude.{ℕ, List, ◌≡◌, ◌≢◌, ◌≤◌, [], ◌∷◌, ◌++◌, length, true, false, Some, None};
 ghost use Rattle.s66_isa.specs.Lists.{weigh};

@@ -1,4 +1,5 @@
-//! What every state of the ledger keeps, the bound that it shows, and how it ends.
+//! Laws and examples of coverage: every state of the ledger covers each legal order, shows a bound, and ends with an answer
+//! (`coverage_law`).
 
 ghost use Rattle.std.specs.Prelude.{ℕ, List, ◌≡◌, [], ◌∷◌, ◌++◌, true, false};
 ghost use Rattle.s66_isa.specs.declared.instr.Kind.TheVariants.{Boolean, Multiply};

@@ -1,4 +1,5 @@
-//! How the search of a ledger ends.
+//! Laws and examples of how the search of a ledger ends: no open floor is below the best time, or the budget is spent; and the answer
+//! that it then is.
 
 ghost use Rattle.std.specs.Prelude.{ℕ, List, ◌≡◌, [], ◌∷◌, true, false};
 ghost use Rattle.s66_isa.specs.declared.instr.Kind.TheVariants.{Multiply};

@@ -1,4 +1,4 @@
-//! Expansions: pieces that are grown while a best time is in hand.
+//! Laws and examples of expansions: pieces that are grown while a best time is in hand, which may fall.
 
 ghost use Rattle.std.specs.Prelude.{ℕ, List, ◌≡◌, ◌≤◌, ◌<◌, [], ◌∷◌, Some, None};
 ghost use Rattle.s66_isa.specs.declared.instr.Kind.TheVariants.{Multiply};

@@ -1,4 +1,4 @@
-//! Histories of the ledger: their fronts, the states to which they lead, and what their entries record and spend.
+//! Laws and examples of histories of the ledger: their fronts, the states to which they lead, and what their entries record and spend.
 
 ghost use Rattle.std.specs.Prelude.{ℕ, List, ◌≡◌, ◌≤◌, [], ◌∷◌, ◌++◌, true, false, Some, None};
 ghost use Rattle.s66_isa.specs.Lists.{weigh, rising};

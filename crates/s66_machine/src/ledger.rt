@@ -1,4 +1,4 @@
-//! The ledger of a search: which reply an event may have, and to which state it leads.
+//! Examples of the ledger of a search: which reply an event may have, and to which state it leads.
 
 ghost use Rattle.std.specs.Prelude.{[], ◌∷◌, true, false, Some, None};
 ghost use Rattle.s66_isa.specs.declared.instr.Kind.TheVariants.{Boolean, Multiply};

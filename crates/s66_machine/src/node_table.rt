@@ -1,4 +1,4 @@
-//! The nodes of the ledger as those of one tree.
+//! Laws and examples of the nodes of the ledger as those of one tree.
 
 ghost use Rattle.std.specs.Prelude.{ℕ, List, [], ◌∷◌};
 ghost use Rattle.s66_model.specs.declared.rule.Rule.{Rule};

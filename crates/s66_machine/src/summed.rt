@@ -1,3 +1,5 @@
+//! A value that a lock may guard: the rule of the lock reads a summary of it alone.
+
 use std::boxed::Box;
 
 /// A value with a summary, which is all that the rule of a lock reads of it.

@@ -1,3 +1,5 @@
+//! A ticket: the right to expand one node of a ledger, with the prefix of that node.
+
 use arrayvec::ArrayVec;
 use s66_isa::BLOCK_LIMIT;
 use std::marker::Model;

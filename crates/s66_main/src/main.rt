@@ -1,4 +1,5 @@
-//! The process: its words, its standard streams, and its status.
+//! The process: its words, its standard streams, and its status. It touches the stack, and passes words, streams and an observer of the
+//! terminal to `run_program`; nothing is decided here. Begin at `main.rt`.
 #![tactic(auto)]
 
 mod closed_pipe;

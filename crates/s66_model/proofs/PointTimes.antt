@@ -1,4 +1,4 @@
--- Laws of the points of an order: when each issues, starts and is done at least, and what comes after it.
+-- Laws of the points of an order: when each issues, starts, is done and free at least, and how what comes after it only adds.
 use Rattle.std.proofs.Common.{ℕ, ◌+◌, ◌≤◌, ◌<◌, ◌≡◌, List, [], ◌∷◌, ◌++◌, length, refl, ap, arith, inl, inr}
 use Rattle.s66_isa.specs.Lists.{greatest, weigh, tally}
 use Rattle.s66_isa.specs.Table.{Row, Write}

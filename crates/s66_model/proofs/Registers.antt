@@ -1,4 +1,5 @@
--- Registers: which are the same, which are in a set, and which keep their values.
+-- Registers: which are the same, which are in a set, and which keep their values as an instruction is done; for the exchange of two
+-- neighbours.
 use Rattle.std.proofs.Common.{ℕ, suc, ◌≡◌, true, false, true≢false, List, [], ◌∷◌, ◌++◌, map, refl, ap, sym, ◌∙◌, inl, inr}
 use Rattle.std.proofs.lemmas.Bool.{cases_Bool, or_parts, or_left, or_right, false_from_ne_true, cond-false}
 use Rattle.std.proofs.lemmas.List.{map-append}

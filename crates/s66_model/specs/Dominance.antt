@@ -1,5 +1,7 @@
 -- To be believed: when one beginning dominates another of the same numbers, as written and clamped at the next slot. Whatever
 -- completes the other then completes it, and takes no more.
+--
+-- `FORMATS.md`, "Dominated leaves", lists the times that are compared.
 use Rattle.std.specs.Prelude.{ℕ, ◌+◌, ◌%◌, ◌≡◌, ◌<◌, ◌≤◌, if◌then◌else◌, max, List, [], ◌∷◌, ◌++◌, get_or, nat_le}
 use Rattle.s66_isa.specs.declared.instr.Kind.{Kind}
 use Rattle.s66_isa.specs.declared.reg.Reg.{Reg}

@@ -68,6 +68,7 @@ EndingShows rule b low prefix tree at (Turned first second) = ⊥
 EndingShows rule b low prefix tree at (AtLine line) = ⊥
 EndingShows rule b low prefix tree at (LoadFrom after numbers) = ⊥
 
+-- as `Shows`, but that a dominated leaf stands at an incomplete prefix
 abbrev pub ShowsBy : Rule → Problem → ℕ → List ℕ → Tree Ending → Type 0
 ShowsBy rule b low prefix tree = TreeHolds b.block (EndingShows rule b low prefix tree) prefix tree
 

@@ -17,6 +17,7 @@ rank (Chain numbers) = 0 ∷ numbers
 rank (Load kind) = 1 ∷ kind_number kind ∷ []
 rank Parcels = 2 ∷ []
 
+-- chains as in a dictionary: the lowest head, then a chain that ends, then the lowest next number
 pub record IsFloor (b : Problem) (prefix : List ℕ) (leaf : Leaf) : Type 0 where
   pub stands : MayStand b prefix leaf
   -- no other leaf that may stand there is greater

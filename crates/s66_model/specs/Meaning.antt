@@ -1,4 +1,7 @@
 -- To be believed: what an order of a block computes, over terms: no dependence is in it.
+--
+-- B0 is zero whenever it is read. If an operation has an X and a B result, X is number 0 and B number 1. The result of a reference to
+-- memory is the A register, and its term is the address.
 use Rattle.std.specs.Prelude.{ℕ, suc, ◌≡◌, if◌then◌else◌, List, [], ◌∷◌, ◌++◌, map}
 use Rattle.s66_isa.specs.declared.instr.Instr.{Instr}
 use Rattle.s66_isa.specs.declared.instr.Memory.{Memory}
@@ -91,7 +94,7 @@ abbrev pub run : List Instr → (ℕ → List ℕ) → Contents → List ℕ →
 run block constants c [] = c
 run block constants c (n ∷ ns) = run block constants (after c (operation_at block constants n)) ns
 
--- what an order leaves in all registers and in memory
+-- what an order leaves in all registers and in memory; the texts of the constants come by number, as `constants_in` gives them
 abbrev pub meaning : List Instr → (ℕ → List ℕ) → List ℕ → Contents
 meaning block constants order = run block constants at_start order
 

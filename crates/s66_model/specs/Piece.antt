@@ -27,6 +27,8 @@ TerminalHolds rule b prefix tree at (Carries leaf) = leaf ≡ floor b at
 TerminalHolds rule b prefix tree at Frontier = IsIncomplete b.block at
 TerminalHolds rule b prefix tree at (Passed name) = DominatesByRule rule b name at × IsNamedIn rule prefix tree at name
 
--- a tree over the prefix whose splits have exactly the ready children, whose leaves are floors, and whose dominated leaves have names as the rule asks
+-- a tree over the prefix whose splits have exactly the ready children, whose leaves are floors, and whose dominated leaves have names
+-- as the rule asks; a name is that of an earlier node of the piece; by the rule under which it may be any node of the ledger, the
+-- piece's own prefix isn't dominated
 abbrev pub IsPiece : Rule → Problem → List ℕ → Tree Terminal → Type 0
 IsPiece rule b prefix tree = TreeHolds b.block (TerminalHolds rule b prefix tree) prefix tree

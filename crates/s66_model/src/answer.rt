@@ -1,4 +1,4 @@
-//! Answers to a problem.
+//! Laws and examples of answers to a problem: an order, its time, a bound, and a tree that shows the bound (`answer_law`).
 
 ghost use Rattle.std.specs.Prelude.{ℕ, ◌≡◌, [], ◌∷◌};
 ghost use Rattle.s66_isa.specs.declared.instr.Kind.TheVariants.{Boolean, Multiply};

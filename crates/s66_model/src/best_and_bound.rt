@@ -1,4 +1,4 @@
-//! Bests and bounds.
+//! Examples of bounds and bests: which times are lower bounds of all legal orders of a block, and which is the best.
 
 ghost use Rattle.s66_model.specs.BestAndBound.{IsBound, IsBest};
 ghost use Rattle.s66_model.specs.Examples.{load_problem};

@@ -1,4 +1,4 @@
-//! Which instruction must stay after which.
+//! Examples of dependence: which instruction must stay after which, by registers or by memory.
 
 ghost use Rattle.std.specs.Prelude.{◌≡◌, [], ◌∷◌};
 ghost use Rattle.s66_model.specs.Dependence.{all_needs};

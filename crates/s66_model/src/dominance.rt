@@ -1,4 +1,4 @@
-//! Dominance: what a beginning that is no later than another of the same numbers is worth.
+//! Laws and examples of dominance: what a beginning that is no later than another of the same numbers is worth (`dominance_law`).
 
 ghost use Rattle.std.specs.Prelude.{ℕ, List, ◌≡◌, ◌≤◌, true, [], ◌∷◌, ◌++◌};
 ghost use Rattle.s66_isa.specs.Table.{instr};

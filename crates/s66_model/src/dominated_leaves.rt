@@ -1,4 +1,4 @@
-//! Trees with dominated leaves: what they show.
+//! Laws and examples of trees with dominated leaves: what they show, by each rule of which nodes such leaves may name.
 
 ghost use Rattle.std.specs.Prelude.{ℕ, List, ◌≤◌, ◌↔◌, [], ◌∷◌, ◌++◌};
 ghost use Rattle.s66_model.specs.declared.rule.Rule.{Rule};

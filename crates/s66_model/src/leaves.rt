@@ -1,4 +1,5 @@
-//! Leaves: lower bounds of all orders that begin with a prefix, and the floor, which is the greatest of them.
+//! Laws and examples of leaves: lower bounds of all orders that begin with a prefix, and the floor, which is the greatest of them
+//! (`leaf_law`, `floor_law`).
 
 ghost use Rattle.std.specs.Prelude.{ℕ, List, ◌≡◌, ◌≤◌, ◌↔◌, [], ◌∷◌, ◌++◌};
 ghost use Rattle.s66_isa.specs.declared.instr.Kind.TheVariants.{Boolean, Shift, Multiply, Divide};

@@ -1,4 +1,4 @@
-//! Which orders of a block are legal.
+//! Laws and examples of legal orders: as permutations that keep each dependence, and number by number by what is ready (`order_law`).
 
 ghost use Rattle.std.specs.Prelude.{ℕ, List, ◌≡◌, ◌↔◌, [], ◌∷◌};
 ghost use Rattle.s66_isa.specs.declared.instr.Instr.{Instr};

@@ -1,7 +1,7 @@
-//! What a reader must believe: packing, dependence, legal orders, their meaning and their timing; lower bounds, dominance, trees
-//! and answers. Each law is a function that does nothing, whose contract says it. Examples are such functions too: each clause is
-//! one, under the standard profile if no other is named. Numbers count from 1, parcels from 0; times are minor cycles of 100 ns.
-//! There is no code that schedules here.
+//! What a reader must believe: packing, dependence, legal orders, their meaning and their timing; lower bounds, dominance, trees and
+//! answers. Each law is a function that does nothing, whose contract says it. Examples are such functions too: each clause is one,
+//! under the standard profile if no other is named. Numbers count from 1, parcels from 0; times are minor cycles of 100 ns. There is no
+//! code that schedules here. Each file has the laws about a file of `specs/`. Begin at `specs/Timing.antt` and `timing.rt`.
 #![tactic(auto, unfolding(s66_isa::specs::Table::row, crate::specs::Timing::issue_of, crate::specs::Timing::start_of, crate::specs::Timing::point, crate::specs::Dependence::conflict))]
 
 mod answer;

@@ -1,3 +1,5 @@
+//! Limits of a search: how many workers (`WORKERS_LIMIT`), and how many splits (`BUDGET_LIMIT`).
+
 /// How many workers search at most.
 pub const WORKERS_LIMIT: u8 = 16;
 

@@ -1,4 +1,5 @@
-//! What an order of a block computes.
+//! Laws and examples of the meaning of an order: what it leaves in registers and memory, which is the same for every legal order
+//! (`meaning_law`).
 
 ghost use Rattle.std.specs.Prelude.{ℕ, List, ◌≡◌, [], ◌∷◌, true, false, ◌≢◌};
 ghost use Rattle.s66_isa.specs.declared.instr.Instr.{Instr};

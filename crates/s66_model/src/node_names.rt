@@ -1,4 +1,4 @@
-//! The nodes of a tree by their names.
+//! Examples of the nodes of a tree by their names, the numbers of their prefixes.
 
 ghost use Rattle.std.specs.Prelude.{◌≡◌, [], ◌∷◌, Some, None, true, false};
 ghost use Rattle.s66_isa.specs.declared.instr.Kind.TheVariants.{Boolean};

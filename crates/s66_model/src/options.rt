@@ -1,3 +1,5 @@
+//! The options of a search: workers, the most splits, and which nodes dominated leaves may name.
+
 use crate::rule::Rule;
 
 /// How a block's orders are searched.

@@ -1,4 +1,4 @@
-//! Packing into words of four parcels.
+//! Laws and examples of packing: in which parcel of a word of 60 bits each instruction of an order begins.
 
 ghost use Rattle.std.specs.Prelude.{ℕ, List, map, reverse, ◌≡◌, [], ◌∷◌};
 ghost use Rattle.s66_model.specs.Packing.{parcels_from, len_at};

@@ -1,4 +1,4 @@
-//! Pieces: trees over a prefix with leaves and a frontier.
+//! Examples of pieces: what one expansion makes, a tree over a prefix with leaves and a frontier of prefixes that are still open.
 
 ghost use Rattle.std.specs.Prelude.{[], ◌∷◌};
 ghost use Rattle.s66_isa.specs.declared.instr.Kind.TheVariants.{Multiply};

@@ -1,4 +1,4 @@
-//! Trees by their vertices in preorder.
+//! Laws and examples of trees by their vertices in preorder, as a certificate lists them.
 
 ghost use Rattle.std.specs.Prelude.{ℕ, List, ◌≡◌, [], ◌∷◌};
 ghost use Rattle.s66_isa.specs.declared.instr.Kind.TheVariants.{Boolean};

@@ -1,3 +1,5 @@
+//! The rule of dominance of a tree: which nodes its dominated leaves may name.
+
 /// Which nodes the dominated leaves of a tree may name. Rules can't be mixed in one tree: no law covers that.
 #[derive(Clone, Copy, Debug, PartialEq, Eq)]
 pub enum Rule {

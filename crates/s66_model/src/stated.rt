@@ -1,4 +1,4 @@
-//! Trees with values in place of leaves.
+//! Laws and examples of trees that have of each leaf only the value or the name.
 
 ghost use Rattle.std.specs.Prelude.{ℕ, List, ◌≡◌, [], ◌∷◌};
 ghost use Rattle.s66_model.specs.declared.rule.Rule.{Rule};

@@ -1,4 +1,4 @@
-//! What timing sees of an instruction, as the table has it.
+//! Laws and examples of the instruction table: what timing sees of each operation, and the standard profile.
 
 ghost use Rattle.std.specs.Prelude.{[], ◌∷◌, ◌≡◌, map, replicate};
 ghost use Rattle.s66_isa.specs.declared.instr.Instr.{Instr};

@@ -1,4 +1,4 @@
-//! Static tails: a floor by what is known of each number before anything is placed.
+//! Laws and examples of static tails: a floor by what is known of each number before anything is placed, and the chain that is printed.
 
 ghost use Rattle.std.specs.Prelude.{ℕ, List, length, get_or, max, true, ◌+◌, ◌-◌, ◌*◌, ◌≡◌, ◌≤◌, [], ◌∷◌};
 ghost use Rattle.std.specs.List.{filter};

@@ -1,4 +1,4 @@
-//! When each instruction of an order issues, starts and is done.
+//! Laws and examples of timing: when each instruction of an order issues, starts and is done, and what the order takes.
 
 ghost use Rattle.std.specs.Prelude.{ℕ, List, length, ◌*◌, ◌≡◌, ◌≤◌, ◌↔◌, [], ◌∷◌};
 ghost use Rattle.s66_isa.specs.Table.{Row, instr};

@@ -1,4 +1,5 @@
-//! Trees over a prefix: what they show, and their lines.
+//! Laws and examples of trees over a prefix: the lower bound that a tree shows (`tree_law`), and its lines. Trees with dominated leaves
+//! are in `dominated_leaves.rt`.
 
 ghost use Rattle.std.specs.Prelude.{ℕ, List, ◌≡◌, ◌≤◌, [], ◌∷◌, ◌++◌};
 ghost use Rattle.s66_isa.specs.declared.instr.Kind.TheVariants.{Boolean, Multiply};

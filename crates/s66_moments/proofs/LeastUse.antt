@@ -1,4 +1,4 @@
--- What a walk over some uses has found of the least, and what is left.
+-- What a walk over the uses of a load has found of the least of them, and what is left to look at.
 use Rattle.std.proofs.Common.{ℕ, ◌+◌, ◌<◌, ◌≡◌, min, List, [], ◌∷◌, length, map, get_or, refl, sym, ap, arith, ◌∙◌}
 use Rattle.s66_isa.specs.Lists.{least}
 use Rattle.s66_model.specs.Timing.{Problem, row_at}

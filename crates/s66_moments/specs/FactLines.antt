@@ -38,6 +38,8 @@ abbrev pub IsLateByUnit : Problem → ℕ → List Fact → ℕ → ℕ → Type
 IsLateByUnit b low known n m =
     (h t : ℕ) × IsOnlyUnit b n m × Leads b known Origin h (At n Free) × Leads b known (At m Issue) t End × (low ≤ h + t)
 
+-- if n stood before m, m would issue after the parcels of n, or after n leaves the only unit of both, and so late that the order takes
+-- low
 abbrev pub IsForced : Problem → ℕ → List Fact → ℕ → ℕ → Type 0
 IsForced b low known m n = (n ≢ m) × IsNumber b n × IsNumber b m × (IsLateByParcels b low known n m ⊎ IsLateByUnit b low known n m)
 
@@ -89,6 +91,7 @@ AreBetween b known kind e f h wait time (u ∷ us) =
 
 -- LINES, one after the other
 
+-- the pair is forced; or the load arc's uses are of one kind, none of one instruction twice, one at least, and each lies between
 abbrev pub IsFounded : Problem → ℕ → List Fact → Line → Type 0
 IsFounded b low known (ForcedPair m n) = IsForced b low known m n
 IsFounded b low known (LoadArc kind e f h wait []) = ⊥

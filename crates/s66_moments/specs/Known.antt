@@ -1,4 +1,6 @@
 -- To be believed: fact lines as a certificate has them, what is known after some, longest paths by what is known, and the tests of lines and leaves by these paths.
+--
+-- `FORMATS.md`, "Fact lines" and "Leaves by facts", has the tests in words.
 use Rattle.std.specs.Prelude.{ℕ, zero, suc, ◌+◌, ◌≡◌, ◌≤◌, Bool, true, false, if◌then◌else◌, not, ◌||◌, ◌&&◌, ◌==◌, max, List, [], ◌∷◌, ◌++◌, map, length, nat_le, nat_lt, get_or, Option, Some, None}
 use Rattle.s66_isa.specs.declared.instr.Kind.{Kind}
 use Rattle.s66_isa.specs.Lists.{greatest, every, has}
@@ -84,6 +86,7 @@ span_over b arcs zero e f = only_if (same_moment e f) 0
 span_over b arcs (suc more) e f =
     later (only_if (same_moment e f) 0) (latest (λ m. plus (arcs e m) (span_over b arcs more m f)) (targets b))
 
+-- how much later f comes than e by the longest path of a network, `None` if no path leads there
 abbrev pub span : Problem → Network → Moment → Moment → Option ℕ
 span b arcs e f = span_over b arcs (most_arcs b) e f
 

@@ -65,6 +65,8 @@ abbrev pub AllShow : Rule → Problem → ℕ → List Line → List ℕ → Tre
 AllShow rule b low lines prefix tree =
     AreFounded b low [] lines × TreeHolds b.block (LineEndingShows rule b low (facts_after [] lines) prefix tree) prefix tree
 
--- a tree that shows a time of low or more shows low; in use, a node may dominate below that time and not below low
+-- a tree that shows a time of low or more shows low; in use, a node may dominate below that time and not below low; the lines at the
+-- head are founded, and each unsplit prefix has a leaf of at least that time, lines by which it is too late, or the name of a node that
+-- dominates it by the rule
 abbrev pub ShowsByLines : Rule → Problem → ℕ → List Line → List ℕ → Tree LineEnding → Type 0
 ShowsByLines rule b low lines prefix tree = (time : ℕ) × (low ≤ time) × AllShow rule b time lines prefix tree

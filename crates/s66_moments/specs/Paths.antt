@@ -25,6 +25,7 @@ abbrev pub PrecedesBy : Problem → List Fact → ℕ → List ℕ → ℕ → T
 PrecedesBy b known m [] n = IsFirst b known m n × IsNumber b n
 PrecedesBy b known m (k ∷ ks) n = IsFirst b known m k × IsNumber b k × PrecedesBy b known k ks n
 
+-- m stands before n: by dependence, by what is known, by a prefix that has only m, or by others between
 abbrev pub Precedes : Problem → List Fact → ℕ → ℕ → Type 0
 Precedes b known m n = (between : List ℕ) × PrecedesBy b known m between n
 
@@ -46,7 +47,8 @@ IsAtPrefix b prefix w End = w ≡ total_of b prefix
 abbrev pub IsDecided : Problem → List Fact → ℕ → Moment → Type 0
 IsDecided b known w f = (prefix : List ℕ) × Among (Begins prefix) known × IsAtPrefix b prefix w f
 
--- f comes w later than e at least: by the table, by a known fact, or from the origin by a known prefix
+-- f comes w later than e at least: by the table, by a known fact, or from the origin by a known prefix; a known prefix decides when its
+-- numbers' moments are, `soonest` for what remains, and its total for the end
 abbrev pub IsStep : Problem → List Fact → Moment → ℕ → Moment → Type 0
 IsStep b known e w f =
     (IsInOrder b known e f × (is_moment b f ≡ true) × (arc b e f ≡ Some w))

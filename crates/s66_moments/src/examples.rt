@@ -1,4 +1,5 @@
 //! Worked examples of arcs, paths, lines and trees.
+//! The functions do nothing.
 
 ghost use Rattle.std.specs.Prelude.{ℕ, List, [], ◌∷◌, ◌+◌, ◌≡◌, ◌≤◌, ◌≢◌, true, false, Some, None};
 ghost use Rattle.s66_isa.specs.declared.instr.Kind.TheVariants.{Boolean};

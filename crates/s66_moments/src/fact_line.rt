@@ -1,3 +1,6 @@
+//! Fact lines as types: a pair of numbers of which one stands before the other, or a load line, which gives an arc between two moments.
+//! What makes a line a fact is in `specs/FactLines.antt`.
+
 use crate::moment::Moment;
 use arrayvec::ArrayVec;
 use s66_isa::BLOCK_LIMIT;

@@ -1,4 +1,5 @@
 //! Facts that all legal orders have that take less than a time, and how one follows from others.
+//! A fact is an arc, a pair or a prefix.
 
 ghost use Rattle.std.specs.Prelude.{ℕ, List, ◌∷◌, ◌+◌, ◌≡◌, ◌≢◌, ◌≤◌, ◌<◌, true, false, map, length};
 ghost use Rattle.s66_isa.specs.declared.instr.Kind.{Kind};

@@ -1,4 +1,5 @@
 //! Fact lines as a certificate has them: what is known after those that are taken, and the longest paths by it.
+//! Laws for a checker: a tree whose leaves are right by what is known shows its bound.
 
 ghost use Rattle.std.specs.Prelude.{ℕ, List, [], ◌∷◌, ◌+◌, ◌≡◌, ◌≤◌, true, map, Some};
 ghost use Rattle.s66_model.specs.Timing.{Problem};

@@ -1,4 +1,6 @@
 //! Moments of an order, and facts of all legal orders that take less than a time: laws by which bounds are shown with few splits.
+//! Types and laws alone: `s66_facts` works out what they define, `s66_deep` looks for facts. Begin at `specs/Moments.antt`, then
+//! `lines.rt`.
 #![tactic(auto, unfolding(s66_isa::specs::Table::row, s66_model::specs::Timing::issue_of, s66_model::specs::Timing::start_of, s66_model::specs::Timing::point, s66_model::specs::Dependence::conflict))]
 
 mod examples;

@@ -1,4 +1,5 @@
 //! Lines that each give a fact, and trees that show a bound by them.
+//! Laws say on what a fact line may be founded, and what a tree shows by lines.
 
 ghost use Rattle.std.specs.Prelude.{ℕ, List, [], ◌∷◌, ◌++◌, ◌+◌, ◌≡◌, ◌≤◌, true};
 ghost use Rattle.s66_model.specs.declared.rule.Rule.{Rule};

@@ -1,3 +1,6 @@
+//! Moments of an order: when an instruction issues, starts, has its result in a register and frees its unit, and the origin and the
+//! end.
+
 use s66_isa::Reg;
 
 /// What happens to an instruction in its time: it issues to its unit, it starts with its operands, its result in a register is done,

@@ -1,4 +1,5 @@
 //! Networks of arcs, what follows each moment in them, and the greatest path of what remains after a prefix.
+//! Floors by longest paths rest on them.
 
 ghost use Rattle.std.specs.Prelude.{ℕ, List, Bool, ◌∷◌, ◌++◌, ◌+◌, ◌≡◌, ◌≢◌, ◌≤◌, ◌<◌, ◌⊎◌, true, false, length, max, Some, unwrap_or};
 ghost use Rattle.s66_isa.specs.declared.instr.Instr.{Instr};

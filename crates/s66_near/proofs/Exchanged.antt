@@ -1,4 +1,4 @@
--- Two neighbours that change places: how many pairs stand in reverse then.
+-- Two neighbours of an order that change places: how many pairs stand in reverse then.
 use Rattle.std.proofs.Common.{◌≡◌, ◌≤◌, ◌<◌, ◌+◌, ◌*◌, ◌∷◌, ℕ, zero, suc, cond, List, [], length, get_or, set, swap, nat_lt, arith}
 use Rattle.std.proofs.lemmas.List.Edits.{swap_is}
 use Rattle.s66_near.specs.Reversed.{below, reversed}

@@ -1,4 +1,4 @@
--- Used by contracts: how far an order is from the source order.
+-- Used by contracts: how far an order is from the source order: how many pairs of it stand in reverse.
 use Rattle.std.specs.Prelude.{ℕ, ◌+◌, List, [], ◌∷◌, nat_lt}
 use Rattle.s66_isa.specs.Lists.{tally}
 

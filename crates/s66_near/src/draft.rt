@@ -1,4 +1,4 @@
-//! An order that is changed step by step.
+//! An order that is changed step by step: one number is moved to another place, if the order stays legal and takes as long.
 
 ghost use Rattle.std.specs.Prelude.{◌≡◌, ◌+◌, ◌<◌, ◌≤◌, IfSome, get_or, length};
 ghost use Rattle.s66_isa.specs.declared.limits.TheConstants.{BLOCK_LIMIT};

@@ -1,4 +1,6 @@
-//! Of the legal orders of a block that take as long, one that is nearer to the source order.
+//! Of the legal orders of a block that take as long, one that is nearer to the source order. Begin at `nearest.rt`.
+//!
+//! It promises that the order is legal and takes as long, and that no more of its pairs stand in reverse.
 #![tactic(auto)]
 
 mod draft;

@@ -1,4 +1,5 @@
-//! Numbers taken out of an order one by one and put nearer to their places.
+//! The legal order that takes as long and is nearer to the source (`nearer`): a local search, in which each instruction in turn is
+//! taken out and put where the fewest pairs stand in reverse of the source.
 
 ghost use Rattle.std.specs.Prelude.{◌≡◌, ◌≤◌};
 ghost use Rattle.s66_line.specs.Block.{instrs_of};

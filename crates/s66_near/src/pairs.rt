@@ -1,4 +1,4 @@
-//! How far an order is from the source order.
+//! How far an order is from the source order: how many pairs of it stand in reverse (its inversions).
 
 ghost use Rattle.std.specs.Prelude.{◌≡◌, ◌+◌, ◌<◌, ◌≤◌, length, drop, get_or};
 ghost use Rattle.s66_isa.specs.declared.limits.TheConstants.{BLOCK_LIMIT};

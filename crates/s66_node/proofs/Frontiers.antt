@@ -1,4 +1,4 @@
--- What is left open was not allowed to be split, while a tree is made.
+-- A tree that is made leaves a prefix open only if it was not allowed to split it.
 use Rattle.std.proofs.Common.{ℕ, ◌+◌, ◌≤◌, ◌<◌, ◌≡◌, List, [], ◌∷◌, ◌++◌, arith, inl, inr}
 use Rattle.s66_model.specs.Tree.{Vertex, AtTerminal, AtSplit}
 use Rattle.s66_model.specs.Piece.{Terminal, Frontier}

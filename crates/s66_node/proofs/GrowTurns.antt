@@ -1,4 +1,4 @@
--- Each turn of a tree that is made, as its code takes it.
+-- One turn of `grow`: what it makes of the walk, of the nodes and of the splits to come keeps what is promised of the tree.
 use Rattle.std.proofs.Common.{ℕ, ◌+◌, ◌≤◌, ◌<◌, ◌≡◌, ◌⊎◌, ◌++◌, ◌∷◌, [], List, Option, None, true, get_or, length, length-append, map, inl, inr, refl, sym, ap, ◌∙◌, subst, arith}
 use Rattle.s66_isa.specs.Lists.{Among}
 use Rattle.s66_model.specs.declared.rule.Rule.{Rule}

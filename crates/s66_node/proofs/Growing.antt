@@ -1,4 +1,4 @@
--- The steps of a walk in preorder.
+-- The steps of a walk in preorder over the tree that is made: down to a child, to the next sibling, and up.
 use Rattle.std.proofs.Common.{ℕ, ◌-◌, ◌≡◌, List, [], ◌∷◌, ◌++◌, length, take, refl, sym, ap, arith, inl, inr, ◌∙◌, append_assoc, length-append, subst}
 use Rattle.std.proofs.lemmas.List.{append-nil}
 use Rattle.s66_isa.specs.declared.instr.Instr.{Instr}

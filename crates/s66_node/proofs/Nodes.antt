@@ -1,4 +1,4 @@
--- One node more: its prefix, its line, and what holds of it.
+-- A list of nodes with one more: its prefix, its line of the tree, and what holds of it.
 use Rattle.std.proofs.Common.{ℕ, zero, suc, ◌+◌, ◌<◌, ◌≡◌, List, [], ◌∷◌, ◌++◌, length, get_or, refl, sym, ap, arith, ◌∙◌, length-append, subst}
 use Rattle.s66_model.specs.Timing.{Problem}
 use Rattle.s66_model.specs.Tree.{Vertex}

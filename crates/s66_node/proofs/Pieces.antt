@@ -1,4 +1,4 @@
--- A piece from the tree that was grown.
+-- The tree that was grown is a piece: its splits, its floors, its names and its best order are as promised.
 use Rattle.std.proofs.Common.{ℕ, ◌<◌, ◌≡◌, ◌⊎◌, true, List, length, refl, sym, ap, arith, inl, inr, ◌∙◌, subst}
 use Rattle.s66_isa.specs.Lists.{Among}
 use Rattle.s66_model.specs.declared.rule.Rule.{Rule}

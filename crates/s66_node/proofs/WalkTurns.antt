@@ -1,4 +1,4 @@
--- Each turn of a walk.
+-- One turn of a walk over the tree that is made, by what is then still to come.
 use Rattle.std.proofs.Common.{ℕ, ◌+◌, ◌-◌, ◌*◌, ◌≤◌, ◌<◌, ◌≡◌, ◌==◌, ◌⊎◌, true, false, get_or, reverse, List, [], ◌∷◌, ◌++◌, length, map, refl, sym, ap, arith, inl, inr, ◌∙◌, length-append, subst, Option, None, eqb-true}
 use Rattle.std.proofs.lemmas.List.{reverse-append, length-take}
 use Rattle.s66_isa.specs.declared.limits.TheConstants.{BLOCK_LIMIT}

@@ -1,4 +1,4 @@
--- Used by contracts within the crate alone: what holds while a tree is made, and of it when it is made.
+-- Used by contracts within the crate alone: what holds while an expansion makes its tree, and of the tree when it is made.
 use Rattle.std.specs.Prelude.{ℕ, ◌+◌, ◌≡◌, ◌<◌, ◌≤◌, ◌⊎◌, ◌++◌, true, List, [], ◌∷◌, length, map, reverse, get_or, Option, None, Some}
 use Rattle.s66_isa.specs.declared.instr.Instr.{Instr}
 use Rattle.s66_isa.specs.Lists.{Among}

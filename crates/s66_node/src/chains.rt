@@ -1,3 +1,5 @@
+//! The buckets of a hash table: lists of places by hash. The marks that are kept there are in `mark_table.rt`.
+
 use std::alloc::{AllocError, Global};
 
 /// In place of a place: there is none.

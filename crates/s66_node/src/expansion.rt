@@ -1,3 +1,6 @@
+//! The expansion of a prefix (`Walk::expand`): from a prefix to a piece over it, with or without dominated leaves. The loop itself is
+//! in `grow.rt`.
+
 ghost use Rattle.std.specs.Prelude.{◌≡◌, ℕ, List, IfOk};
 ghost use Rattle.std.specs.Option.{option_map};
 ghost use Rattle.s66_line.specs.Block.{instrs_of};

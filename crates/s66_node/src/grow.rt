@@ -1,3 +1,9 @@
+//! The tree of an expansion as it grows: branch and bound, depth first by rising number, with a stack of what is still to come at each
+//! depth.
+//!
+//! A prefix is a leaf if its floor is no less than the best time, is dominated if a node is known that dominates it, is split while the
+//! allowance lasts, and stays open after that.
+
 ghost use Rattle.std.specs.Prelude.{◌≡◌, ◌≤◌, ◌++◌, ◌⊎◌, [], ℕ, List, IfOk, OnOk, IfSome, IfNone, IsTrue};
 ghost use Rattle.s66_isa.specs.Lists.{Among};
 ghost use Rattle.s66_model.specs.declared.rule.Rule.TheVariants.{NoneNamed, WrittenEarlier};

@@ -1,3 +1,5 @@
+//! The best time as an expansion reads it, which another worker may lower meanwhile (`Least`).
+
 ghost use Rattle.std.specs.Prelude.{ℕ, ◌≡◌, ◌≤◌};
 
 /// A best time that may fall while a tree is made, in minor cycles: a number that is kept, and never rises.

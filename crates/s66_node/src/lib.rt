@@ -1,4 +1,8 @@
-//! Expansion of one subtree of a search: a walk over the beginnings of a block's legal orders, and the piece that it makes.
+//! Expansion of one subtree of a search: a walk over the beginnings of a block's legal orders, and the piece that it makes. Branch and
+//! bound, depth first, within an allowance of splits. Begin at `expansion.rt`, then `grow.rt`.
+//!
+//! It promises that a piece splits into exactly the ready numbers, that the values of its leaves are floors, and that its dominated
+//! leaves have names by the rule, however the best time falls meanwhile.
 #![tactic(auto)]
 
 mod chains;

@@ -1,3 +1,10 @@
+//! A table of marks by the sets of their numbers (`MarkTable`): a prefix is dominated if a mark of the same set is no later in any
+//! word.
+//!
+//! It is a dominance or transposition table: beginnings of the same set of instructions have the same completions, so that of two the
+//! one that leaves every register, unit and memory no later makes the other needless. Which nodes a leaf may name is a rule of the tree
+//! (`s66_model`).
+
 ghost use Rattle.std.specs.Prelude.{ℕ, ◌≤◌, ◌<◌, ◌≡◌, ◌⊎◌, IsTrue, List, length, map};
 ghost use Rattle.s66_isa.specs.Lists.{Among};
 ghost use Rattle.s66_model.specs.Timing.{Problem};

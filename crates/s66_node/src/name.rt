@@ -1,3 +1,5 @@
+//! The name of a dominated leaf: the numbers of the node that dominates it, and a guess of where that node is.
+
 use crate::whole_order::copy_of;
 use arrayvec::ArrayVec;
 use s66_isa::BLOCK_LIMIT;

@@ -1,3 +1,5 @@
+//! What an expansion asks for nodes that dominate a prefix (`Naming`): a table of marks, or several that workers share.
+
 use crate::name::Name;
 use crate::node::State;
 use crate::walk::Walk;

@@ -1,3 +1,6 @@
+//! A node of a search's tree: its parent, its last number, its floor, and whether it is open, out, closed, split or dominated. A piece
+//! has nodes in preorder, a ledger in the order in which they came.
+
 /// What a node is: it can be claimed, is handed out, is closed with its floor, is split, or is closed as dominated by another
 /// node.
 #[derive(Clone, Copy, Debug, PartialEq, Eq)]

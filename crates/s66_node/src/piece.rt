@@ -1,3 +1,5 @@
+//! A piece: the tree that one expansion makes over a prefix, with its nodes, its splits and its best whole order. A ledger grafts it.
+
 use crate::name::Dominance;
 use crate::node::Node;
 use arrayvec::ArrayVec;

@@ -1,3 +1,6 @@
+//! List scheduling: a good order that begins with the walk's prefix, made by always placing the ready instruction that comes first, and
+//! of equal ones that with the longest tail. It is the usual heuristic of instruction schedulers, by critical path.
+
 ghost use Rattle.std.specs.Prelude.{◌≡◌, ◌≤◌, ◌<◌, true, [], length, take, IfSome, IfNone};
 ghost use Rattle.s66_model.specs.LegalOrder.{is_ready, ready, IsComplete};
 ghost use Rattle.s66_model.specs.Timing.{total_of};

@@ -1,3 +1,6 @@
+//! A walk over the beginnings of a block's legal orders (`Walk`): it pushes and undoes a number, and knows the prefix's times, its
+//! floor and what is ready. Every search steps by it.
+
 ghost use Rattle.std.specs.Prelude.{ℕ, ◌≡◌, ◌≢◌, ◌≤◌, ◌<◌, length, take, get_or};
 
 use arrayvec::ArrayVec;

@@ -1,4 +1,4 @@
--- What an escaped text has, whatever its bytes are.
+-- What an escaped text has, whatever its bytes are (`escape_law`).
 use Rattle.std.proofs.Common.{ℕ, ◌^◌, ◌<◌, ◌≡◌, Bool, true, List, [], ◌∷◌, ◌++◌, arith, inl, inr, refl}
 use Rattle.s66_isa.specs.Lists.{Among, every, rising}
 use Rattle.s66_isa.proofs.Lists.{every-each, rising-among}

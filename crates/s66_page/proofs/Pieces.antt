@@ -1,4 +1,4 @@
--- Texts of several pieces, which are appended one after the other.
+-- The markup of a page is that of its pieces, appended one after the other; cited wherever a function of `src/` appends several.
 use Rattle.std.proofs.Common.{◌≡◌, List, ℕ, ◌++◌, ◌∙◌, Result, OnOk, ap, append_assoc}
 use Rattle.std.proofs.lemmas.Result.{IfOk-equal}
 

@@ -1,4 +1,4 @@
--- What is written of the points of a timed order, one after the other.
+-- What a page has of the instructions of a timed order in a loop: rows, bars, ticks and sums, one round more.
 use Rattle.std.proofs.Common.{ℕ, suc, ◌+◌, ◌-◌, ◌<◌, ◌≡◌, List, [], ◌∷◌, ◌++◌, ap, append_assoc, arith, flat_map, length, take, get_or, reverse, sym, ◌∙◌}
 use Rattle.std.specs.List.{range_with_len}
 use Rattle.std.proofs.lemmas.Grind.{flat_map-append}

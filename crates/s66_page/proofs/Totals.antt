@@ -1,4 +1,4 @@
--- The total of rows, by its sums.
+-- The last row of the list of blocks has the sums of all rows.
 use Rattle.std.proofs.Common.{ℕ, List, ◌≡◌, refl}
 use Rattle.s66_isa.specs.Lists.{tally, weigh}
 use Rattle.s66_page.specs.declared.summary.Summary.{Summary}

@@ -19,6 +19,7 @@ escaped_byte b =
     else (if nat_le 160 b then codes "&#" ++ decimal b ++ codes ";"
     else codes "&#65533;"))))))
 
+-- `FORMATS.md`, under `s66 page`, says how bytes stand
 abbrev pub escaped : List ℕ → List ℕ
 escaped text = flat_map escaped_byte text
 

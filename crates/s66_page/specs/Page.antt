@@ -1,4 +1,7 @@
 -- To be believed: the page that shows orders of blocks, a row for each unit, each register and each instruction, in minor cycles.
+--
+-- Coordinates are minor cycles, and points are the newest first. `PAGE_START` and `PAGE_HEAD` are constants: what stands before its
+-- title, and from there to the list of blocks, with how it looks and what its colours mean.
 use Rattle.std.specs.Prelude.{ℕ, zero, suc, Bool, false, ◌+◌, ◌-◌, ◌*◌, ◌/◌, if◌then◌else◌, ◌==◌, List, [], ◌∷◌, ◌++◌, codes, decimal, flat_map, length, nat_lt, reverse}
 use Rattle.std.specs.List.{range_with_len, list_any}
 use Rattle.s66_isa.specs.Lists.{tally, weigh}
@@ -220,6 +223,7 @@ all_rows block t =
 unfoldable pub why_below : Block → TimedOrder → List ℕ
 why_below block t = codes "</table>\n<pre>" ++ why_text false block t ++ codes "</pre>\n"
 
+-- the rows of an order, and below them what `why` says of it
 unfoldable pub order_text : Block → (title : List ℕ) → TimedOrder → List ℕ
 order_text block title t = order_head title (cycles_of t) ++ all_rows block t ++ why_below block t
 

@@ -1,4 +1,6 @@
 -- To be believed: the page that shows the blocks of two sources in pairs, as `compare` pairs them, each in the orders of both.
+--
+-- `PAGE_PAIRS` is a constant: what stands between the profile and the list.
 use Rattle.std.specs.Prelude.{ℕ, ◌≡◌, ◌+◌, Bool, true, List, [], ◌∷◌, ◌++◌, Ok, Option, None, Some, codes, decimal, slice_get}
 use Rattle.s66_isa.specs.declared.profile.Profile.{Profile}
 use Rattle.s66_line.specs.Block.{Block, instrs_of}
@@ -93,7 +95,8 @@ pairs_list p old new rows difference = all_pairs p old new Link rows ++ ending_t
 abbrev pub pairs_text : Profile → (old new : List Block) → List Row → Option Difference → List ℕ
 pairs_text p old new rows difference = pairs_head p ++ pairs_list p old new rows difference ++ all_pairs p old new Orders rows
 
--- both sources are accepted; the page is of their blocks, as `compare` aligns them, and the new source is the old one in legal orders or not
+-- both sources are accepted; the page is of their blocks, as `compare` aligns them, and the new source is the old one in legal orders
+-- or not; it has the rows and `accepted` in common with `IsCompared`
 abbrev pub IsPairsPage : Profile → (old new : Reading) (text : List ℕ) → (accepted : Bool) → Type 0
 IsPairsPage p old new text accepted =
     (blocks : List Block) × (again : List Block) × (source_of old ≡ Ok blocks) × (source_of new ≡ Ok again)

@@ -11,7 +11,7 @@ abbrev pub is_free_of : (word text : List ℕ) → Bool
 is_free_of word [] = true
 is_free_of word (b ∷ text) = not (begins_with word (b ∷ text)) && is_free_of word text
 
--- no script, no address, no file
+-- no script, no address, no file; the words `<script`, `http`, `src`, `url(` and `@import` stand nowhere in it
 abbrev pub is_still : List ℕ → Bool
 is_still text =
     is_free_of (codes "<script") text && is_free_of (codes "http") text && is_free_of (codes "src") text && is_free_of (codes "url(") text

@@ -1,3 +1,5 @@
+//! The bars of a row: what an instruction does and what it waits for, with the words that a bar shows.
+
 ghost use Rattle.std.specs.Prelude.{◌≡◌, ◌-◌, ◌++◌, OnOk, codes, decimal};
 ghost use Rattle.s66_page.specs.Page.{bar, bar_start, numbered_bar, span, cause_words, words, stretch_title, stretch_bar, stretch_words, work_title, work_bar};
 ghost use Rattle.s66_why.specs.Why.{bank_name};

@@ -1,3 +1,5 @@
+//! What the page shows of a block beside its source order: the order that was found, its bound and the reasons.
+
 use s66_dep::Order;
 use std::marker::Model;
 

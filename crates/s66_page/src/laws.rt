@@ -1,3 +1,6 @@
+//! Laws of the page: escaped texts are text alone, it has no script and fetches nothing, and each row tells the times of its
+//! instruction.
+
 ghost use Rattle.std.specs.Prelude.{ℕ, List, ◌≡◌, ◌<◌, ◌-◌, ◌^◌, false, true, codes, length, take};
 ghost use Rattle.s66_isa.specs.Lists.{Among, every};
 ghost use Rattle.s66_isa.specs.Table.{latency_of};

@@ -1,4 +1,8 @@
-//! Orders of blocks as a page for a browser: one HTML file that stands alone.
+//! Orders of blocks as a page for a browser: one HTML file that stands alone. Begin at `specs/Page.antt`, then `page.rt`; the page of
+//! two sources begins at `pairs.rt`.
+//!
+//! It promises that no byte of a source is markup (`escape_law`), that nothing is run or fetched (`head_law`), and that each
+//! instruction has its row (`row_law`).
 #![tactic(auto)]
 
 mod bar;

@@ -1,3 +1,5 @@
+//! An order on the page: its heading, its ruler, its rows, and below them what `why` says.
+
 ghost use Rattle.std.specs.Prelude.{◌≡◌, ◌+◌, ◌*◌, ◌/◌, ◌≤◌, ◌<◌, ◌^◌, ◌++◌, OnOk, flat_map, length};
 ghost use Rattle.std.specs.List.{range_with_len};
 ghost use Rattle.s66_line.specs.Block.{instrs_of};

@@ -1,3 +1,5 @@
+//! The page of one source (`push_page`): its head, the list of blocks with a total, and each block.
+
 ghost use Rattle.std.specs.Prelude.{◌≡◌, ◌<◌, ◌^◌, ◌++◌, OnOk, length};
 ghost use Rattle.s66_isa.specs.Lists.{tally, weigh};
 ghost use Rattle.s66_line.specs.Block.{instrs_of};

@@ -1,3 +1,5 @@
+//! The rows of registers: which instruction holds each, from when until when.
+
 ghost use Rattle.std.specs.Prelude.{◌≡◌, ◌≤◌, ◌++◌, OnOk, flat_map, length};
 ghost use Rattle.s66_isa.specs.declared.limits.TheConstants.{BLOCK_LIMIT};
 ghost use Rattle.s66_page.specs.Page.{register_bar, register_head, register_row, register_row_of, register_rows};

@@ -1,3 +1,5 @@
+//! The constant parts of a page: style sheet, legend, and the heads of its lists.
+
 /// The beginning of a page, up to its title.
 pub const PAGE_START: &[u8] = b"<!DOCTYPE html>
 <html lang='en'>

@@ -1,3 +1,5 @@
+//! What the list of blocks shows of a block, and the sums of all.
+
 /// What the list of blocks shows of a block; times are in minor cycles of 100 ns.
 #[derive(Clone, Copy)]
 pub struct Summary {

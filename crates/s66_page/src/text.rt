@@ -1,3 +1,5 @@
+//! Numbers between pieces of markup, as all files here append them.
+
 ghost use Rattle.std.specs.Prelude.{◌≡◌, ◌++◌, OnOk, decimal};
 ghost use Rattle.s66_page.specs.Page.{number_at};
 

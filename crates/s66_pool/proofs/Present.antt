@@ -1,4 +1,4 @@
--- Whether each worker has a seat, worker after worker.
+-- A loop over the workers finds whether each has a seat (`have_seats`).
 use Rattle.std.proofs.Common.{◌≡◌, ℕ, ◌+◌, ◌<◌, eqb, Bool, true, false, List, sym, ◌∙◌, arith}
 use Rattle.s66_isa.specs.Lists.{some_of}
 use Rattle.s66_pool.specs.Hubs.{SeatOf, HaveSeats}

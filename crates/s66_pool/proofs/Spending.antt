@@ -1,4 +1,4 @@
--- What a worker's entries spend, one after the other.
+-- What the entries of a worker in a history spend, summed one after the other (`splits_by`).
 use Rattle.std.proofs.Common.{◌≡◌, ℕ, suc, ◌+◌, ◌<◌, ◌≤◌, cond, eqb, List, [], ◌∷◌, length, map, take, drop, get_or, refl, ap, arith, ◌∙◌}
 use Rattle.std.proofs.Math.Seq.{drop-cons}
 use Rattle.s66_isa.specs.Lists.{weigh}

@@ -1,3 +1,5 @@
+//! The threads (`work`): starts a worker for each seat, waits for all of them, and gives back what is left in their lanes.
+
 ghost use Rattle.std.specs.Prelude.{◌≡◌, ◌<◌, ◌≤◌, ℕ, [], All, length, slice_index_or, vec_capacity, vec_len};
 ghost use Rattle.s66_line.specs.Block.{instrs_of};
 ghost use Rattle.s66_share.specs.Lanes.{LaneId};

@@ -1,3 +1,5 @@
+//! What a worker expands prefixes with: its walk, and the nodes that it may name.
+
 use crate::known_nodes::KnownNodes;
 use crate::shared_marks::SharedMarks;
 use s66_ledger::piece_splits;

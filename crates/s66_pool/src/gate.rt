@@ -1,3 +1,5 @@
+//! Where a test may make a worker wait, or count what it does; in the program it is always open.
+
 /// What workers report their moves to, and what may make them wait; workers count from 1.
 pub trait Gate {
     /// The worker is about to graft a piece.

@@ -1,3 +1,5 @@
+//! The hub (`Hub`): a ledger under a lock, with a seat for each worker. Its calls are in `calls.rt`.
+
 use crate::opening::{have_seats, splits_of_workers};
 use crate::seat::Seat;
 use s66_ledger::Ledger;

@@ -1,3 +1,5 @@
+//! The best time as a worker knows it, by the hint that all share.
+
 ghost use Rattle.std.specs.Prelude.{◌≡◌, ◌≤◌, min};
 
 use s66_node::Least;

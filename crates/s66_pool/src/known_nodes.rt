@@ -1,3 +1,5 @@
+//! Which nodes a worker may name in dominated leaves: those of its own piece, and those that all workers have grafted.
+
 use crate::shared_marks::{SharedMarks, Token};
 use s66_model::Rule;
 use s66_node::{MarkEntry, MarkTable, Name, Naming, NodePlace, State, Walk};

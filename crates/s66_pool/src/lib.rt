@@ -1,4 +1,7 @@
-//! The workers of a search: its ledger under a lock, a hint of its best time, a seat at each for every worker, and threads.
+//! The workers of a search: its ledger under a lock, a hint of its best time, a seat at each for every worker, and threads. Begin at
+//! `search.rt`, which decides who searches, then `worker.rt`, the steps of one worker.
+//!
+//! It promises that however the steps of workers fall, `run` returns an answer for its splits. That they work side by side is tested.
 #![tactic(auto)]
 
 mod calls;

@@ -1,3 +1,5 @@
+//! Limits of a search by workers: first splits, claims, and how long a worker looks for a node.
+
 /// How many splits the calling thread does before workers start. Starting and ending threads costs as much as some thousand splits,
 /// and most searches have fewer than fifty.
 pub const FIRST_SPLITS: u32 = 2_048;

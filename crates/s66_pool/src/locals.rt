@@ -1,4 +1,4 @@
-//! What workers need beside their seats, made before they start.
+//! What each worker needs beside its seat, made and dealt before any starts: lanes with a pass at each, and seats at the hint.
 
 ghost use Rattle.std.specs.Prelude.{◌≡◌, ◌≤◌, ◌<◌, All, IfOk, [], length, slice_index_or};
 ghost use Rattle.s66_share.specs.Lanes.{LaneId, LaneOf};

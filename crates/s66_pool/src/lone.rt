@@ -1,4 +1,5 @@
-//! A search of one thread, which stops and goes on.
+//! A search of one thread that stops and goes on (`LoneSearch`): by the loop of `s66_ledger`, after some splits or at a time that is
+//! enough. A single worker and `--deep` use it.
 
 use s66_isa::Profile;
 use s66_ledger::{Answer, Ledger};

@@ -1,3 +1,5 @@
+//! A worker's seat with all that it needs beside it; and the node that it takes next, from its own lane or another's.
+
 use crate::incumbent::Incumbent;
 use crate::seat::Seat;
 use crate::victim::Victim;

@@ -1,4 +1,5 @@
-//! What a hub opens with, and the seats with which it closes.
+//! What a hub opens with, and the seats with which it closes: how many splits each worker has spent by the history of the ledger, and
+//! whether all seats are there.
 
 ghost use Rattle.std.specs.Prelude.{ℕ, [], ◌≡◌, ◌≤◌, ◌==◌, ◌-◌, ◌↔◌, length, slice_index_or, IfOk, IsTrue, if◌then◌else◌};
 ghost use Rattle.s66_isa.specs.Lists.{some_of};

@@ -1,3 +1,6 @@
+//! A whole search (`run`): first by the calling thread, which ends most searches, then by workers over the hub, and last by one thread
+//! again.
+
 ghost use Rattle.std.specs.Prelude.{◌≡◌, ◌≤◌, IfOk};
 ghost use Rattle.s66_line.specs.Block.{instrs_of};
 ghost use Rattle.s66_model.specs.declared.limits.TheConstants.{BUDGET_LIMIT, WORKERS_LIMIT};

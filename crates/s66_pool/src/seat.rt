@@ -1,3 +1,5 @@
+//! A worker's seat at a hub: its number, and what it knows of the ledger.
+
 use s66_ledger::Ledger;
 use s66_share::Token;
 use std::boxed::Box;

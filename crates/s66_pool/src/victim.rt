@@ -1,3 +1,5 @@
+//! Another worker's lane with a pass at it, from which a worker steals.
+
 use s66_machine::Ticket;
 use s66_share::{Lane, Pass, Thief};
 use std::marker::Model;

@@ -1,3 +1,10 @@
+//! The steps of one worker: find a node in the lanes or claim some, expand one, hand its piece in, and so on until there is nothing
+//! more for it to do.
+//!
+//! It is work stealing with a shared pool of open nodes: a node comes from the worker's own lane, else from another's, else from the
+//! ledger, and the lock is held only to graft, to claim and to be granted splits. When it may end is shown by a count of the workers
+//! that still search.
+
 ghost use Rattle.std.specs.Prelude.{◌≡◌, [], IfOk};
 ghost use Rattle.s66_pool.specs.Workers.{IsSameMember, IsSameSeat};
 

@@ -1,4 +1,4 @@
--- Calls of a reader that were counted, and one more.
+-- Calls of a reader that were counted, and one more (`read_all`).
 use Rattle.std.proofs.Common.{◌≡◌, ℕ, ◌+◌, ◌<◌, ◌≤◌, ◌∙◌, min, max, List, ◌++◌, Option, None, Some, Result, Ok, Err, IfErr, append_assoc, ap, sym, subst, arith}
 use Rattle.std.specs.Io.KnownBytes.{Consumes}
 use Rattle.std.specs.Result.{IsErr, IsErrAnd}

@@ -1,4 +1,4 @@
--- How many numbers have a list of those on which they depend, and the sum of what is left of a list.
+-- The pairs that depend, as `deps` counts them by the lists of each instruction.
 use Rattle.std.proofs.Common.{ℕ, ◌+◌, ◌<◌, ◌≡◌, List, length, drop, get_or, ap, ◌∙◌}
 use Rattle.std.proofs.lemmas.List.{drop_more, length-map}
 use Rattle.s66_isa.specs.declared.instr.Instr.{Instr}

@@ -1,4 +1,4 @@
--- What is kept of an input decides what becomes of it.
+-- The front of an input that is kept decides what becomes of the whole input (`run_under`).
 use Rattle.std.proofs.Common.{◌≡◌, ◌≤◌, ℕ, true, false, true≢false, List, ◌++◌, length, Option, None, Some, IfSome, Ok, Err, inl, inr, refl, ap, sym, subst, ◌∙◌}
 use Rattle.std.proofs.lemmas.List.{append-nil}
 use Rattle.s66_isa.specs.declared.profile.Profile.{Profile}

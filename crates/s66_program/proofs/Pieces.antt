@@ -1,4 +1,4 @@
--- A text that is appended piece by piece.
+-- A line of `deps` or of `sum` is the text of its pieces, appended one after the other.
 use Rattle.std.proofs.Common.{ℕ, List, ◌≡◌, ◌++◌, ◌∙◌, ap, append_assoc}
 
 pub regrouped : (out a b c d e f : List ℕ) → out ++ a ++ b ++ c ++ d ++ e ++ f ≡ out ++ (a ++ b ++ c ++ d ++ e ++ f)

@@ -1,4 +1,4 @@
--- What is found at a place of a list, and which numbers orders have.
+-- The order that was found for a block, at its place of a list: its numbers are those of the block.
 use Rattle.std.proofs.Common.{◌≡◌, ◌≤◌, ◌<◌, ℕ, zero, suc, List, [], ◌∷◌, Some, arith, length, slice_index_or, subst, sym, Bor}
 use Rattle.std.specs.Slice.{IsItemAt}
 use Rattle.std.proofs.lemmas.List.{length-map}

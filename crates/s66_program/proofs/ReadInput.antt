@@ -1,4 +1,4 @@
--- What is kept of an input, as more of it comes.
+-- What is kept of an input, as one call of the reader more brings bytes.
 use Rattle.std.proofs.Common.{◌≡◌, ℕ, List, [], ◌++◌, Option, inl, inr, append_assoc, refl, ap, sym, subst, ◌∙◌}
 use Rattle.std.proofs.lemmas.List.{append-nil}
 use Rattle.s66_program.specs.KeptInput.{IsFull, IsKeptInput, Puts}

@@ -42,7 +42,7 @@ is_yes (No line reason) = false
 abbrev pub verdicts_status : List Document → Status
 verdicts_status ds = if every (λ d. is_yes (verdict d)) ds then Done else Denied
 
--- the verdicts on the documents of which it is the text, and their status
+-- the verdicts on the documents of which it is the text, and their status; 0 if each is yes, else 5
 abbrev pub IsCheckOutput : (texts : Bool) (input text : List ℕ) → Status → Type 0
 IsCheckOutput texts input text status =
     (ds : List Document) × IsText BLOCK_LIMIT input ds × (text ≡ verdict_lines texts 0 ds) × (status ≡ verdicts_status ds)

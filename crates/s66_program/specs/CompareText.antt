@@ -21,6 +21,7 @@ IsViewOutput p view cut input text status =
     (halves : Halves) × (halves_of input ≡ Some halves)
     × ((accepted : Bool) × IsViewOf p view (record { cut = cut; text = halves.old }) (record { cut = cut; text = halves.new }) text accepted × (status ≡ (if accepted then Done else Denied)))
 
+-- 0 if the new one is accepted, else 5
 abbrev pub IsCompareOutput : Profile → (texts cut : Bool) (input text : List ℕ) → Status → Type 0
 IsCompareOutput p texts cut input text status = IsViewOutput p (InLines texts) cut input text status
 

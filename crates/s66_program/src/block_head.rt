@@ -1,3 +1,5 @@
+//! How the first line of a block begins, in whatever subcommand.
+
 ghost use Rattle.std.specs.Prelude.{◌≡◌, ◌++◌, OnOk};
 ghost use Rattle.s66_program.specs.BlockHead.{block_head, timed_line};
 

@@ -1,3 +1,5 @@
+//! What `chart` writes: the chart of each block, with texts and with units if asked for.
+
 ghost use Rattle.std.specs.Prelude.{◌≡◌, ◌++◌, IfOk, OnOk};
 ghost use Rattle.s66_why.specs.Chart.{chart_text};
 ghost use Rattle.s66_program.specs.ChartText.{IsChartOutput, chart_lines};

@@ -1,3 +1,5 @@
+//! What `check` writes: a line with the verdict on each document, and sentences with `--text`.
+
 ghost use Rattle.std.specs.Prelude.{◌≡◌, ◌++◌, map, IfOk, OnOk};
 ghost use Rattle.s66_cert.specs.DocumentParts.{document_of};
 ghost use Rattle.s66_cert.specs.Reads.{RefusesText};

@@ -1,3 +1,5 @@
+//! What `compare` and `page --compare` write of the two sources of an input.
+
 ghost use Rattle.std.specs.Prelude.{◌≡◌, if◌then◌else◌, Bool, IfOk, IfErr};
 ghost use Rattle.s66_answer.specs.declared.outcome.Status.TheVariants.{Denied, Done};
 ghost use Rattle.s66_program.specs.Comparing.{IsCompareRefusal, IsNewRefusal};

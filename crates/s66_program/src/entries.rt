@@ -1,3 +1,5 @@
+//! The name by which a block is entered: its label, or that of the line before it.
+
 ghost use Rattle.std.specs.Prelude.{◌≡◌, [], IfOk};
 ghost use Rattle.s66_program.specs.Entries.{entries_from, entries_of, entry_at, last_name, or_last};
 

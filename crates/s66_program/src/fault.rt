@@ -1,3 +1,5 @@
+//! Why a command failed (`Fault`): the line that standard error gets, and the status.
+
 ghost use Rattle.std.specs.Prelude.{◌≡◌, ◌++◌, ◌<◌, ◌≤◌, codes, decimal, length};
 ghost use Rattle.s66_device.specs.declared.limits.TheConstants.{FAULT_ROOM};
 ghost use Rattle.s66_program.specs.declared.fault.Fault.TheVariants.{Memory};

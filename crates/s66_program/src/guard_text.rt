@@ -1,3 +1,5 @@
+//! What `guard` writes: the source with switches, and what is told of them.
+
 ghost use Rattle.std.specs.Prelude.{◌≡◌, true, IfErr, IfOk};
 ghost use Rattle.s66_isa.specs.declared.profile.Profile.{Profile};
 ghost use Rattle.s66_command.specs.declared.command.Asked.TheVariants.{Guard};

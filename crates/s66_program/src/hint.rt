@@ -1,3 +1,5 @@
+//! The second line of a refusal, which names the way out.
+
 ghost use Rattle.std.specs.Prelude.{◌≡◌};
 ghost use Rattle.s66_program.specs.Hints.{source_way_out, way_out};
 

@@ -1,3 +1,5 @@
+//! What `json` writes: a line for each block, as written or also in the order found.
+
 ghost use Rattle.std.specs.Prelude.{◌≡◌, ◌++◌, IfOk, IfSome, OnOk};
 ghost use Rattle.s66_line.specs.Block.{instrs_of};
 ghost use Rattle.s66_json.specs.Json.{found_data, json_line};

@@ -1,3 +1,5 @@
+//! Limits of reading, of loops and of what is told.
+
 use s66_command::BLOCK_NUMBER_LIMIT;
 use s66_line::LINE_BYTES_LIMIT;
 use s66_source::SOURCE_LINES_LIMIT;

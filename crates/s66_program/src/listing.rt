@@ -1,4 +1,5 @@
-//! What is printed of each block of a source as it was written, one after the other.
+//! What is printed of each block of a source as it was written, one after the other: the loop that `time`, `deps`, `chart`, `why` and
+//! `json` share.
 
 ghost use Rattle.std.specs.Prelude.{◌≡◌, ◌<◌, ◌^◌, ◌++◌, ℕ, List, OnOk, IfOk};
 ghost use Rattle.s66_isa.specs.declared.profile.Profile.{Profile as ProfileOf};

@@ -1,3 +1,5 @@
+//! The loops that branches behind blocks close, and how many words of 60 bits each takes before and after, for `sum --words`.
+
 ghost use Rattle.std.specs.Prelude.{◌≡◌, ◌≤◌, ◌<◌, ◌+◌, ◌^◌, IfOk, IfSome, None, drop, length, reverse};
 ghost use Rattle.s66_source.specs.Printed.{ArePlaced};
 ghost use Rattle.s66_program.specs.Loops.{begin_at, counted, loop_at, loops_of, or_else, start_before, start_of, step_after, word_from};

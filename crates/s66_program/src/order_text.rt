@@ -1,3 +1,5 @@
+//! What `order` writes: the source with its blocks in the best orders found, and which of them stand.
+
 ghost use Rattle.std.specs.Prelude.{◌≡◌, ◌++◌, None, IfOk, replicate};
 ghost use Rattle.s66_isa.specs.declared.profile.Profile.{Profile as ProfileOf};
 ghost use Rattle.s66_line.specs.Block.{Block as BlockOf};

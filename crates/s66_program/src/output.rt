@@ -1,3 +1,5 @@
+//! Which text a command writes for what it reads (`output_for`): one case for each subcommand.
+
 ghost use Rattle.std.specs.Prelude.{◌≡◌, false, true, IfOk, IfErr};
 ghost use Rattle.s66_command.specs.CommandParts.{reads_cut, reads_of};
 ghost use Rattle.s66_command.specs.declared.command.Reads.TheVariants as reads;

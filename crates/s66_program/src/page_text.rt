@@ -1,3 +1,5 @@
+//! What `page` writes: a page of all blocks, with answers and reasons.
+
 ghost use Rattle.std.specs.Prelude.{IfOk};
 ghost use Rattle.s66_answer.specs.SearchWithin.{IsSearchWithin};
 ghost use Rattle.s66_program.specs.PageText.{IsPageOutput, found_part};

@@ -1,3 +1,5 @@
+//! The program (`run_program`): from words, a reader and writers to a status.
+
 ghost use Rattle.std.specs.Prelude.{◌-◌, ◌^◌, ◌<◌, map};
 ghost use Rattle.s66_program.specs.Program.{IsRun};
 

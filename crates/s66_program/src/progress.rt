@@ -1,3 +1,5 @@
+//! The line on a terminal that shows how many blocks are done, once work has taken a second.
+
 use s66_answer::Observer;
 use std::io::Write;
 use std::time::{Clock, Duration, Instant};

@@ -1,3 +1,5 @@
+//! What `prove` writes: the document of the answer to each block.
+
 ghost use Rattle.std.specs.Prelude.{◌≡◌, ◌++◌, IfOk, OnOk};
 ghost use Rattle.s66_cert.specs.Document.{document_text};
 ghost use Rattle.s66_cert.specs.DocumentParts.{document_of};

@@ -1,3 +1,5 @@
+//! Runs a command (`run_command`): reads its profile and its input, makes all text, and only then writes.
+
 ghost use Rattle.std.specs.Prelude.{true, ◌≡◌, ◌-◌, ◌^◌, ◌<◌, IfOk, IfErr, IfSome};
 ghost use Rattle.s66_program.specs.Output.{IsUnder, IsWithinLimits, reads_source};
 ghost use Rattle.s66_program.specs.declared.limits.TheConstants.{SOURCE_FRONT};

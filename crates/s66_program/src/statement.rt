@@ -1,3 +1,5 @@
+//! What a line beside the blocks is for a loop: a branch and where it goes, a word, or the end of the way.
+
 ghost use Rattle.std.specs.Prelude.{ℕ, List, ◌≡◌, map};
 ghost use Rattle.std.specs.Borrow.{Bor};
 ghost use Rattle.s66_source.specs.LeftAlone.{has_operation};

@@ -1,3 +1,5 @@
+//! What is written to standard error: faults, mistakes of the command line, and remarks.
+
 ghost use Rattle.std.specs.Prelude.{◌≡◌, ◌-◌, ◌^◌, ◌<◌, ◌++◌, IfOk, codes, option_map, string_bytes};
 ghost use Rattle.s66_command.specs.ProfileHint.{hint_in_text};
 ghost use Rattle.s66_answer.specs.StatusCode.{status_code};

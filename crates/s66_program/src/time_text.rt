@@ -1,3 +1,5 @@
+//! What `time` writes: the time of each block, and with `--trace` of each instruction.
+
 ghost use Rattle.std.specs.Prelude.{◌≡◌, ◌<◌, ◌++◌, length, IfOk, OnOk};
 ghost use Rattle.s66_line.specs.Block.{instrs_of};
 ghost use Rattle.s66_program.specs.AsWritten.{as_written};

@@ -1,3 +1,5 @@
+//! What `why` writes: what instructions wait for, and why no order is faster than a best one.
+
 ghost use Rattle.std.specs.Prelude.{◌≡◌, ◌++◌, IfOk, IfSome, OnOk};
 ghost use Rattle.s66_line.specs.Block.{instrs_of};
 ghost use Rattle.s66_answer.specs.SearchWithin.{IsSearchWithin};

@@ -1,3 +1,5 @@
+//! How many words of 60 bits an order takes, with the `NO`s that packing fills in.
+
 ghost use Rattle.std.specs.Prelude.{ℕ, ◌≡◌, ◌≤◌, ◌+◌, ◌*◌, length};
 ghost use Rattle.s66_isa.specs.Lists.{Among};
 ghost use Rattle.s66_isa.specs.declared.limits.TheConstants.{BLOCK_LIMIT};

@@ -1,4 +1,4 @@
--- Numbers in a list, and what is said of them one after the other.
+-- Numbers of a list that are said or looked at one after the other in a loop.
 use Rattle.std.proofs.Common.{ℕ, suc, zero, ◌+◌, ◌-◌, ◌≡◌, ◌≤◌, ◌<◌, ◌∙◌, List, [], ◌∷◌, ◌++◌, length, drop, get_or, ap, append_assoc, sym, arith}
 use Rattle.std.proofs.lemmas.List.{at_drop_more, length-drop}
 use Rattle.s66_reasons.specs.Words.{listed, separator}

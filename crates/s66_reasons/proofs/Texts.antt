@@ -1,4 +1,4 @@
--- Rows that are appended piece by piece.
+-- The sentences of a row, of a leaf and of a fact are those of their pieces, appended one after the other.
 use Rattle.std.proofs.Common.{ℕ, suc, ◌+◌, ◌-◌, ◌≡◌, ◌<◌, ◌∙◌, Bool, true, false, true≢false, List, [], ◌∷◌, ◌++◌, codes, drop, get_or, slice_get, Some, length, map, refl, ap, append_assoc, sym, arith}
 use Rattle.std.specs.Prelude.{Result, IfOk}
 use Rattle.std.specs.List.{filter}

@@ -1,4 +1,4 @@
--- To be believed: what the rows of a leaf show of the end.
+-- To be believed: what the rows of a leaf show of the end of all orders that begin with its prefix.
 use Rattle.std.specs.Prelude.{ℕ, ◌+◌, ◌≡◌, ◌≤◌, ◌<◌, ◌⊎◌, List, [], ◌∷◌, ◌++◌, Some}
 use Rattle.s66_isa.specs.Lists.{Among, least, weigh}
 use Rattle.s66_model.specs.Timing.{Problem, row_at, total_of}

@@ -1,3 +1,5 @@
+//! One arc of a longest path, by which it goes on from a moment.
+
 use s66_moments::Moment;
 
 /// An arc from a moment: how many minor cycles it takes at least, and where it leads.

@@ -1,4 +1,5 @@
 //! What is said of a leaf at its prefix.
+//! That depends on its kind: a whole order, a chain, a load, parcels, or by facts.
 
 ghost use Rattle.std.specs.Prelude.{◌≡◌, ◌++◌, true, false, IfNone, IfSome, OnOk};
 ghost use Rattle.s66_moments.specs.Facts.{IsNumber};

@@ -1,5 +1,6 @@
 //! Why no order is faster, in sentences, by a certificate alone: what each leaf of a tree of few splits is checked by, number by
 //! number, or how many splits and facts a larger one has.
+//! Begin at `specs/Reasons.antt`, then `reasons.rt`.
 //!
 //! Nothing here bounds an order: numbers come from the document, and from what the checker computes of it (`s66_checker`, `s66_facts`).
 #![tactic(auto)]

@@ -1,3 +1,6 @@
+//! All that is said of a document (`push_reasons`): the opening, then fact lines and leaves or how many there are, and whether the
+//! order is best.
+
 ghost use Rattle.std.specs.Prelude.{◌≡◌, ◌≤◌, ◌++◌, [], true, OnOk, length};
 ghost use Rattle.s66_isa.specs.declared.limits.TheConstants.{BLOCK_LIMIT};
 ghost use Rattle.s66_model.specs.Tree.{splits};

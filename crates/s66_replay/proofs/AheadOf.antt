@@ -1,4 +1,4 @@
--- Two beginnings: whether they are of one set, and whether one dominates the other.
+-- Two beginnings by the tests of `specs/Dominating.antt`: whether they are of one set, and whether one dominates the other.
 use Rattle.std.proofs.Common.{ℕ, ◌≤◌, ◌≡◌, ◌↔◌, ◌==◌, ◌&&◌, Bool, IsTrue, true, false, true≢false, List, [], ◌∷◌, ◌++◌, length, refl, sym, ap, ◌∙◌, arith, inl, inr, leb, Decides}
 use Rattle.std.proofs.lemmas.Bool.{and_left, and_right, or_cases, eqb-true}
 use Rattle.std.proofs.lemmas.Bool.Decides.{Decides-like, Decides-and, same_from_decides}

@@ -1,4 +1,4 @@
--- What holds of the points that a beginning keeps.
+-- What holds of the points that a beginning keeps: their times fit into a word, and what the last one leaves.
 use Rattle.std.proofs.Common.{ℕ, ◌+◌, ◌-◌, ◌*◌, ◌≤◌, ◌<◌, ◌≡◌, max, List, [], ◌∷◌, length, get_or, reverse, refl, sym, ap, subst, arith}
 use Rattle.std.proofs.lemmas.Bool.{cond_both}
 use Rattle.std.proofs.lemmas.List.{length-reverse}

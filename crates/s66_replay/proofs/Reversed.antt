@@ -1,4 +1,5 @@
--- What of a list its order doesn't matter to.
+-- The greatest, a count or a sum of a list is that of the list turned around: points are kept oldest first, the model has the newest
+-- first.
 use Rattle.std.proofs.Common.{ℕ, ◌+◌, ◌-◌, ◌<◌, ◌≡◌, Bool, List, [], ◌∷◌, length, take, get_or, reverse, refl, sym, ap, arith, ◌∙◌}
 use Rattle.std.proofs.lemmas.List.{reverse-append, take_more, take_all}
 use Rattle.s66_isa.specs.Lists.{greatest, tally, weigh}

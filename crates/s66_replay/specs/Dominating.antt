@@ -1,4 +1,4 @@
--- To be believed: beginnings of one set, as tests that can be computed.
+-- To be believed: when one beginning dominates another of the same set, as tests that can be computed: as written, clamped, and in use.
 use Rattle.std.specs.Prelude.{ℕ, ◌+◌, ◌==◌, ◌&&◌, ◌||◌, Bool, true, false, max, List, [], ◌∷◌, ◌++◌, get_or, nat_le, nat_lt}
 use Rattle.s66_isa.specs.declared.instr.Instr.{Instr}
 use Rattle.s66_isa.specs.declared.profile.Profile.{Profile}
@@ -104,6 +104,7 @@ abbrev pub number_finds_no_later : Problem → Known → List ℕ → List ℕ �
 number_finds_no_later b known name at n =
     finds_no_later (copies b (row_at b n).kind) (points_of b name) (points_of b at) (issue_at_least b known at n) (start_at_least b known at n) (row_at b n)
 
+-- what `DominatesInUse` asks, computed; `issue_at_least` and `start_at_least` say how soon a number comes
 abbrev pub dominates_in_use : Problem → ℕ → Known → List ℕ → List ℕ → Bool
 dominates_in_use b low known name at =
     is_beginning b.block at

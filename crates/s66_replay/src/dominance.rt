@@ -1,5 +1,5 @@
-//! Whether one beginning of an order leaves nothing later than another does. Points are in order, the oldest first, and times are
-//! in minor cycles.
+//! Whether one beginning of an order leaves nothing later than another does, by its points and words. Points are in order, the oldest
+//! first, and times are in minor cycles.
 
 ghost use Rattle.std.specs.Prelude.{◌≡◌, ◌≤◌, reverse};
 ghost use Rattle.s66_model.specs.Dominance.{free_times};

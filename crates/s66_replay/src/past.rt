@@ -1,3 +1,5 @@
+//! What is placed: the points, the words that they leave, and those before each point, so that a pop takes them back.
+
 ghost use Rattle.std.specs.Prelude.{◌≡◌, ◌≤◌, ◌<◌, length};
 
 use crate::point::KeptPoint;

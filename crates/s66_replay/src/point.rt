@@ -1,3 +1,5 @@
+//! An instruction at its place in an order, with its times.
+
 ghost use Rattle.std.specs.Prelude.{◌≡◌, ◌+◌, if◌then◌else◌};
 ghost use Rattle.s66_isa.specs.Table.{memory_pair};
 ghost use Rattle.s66_model.specs.Timing.{busy_at, done_at, end_of};

@@ -1,3 +1,6 @@
+//! The beginning that the checker has reached (`Prefix`): it places a number that is ready, takes the last one off, and tells times and
+//! dominance.
+
 ghost use Rattle.std.specs.Prelude.{◌≡◌, ◌≤◌, length, map};
 ghost use Rattle.s66_isa.specs.Table.{row};
 ghost use Rattle.s66_isa.specs.declared.limits.TheConstants.{BLOCK_LIMIT};

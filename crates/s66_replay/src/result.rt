@@ -1,3 +1,5 @@
+//! A result of a placed instruction, and when its unit is free after its results.
+
 ghost use Rattle.std.specs.Prelude.{◌≡◌, ◌+◌, ◌<◌, ◌^◌, if◌then◌else◌};
 ghost use Rattle.s66_isa.specs.Lists.{greatest};
 ghost use Rattle.s66_model.specs.Timing.{ResultAt, free_after};

@@ -1,4 +1,4 @@
--- SeatRecords: how many are a worker's, and which agree with a summary.
+-- Seat records at a lock: how many are a worker's, and which agree with the summary of what is under it.
 use Rattle.std.proofs.Common.{◌≡◌, ◌≢◌, ℕ, zero, suc, ◌+◌, ◌<◌, ◌≤◌, cond, List, [], ◌∷◌, length, map, All, refl, ap, ◌∙◌, arith}
 use mathlib.Core.Logic.{dite}
 use native.Mathlib.Decide.{ℕ_discrete}

@@ -1,4 +1,4 @@
--- What a deal leaves of seat records.
+-- The seat records that a token keeps when it deals the first of them to a new token.
 use Rattle.std.proofs.Common.{◌≡◌, ℕ, ◌<◌, List, [], ◌∷◌, length, Option, sym, refl, ap, ◌∙◌, arith}
 use Rattle.atomic_table.specs.Table.{Me}
 use Rattle.atomic_table.specs.declared.shared.Seat.{Seat}

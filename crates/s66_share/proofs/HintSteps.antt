@@ -1,4 +1,4 @@
--- Each step of a hint keeps its rule.
+-- Each step of a hint keeps its rule: to read it, to lower it, and to copy a seat.
 use Rattle.std.proofs.Common.{◌≡◌, ℕ, ◌≤◌, List, [], ◌∷◌, ◌++◌, set, get_or, min, sym, refl, ap, subst, arith}
 use mathlib.Core.Option.{some}
 use lib.ListN.{get_elem?}

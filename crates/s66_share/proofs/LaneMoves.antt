@@ -1,4 +1,4 @@
--- Each step of a lane keeps its rule.
+-- Each step of a lane keeps its rule: to put and to take tickets, to deal and to collect passes, and what is learnt from a count.
 use Rattle.std.proofs.Common.{◌≡◌, ◌≢◌, ℕ, zero, suc, ◌+◌, ◌≤◌, List, [], ◌∷◌, ◌++◌, set, sym, refl, ap, subst, ⊎_elim, arith}
 use mathlib.Core.Option.{some, some-injective, some-ne-none}
 use lib.ListN.{get_elem?}

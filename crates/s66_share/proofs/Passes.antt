@@ -1,4 +1,4 @@
--- The passes that a lane deals, one after the other.
+-- The passes that a lane deals to thieves, one after the other, are all it has.
 use Rattle.std.proofs.Common.{◌≡◌, ℕ, ◌+◌, List, [], ◌∷◌, ◌++◌, length, map, All, add-one, sym, refl, ap, subst, ◌∙◌, arith, rules}
 use Rattle.std.proofs.lemmas.List.{map-append, length-append}
 use Rattle.std.proofs.lemmas.List.Elements.{All-append, All-nil}

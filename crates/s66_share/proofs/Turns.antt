@@ -1,4 +1,4 @@
--- Each step of the lock keeps its rule.
+-- Each step of the lock of `src/lock.rt` keeps its rule: to take and to give, to found and to settle, to deal and to collect tokens.
 use Rattle.std.proofs.Common.{◌≡◌, ◌≢◌, ℕ, ◌+◌, ◌<◌, ◌≤◌, inl, inr, eqb, List, [], ◌∷◌, ◌++◌, length, set, get_or, All, Option, Some, None, sym, refl, ap, ◌∙◌, subst, ⊎_elim, arith}
 use mathlib.Core.Option.{some, some-injective}
 use mathlib.Core.Option as maybe

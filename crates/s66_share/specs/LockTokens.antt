@@ -1,4 +1,5 @@
--- Used by contracts: what a clause says of a worker's token.
+-- Used by contracts: what a clause says of a worker's token at a lock: its seat record, whether it has the lock, and what it found
+-- there.
 use Rattle.std.specs.Prelude.{ℕ, ◌≡◌, ◌≤◌, List, [], ◌∷◌, None, Option}
 use Rattle.atomic_table.specs.declared.shared.Seat.{Seat}
 use Rattle.s66_machine.specs.Accounts.{Summary, SeatRecord}

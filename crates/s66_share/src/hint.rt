@@ -1,4 +1,4 @@
-//! A word that only goes down, as the best time of a search. It is the least of what the seats at it keep.
+//! The best time of a search as a word that is read without the lock, and only goes down. It is the least of what the seats at it keep.
 
 use atomic_table::{Play, Seat, Split, Table, TableRule};
 use std::alloc::{AllocError, Global};

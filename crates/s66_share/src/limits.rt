@@ -1,3 +1,5 @@
+//! How long a worker spins at a taken lock, and how many tickets and passes a lane has at first and at most.
+
 /// How often a worker checks whether the lock is free before it lets other threads run. Most turns at the lock are over in less.
 pub const SPINS: u32 = 100;
 

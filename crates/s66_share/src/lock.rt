@@ -1,3 +1,6 @@
+//! A value under a lock of one word (`Lock`): a token takes it and gives it back. Each token knows, by a ghost record, what its worker
+//! did to the value.
+
 ghost use Rattle.std.specs.Prelude.{◌≡◌};
 
 use crate::limits::SPINS;

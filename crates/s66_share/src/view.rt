@@ -1,3 +1,5 @@
+//! What a seat at the lock knows, as a ghost: no value of it is made.
+
 use std::marker::Model;
 
 /// What a seat at the lock knows. No value of it is made.

@@ -1,4 +1,4 @@
--- Operands cut at commas and other bytes, and the numbers that their digits spell.
+-- Operands cut at commas and other bytes, and the numbers that their digits spell, for what an operation covers.
 use Rattle.std.proofs.Common.{◌≡◌, ◌≤◌, ◌<◌, ◌+◌, ◌-◌, ◌*◌, ◌==◌, ℕ, zero, suc, Bool, true, false, if◌then◌else◌, min, Option, None, Some, List, [], ◌∷◌, length, nat_lt, take, drop, get_or, drop-cons, add-one, refl, sym, ap, ◌∙◌, arith}
 use Rattle.std.proofs.lemmas.Bool.{and_parts, false_from_ne_true}
 use Rattle.s66_line.specs.Fields.{after_word, from_operand, from_operation, is_blank, skip_blanks}

@@ -1,4 +1,4 @@
--- A directive's first letter, and upper case.
+-- What a directive is by its first letter, and that it is the same in upper case.
 use Rattle.std.proofs.Common.{◌≡◌, ◌==◌, ◌&&◌, ◌||◌, ℕ, zero, suc, Bool, true, false, not, if◌then◌else◌, List, [], ◌∷◌, drop, take, refl, sym, ap, ap₂, ◌∙◌, lit<}
 use Rattle.s66_line.specs.Fields.{continues, is_comment, operation, upper, upper_byte}
 use Rattle.s66_line.proofs.UpperCase.{kept, upper-twice}

@@ -1,4 +1,4 @@
--- The frame of a source, read line by line, is the definition.
+-- Passing the lines of a source one by one gives its frame (`frame_of`).
 use Rattle.std.proofs.Common.{◌≡◌, ◌≤◌, ◌<◌, ◌&&◌, ◌||◌, not, ℕ, suc, Bool, true, false, if◌then◌else◌, Option, None, Some, List, [], ◌∷◌, ◌++◌, length, map, refl, sym, ap, ap₂, ◌∙◌, append_assoc, arith, nat_lt}
 use Rattle.std.specs.Prelude.{Ok, ◌==◌}
 use Rattle.std.specs.List.{filter}

@@ -1,4 +1,4 @@
--- A line that is not left alone for what stands before it, by whether it would be refused.
+-- The class of a line that is not left alone for what stands before it, by whether it would be refused (`Standing::classify`).
 use Rattle.std.proofs.Common.{◌≡◌, ◌∙◌, ◌&&◌, ◌||◌, Bool, true, false, if◌then◌else◌, List, ℕ, refl, sym, ap}
 use Rattle.s66_line.specs.Class.{by_operation, class_of, is_located}
 use Rattle.s66_line.specs.Fields.{body, continues, is_comment, from_operation}

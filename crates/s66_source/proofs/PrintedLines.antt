@@ -1,4 +1,4 @@
--- The lines of a source, in order, and the blocks of an accepted one.
+-- The lines of a source with their classes, in order, and the blocks of an accepted one, as printing and the frame go over them.
 use Rattle.std.proofs.Common.{◌≡◌, ◌≤◌, ◌+◌, ℕ, suc, Bool, true, false, if◌then◌else◌, Option, None, Some, List, [], ◌∷◌, ◌++◌, length, map, refl, sym, ap, ◌∙◌, subst, inl, inr, arith, nat_lt}
 use Rattle.std.specs.Prelude.{Result, Ok}
 use Rattle.std.proofs.lemmas.Bool.{ltb-false}

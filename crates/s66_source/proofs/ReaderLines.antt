@@ -1,4 +1,4 @@
--- What the lines of a text make, read one after the other.
+-- What the lines of a text make of a reader, one after the other (`take_all`).
 use Rattle.std.proofs.Common.{◌≡◌, ◌&&◌, ℕ, Bool, List, [], ◌∷◌, sym, ap, ◌∙◌}
 use Rattle.std.specs.Prelude.{Result, Ok, Err}
 use Rattle.s66_line.specs.Fields.{lines_from}

@@ -1,4 +1,4 @@
--- What stands in lines whose numbers rise: how much of it up to a line, and what comes next.
+-- Sums over lines whose numbers rise: how much stands up to a line, and what comes next, for the owners of lines.
 use Rattle.std.proofs.Common.{◌≡◌, ◌≤◌, ◌<◌, ◌+◌, ◌||◌, ◌==◌, ℕ, suc, Bool, true, false, if◌then◌else◌, List, [], ◌∷◌, length, nat_lt, refl, sym, ap, ◌∙◌, inl, inr, arith}
 use Rattle.std.proofs.lemmas.Bool.{cases_lt, eqb-false, eqb-true, le-ltb, lt-ltb, ne_eqb}
 use Rattle.s66_isa.specs.Lists.{Among, some_of}

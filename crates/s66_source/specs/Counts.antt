@@ -104,6 +104,8 @@ counting_text line = if nat_lt (length line - length (from_operand line)) 29 the
 
 -- WHAT AN OPERATION COVERS, by its name in upper case and the text from its operand on
 
+-- what an operation covers, by its name in upper case and the text from its operand on: nothing, a number of lines, or all lines to the
+-- next `ENDD`, `ENDIF`, `END` or `IDENT`
 abbrev pub cover_of : List ℕ → List ℕ → Cover
 cover_of name text =
     if is_one_of counted_alone name then cover_by_count (word text)

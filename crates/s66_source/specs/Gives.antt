@@ -1,4 +1,4 @@
--- To be believed: what a call that may run out of memory gives.
+-- To be believed: what a call of this crate gives that may run out of memory.
 use Rattle.std.specs.Prelude.{◌≡◌, Result, Ok, Err}
 use Rattle.s66_source.specs.declared.error.SourceError.{SourceError}
 use Rattle.s66_source.specs.declared.error.SourceError.TheVariants.{OutOfMemory}

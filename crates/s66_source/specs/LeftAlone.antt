@@ -207,7 +207,8 @@ is_doubtful redefined (Pad located) line = is_redefined redefined (from_operatio
 is_doubtful redefined (Instruction located n) line = is_redefined redefined (from_operation line) || is_far line
 is_doubtful redefined class line = false
 
--- or, with `--cut`, what is in doubt
+-- or, with `--cut`, what is in doubt; the line is between switches, or one; or with `--cut` in a definition, covered by a count or an
+-- `ECHO`, continued, a directive, refused, with an operand that isn't seen, or redefined
 abbrev pub is_alone : Bool → Standing → List ℕ → Bool → Bool
 is_alone cut s line continued = is_held cut s line continued || (cut && is_doubtful s.redefined (class_of true line) (body line))
 

@@ -61,6 +61,8 @@ classes_from number run index label after (line ∷ lines) =
     ∷ classes_from (suc number) (run_after run (class_at after line)) (place_after index (class_at after line)) (label_after label (class_at after line) line.bytes)
     (is_code (class_at after line)) lines
 
+-- each line with its number, class, run, the number of instructions of its run before it, and the label of its run. Two lines of code
+-- are in one run if none after the first, up to and with the second, begins a run, and no other line is between them
 abbrev pub classed_lines : Reading → List Line
 classed_lines source = classes_from 1 0 0 [] false (flagged_lines source)
 
@@ -112,6 +114,8 @@ abbrev pub label_in : List Line → List ℕ
 label_in [] = []
 label_in (line ∷ lines) = if line.index == 0 then line.label else []
 
+-- its label (empty but in the first of a run) and its entries, each an instruction with its line and the bytes of that line from the
+-- operation on
 abbrev pub block_of : List Line → Block
 block_of part = record { label = label_in part; entries = map entry_of part }
 

@@ -1,3 +1,5 @@
+//! The text of a block that is printed in another order: its report, and the line of each instruction.
+
 ghost use Rattle.std.specs.Prelude.{ℕ, ◌≡◌, ◌≤◌, ◌++◌, codes, decimal, length, OnOk};
 ghost use Rattle.s66_isa.specs.Lists.{Among};
 ghost use Rattle.s66_line.specs.Fields.{body, trim, is_trailing};

@@ -1,3 +1,5 @@
+//! In which column an operation is printed: column 11, or that of its line in the source.
+
 ghost use Rattle.std.specs.Prelude.{◌≡◌, length, nat_lt, not};
 ghost use Rattle.s66_line.specs.Fields.{body, label_bytes};
 ghost use Rattle.s66_source.specs.Columns.{before_operation};

@@ -1,3 +1,5 @@
+//! How many lines an operation such as `IF`, `SKIP` or `DUP` covers, by the count in its operand.
+
 ghost use Rattle.std.specs.Prelude.{ℕ, List, ◌≡◌, ◌≤◌, map, min, true, Some, None, option_map, length};
 ghost use Rattle.std.specs.Borrow.{Bor};
 ghost use Rattle.s66_isa.specs.Lists.{every};

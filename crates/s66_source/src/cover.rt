@@ -1,3 +1,5 @@
+//! What is still covered by counts and repetitions, from one line to the next. What one operation covers is in `counts.rt`.
+
 ghost use Rattle.std.specs.Prelude.{◌≡◌};
 ghost use Rattle.s66_source.specs.Counts.{repetitions_after};
 

@@ -1,3 +1,5 @@
+//! The frame of a source: the places of its blocks, and all lines that stand beside them, for `compare`.
+
 ghost use Rattle.std.specs.Prelude.{◌≡◌, ◌≤◌, ◌<◌, ◌||◌, ◌&&◌, not, IfOk};
 ghost use Rattle.s66_line.specs.Fields.{from_location};
 ghost use Rattle.s66_source.specs.Frame.{block_part, frame_of};

@@ -1,3 +1,5 @@
+//! The two sources of an input of `compare`, with a line `*S66 NEW` between them.
+
 ghost use Rattle.std.specs.Prelude.{◌≡◌};
 ghost use Rattle.s66_source.specs.Halves.{halves_of, is_new_mark};
 

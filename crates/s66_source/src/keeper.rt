@@ -1,3 +1,6 @@
+//! Prints a source anew (`print_source`): some blocks in other orders, all other lines as they were read. The text of one block is in
+//! `block_text.rt`.
+
 ghost use Rattle.std.specs.Prelude.{◌≡◌, ◌<◌, ◌^◌, true, IfOk};
 ghost use Rattle.s66_source.specs.Keeper.{is_next, itself};
 ghost use Rattle.s66_source.specs.Replaced.{AreGiven, printed_in};

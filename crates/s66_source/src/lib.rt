@@ -1,4 +1,8 @@
-//! Sources: their lines are read into straight-line blocks, and printed with the blocks in other orders.
+//! Sources: their lines are read into straight-line blocks, and printed with the blocks in other orders. Begin at
+//! `specs/LeftAlone.antt`, then `source.rt`; printing begins at `keeper.rt`.
+//!
+//! It promises that a source has the blocks of its definition or is refused at its least wrong line, that what is printed is the
+//! defined text, and that its blocks are the same when it is read again (`read_again_law`).
 #![tactic(auto)]
 
 mod block_text;

@@ -1,3 +1,5 @@
+//! The first line of a text cut off at its newline (`cut_line`), by which all readers of sources go on.
+
 ghost use Rattle.std.specs.Prelude.{◌≡◌, ◌<◌, [], ◌∷◌, IfSome, IfNone, length};
 ghost use Rattle.s66_line.specs.Fields.{lines_from};
 

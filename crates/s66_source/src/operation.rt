@@ -1,3 +1,5 @@
+//! A quick look at an operation's name: whether it may cover, begin or end something, which most don't.
+
 ghost use Rattle.std.specs.Prelude.{ℕ, List, [], ◌∷◌, ◌≡◌, ◌≤◌, ◌==◌, ◌||◌, true, false, bytes_eq, codes};
 ghost use Rattle.s66_isa.specs.Lists.{every};
 ghost use Rattle.s66_line.specs.Fields.{upper, upper_byte, word};

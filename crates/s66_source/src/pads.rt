@@ -1,3 +1,5 @@
+//! The `NO`s of a source: which of them are left out when their run is printed anew.
+
 use std::alloc::{AllocError, Global};
 use std::marker::Model;
 

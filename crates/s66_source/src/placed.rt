@@ -1,3 +1,5 @@
+//! How a block is to be printed: the order, its times, its bound and the splits that are reported.
+
 use arrayvec::ArrayVec;
 use s66_isa::BLOCK_LIMIT;
 use std::marker::Model;

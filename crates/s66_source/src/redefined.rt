@@ -1,4 +1,5 @@
-//! Operations and instructions that a source gives another meaning.
+//! Operations and instructions that a source gives another meaning, anywhere in it, by `MACRO`, `OPSYN`, `OPDEF` and the like: such
+//! lines are left alone with `--cut`.
 
 ghost use Rattle.std.specs.Prelude.{ℕ, List, ◌≡◌, ◌≤◌, ◌<◌, ◌+◌, ◌++◌, ◌==◌, [], ◌∷◌, OnOk, IfSome, IfNone, codes, false, length, map, replicate, take, true};
 ghost use Rattle.std.specs.List.{filter};

@@ -1,3 +1,5 @@
+//! A source that was read: its text, its blocks, and what printing has to know of its lines (`read_source`, `read_source_with`).
+
 ghost use Rattle.std.specs.Prelude.{◌≡◌, [], IfOk};
 ghost use Rattle.s66_source.specs.Source.{classed_lines, blocks_of, source_of};
 ghost use Rattle.s66_source.specs.Gives.{Gives};

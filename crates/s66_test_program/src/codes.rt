@@ -1,3 +1,5 @@
+//! Tests of all octal codes, in upper and in lower case.
+
 use crate::running::{CHART, DEPS, TIME, TRACE, check, check_sum};
 
 /// Each octal code of the table once, and each letter.

@@ -1,3 +1,5 @@
+//! Commands as values, and how a test runs one; for other tests.
+
 ghost use Rattle.std.specs.Prelude.{◌≡◌};
 ghost use Rattle.s66_answer.specs.SearchWithin.{IsSearchWithin};
 ghost use Rattle.s66_program.specs.Output.{IsWithinLimits};

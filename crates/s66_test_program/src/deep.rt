@@ -1,3 +1,5 @@
+//! Tests of `--deep` with few splits: facts show what splits alone don't.
+
 use crate::running::{CHECK, check, run};
 
 /// The next random number, the sum of all and their count: each is stored before the next load.

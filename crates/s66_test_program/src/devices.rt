@@ -1,3 +1,5 @@
+//! Tests of readers and writers that fail at any call, and of those of `std`.
+
 ghost use Rattle.std.specs.Prelude.{◌≡◌, ◌≤◌, ◌-◌, ◌^◌, ◌<◌, None, Some, IfOk};
 
 use crate::running::{CHART, CHECK, DEPS, LINT, ORDER, SUM, TIME, run, run_observed};

@@ -1,3 +1,5 @@
+//! Documents of each version as texts, which other tests alter and check.
+
 /// The document of three multiplies.
 pub const THREE_MULTIPLIES: &str =
     "S66 CERTIFICATE 1\nPROFILE 3 3 4 4 3 10 29 8 3 8 1 1 1 1 2 1 2\nBLOCK 3\nI FX1 X2*X3\nI FX4 X5*X6\nI FX0 X7*X7\nTIME 22\nBOUND 22\nORDER 1 2 3\nS 1 2 3\nS 2 3\nS 3\nT\nS 2\nT\nS 1 3\nS 3\nT\nS 1\nT\nS 1 2\nS 2\nT\nS 1\nT\nEND\n";

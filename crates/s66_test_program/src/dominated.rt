@@ -1,3 +1,5 @@
+//! Tests of dominated leaves: what `check` says of altered names, and what `order` leaves out.
+
 ghost use Rattle.std.specs.Prelude.{◌≤◌};
 ghost use Rattle.s66_model.specs.declared.limits.TheConstants.{WORKERS_LIMIT};
 

@@ -1,3 +1,5 @@
+//! Tests of the line that each fault and each refusal is shown as.
+
 use s66_cert::CertError;
 use s66_program::Fault;
 use s66_source::SourceError;

@@ -1,5 +1,6 @@
 //! Tests of the program: what it writes and returns for words, an input and devices; what `prove` prints, also by several workers, and
 //! what `check` says of it; and of profiles.
+//! Begin at `rows.rt`, then `running.rt`.
 #![tactic(auto)]
 
 #[cfg(test)]

@@ -1,3 +1,5 @@
+//! Tests of the longest sources, and of the memory that they take.
+
 use crate::running::{CHART, CHECK, DEPS, TIME, TRACE, check_sum, run};
 use s66_source::SOURCE_LINES_LIMIT;
 use std::process::Abort;

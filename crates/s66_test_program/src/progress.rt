@@ -1,3 +1,5 @@
+//! Tests of what an observer is told, and of what a terminal shows.
+
 use crate::running::{CHECK, ORDER, run_observed};
 use arrayvec::ArrayVec;
 use s66_device::OverRead;

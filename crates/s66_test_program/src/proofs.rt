@@ -1,3 +1,5 @@
+//! Tests of `prove`, also of large trees and of the longest block, which `check` goes over.
+
 use crate::commands::{PLAIN_CHECK, check_output, prove_by, run};
 use crate::documents::{ONE_LOAD, THREE_MULTIPLIES};
 use crate::rows::STORE_THEN_LOAD;

@@ -1,3 +1,5 @@
+//! Tests of `check --text`: documents, and what is said of each.
+
 use crate::commands::{check_output, plain};
 use crate::documents::{FORCED_PAIRS, LINES_NAMED, ONE_LOAD, THREE_MULTIPLIES};
 use crate::verdicts::altered;

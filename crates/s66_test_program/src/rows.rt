@@ -1,3 +1,5 @@
+//! Runs the rows of `rows/`: words, an input, a status, and what is written. A test of a subcommand is a row there.
+
 use crate::running::{GUARD, LINT, ORDER, ORDER_TRACE, PAGE, TIME, check, check_told, run};
 use crate::verdicts::altered;
 use s66_test_search::{MULTIPLIES, ONE_LOAD, PACKING_GAP};

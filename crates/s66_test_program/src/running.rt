@@ -1,3 +1,5 @@
+//! Runs the program in a test, and compares what it writes and its status.
+
 ghost use Rattle.std.specs.Prelude.{◌-◌, ◌^◌, ◌<◌};
 
 use s66_device::{Feed, OverRead, OverWrite};

@@ -1,3 +1,5 @@
+//! Tests of work that is shared out: the same output by any number of workers, also if memory runs out for some.
+
 ghost use Rattle.std.specs.Prelude.{◌≡◌, ◌*◌, ◌<◌};
 
 use crate::running::run;

@@ -1,3 +1,5 @@
+//! Tests of what `check` says of altered documents, by line and reason.
+
 use crate::commands::{PLAIN_CHECK, check_output, run};
 use crate::documents::{FORCED_PAIRS, LINES_NAMED, ONE_LOAD, THREE_MULTIPLIES};
 use s66_cert::CertError;

@@ -1,3 +1,5 @@
+//! Tests of the command line: the command that words give, and words that give none. Their table is in `words/`.
+
 use crate::commands::{PLAIN, check_output};
 use crate::running::run;
 use s66_program::{Status, command_of};

@@ -1,3 +1,5 @@
+//! Tests that `order` and `prove` give the same by any number of workers.
+
 ghost use Rattle.std.specs.Prelude.{◌≤◌};
 ghost use Rattle.s66_model.specs.declared.limits.TheConstants.{WORKERS_LIMIT};
 

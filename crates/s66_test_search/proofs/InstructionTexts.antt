@@ -1,4 +1,4 @@
--- Each text is one of an instruction.
+-- Texts that pass the test one after the other are all those of instructions.
 use Rattle.std.proofs.Common.{ℕ, ◌+◌, ◌≡◌, ◌≤◌, ◌<◌, ◌∙◌, List, ◌∷◌, inl, inr, length, map, drop, ap, sym, subst, slice_index_or}
 use Rattle.std.proofs.lemmas.List.{at_drop_all, drop_more}
 use Rattle.std.specs.declared.alloc.Global.{Global}

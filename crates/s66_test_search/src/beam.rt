@@ -1,3 +1,5 @@
+//! Tests of the beam search: narrow and wide beams on small blocks.
+
 use crate::blocks::{BEST_TIMES, SIXTEEN};
 use crate::finder::found_by_loads;
 use crate::reading::{block_of, source_of};

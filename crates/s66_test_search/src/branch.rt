@@ -1,3 +1,5 @@
+//! Tests of the best-first search: its orders, its bounds, and the trees that it writes, which the checker goes over.
+
 use crate::blocks::{BEST_TIMES, MULTIPLIES, THREE_BOOLEANS, TWO_BOOLEANS, as_written};
 use crate::finder::{found_at_first, found_below};
 use crate::reading::{block_of, source_of};

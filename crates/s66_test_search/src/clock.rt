@@ -1,3 +1,5 @@
+//! Tests of the clock: the totals of all orders of small blocks, also under another profile, and the words that are counted.
+
 use crate::blocks::{MULTIPLIES, ONE_LOAD, PACKING_GAP, THIRD_ORDER};
 use crate::reading::{block_of, source_of};
 use crate::walk::{Walk, push_ready, undo_last};

@@ -1,3 +1,5 @@
+//! Tests of expansions with dominated leaves, by both rules.
+
 ghost use Rattle.std.specs.Prelude.{◌≡◌};
 ghost use Rattle.s66_isa.specs.Table.{standard};
 ghost use Rattle.s66_line.specs.Block.{instrs_of};

@@ -1,3 +1,5 @@
+//! Tests of what finds fact lines: what loads and pairs show, and that no line that is left is needless. Other tests use its calls.
+
 use crate::blocks::{SIXTEEN, TWENTY, TWENTY_FOUR, TWO_BOOLEANS, TWO_SUMS, as_written};
 use crate::reading::{block_of, source_of};
 use crate::text::{Claimed, NONE, verdict_on};

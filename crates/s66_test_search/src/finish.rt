@@ -1,3 +1,5 @@
+//! Tests of how a ledger is brought to its end that no worker has touched.
+
 use crate::blocks::{SEVEN_ALIKE, THREE_ALIKE};
 use crate::ledger::check_finished;
 use crate::reading::{block_of, source_of};

@@ -1,3 +1,5 @@
+//! Tests of the bounds of small blocks, by values worked out by hand.
+
 use crate::blocks::{MULTIPLIES, ONE_LOAD};
 use crate::reading::{block_of, source_of};
 use s66_bound::Leaf;

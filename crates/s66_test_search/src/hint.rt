@@ -1,3 +1,5 @@
+//! A test of the hint: its word goes down, and never up.
+
 use s66_pool::Hint;
 
 #[test]

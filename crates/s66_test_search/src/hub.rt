@@ -1,3 +1,5 @@
+//! Tests of each call of a hub. Other tests use its calls.
+
 ghost use Rattle.std.specs.Prelude.{◌≡◌, ◌≤◌, All};
 ghost use Rattle.s66_model.specs.declared.limits.TheConstants.{BUDGET_LIMIT};
 

@@ -1,3 +1,5 @@
+//! Tests of lanes: the owner and thieves take each ticket once.
+
 ghost use Rattle.std.specs.Prelude.{◌≡◌, ◌+◌, ◌≤◌, ◌<◌, []};
 
 use crate::blocks::MULTIPLIES;

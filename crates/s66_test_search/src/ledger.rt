@@ -1,3 +1,5 @@
+//! Tests of a ledger: its history, event by event, and its end wherever a search stops. Other tests use its calls.
+
 ghost use Rattle.std.specs.Prelude.{◌≡◌, ◌≤◌};
 ghost use Rattle.s66_model.specs.declared.limits.TheConstants.{BUDGET_LIMIT};
 

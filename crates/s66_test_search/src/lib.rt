@@ -1,5 +1,6 @@
 //! Tests of what is below the program: of lines and sources; of orders, the clock, its marks and bounds; of expansions, the ledger
 //! and the workers of a hub; and of what `--deep` looks at a block with, each by itself.
+//! Begin at `blocks.rt`.
 //!
 //! What isn't a test is the blocks. The tests of the program and the program for the tools use them too.
 #![tactic(auto)]

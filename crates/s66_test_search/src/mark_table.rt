@@ -1,3 +1,5 @@
+//! Tests of a table of marks: what is found in it, kept, settled and forgotten.
+
 ghost use Rattle.std.specs.Prelude.{◌≡◌};
 ghost use Rattle.s66_isa.specs.Table.{standard};
 ghost use Rattle.s66_line.specs.Block.{instrs_of};

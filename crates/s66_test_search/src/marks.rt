@@ -1,3 +1,5 @@
+//! Tests of which beginning dominates which, by marks worked out by hand.
+
 use crate::blocks::{LATE_READER, PACKING_GAP, THREE_ALIKE};
 use crate::reading::{block_of, source_of};
 use crate::walk::push_ready;

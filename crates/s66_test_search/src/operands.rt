@@ -1,3 +1,5 @@
+//! Tests of operands: spellings that each operation takes, and such as it refuses.
+
 use crate::reading::check_reading;
 use std::process::Abort;
 

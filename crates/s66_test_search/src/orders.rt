@@ -1,3 +1,5 @@
+//! Tests of orders: which lists of numbers are legal, and where others fail.
+
 use crate::blocks::ONE_LOAD;
 use crate::reading::{block_of, source_of};
 use s66_dep::{NotLegal, Order};

@@ -1,3 +1,5 @@
+//! Tests of the greatest path of what remains, against the plain form of `plain_paths.rt`.
+
 ghost use Rattle.std.specs.Prelude.{◌≡◌, length};
 ghost use Rattle.s66_line.specs.Block.{instrs_of};
 

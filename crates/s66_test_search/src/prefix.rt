@@ -1,3 +1,5 @@
+//! Tests of the walk of `s66_deep`: its floors, and that it goes from beginning to beginning.
+
 use crate::blocks::{TWO_BOOLEANS, TWO_SUMS};
 use crate::finder::{found_at_first, found_by_loads};
 use crate::reading::{block_of, source_of};

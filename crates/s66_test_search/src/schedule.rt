@@ -1,3 +1,5 @@
+//! Tests of list schedules: which instruction comes next, by start, by issue, and by the longest tail.
+
 use crate::blocks::{MULTIPLIES, ONE_LOAD};
 use crate::reading::{block_of, source_of};
 use s66_isa::Profile;

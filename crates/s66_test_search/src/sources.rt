@@ -1,3 +1,5 @@
+//! Tests of reading: sources, and what each is read as.
+
 use crate::reading::check_reading;
 
 /// Sources by name, and what each is read as.

@@ -1,3 +1,5 @@
+//! A walk through all legal orders of a block that compares the clock with its plain form at each step; for other tests.
+
 ghost use Rattle.std.specs.Prelude.{◌≡◌, ◌++◌, [], ◌∷◌, IsTrue};
 ghost use Rattle.s66_time.specs.Ticking.{problem_of};
 

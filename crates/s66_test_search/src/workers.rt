@@ -1,3 +1,5 @@
+//! Tests of whole searches by several workers: what they find, and that they share the work.
+
 ghost use Rattle.std.specs.Prelude.{◌≤◌};
 ghost use Rattle.s66_model.specs.declared.limits.TheConstants.{BUDGET_LIMIT};
 

@@ -1,4 +1,4 @@
--- What was saved of words comes back.
+-- Words of registers that were saved by a push come back by `put_back`, the last first.
 use Rattle.std.proofs.Common.{max, cond, ◌||◌, ℕ, ◌+◌, ◌≡◌, ◌<◌, List, [], ◌∷◌, ◌++◌, refl, sym, ap, ◌∙◌, set, get_or, length, take, replicate, arith, inl, inr}
 use Rattle.std.proofs.lemmas.List.{set-set, set-get_or, take_more, get_or-replicate, get_or_past, length-replicate}
 use Rattle.std.proofs.Math.Bool.{or-false}

@@ -1,4 +1,4 @@
--- Words that are set to 0.
+-- Words of units that are set to 0 from any state, as a timer begins anew.
 use Rattle.std.proofs.Common.{ℕ, zero, suc, ◌+◌, ◌<◌, ◌≡◌, List, [], ◌∷◌, set, get_or, length, refl, sym, ap, ◌∙◌, arith, ltb, drop, length-take}
 use Rattle.std.proofs.lemmas.Bool.{cond-false, le-ltb}
 use Rattle.std.proofs.lemmas.List.{get_or-drop, get_or-take}

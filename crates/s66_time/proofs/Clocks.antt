@@ -1,4 +1,4 @@
--- The words of a clock after its steps.
+-- The words of a clock after pushes and undoes are those of the points that were pushed.
 use Rattle.std.proofs.Common.{ℕ, ◌+◌, ◌≤◌, ◌<◌, ◌≡◌, Bool, ◌||◌, eqb, true, false, max, List, [], ◌∷◌, ◌++◌, length, take, map, reverse, refl, sym, ap, arith, ◌∙◌, subst, append_assoc, length-append, get_or}
 use Rattle.std.proofs.lemmas.List.{length-map, reverse-append, map_push, append-nil, take_all, take_more}
 use Rattle.std.proofs.Math.Bool.{or-false}

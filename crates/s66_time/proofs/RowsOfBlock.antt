@@ -1,4 +1,4 @@
--- The rows that are worked out once, and the digits of a block's instructions.
+-- The rows that a clock works out once are those of its block's instructions.
 use Rattle.std.proofs.Common.{ℕ, zero, suc, ◌≡◌, ◌≤◌, ◌<◌, List, [], ◌∷◌, refl, ap, sym, ◌∙◌, map, get_or, length, arith, inl, inr}
 use Rattle.std.proofs.lemmas.List.{get_or-map}
 use Rattle.s66_isa.specs.Table.{Instr, Row, row, kind_of, instr_at, idle_instr}

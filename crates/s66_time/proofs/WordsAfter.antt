@@ -1,4 +1,4 @@
--- The registers whose words are after a time, as far as they were looked at.
+-- The registers whose words are after a time, as far as a loop has looked at them (`RegisterWords::after`).
 use Rattle.std.proofs.Common.{ℕ, ◌+◌, ◌≤◌, ◌<◌, ◌≡◌, ◌⊎◌, ◌&&◌, ◌||◌, List, [], get_or, ltb, sym, ap, arith, inl, inr, ◌∙◌}
 use Rattle.std.proofs.lemmas.Bool.{cases_eq, cases_lt, cases_Bool, and_left, and_right, and_from, or_left, lt-ltb, le-ltb}
 use Rattle.s66_isa.specs.Table.{Reg, same_reg, has_reg}

@@ -1,3 +1,9 @@
+//! The clock of a search (`Clock`): the times of a beginning, to which a number is pushed at its end and from which the last is undone.
+//!
+//! It is the scoreboard of the 6600 in a few words: for each register when its result is done and when its readers have started, for
+//! each unit when it is free, and the last issue. A push costs a look at these words alone, whatever was pushed before; an undo puts
+//! back what the push wrote over (`steps.rt`).
+
 ghost use Rattle.std.specs.Prelude.{◌≡◌, map};
 ghost use Rattle.s66_isa.specs.Table.{row};
 ghost use Rattle.s66_line.specs.Block.{instrs_of};

@@ -1,3 +1,5 @@
+//! How many units of each kind a profile has, by the kind's number.
+
 ghost use Rattle.std.specs.Prelude.{ℕ, ◌≡◌, ◌<◌, ◌≤◌, get_or};
 ghost use Rattle.s66_isa.specs.declared.instr.TheConstants.{KIND_COUNT};
 ghost use Rattle.s66_isa.specs.Table.{kind_number, copies_of};

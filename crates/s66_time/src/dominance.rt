@@ -1,4 +1,5 @@
-//! Of two beginnings of the same numbers, which one dominates.
+//! Of two beginnings of the same numbers, which one dominates: every word of its mark is no later, so that each completion of it is
+//! done no later.
 
 ghost use Rattle.std.specs.Prelude.{ℕ, ◌≡◌, ◌↔◌, List, IsTrue};
 ghost use Rattle.s66_model.specs.Timing.{Problem, points_of, next, total_of};

@@ -1,4 +1,7 @@
-//! How an order of a block is packed, and when each of its instructions issues, starts and is done.
+//! How an order of a block is packed, and when each of its instructions issues, starts and is done. Begin at `timed.rt`, which times a
+//! whole order, and `clock.rt`, which times a beginning that grows and shrinks.
+//!
+//! It promises that its times are those of the definition (`s66_model`), whatever was timed or pushed before.
 #![tactic(auto)]
 
 mod clock;

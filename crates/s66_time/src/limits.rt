@@ -1,3 +1,5 @@
+//! Limits of times, and the places of the words of a mark.
+
 use s66_isa::{BLOCK_LIMIT, KIND_COUNT, REGISTER_COUNT};
 
 /// The most minor cycles by which one more instruction lengthens an order.

@@ -1,3 +1,5 @@
+//! The mark of a beginning: all that decides how soon what comes next can be done, in words that can be compared (`dominance.rt`).
+
 ghost use Rattle.std.specs.Prelude.{◌+◌, ◌%◌, ◌≡◌, ◌≤◌, get_or};
 ghost use Rattle.s66_isa.specs.Table.{Reg};
 ghost use Rattle.s66_isa.specs.Registers.{index_of, word_of};

@@ -1,3 +1,6 @@
+//! The words of a clock that aren't of registers or units: memory references, the next parcel and slot, the total, and the set of what
+//! is pushed.
+
 ghost use Rattle.std.specs.Prelude.{ℕ, [], ◌==◌, ◌||◌, ◌≡◌, ◌+◌, ◌≤◌, if◌then◌else◌, max};
 ghost use Rattle.s66_isa.specs.Lists.{greatest, has};
 ghost use Rattle.s66_isa.specs.Table.{touches, stores};

@@ -1,3 +1,5 @@
+//! A word for each register, a minor cycle: when it is written or when its readers have started.
+
 ghost use Rattle.std.specs.Prelude.{ℕ, ◌≡◌, ◌+◌, ◌<◌, ◌≤◌, map, if◌then◌else◌, length, max, nat_lt, take};
 ghost use Rattle.s66_isa.specs.Lists.{greatest};
 ghost use Rattle.s66_isa.specs.Table.{Reg as RegOf, Write as WriteOf, same_reg, has_reg};

@@ -1,3 +1,5 @@
+//! What one push of a clock wrote over, so that it can be undone.
+
 ghost use Rattle.std.specs.Prelude.{◌<◌, ◌≤◌};
 ghost use Rattle.s66_isa.specs.declared.instr.TheConstants.{KIND_COUNT};
 ghost use Rattle.s66_isa.specs.declared.reg.TheConstants.{REGISTER_COUNT};

@@ -1,3 +1,7 @@
+//! All words of a clock together, and the rule by which the next instruction is placed on them: when it issues (its unit and its result
+//! registers are free), starts (its operands are done) and has its results (earlier readers have started). These are the three orders
+//! of conflict of the 6600's scoreboard (J. E. Thornton, Design of a Computer: The Control Data 6600).
+
 ghost use Rattle.std.specs.Prelude.{ℕ, ◌≡◌, ◌+◌, ◌-◌, ◌<◌, ◌≤◌, List, [], ◌∷◌, length, get_or};
 ghost use Rattle.s66_isa.specs.Table.{copies_of, kind_number};
 ghost use Rattle.s66_isa.specs.declared.profile.Profile.{Profile as ProfileOf};

@@ -1,4 +1,4 @@
-//! Searches by workers, their sum, and documents.
+//! Calls for `tools/refused.py` that search by workers, make the document of an answer, read documents, and run `sum`.
 ghost use Rattle.std.specs.Prelude.{◌+◌, ◌^◌, ◌<◌};
 
 use crate::calls::Answered;

@@ -1,4 +1,5 @@
-//! The program for the tools. Its first word says what it does:
+//! The program that tools and benchmarks call, to refuse memory to one call of a library or to measure parts of a search. Begin at
+//! `main.rt`, then `calls.rt` and `modes.rt`. Its first word says what it does:
 //!
 //! - `call` makes one call of the libraries, for `tools/refused.py` to refuse it memory;
 //! - a mode runs parts of a search over the blocks of a source, for `bench/search.py` and `bench/pool.py` to measure.

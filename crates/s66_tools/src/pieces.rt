@@ -1,4 +1,4 @@
-//! Expansions of a block's empty prefix.
+//! Calls for `tools/refused.py` that expand the empty prefix of a block.
 
 use crate::calls::Answered;
 use crate::sources::{block_of, source_of};

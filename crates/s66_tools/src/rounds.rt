@@ -1,3 +1,5 @@
+//! Pushes and undoes of a clock, so often as a mode says, to be measured.
+
 ghost use Rattle.std.specs.Prelude.{◌≡◌, ◌≤◌, [], length};
 ghost use Rattle.s66_line.specs.Block.{instrs_of};
 

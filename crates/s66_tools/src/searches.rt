@@ -1,3 +1,5 @@
+//! Whole searches, by one thread and by workers, to be measured.
+
 ghost use Rattle.std.specs.Prelude.{◌≤◌};
 ghost use Rattle.s66_model.specs.declared.limits.TheConstants.{BUDGET_LIMIT};
 

@@ -1,3 +1,5 @@
+//! A tree of a block's beginnings grown depth first, to be measured.
+
 use s66_isa::Profile;
 use s66_line::Block;
 use s66_node::{Constant, Priority, Walk, schedule_rest};

@@ -1,4 +1,4 @@
--- Lines of a tree that are appended, and that are read one by one.
+-- Lines of a tree appended to those that are kept, and read again one by one.
 use Rattle.std.proofs.Common.{◌≡◌, ℕ, zero, suc, ◌+◌, ◌≤◌, ◌<◌, List, [], ◌∷◌, ◌++◌, length, take, drop, get_or, refl, sym, ap, ◌∙◌, arith, length-append}
 use Rattle.std.proofs.lemmas.List.{take-append-le, drop-append-le, drop-drop, length-drop}
 use Rattle.s66_isa.proofs.Lists.{weigh-append}

@@ -1,3 +1,6 @@
+//! A line of a tree (`TreeLine`), and the lines of a tree in preorder, kept compactly: a mark of eight bytes, the place of its numbers,
+//! and a byte a number. `s66_ledger` and `s66_deep` write them, `s66_cert` prints and reads them, `s66_checker` walks over them.
+
 ghost use Rattle.std.specs.Prelude.{◌≡◌, ◌<◌, ◌+◌, ◌∷◌, drop, length};
 ghost use Rattle.s66_isa.specs.Lists.{some_of};
 ghost use Rattle.s66_tree.specs.Lines.{vertex_of};

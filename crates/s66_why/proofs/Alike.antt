@@ -1,4 +1,4 @@
--- Two results of an instruction in the same register come equally late.
+-- Two results of an instruction in the same register come equally late, so that either may stand for both on a path.
 use Rattle.std.proofs.Common.{ℕ, ◌≡◌, ◌∙◌, ◌&&◌, Bool, true, false, true≢false, cond, leb, ltb, List, [], ◌∷◌, ◌++◌, refl, sym, ap, subst, inl, inr, map}
 use Rattle.std.proofs.lemmas.Bool.{and_parts, leb-true, le-ltb}
 use Rattle.s66_isa.specs.declared.instr.Instr.{Instr}

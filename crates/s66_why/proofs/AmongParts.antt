@@ -1,4 +1,4 @@
--- What is in a list of parts is in one of them.
+-- What is in a list that is joined of parts, as the stretches of all instructions, is in one of the parts.
 use Rattle.std.proofs.Common.{ℕ, ◌≤◌, ◌≡◌, ◌⊎◌, ◌∙◌, List, [], ◌∷◌, ◌++◌, Bool, true, if◌then◌else◌, refl, ap, sym, arith, inl, inr, flat_map, map}
 use Rattle.std.proofs.lemmas.Bool.{cases_Bool, cond-true, cond-false}
 use Rattle.s66_isa.specs.Lists.{Among, greatest, tally}

@@ -1,4 +1,4 @@
--- What is appended to a text, one part after the other.
+-- Rows and numbers appended to the text of a chart in a loop: what one round more adds.
 use Rattle.std.proofs.Common.{ℕ, suc, ◌+◌, ◌-◌, ◌<◌, ◌≡◌, ◌∙◌, List, ◌++◌, ap, append_assoc, arith, flat_map, sym}
 use Rattle.std.specs.List.{range_with_len}
 

@@ -1,4 +1,4 @@
--- No result is done after the last.
+-- No result of an instruction is done after its last one.
 use Rattle.std.proofs.Common.{◌≤◌, cond, arith}
 use Rattle.std.proofs.lemmas.Bool.{cond_both}
 use Rattle.s66_isa.specs.declared.reg.Reg.{Reg}

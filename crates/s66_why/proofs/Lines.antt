@@ -1,4 +1,4 @@
--- Lines of stretches that are appended one after the other, and their sums.
+-- Lines of stretches appended one after the other, and their sums, as `push_all_lines` makes them.
 use Rattle.std.proofs.Common.{ℕ, ◌+◌, ◌<◌, ◌≡◌, List, [], ◌∷◌, ◌++◌, ◌∙◌, ap, arith, append_assoc, flat_map, get_or, length, refl, sym, take, if◌then◌else◌, ◌==◌, ◌-◌}
 use Rattle.std.proofs.lemmas.Grind.{flat_map-append}
 use Rattle.std.proofs.lemmas.List.{append-nil, take_more}

@@ -1,4 +1,4 @@
--- The numbers of stretches and of steps are those of points.
+-- The numbers that stretches and steps have are those of instructions of the block, so they can be printed with their texts.
 use Rattle.std.proofs.Common.{ℕ, zero, suc, ◌+◌, ◌≤◌, ◌<◌, ◌≡◌, ◌∙◌, List, [], ◌∷◌, ◌++◌, ap, arith, drop, get_or, inl, inr, length, length-append, refl, reverse, subst, sym, take}
 use Rattle.std.proofs.lemmas.Bool.{cases_Bool, cond-false, cond-true}
 use Rattle.std.proofs.lemmas.List.{reverse-append, take-append-drop}

@@ -1,4 +1,4 @@
--- How many points a timed order has.
+-- A timed order has as many points as numbers.
 use Rattle.std.proofs.Common.{◌≡◌, [], arith, length, reverse}
 use Rattle.std.proofs.lemmas.List.{length-reverse}
 use Rattle.s66_model.specs.Timing.{points_of}

@@ -1,4 +1,4 @@
--- A run of equal letters is written over the front of others.
+-- A run of equal letters is written over the front of others, as `draw` fills a row of a chart.
 use Rattle.std.proofs.Common.{ℕ, zero, suc, ◌+◌, ◌-◌, ◌<◌, ◌≤◌, ◌≡◌, List, [], ◌++◌, ◌∷◌, min, replicate, drop, map, refl, ap, arith, inl, inr}
 use Rattle.std.proofs.lemmas.Bool.{cases_lt, cases_eq, lt-ltb, le-ltb, le-leb, lt-leb, eq-eqb, ne_eqb}
 use Rattle.std.specs.List.{range_with_len}

@@ -1,4 +1,4 @@
--- Each write of a row has a short latency.
+-- Each result in a row has a short latency, so that times fit into the machine's numbers.
 use Rattle.std.proofs.Common.{ℕ, zero, suc, ◌<◌, ◌≤◌, ◌≡◌, List, [], ◌∷◌, arith, length, get_or, refl, inl, inr, subst, sym}
 use Rattle.s66_isa.specs.Lists.{Among}
 use Rattle.s66_isa.specs.Table.{Write}

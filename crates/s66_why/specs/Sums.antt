@@ -1,4 +1,4 @@
--- Used by contracts alone: the sums of stretches so far.
+-- Used by contracts: the sums of the stretches of each conflict so far, and the line that says them.
 use Rattle.std.specs.Prelude.{ℕ, ◌≤◌, List, ◌++◌, codes, decimal}
 use Rattle.s66_why.specs.declared.stretch.Conflict.{Conflict}
 use Rattle.s66_why.specs.declared.stretch.Conflict.TheVariants.{First, Second, Third}

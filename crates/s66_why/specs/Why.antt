@@ -1,4 +1,6 @@
 -- To be believed: for how long each instruction of a timed order is kept back and what holds it, and the chain of waits that its time comes from.
+--
+-- `FORMATS.md`, under `s66 why`, says from when to when each stretch is, and what is waited for.
 use Rattle.std.specs.Prelude.{ℕ, ◌+◌, ◌-◌, Bool, false, if◌then◌else◌, ◌&&◌, ◌||◌, ◌==◌, not, min, List, [], ◌∷◌, ◌++◌, codes, decimal, flat_map, length, map, nat_lt, replicate, reverse}
 use Rattle.s66_isa.specs.KindNames.{kind_name}
 use Rattle.s66_isa.specs.Lists.{after_blanks, weigh}

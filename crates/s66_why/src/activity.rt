@@ -1,3 +1,5 @@
+//! The letters of a chart, and from when to when an instruction has which.
+
 ghost use Rattle.std.specs.Prelude.{◌≡◌, ◌<◌, length};
 ghost use Rattle.s66_time.specs.TimedOrder.{point_at};
 ghost use Rattle.s66_why.specs.Chart.{activity, filler_activity};

@@ -1,3 +1,5 @@
+//! Which earlier instruction holds one: at its issue, at its start, and for each of its results.
+
 ghost use Rattle.std.specs.Prelude.{◌≡◌, map, reverse};
 ghost use Rattle.s66_isa.specs.Table.{Write as WriteOf};
 ghost use Rattle.s66_why.specs.Why.{lowest, holder, nobody, soonest, first_holder, second_holder, third_holder};

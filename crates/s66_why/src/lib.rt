@@ -1,4 +1,8 @@
 //! Timed orders as pictures, and why their instructions wait: what each waits for, and which waits the time of its order comes from.
+//! Begin at `picture.rt` for charts, and at `specs/Why.antt` and `text.rt` for waits.
+//!
+//! It promises that charts and texts are those of the definitions to the byte; laws say that what an instruction waits for forbids it
+//! to come sooner (`cause_law`), and that a path is one (`path_law`).
 #![tactic(auto)]
 
 mod activity;

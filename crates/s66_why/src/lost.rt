@@ -1,3 +1,5 @@
+//! The sums of how long instructions were kept back, by the order of conflict.
+
 ghost use Rattle.std.specs.Prelude.{ℕ, ◌≡◌, ◌≤◌, ◌+◌, ◌^◌, [], ◌∷◌, length};
 ghost use Rattle.s66_why.specs.Why.{lost};
 ghost use Rattle.s66_why.specs.Sums.{sum_of, AreAtMost};

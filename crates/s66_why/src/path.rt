@@ -1,3 +1,6 @@
+//! The path of waits of an order, from an instruction that waits for nothing to the one that ends last, and what each step adds to the
+//! time. It is followed back from the end, and is the critical path of this one order.
+
 ghost use Rattle.std.specs.Prelude.{◌≡◌, ◌≤◌, length, map, reverse};
 ghost use Rattle.s66_isa.specs.declared.limits.TheConstants.{BLOCK_LIMIT};
 ghost use Rattle.s66_model.specs.Timing.{total};

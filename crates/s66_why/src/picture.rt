@@ -1,3 +1,6 @@
+//! A chart of a timed order, written to any sink (`chart`): a row of letters for each instruction. One row is drawn in `row.rt`; charts
+//! with texts are in `text_chart.rt`.
+
 ghost use Rattle.std.specs.Prelude.{◌≡◌, ◌+◌, ◌-◌, ◌^◌, ◌<◌, ◌≤◌, length};
 ghost use Rattle.s66_device.specs.Devices.{Written};
 ghost use Rattle.s66_model.specs.Timing.{total_of};

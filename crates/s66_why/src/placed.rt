@@ -1,3 +1,5 @@
+//! An instruction at its place in a timed order, with all its times.
+
 ghost use Rattle.std.specs.Prelude.{◌≡◌, ◌+◌, ◌≤◌, ◌==◌, if◌then◌else◌, max, reverse};
 ghost use Rattle.s66_isa.specs.Table.{same_reg};
 ghost use Rattle.s66_model.specs.Timing.{done_at, end_of, readers_wait, writes_reg};

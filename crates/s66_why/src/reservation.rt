@@ -1,3 +1,5 @@
+//! From when until when a unit or a register is held, and how a minor cycle of it is drawn.
+
 ghost use Rattle.std.specs.Prelude.{◌≡◌, ◌≤◌, length, map};
 ghost use Rattle.s66_isa.specs.declared.limits.TheConstants.{BLOCK_LIMIT};
 ghost use Rattle.s66_why.specs.Reservations.{cell, holds, mark, register_reservations, unit_reservation};

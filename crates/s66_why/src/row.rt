@@ -1,3 +1,5 @@
+//! Draws one row of a chart over the front of a page.
+
 ghost use Rattle.std.specs.Prelude.{ℕ, ◌≡◌, ◌+◌, ◌<◌, ◌≤◌, ◌++◌, length, map, take};
 ghost use Rattle.std.specs.List.{range_with_len};
 ghost use Rattle.s66_why.specs.declared.row.TheConstants.{NAME_ROOM, ROW_FRAME};

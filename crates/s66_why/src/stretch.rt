@@ -1,3 +1,6 @@
+//! The stretches in which an instruction is kept back: it can't issue, can't start, or can't hand in a result. These are the three
+//! orders of conflict that Thornton describes.
+
 ghost use Rattle.std.specs.Prelude.{◌≡◌, ◌≤◌, option_to_list, reverse};
 ghost use Rattle.s66_why.specs.Why.{slot, first_stretch, second_stretch, third_stretch};
 

@@ -1,3 +1,6 @@
+//! The text of `why` (`push_why`): a line for each stretch, the path, its steps, and the sums. Also how registers, banks and conflicts
+//! are called.
+
 ghost use Rattle.std.specs.Prelude.{◌≡◌, ◌≤◌, ◌++◌, OnOk, IfOk, flat_map, length, map, reverse};
 ghost use Rattle.s66_isa.specs.declared.limits.TheConstants.{BLOCK_LIMIT};
 ghost use Rattle.s66_line.specs.Block.{instrs_of};

@@ -1,3 +1,5 @@
+//! A chart with the texts of instructions before its rows and a ruler above them (`push_text_chart`).
+
 ghost use Rattle.std.specs.Prelude.{◌≡◌, ◌+◌, ◌*◌, ◌^◌, ◌<◌, ◌≤◌, ◌++◌, OnOk, flat_map, length, replicate};
 ghost use Rattle.std.specs.List.{range_with_len};
 ghost use Rattle.s66_line.specs.Block.{instrs_of};

@@ -1,3 +1,5 @@
+//! Which copy of its unit each instruction takes, where a kind has several.
+
 ghost use Rattle.std.specs.Prelude.{◌≡◌, ◌≤◌, length};
 ghost use Rattle.s66_isa.specs.declared.limits.TheConstants.{BLOCK_LIMIT};
 ghost use Rattle.s66_why.specs.Units.{left_from, taken_from, works_of_kind};

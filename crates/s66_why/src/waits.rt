@@ -1,3 +1,5 @@
+//! All stretches in which one instruction is kept back, in order: until it issues, until it starts, and for each result.
+
 ghost use Rattle.std.specs.Prelude.{◌≡◌, ◌≤◌, ◌+◌, ◌++◌, length, option_to_list, reverse};
 ghost use Rattle.s66_why.specs.Why.{stretches_at};
 

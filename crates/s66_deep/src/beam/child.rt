@@ -1,3 +1,5 @@
+//! A beginning that may be kept: which one it goes on from, by which number, and its merit.
+
 use crate::beam::merit::Merit;
 use s66_dep::Set;
 

@@ -1,4 +1,6 @@
 //! One step of the search: from the beginnings of one length that are kept to those that are one number longer.
+//! All children of the kept beginnings are put in order of merit; those are left out that a better one of the same numbers dominates,
+//! and of the others the first go on.
 
 use crate::beam::child::{Child, Rank};
 use crate::beam::merit::Merit;

@@ -1,3 +1,5 @@
+//! How promising a beginning is: its floor first, and then how far its instructions reach.
+
 use crate::walk::Prefix;
 use s66_isa::KINDS;
 use s66_time::Clock;

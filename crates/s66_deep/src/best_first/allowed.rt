@@ -1,4 +1,8 @@
 //! How late another prefix may leave what the instructions that remain look at.
+//!
+//! One prefix dominates another of the same numbers if it leaves nothing later; but a word may be later as long as no instruction that
+//! remains looks at it so soon. How soon each can look is worked out only where a word is later (`remaining.rt`). It is dominance in
+//! use, which the checker tests anew.
 
 ghost use Rattle.std.specs.Prelude.{◌+◌, ◌<◌, ◌≤◌};
 ghost use Rattle.s66_deep.specs.declared.best_first.allowed.TheConstants.{LANES};

@@ -1,4 +1,5 @@
 //! The uses that begin of one kind of unit, and how long they keep its units.
+//! Some are chosen that show that an order takes too long: energetic reasoning below a prefix.
 
 use crate::work::Work;
 use arrayvec::ArrayVec;

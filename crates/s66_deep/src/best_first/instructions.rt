@@ -1,4 +1,5 @@
 //! What a search knows of a block's instructions.
+//! It is at which register, unit or memory each looks, and which stand before which by the fact lines.
 
 use crate::classes::{Class, Role, those_of, users_of};
 use crate::facts::{Finder, Ground, Precedence};

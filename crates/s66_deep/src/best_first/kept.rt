@@ -1,4 +1,5 @@
 //! The prefixes that may dominate others, to be found by the sets of their numbers.
+//! It is a transposition table: a prefix is compared with those of the same set that were met before.
 
 ghost use Rattle.std.specs.Prelude.{◌≤◌, length};
 ghost use Rattle.s66_deep.specs.declared.limits.TheConstants.{KEPT_LIMIT};

@@ -1,4 +1,5 @@
 //! Loads that close a prefix: units of one kind have so much work for what remains.
+//! The work of each kind is tried after the prefix; the certificate's leaf has the numbers that show it.
 
 use crate::best_first::begun::{Begun, Chosen, choose, numbers_of};
 use crate::best_first::instructions::Instructions;

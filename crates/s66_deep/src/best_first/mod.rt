@@ -1,5 +1,6 @@
 //! Best-first branch and bound: a search of all legal orders of a block that goes on with the most promising prefix first, and
 //! writes why no order takes less than the fastest one that it met.
+//! Begin at `search.rt`.
 
 mod allowed;
 mod begun;

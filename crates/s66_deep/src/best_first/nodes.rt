@@ -1,4 +1,5 @@
 //! The prefixes that a search has met, as the nodes of a tree.
+//! Each has its parent and its fate: open, split, closed or dominated.
 
 use arrayvec::ArrayVec;
 use s66_isa::BLOCK_LIMIT;

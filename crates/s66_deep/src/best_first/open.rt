@@ -1,4 +1,5 @@
 //! The prefixes that are to be split.
+//! They are in a heap, of which the first has the least floor and of equal ones the longest prefix.
 
 use crate::best_first::waits::word;
 use std::alloc::{AllocError, Global};

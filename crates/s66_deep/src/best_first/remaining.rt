@@ -1,4 +1,5 @@
 //! How soon the instructions that remain after a prefix can look at what it leaves them.
+//! Each is timed as if it came next, but not before the parcels of what stands before it.
 
 use crate::best_first::instructions::Instructions;
 use crate::best_first::waits::{READERS_AT, REFERENCES_AT, STORES_AT, UNITS_AT};

@@ -1,3 +1,10 @@
+//! The search itself (`branch`): it takes the open prefix of the least floor, splits it, and closes each child by a path, a load, a
+//! pair that is turned, or a prefix that dominates it.
+//!
+//! It is best-first branch and bound (A. H. Land and A. G. Doig, An automatic method of solving discrete programming problems,
+//! Econometrica 28, 1960): since the least floor comes first, no prefix is split whose floor is above what the best order takes. What
+//! dominates is decided by what remains (`allowed.rt`), so that more prefixes are closed than by a comparison of all times.
+
 ghost use Rattle.std.specs.Prelude.{◌≡◌, ◌≤◌, IfOk};
 ghost use Rattle.s66_line.specs.Block.{instrs_of};
 ghost use Rattle.s66_model.specs.Timing.{total_of};

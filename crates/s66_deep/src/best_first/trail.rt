@@ -1,4 +1,5 @@
 //! A prefix that goes from node to node.
+//! It goes back to the last node that both share, and on from there.
 
 ghost use Rattle.std.specs.Prelude.{◌≡◌};
 ghost use Rattle.s66_isa.specs.declared.limits.TheConstants.{BLOCK_LIMIT};

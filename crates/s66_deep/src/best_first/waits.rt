@@ -1,4 +1,5 @@
 //! What a prefix's clock holds for the instructions that remain, as words in fixed places.
+//! They are 64 words of 16 bits, of registers, readers, memory and units, which are compared eight at a time.
 
 ghost use Rattle.std.specs.Prelude.{◌+◌, ◌<◌};
 ghost use Rattle.s66_deep.specs.declared.best_first.waits.TheConstants.{WORD_COUNT};

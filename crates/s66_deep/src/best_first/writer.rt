@@ -1,4 +1,5 @@
 //! The tree of a search as the lines of a certificate.
+//! The lines are in preorder; a dominated leaf names the line of the node that dominates it.
 
 ghost use Rattle.std.specs.Prelude.{◌≡◌};
 

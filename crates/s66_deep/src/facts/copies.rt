@@ -1,4 +1,5 @@
 //! Copies of what is found.
+//! Finders that go on from another one's lines make them.
 
 use arrayvec::ArrayVec;
 use s66_isa::BLOCK_LIMIT;

@@ -1,4 +1,6 @@
 //! Finds fact lines of a block.
+//! It is the fixed point of two rules: forced pairs (`pairs.rt`) and load lines (`ways.rt`), each tried anew where paths have grown,
+//! until nothing more is found or some path takes the bound.
 
 use crate::facts::copies::{copies_of, copy_of_line};
 use crate::facts::ground::Ground;

@@ -1,4 +1,5 @@
 //! What the instructions of a block need.
+//! It is their rows, how many units there are, and which instructions take each kind.
 
 ghost use Rattle.std.specs.Prelude.{◌≤◌, length};
 ghost use Rattle.s66_isa.specs.declared.limits.TheConstants.{BLOCK_LIMIT};

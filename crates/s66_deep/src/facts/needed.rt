@@ -1,4 +1,8 @@
 //! Which lines a bound needs.
+//! The others are dropped, so that a certificate that is printed has few.
+//!
+//! Parts of the lines are left out and the bound is tried without them: a part that isn't needed goes as a whole, another is divided
+//! into halves. So few lines are tried singly, as in the search for a minimal conflict by division (U. Junker, QuickXplain, AAAI 2004).
 
 use crate::facts::sketch::Sketch;
 use crate::limits::TAKES_LIMIT;

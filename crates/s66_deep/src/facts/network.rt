@@ -1,4 +1,5 @@
 //! The arcs between the moments of a block, without those that a longer path covers, and the longest paths by them.
+//! It is a reduction of what `s66_facts` knows, in which longest paths are followed in one pass over the arcs.
 
 use crate::classes::is_written;
 use crate::facts::ground::Ground;

@@ -1,4 +1,8 @@
 //! Which pairs are forced in all orders that take less than a bound: immediate selection.
+//!
+//! If n stood before m, the longest path to n, what m then waits for n, and the longest path from m to the end would take the bound; so
+//! m stands before n in all faster orders (J. Carlier and E. Pinson, An algorithm for solving the job-shop problem, Management Science
+//! 35, 1989). Here that is tried for parcels, which all instructions share, and for a kind with one unit.
 
 use crate::facts::ground::Ground;
 use crate::facts::network::{Network, Paths};

@@ -1,4 +1,5 @@
 //! The precedence of a block's instructions: which number is known to stand before which.
+//! It has sets in both directions, and an order of the numbers in which each comes after what stands before it.
 
 ghost use Rattle.std.specs.Prelude.{◌≤◌};
 ghost use Rattle.s66_isa.specs.declared.limits.TheConstants.{BLOCK_LIMIT};

@@ -1,4 +1,5 @@
 //! Whether a load may say more than a wait: a quick look, which few loads pass.
+//! An upper bound of what the load line can say tells whether `ways.rt` is worth its time.
 
 use crate::facts::load::Load;
 use crate::facts::sort::sort;

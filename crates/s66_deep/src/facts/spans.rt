@@ -1,4 +1,5 @@
 //! The longest paths between the moments that load lines speak of.
+//! These are the issue and the start of each instruction, the origin and the end.
 
 ghost use Rattle.std.specs.Prelude.{◌≤◌};
 

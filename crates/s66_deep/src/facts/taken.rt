@@ -1,4 +1,5 @@
 //! What is known of a block, and how many lines it took.
+//! Lines are taken only if `Facts` takes them.
 
 ghost use Rattle.std.specs.Prelude.{◌≤◌, ◌<◌, ◌+◌, IsTrue, not, length};
 ghost use Rattle.s66_facts.specs.declared.limits.TheConstants.{FACT_LIMIT};

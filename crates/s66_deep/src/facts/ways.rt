@@ -1,5 +1,10 @@
 //! The load line that says most between two places, by energetic reasoning: what units of a kind have to do there takes so long at
 //! least.
+//!
+//! Of the instructions of a kind between two places some are chosen: those whose use begins so late after the first, and after which so
+//! much is left before the last. How late, the time that units need for their work, and what is left add up to how much later the last
+//! place comes. The best of all such choices is found in time quadratic in their number (energetic reasoning: J. Erschler and P. Lopez;
+//! P. Baptiste, C. Le Pape and W. Nuijten, Constraint-Based Scheduling, 2001).
 
 use crate::facts::load::{Best, Load, Way};
 use crate::facts::shares::Shares;

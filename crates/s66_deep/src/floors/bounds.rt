@@ -1,3 +1,10 @@
+//! The greatest path of what remains after a beginning (`PathBounds`), worked out anew or by ranks as a walk keeps them, and the number
+//! that attains it.
+//!
+//! For each word of a clock, as when a register is done, the path goes on from the instruction that waits for it and has most left to
+//! the end; the greatest of these is a lower bound. It is the critical path through all stages of what remains, by a network that fact
+//! lines make sharper.
+
 use crate::floors::left::Left;
 use crate::floors::tables::PathTables;
 use crate::floors::tails::{Tails, cut_all};

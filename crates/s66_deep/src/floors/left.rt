@@ -1,3 +1,5 @@
+//! What remains after a beginning, as two sets of ranks.
+
 use s66_dep::Set;
 
 /// What remains after a beginning, by rank: a caller keeps it from push to push.

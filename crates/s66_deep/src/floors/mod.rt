@@ -1,5 +1,6 @@
 //! A sharper lower bound of all orders that begin with what a clock has placed: the longest path through what remains, by what
 //! follows each moment. Only that this is safe is proved: what it finds, a certificate shows.
+//! Begin at `bounds.rt`. The checker has its own.
 
 mod bounds;
 mod left;

@@ -1,3 +1,6 @@
+//! What the bound looks up: what follows each stage of each number, and the ranks of those that wait for each register, unit and
+//! memory.
+
 ghost use Rattle.std.specs.Prelude.{ℕ, ◌≤◌, length};
 ghost use Rattle.s66_isa.specs.declared.limits.TheConstants.{BLOCK_LIMIT};
 ghost use Rattle.s66_dep.specs.Ranks.{IsRanking, AreAtMost};

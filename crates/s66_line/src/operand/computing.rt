@@ -1,3 +1,5 @@
+//! The operands of shift, mask, Boolean, arithmetic, normalise and population operations.
+
 ghost use Rattle.std.specs.Prelude.{◌≡◌, ◌≤◌, IfSome};
 ghost use Rattle.s66_line.specs.Operand.{is_octal, x_digit, b_digit, two_x, boolean_operator, boolean, b_and_x, shift, normalise, mask, arithmetic_code, arithmetic, population};
 

@@ -1,3 +1,5 @@
+//! The octal code and the digits i, j and k that an operand chooses.
+
 ghost use Rattle.std.specs.Prelude.{◌≡◌, ◌≤◌};
 ghost use Rattle.s66_isa.specs.Table.{IsCode, instr};
 

@@ -1,4 +1,4 @@
-//! What an operation and its operand spell, both in upper case.
+//! What an operation and its operand spell, both in upper case. Begin at `operation.rt`.
 
 mod computing;
 mod encoding;

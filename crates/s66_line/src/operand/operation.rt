@@ -1,3 +1,6 @@
+//! Which operands an operation takes, by its two letters and its digit, and the instruction of an operation with its operand
+//! (`decode`).
+
 ghost use Rattle.std.specs.Prelude.{◌≡◌, ◌≤◌, IfSome, is_some};
 ghost use Rattle.s66_line.specs.Choices.{IsOfTheTable};
 ghost use Rattle.s66_line.specs.Fields.{upper};

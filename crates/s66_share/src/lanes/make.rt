@@ -1,3 +1,5 @@
+//! Makes a lane: its owner's end, and what others steal with.
+
 ghost use Rattle.std.specs.Prelude.{◌≡◌, ◌≤◌, [], IfOk};
 ghost use Rattle.s66_share.specs.declared.limits.TheConstants.{CAPACITY_LIMIT};
 

@@ -1,3 +1,5 @@
+//! A worker's own lane (`Lane`): it puts tickets in and takes the first out.
+
 use crate::lanes::pass::Pass;
 use crate::lanes::protocol::{Collects, Counts, Deals, Hand, Puts, Rule, Settles, Takes};
 use crossbeam_deque::Worker;

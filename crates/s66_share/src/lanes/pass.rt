@@ -1,3 +1,5 @@
+//! A thief's place at a lane (`Pass`), which says what was stolen with it.
+
 use crate::lanes::protocol::Hand;
 use s66_machine::Ticket;
 use std::marker::Model;

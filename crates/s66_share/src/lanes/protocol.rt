@@ -1,4 +1,5 @@
-//! The rule of a lane, and what is learnt from its calls.
+//! The rule of a lane, as the deque asks for one: each ticket is taken once, by its owner or with a pass. And what is learnt from each
+//! call.
 
 use crossbeam_deque::protocol::{Join, Lesson, Outcome, Protocol, Split};
 use s66_machine::Ticket;

@@ -1,3 +1,5 @@
+//! What others steal with from a worker's lane (`Thief`): each try takes the first ticket, or nothing.
+
 use crate::lanes::pass::Pass;
 use crate::lanes::protocol::{Hand, Rule, Takes};
 use crossbeam_deque::{Steal, Stealer};

@@ -1,3 +1,5 @@
+//! Rows of `chart`, `chart --text` and `chart --units`: a source, and the picture to the byte.
+
 use crate::rows::Row;
 use crate::running::CHART;
 use s66_test_search::{ONE_LOAD, PACKING_GAP, THIRD_ORDER};

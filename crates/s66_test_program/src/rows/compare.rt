@@ -1,3 +1,5 @@
+//! Rows of `compare`: pairs of sources, what is said of their blocks, and the status.
+
 use crate::rows::Row;
 use crate::running::{COMPARE, COMPARE_CUT, COMPARE_TEXT, PAIRS};
 

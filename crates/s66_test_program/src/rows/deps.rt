@@ -1,3 +1,5 @@
+//! Rows of `deps` and `deps --text`: sources with each sort of dependence.
+
 use crate::rows::{B0, Row, STORE_THEN_LOAD, UNPACK_THEN_SHIFT};
 use crate::running::DEPS;
 use s66_test_search::ONE_LOAD;

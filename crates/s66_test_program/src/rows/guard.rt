@@ -1,3 +1,5 @@
+//! Rows of `guard`: sources, and these with switches around what is in danger.
+
 use crate::rows::Row;
 use crate::running::GUARD;
 use s66_test_search::ONE_LOAD;

@@ -1,3 +1,5 @@
+//! Rows of `json`: a block's line as written and as found, to the byte.
+
 use crate::rows::Row;
 use crate::running::JSON;
 use s66_test_search::ONE_LOAD;

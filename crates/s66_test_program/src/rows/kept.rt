@@ -1,3 +1,5 @@
+//! Rows of `order` where some blocks stand, as with `--keep` and `--block`.
+
 use crate::rows::{MIXED_SOURCE, Row};
 use crate::running::ORDER;
 

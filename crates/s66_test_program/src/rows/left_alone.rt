@@ -1,3 +1,5 @@
+//! Rows of lines that are left alone, by switches and with `--cut`.
+
 use crate::rows::Row;
 use crate::running::{LINT, ORDER};
 

@@ -1,3 +1,5 @@
+//! Rows of `lint`: a source for each rule, and the lines that are listed.
+
 use crate::rows::{MIXED_SOURCE, Row};
 use crate::running::LINT;
 use s66_test_search::ONE_LOAD;

@@ -1,3 +1,5 @@
+//! Rows of `order`: sources, and these with their blocks in best orders; also with `--deep`, where each kind of search decides.
+
 use crate::rows::{MIXED_SOURCE, Row, STORE_THEN_LOAD};
 use crate::running::{CHECK, ORDER, ORDER_TRACE};
 use s66_test_search::{MULTIPLIES, ONE_LOAD, THIRD_ORDER};

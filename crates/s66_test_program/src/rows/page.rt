@@ -1,3 +1,5 @@
+//! Rows of `page`: how a page ends, and what no page may have.
+
 use crate::rows::Row;
 use crate::running::{PAGE, PAIRS};
 use s66_test_search::{MULTIPLIES, ONE_LOAD};

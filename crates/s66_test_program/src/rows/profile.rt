@@ -1,3 +1,5 @@
+//! Rows of `--profile`: what a text sets, and texts that give none, with what is wrong in them.
+
 use crate::rows::Row;
 use crate::running::CHECK;
 use s66_test_search::{MULTIPLIES, ONE_LOAD};

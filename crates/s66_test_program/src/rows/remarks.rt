@@ -1,3 +1,5 @@
+//! Rows of what standard error gets after a success, of any subcommand.
+
 use crate::rows::Row;
 use crate::running::{CHECK, COMPARE, COMPARE_CUT, DEPS, ORDER, SUM, TIME, WHY};
 use s66_test_search::ONE_LOAD;

@@ -1,3 +1,5 @@
+//! Rows of `sum`, also with the trace and with words and loops.
+
 use crate::rows::{MIXED_SOURCE, Row};
 use crate::running::SUM;
 use s66_test_search::{MULTIPLIES, THREE_ALIKE};

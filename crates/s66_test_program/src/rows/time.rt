@@ -1,3 +1,5 @@
+//! Rows of `time` and `time --trace`: what blocks of each sort take.
+
 use crate::rows::{B0, MIXED_SOURCE, Row, STORE_THEN_LOAD, UNPACK_THEN_SHIFT};
 use crate::running::{TIME, TRACE};
 use s66_test_search::{MULTIPLIES, ONE_LOAD, PACKING_GAP, THIRD_ORDER};

@@ -1,3 +1,5 @@
+//! Rows of `why`: each conflict, the path and the sums, and why no order is faster.
+
 use crate::rows::{Row, STORE_THEN_LOAD};
 use crate::running::WHY;
 use s66_test_search::{MULTIPLIES, ONE_LOAD, PACKING_GAP, THIRD_ORDER};

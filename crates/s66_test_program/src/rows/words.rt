@@ -1,3 +1,5 @@
+//! Rows of the command line: `prove` and `check` by words of their own, and words that are refused.
+
 use crate::rows::{Row, STORE_THEN_LOAD};
 use crate::running::CHECK;
 

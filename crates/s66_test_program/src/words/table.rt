@@ -1,3 +1,5 @@
+//! The table of words, each with the command that it asks for.
+
 use crate::commands::{PLAIN, STYLE, TRACED};
 use s66_model::{Options, Rule};
 use s66_program::{Asked, Command, OrderStyle, Strategy, SumStyle};
