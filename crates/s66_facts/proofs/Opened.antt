@@ -1,5 +1,5 @@
 -- What was known before what is supposed, as steps are taken.
-use Rattle.std.proofs.Common.{ℕ, ◌+◌, ◌≤◌, ◌≡◌, Bool, true, false, if◌then◌else◌, List, [], ◌∷◌, ◌++◌, length, map, refl, sym, ap, arith, inl, inr, subst, ◌∙◌, Option, Some, None}
+use Rattle.std.proofs.Common.{ℕ, ◌+◌, ◌≤◌, ◌≡◌, Bool, true, false, if◌then◌else◌, List, [], ◌∷◌, ◌++◌, length, sym, ap, arith, subst, ◌∙◌, Option, Some, None}
 use Rattle.s66_model.specs.Timing.{Problem}
 use Rattle.s66_moments.specs.declared.fact_line.FactLine.TheVariants.{Pair, Load}
 use Rattle.s66_moments.specs.declared.fact_line.LoadLine.{LoadLine}
@@ -10,7 +10,7 @@ use Rattle.s66_moments.proofs.SupposedLines.{MaySuppose, supposed-parts}
 use Rattle.s66_facts.specs.declared.supposing.OpenSupposition.{OpenSupposition}
 use Rattle.s66_facts.specs.Marked.{before_in}
 use Rattle.s66_facts.specs.Ground.{Ground, known_of}
-use Rattle.s66_facts.specs.Supposing.{IsSupposition, IsOpen}
+use Rattle.s66_facts.specs.Supposing.{IsSupposition, MayBeOpen}
 
 -- HOW MANY LOADS are known
 
@@ -39,7 +39,7 @@ supposition-more b other steps more s same le is =
       loads = omega (arith, is.loads, le);
     })
 
-pub open-more : (b other : Problem) (steps more : ℕ) (supposed : Option OpenSupposition) → other ≡ b → steps ≤ more → IsOpen b steps supposed → IsOpen other more supposed
+pub open-more : (b other : Problem) (steps more : ℕ) (supposed : Option OpenSupposition) → other ≡ b → steps ≤ more → MayBeOpen b steps supposed → MayBeOpen other more supposed
 open-more b other steps more None same le is = is
 open-more b other steps more (Some s) same le is = supposition-more b other steps more s same le is
 
@@ -56,7 +56,3 @@ new-open g old other bound steps m n same problem may few =
       turned = ap (λ (k : Ground). before_in k.marks n m) same ∙ parts.off_back;
       loads = omega (arith, ap (λ (k : Ground). length k.loads) same, few);
     })
-
--- the one that is open
-pub is-open : (b : Problem) (steps : ℕ) (supposed : Option OpenSupposition) (s : OpenSupposition) → supposed ≡ Some s → IsOpen b steps supposed → IsSupposition b steps s
-is-open b steps supposed s is open = subst (λ o. IsOpen b steps o) is open

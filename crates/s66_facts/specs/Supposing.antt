@@ -16,8 +16,8 @@ pub record Grounds : Type 0 where
 abbrev pub supposition_of : OpenSupposition → Supposition
 supposition_of s = record { first = s.first; second = s.second; outer = known_of s.outer }
 
-abbrev pub standing_of : Grounds → Standing
-standing_of g = record { known = known_of g.ground; supposed = option_map supposition_of g.supposed }
+abbrev pub standing_in : Grounds → Standing
+standing_in g = record { known = known_of g.ground; supposed = option_map supposition_of g.supposed }
 
 -- two numbers of which neither was known to stand before the other
 pub record IsSupposition (b : Problem) (steps : ℕ) (s : OpenSupposition) : Type 0 where
@@ -28,5 +28,5 @@ pub record IsSupposition (b : Problem) (steps : ℕ) (s : OpenSupposition) : Typ
   pub turned : before_in s.outer.marks s.second s.first ≡ false
   pub loads : length s.outer.loads ≤ steps
 
-abbrev pub IsOpen : Problem → ℕ → Option OpenSupposition → Type 0
-IsOpen b steps supposed = IfSome supposed (IsSupposition b steps)
+abbrev pub MayBeOpen : Problem → ℕ → Option OpenSupposition → Type 0
+MayBeOpen b steps supposed = IfSome supposed (IsSupposition b steps)

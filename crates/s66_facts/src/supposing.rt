@@ -28,13 +28,13 @@ pub struct Supposing {
 
 impl Model for Supposing {
     ghost use Rattle.std.specs.Prelude.{◌≤◌, length};
-    ghost use Rattle.s66_facts.specs.Supposing.{Grounds, IsOpen};
+    ghost use Rattle.s66_facts.specs.Supposing.{Grounds, MayBeOpen};
 
     ghost Value = { Grounds };
 
     ghost view = { λ s. record { ground = s.facts; supposed = s.supposed; steps = s.steps } };
 
-    ghost invariant = { λ s. IsOpen s.facts.problem s.steps s.supposed × (length s.facts.loads ≤ s.steps) };
+    ghost invariant = { λ s. MayBeOpen s.facts.problem s.steps s.supposed × (length s.facts.loads ≤ s.steps) };
 }
 
 impl Supposing {
@@ -42,13 +42,13 @@ impl Supposing {
     ghost use Rattle.s66_moments.specs.Suppositions.{standing_first, with_step, may_be_supposed, is_late, is_step_taken, are_steps_taken, standing_after};
     ghost use Rattle.s66_moments.specs.declared.fact_line.FactStep.TheVariants.{Fact, Suppose, Refuted};
     ghost use Rattle.s66_facts.specs.Ground.{known_of};
-    ghost use Rattle.s66_facts.specs.Supposing.{standing_of};
+    ghost use Rattle.s66_facts.specs.Supposing.{standing_in};
 
     /// What is known of a block under a profile before the first step.
     pub fn new(block: &[Instr], profile: &Profile) -> Supposing
         requires { length block.now ≤ BLOCK_LIMIT }
         ensures problem { result.ground.problem ≡ record { block = block.now; profile = profile.now } }
-        ensures standing { standing_of result ≡ standing_first result.ground.problem }
+        ensures standing { standing_in result ≡ standing_first result.ground.problem }
         ensures steps { result.steps ≡ 0 }
     {
         Supposing {
@@ -63,7 +63,7 @@ impl Supposing {
         requires room { self.old.steps < FACT_LIMIT }
         ensures taken { result ≡ is_taken self.old.ground.problem bound (known_of self.old.ground) line.now }
         ensures problem { self.new.ground.problem ≡ self.old.ground.problem }
-        ensures standing { IsTrue result → standing_of self.new ≡ with_step (standing_of self.old) (Fact line.now) }
+        ensures standing { IsTrue result → standing_in self.new ≡ with_step (standing_in self.old) (Fact line.now) }
         ensures steps { self.new.steps ≡ self.old.steps + 1 }
     {
         self.steps += 1;
@@ -91,7 +91,7 @@ impl Supposing {
         ensures taken { result ≡ (not (is_some self.old.supposed) &&
             may_be_supposed self.old.ground.problem (known_of self.old.ground) first second) }
         ensures problem { self.new.ground.problem ≡ self.old.ground.problem }
-        ensures standing { IsTrue result → standing_of self.new ≡ with_step (standing_of self.old)
+        ensures standing { IsTrue result → standing_in self.new ≡ with_step (standing_in self.old)
             (Suppose first second) }
         ensures steps { self.new.steps ≡ self.old.steps }
     {
@@ -114,7 +114,7 @@ impl Supposing {
         ensures taken { result ≡
             (is_some self.old.supposed && is_late self.old.ground.problem bound (known_of self.old.ground)) }
         ensures problem { self.new.ground.problem ≡ self.old.ground.problem }
-        ensures standing { IsTrue result → standing_of self.new ≡ with_step (standing_of self.old) Refuted }
+        ensures standing { IsTrue result → standing_in self.new ≡ with_step (standing_in self.old) Refuted }
         ensures steps { self.new.steps ≡ self.old.steps }
     {
         if !self.facts.is_late_for(bound) {
@@ -131,9 +131,9 @@ impl Supposing {
     /// Takes a step if it may be taken, and returns whether it may. A fact line has to be shown by what is known and supposed.
     pub fn take(&mut self, bound: u32, step: &FactStep) -> bool
         requires room { self.old.steps < FACT_LIMIT }
-        ensures taken { result ≡ is_step_taken self.old.ground.problem bound (standing_of self.old) step.now }
+        ensures taken { result ≡ is_step_taken self.old.ground.problem bound (standing_in self.old) step.now }
         ensures problem { self.new.ground.problem ≡ self.old.ground.problem }
-        ensures standing { IsTrue result → standing_of self.new ≡ with_step (standing_of self.old) step.now }
+        ensures standing { IsTrue result → standing_in self.new ≡ with_step (standing_in self.old) step.now }
         ensures steps { self.new.steps ≤ self.old.steps + 1 }
     {
         match step {
@@ -146,9 +146,9 @@ impl Supposing {
     /// Takes steps one after the other up to the first that may not be taken, and returns whether all may.
     pub fn take_all(&mut self, bound: u32, steps: &[FactStep]) -> bool
         requires room { self.old.steps + length steps.now ≤ FACT_LIMIT }
-        ensures taken { result ≡ are_steps_taken self.old.ground.problem bound (standing_of self.old) steps.now }
+        ensures taken { result ≡ are_steps_taken self.old.ground.problem bound (standing_in self.old) steps.now }
         ensures problem { self.new.ground.problem ≡ self.old.ground.problem }
-        ensures standing { IsTrue result → standing_of self.new ≡ standing_after (standing_of self.old) steps.now }
+        ensures standing { IsTrue result → standing_in self.new ≡ standing_after (standing_in self.old) steps.now }
     {
         for step in steps {
             if !self.take(bound, step) {

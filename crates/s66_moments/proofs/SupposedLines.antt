@@ -15,7 +15,7 @@ use Rattle.s66_moments.specs.Paths.{IsStep, Leads}
 use Rattle.s66_moments.specs.Networks.{same_moment}
 use Rattle.s66_moments.specs.FactLines.{Line, fact_of, IsRefuted, AreFounded, facts_after}
 use Rattle.s66_moments.specs.Known.{Known, line_of, is_number, is_taken, are_taken, known_after, with_line, plus, span, arcs_of}
-use Rattle.s66_moments.specs.Suppositions.{Supposition, Standing, standing_by, standing_first, with_step, standing_after, may_be_supposed, is_late_at, is_late_through, is_late_load, is_late, is_step_taken, are_steps_taken, shown_by, lines_of}
+use Rattle.s66_moments.specs.Suppositions.{Supposition, Standing, standing_by, standing_first, with_step, standing_after, may_be_supposed, is_late_at, is_late_through, is_late_load, is_late, is_step_taken, are_steps_taken, shown_by, shown_by_all}
 use Rattle.s66_moments.proofs.MoreArcs.{same_moment-true}
 use Rattle.s66_moments.proofs.NextLeaves.{path-join, waits-join}
 use Rattle.s66_moments.proofs.Spans.{plus-some}
@@ -159,12 +159,12 @@ module _ (b : Problem) (bound : ℕ) where
   -- ALL STEPS
 
   steps-go : (base : List SomeFact) (standing : Standing) (steps : List FactStep) → Stands base standing → are_steps_taken b bound standing steps ≡ true →
-      AreFounded b bound base (lines_of b standing steps) × Stands (facts_after base (lines_of b standing steps)) (standing_after standing steps)
+      AreFounded b bound base (shown_by_all b standing steps) × Stands (facts_after base (shown_by_all b standing steps)) (standing_after standing steps)
   steps-go base standing [] stands h = (tt, stands)
   steps-go base standing (step ∷ steps) stands h =
       let (here, past) = and_parts (is_step_taken b bound standing step) _ h in
       let lines : List Line = shown_by b standing step in
-      let more : List Line = lines_of b (with_step standing step) steps in
+      let more : List Line = shown_by_all b (with_step standing step) steps in
       let (founded, then) = step-goes base standing step stands here in
       let (founded2, last) = steps-go (facts_after base lines) (with_step standing step) steps then past in (
         founded-append b bound base lines more founded founded2,
@@ -172,7 +172,7 @@ module _ (b : Problem) (bound : ℕ) where
       )
 
   pub after-stands : (steps : List FactStep) → are_steps_taken b bound (standing_first b) steps ≡ true →
-      AreFounded b bound [] (lines_of b (standing_first b) steps) × Stands (facts_after [] (lines_of b (standing_first b) steps)) (standing_after (standing_first b) steps)
+      AreFounded b bound [] (shown_by_all b (standing_first b) steps) × Stands (facts_after [] (shown_by_all b (standing_first b) steps)) (standing_after (standing_first b) steps)
   after-stands steps h = steps-go [] (standing_first b) steps (record { facts = []; sound = first-sound b; goes_back = refl }) h
 
   -- where no supposition is open, what is known is known of all orders
@@ -191,6 +191,6 @@ pub plain-known : (known : Known) (lines : List FactLine) → standing_after (st
 plain-known known [] = refl
 plain-known known (line ∷ lines) = plain-known (with_line known line) lines
 
-pub plain-lines : (b : Problem) (known : Known) (lines : List FactLine) → lines_of b (standing_by known) (map Fact lines) ≡ map (line_of b) lines
+pub plain-lines : (b : Problem) (known : Known) (lines : List FactLine) → shown_by_all b (standing_by known) (map Fact lines) ≡ map (line_of b) lines
 plain-lines b known [] = refl
 plain-lines b known (line ∷ lines) = ap (λ rest. line_of b line ∷ rest) (plain-lines b (with_line known line) lines)

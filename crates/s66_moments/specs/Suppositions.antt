@@ -36,19 +36,19 @@ with_pair_known known m n = record { before = with_pair known.before m n; loads 
 
 -- WHAT IS KNOWN after steps
 
--- the other way round
+-- n stands before m, to show that m stands before n
 abbrev pub supposing : Known → ℕ → ℕ → Standing
 supposing known m n = record { known = with_pair_known known n m; supposed = Some (record { first = m; second = n; outer = known }) }
 
 -- what was known when it began, and what it shows
-abbrev pub ended : Standing → Option Supposition → Standing
-ended standing None = standing
-ended standing (Some s) = standing_by (with_pair_known s.outer s.first s.second)
+abbrev pub after_end : Standing → Option Supposition → Standing
+after_end standing None = standing
+after_end standing (Some s) = standing_by (with_pair_known s.outer s.first s.second)
 
 abbrev pub with_step : Standing → FactStep → Standing
 with_step standing (Fact line) = record { known = with_line standing.known line; supposed = standing.supposed }
 with_step standing (Suppose m n) = supposing standing.known m n
-with_step standing Refuted = ended standing standing.supposed
+with_step standing Refuted = after_end standing standing.supposed
 
 abbrev pub standing_after : Standing → List FactStep → Standing
 standing_after standing [] = standing
@@ -76,7 +76,7 @@ is_late_load bound load = same_moment load.from Origin && same_moment load.to En
 abbrev pub is_late : Problem → ℕ → Known → Bool
 is_late b bound known = some_of (is_late_through b (arcs_of b known) bound) (numbers b.block) || some_of (is_late_load bound) known.loads
 
--- a supposition begins where none is open, and ends one that is, where no order takes less
+-- a line by what is known and supposed; a supposition begins where none is open, and one that is ends where no order takes less
 abbrev pub is_step_taken : Problem → ℕ → Standing → FactStep → Bool
 is_step_taken b bound standing (Fact line) = is_taken b bound standing.known line
 is_step_taken b bound standing (Suppose m n) = not (is_some standing.supposed) && may_be_supposed b standing.known m n
@@ -101,6 +101,6 @@ shown_by b standing (Fact line) = shown_by_line standing.supposed (line_of b lin
 shown_by b standing (Suppose m n) = []
 shown_by b standing Refuted = shown_by_end standing.supposed
 
-abbrev pub lines_of : Problem → Standing → List FactStep → List Line
-lines_of b standing [] = []
-lines_of b standing (step ∷ steps) = shown_by b standing step ++ lines_of b (with_step standing step) steps
+abbrev pub shown_by_all : Problem → Standing → List FactStep → List Line
+shown_by_all b standing [] = []
+shown_by_all b standing (step ∷ steps) = shown_by b standing step ++ shown_by_all b (with_step standing step) steps

@@ -3,7 +3,7 @@ use Rattle.s66_model.specs.Timing.{Problem}
 use Rattle.s66_moments.specs.declared.fact_line.FactStep.{FactStep}
 use Rattle.s66_moments.specs.Facts.{Fact}
 use Rattle.s66_moments.specs.FactLines.{facts_after}
-use Rattle.s66_moments.specs.Suppositions.{Standing, standing_first, standing_after, are_steps_taken, lines_of}
+use Rattle.s66_moments.specs.Suppositions.{Standing, standing_first, standing_after, are_steps_taken, shown_by_all}
 use Rattle.s66_moments.proofs.KnownLines.{IsSound, arcs-steps, arcs-own, arcs-rise, next-too_late, turned-too_late, span-tail}
 use Rattle.s66_moments.proofs.LoadLeaves.{loaded-closed}
 use Rattle.s66_moments.proofs.Turns.{turn-comes}
@@ -11,7 +11,7 @@ use Rattle.s66_moments.proofs.SupposedLines.{Stands, after-stands, closed-sound}
 use Rattle.s66_moments.proofs.suppositions.supposition_law.Goals as goal
 
 abbrev facts : Problem → List FactStep → List Fact
-facts b steps = facts_after [] (lines_of b (standing_first b) steps)
+facts b steps = facts_after [] (shown_by_all b (standing_first b) steps)
 
 abbrev after : Problem → List FactStep → Standing
 after b steps = standing_after (standing_first b) steps
