@@ -2,6 +2,7 @@
 use Rattle.std.proofs.Common.{ℕ, suc, ◌≡◌, ◌↔◌, true, false, true≢false, cond, List, [], ◌∷◌, Option, None, Some, refl, sym, ap, inl, inr}
 use Rattle.std.specs.Prelude.{is_some}
 use Rattle.std.proofs.lemmas.Bool.{cases_Bool, and_parts}
+use Rattle.std.proofs.lemmas.Option.{none-some}
 use Rattle.s66_moments.specs.declared.fact_line.FactStep.{FactStep}
 use Rattle.s66_moments.specs.Facts.{Fact}
 use Rattle.s66_moments.specs.FactLines.{Line, AreFounded, facts_after}
@@ -18,14 +19,14 @@ use Rattle.s66_checker.specs.KeptKnown.{AreTaken}
 closed-yes : (supposed : Option Supposition) (begun : ℕ) (later : Verdict) (time bound : ℕ) →
     (cond (is_some supposed) (No begun fault.Fact) later ≡ Yes time bound) ↔ ((supposed ≡ None) × (later ≡ Yes time bound))
 closed-yes None begun later time bound = ((λ h. (refl, h)), λ h. h.1)
-closed-yes (Some s) begun later time bound = ((λ h. absurd (cc)), λ h. absurd (cc))
+closed-yes (Some s) begun later time bound = ((λ h. absurd (cc)), λ h. absurd (none-some s (sym h.0)))
 
 pub facts-yes : (d : Document) (steps : List FactStep) (line begun : ℕ) (standing : Standing) (later : Verdict) (time bound : ℕ) →
     (facts_verdict d line begun standing steps later ≡ Yes time bound)
     ↔ ((are_steps_taken (problem_of d) d.bound standing steps ≡ true) × ((standing_after standing steps).supposed ≡ None) × (later ≡ Yes time bound))
 facts-yes d [] line begun standing later time bound =
     let closed = closed-yes standing.supposed begun later time bound in
-    ((λ h. (refl, closed.0 h)), λ h. closed.1 h.1)
+    ((λ h. (refl, (closed.0 h).0, (closed.0 h).1)), λ h. closed.1 (h.1, h.2))
 facts-yes d (step ∷ steps) line begun standing later time bound =
     elim (cases_Bool (is_step_taken (problem_of d) d.bound standing step)) [
       | inl is ↦ rw is (facts-yes d steps (suc line) (begun_by line begun step) (with_step standing step) later time bound)
