@@ -1,5 +1,5 @@
 -- If the verdict is yes the claim is true, and without fact lines exactly then.
-use Rattle.std.proofs.Common.{ℕ, suc, ◌≡◌, ◌↔◌, ◌≤◌, ◌∙◌, Bool, true, false, cond, not, List, [], ◌∷◌, Option, None, Some, refl, sym, ap, subst, inl, inr, unwrap_or}
+use Rattle.std.proofs.Common.{ℕ, suc, ◌≡◌, ◌↔◌, ◌≤◌, ◌∙◌, Bool, false, cond, not, List, [], ◌∷◌, Option, None, Some, refl, sym, ap, subst, inl, inr, unwrap_or}
 use Rattle.std.proofs.lemmas.Bool.{eqb-true, eq-eqb, ltb-false, le-ltb, not-false, not_from_true, or_parts}
 use Rattle.std.specs.Prelude.{nat_lt, ◌==◌}
 use Rattle.s66_isa.specs.Lists.{Among, some_of}
