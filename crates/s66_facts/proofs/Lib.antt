@@ -18,4 +18,4 @@ pub mod LoadTaken
 pub mod SameTimes
 pub mod Settled
 pub mod Suppose
-pub mod Levels
+pub mod Opened

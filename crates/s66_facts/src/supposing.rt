@@ -1,71 +1,59 @@
-//! What is known of a block while steps are taken one after the other, with suppositions that have begun.
+//! What is known of a block while steps are taken one after the other, with what is supposed.
 
-ghost use Rattle.std.specs.Prelude.{ℕ, ◌≡◌, ◌≢◌, ◌≤◌, ◌<◌, ◌+◌, ◌&&◌, IsTrue, IfSome, IfNone, [], length};
+ghost use Rattle.std.specs.Prelude.{ℕ, ◌≡◌, ◌≢◌, ◌≤◌, ◌<◌, ◌+◌, ◌&&◌, not, IsTrue, is_some, length};
 ghost use Rattle.s66_isa.specs.declared.limits.TheConstants.{BLOCK_LIMIT};
 ghost use Rattle.s66_facts.specs.declared.limits.TheConstants.{FACT_LIMIT};
 
 use crate::facts::Facts;
-use arrayvec::ArrayVec;
 use s66_isa::{Instr, Profile};
-use s66_moments::{FactLine, FactStep, LEVEL_LIMIT};
+use s66_moments::{FactLine, FactStep};
 use std::marker::Model;
 
-/// A supposition that has begun: it is to show that the first number stands before the second, by what was known before it.
+/// A supposition that is open: it is to show that the first number stands before the second, by what was known when it began.
 #[derive(Drop)]
-struct KeptLevel {
+struct OpenSupposition {
     first: u8,
     second: u8,
     outer: Facts,
 }
 
-impl Default for KeptLevel {
-    /// A blank: nothing is known of no instructions.
-    fn default() -> KeptLevel {
-        KeptLevel {
-            first: 0,
-            second: 0,
-            outer: Facts::new(&[], &Profile::standard()),
-        }
-    }
-}
-
-/// What is known of a block, with what is supposed, and what was known before each supposition that has begun.
+/// What is known of a block, with what is supposed.
 #[derive(Drop)]
 pub struct Supposing {
     facts: Facts,
-    levels: ArrayVec<KeptLevel, LEVEL_LIMIT>,
+    supposed: Option<OpenSupposition>,
     /// How many steps were taken at most.
     steps: u32,
 }
 
 impl Model for Supposing {
     ghost use Rattle.std.specs.Prelude.{◌≤◌, length};
-    ghost use Rattle.s66_facts.specs.Supposing.{Grounds, AreLevels};
+    ghost use Rattle.s66_facts.specs.Supposing.{Grounds, MayBeOpen};
 
     ghost Value = { Grounds };
 
-    ghost view = { λ s. record { ground = s.facts; levels = s.levels.items; steps = s.steps } };
+    ghost view = { λ s. record { ground = s.facts; supposed = s.supposed; steps = s.steps } };
 
-    ghost invariant = { λ s. AreLevels s.facts.problem s.steps s.levels.items × (length s.facts.loads ≤ s.steps) };
+    ghost invariant = { λ s. MayBeOpen s.facts.problem s.steps s.supposed × (length s.facts.loads ≤ s.steps) };
 }
 
 impl Supposing {
     ghost use Rattle.s66_moments.specs.Known.{is_taken};
-    ghost use Rattle.s66_moments.specs.Suppositions.{standing_first, with_step, has_room, may_be_supposed, is_refuted, is_step_taken, are_steps_taken, standing_after};
+    ghost use Rattle.s66_moments.specs.Suppositions.{standing_first, with_step, may_be_supposed, is_late, is_step_taken, are_steps_taken, standing_after};
     ghost use Rattle.s66_moments.specs.declared.fact_line.FactStep.TheVariants.{Fact, Suppose, Refuted};
     ghost use Rattle.s66_facts.specs.Ground.{known_of};
-    ghost use Rattle.s66_facts.specs.Supposing.{standing_of, levels_of};
+    ghost use Rattle.s66_facts.specs.Supposing.{standing_in};
 
     /// What is known of a block under a profile before the first step.
     pub fn new(block: &[Instr], profile: &Profile) -> Supposing
         requires { length block.now ≤ BLOCK_LIMIT }
         ensures problem { result.ground.problem ≡ record { block = block.now; profile = profile.now } }
-        ensures standing { standing_of result ≡ standing_first result.ground.problem }
+        ensures standing { standing_in result ≡ standing_first result.ground.problem }
         ensures steps { result.steps ≡ 0 }
     {
         Supposing {
             facts: Facts::new(block, profile),
-            levels: ArrayVec::new(),
+            supposed: None,
             steps: 0,
         }
     }
@@ -75,7 +63,7 @@ impl Supposing {
         requires room { self.old.steps < FACT_LIMIT }
         ensures taken { result ≡ is_taken self.old.ground.problem bound (known_of self.old.ground) line.now }
         ensures problem { self.new.ground.problem ≡ self.old.ground.problem }
-        ensures standing { IsTrue result → standing_of self.new ≡ with_step (standing_of self.old) (Fact line.now) }
+        ensures standing { IsTrue result → standing_in self.new ≡ with_step (standing_in self.old) (Fact line.now) }
         ensures steps { self.new.steps ≡ self.old.steps + 1 }
     {
         self.steps += 1;
@@ -97,22 +85,22 @@ impl Supposing {
             && !self.facts.is_before(second, first)
     }
 
-    /// Supposes that the second number stands before the first, if that may be supposed, and returns whether it may.
+    /// Supposes that the second number stands before the first, if that may be supposed and nothing is, and returns whether it may.
     fn suppose(&mut self, first: u8, second: u8) -> bool
         requires room { self.old.steps < FACT_LIMIT }
-        ensures taken { result ≡ (has_room (levels_of self.old.levels) &&
+        ensures taken { result ≡ (not (is_some self.old.supposed) &&
             may_be_supposed self.old.ground.problem (known_of self.old.ground) first second) }
         ensures problem { self.new.ground.problem ≡ self.old.ground.problem }
-        ensures standing { IsTrue result → standing_of self.new ≡ with_step (standing_of self.old)
+        ensures standing { IsTrue result → standing_in self.new ≡ with_step (standing_in self.old)
             (Suppose first second) }
         ensures steps { self.new.steps ≡ self.old.steps }
     {
-        if self.levels.is_full() || !self.may_suppose(first, second) {
+        if self.supposed.is_some() || !self.may_suppose(first, second) {
             return false;
         }
         let outer = self.facts.duplicate();
         self.facts.add_pair(second, first);
-        self.levels.push(KeptLevel {
+        self.supposed = Some(OpenSupposition {
             first,
             second,
             outer,
@@ -120,32 +108,32 @@ impl Supposing {
         true
     }
 
-    /// Ends the supposition that began last, if one has begun and every order takes the bound with it, and returns whether it does.
+    /// Ends the supposition, if one is open and every order takes the bound with it, and returns whether it does.
     fn refute(&mut self, bound: u32) -> bool
         requires room { self.old.steps < FACT_LIMIT }
-        ensures taken { result ≡ is_refuted self.old.ground.problem bound (known_of self.old.ground)
-            (levels_of self.old.levels) }
+        ensures taken { result ≡
+            (is_some self.old.supposed && is_late self.old.ground.problem bound (known_of self.old.ground)) }
         ensures problem { self.new.ground.problem ≡ self.old.ground.problem }
-        ensures standing { IsTrue result → standing_of self.new ≡ with_step (standing_of self.old) Refuted }
+        ensures standing { IsTrue result → standing_in self.new ≡ with_step (standing_in self.old) Refuted }
         ensures steps { self.new.steps ≡ self.old.steps }
     {
         if !self.facts.is_late_for(bound) {
             return false;
         }
-        let Some(level) = self.levels.pop() else {
+        let Some(supposition) = self.supposed.take() else {
             return false;
         };
-        self.facts = level.outer;
-        self.facts.add_pair(level.first, level.second);
+        self.facts = supposition.outer;
+        self.facts.add_pair(supposition.first, supposition.second);
         true
     }
 
     /// Takes a step if it may be taken, and returns whether it may. A fact line has to be shown by what is known and supposed.
     pub fn take(&mut self, bound: u32, step: &FactStep) -> bool
         requires room { self.old.steps < FACT_LIMIT }
-        ensures taken { result ≡ is_step_taken self.old.ground.problem bound (standing_of self.old) step.now }
+        ensures taken { result ≡ is_step_taken self.old.ground.problem bound (standing_in self.old) step.now }
         ensures problem { self.new.ground.problem ≡ self.old.ground.problem }
-        ensures standing { IsTrue result → standing_of self.new ≡ with_step (standing_of self.old) step.now }
+        ensures standing { IsTrue result → standing_in self.new ≡ with_step (standing_in self.old) step.now }
         ensures steps { self.new.steps ≤ self.old.steps + 1 }
     {
         match step {
@@ -158,9 +146,9 @@ impl Supposing {
     /// Takes steps one after the other up to the first that may not be taken, and returns whether all may.
     pub fn take_all(&mut self, bound: u32, steps: &[FactStep]) -> bool
         requires room { self.old.steps + length steps.now ≤ FACT_LIMIT }
-        ensures taken { result ≡ are_steps_taken self.old.ground.problem bound (standing_of self.old) steps.now }
+        ensures taken { result ≡ are_steps_taken self.old.ground.problem bound (standing_in self.old) steps.now }
         ensures problem { self.new.ground.problem ≡ self.old.ground.problem }
-        ensures standing { IsTrue result → standing_of self.new ≡ standing_after (standing_of self.old) steps.now }
+        ensures standing { IsTrue result → standing_in self.new ≡ standing_after (standing_in self.old) steps.now }
     {
         for step in steps {
             if !self.take(bound, step) {
@@ -170,16 +158,24 @@ impl Supposing {
         true
     }
 
-    /// What is known, if each supposition has ended.
-    pub fn known(self) -> Option<Facts>
-        ensures problem { IfSome result (λ f. f.problem ≡ self.ground.problem) }
-        ensures known { IfSome result (λ f. standing_of self ≡ record { known = known_of f; levels = [] }) }
-        ensures none { IfNone result (levels_of self.levels ≢ []) }
+    /// What is known now, with what is supposed.
+    pub fn facts(&self) -> &Facts
+        ensures { result.now ≡ self.now.ground }
     {
-        if self.levels.is_empty() {
-            Some(self.facts)
-        } else {
-            None
-        }
+        &self.facts
+    }
+
+    /// Whether a supposition is open.
+    pub fn is_open(&self) -> bool
+        ensures { result ≡ is_some self.now.supposed }
+    {
+        self.supposed.is_some()
+    }
+
+    /// What is known at the end.
+    pub fn into_facts(self) -> Facts
+        ensures { result ≡ self.ground }
+    {
+        self.facts
     }
 }

@@ -12,7 +12,7 @@ use Rattle.s66_moments.specs.declared.moment.Moment.TheVariants.{Origin, At, End
 use Rattle.s66_moments.specs.Moments.{time_of}
 use Rattle.s66_moments.specs.Facts.{Fact, Arc, Before, Begins, AreSo, Follows, NoOrder, IsNumber, Work, shared_time, AreOnce, IsWithin}
 use Rattle.s66_moments.specs.Paths.{Leads}
-use Rattle.s66_moments.specs.FactLines.{Use, Line, ForcedPair, LoadArc, Supposed, fact_of, IsForced, use_time, IsBetween, AreBetween, IsFoundedByPaths, IsTooLate, IsRefuted, TooLate, WithLine, WithPair, IsFounded, AreFounded, facts_after}
+use Rattle.s66_moments.specs.FactLines.{Use, Line, ForcedPair, LoadArc, Supposed, fact_of, IsForced, use_time, IsBetween, AreBetween, IsFoundedByPaths, AreFoundedByPaths, IsTooLate, IsRefuted, IsFounded, AreFounded, facts_after}
 use Rattle.s66_moments.proofs.LoadArcs.{load-arc}
 use Rattle.s66_moments.proofs.FactLaws.{among-so, issue-start, start-free, before-itself, forced, forced-parcels, forced-unit, prefix-time_at}
 use Rattle.s66_moments.proofs.Steps.{precedes-so, leads-so}
@@ -153,13 +153,14 @@ module _ (b : Problem) (low : ℕ) (known : List Fact) where
   too_late-none (inl leads) = λ order legal less so. absurd (omega (arith, leads-so b known order legal so Origin low End leads, less))
   too_late-none (inr (n, is, ring)) = λ order legal less so. before-itself b order legal n (precedes-so b known order legal so n n ring)
 
+by_paths-none : (b : Problem) (low : ℕ) (known : List Fact) (lines : List Line) → AreFoundedByPaths b low known lines → IsTooLate b low (facts_after known lines) → NoOrder b low known
+by_paths-none b low known [] founded late = too_late-none b low known late
+by_paths-none b low known (line ∷ lines) founded late =
+    λ order legal less so. by_paths-none b low (fact_of line ∷ known) lines founded.1 late order legal less (paths-follow b low known line founded.0 order legal less so, so)
+
 -- what is refuted no order has
 refuted-none : (b : Problem) (low : ℕ) (known : List Fact) → IsRefuted b low known → NoOrder b low known
-refuted-none b low known (TooLate late) = too_late-none b low known late
-refuted-none b low known (WithLine line founded refuted) =
-    λ order legal less so. refuted-none b low (fact_of line ∷ known) refuted order legal less (paths-follow b low known line founded order legal less so, so)
-refuted-none b low known (WithPair y x differ is_x is_y supposed refuted) =
-    λ order legal less so. refuted-none b low (Before y x ∷ known) refuted order legal less (forced b low known x y differ is_x is_y (refuted-none b low (Before x y ∷ known) supposed) order legal less so, so)
+refuted-none b low known (lines, founded, late) = by_paths-none b low known lines founded late
 
 pub line-follows : (b : Problem) (low : ℕ) (known : List Fact) (line : Line) → IsFounded b low known line → Follows b low known (fact_of line)
 line-follows b low known (ForcedPair y x) founded = paths-follow b low known (ForcedPair y x) founded
@@ -189,11 +190,12 @@ module _ (b : Problem) (low other : ℕ) (less : other ≤ low) where
   too_late-lower known (inl (hops, path, long)) = inl (hops, path, omega (arith, long, less))
   too_late-lower known (inr ring) = inr ring
 
+  by_paths-lower : (known : List Fact) (lines : List Line) → AreFoundedByPaths b low known lines → AreFoundedByPaths b other known lines
+  by_paths-lower known [] founded = tt
+  by_paths-lower known (line ∷ lines) founded = (paths-lower known line founded.0, by_paths-lower (fact_of line ∷ known) lines founded.1)
+
   refuted-lower : (known : List Fact) → IsRefuted b low known → IsRefuted b other known
-  refuted-lower known (TooLate late) = TooLate (too_late-lower known late)
-  refuted-lower known (WithLine line founded refuted) = WithLine line (paths-lower known line founded) (refuted-lower (fact_of line ∷ known) refuted)
-  refuted-lower known (WithPair y x differ is_x is_y supposed refuted) =
-      WithPair y x differ is_x is_y (refuted-lower (Before x y ∷ known) supposed) (refuted-lower (Before y x ∷ known) refuted)
+  refuted-lower known (lines, founded, late) = (lines, by_paths-lower known lines founded, too_late-lower (facts_after known lines) late)
 
   founded-lower : (known : List Fact) (line : Line) → IsFounded b low known line → IsFounded b other known line
   founded-lower known (ForcedPair y x) founded = paths-lower known (ForcedPair y x) founded

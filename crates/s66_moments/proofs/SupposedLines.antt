@@ -1,5 +1,5 @@
 -- Steps that are taken show what is founded, and what is known after them is known by that, and by what is supposed.
-use Rattle.std.proofs.Common.{ℕ, ◌≡◌, ◌≢◌, Bool, true, false, true≢false, not, ◌&&◌, List, [], ◌∷◌, ◌++◌, map, refl, sym, ap, arith, inl, inr, eqb, leb, subst}
+use Rattle.std.proofs.Common.{ℕ, ◌≡◌, ◌≢◌, Bool, true, false, true≢false, not, ◌&&◌, List, [], ◌∷◌, ◌++◌, map, refl, sym, ap, arith, inl, inr, eqb, leb, subst, Option, Some, None}
 use Rattle.std.proofs.lemmas.Bool.{and_parts, or_cases, not-true, eqb-false, leb-true}
 use Rattle.s66_isa.specs.Lists.{some_of, Among}
 use Rattle.s66_isa.specs.Table.{numbers}
@@ -13,9 +13,9 @@ use Rattle.s66_moments.specs.declared.fact_line.FactStep.TheVariants.{Fact, Supp
 use Rattle.s66_moments.specs.Facts.{Fact as SomeFact, Arc, Before, IsNumber}
 use Rattle.s66_moments.specs.Paths.{IsStep, Leads}
 use Rattle.s66_moments.specs.Networks.{same_moment}
-use Rattle.s66_moments.specs.FactLines.{Line, fact_of, IsRefuted, TooLate, WithLine, WithPair, AreFounded, facts_after}
+use Rattle.s66_moments.specs.FactLines.{Line, fact_of, IsRefuted, AreFounded, facts_after}
 use Rattle.s66_moments.specs.Known.{Known, line_of, is_number, is_taken, are_taken, known_after, with_line, plus, span, arcs_of}
-use Rattle.s66_moments.specs.Suppositions.{Level, Standing, standing_first, with_pair_known, with_step, standing_after, may_be_supposed, has_room, is_late_at, is_late_through, is_late_load, is_late, is_step_taken, are_steps_taken, shown_by, lines_of}
+use Rattle.s66_moments.specs.Suppositions.{Supposition, Standing, standing_by, standing_first, with_step, standing_after, may_be_supposed, is_late_at, is_late_through, is_late_load, is_late, is_step_taken, are_steps_taken, shown_by, shown_by_all}
 use Rattle.s66_moments.proofs.MoreArcs.{same_moment-true}
 use Rattle.s66_moments.proofs.NextLeaves.{path-join, waits-join}
 use Rattle.s66_moments.proofs.Spans.{plus-some}
@@ -57,17 +57,16 @@ module _ (b : Problem) (bound : ℕ) where
         off_back = not-true (known.before n m) off_back;
       }
 
-  -- The facts at each level, up to those that are known of all orders: if what is known now is refuted, so is what was supposed there.
-  abbrev AreLevels : (base facts : List SomeFact) → List Level → Type 0
-  AreLevels base facts [] = base ≡ facts
-  AreLevels base facts (level ∷ levels) =
-      (outer : List SomeFact) × IsSound b outer level.outer × MaySuppose level.outer level.first level.second
-      × (IsRefuted b bound facts → IsRefuted b bound (Before level.second level.first ∷ outer)) × AreLevels base outer levels
+  -- The facts of what is known, over those that are known of all orders. If what is supposed is refuted now, it was so when it began.
+  abbrev GoesBack : (base facts : List SomeFact) → Option Supposition → Type 0
+  GoesBack base facts None = base ≡ facts
+  GoesBack base facts (Some s) =
+      IsSound b base s.outer × MaySuppose s.outer s.first s.second × (IsRefuted b bound facts → IsRefuted b bound (Before s.second s.first ∷ base))
 
   pub record Stands (base : List SomeFact) (standing : Standing) : Type 0 where
     pub facts : List SomeFact
     pub sound : IsSound b facts standing.known
-    pub levels : AreLevels base facts standing.levels
+    pub goes_back : GoesBack base facts standing.supposed
 
   -- TOO LATE
 
@@ -112,77 +111,60 @@ module _ (b : Problem) (bound : ℕ) where
   abbrev Goes : (base : List SomeFact) → Standing → FactStep → Type 0
   Goes base standing step = AreFounded b bound base (shown_by b standing step) × Stands (facts_after base (shown_by b standing step)) (with_step standing step)
 
-  fact-goes : (base facts : List SomeFact) (known : Known) (levels : List Level) → IsSound b facts known → AreLevels base facts levels → (line : FactLine) → is_taken b bound known line ≡ true →
-      Goes base (record { known = known; levels = levels }) (Fact line)
-  fact-goes base facts known [] sound same line h =
+  fact-goes : (base facts : List SomeFact) (known : Known) (supposed : Option Supposition) → IsSound b facts known → GoesBack base facts supposed → (line : FactLine) → is_taken b bound known line ≡ true →
+      Goes base (record { known = known; supposed = supposed }) (Fact line)
+  fact-goes base facts known None sound same line h =
       let sound2 : IsSound b base known = subst (λ fs. IsSound b fs known) (sym same) sound in
-      ((line-founded b bound base known sound2 line h, tt), record { facts = fact_of (line_of b line) ∷ base; sound = line-sound b bound base known sound2 line h; levels = refl })
-  fact-goes base facts known (level ∷ levels) sound (outer, under, may, back, rest) line h = (
+      ((line-founded b bound base known sound2 line h, tt), record { facts = fact_of (line_of b line) ∷ base; sound = line-sound b bound base known sound2 line h; goes_back = refl })
+  fact-goes base facts known (Some s) sound (under, may, back) line h = (
     tt,
     record {
       facts = fact_of (line_of b line) ∷ facts;
       sound = line-sound b bound facts known sound line h;
-      levels = (outer, under, may, (λ refuted. back (WithLine (line_of b line) (line-by_paths b bound facts known sound line h) refuted)), rest);
+      goes_back = (under, may, (λ (lines, founded, late). back (line_of b line ∷ lines, (line-by_paths b bound facts known sound line h, founded), late)));
     },
   )
 
-  suppose-goes : (base facts : List SomeFact) (known : Known) (levels : List Level) → IsSound b facts known → AreLevels base facts levels → (m n : ℕ) → MaySuppose known m n →
-      Goes base (record { known = known; levels = levels }) (Suppose m n)
-  suppose-goes base facts known levels sound under m n may = (
-    tt,
-    record {
-      facts = Before n m ∷ facts;
-      sound = pair-sound b bound facts known sound n m (λ e. may.differ (sym e)) may.is_n may.is_m may.off;
-      levels = (facts, sound, may, (λ refuted. refuted), under);
-    },
-  )
-
-  -- what a supposition shows
-  shown-sound : (facts : List SomeFact) (known : Known) (m n : ℕ) → IsSound b facts known → MaySuppose known m n → IsSound b (Before m n ∷ facts) (with_pair_known known m n)
-  shown-sound facts known m n sound may = pair-sound b bound facts known sound m n may.differ may.is_m may.is_n may.off_back
-
-  ended-goes : (base outer : List SomeFact) (now : Known) (level : Level) (levels : List Level) → IsSound b outer level.outer → MaySuppose level.outer level.first level.second →
-      IsRefuted b bound (Before level.second level.first ∷ outer) → AreLevels base outer levels →
-      Goes base (record { known = now; levels = level ∷ levels }) Refuted
-  ended-goes base outer now level [] sound may refuted same =
-      let sound2 : IsSound b base level.outer = subst (λ fs. IsSound b fs level.outer) (sym same) sound in
-      let refuted2 : IsRefuted b bound (Before level.second level.first ∷ base) = subst (λ fs. IsRefuted b bound (Before level.second level.first ∷ fs)) (sym same) refuted in (
-        (((λ e. may.differ (sym e)), may.is_n, may.is_m, refuted2), tt),
+  suppose-goes : (base facts : List SomeFact) (known : Known) (supposed : Option Supposition) → IsSound b facts known → GoesBack base facts supposed → (m n : ℕ) →
+      is_step_taken b bound (record { known = known; supposed = supposed }) (Suppose m n) ≡ true → Goes base (record { known = known; supposed = supposed }) (Suppose m n)
+  suppose-goes base facts known None sound same m n h =
+      let may : MaySuppose known m n = supposed-parts known m n h in
+      let sound2 : IsSound b base known = subst (λ fs. IsSound b fs known) (sym same) sound in (
+        tt,
         record {
-          facts = Before level.first level.second ∷ base;
-          sound = shown-sound base level.outer level.first level.second sound2 may;
-          levels = refl;
+          facts = Before n m ∷ base;
+          sound = pair-sound b bound base known sound2 n m (λ e. may.differ (sym e)) may.is_n may.is_m may.off;
+          goes_back = (sound2, may, (λ refuted. refuted));
         },
       )
-  ended-goes base outer now level (below ∷ levels) sound may refuted (outer2, under, may2, back, rest) = (
-    tt,
+  suppose-goes base facts known (Some s) sound goes_back m n h = absurd (true≢false (sym h))
+
+  refuted-goes : (base facts : List SomeFact) (known : Known) (supposed : Option Supposition) → IsSound b facts known → GoesBack base facts supposed →
+      is_step_taken b bound (record { known = known; supposed = supposed }) Refuted ≡ true → Goes base (record { known = known; supposed = supposed }) Refuted
+  refuted-goes base facts known None sound same h = absurd (true≢false (sym h))
+  refuted-goes base facts known (Some s) sound (under, may, back) h = (
+    (((λ e. may.differ (sym e)), may.is_n, may.is_m, back ([], tt, inl (late-leads facts known sound h))), tt),
     record {
-      facts = Before level.first level.second ∷ outer;
-      sound = shown-sound outer level.outer level.first level.second sound may;
-      levels = (outer2, under, may2, (λ more. back (WithPair level.first level.second (λ e. may.differ (sym e)) may.is_n may.is_m refuted more)), rest);
+      facts = Before s.first s.second ∷ base;
+      sound = pair-sound b bound base s.outer under s.first s.second may.differ may.is_m may.is_n may.off_back;
+      goes_back = refl;
     },
   )
 
-  refuted-goes : (base facts : List SomeFact) (known : Known) (levels : List Level) → IsSound b facts known → AreLevels base facts levels → is_step_taken b bound (record { known = known; levels = levels }) Refuted ≡ true →
-      Goes base (record { known = known; levels = levels }) Refuted
-  refuted-goes base facts known [] sound same h = absurd (true≢false (sym h))
-  refuted-goes base facts known (level ∷ levels) sound (outer, under, may, back, rest) h =
-      ended-goes base outer known level levels under may (back (TooLate (inl (late-leads facts known sound h)))) rest
-
   step-goes : (base : List SomeFact) (standing : Standing) (step : FactStep) → Stands base standing → is_step_taken b bound standing step ≡ true → Goes base standing step
-  step-goes base standing (Fact line) stands h = fact-goes base stands.facts standing.known standing.levels stands.sound stands.levels line h
-  step-goes base standing (Suppose m n) stands h = suppose-goes base stands.facts standing.known standing.levels stands.sound stands.levels m n (supposed-parts standing.known m n (and_parts (has_room standing.levels) (may_be_supposed b standing.known m n) h).1)
-  step-goes base standing Refuted stands h = refuted-goes base stands.facts standing.known standing.levels stands.sound stands.levels h
+  step-goes base standing (Fact line) stands h = fact-goes base stands.facts standing.known standing.supposed stands.sound stands.goes_back line h
+  step-goes base standing (Suppose m n) stands h = suppose-goes base stands.facts standing.known standing.supposed stands.sound stands.goes_back m n h
+  step-goes base standing Refuted stands h = refuted-goes base stands.facts standing.known standing.supposed stands.sound stands.goes_back h
 
   -- ALL STEPS
 
   steps-go : (base : List SomeFact) (standing : Standing) (steps : List FactStep) → Stands base standing → are_steps_taken b bound standing steps ≡ true →
-      AreFounded b bound base (lines_of b standing steps) × Stands (facts_after base (lines_of b standing steps)) (standing_after standing steps)
+      AreFounded b bound base (shown_by_all b standing steps) × Stands (facts_after base (shown_by_all b standing steps)) (standing_after standing steps)
   steps-go base standing [] stands h = (tt, stands)
   steps-go base standing (step ∷ steps) stands h =
       let (here, past) = and_parts (is_step_taken b bound standing step) _ h in
       let lines : List Line = shown_by b standing step in
-      let more : List Line = lines_of b (with_step standing step) steps in
+      let more : List Line = shown_by_all b (with_step standing step) steps in
       let (founded, then) = step-goes base standing step stands here in
       let (founded2, last) = steps-go (facts_after base lines) (with_step standing step) steps then past in (
         founded-append b bound base lines more founded founded2,
@@ -190,28 +172,25 @@ module _ (b : Problem) (bound : ℕ) where
       )
 
   pub after-stands : (steps : List FactStep) → are_steps_taken b bound (standing_first b) steps ≡ true →
-      AreFounded b bound [] (lines_of b (standing_first b) steps) × Stands (facts_after [] (lines_of b (standing_first b) steps)) (standing_after (standing_first b) steps)
-  after-stands steps h = steps-go [] (standing_first b) steps (record { facts = []; sound = first-sound b; levels = refl }) h
+      AreFounded b bound [] (shown_by_all b (standing_first b) steps) × Stands (facts_after [] (shown_by_all b (standing_first b) steps)) (standing_after (standing_first b) steps)
+  after-stands steps h = steps-go [] (standing_first b) steps (record { facts = []; sound = first-sound b; goes_back = refl }) h
 
-  -- if each supposition has ended, what is known is known of all orders
-  pub ended-sound : (base : List SomeFact) (standing : Standing) → Stands base standing → standing.levels ≡ [] → IsSound b base standing.known
-  ended-sound base standing stands none =
-      let same : base ≡ stands.facts = subst (λ levels. AreLevels base stands.facts levels) none stands.levels in
+  -- where no supposition is open, what is known is known of all orders
+  pub closed-sound : (base : List SomeFact) (standing : Standing) → Stands base standing → standing.supposed ≡ None → IsSound b base standing.known
+  closed-sound base standing stands none =
+      let same : base ≡ stands.facts = subst (λ supposed. GoesBack base stands.facts supposed) none stands.goes_back in
       subst (λ fs. IsSound b fs standing.known) (sym same) stands.sound
 
 -- FACT LINES ALONE
 
-abbrev alone : Known → Standing
-alone known = record { known = known; levels = [] }
-
-pub plain-taken : (b : Problem) (bound : ℕ) (known : Known) (lines : List FactLine) → are_steps_taken b bound (alone known) (map Fact lines) ≡ are_taken b bound known lines
+pub plain-taken : (b : Problem) (bound : ℕ) (known : Known) (lines : List FactLine) → are_steps_taken b bound (standing_by known) (map Fact lines) ≡ are_taken b bound known lines
 plain-taken b bound known [] = refl
 plain-taken b bound known (line ∷ lines) = ap (λ rest. is_taken b bound known line && rest) (plain-taken b bound (with_line known line) lines)
 
-pub plain-known : (known : Known) (lines : List FactLine) → standing_after (alone known) (map Fact lines) ≡ alone (known_after known lines)
+pub plain-known : (known : Known) (lines : List FactLine) → standing_after (standing_by known) (map Fact lines) ≡ standing_by (known_after known lines)
 plain-known known [] = refl
 plain-known known (line ∷ lines) = plain-known (with_line known line) lines
 
-pub plain-lines : (b : Problem) (known : Known) (lines : List FactLine) → lines_of b (alone known) (map Fact lines) ≡ map (line_of b) lines
+pub plain-lines : (b : Problem) (known : Known) (lines : List FactLine) → shown_by_all b (standing_by known) (map Fact lines) ≡ map (line_of b) lines
 plain-lines b known [] = refl
 plain-lines b known (line ∷ lines) = ap (λ rest. line_of b line ∷ rest) (plain-lines b (with_line known line) lines)

@@ -20,7 +20,7 @@ use Rattle.s66_moments.specs.Known.{Known, span, known_first, known_after, is_ta
 use Rattle.s66_moments.specs.Known.{arcs_of as known_arcs}
 use Rattle.s66_moments.specs.declared.fact_line.FactStep.{FactStep}
 use Rattle.s66_moments.specs.declared.fact_line.FactStep.TheVariants.{Fact, Suppose, Refuted}
-use Rattle.s66_moments.specs.Suppositions.{standing_first, standing_after, are_steps_taken, lines_of}
+use Rattle.s66_moments.specs.Suppositions.{standing_first, standing_after, are_steps_taken, shown_by_all}
 
 -- ARCS
 
@@ -163,19 +163,11 @@ known_after_steps block steps = (standing_after (standing_first (standard_proble
 
 -- what they show
 abbrev pub lines_shown : List Instr → List FactStep → List Line
-lines_shown block steps = lines_of (standard_problem block) (standing_first (standard_problem block)) steps
-
--- SB0 A0+B0, six times: none depends on another
-abbrev pub six_idle : List Instr
-six_idle = instr 0o66 0 0 0 ∷ instr 0o66 0 0 0 ∷ instr 0o66 0 0 0 ∷ instr 0o66 0 0 0 ∷ instr 0o66 0 0 0 ∷ instr 0o66 0 0 0 ∷ []
+lines_shown block steps = shown_by_all (standard_problem block) (standing_first (standard_problem block)) steps
 
 -- of three adds, the second stands before the first: else the third stands before the second, and after the first
 abbrev pub second_by_lines : List FactStep
 second_by_lines = Suppose 2 1 ∷ Fact (fact.Pair 3 2) ∷ Fact (fact.Pair 1 3) ∷ Refuted ∷ []
-
--- the same, with suppositions in place of the lines
-abbrev pub second_by_suppositions : List FactStep
-second_by_suppositions = Suppose 2 1 ∷ Suppose 3 2 ∷ Refuted ∷ Suppose 1 3 ∷ Refuted ∷ Refuted ∷ []
 
 -- TREES
 

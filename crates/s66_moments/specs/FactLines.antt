@@ -100,17 +100,23 @@ IsFoundedByPaths b low known (LoadArc kind e f h wait (u ∷ us)) =
     AreOnce (map (λ (v : Use). v.number) (u ∷ us)) × AreBetween b known kind e f h wait (use_time b kind (u ∷ us)) (u ∷ us)
 IsFoundedByPaths b low known (Supposed m n) = ⊥
 
+-- what is known after lines, the newest first
+abbrev pub facts_after : List Fact → List Line → List Fact
+facts_after known [] = known
+facts_after known (line ∷ lines) = facts_after (fact_of line ∷ known) lines
+
 -- a path takes low, or a number stands before itself
 abbrev pub IsTooLate : Problem → ℕ → List Fact → Type 0
 IsTooLate b low known = Leads b known Origin low End ⊎ ((n : ℕ) × IsNumber b n × Precedes b known n n)
 
--- Lines by which no order that takes less than low has what is known: it is too late, with a line more it is refuted, or two numbers
--- stand the other way round in none that has it, and with them so it is refuted.
-pub data IsRefuted (b : Problem) (low : ℕ) : List Fact → Type 0 where
-  TooLate : {known : List Fact} → IsTooLate b low known → IsRefuted b low known
-  WithLine : {known : List Fact} → (line : Line) → IsFoundedByPaths b low known line → IsRefuted b low (fact_of line ∷ known) → IsRefuted b low known
-  WithPair : {known : List Fact} → (m n : ℕ) → n ≢ m → IsNumber b n → IsNumber b m → IsRefuted b low (Before n m ∷ known) →
-      IsRefuted b low (Before m n ∷ known) → IsRefuted b low known
+-- each by paths, on what is known before it
+abbrev pub AreFoundedByPaths : Problem → ℕ → List Fact → List Line → Type 0
+AreFoundedByPaths b low known [] = Unit {0}
+AreFoundedByPaths b low known (line ∷ lines) = IsFoundedByPaths b low known line × AreFoundedByPaths b low (fact_of line ∷ known) lines
+
+-- lines lead from there to what is too late: no order that takes less than low has what is known
+abbrev pub IsRefuted : Problem → ℕ → List Fact → Type 0
+IsRefuted b low known = (lines : List Line) × AreFoundedByPaths b low known lines × IsTooLate b low (facts_after known lines)
 
 -- with n before m, what is known is refuted
 abbrev pub IsSupposed : Problem → ℕ → List Fact → ℕ → ℕ → Type 0
@@ -119,11 +125,6 @@ IsSupposed b low known m n = (n ≢ m) × IsNumber b n × IsNumber b m × IsRefu
 abbrev pub IsFounded : Problem → ℕ → List Fact → Line → Type 0
 IsFounded b low known (Supposed m n) = IsSupposed b low known m n
 IsFounded b low known line = IsFoundedByPaths b low known line
-
--- what is known after lines, the newest first
-abbrev pub facts_after : List Fact → List Line → List Fact
-facts_after known [] = known
-facts_after known (line ∷ lines) = facts_after (fact_of line ∷ known) lines
 
 -- each on what is known before it
 abbrev pub AreFounded : Problem → ℕ → List Fact → List Line → Type 0

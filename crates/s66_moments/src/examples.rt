@@ -1,6 +1,6 @@
 //! Worked examples of arcs, paths, lines and trees.
 
-ghost use Rattle.std.specs.Prelude.{ℕ, List, [], ◌∷◌, ◌+◌, ◌≡◌, ◌≤◌, ◌≢◌, true, false, Some, None};
+ghost use Rattle.std.specs.Prelude.{ℕ, List, [], ◌∷◌, ◌++◌, ◌+◌, ◌≡◌, ◌≤◌, ◌≢◌, true, false, Some, None};
 ghost use Rattle.s66_isa.specs.declared.instr.Kind.TheVariants.{Boolean};
 ghost use Rattle.s66_isa.specs.Table.{a_reg, x_reg};
 ghost use Rattle.s66_model.specs.declared.rule.Rule.TheVariants.{NoneNamed, WrittenEarlier, ClampedStanding};
@@ -63,12 +63,10 @@ ghost use Rattle.s66_moments.specs.Examples.{
   is_turned_after,
   start_after,
   three_free_adds,
-  six_idle,
   are_steps_taken_of,
   known_after_steps,
   lines_shown,
   second_by_lines,
-  second_by_suppositions,
 };
 ghost use Rattle.s66_moments.specs.declared.fact_line.FactLine.TheVariants.{Pair};
 ghost use Rattle.s66_moments.specs.declared.fact_line.FactStep.TheVariants.{Fact, Suppose, Refuted};
@@ -256,10 +254,10 @@ pub fn supposition_examples()
     ensures by_a_load { are_steps_taken_of three_free_adds 15
         (Suppose 2 1 ∷ Fact (load_fact Origin End 0 15 (1 ∷ 2 ∷ 3 ∷ [])) ∷ Refuted ∷ []) ≡ true }
     ensures not_by_a_pair { are_steps_taken_of three_free_adds 15 (Fact (Pair 2 1) ∷ []) ≡ false }
-    ensures by_suppositions { are_steps_taken_of three_free_adds 15 second_by_suppositions ≡ true }
-    ensures two_at_once { are_steps_taken_of six_idle 1 (Suppose 1 2 ∷ Suppose 3 4 ∷ []) ≡ true }
-    ensures not_three { are_steps_taken_of six_idle 1 (Suppose 1 2 ∷ Suppose 3 4 ∷ Suppose 5 6 ∷ []) ≡ false }
-    ensures shown { lines_shown three_free_adds second_by_suppositions ≡ Supposed 2 1 ∷ [] }
+    ensures one { are_steps_taken_of three_free_adds 15 (Suppose 2 1 ∷ []) ≡ true }
+    ensures none_within { are_steps_taken_of three_free_adds 15 (Suppose 2 1 ∷ Suppose 3 2 ∷ []) ≡ false }
+    ensures one_after_another { are_steps_taken_of three_free_adds 15 (second_by_lines ++ Suppose 3 2 ∷ []) ≡ true }
+    ensures shown { lines_shown three_free_adds second_by_lines ≡ Supposed 2 1 ∷ [] }
     ensures known { (known_after_steps three_free_adds second_by_lines).before 2 1 ≡ true }
     ensures no_more_known { (known_after_steps three_free_adds second_by_lines).before 3 2 ≡ false }
     ensures nothing_shown_within { lines_shown three_free_adds (Suppose 2 1 ∷ Fact (Pair 3 2) ∷ []) ≡ [] }

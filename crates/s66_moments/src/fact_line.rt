@@ -11,16 +11,13 @@ pub enum FactLine {
     Load(LoadLine),
 }
 
-/// The most suppositions that have begun and not ended. A checker keeps what was known before each of them.
-pub const LEVEL_LIMIT: usize = 2;
-
-/// A fact line of a certificate, or the begin or the end of a supposition.
+/// A fact line of a certificate, or the beginning or the end of a supposition. A supposition never holds another.
 #[derive(Drop)]
 pub enum FactStep {
     Fact(FactLine),
     /// The first number stands before the second, as the lines up to the end show: it is supposed that the second stands before the first.
     Suppose(u8, u8),
-    /// Ends the supposition that began last: by what is known there, no order takes less than the bound.
+    /// Ends the supposition: by what is known there, no order takes less than the bound.
     Refuted,
 }
 

@@ -15,7 +15,7 @@ pub use examples::{
     arc_examples, fact_line_examples, in_use_examples, line_examples, line_tree_examples,
     path_examples, span_examples, supposition_examples,
 };
-pub use fact_line::{FactLine, FactStep, KnownArc, LEVEL_LIMIT, LoadLine};
+pub use fact_line::{FactLine, FactStep, KnownArc, LoadLine};
 pub use facts::{fact_law, load_arc_law, pair_law, prefix_law};
 pub use known::{fact_lines_law, span_law};
 pub use lines::{in_use_law, line_law, line_tree_law, next_leaf_law};

@@ -1,17 +1,17 @@
-use Rattle.std.proofs.Common.{ℕ, ◌≡◌, true, List, []}
+use Rattle.std.proofs.Common.{ℕ, ◌≡◌, true, List, [], None}
 use Rattle.s66_model.specs.Timing.{Problem}
 use Rattle.s66_moments.specs.declared.fact_line.FactStep.{FactStep}
 use Rattle.s66_moments.specs.Facts.{Fact}
 use Rattle.s66_moments.specs.FactLines.{facts_after}
-use Rattle.s66_moments.specs.Suppositions.{Standing, standing_first, standing_after, are_steps_taken, lines_of}
+use Rattle.s66_moments.specs.Suppositions.{Standing, standing_first, standing_after, are_steps_taken, shown_by_all}
 use Rattle.s66_moments.proofs.KnownLines.{IsSound, arcs-steps, arcs-own, arcs-rise, next-too_late, turned-too_late, span-tail}
 use Rattle.s66_moments.proofs.LoadLeaves.{loaded-closed}
 use Rattle.s66_moments.proofs.Turns.{turn-comes}
-use Rattle.s66_moments.proofs.SupposedLines.{Stands, after-stands, ended-sound}
+use Rattle.s66_moments.proofs.SupposedLines.{Stands, after-stands, closed-sound}
 use Rattle.s66_moments.proofs.suppositions.supposition_law.Goals as goal
 
 abbrev facts : Problem → List FactStep → List Fact
-facts b steps = facts_after [] (lines_of b (standing_first b) steps)
+facts b steps = facts_after [] (shown_by_all b (standing_first b) steps)
 
 abbrev after : Problem → List FactStep → Standing
 after b steps = standing_after (standing_first b) steps
@@ -19,8 +19,8 @@ after b steps = standing_after (standing_first b) steps
 stands : (b : Problem) (bound : ℕ) (steps : List FactStep) → are_steps_taken b bound (standing_first b) steps ≡ true → Stands b bound (facts b steps) (after b steps)
 stands b bound steps taken = (after-stands b bound steps taken).1
 
-sound : (b : Problem) (bound : ℕ) (steps : List FactStep) → are_steps_taken b bound (standing_first b) steps ≡ true → (after b steps).levels ≡ [] → IsSound b (facts b steps) (after b steps).known
-sound b bound steps taken none = ended-sound b bound (facts b steps) (after b steps) (stands b bound steps taken) none
+sound : (b : Problem) (bound : ℕ) (steps : List FactStep) → are_steps_taken b bound (standing_first b) steps ≡ true → (after b steps).supposed ≡ None → IsSound b (facts b steps) (after b steps).known
+sound b bound steps taken none = closed-sound b bound (facts b steps) (after b steps) (stands b bound steps taken) none
 
 pub returns-clause-founded : goal.returns-clause-founded
 returns-clause-founded c = λ b bound steps taken. (after-stands b bound steps taken).0

@@ -3,18 +3,18 @@ use Rattle.s66_moments.specs.declared.fact_line.FactLine.TheVariants.{Load}
 use Rattle.s66_moments.specs.Known.{is_taken}
 use Rattle.s66_facts.specs.Ground.{known_of}
 use Rattle.s66_facts.specs.Supposing.{Grounds}
-use Rattle.s66_facts.proofs.Levels.{pair-loads, load-loads, levels-more}
+use Rattle.s66_facts.proofs.Opened.{pair-loads, load-loads, open-more}
 use Rattle.s66_facts.proofs.supposing.Supposing.take_line.Goals as goal
 
 pub invariant_of-self : goal.invariant_of-self
 invariant_of-self c = (
-  levels-more c.self.inside.facts.problem c.take_pair.new.self.problem c.self.inside.steps (c.self.inside.steps + 1) c.self.inside.levels.items c.take_pair.ensures.problem (omega arith) c.self.invariant.0,
+  open-more c.self.inside.facts.problem c.take_pair.new.self.problem c.self.inside.steps (c.self.inside.steps + 1) c.self.inside.supposed c.take_pair.ensures.problem (omega arith) c.self.invariant.0,
   omega (arith, c.self.invariant.1, pair-loads c.take_pair.result c.take_pair.new.self c.self.inside.facts c.in-Pair.first c.in-Pair.second c.take_pair.ensures.known),
 )
 
 pub invariant_of-self-in-Load : goal.invariant_of-self-in-Load
 invariant_of-self-in-Load c = (
-  levels-more c.self.inside.facts.problem c.take_load.new.self.problem c.self.inside.steps (c.self.inside.steps + 1) c.self.inside.levels.items c.take_load.ensures.problem (omega arith) c.self.invariant.0,
+  open-more c.self.inside.facts.problem c.take_load.new.self.problem c.self.inside.steps (c.self.inside.steps + 1) c.self.inside.supposed c.take_load.ensures.problem (omega arith) c.self.invariant.0,
   omega (arith, c.self.invariant.1, load-loads c.take_load.result c.take_load.new.self c.self.inside.facts c.in-Load.load c.take_load.ensures.known),
 )
 
