@@ -4,4 +4,4 @@ use Rattle.s66_checker.proofs.known.Known.after.Goals as goal
 
 pub invariant_of-result : goal.invariant_of-result
 invariant_of-result c =
-    (has-tails (document_of c.args.document.now) c.first_untaken.new.facts c.in_default.ensures.known c.in_default.ensures.taken, c.tails-tails.ensures)
+    (has-tails (document_of c.args.document.now) c.first_untaken.new.supposing.ground c.in_default.ensures.known c.in_default.ensures.taken, c.tails-tails.ensures)
