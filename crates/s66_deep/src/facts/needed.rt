@@ -1,8 +1,8 @@
 //! Which lines a bound needs.
 
+use crate::facts::found::Found;
 use crate::facts::sketch::Sketch;
 use crate::limits::TAKES_LIMIT;
-use s66_moments::FactLine;
 use std::alloc::{AllocError, Global};
 
 /// Whether a bound needs some of a part's lines.
@@ -30,7 +30,7 @@ struct Part<'a> {
 #[derive(Drop)]
 struct Dropping<'a> {
     alloc: Global,
-    lines: &'a [FactLine],
+    lines: &'a [Found],
     bound: u32,
     /// The parts that aren't decided, the last one last.
     parts: Vec<Part<'a>>,
@@ -178,7 +178,7 @@ impl<'a> Dropping<'a> {
 pub fn needed_of<'a>(
     alloc: Global,
     before: Sketch<'a>,
-    lines: &'a [FactLine],
+    lines: &'a [Found],
     bound: u32,
 ) -> Result<Vec<usize>, AllocError> {
     let mut parts = Vec::new(alloc);
