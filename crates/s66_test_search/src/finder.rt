@@ -73,6 +73,42 @@ fn a_pair_shows_more_than_loads(rt: HostRuntime) {
     assert!(rt; matches!(needed.as_slice(), [FactStep::Fact(FactLine::Pair(5, 6))]));
 }
 
+/// A block of whose orders paths and loads show that they take 19 at least, and only a supposition that they take 22, as some do.
+const SUPPOSED: &str = "  DX3 X1-X4
+  IX3 X1+X0
+  DX2 X2-X5
+  FX7 X1*X1
+  LX2 B2,X3
+  BX2 X2*X2
+  BX0 X7*X4
+  BX5 X7*X5
+";
+
+/// Of two numbers one is supposed to stand before the other, and then no order takes less.
+#[test]
+fn a_supposition_shows_more_than_pairs(rt: HostRuntime) {
+    let source = source_of(&rt, SUPPOSED);
+    let block = block_of(&rt, &source);
+    let timed = as_written(block, &Profile::standard());
+    let mut finder = found_below(&rt, block, 22);
+    assert!(rt; finder.root().1 == 19);
+    let left = finder.suppose_below(22, 0).expect(&rt, "memory");
+    assert!(rt; left == 0 && finder.root().1 == 19);
+    finder.suppose_below(22, 100).expect(&rt, "memory");
+    assert!(rt; 22 <= finder.root().1);
+    let needed = finder.needed(22).expect(&rt, "memory");
+    let steps = needed.steps().expect(&rt, "memory");
+    let claimed = Claimed {
+        code: SUPPOSED,
+        timed: &timed,
+        bound: 22,
+    };
+    let leaf = leaf_of(&rt, needed.root().0);
+    let verdict = verdict_on(&rt, claimed, steps.as_slice(), NONE, leaf.as_str());
+    assert!(rt; matches!(verdict, Verdict::Yes { .. }));
+    assert!(rt; steps.len() < finder.line_count());
+}
+
 /// Checks that a document with what is found shows a bound, that fewer lines do so too, and that none of these can be left out.
 fn check_lines<R: AllocGlobal + Abort>(rt: &R, claimed: Claimed<'_>, finder: &Finder) {
     let yes = Verdict::Yes {
