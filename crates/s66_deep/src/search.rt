@@ -357,7 +357,14 @@ pub(crate) fn search(
         splits: 0,
     };
     let few = most / SPLITS_A_SUPPOSITION;
-    let first = go_on(instance, &below, searched, WIDE_WIDTH, most / FIRST_SHARE, few)?;
+    let first = go_on(
+        instance,
+        &below,
+        searched,
+        WIDE_WIDTH,
+        most / FIRST_SHARE,
+        few,
+    )?;
     let left = most.saturating_sub(first.splits);
     let second = go_on(instance, &below, first, WIDEST_WIDTH, left, few)?;
     raise(instance, &below, second, most / 2)

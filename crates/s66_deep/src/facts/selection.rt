@@ -3,9 +3,7 @@
 use crate::facts::arcs::{Arcs, Fan};
 use crate::facts::ground::Ground;
 use crate::facts::network::Paths;
-use crate::facts::nodes::{
-    Times, first, free, issue, lift, number_at, second, start, time_at,
-};
+use crate::facts::nodes::{Times, first, free, issue, lift, number_at, second, start, time_at};
 use crate::facts::pairs::is_late;
 use crate::facts::precedence::{Precedence, joined, set_of};
 use s66_dep::Set;
@@ -174,11 +172,7 @@ impl Selection {
 
     /// The numbers that may stand before n or after it.
     pub fn open_to(&self, n: u8) -> Set {
-        let known = joined(
-            self.all,
-            set_of(&self.before, n),
-            set_of(&self.after, n),
-        );
+        let known = joined(self.all, set_of(&self.before, n), set_of(&self.after, n));
         self.all.without(&known).without(&one(n))
     }
 

@@ -126,18 +126,21 @@ impl<'a> Sketch<'a> {
     pub fn shortened(&self, bound: u32, found: &Found) -> Result<Found, AllocError> {
         match found {
             Found::ByLine(_) => found.duplicate(self.alloc),
-            Found::BySupposition(supposition) => Ok(Found::BySupposition(self.trial().shortened(
-                self.alloc,
-                bound,
-                supposition,
-            )?)),
+            Found::BySupposition(supposition) => Ok(Found::BySupposition(
+                self.trial().shortened(self.alloc, bound, supposition)?,
+            )),
         }
     }
 
     /// Takes the arc of a load in.
     fn take_load(&mut self, load: &LoadLine) -> Result<bool, AllocError> {
         if !self.leads_up(&load.from, &load.to)
-            || !are_used(self.ground, load, &self.heads(&load.from), &self.tails(&load.to))
+            || !are_used(
+                self.ground,
+                load,
+                &self.heads(&load.from),
+                &self.tails(&load.to),
+            )
         {
             return Ok(false);
         }

@@ -146,7 +146,9 @@ impl<'a> Shaving<'a> {
             second: m,
             lines: followed.lines,
         };
-        let short = self.trial().shortened(self.alloc, self.bound, &supposition)?;
+        let short = self
+            .trial()
+            .shortened(self.alloc, self.bound, &supposition)?;
         self.found.push(Found::BySupposition(short))?;
         self.keep(n, m)
     }

@@ -128,7 +128,11 @@ impl Ways {
     /// What says most of a load, and more than a wait, if something does. It takes time quadratic in how many numbers there are.
     ///
     /// `Err` is out of memory.
-    pub fn best<R: Reach>(&mut self, load: &Load<R>, wait: u32) -> Result<Option<Best>, AllocError> {
+    pub fn best<R: Reach>(
+        &mut self,
+        load: &Load<R>,
+        wait: u32,
+    ) -> Result<Option<Best>, AllocError> {
         self.shares.find(load)?;
         if !self.shares.may_pass(load.copies, wait) {
             return Ok(None);
