@@ -1,7 +1,7 @@
 #!/usr/bin/env python3
 """Tries the rules of fact lines and of certificates of versions 4 and 5 on random small blocks, against all their legal orders.
 
-    tools/try_facts.py [--blocks N] [--seed N]
+    tools/try_facts.py [--blocks N] [--seed N] [--suppositions]
 
 It tries N blocks of 3 to 12 instructions, 300 unless given, half of them under a random profile. Of each, all legal orders are
 timed. tools/certificate.py has to say YES to the document that tools/find_facts.py finds for the best time. For a greater
@@ -11,8 +11,8 @@ the longest path between any two moments, and the values of E lines at its prefi
 order that has what is supposed. After a supposition that has to be known which is known without its lines, and its pair. To
 documents with a line B or Q where none may be it has to say NO for that line. By such fact lines no L line after a beginning,
 found or random, may say more than all take that complete the beginning below the bound. Where a beginning dominates another in
-use by such fact lines, whatever completes the other below the bound has to complete it so too. Each fault is printed with its
-block. The same seed makes the same blocks.
+use by such fact lines, whatever completes the other below the bound has to complete it so too. With --suppositions only these
+are tried, on blocks of fewer orders, in a tenth of the time. Each fault is printed with its block. The same seed makes the same blocks.
 """
 import argparse
 import collections
@@ -31,11 +31,11 @@ from find_facts import PROFILE, Finder, any_leaves, document, legal_orders
 FEW = """
 FXi Xj*Xk|FXi Xj/Xk|FXi Xj+Xk|IXi Xj+Xk|BXi Xj+Xk|BXi Xj|LXi Bj,Xk|NXi Bj,Xk|SAi Aj+Bk|SAi Bj+Bk|SXi Xj+Bk|SBi Bj+Bk|SXi Bj+K
 """.strip().split("|")
-MOST_ORDERS = 1000  # of a block
+MOST_ORDERS = {False: 1000, True: 120}  # of a block, and if suppositions alone are tried
 COUNTS = [3, 4, 5, 5, 6, 6, 7, 7, 7, 8, 9, 10, 12]  # of instructions
 MOST_PAIRS = 30  # of beginnings, of a block
 BEGINNINGS = 10  # of a block, after which loads are tried
-MOST_MISPLACED = 10  # documents of a block
+MOST_MISPLACED, MOST_CLAIMS = {False: 10, True: 4}, {False: 20, True: 8}  # documents of a block
 
 
 def verdict(lines):
@@ -93,8 +93,8 @@ def longest(load, is_right):
 class Trial:
     """A random block, with all its orders."""
 
-    def __init__(self, chance, counts):
-        self.any, self.counts, self.told = chance, counts, []
+    def __init__(self, chance, counts, is_supposing):
+        self.any, self.counts, self.is_supposing, self.told = chance, counts, is_supposing, []
         while True:
             some = chance.choice([FEW, chance.sample(FEW, 3), chance.sample(FEW, 2), INSTRUCTIONS])
             self.texts = [self.instruction(some, chance.choice([2, 3, 4, 8])) for _ in range(chance.choice(COUNTS))]
@@ -102,8 +102,9 @@ class Trial:
             profile = {name: chance.choice(numbers[name in certificate.UNITS]) for name in PROFILE}
             block = [certificate.instruction_of(text) for text in self.texts]
             self.problem = Problem(chance.choice([PROFILE, profile]), block)
-            self.orders = list(itertools.islice(legal_orders(self.problem), MOST_ORDERS + 1))
-            if len(self.orders) <= MOST_ORDERS:
+            most = MOST_ORDERS[is_supposing]
+            self.orders = list(itertools.islice(legal_orders(self.problem), most + 1))
+            if len(self.orders) <= most:
                 break
         self.orders.sort(key=self.problem.total)
         self.best = self.problem.total(self.orders[0])
@@ -132,18 +133,19 @@ class Trial:
 
     def facts_for(self, bound):
         """A finder with facts for a bound, found ones and random ones."""
-        count, least = len(self.problem.block), self.any.choice([0, 0, 1, 2])
-        finder = Finder(self.problem, bound, leaves=any_leaves(self.any), least=least, is_wide=count < 6)
+        count, least, has_loads = len(self.problem.block), self.any.choice([0, 0, 1, 2]), self.any.random() < 0.7
+        has_all_loads = has_loads and count < 8 and not self.is_supposing
+        finder = Finder(self.problem, bound, leaves=any_leaves(self.any), least=least, is_wide=count < 5)
         if self.any.random() < 0.5:
-            finder.find_facts(count < 8 and self.any.random() < 0.7)
-        for _ in range(self.any.choice([0, 5, 20])):
+            finder.find_facts(has_all_loads)
+        for _ in range(self.any.choice([0, 5] if self.is_supposing else [0, 5, 20])):
             finder.add(self.fact(finder))
-        if self.any.random() < 0.5:
+        if self.is_supposing or self.any.random() < 0.5:
             self.suppose(finder)
         if self.any.random() < 0.5:
-            finder.find_facts(count < 8 and self.any.random() < 0.7)
+            finder.find_facts(has_all_loads)
         if self.any.random() < 0.5:
-            finder.find_suppositions(self.any.random() < 0.7)
+            finder.find_suppositions(has_loads)
         return finder
 
     def suppose(self, finder):
@@ -255,7 +257,7 @@ class Trial:
     def wrong_denials(self, lines, finder, counts):
         """Documents with a wrong line B or Q of which the checker doesn't say so."""
         misplaced = list(self.misplaced(lines, finder))
-        for changed, line in self.any.sample(misplaced, min(MOST_MISPLACED, len(misplaced))):
+        for changed, line in self.any.sample(misplaced, min(MOST_MISPLACED[self.is_supposing], len(misplaced))):
             counts["misplaced lines"] += 1
             if verdict(changed) != f"NO LINE {line} REASON 11":
                 yield "\n".join([f"not wrong in line {line}:", *changed, verdict(changed)])
@@ -272,15 +274,16 @@ class Trial:
             yield "\n".join(["no yes to", *lines, verdict(lines)])
         counts["documents of version 5"] += lines[0].endswith("5")
         yield from self.wrong_denials(lines, finder, counts)
-        for more in (1, 2, 5):
+        for more in [self.any.choice([1, 2, 5])] if self.is_supposing else (1, 2, 5):
             finder = self.facts_for(self.best + more)
             if finder.find_tree():
                 yield f"a tree for the bound {finder.bound}"
             yield from self.wrong_facts(finder)
             counts.update("for greater bounds " + type(fact).__name__ for fact in finder.facts)
         yield from self.wrong_claims(lines, counts)
-        yield from self.wrong_dominance(counts)
-        yield from self.wrong_loads(counts)
+        if not self.is_supposing:
+            yield from self.wrong_dominance(counts)
+            yield from self.wrong_loads(counts)
 
     def pairs(self):
         """Some pairs of different beginnings with the same numbers, each with the orders that have the second."""
@@ -336,7 +339,7 @@ class Trial:
     def wrong_claims(self, lines, counts):
         """Yes to a document with a greater bound, and the time of an order that takes as long."""
         slower = [order for order in self.orders if self.problem.total(order) > self.best]
-        for _ in range(20 if slower else 0):
+        for _ in range(MOST_CLAIMS[self.is_supposing] if slower else 0):
             order = self.any.choice(slower)
             time = self.problem.total(order)
             claims = {"TIME": time, "BOUND": self.any.randint(self.best + 1, min(time, self.best + 3))}
@@ -354,10 +357,11 @@ def main():
     parser = argparse.ArgumentParser(description=__doc__.split("\n")[0])
     parser.add_argument("--blocks", type=int, default=300)
     parser.add_argument("--seed", type=int, default=6600)
+    parser.add_argument("--suppositions", action="store_true")
     asked = parser.parse_args()
     chance, counts, failed = random.Random(asked.seed), collections.Counter(), 0
     for _ in range(asked.blocks):
-        trial = Trial(chance, counts)
+        trial = Trial(chance, counts, asked.suppositions)
         counts["orders"] += len(trial.orders)
         wrong = [*trial.wrong_documents(counts), *trial.told]
         failed += bool(wrong)
