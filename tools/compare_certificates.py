@@ -303,25 +303,25 @@ class Maker:
     def change_supposition(self, lines):
         """Changes a line B or Q, adds or drops one, or moves a line into a supposition or out of it."""
         place, other = self.place(lines, "([FAB] |Q$)"), self.place(lines, "(B |Q$)")
-        numbers, change = lines[other].split(" ")[1:], self.any.randrange(8)
-        if change == 0:
+        numbers, change = lines[other].split(" ")[1:], self.any.choice("0011222333444555667")
+        if change == "0":
             del lines[other]
-        elif change == 1:
+        elif change == "1":
             lines[other] = " ".join(["B", *reversed(numbers)]) if numbers else self.any.choice(["Q 1", "Q ", "QQ", "q", "Q\r"])
-        elif change == 2:
+        elif change == "2":
             changed = self.any.choice(numbers or ["1"])
             near = [max(0, int(changed) + more) for more in (-1, 1)] if changed.isdigit() else [1]
             words = [self.any.choice(near), self.any.choice(numbers or [1])]
             lines[other] = " ".join(map(str, ["B", *self.any.sample(words, 2)]))
-        elif change == 3:
+        elif change == "3":
             lines.insert(other + self.any.choice([0, 1]), self.any.choice(["Q", lines[other], f"B {self.any.randint(1, 5)} {self.any.randint(1, 5)}"]))
-        elif change == 4:
+        elif change == "4":
             block = [str(n) for n in range(1, 1 + sum(line.startswith("I ") for line in lines))]
             some = sorted(self.any.sample(block, self.any.randint(1, len(block))), key=int)
             lines.insert(other + 1, " ".join(["A 0 END", self.any.choice("0012"), str(self.any.randint(1, 12)), *some]))
-        elif change == 5:
+        elif change == "5":
             lines.insert(other, lines.pop(place))
-        elif change == 6:
+        elif change == "6":
             del lines[place]
         else:
             lines[other] = self.any.choice(["B 1", "B 1 2 3", "B 0 1", "B 1 129", "B 01 2", "B", "B 1  2", "B I1 2"])
