@@ -3,12 +3,12 @@
 
     tools/compare_certificates.py PROGRAM [--texts N] [--seed N]
 
-PROGRAM is the built program. It makes N texts, 2000 unless given. They begin with documents that `s66 prove` writes of
-random blocks of 2 to 12 instructions, some under a random profile. Many get dominated leaves in place of some of their trees,
-right or wrong, or fact lines and a tree that tools/find_facts.py finds, with suppositions or without, so they have all
-versions, and most of the others a few damages. Both programs have to write the same bytes, with the same status and the same first line of standard error. Each
-difference is printed with its text, and at the end how often each refusal came, and each verdict by version. The status is 1
-if there is a difference. The same seed makes the same texts.
+PROGRAM is the built program. It makes N texts, 2000 unless given. They begin with documents that `s66 prove` writes of random
+blocks of 2 to 12 instructions, some under a random profile. Many get dominated leaves in place of some of their trees, right
+or wrong, or fact lines and a tree that tools/find_facts.py finds, with suppositions or without, so they have all versions, and
+most of the others a few damages. Both programs have to write the same bytes, with the same status and the same first line of
+standard error. Each difference is printed with its text, and at the end how often each refusal came, and each verdict by
+version. The status is 1 if there is a difference. The same seed makes the same texts.
 """
 import argparse
 import collections
@@ -314,7 +314,8 @@ class Maker:
             words = [self.any.choice(near), self.any.choice(numbers or [1])]
             lines[other] = " ".join(map(str, ["B", *self.any.sample(words, 2)]))
         elif change == "3":
-            lines.insert(other + self.any.choice([0, 1]), self.any.choice(["Q", lines[other], f"B {self.any.randint(1, 5)} {self.any.randint(1, 5)}"]))
+            begin = f"B {self.any.randint(1, 5)} {self.any.randint(1, 5)}"
+            lines.insert(other + self.any.choice([0, 1]), self.any.choice(["Q", lines[other], begin]))
         elif change == "4":
             block = [str(n) for n in range(1, 1 + sum(line.startswith("I ") for line in lines))]
             some = sorted(self.any.sample(block, self.any.randint(1, len(block))), key=int)

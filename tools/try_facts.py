@@ -61,9 +61,7 @@ def numbers_of(points):
 
 
 def is_late(finder):
-    """Whether a path through the issue or the start of an instruction takes the bound, or a load does from the origin to the end.
-    What is supposed is the last supposition's, so each load that was found is known, but those of suppositions that have ended.
-    """
+    """Whether a path through the issue or the start of an instruction takes the bound, or an arc from the origin to the end."""
     known, problem = finder.known, finder.problem
     heads, tails = known.paths_from(ORIGIN), known.paths_to(END)
     through = [heads[stage, n] + tails[stage, n] for n in problem.block for stage in ("issue", "start")]
