@@ -307,10 +307,10 @@ class Maker:
         if change == "0":
             del lines[other]
         elif change == "1":
-            lines[other] = " ".join(["B", *reversed(numbers)]) if numbers else self.any.choice(["Q 1", "Q ", "QQ", "q", "Q\r"])
+            lines[other] = " ".join(["B", *(numbers[::-1] or ["1", "2"])])
         elif change == "2":
             changed = self.any.choice(numbers or ["1"])
-            near = [max(0, int(changed) + more) for more in (-1, 1)] if changed.isdigit() else [1]
+            near = [max(1, int(changed) + more) for more in (-1, 1)] if changed.isdigit() else [1]
             words = [self.any.choice(near), self.any.choice(numbers or [1])]
             lines[other] = " ".join(map(str, ["B", *self.any.sample(words, 2)]))
         elif change == "3":
@@ -325,7 +325,7 @@ class Maker:
         elif change == "6":
             del lines[place]
         else:
-            lines[other] = self.any.choice(["B 1", "B 1 2 3", "B 0 1", "B 1 129", "B 01 2", "B", "B 1  2", "B I1 2"])
+            lines[other] = self.any.choice(["B 1", "B 1 2 3", "B 0 1", "B 1 129", "B 01 2", "B", "B 1  2", "B I1 2", "Q 1", "Q ", "QQ", "Q\r"])
 
     def change_anchor(self, lines):
         place = self.place(lines, "A ")
