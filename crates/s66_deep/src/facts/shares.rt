@@ -4,11 +4,14 @@ use crate::facts::load::Load;
 use crate::facts::sort::sort;
 use crate::facts::spans::{at_issue, at_start};
 use crate::work::Work;
+use s66_dep::Set;
+use s66_isa::BLOCK_LIMIT;
 use std::alloc::{AllocError, Global};
 
 /// What an instruction may add to a load.
 #[derive(Clone, Copy)]
 struct Share {
+    number: u8,
     /// How long it has its unit.
     amount: u32,
     /// How much later than the first place its use begins at most, as far as paths show: at its start.
@@ -29,17 +32,6 @@ impl Share {
     }
 }
 
-/// How long so many units have work by those of these at most that begin so late.
-fn longest_after(shares: &[Share], copies: u32, after: u32) -> u32 {
-    let mut work = Work::default();
-    for share in shares {
-        if share.head >= after {
-            work = work.with(share.amount);
-        }
-    }
-    work.longest_time(copies)
-}
-
 /// How long so many units have work by any of these at most.
 fn longest_time(shares: &[Share], copies: u32) -> u32 {
     let mut work = Work::default();
@@ -49,30 +41,65 @@ fn longest_time(shares: &[Share], copies: u32) -> u32 {
     work.longest_time(copies)
 }
 
+/// A time after the first place, and how long units have work at most by those that begin so late.
+#[derive(Clone, Copy)]
+struct Late {
+    after: u32,
+    longest: u32,
+}
+
 /// Whether some of these that begin so late may say more than a wait. They are sorted.
-fn pass_after(shares: &[Share], copies: u32, after: u32, wait: u32) -> bool {
-    let longest = longest_after(shares, copies, after);
+fn pass_after(shares: &[Share], copies: u32, late: Late, wait: u32) -> bool {
+    let most = wait as i64 - late.after as i64;
     let mut work = Work::default();
     for share in shares {
-        let room = wait as i64 - after as i64 - share.tail as i64 + share.amount as i64;
+        if share.head < late.after {
+            continue;
+        }
+        let room = most.saturating_sub(share.left());
         // after those that follow no more is left
-        if longest as i64 <= room {
+        if late.longest as i64 <= room {
             return false;
         }
-        if share.head >= after {
-            work = work.with(share.amount);
-            if work.may_take_longer(copies, room) {
-                return true;
-            }
+        work = work.with(share.amount);
+        if work.may_take_longer(copies, room) {
+            return true;
         }
     }
     false
+}
+
+/// Finds after which times these may say more than a wait, by their work and by what is left after one of them. They are sorted by
+/// their heads, the least first.
+fn find_late(
+    shares: &[Share],
+    copies: u32,
+    wait: u32,
+    late: &mut Vec<Late>,
+) -> Result<(), AllocError> {
+    let mut work = Work::default();
+    let mut left = i64::MIN;
+    for back in 0..shares.len() {
+        let share = &shares[shares.len() - 1 - back];
+        work = work.with(share.amount);
+        left = left.max(share.left());
+        let room = (wait as i64 - share.head as i64).saturating_sub(left);
+        if work.may_take_longer(copies, room) {
+            late.push(Late {
+                after: share.head,
+                longest: work.longest_time(copies),
+            })?;
+        }
+    }
+    Ok(())
 }
 
 /// What the instructions of a load may add. The room is kept from one load to the next.
 #[derive(Drop)]
 pub struct Shares {
     shares: Vec<Share>,
+    /// The times after which they may say more than a wait.
+    late: Vec<Late>,
 }
 
 impl Shares {
@@ -80,6 +107,7 @@ impl Shares {
     pub fn new(alloc: Global) -> Shares {
         Shares {
             shares: Vec::new(alloc),
+            late: Vec::new(alloc),
         }
     }
 
@@ -89,6 +117,7 @@ impl Shares {
         let mut rest = load.numbers;
         while let Some(n) = rest.pop_first() {
             self.shares.push(Share {
+                number: n,
                 amount: load.ground.amount(n),
                 head: load.spans.between(load.from, at_start(n)).unwrap_or(0),
                 tail: load.spans.between(at_issue(n), load.to).unwrap_or(0),
@@ -116,20 +145,39 @@ impl Shares {
         }
     }
 
-    /// Whether some of them may say more than a wait; those are left out that can't. It takes time quadratic in how many there are.
-    pub fn may_pass(&mut self, copies: u32, wait: u32) -> bool {
+    /// Their numbers.
+    fn numbers(&self) -> Set {
+        let mut numbers = Set::empty();
+        for share in self.shares.as_slice() {
+            if 1 <= share.number && share.number as usize <= BLOCK_LIMIT {
+                numbers = numbers.with(share.number);
+            }
+        }
+        numbers
+    }
+
+    /// The numbers of all that are in loads which say more than a wait, if there may be such a load. It takes time quadratic in how many
+    /// there are at most, and mostly linear.
+    ///
+    /// `Err` is out of memory.
+    pub fn passing(&mut self, copies: u32, wait: u32) -> Result<Option<Set>, AllocError> {
         self.leave_out(copies, wait);
         // as many as there are units say no more than a path
         if self.shares.len() <= copies as usize {
-            return false;
+            return Ok(None);
+        }
+        sort(self.shares.as_mut_slice(), |share| -(share.head as i64));
+        self.late.clear();
+        find_late(self.shares.as_slice(), copies, wait, &mut self.late)?;
+        if self.late.is_empty() {
+            return Ok(None);
         }
         sort(self.shares.as_mut_slice(), |share| share.left());
-        let shares = self.shares.as_slice();
-        for share in shares {
-            if pass_after(shares, copies, share.head, wait) {
-                return true;
+        for late in self.late.as_slice() {
+            if pass_after(self.shares.as_slice(), copies, *late, wait) {
+                return Ok(Some(self.numbers()));
             }
         }
-        false
+        Ok(None)
     }
 }

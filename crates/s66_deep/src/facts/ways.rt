@@ -11,53 +11,81 @@ use s66_dep::Set;
 use s66_isa::BLOCK_LIMIT;
 use std::alloc::{AllocError, Global};
 
-/// When an instruction begins its use at the latest, as far as paths show, and how long it has its unit.
+/// A way by its head, in minor cycles, and its place among all.
 #[derive(Clone, Copy)]
-struct Latest {
+struct Headed {
     head: u32,
-    amount: u32,
+    place: usize,
 }
 
-/// How long so many units have work at most by those that begin so late.
-fn longest_after(latest: &[Latest], copies: u32, after: u32) -> u32 {
+/// A head after which the best is sought, how long units have work at most by those that begin so late, and the place of its first way.
+#[derive(Clone, Copy)]
+struct Late {
+    after: u32,
+    longest: u32,
+    place: usize,
+}
+
+/// Finds the heads after which ways may say more than a wait, by their work and by what is left after one of them. They are sorted by
+/// their heads, the least first.
+fn find_late(
+    ways: &[Way],
+    heads: &[Headed],
+    copies: u32,
+    wait: i64,
+    late: &mut Vec<Late>,
+) -> Result<(), AllocError> {
+    let mut seen = Set::empty();
     let mut work = Work::default();
-    for one in latest {
-        if one.head >= after {
-            work = work.with(one.amount);
+    let mut left = i64::MIN;
+    for back in 0..heads.len() {
+        let index = heads.len() - 1 - back;
+        let one = heads[index];
+        let Some(way) = ways.get(one.place) else {
+            continue;
+        };
+        let n = way.number;
+        if !seen.has(n) && n >= 1 && n as usize <= BLOCK_LIMIT {
+            seen = seen.with(n);
+            work = work.with(way.amount);
+        }
+        left = left.max(way.left);
+        // those with the same head come all before it is looked at
+        let is_first = index == 0 || heads[index - 1].head != one.head;
+        let room = wait.saturating_sub(one.head as i64).saturating_sub(left);
+        if is_first && one.head <= WAIT_LIMIT && work.may_take_longer(copies, room) {
+            late.push(Late {
+                after: one.head,
+                longest: work.longest_time(copies),
+                place: one.place,
+            })?;
         }
     }
-    work.longest_time(copies)
+    Ok(())
 }
 
-/// Whether a head is one of these.
-fn has_head(heads: &[u32], head: u32) -> bool {
-    for one in heads {
-        if *one == head {
-            return true;
-        }
-    }
-    false
-}
-
-/// The best of those that begin so late, or what was better. The ways are sorted, and the uses of those that begin so late take no longer
-/// than this.
-fn best_after(ways: &[Way], copies: u32, longest: u32, after: u32, best: Best) -> Best {
+/// The best of those that begin so late, or what was better. The ways are sorted.
+fn best_after(ways: &[Way], copies: u32, late: Late, best: Best) -> Best {
+    let after = late.after;
     let mut best = best;
     let mut seen = Set::empty();
     let mut work = Work::default();
     for way in ways {
+        if way.head < after {
+            continue;
+        }
+        let room = best
+            .wait
+            .saturating_sub(way.left)
+            .saturating_sub(after as i64);
         // those that follow have no more left
-        if (after as i64 + longest as i64).saturating_add(way.left) <= best.wait {
+        if late.longest as i64 <= room {
             return best;
         }
         let n = way.number;
-        if way.head >= after && !seen.has(n) && n >= 1 && n as usize <= BLOCK_LIMIT {
+        if !seen.has(n) && n >= 1 && n as usize <= BLOCK_LIMIT {
             seen = seen.with(n);
             work = work.with(way.amount);
-            let room = best
-                .wait
-                .saturating_sub(way.left)
-                .saturating_sub(after as i64);
             if work.takes_longer(copies, room) {
                 best = Best {
                     after,
@@ -75,10 +103,8 @@ fn best_after(ways: &[Way], copies: u32, longest: u32, after: u32, best: Best) -
 pub struct Ways {
     shares: Shares,
     ways: Vec<Way>,
-    /// The last way of each number.
-    latest: Vec<Latest>,
-    /// The heads after which the best was sought.
-    heads: Vec<u32>,
+    heads: Vec<Headed>,
+    late: Vec<Late>,
 }
 
 impl Ways {
@@ -87,8 +113,8 @@ impl Ways {
         Ways {
             shares: Shares::new(alloc),
             ways: Vec::new(alloc),
-            latest: Vec::new(alloc),
             heads: Vec::new(alloc),
+            late: Vec::new(alloc),
         }
     }
 
@@ -100,28 +126,32 @@ impl Ways {
         Ok(())
     }
 
-    /// Adds the ways of an instruction of a load: its use begins at its issue or at its start, which comes later.
-    fn add_both(&mut self, load: &Load, n: u8) -> Result<(), AllocError> {
-        let (issue, start) = (load.way(n, at_issue(n)), load.way(n, at_start(n)));
-        if let Some(way) = start.or(issue) {
-            self.latest.push(Latest {
-                head: way.head,
-                amount: way.amount,
-            })?;
-        }
-        self.add(issue)?;
-        self.add(start)
-    }
-
-    /// Finds those of a load, sorted by what is left, the most first.
+    /// Finds those of a load, sorted by what is left, the most first. The use of an instruction begins at its issue or at its start.
     fn find(&mut self, load: &Load) -> Result<(), AllocError> {
         self.ways.clear();
-        self.latest.clear();
         let mut rest = load.numbers;
         while let Some(n) = rest.pop_first() {
-            self.add_both(load, n)?;
+            self.add(load.way(n, at_issue(n)))?;
+            self.add(load.way(n, at_start(n)))?;
         }
         sort(self.ways.as_mut_slice(), |way| way.left);
+        Ok(())
+    }
+
+    /// Finds the heads after which they may say more than a wait, each in the place of its first way.
+    fn find_heads(&mut self, copies: u32, wait: i64) -> Result<(), AllocError> {
+        self.heads.clear();
+        self.late.clear();
+        let ways = self.ways.as_slice();
+        for place in 0..ways.len() {
+            self.heads.push(Headed {
+                head: ways[place].head,
+                place,
+            })?;
+        }
+        sort(self.heads.as_mut_slice(), |one| -(one.head as i64));
+        find_late(ways, self.heads.as_slice(), copies, wait, &mut self.late)?;
+        sort(self.late.as_mut_slice(), |one| -(one.place as i64));
         Ok(())
     }
 
@@ -130,24 +160,19 @@ impl Ways {
     /// `Err` is out of memory.
     pub fn best(&mut self, load: &Load, wait: u32) -> Result<Option<Best>, AllocError> {
         self.shares.find(load)?;
-        if !self.shares.may_pass(load.copies, wait) {
+        let Some(numbers) = self.shares.passing(load.copies, wait)? else {
             return Ok(None);
-        }
-        self.find(load)?;
-        self.heads.clear();
-        let (ways, latest) = (self.ways.as_slice(), self.latest.as_slice());
+        };
+        self.find(&Load { numbers, ..*load })?;
+        self.find_heads(load.copies, wait as i64)?;
+        let ways = self.ways.as_slice();
         let mut best = Best {
             after: 0,
             left: 0,
             wait: wait as i64,
         };
-        for way in ways {
-            let after = way.head;
-            if after <= WAIT_LIMIT && !has_head(self.heads.as_slice(), after) {
-                self.heads.push(after)?;
-                let longest = longest_after(latest, load.copies, after);
-                best = best_after(ways, load.copies, longest, after, best);
-            }
+        for late in self.late.as_slice() {
+            best = best_after(ways, load.copies, *late, best);
         }
         if best.wait > wait as i64 {
             Ok(Some(best))
