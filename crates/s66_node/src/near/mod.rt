@@ -1,5 +1,4 @@
 //! Of the legal orders of a block that take as long, one that is nearer to the source order.
-#![tactic(auto)]
 
 mod draft;
 mod nearest;
