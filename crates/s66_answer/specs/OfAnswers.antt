@@ -20,7 +20,7 @@ bounded_if false = 1
 abbrev pub count_bounded : List Answer → ℕ
 count_bounded answers = weigh (λ (a : Answer). bounded_if (a.bound == a.time)) answers
 
--- done if each is best, of so many that aren't and of so many answers
+-- done if no answer is only bounded; else how many are, and of how many
 abbrev pub status_by : (bounded of : ℕ) → Status
 status_by bounded of = if bounded == 0 then Done else Bounded bounded of
 

@@ -447,7 +447,7 @@ fn in_fewer_lines(
     shown_or_searched(alloc, block, profile, answer, beside, evidence)
 }
 
-/// How many splits a tree may have that is to be shorter than one of so many lines, if it may have so many.
+/// How many splits a tree may have to be shorter than one of so many lines: in no case more than `most`.
 fn shorter_splits(lines: usize, most: u32) -> u32
     ensures { result ≤ most }
 {

@@ -9,7 +9,7 @@ pub enum Status {
     Done,
     /// What the input claims was found wrong.
     Denied,
-    /// Of so many blocks so many are only bounded: what they were given to search was spent before the end.
+    /// This many of all blocks are only bounded: what they were given to search was spent before the end.
     Bounded { blocks: usize, of: usize },
     /// Something may be wrong with the input, and nothing is refused.
     Listed,
@@ -39,7 +39,7 @@ impl Status {
     }
 }
 
-/// Done if all orders are best, of so many that aren't and of so many in all.
+/// Done if no order is only bounded; else how many are, and of how many.
 pub(crate) fn status_by(bounded: usize, of: usize) -> Status
     ensures { result ≡ status_by bounded of }
 {

@@ -196,7 +196,7 @@ fn push_said(
     push_escaped(out, said.as_slice())
 }
 
-/// That, as a link to the blocks of the row.
+/// What `compare --text` says of a row, as a link to its blocks.
 #[tactic(auto, unfolding(crate::specs::Pairs::pair_link))]
 fn push_pair_link(
     out: &mut Vec<u8>,
@@ -215,7 +215,7 @@ fn push_pair_link(
     push_text(out, b"</a>\n")
 }
 
-/// That, as the heading of the blocks of the row.
+/// What `compare --text` says of a row, as the heading of its blocks.
 #[tactic(auto, unfolding(crate::specs::Pairs::pair_head))]
 fn push_pair_head(
     out: &mut Vec<u8>,
