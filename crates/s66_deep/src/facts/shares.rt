@@ -41,15 +41,6 @@ fn longest_after(shares: &[Share], copies: u32, after: u32) -> u32 {
     work.longest_time(copies)
 }
 
-/// How long so many units have work by any of these at most.
-fn longest_time(shares: &[Share], copies: u32) -> u32 {
-    let mut work = Work::default();
-    for share in shares {
-        work = work.with(share.amount);
-    }
-    work.longest_time(copies)
-}
-
 /// Whether some of these that begin so late may say more than a wait. They are sorted.
 fn pass_after(shares: &[Share], copies: u32, after: u32, wait: u32) -> bool {
     let longest = longest_after(shares, copies, after);
@@ -100,7 +91,7 @@ impl Shares {
 
     /// How long so many units have work by any of them at most.
     pub fn longest_time(&self, copies: u32) -> u32 {
-        longest_time(self.shares.as_slice(), copies)
+        longest_after(self.shares.as_slice(), copies, 0)
     }
 
     /// Leaves out those that are in no load which says more than a wait. All uses of such a load lie between the two places, with what
