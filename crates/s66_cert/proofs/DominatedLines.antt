@@ -7,7 +7,7 @@ use Rattle.s66_model.specs.declared.rule.Rule.{Rule}
 use Rattle.s66_model.specs.declared.rule.Rule.TheVariants.{NoneNamed, ClampedStanding}
 use Rattle.s66_model.specs.Tree.{Tree, Vertex, AtTerminal, AtSplit, flat}
 use Rattle.s66_model.specs.DominatedLeaves.{Ending, Bounding, Dominated, Next, Turned, AtLine, LoadFrom}
-use Rattle.s66_moments.specs.declared.fact_line.FactLine.{FactLine}
+use Rattle.s66_moments.specs.declared.fact_line.FactStep.{FactStep}
 use Rattle.s66_tree.specs.Lines.{has_dominated_line}
 use Rattle.s66_cert.specs.Document.{names_nodes, is_factual, has_dominated, AreFacts, HasItsLeaves}
 use Rattle.s66_cert.specs.Reading.{is_allowed, first_facts}
@@ -88,18 +88,18 @@ none-true false h = refl
 -- WHAT A DOCUMENT HAS
 
 -- the lines are those of a document with such fact lines by this rule
-abbrev pub AreAllowed : Rule → Option (List FactLine) → List (Vertex Ending) → Type 0
+abbrev pub AreAllowed : Rule → Option (List FactStep) → List (Vertex Ending) → Type 0
 AreAllowed rule facts vertices = every (is_allowed (names_nodes rule && not (is_some facts)) (is_some facts)) vertices ≡ true
 
-pub leaves-allowed : (rule : Rule) (facts : Option (List FactLine)) (tree : Tree Ending) → HasItsLeaves rule facts tree → AreAllowed rule facts (flat tree)
+pub leaves-allowed : (rule : Rule) (facts : Option (List FactStep)) (tree : Tree Ending) → HasItsLeaves rule facts tree → AreAllowed rule facts (flat tree)
 leaves-allowed rule None tree (named, none) =
     all-allowed (names_nodes rule && true) false (flat tree) (λ has. and_true (names_nodes rule) ∙ named ∙ has) (λ has. sym none ∙ has)
-leaves-allowed rule (Some lines) tree none =
+leaves-allowed rule (Some steps) tree none =
     all-allowed (names_nodes rule && false) true (flat tree) (λ has. absurd (let clash = sym none ∙ has in (cc))) (λ has. refl)
 
-pub leaves-wanting : (rule : Rule) (facts : Option (List FactLine)) (tree : Tree Ending) → HasItsLeaves rule facts tree → (names_nodes rule && not (is_some facts) && not (has_dominated tree)) ≡ false
+pub leaves-wanting : (rule : Rule) (facts : Option (List FactStep)) (tree : Tree Ending) → HasItsLeaves rule facts tree → (names_nodes rule && not (is_some facts) && not (has_dominated tree)) ≡ false
 leaves-wanting rule None tree (named, none) = not-wanting (names_nodes rule && true) (has_dominated tree) (and_true (names_nodes rule) ∙ named)
-leaves-wanting rule (Some lines) tree none = rw (and_false (names_nodes rule)) refl
+leaves-wanting rule (Some steps) tree none = rw (and_false (names_nodes rule)) refl
 
 -- without fact lines there is none of their leaves
 no-factual : (dominated : Bool) (vertices : List (Vertex Ending)) → every (is_allowed dominated false) vertices ≡ true → some_of is_factual vertices ≡ false
@@ -109,32 +109,32 @@ no-factual dominated vertices all = none-true (some_of is_factual vertices) (fac
 no-dominated : (rule : Rule) (factual : Bool) (vertices : List (Vertex Ending)) → every (is_allowed (names_nodes rule && false) factual) vertices ≡ true → has_dominated_line vertices ≡ false
 no-dominated rule factual vertices all = none-true (has_dominated_line vertices) (λ has. sym (and_false (names_nodes rule)) ∙ dominated-allowed (names_nodes rule && false) factual vertices all has)
 
-pub leaves-whole : (rule : Rule) (facts : Option (List FactLine)) (tree : Tree Ending) → AreAllowed rule facts (flat tree) → (names_nodes rule && not (is_some facts) && not (has_dominated tree)) ≡ false → HasItsLeaves rule facts tree
+pub leaves-whole : (rule : Rule) (facts : Option (List FactStep)) (tree : Tree Ending) → AreAllowed rule facts (flat tree) → (names_nodes rule && not (is_some facts) && not (has_dominated tree)) ≡ false → HasItsLeaves rule facts tree
 leaves-whole rule None tree all none =
     let named = names-exactly (names_nodes rule && true) (has_dominated tree) (dominated-allowed (names_nodes rule && true) false (flat tree) all) none in
     (sym (and_true (names_nodes rule)) ∙ named, no-factual (names_nodes rule && true) (flat tree) all)
-leaves-whole rule (Some lines) tree all none = no-dominated rule true (flat tree) all
+leaves-whole rule (Some steps) tree all none = no-dominated rule true (flat tree) all
 
 -- whatever is missing, by its rule or by none
-pub leaves-open : (rule : Rule) (facts : Option (List FactLine)) (tree : Tree Ending) → AreFacts BLOCK_LIMIT rule facts → AreAllowed rule facts (flat tree) →
+pub leaves-open : (rule : Rule) (facts : Option (List FactStep)) (tree : Tree Ending) → AreFacts BLOCK_LIMIT rule facts → AreAllowed rule facts (flat tree) →
     (AreFacts BLOCK_LIMIT rule facts × HasItsLeaves rule facts tree) ⊎ (AreFacts BLOCK_LIMIT NoneNamed facts × HasItsLeaves NoneNamed facts tree)
 leaves-open rule None tree are all = by (has_dominated tree) refl
   where
     by : (has : Bool) → has_dominated tree ≡ has → (AreFacts BLOCK_LIMIT rule None × HasItsLeaves rule None tree) ⊎ (AreFacts BLOCK_LIMIT NoneNamed None × HasItsLeaves NoneNamed None tree)
     by true e = inl (are, (sym (and_true (names_nodes rule)) ∙ dominated-allowed (names_nodes rule && true) false (flat tree) all e ∙ sym e, no-factual (names_nodes rule && true) (flat tree) all))
     by false e = inr (tt, (sym e, no-factual (names_nodes rule && true) (flat tree) all))
-leaves-open rule (Some lines) tree are all = inl (are, no-dominated rule true (flat tree) all)
+leaves-open rule (Some steps) tree are all = inl (are, no-dominated rule true (flat tree) all)
 
-pub facts-fit : (limit : ℕ) (rule : Rule) (facts : Option (List FactLine)) → AreFacts limit rule facts → is_some facts ≡ true → rule ≡ ClampedStanding
+pub facts-fit : (limit : ℕ) (rule : Rule) (facts : Option (List FactStep)) → AreFacts limit rule facts → is_some facts ≡ true → rule ≡ ClampedStanding
 facts-fit limit rule None are some = absurd (cc)
-facts-fit limit rule (Some lines) are some = are.0
+facts-fit limit rule (Some steps) are some = are.0
 
 -- if none is dominated by no rule, the lines are allowed by any
-pub leaves-any : (limit : ℕ) (rule : Rule) (facts : Option (List FactLine)) (tree : Tree Ending) → AreFacts limit NoneNamed facts → HasItsLeaves NoneNamed facts tree →
+pub leaves-any : (limit : ℕ) (rule : Rule) (facts : Option (List FactStep)) (tree : Tree Ending) → AreFacts limit NoneNamed facts → HasItsLeaves NoneNamed facts tree →
     (is_some facts ≡ true → rule ≡ ClampedStanding) × AreAllowed rule facts (flat tree)
 leaves-any limit rule None tree are (named, none) =
     (λ some. absurd (cc), all-allowed (names_nodes rule && true) false (flat tree) (λ has. absurd (let clash = named ∙ has in (cc))) (λ has. sym none ∙ has))
-leaves-any limit rule (Some lines) tree are none = absurd (let clash = are.0 in (cc))
+leaves-any limit rule (Some steps) tree are none = absurd (let clash = are.0 in (cc))
 
 -- FACT LINES THAT ARE READ
 

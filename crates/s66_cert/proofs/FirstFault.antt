@@ -7,7 +7,7 @@ use Rattle.s66_model.specs.Tree.{AtTerminal, AtSplit}
 use Rattle.s66_cert.specs.Document.{Document, IsTextWithin}
 use Rattle.s66_cert.specs.Faults.{IsLine, HaveNoNewline, BeginsWithin, Begins, HasLine, IsBadLine, IsSplitTooMany, IsCut, IsFault}
 use Rattle.s66_cert.specs.Lines.{DocumentLine, Header, Profile, Block, Instruction, Time, Bound, Order, OfFact, OfTree, End, line_read}
-use Rattle.s66_cert.specs.Reading.{DocumentState, first_state, place_of_tree, with_vertex, is_leaf_of, takes_fact, wants_dominated, step_at, step_if, step, and_then, steps, ended, is_header, read_within, whole_lines, last_bytes}
+use Rattle.s66_cert.specs.Reading.{DocumentState, first_state, place_of_tree, with_vertex, is_leaf_of, takes_step, is_wanting, step_at, step_if, step, and_then, steps, ended, is_header, read_within, whole_lines, last_bytes}
 use Rattle.s66_line.specs.Fields.{with_newlines}
 use Rattle.s66_cert.specs.declared.limits.TheConstants.{SPLIT_LIMIT}
 use Rattle.s66_cert.specs.declared.error.CertError.{CertError}
@@ -37,18 +37,18 @@ outcome-unless s t true counted = IsBad (λ most. refl)
 outcome-unless s t false counted = IsGood t counted (λ most. refl)
 
 pub outcome-at : (s : DocumentState) (place : DocumentPlace) (l : DocumentLine) → Outcome s (λ most. step_at most s place l)
-outcome-at s AtHeader (Header facts rule) = IsGood _ refl (λ most. refl)
+outcome-at s AtHeader (Header version) = IsGood _ refl (λ most. refl)
 outcome-at s AtProfile (Profile numbers) = IsGood _ refl (λ most. refl)
 outcome-at s AtBlock (Block count) = IsGood _ refl (λ most. refl)
 outcome-at s AtInstruction (Instruction text) = IsGood _ refl (λ most. refl)
 outcome-at s AtTime (Time time) = IsGood _ refl (λ most. refl)
 outcome-at s AtBound (Bound bound) = IsGood _ refl (λ most. refl)
 outcome-at s AtOrder (Order numbers) = IsGood _ refl (λ most. refl)
-outcome-at s AtTree (OfFact line) = outcome-test s _ (takes_fact s.part) refl
+outcome-at s AtTree (OfFact step) = outcome-test s _ (takes_step s.version s.part step) refl
 outcome-at s AtTree (OfTree (AtTerminal ending)) = outcome-test s _ (is_leaf_of s.part (AtTerminal ending)) refl
 outcome-at s AtTree (OfTree (AtSplit numbers)) =
-    IsSplit (record { count = suc s.count; documents = s.documents; place = place_of_tree (s.left - 1 + length numbers); part = with_vertex s.part (AtSplit numbers); left = s.left - 1 + length numbers; splits = suc s.splits }) refl (λ most. refl)
-outcome-at s AtEnd End = outcome-unless s _ (wants_dominated s.part) refl
+    IsSplit (record { count = suc s.count; documents = s.documents; place = place_of_tree (s.left - 1 + length numbers); version = s.version; part = with_vertex s.part (AtSplit numbers); left = s.left - 1 + length numbers; splits = suc s.splits }) refl (λ most. refl)
+outcome-at s AtEnd End = outcome-unless s _ (is_wanting s.version s.part) refl
 outcome-at s place l = IsBad (λ most. refl)
 
 outcome-if : (s : DocumentState) (o : Option DocumentLine) → Outcome s (λ most. step_if most s o)

@@ -9,6 +9,7 @@ pub mod Spelled
 pub mod LineTexts
 pub mod DocumentLines
 pub mod DominatedLines
+pub mod Heads
 pub mod LineBytes
 pub mod TextLines
 pub mod States

@@ -1,13 +1,12 @@
 -- No line of a document has a newline.
-use Rattle.std.proofs.Common.{Bool, true, false, Option, None, Some, ◌<◌, ◌^◌, ℕ, List, [], ◌∷◌, ◌++◌, map, refl, arith}
-use Rattle.std.specs.Prelude.{◌≡◌, codes, decimal, is_some}
+use Rattle.std.proofs.Common.{Option, None, Some, ◌<◌, ◌^◌, ℕ, List, [], ◌∷◌, ◌++◌, map, refl, arith}
+use Rattle.std.specs.Prelude.{codes, decimal}
 use Rattle.s66_isa.specs.Lists.{after_blanks}
 use Rattle.s66_isa.specs.declared.instr.Kind.{Kind}
 use Rattle.s66_isa.specs.declared.instr.Kind.TheVariants.{Boolean, Shift, Add, LongAdd, Multiply, Divide, Increment}
 use Rattle.s66_line.proofs.NoLineEnds.{one-line}
 use Rattle.s66_line.proofs.Wholes.{every-append}
 use Rattle.s66_model.specs.declared.rule.Rule.{Rule}
-use Rattle.s66_model.specs.declared.rule.Rule.TheVariants.{NoneNamed, WrittenEarlier, ClampedStanding}
 use Rattle.s66_model.specs.Leaves.{Whole, Chain, Load, Parcels}
 use Rattle.s66_model.specs.Tree.{Tree, Alone, Parted, Siblings, NoMore, Unsplit, Split, Vertex, AtTerminal, AtSplit, flat, flat_siblings}
 use Rattle.s66_model.specs.DominatedLeaves.{Ending, Bounding, Dominated, Next, Turned, AtLine, LoadFrom}
@@ -15,15 +14,18 @@ use Rattle.s66_moments.specs.declared.moment.Stage.TheVariants.{Issue, Start, Do
 use Rattle.s66_moments.specs.declared.moment.Moment.{Moment}
 use Rattle.s66_moments.specs.declared.moment.Moment.TheVariants.{Origin, At}
 use Rattle.s66_moments.specs.declared.moment.Moment.TheVariants as moment
-use Rattle.s66_moments.specs.declared.fact_line.FactLine.{FactLine}
+use Rattle.s66_moments.specs.declared.fact_line.FactStep.{FactStep}
+use Rattle.s66_moments.specs.declared.fact_line.FactStep.TheVariants as step
 use Rattle.s66_moments.specs.declared.fact_line.FactLine.TheVariants as fact
 use Rattle.s66_moments.specs.Known.{IsMomentWithin}
-use Rattle.s66_cert.specs.Document.{Document, IsDocumentWithin, AreDocumentsWithin, AreIn, AreInstructions, AreFactLines, AreFacts, SiblingsFit, TreeFits, moment_text, version}
+use Rattle.s66_cert.specs.Document.{Document, IsDocumentWithin, AreDocumentsWithin, AreIn, AreInstructions, AreFactSteps, AreFacts, SiblingsFit, TreeFits, moment_text}
 use Rattle.s66_isa.specs.KindNames.{kind_name}
 use Rattle.s66_cert.specs.Faults.{IsLine, HaveNoNewline}
 use Rattle.s66_cert.specs.Lines.{DocumentLine, Header, Profile, Block, Instruction, Time, Bound, Order, OfFact, OfTree, End, line_bytes, IsLineInRange}
-use Rattle.s66_cert.proofs.DocumentLines.{documents_lines, document_lines, open_lines, instructions_of, fact_lines_of, facts_of, vertices_of}
-use Rattle.s66_cert.proofs.DominatedLines.{facts-fit}
+use Rattle.s66_cert.proofs.DocumentLines.{documents_lines, document_lines, open_lines, instructions_of, steps_of, facts_of, vertices_of}
+use Rattle.s66_cert.specs.declared.version.Version.{Version}
+use Rattle.s66_cert.specs.declared.version.Version.TheVariants.{BoundsAlone, EarlierNodes, StandingNodes, FactLines, Suppositions}
+use Rattle.s66_cert.specs.Versions.{version, version_number}
 use Rattle.s66_cert.proofs.NumberTexts.{decimal-clear}
 
 decimal-line : (n : ℕ) → n < 2 ^ 64 → IsLine (decimal n)
@@ -42,11 +44,12 @@ kind-line Multiply = refl
 kind-line Divide = refl
 kind-line Increment = refl
 
-version-narrow : (facts : Bool) (rule : Rule) → version facts rule < 2 ^ 64
-version-narrow true rule = omega arith
-version-narrow false NoneNamed = omega arith
-version-narrow false WrittenEarlier = omega arith
-version-narrow false ClampedStanding = omega arith
+version-narrow : (v : Version) → version_number v < 2 ^ 64
+version-narrow BoundsAlone = omega arith
+version-narrow EarlierNodes = omega arith
+version-narrow StandingNodes = omega arith
+version-narrow FactLines = omega arith
+version-narrow Suppositions = omega arith
 
 moment-line : (limit : ℕ) (m : Moment) → limit < 2 ^ 64 → IsMomentWithin limit m → IsLine (moment_text m)
 moment-line limit Origin narrow is = refl
@@ -64,7 +67,7 @@ load-line from to after wait numbers is_from is_to few_after few_wait are =
     every-append _ (from ++ codes " " ++ to) (after_blanks (after ∷ wait ∷ numbers)) (every-append _ (from ++ codes " ") to (every-append _ from (codes " ") is_from refl) is_to) amounts
 
 pub is-line : (limit : ℕ) (l : DocumentLine) → limit < 2 ^ 64 → IsLineInRange limit l → IsLine (line_bytes l)
-is-line limit (Header facts rule) narrow is = decimal-line (version facts rule) (version-narrow facts rule)
+is-line limit (Header v) narrow is = decimal-line (version_number v) (version-narrow v)
 is-line limit (Profile numbers) narrow is = after_blanks-line 1 100 numbers (omega arith) is.1
 is-line limit (Block count) narrow is = decimal-line count (omega (arith, narrow, is.1))
 is-line limit (Instruction text) narrow is = one-line text is
@@ -81,8 +84,10 @@ is-line limit (OfTree (AtTerminal (Turned n m))) narrow is = after_blanks-line 1
 is-line limit (OfTree (AtTerminal (AtLine n))) narrow is = decimal-line n (omega (arith, is.1))
 is-line limit (OfTree (AtTerminal (LoadFrom after numbers))) narrow is =
     every-append _ (decimal after) (after_blanks numbers) (decimal-line after (omega (arith, is.0))) (after_blanks-line 1 limit numbers narrow is.1.2)
-is-line limit (OfFact (fact.Pair n m)) narrow is = after_blanks-line 1 limit (n ∷ m ∷ []) narrow is
-is-line limit (OfFact (fact.Load line)) narrow is =
+is-line limit (OfFact (step.Suppose n m)) narrow is = after_blanks-line 1 limit (n ∷ m ∷ []) narrow is
+is-line limit (OfFact step.Refuted) narrow is = refl
+is-line limit (OfFact (step.Fact (fact.Pair n m))) narrow is = after_blanks-line 1 limit (n ∷ m ∷ []) narrow is
+is-line limit (OfFact (step.Fact (fact.Load line))) narrow is =
     load-line (moment_text line.from) (moment_text line.to) line.after line.wait line.numbers.items (moment-line limit line.from narrow is.0.front.1) (moment-line limit line.to narrow is.0.back.1)
     (omega (arith, is.1.1)) (omega (arith, is.1.2.1)) (after_blanks-line 1 limit line.numbers.items narrow is.2.2)
 is-line limit (OfTree (AtSplit numbers)) narrow is = after_blanks-line 1 limit numbers narrow is.2
@@ -102,13 +107,13 @@ instructions-range : (limit : ℕ) (texts : List (List ℕ)) → AreInstructions
 instructions-range limit [] are = tt
 instructions-range limit (text ∷ texts) are = (are.0, instructions-range limit texts are.1)
 
-lines-range : (limit : ℕ) (lines : List FactLine) → AreFactLines limit lines → AreInRange limit (fact_lines_of lines)
-lines-range limit [] are = tt
-lines-range limit (line ∷ lines) are = (are.0, lines-range limit lines are.1)
+steps-range : (limit : ℕ) (steps : List FactStep) → AreFactSteps limit steps → AreInRange limit (steps_of steps)
+steps-range limit [] are = tt
+steps-range limit (s ∷ steps) are = (are.0, steps-range limit steps are.1)
 
-facts-range : (limit : ℕ) (rule : Rule) (facts : Option (List FactLine)) → AreFacts limit rule facts → AreInRange limit (facts_of facts)
+facts-range : (limit : ℕ) (rule : Rule) (facts : Option (List FactStep)) → AreFacts limit rule facts → AreInRange limit (facts_of facts)
 facts-range limit rule None are = tt
-facts-range limit rule (Some lines) are = lines-range limit lines are.2
+facts-range limit rule (Some steps) are = steps-range limit steps are.2
 
 vertices-append : (limit : ℕ) (xs ys : List (Vertex Ending)) → AreInRange limit (vertices_of xs) → AreInRange limit (vertices_of ys) → AreInRange limit (vertices_of (xs ++ ys))
 vertices-append limit [] ys h k = k
@@ -126,14 +131,14 @@ tree-range : (limit : ℕ) (tree : Tree Ending) → TreeFits limit tree → AreI
 tree-range limit (Alone leaf) fits = (fits, tt)
 tree-range limit (Parted numbers siblings) fits = (fits.0, siblings-range limit numbers siblings fits.1)
 
--- whatever the rule
-open-range : (limit most : ℕ) (d : Document) (other : Rule) → IsDocumentWithin limit most (record d { rule = other }) → (is_some d.facts ≡ true → d.rule ≡ ClampedStanding) → AreInRange limit (open_lines d)
-open-range limit most d other is fits =
-    let tree : AreInRange limit (facts_of d.facts ++ vertices_of (flat d.tree)) = range-append limit (facts_of d.facts) (vertices_of (flat d.tree)) (facts-range limit other d.facts is.facts) (tree-range limit d.tree is.tree) in
-    (fits, (is.profile, ((is.block.0, is.block.1), range-append limit (instructions_of d.block) _ (instructions-range limit d.block is.block.2) (is.time, (is.bound, (is.numbers, tree))))))
+-- whatever the version at its head
+open-range : (limit most : ℕ) (head : Version) (d : Document) → IsDocumentWithin limit most d → AreInRange limit (open_lines head d)
+open-range limit most head d is =
+    let tree : AreInRange limit (facts_of d.facts ++ vertices_of (flat d.tree)) = range-append limit (facts_of d.facts) (vertices_of (flat d.tree)) (facts-range limit d.rule d.facts is.facts) (tree-range limit d.tree is.tree) in
+    (tt, (is.profile, ((is.block.0, is.block.1), range-append limit (instructions_of d.block) _ (instructions-range limit d.block is.block.2) (is.time, (is.bound, (is.numbers, tree))))))
 
 document-range : (limit most : ℕ) (d : Document) → IsDocumentWithin limit most d → AreInRange limit (document_lines d)
-document-range limit most d is = range-append limit (open_lines d) (End ∷ []) (open-range limit most d d.rule is (facts-fit limit d.rule d.facts is.facts)) (tt, tt)
+document-range limit most d is = range-append limit (open_lines (version d.facts d.rule) d) (End ∷ []) (open-range limit most (version d.facts d.rule) d is) (tt, tt)
 
 documents-range : (limit most : ℕ) (ds : List Document) → AreDocumentsWithin limit most ds → AreInRange limit (documents_lines ds)
 documents-range limit most [] are = tt
@@ -143,8 +148,8 @@ range-lines : (limit : ℕ) (ls : List DocumentLine) → limit < 2 ^ 64 → AreI
 range-lines limit [] narrow are = tt
 range-lines limit (l ∷ ls) narrow are = (is-line limit l narrow are.0, range-lines limit ls narrow are.1)
 
-pub lines-of-open : (limit most : ℕ) (d : Document) (other : Rule) → limit < 2 ^ 64 → IsDocumentWithin limit most (record d { rule = other }) → (is_some d.facts ≡ true → d.rule ≡ ClampedStanding) → HaveNoNewline (map line_bytes (open_lines d))
-lines-of-open limit most d other narrow is fits = range-lines limit (open_lines d) narrow (open-range limit most d other is fits)
+pub lines-of-open : (limit most : ℕ) (head : Version) (d : Document) → limit < 2 ^ 64 → IsDocumentWithin limit most d → HaveNoNewline (map line_bytes (open_lines head d))
+lines-of-open limit most head d narrow is = range-lines limit (open_lines head d) narrow (open-range limit most head d is)
 
 pub lines-of-documents : (limit most : ℕ) (ds : List Document) → limit < 2 ^ 64 → AreDocumentsWithin limit most ds → HaveNoNewline (map line_bytes (documents_lines ds))
 lines-of-documents limit most ds narrow are = range-lines limit (documents_lines ds) narrow (documents-range limit most ds are)

@@ -11,8 +11,9 @@ use Rattle.std.specs.Str.{bytes_eq}
 use Rattle.s66_isa.specs.Lists.{after_blanks}
 use Rattle.s66_isa.specs.declared.instr.Kind.{Kind}
 use Rattle.s66_isa.specs.declared.instr.Kind.TheVariants.{Boolean, Shift, Add, LongAdd, Multiply, Divide, Increment}
-use Rattle.s66_model.specs.declared.rule.Rule.{Rule}
-use Rattle.s66_model.specs.declared.rule.Rule.TheVariants.{NoneNamed, WrittenEarlier, ClampedStanding}
+use Rattle.s66_cert.specs.declared.version.Version.{Version}
+use Rattle.s66_cert.specs.declared.version.Version.TheVariants.{BoundsAlone, EarlierNodes, StandingNodes, FactLines, Suppositions}
+use Rattle.s66_cert.specs.Versions.{version_number}
 use Rattle.s66_model.specs.Leaves.{Whole, Chain, Load, Parcels}
 use Rattle.s66_model.specs.Tree.{AtTerminal, AtSplit}
 use Rattle.s66_model.specs.DominatedLeaves.{Bounding, Dominated, Next, Turned, AtLine, LoadFrom}
@@ -21,8 +22,9 @@ use Rattle.s66_moments.specs.declared.moment.Moment.{Moment}
 use Rattle.s66_moments.specs.declared.moment.Moment.TheVariants.{Origin, At}
 use Rattle.s66_moments.specs.declared.moment.Moment.TheVariants as moment
 use Rattle.s66_moments.specs.declared.fact_line.FactLine.TheVariants as fact
+use Rattle.s66_moments.specs.declared.fact_line.FactStep.TheVariants as step
 use Rattle.s66_moments.specs.Known.{is_front, is_back, IsMomentWithin}
-use Rattle.s66_cert.specs.Document.{AreIn, AreNumbers, moment_text, version}
+use Rattle.s66_cert.specs.Document.{AreIn, AreNumbers, moment_text}
 use Rattle.s66_isa.specs.KindNames.{kind_name}
 use Rattle.s66_isa.specs.declared.limits.TheConstants.{PROFILE_LENGTH, PROFILE_LIMIT}
 use Rattle.s66_cert.specs.declared.limits.TheConstants.{TIME_LIMIT, LINE_LIMIT}
@@ -59,19 +61,19 @@ kind-again Divide = refl
 kind-again Increment = refl
 
 -- a version has one digit
-pub version-digit : (facts : Bool) (rule : Rule) → decimal (version facts rule) ≡ (48 + version facts rule) ∷ []
-version-digit true rule = decimal_digit 4 (omega arith)
-version-digit false NoneNamed = decimal_digit 1 (omega arith)
-version-digit false WrittenEarlier = decimal_digit 2 (omega arith)
-version-digit false ClampedStanding = decimal_digit 3 (omega arith)
+pub version-digit : (v : Version) → decimal (version_number v) ≡ (48 + version_number v) ∷ []
+version-digit BoundsAlone = decimal_digit 1 (omega arith)
+version-digit EarlierNodes = decimal_digit 2 (omega arith)
+version-digit StandingNodes = decimal_digit 3 (omega arith)
+version-digit FactLines = decimal_digit 4 (omega arith)
+version-digit Suppositions = decimal_digit 5 (omega arith)
 
-header-again : (facts : Bool) (rule : Rule) → (facts ≡ true → rule ≡ ClampedStanding) → header_in (Some (codes "CERTIFICATE " ++ (48 + version facts rule) ∷ [])) ≡ Some (Header facts rule)
-header-again true NoneNamed is = absurd (let no = is refl in (cc))
-header-again true WrittenEarlier is = absurd (let no = is refl in (cc))
-header-again true ClampedStanding is = refl
-header-again false NoneNamed is = refl
-header-again false WrittenEarlier is = refl
-header-again false ClampedStanding is = refl
+header-again : (v : Version) → header_in (Some (codes "CERTIFICATE " ++ (48 + version_number v) ∷ [])) ≡ Some (Header v)
+header-again BoundsAlone = refl
+header-again EarlierNodes = refl
+header-again StandingNodes = refl
+header-again FactLines = refl
+header-again Suppositions = refl
 
 pair-again : (limit n m : ℕ) (f : ℕ → ℕ → DocumentLine) → limit < 2 ^ 64 → AreIn 1 limit (n ∷ m ∷ []) → pair_with f (two_numbers limit (Some (decimal n ++ after_blanks (m ∷ [])))) ≡ Some (f n m)
 pair-again limit n m f narrow are = ap (pair_with f) (list-again 1 limit 2 2 n (m ∷ []) narrow are (omega arith) (omega arith))
@@ -140,7 +142,7 @@ behind-both f t more = append_assoc (f ++ codes " ") t more ∙ append_assoc f (
 
 load-again : (limit : ℕ) (from to : Moment) (after wait : ℕ) (ns : List ℕ) → limit < 2 ^ 64 → (is_front from ≡ true) × IsMomentWithin limit from → (is_back to ≡ true) × IsMomentWithin limit to →
     AreIn 0 TIME_LIMIT (after ∷ wait ∷ []) → AreNumbers limit ns →
-    load_in limit (Some (moment_text from ++ codes " " ++ moment_text to ++ after_blanks (after ∷ wait ∷ ns))) ≡ Some (OfFact (fact.Load (record { from = from; to = to; after = after; wait = wait; numbers = record { items = ns } })))
+    load_in limit (Some (moment_text from ++ codes " " ++ moment_text to ++ after_blanks (after ∷ wait ∷ ns))) ≡ Some (OfFact (step.Fact (fact.Load (record { from = from; to = to; after = after; wait = wait; numbers = record { items = ns } }))))
 load-again limit from to after wait [] narrow front back amounts are = absurd (omega (arith, are.0))
 load-again limit from to after wait (n ∷ ns) narrow front back amounts are =
     ap (λ (text : List ℕ). load_in limit (Some text)) (behind-both (moment_text from) (moment_text to) (after_blanks (after ∷ wait ∷ n ∷ ns)))
@@ -166,7 +168,7 @@ load_from-again limit after (n ∷ ns) narrow few are =
     ∙ rw (number-again 0 TIME_LIMIT after (omega (arith, few)) (omega arith) few, block_numbers-again limit n ns narrow are) refl
 
 pub line-again : (limit : ℕ) (l : DocumentLine) → limit < 2 ^ 64 → IsLineInRange limit l → line_read limit (line_bytes l) ≡ Some l
-line-again limit (Header facts rule) narrow is = ap (λ (digit : List ℕ). line_read limit (codes "S66 CERTIFICATE " ++ digit)) (version-digit facts rule) ∙ header-again facts rule is
+line-again limit (Header v) narrow is = ap (λ (digit : List ℕ). line_read limit (codes "S66 CERTIFICATE " ++ digit)) (version-digit v) ∙ header-again v
 line-again limit (Profile []) narrow is = absurd (omega (arith, is.0))
 line-again limit (Profile (n ∷ ns)) narrow is = ap (option_map Profile) (list-again 1 PROFILE_LIMIT PROFILE_LENGTH PROFILE_LENGTH n ns (omega arith) is.1 (omega (arith, is.0)) (omega (arith, is.0)))
 line-again limit (Block count) narrow is = ap (option_map Block) (number-again 1 limit count (omega (arith, narrow, is.1)) is.0 is.1)
@@ -175,8 +177,10 @@ line-again limit (Time time) narrow is = ap (option_map Time) (number-again 0 TI
 line-again limit (Bound bound) narrow is = ap (option_map Bound) (number-again 0 TIME_LIMIT bound (omega (arith, is)) (omega arith) is)
 line-again limit (Order []) narrow is = absurd (omega (arith, is.0))
 line-again limit (Order (n ∷ ns)) narrow is = ap (option_map Order) (block_numbers-again limit n ns narrow is)
-line-again limit (OfFact (fact.Pair n m)) narrow is = pair-again limit n m (λ n m. OfFact (fact.Pair n m)) narrow is
-line-again limit (OfFact (fact.Load line)) narrow is = load-again limit line.from line.to line.after line.wait line.numbers.items narrow is.0.front is.0.back is.1 is.2
+line-again limit (OfFact (step.Suppose n m)) narrow is = pair-again limit n m (λ n m. OfFact (step.Suppose n m)) narrow is
+line-again limit (OfFact step.Refuted) narrow is = refl
+line-again limit (OfFact (step.Fact (fact.Pair n m))) narrow is = pair-again limit n m (λ n m. OfFact (step.Fact (fact.Pair n m))) narrow is
+line-again limit (OfFact (step.Fact (fact.Load line))) narrow is = load-again limit line.from line.to line.after line.wait line.numbers.items narrow is.0.front is.0.back is.1 is.2
 line-again limit (OfTree (AtTerminal (Next n))) narrow is = ap (option_map (λ n. OfTree (AtTerminal (Next n)))) (number-again 1 limit n (omega (arith, narrow, is.1)) is.0 is.1)
 line-again limit (OfTree (AtTerminal (Turned n m))) narrow is = pair-again limit n m (λ n m. OfTree (AtTerminal (Turned n m))) narrow is
 line-again limit (OfTree (AtTerminal (AtLine n))) narrow is = ap (option_map (λ n. OfTree (AtTerminal (AtLine n)))) (number-again 1 LINE_LIMIT n (omega (arith, is.1)) is.0 is.1)
@@ -286,15 +290,16 @@ header-line : (limit : ℕ) (name : List ℕ) (rest : Option (List ℕ)) (l : Do
 header-line limit name None l same h = absurd (cc)
 header-line limit name (Some r) l same h =
     let P : Type 0 = Spells limit (name ++ 32 ∷ r) l in
-    named r (codes "CERTIFICATE 1") _ _ l P (one false NoneNamed (λ facts. absurd (cc)))
-    (named r (codes "CERTIFICATE 2") _ _ l P (one false WrittenEarlier (λ facts. absurd (cc)))
-    (named r (codes "CERTIFICATE 3") _ _ l P (one false ClampedStanding (λ facts. refl))
-    (named r (codes "CERTIFICATE 4") _ _ l P (one true ClampedStanding (λ facts. refl)) (λ no. absurd (cc))))) h
+    named r (codes "CERTIFICATE 1") _ _ l P (one BoundsAlone)
+    (named r (codes "CERTIFICATE 2") _ _ l P (one EarlierNodes)
+    (named r (codes "CERTIFICATE 3") _ _ l P (one StandingNodes)
+    (named r (codes "CERTIFICATE 4") _ _ l P (one FactLines)
+    (named r (codes "CERTIFICATE 5") _ _ l P (one Suppositions) (λ no. absurd (cc)))))) h
   where
-    one : (facts : Bool) (rule : Rule) → (facts ≡ true → rule ≡ ClampedStanding) → r ≡ codes "CERTIFICATE " ++ (48 + version facts rule) ∷ [] → Some (Header facts rule) ≡ Some l → Spells limit (name ++ 32 ∷ r) l
-    one facts rule fits is read =
-        let e : Header facts rule ≡ l = (cc) in
-        rw (← e) (ap (λ x. x ++ 32 ∷ r) same ∙ ap (λ x. codes "S66 " ++ x) is ∙ sym (ap (λ digit. codes "S66 CERTIFICATE " ++ digit) (version-digit facts rule)), fits)
+    one : (v : Version) → r ≡ codes "CERTIFICATE " ++ (48 + version_number v) ∷ [] → Some (Header v) ≡ Some l → Spells limit (name ++ 32 ∷ r) l
+    one v is read =
+        let e : Header v ≡ l = (cc) in
+        rw (← e) (ap (λ x. x ++ 32 ∷ r) same ∙ ap (λ x. codes "S66 " ++ x) is ∙ sym (ap (λ digit. codes "S66 CERTIFICATE " ++ digit) (version-digit v)), tt)
 
 -- a line of a word and two numbers
 pair-is : (f : ℕ → ℕ → DocumentLine) (o : Option (List ℕ)) (l : DocumentLine) → pair_with f o ≡ Some l → (n m : ℕ) × (o ≡ Some (n ∷ m ∷ [])) × (f n m ≡ l)
@@ -370,7 +375,7 @@ amount-is None n h = absurd (cc)
 amount-is (Some w) n h = let is = number-is 0 TIME_LIMIT n w (omega arith) h in (ap Some is.0, is.2)
 
 abbrev load_fact : Moment → Moment → ℕ → ℕ → List ℕ → DocumentLine
-load_fact from to after wait numbers = OfFact (fact.Load (record { from = from; to = to; after = after; wait = wait; numbers = record { items = numbers } }))
+load_fact from to after wait numbers = OfFact (step.Fact (fact.Load (record { from = from; to = to; after = after; wait = wait; numbers = record { items = numbers } })))
 
 record LoadParts (from to : Option Moment) (after wait : Option ℕ) (numbers : Option (List ℕ)) (l : DocumentLine) : Type 0 where
   e : Moment
@@ -445,8 +450,10 @@ with-is limit name rest l narrow h =
     (named name (codes "R") _ _ l P (pair-line limit name (codes "R") rest (λ n m. OfTree (AtTerminal (Turned n m))) l narrow (λ n m. refl) (λ n m are. are))
     (named name (codes "N") _ _ l P (number-line limit 1 LINE_LIMIT name (codes "N") rest (λ n. OfTree (AtTerminal (AtLine n))) l (omega arith) (λ n. refl) (λ n a b. (a, b, tt)))
     (named name (codes "L") _ _ l P (load_from-line limit name rest l narrow)
-    (named name (codes "F") _ _ l P (pair-line limit name (codes "F") rest (λ n m. OfFact (fact.Pair n m)) l narrow (λ n m. refl) (λ n m are. are))
+    (named name (codes "F") _ _ l P (pair-line limit name (codes "F") rest (λ n m. OfFact (step.Fact (fact.Pair n m))) l narrow (λ n m. refl) (λ n m are. are))
     (named name (codes "A") _ _ l P (fact-line limit name rest l narrow)
+    (named name (codes "B") _ _ l P (pair-line limit name (codes "B") rest (λ n m. OfFact (step.Suppose n m)) l narrow (λ n m. refl) (λ n m are. are))
+    (named name (codes "Q") _ _ l P (word-line limit name (codes "Q") rest (OfFact step.Refuted) l refl tt)
     (named name (codes "I") _ _ l P (instruction-line limit name rest l)
     (named name (codes "S66") _ _ l P (header-line limit name rest l)
     (named name (codes "PROFILE") _ _ l P (list-line limit 1 PROFILE_LIMIT PROFILE_LENGTH PROFILE_LENGTH name (codes "PROFILE") rest Profile l (omega arith) (λ ns. refl) (λ ns a b are. (omega arith, are)))
@@ -454,7 +461,7 @@ with-is limit name rest l narrow h =
     (named name (codes "TIME") _ _ l P (number-line limit 0 TIME_LIMIT name (codes "TIME") rest Time l (omega arith) (λ n. refl) (λ n a b. b))
     (named name (codes "BOUND") _ _ l P (number-line limit 0 TIME_LIMIT name (codes "BOUND") rest Bound l (omega arith) (λ n. refl) (λ n a b. b))
     (named name (codes "ORDER") _ _ l P (list-line limit 1 limit 1 limit name (codes "ORDER") rest Order l narrow (λ ns. refl) (λ ns a b are. (a, b, are)))
-    (named name (codes "END") _ _ l P (word-line limit name (codes "END") rest End l refl tt) (λ no. absurd (cc))))))))))))))))))))) h
+    (named name (codes "END") _ _ l P (word-line limit name (codes "END") rest End l refl tt) (λ no. absurd (cc))))))))))))))))))))))) h
 
 pub line-is : (limit : ℕ) (bytes : List ℕ) (l : DocumentLine) → limit < 2 ^ 64 → line_read limit bytes ≡ Some l → (bytes ≡ line_bytes l) × IsLineInRange limit l
 line-is limit bytes l narrow h = let is = with-is limit (first_word bytes) (after_first_word bytes) l narrow h in (sym (joined bytes) ∙ is.0, is.1)

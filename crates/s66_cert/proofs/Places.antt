@@ -1,24 +1,24 @@
 -- A line of a document where none of its kind may come is refused, and what is known of a reader at each place.
-use Rattle.std.proofs.Common.{Bool, ◌≡◌, ◌≤◌, ◌+◌, ◌*◌, ◌^◌, ℕ, zero, suc, true, false, List, [], ◌∷◌, length, refl, arith, subst}
+use Rattle.std.proofs.Common.{◌≡◌, ◌≤◌, ◌+◌, ◌*◌, ◌^◌, ℕ, zero, suc, true, false, List, [], ◌∷◌, length, refl, arith, subst}
 use Rattle.std.specs.Prelude.{Err}
 use Rattle.s66_isa.specs.declared.limits.TheConstants.{BLOCK_LIMIT}
-use Rattle.s66_model.specs.declared.rule.Rule.{Rule}
 use Rattle.s66_model.specs.Tree.{Vertex, AtTerminal, AtSplit}
 use Rattle.s66_model.specs.DominatedLeaves.{Ending, Bounding, Dominated, Next, Turned, AtLine, LoadFrom}
-use Rattle.s66_moments.specs.declared.fact_line.FactLine.{FactLine}
+use Rattle.s66_moments.specs.declared.fact_line.FactStep.{FactStep}
+use Rattle.s66_cert.specs.declared.version.Version.{Version}
 use Rattle.s66_cert.specs.Fine.{Leave, split_count, IsPart, IsFine}
 use Rattle.s66_cert.specs.Lines.{Header, Profile, Block, Instruction, Time, Bound, Order, OfFact, OfTree, End}
 use Rattle.s66_cert.specs.DocumentParts.{AreWhole}
-use Rattle.s66_cert.specs.Reading.{DocumentState, is_leaf_of, wants_dominated, step_at}
+use Rattle.s66_cert.specs.Reading.{DocumentState, is_leaf_of, wants_dominated, wants_supposition, is_wanting, step_at}
 use Rattle.s66_cert.specs.declared.limits.TheConstants.{SPLIT_LIMIT}
 use Rattle.s66_cert.specs.declared.error.CertError.TheVariants.{BadLine}
 use Rattle.s66_cert.specs.declared.document_place.DocumentPlace.{DocumentPlace}
 use Rattle.s66_cert.specs.declared.document_place.DocumentPlace.TheVariants.{AtHeader, AtProfile, AtBlock, AtInstruction, AtTime, AtBound, AtOrder, AtTree, AtEnd}
-use Rattle.s66_cert.proofs.Sound.{whole-tree, whole-document}
+use Rattle.s66_cert.proofs.Sound.{whole-tree, whole-document, neither}
 
-pub other_header : (most : ℕ) (s : DocumentState) (place : DocumentPlace) (facts : Bool) (rule : Rule) → (place ≡ AtHeader → ⊥) → step_at most s place (Header facts rule) ≡ Err (BadLine (suc s.count))
-other_header most s AtHeader facts rule other = absurd (other refl)
-other_header most s place facts rule other = refl
+pub other_header : (most : ℕ) (s : DocumentState) (place : DocumentPlace) (version : Version) → (place ≡ AtHeader → ⊥) → step_at most s place (Header version) ≡ Err (BadLine (suc s.count))
+other_header most s AtHeader version other = absurd (other refl)
+other_header most s place version other = refl
 
 pub other_profile : (most : ℕ) (s : DocumentState) (place : DocumentPlace) (numbers : List ℕ) → (place ≡ AtProfile → ⊥) → step_at most s place (Profile numbers) ≡ Err (BadLine (suc s.count))
 other_profile most s AtProfile numbers other = absurd (other refl)
@@ -44,9 +44,9 @@ pub other_order : (most : ℕ) (s : DocumentState) (place : DocumentPlace) (numb
 other_order most s AtOrder numbers other = absurd (other refl)
 other_order most s place numbers other = refl
 
-pub other_fact : (most : ℕ) (s : DocumentState) (place : DocumentPlace) (line : FactLine) → (place ≡ AtTree → ⊥) → step_at most s place (OfFact line) ≡ Err (BadLine (suc s.count))
-other_fact most s AtTree line other = absurd (other refl)
-other_fact most s place line other = refl
+pub other_fact : (most : ℕ) (s : DocumentState) (place : DocumentPlace) (step : FactStep) → (place ≡ AtTree → ⊥) → step_at most s place (OfFact step) ≡ Err (BadLine (suc s.count))
+other_fact most s AtTree step other = absurd (other refl)
+other_fact most s place step other = refl
 
 pub other_vertex : (most : ℕ) (s : DocumentState) (place : DocumentPlace) (vertex : Vertex Ending) → (place ≡ AtTree → ⊥) → step_at most s place (OfTree vertex) ≡ Err (BadLine (suc s.count))
 other_vertex most s AtTree vertex other = absurd (other refl)
@@ -66,14 +66,14 @@ refused_vertex most s (AtTerminal (AtLine line)) h = rw h refl
 refused_vertex most s (AtTerminal (LoadFrom after numbers)) h = rw h refl
 refused_vertex most s (AtSplit numbers) h = absurd (cc)
 
--- the last line if a dominated leaf is missing
-pub wanting_end : (most : ℕ) (s : DocumentState) → wants_dominated s.part ≡ true → step_at most s AtEnd End ≡ Err (BadLine (suc s.count))
+-- the last line if what the version requires is missing
+pub wanting_end : (most : ℕ) (s : DocumentState) → is_wanting s.version s.part ≡ true → step_at most s AtEnd End ≡ Err (BadLine (suc s.count))
 wanting_end most s h = rw h refl
 
 -- WHERE IT COMES
 
-part-at : (most : ℕ) (s : DocumentState) (place : DocumentPlace) → s.place ≡ place → IsFine most s → IsPart most place s.part s.left s.splits
-part-at most s place e fine = subst (λ (p : DocumentPlace). IsPart most p s.part s.left s.splits) e fine.1
+part-at : (most : ℕ) (s : DocumentState) (place : DocumentPlace) → s.place ≡ place → IsFine most s → IsPart most s.version place s.part s.left s.splits
+part-at most s place e fine = subst (λ (p : DocumentPlace). IsPart most s.version p s.part s.left s.splits) e fine.1
 
 pub some_instruction : (most : ℕ) (s : DocumentState) → s.place ≡ AtInstruction → IsFine most s → 1 ≤ s.left
 some_instruction most s e fine = (part-at most s AtInstruction e fine).1
@@ -94,7 +94,7 @@ few_trees s e fine =
     let is = part-at SPLIT_LIMIT s AtTree e fine in
     omega (arith, leave-few 1 s.left s.part.vertices is.1.4, is.1.5, is.1.6)
 
-pub whole_end : (s : DocumentState) → s.place ≡ AtEnd → IsFine SPLIT_LIMIT s → wants_dominated s.part ≡ false → AreWhole s.part
+pub whole_end : (s : DocumentState) → s.place ≡ AtEnd → IsFine SPLIT_LIMIT s → is_wanting s.version s.part ≡ false → AreWhole s.part
 whole_end s e fine none =
     let h = part-at SPLIT_LIMIT s AtEnd e fine in
-    record { document = whole-document SPLIT_LIMIT s.part s.splits h none; preorder = (whole-tree s.part.vertices h.4).0 }
+    record { document = whole-document SPLIT_LIMIT s.version s.part s.splits h (neither (wants_dominated s.part) (wants_supposition s.version s.part) none).0; preorder = (whole-tree s.part.vertices h.4).0 }

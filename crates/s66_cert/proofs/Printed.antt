@@ -1,13 +1,14 @@
 -- The parts of a document's text, in the order in which they are printed.
-use Rattle.std.proofs.Common.{◌≡◌, ◌<◌, ◌+◌, ℕ, suc, drop, get_or, add-one, drop-cons, List, [], ◌∷◌, ◌++◌, Option, is_some, length, refl, sym, ap, subst, ◌∙◌, append_assoc, codes, decimal}
+use Rattle.std.proofs.Common.{◌≡◌, ◌<◌, ◌+◌, ℕ, suc, drop, get_or, add-one, drop-cons, List, [], ◌∷◌, ◌++◌, Option, length, refl, sym, ap, subst, ◌∙◌, append_assoc, codes, decimal}
 use Rattle.std.proofs.lemmas.List.{append-nil}
 use Rattle.s66_isa.specs.Lists.{after_blanks}
 use Rattle.s66_isa.specs.declared.limits.TheConstants.{BLOCK_LIMIT}
 use Rattle.s66_model.specs.Leaves.{Whole, Chain, Load, Parcels}
 use Rattle.s66_model.specs.Tree.{Tree, Alone, Parted, Siblings, NoMore, Unsplit, Split, Vertex, AtTerminal, AtSplit, flat, flat_siblings}
 use Rattle.s66_model.specs.DominatedLeaves.{Ending, Bounding, Dominated, Next, Turned, AtLine, LoadFrom}
-use Rattle.s66_moments.specs.declared.fact_line.FactLine.{FactLine}
-use Rattle.s66_cert.specs.Document.{IsLeafLine, SiblingsFit, TreeFits, version, document_text, leaf_line, instructions_text, fact_line, fact_lines, facts_text, tree_lines}
+use Rattle.s66_moments.specs.declared.fact_line.FactStep.{FactStep}
+use Rattle.s66_cert.specs.Document.{IsLeafLine, SiblingsFit, TreeFits, document_text, leaf_line, instructions_text, step_line, step_lines, facts_text, tree_lines}
+use Rattle.s66_cert.specs.Versions.{version, version_number}
 use Rattle.s66_cert.specs.Pages.{AreShort, IsPrinted, opening_lines, claim_lines}
 use Rattle.s66_cert.proofs.Pages.{IsUnderway, printed-here, underway-more}
 use Rattle.s66_tree.specs.Lines.{IsShort}
@@ -58,8 +59,8 @@ pub first-tree-line : (vertex : Vertex Ending) (vertices : List (Vertex Ending))
 first-tree-line (AtTerminal leaf) vertices = apart (leaf_line leaf) (tree_lines vertices)
 first-tree-line (AtSplit numbers) vertices = apart (codes "S" ++ after_blanks numbers ++ codes "\n") (tree_lines vertices)
 
-pub first-fact : (line : FactLine) (lines : List FactLine) → fact_lines (line ∷ lines) ≡ fact_lines (line ∷ []) ++ fact_lines lines
-first-fact line lines = apart (fact_line line) (fact_lines lines)
+pub first-step : (step : FactStep) (steps : List FactStep) → step_lines (step ∷ steps) ≡ step_lines (step ∷ []) ++ step_lines steps
+first-step step steps = apart (step_line step) (step_lines steps)
 
 pub first-instruction : (text : List ℕ) (texts : List (List ℕ)) → instructions_text (text ∷ texts) ≡ instructions_text (text ∷ []) ++ instructions_text texts
 first-instruction text texts = apart (codes "I " ++ text ++ codes "\n") (instructions_text texts)
@@ -91,7 +92,7 @@ right-nested a version r profile b count c block d time e bound f numbers g fact
 
 pub document-parts : (p : Parts) → AreWhole p → document_text (document_of p) ≡ opening_lines p ++ (instructions_text p.block ++ after_block p)
 document-parts p whole =
-    right-nested (codes "S66 CERTIFICATE ") (decimal (version (is_some p.facts) p.rule)) (codes "\nPROFILE") (after_blanks p.profile) (codes "\nBLOCK ") (decimal (length p.block)) (codes "\n") (instructions_text p.block) (codes "TIME ") (decimal p.time)
+    right-nested (codes "S66 CERTIFICATE ") (decimal (version_number (version p.facts p.rule))) (codes "\nPROFILE") (after_blanks p.profile) (codes "\nBLOCK ") (decimal (length p.block)) (codes "\n") (instructions_text p.block) (codes "TIME ") (decimal p.time)
     (codes "\nBOUND ") (decimal p.bound) (codes "\nORDER") (after_blanks p.numbers) (codes "\n") (facts_text p.facts) (tree_lines (flat (tree_of_lines p.vertices))) (codes "END\n")
     ∙ ap (λ vertices. opening_lines p ++ (instructions_text p.block ++ (claim_lines p ++ (facts_text p.facts ++ (tree_lines vertices ++ codes "END\n"))))) whole.preorder
 
@@ -114,7 +115,7 @@ pub claim-left : (p : Parts) {old mid new : Option (List ℕ)} {page next : List
     IsLeft p old new next (after_claim p)
 claim-left p {old} {mid} {new} {page} {next} left printed = underway-more old mid new [] page next (document_text (document_of p)) (claim_lines p) (after_claim p) left printed
 
-pub facts-left : (p : Parts) {old mid new : Option (List ℕ)} {page next : List ℕ} {facts : Option (List FactLine)} → facts ≡ p.facts → IsLeft p old mid page (after_claim p) →
+pub facts-left : (p : Parts) {old mid new : Option (List ℕ)} {page next : List ℕ} {facts : Option (List FactStep)} → facts ≡ p.facts → IsLeft p old mid page (after_claim p) →
     IsPrinted mid new page next (facts_text facts) → IsLeft p old new next (after_facts p)
 facts-left p {old} {mid} {new} {page} {next} {facts} same left printed =
     underway-more old mid new [] page next (document_text (document_of p)) (facts_text p.facts) (after_facts p) left (rw (← same) printed)

@@ -1,18 +1,18 @@
 -- Whatever was read without a fault begins some text of documents, and what begins one is read without a fault.
-use Rattle.std.proofs.Common.{◌≡◌, ◌-◌, ℕ, zero, suc, true, false, is_some, List, [], ◌∷◌, ◌++◌, inl, inr, map, refl, sym, ap, ◌∙◌, arith, subst}
+use Rattle.std.proofs.Common.{◌≡◌, ◌-◌, ℕ, zero, suc, is_some, List, [], ◌∷◌, ◌++◌, map, refl, sym, ap, ◌∙◌, arith, subst}
 use Rattle.std.proofs.lemmas.List.{append-nil, map-append}
 use Rattle.std.specs.Prelude.{Result, Ok, Err, codes}
 use Rattle.s66_isa.specs.declared.limits.TheConstants.{BLOCK_LIMIT}
-use Rattle.s66_model.specs.declared.rule.Rule.{Rule}
-use Rattle.s66_model.specs.declared.rule.Rule.TheVariants.{NoneNamed, ClampedStanding}
+use Rattle.s66_cert.specs.declared.version.Version.{Version}
+use Rattle.s66_cert.specs.declared.version.Version.TheVariants.{BoundsAlone}
 use Rattle.s66_model.specs.Leaves.{Whole}
-use Rattle.s66_model.specs.Tree.{AtTerminal, flat}
+use Rattle.s66_model.specs.Tree.{AtTerminal}
 use Rattle.s66_model.specs.DominatedLeaves.{Bounding}
 use Rattle.s66_line.specs.InstructionText.{IsInstruction}
 use Rattle.s66_line.proofs.InstructionTexts.{instruction}
-use Rattle.s66_cert.specs.Document.{Document, IsDocumentWithin, text_before_end, documents_text}
+use Rattle.s66_cert.specs.Document.{Document, text_headed, documents_text}
 use Rattle.s66_cert.specs.Examples.{standard_numbers}
-use Rattle.s66_cert.specs.Faults.{HaveNoNewline, IsOpenWithin, BeginsWithin}
+use Rattle.s66_cert.specs.Faults.{HaveNoNewline, BeginsWithin}
 use Rattle.s66_line.specs.Fields.{with_newlines}
 use Rattle.s66_cert.specs.Fine.{HasTree, IsPart}
 use Rattle.s66_cert.specs.Lines.{DocumentLine, Header, Profile, Block, Instruction, Time, Bound, Order, OfTree, line_bytes, IsLineInRange}
@@ -23,7 +23,7 @@ use Rattle.s66_cert.specs.declared.document_place.DocumentPlace.{DocumentPlace}
 use Rattle.s66_cert.specs.declared.document_place.DocumentPlace.TheVariants.{AtHeader, AtProfile, AtBlock, AtInstruction, AtTime, AtBound, AtOrder, AtTree, AtEnd}
 use Rattle.s66_cert.proofs.DocumentLines.{documents_lines, open_lines}
 use Rattle.s66_cert.proofs.TextLines.{whole-of, whole-all, newlines-append, open-text, documents-text}
-use Rattle.s66_cert.proofs.DominatedLines.{AreAllowed, leaves-allowed, leaves-any, facts-fit}
+use Rattle.s66_cert.proofs.Heads.{read-under}
 use Rattle.s66_cert.proofs.Grammar.{step-line, documents-run, open-run}
 use Rattle.s66_cert.proofs.LineBytes.{is-line, lines-of-documents, lines-of-open}
 use Rattle.s66_cert.proofs.States.{at, place-instruction, place-tree}
@@ -46,79 +46,79 @@ nx1 : IsInstruction (codes "NX1")
 nx1 = instruction (codes "NX1") refl refl (omega arith)
 
 module _ (most : ℕ) where
-  end-ends : (count : ℕ) (documents : List Document) (part : Parts) (left splits : ℕ) → Ends most (at count documents AtEnd part left splits)
-  end-ends count documents part left splits = record { more = []; lines = tt; end = at count documents AtEnd part left splits; run = refl; whole = refl }
+  end-ends : (version : Version) (count : ℕ) (documents : List Document) (part : Parts) (left splits : ℕ) → Ends most (at version count documents AtEnd part left splits)
+  end-ends version count documents part left splits = record { more = []; lines = tt; end = at version count documents AtEnd part left splits; run = refl; whole = refl }
 
-  tree-ends : (left count : ℕ) (documents : List Document) (part : Parts) (splits : ℕ) → Ends most (at count documents AtTree part left splits)
-  tree-ends zero count documents part splits =
+  tree-ends : (version : Version) (left count : ℕ) (documents : List Document) (part : Parts) (splits : ℕ) → Ends most (at version count documents AtTree part left splits)
+  tree-ends version zero count documents part splits =
       let less : 0 - 1 ≡ 0 = refl in
-      put most (at count documents AtTree part 0 splits) (at (suc count) documents AtEnd (with_vertex part (AtTerminal (Bounding Whole))) 0 splits) (OfTree (AtTerminal (Bounding Whole))) tt refl (end-ends (suc count) documents (with_vertex part (AtTerminal (Bounding Whole))) 0 splits)
-  tree-ends (suc left) count documents part splits =
+      put most (at version count documents AtTree part 0 splits) (at version (suc count) documents AtEnd (with_vertex part (AtTerminal (Bounding Whole))) 0 splits) (OfTree (AtTerminal (Bounding Whole))) tt refl (end-ends version (suc count) documents (with_vertex part (AtTerminal (Bounding Whole))) 0 splits)
+  tree-ends version (suc left) count documents part splits =
       let less : suc left - 1 ≡ left = omega arith in
-      put most (at count documents AtTree part (suc left) splits) (at (suc count) documents (place_of_tree left) (with_vertex part (AtTerminal (Bounding Whole))) left splits) (OfTree (AtTerminal (Bounding Whole))) tt (rw less refl)
-      (by left (tree-ends left (suc count) documents (with_vertex part (AtTerminal (Bounding Whole))) splits))
+      put most (at version count documents AtTree part (suc left) splits) (at version (suc count) documents (place_of_tree left) (with_vertex part (AtTerminal (Bounding Whole))) left splits) (OfTree (AtTerminal (Bounding Whole))) tt (rw less refl)
+      (by left (tree-ends version left (suc count) documents (with_vertex part (AtTerminal (Bounding Whole))) splits))
     where
-      by : (left : ℕ) → Ends most (at (suc count) documents AtTree (with_vertex part (AtTerminal (Bounding Whole))) left splits) → Ends most (at (suc count) documents (place_of_tree left) (with_vertex part (AtTerminal (Bounding Whole))) left splits)
-      by zero e = end-ends (suc count) documents (with_vertex part (AtTerminal (Bounding Whole))) 0 splits
+      by : (left : ℕ) → Ends most (at version (suc count) documents AtTree (with_vertex part (AtTerminal (Bounding Whole))) left splits) → Ends most (at version (suc count) documents (place_of_tree left) (with_vertex part (AtTerminal (Bounding Whole))) left splits)
+      by zero e = end-ends version (suc count) documents (with_vertex part (AtTerminal (Bounding Whole))) 0 splits
       by (suc left) e = rw (place-tree left) e
 
-  order-ends : (count : ℕ) (documents : List Document) (part : Parts) (left splits : ℕ) → Ends most (at count documents AtOrder part left splits)
-  order-ends count documents part left splits =
+  order-ends : (version : Version) (count : ℕ) (documents : List Document) (part : Parts) (left splits : ℕ) → Ends most (at version count documents AtOrder part left splits)
+  order-ends version count documents part left splits =
       let next : Parts = record part { facts = first_facts (is_some part.facts); numbers = 1 ∷ []; vertices = [] } in
-      put most (at count documents AtOrder part left splits) (at (suc count) documents AtTree next 1 0) (Order (1 ∷ [])) (omega arith) refl (tree-ends 1 (suc count) documents next 0)
+      put most (at version count documents AtOrder part left splits) (at version (suc count) documents AtTree next 1 0) (Order (1 ∷ [])) (omega arith) refl (tree-ends version 1 (suc count) documents next 0)
 
-  bound-ends : (count : ℕ) (documents : List Document) (part : Parts) (left splits : ℕ) → Ends most (at count documents AtBound part left splits)
-  bound-ends count documents part left splits =
+  bound-ends : (version : Version) (count : ℕ) (documents : List Document) (part : Parts) (left splits : ℕ) → Ends most (at version count documents AtBound part left splits)
+  bound-ends version count documents part left splits =
       let next : Parts = record part { bound = 0 } in
-      put most (at count documents AtBound part left splits) (at (suc count) documents AtOrder next 0 0) (Bound 0) (omega arith) refl (order-ends (suc count) documents next 0 0)
+      put most (at version count documents AtBound part left splits) (at version (suc count) documents AtOrder next 0 0) (Bound 0) (omega arith) refl (order-ends version (suc count) documents next 0 0)
 
-  time-ends : (count : ℕ) (documents : List Document) (part : Parts) (left splits : ℕ) → Ends most (at count documents AtTime part left splits)
-  time-ends count documents part left splits =
+  time-ends : (version : Version) (count : ℕ) (documents : List Document) (part : Parts) (left splits : ℕ) → Ends most (at version count documents AtTime part left splits)
+  time-ends version count documents part left splits =
       let next : Parts = record part { time = 0 } in
-      put most (at count documents AtTime part left splits) (at (suc count) documents AtBound next 0 0) (Time 0) (omega arith) refl (bound-ends (suc count) documents next 0 0)
+      put most (at version count documents AtTime part left splits) (at version (suc count) documents AtBound next 0 0) (Time 0) (omega arith) refl (bound-ends version (suc count) documents next 0 0)
 
   abbrev longer : Parts → Parts
   longer part = record part { block = part.block ++ codes "NX1" ∷ [] }
 
-  instruction-ends : (left count : ℕ) (documents : List Document) (part : Parts) (splits : ℕ) → Ends most (at count documents AtInstruction part left splits)
-  instruction-ends zero count documents part splits =
-      put most (at count documents AtInstruction part 0 splits) (at (suc count) documents AtTime (longer part) 0 0) (Instruction (codes "NX1")) nx1 refl (time-ends (suc count) documents (longer part) 0 0)
-  instruction-ends (suc left) count documents part splits =
+  instruction-ends : (version : Version) (left count : ℕ) (documents : List Document) (part : Parts) (splits : ℕ) → Ends most (at version count documents AtInstruction part left splits)
+  instruction-ends version zero count documents part splits =
+      put most (at version count documents AtInstruction part 0 splits) (at version (suc count) documents AtTime (longer part) 0 0) (Instruction (codes "NX1")) nx1 refl (time-ends version (suc count) documents (longer part) 0 0)
+  instruction-ends version (suc left) count documents part splits =
       let less : suc left - 1 ≡ left = omega arith in
-      put most (at count documents AtInstruction part (suc left) splits) (at (suc count) documents (place_of_instruction left) (longer part) left 0) (Instruction (codes "NX1")) nx1 (rw less refl)
-      (by left (instruction-ends left (suc count) documents (longer part) 0))
+      put most (at version count documents AtInstruction part (suc left) splits) (at version (suc count) documents (place_of_instruction left) (longer part) left 0) (Instruction (codes "NX1")) nx1 (rw less refl)
+      (by left (instruction-ends version left (suc count) documents (longer part) 0))
     where
-      by : (left : ℕ) → Ends most (at (suc count) documents AtInstruction (longer part) left 0) → Ends most (at (suc count) documents (place_of_instruction left) (longer part) left 0)
-      by zero e = time-ends (suc count) documents (longer part) 0 0
+      by : (left : ℕ) → Ends most (at version (suc count) documents AtInstruction (longer part) left 0) → Ends most (at version (suc count) documents (place_of_instruction left) (longer part) left 0)
+      by zero e = time-ends version (suc count) documents (longer part) 0 0
       by (suc left) e = rw (place-instruction left) e
 
-  block-ends : (count : ℕ) (documents : List Document) (part : Parts) (left splits : ℕ) → Ends most (at count documents AtBlock part left splits)
-  block-ends count documents part left splits =
+  block-ends : (version : Version) (count : ℕ) (documents : List Document) (part : Parts) (left splits : ℕ) → Ends most (at version count documents AtBlock part left splits)
+  block-ends version count documents part left splits =
       let next : Parts = record part { block = [] } in
-      put most (at count documents AtBlock part left splits) (at (suc count) documents AtInstruction next 1 0) (Block 1) (omega arith) refl (instruction-ends 1 (suc count) documents next 0)
+      put most (at version count documents AtBlock part left splits) (at version (suc count) documents AtInstruction next 1 0) (Block 1) (omega arith) refl (instruction-ends version 1 (suc count) documents next 0)
 
-  profile-ends : (count : ℕ) (documents : List Document) (part : Parts) (left splits : ℕ) → Ends most (at count documents AtProfile part left splits)
-  profile-ends count documents part left splits =
+  profile-ends : (version : Version) (count : ℕ) (documents : List Document) (part : Parts) (left splits : ℕ) → Ends most (at version count documents AtProfile part left splits)
+  profile-ends version count documents part left splits =
       let next : Parts = record part { profile = standard_numbers } in
-      put most (at count documents AtProfile part left splits) (at (suc count) documents AtBlock next 0 0) (Profile standard_numbers) (omega arith) refl (block-ends (suc count) documents next 0 0)
+      put most (at version count documents AtProfile part left splits) (at version (suc count) documents AtBlock next 0 0) (Profile standard_numbers) (omega arith) refl (block-ends version (suc count) documents next 0 0)
 
-  header-ends : (count : ℕ) (documents : List Document) (part : Parts) (left splits : ℕ) → Ends most (at count documents AtHeader part left splits)
-  header-ends count documents part left splits =
-      put most (at count documents AtHeader part left splits) (at (suc count) documents AtProfile nothing 0 0) (Header false NoneNamed) (λ facts. absurd (cc)) refl (profile-ends (suc count) documents nothing 0 0)
+  header-ends : (version : Version) (count : ℕ) (documents : List Document) (part : Parts) (left splits : ℕ) → Ends most (at version count documents AtHeader part left splits)
+  header-ends version count documents part left splits =
+      put most (at version count documents AtHeader part left splits) (at BoundsAlone (suc count) documents AtProfile nothing 0 0) (Header BoundsAlone) tt refl (profile-ends BoundsAlone (suc count) documents nothing 0 0)
 
-  ends-at : (count : ℕ) (documents : List Document) (place : DocumentPlace) (part : Parts) (left splits : ℕ) → Ends most (at count documents place part left splits)
-  ends-at count documents AtHeader part left splits = header-ends count documents part left splits
-  ends-at count documents AtProfile part left splits = profile-ends count documents part left splits
-  ends-at count documents AtBlock part left splits = block-ends count documents part left splits
-  ends-at count documents AtInstruction part left splits = instruction-ends left count documents part splits
-  ends-at count documents AtTime part left splits = time-ends count documents part left splits
-  ends-at count documents AtBound part left splits = bound-ends count documents part left splits
-  ends-at count documents AtOrder part left splits = order-ends count documents part left splits
-  ends-at count documents AtTree part left splits = tree-ends left count documents part splits
-  ends-at count documents AtEnd part left splits = end-ends count documents part left splits
+  ends-at : (version : Version) (count : ℕ) (documents : List Document) (place : DocumentPlace) (part : Parts) (left splits : ℕ) → Ends most (at version count documents place part left splits)
+  ends-at version count documents AtHeader part left splits = header-ends version count documents part left splits
+  ends-at version count documents AtProfile part left splits = profile-ends version count documents part left splits
+  ends-at version count documents AtBlock part left splits = block-ends version count documents part left splits
+  ends-at version count documents AtInstruction part left splits = instruction-ends version left count documents part splits
+  ends-at version count documents AtTime part left splits = time-ends version count documents part left splits
+  ends-at version count documents AtBound part left splits = bound-ends version count documents part left splits
+  ends-at version count documents AtOrder part left splits = order-ends version count documents part left splits
+  ends-at version count documents AtTree part left splits = tree-ends version left count documents part splits
+  ends-at version count documents AtEnd part left splits = end-ends version count documents part left splits
 
   ends : (s : DocumentState) → Ends most s
-  ends s = ends-at s.count s.documents s.place s.part s.left s.splits
+  ends s = ends-at s.version s.count s.documents s.place s.part s.left s.splits
 
 -- FRONTS
 
@@ -136,46 +136,40 @@ are-append [] ys h k = k
 are-append (x ∷ xs) ys h k = (h.0, are-append xs ys h.1 k)
 
 -- the text of these lines of documents, and of one that is open
-open-cut : (ds : List Document) (d : Document) → documents_text ds ++ text_before_end d ≡ with_newlines (map line_bytes (documents_lines ds) ++ map line_bytes (open_lines d))
-open-cut ds d =
-    ap (λ x. x ++ text_before_end d) (documents-text ds) ∙ ap (λ x. with_newlines (map line_bytes (documents_lines ds)) ++ x) (open-text d)
-    ∙ sym (newlines-append (map line_bytes (documents_lines ds)) (map line_bytes (open_lines d)))
+open-cut : (ds : List Document) (head : Version) (d : Document) → documents_text ds ++ text_headed head d ≡ with_newlines (map line_bytes (documents_lines ds) ++ map line_bytes (open_lines head d))
+open-cut ds head d =
+    ap (λ x. x ++ text_headed head d) (documents-text ds) ∙ ap (λ x. with_newlines (map line_bytes (documents_lines ds)) ++ x) (open-text head d)
+    ∙ sym (newlines-append (map line_bytes (documents_lines ds)) (map line_bytes (open_lines head d)))
 
 pub begins : (most : ℕ) (before : List (List ℕ)) (s : DocumentState) → HaveNoNewline before → steps BLOCK_LIMIT most first_state before ≡ Ok s → BeginsWithin most (with_newlines before)
 begins most before s are run =
     let e = ends most s in
+    let head : Version = e.end.version in
     let lines : List (List ℕ) = before ++ e.more in
     let all : steps BLOCK_LIMIT most first_state lines ≡ Ok e.end = steps-append most first_state before e.more ∙ ap (λ (r : Result DocumentState CertError). and_then r (λ t. steps BLOCK_LIMIT most t e.more)) run ∙ e.run in
     let sound = steps-sound most first_state e.end lines (tt, tt) all in
-    let d : Document = document_of e.end.part in
-    let has : HasTree most e.end.part 0 e.end.splits = subst (λ (p : DocumentPlace). IsPart most p e.end.part e.end.left e.end.splits) e.whole sound.0.1 in
-    let open_part : part_lines e.end.place e.end.part e.end.left ≡ open_lines d =
-    ap (λ (p : DocumentPlace). part_lines p e.end.part e.end.left) e.whole ∙ open-is e.end.part e.end.left e.end.splits most has in
-    let read : map line_bytes (documents_lines e.end.documents) ++ map line_bytes (open_lines d) ≡ lines =
-    sym (map-append line_bytes (documents_lines e.end.documents) (open_lines d)) ∙ ap (λ (l : List DocumentLine). map line_bytes (documents_lines e.end.documents ++ l)) (sym open_part) ∙ sound.1 in
-    let same : with_newlines before ++ with_newlines e.more ≡ documents_text e.end.documents ++ text_before_end d =
-    sym (newlines-append before e.more) ∙ ap with_newlines (sym read) ∙ sym (open-cut e.end.documents d) in
-    (with_newlines e.more, e.end.documents, d, sound.0.0, open-document most e.end.part e.end.splits has, same)
-
--- a rule by which an open document is a document, and what of its own rule
-open-parts : (most : ℕ) (d : Document) → IsOpenWithin BLOCK_LIMIT most d →
-    (other : Rule) × IsDocumentWithin BLOCK_LIMIT most (record d { rule = other }) × (is_some d.facts ≡ true → d.rule ≡ ClampedStanding) × AreAllowed d.rule d.facts (flat d.tree)
-open-parts most d (inl is) = (d.rule, is, facts-fit BLOCK_LIMIT d.rule d.facts is.facts, leaves-allowed d.rule d.facts d.tree is.leaves)
-open-parts most d (inr is) =
-    let any = leaves-any BLOCK_LIMIT d.rule d.facts d.tree is.facts is.leaves in
-    (NoneNamed, is, any.0, any.1)
+    let has : HasTree most head e.end.part 0 e.end.splits = subst (λ (p : DocumentPlace). IsPart most head p e.end.part e.end.left e.end.splits) e.whole sound.0.1 in
+    let (rule, is) = open-document most head e.end.part e.end.splits has in
+    let d : Document = record (document_of e.end.part) { rule = rule } in
+    let open_part : part_lines head e.end.place e.end.part e.end.left ≡ open_lines head d =
+    ap (λ (p : DocumentPlace). part_lines head p e.end.part e.end.left) e.whole ∙ open-is head e.end.part e.end.left e.end.splits most has in
+    let read : map line_bytes (documents_lines e.end.documents) ++ map line_bytes (open_lines head d) ≡ lines =
+    sym (map-append line_bytes (documents_lines e.end.documents) (open_lines head d)) ∙ ap (λ (l : List DocumentLine). map line_bytes (documents_lines e.end.documents ++ l)) (sym open_part) ∙ sound.1 in
+    let same : with_newlines before ++ with_newlines e.more ≡ documents_text e.end.documents ++ text_headed head d =
+    sym (newlines-append before e.more) ∙ ap with_newlines (sym read) ∙ sym (open-cut e.end.documents head d) in
+    (with_newlines e.more, e.end.documents, head, d, sound.0.0, is, same)
 
 pub fronts : (most : ℕ) (before : List (List ℕ)) → HaveNoNewline before → BeginsWithin most (with_newlines before) → (s : DocumentState) × (steps BLOCK_LIMIT most first_state before ≡ Ok s)
-fronts most before are (more, ds, d, within, open_is, same) =
-    let (other, is, fits, allowed) = open-parts most d open_is in
+fronts most before are (more, ds, head, d, within, (is, may), same) =
+    let under = read-under BLOCK_LIMIT head d.rule d.facts d.tree is.facts is.leaves may in
     let first : List (List ℕ) = map line_bytes (documents_lines ds) in
-    let last : List (List ℕ) = map line_bytes (open_lines d) in
-    let lines : HaveNoNewline (first ++ last) = are-append first last (lines-of-documents BLOCK_LIMIT most ds (omega arith) within) (lines-of-open BLOCK_LIMIT most d other (omega arith) is fits) in
+    let last : List (List ℕ) = map line_bytes (open_lines head d) in
+    let lines : HaveNoNewline (first ++ last) = are-append first last (lines-of-documents BLOCK_LIMIT most ds (omega arith) within) (lines-of-open BLOCK_LIMIT most head d (omega arith) is) in
     let cut : before ++ whole_lines [] more ≡ first ++ last =
-    sym (whole-of before more are) ∙ ap (whole_lines []) (same ∙ open-cut ds d ∙ sym (append-nil (with_newlines (first ++ last)))) ∙ whole-all (first ++ last) [] lines refl in
+    sym (whole-of before more are) ∙ ap (whole_lines []) (same ∙ open-cut ds head d ∙ sym (append-nil (with_newlines (first ++ last)))) ∙ whole-all (first ++ last) [] lines refl in
     let one = documents-run BLOCK_LIMIT most (omega arith) 0 [] ds last within in
-    let two = open-run BLOCK_LIMIT most (omega arith) one.0 ds d other [] is fits allowed in
+    let two = open-run BLOCK_LIMIT most (omega arith) head one.0 ds d [] is under in
     let run : steps BLOCK_LIMIT most first_state (before ++ whole_lines [] more) ≡ Ok _ =
-    ap (steps BLOCK_LIMIT most first_state) cut ∙ one.1 ∙ ap (λ (l : List (List ℕ)). steps BLOCK_LIMIT most (at one.0 ds AtHeader nothing 0 0) l) (sym (append-nil last)) ∙ two.1 in
+    ap (steps BLOCK_LIMIT most first_state) cut ∙ one.1 ∙ ap (λ (l : List (List ℕ)). steps BLOCK_LIMIT most (at BoundsAlone one.0 ds AtHeader nothing 0 0) l) (sym (append-nil last)) ∙ two.1 in
     let (s, front, rest) = after-ok (steps BLOCK_LIMIT most first_state before) (λ u. steps BLOCK_LIMIT most u (whole_lines [] more)) _ (sym (steps-append most first_state before (whole_lines [] more)) ∙ run) in
     (s, front)

@@ -1,14 +1,15 @@
 -- Which kind of line the reader expects while instructions or trees are still to come.
 use Rattle.std.proofs.Common.{◌≡◌, ℕ, suc, List, arith, eqb}
 use Rattle.std.proofs.lemmas.Bool.{cond-false, ne_eqb}
+use Rattle.s66_cert.specs.declared.version.Version.{Version}
 use Rattle.s66_cert.specs.Document.{Document}
 use Rattle.s66_cert.specs.DocumentParts.{Parts}
 use Rattle.s66_cert.specs.Reading.{DocumentState, place_of_instruction, place_of_tree}
 use Rattle.s66_cert.specs.declared.document_place.DocumentPlace.{DocumentPlace}
 use Rattle.s66_cert.specs.declared.document_place.DocumentPlace.TheVariants.{AtInstruction, AtTime, AtTree, AtEnd}
 
-abbrev pub at : ℕ → List Document → DocumentPlace → Parts → ℕ → ℕ → DocumentState
-at count documents place part left splits = record { count = count; documents = documents; place = place; part = part; left = left; splits = splits }
+abbrev pub at : Version → ℕ → List Document → DocumentPlace → Parts → ℕ → ℕ → DocumentState
+at version count documents place part left splits = record { count = count; documents = documents; place = place; version = version; part = part; left = left; splits = splits }
 
 -- if some are still to come
 

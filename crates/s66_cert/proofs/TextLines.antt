@@ -2,19 +2,23 @@
 use Rattle.std.proofs.Common.{◌≡◌, ℕ, Bool, true, false, not, List, [], ◌∷◌, ◌++◌, map, length, refl, sym, ap, ◌∙◌, eqb, append_assoc}
 use Rattle.std.proofs.lemmas.Bool.{and_parts, and_from, not-true, eqb-true}
 use Rattle.std.proofs.lemmas.List.{append-nil, map-append}
-use Rattle.std.specs.Prelude.{Option, None, Some, is_some, codes, decimal}
+use Rattle.std.specs.Prelude.{Option, None, Some, codes, decimal}
 use Rattle.s66_isa.specs.Lists.{every, after_blanks}
 use Rattle.s66_model.specs.Leaves.{Whole, Chain, Load, Parcels}
 use Rattle.s66_model.specs.Tree.{Vertex, AtTerminal, AtSplit, flat}
 use Rattle.s66_model.specs.DominatedLeaves.{Ending, Bounding, Dominated, Next, Turned, AtLine, LoadFrom}
 use Rattle.s66_moments.specs.declared.fact_line.FactLine.{FactLine}
+use Rattle.s66_moments.specs.declared.fact_line.FactStep.{FactStep}
+use Rattle.s66_moments.specs.declared.fact_line.FactStep.TheVariants as step
 use Rattle.s66_moments.specs.declared.fact_line.FactLine.TheVariants as fact
-use Rattle.s66_cert.specs.Document.{Document, tree_lines, leaf_line, instructions_text, moment_text, fact_line, fact_lines, facts_text, version, text_before_end, document_text, documents_text}
+use Rattle.s66_cert.specs.Document.{Document, tree_lines, leaf_line, instructions_text, moment_text, fact_line, step_line, step_lines, facts_text, text_headed, document_text, documents_text}
+use Rattle.s66_cert.specs.declared.version.Version.{Version}
+use Rattle.s66_cert.specs.Versions.{version, version_number}
 use Rattle.s66_cert.specs.Faults.{IsLine, HaveNoNewline}
-use Rattle.s66_cert.specs.Lines.{DocumentLine, End, line_bytes, fact_bytes, leaf_bytes}
+use Rattle.s66_cert.specs.Lines.{DocumentLine, End, line_bytes, fact_bytes, step_bytes, leaf_bytes}
 use Rattle.s66_line.specs.Fields.{with_newlines}
 use Rattle.s66_cert.specs.Reading.{whole_lines, last_bytes}
-use Rattle.s66_cert.proofs.DocumentLines.{open_lines, document_lines, documents_lines, instructions_of, fact_lines_of, facts_of, vertices_of}
+use Rattle.s66_cert.proofs.DocumentLines.{open_lines, document_lines, documents_lines, instructions_of, steps_of, facts_of, vertices_of}
 
 line-parts : (b : ℕ) (line : List ℕ) → IsLine (b ∷ line) → (eqb b 10 ≡ false) × IsLine line
 line-parts b line h = let both = and_parts (not (eqb b 10)) (every (λ b. not (eqb b 10)) line) h in (not-true (eqb b 10) both.0, both.1)
@@ -113,13 +117,18 @@ fact-text (fact.Pair first second) more = append_assoc (codes "F" ++ after_blank
 fact-text (fact.Load line) more =
     append_assoc (codes "A " ++ moment_text line.from ++ codes " " ++ moment_text line.to ++ after_blanks (line.after ∷ line.wait ∷ line.numbers.items)) (codes "\n") more
 
-fact_lines-text : (lines : List FactLine) → fact_lines lines ≡ with_newlines (map line_bytes (fact_lines_of lines))
-fact_lines-text [] = refl
-fact_lines-text (line ∷ lines) = ap (λ x. fact_line line ++ x) (fact_lines-text lines) ∙ fact-text line (with_newlines (map line_bytes (fact_lines_of lines)))
+step-text : (s : FactStep) (more : List ℕ) → step_line s ++ more ≡ step_bytes s ++ 10 ∷ more
+step-text (step.Fact line) more = fact-text line more
+step-text (step.Suppose second first) more = append_assoc (codes "B" ++ after_blanks (second ∷ first ∷ [])) (codes "\n") more
+step-text step.Refuted more = refl
 
-facts-text : (facts : Option (List FactLine)) → facts_text facts ≡ with_newlines (map line_bytes (facts_of facts))
+steps-text : (steps : List FactStep) → step_lines steps ≡ with_newlines (map line_bytes (steps_of steps))
+steps-text [] = refl
+steps-text (s ∷ steps) = ap (λ x. step_line s ++ x) (steps-text steps) ∙ step-text s (with_newlines (map line_bytes (steps_of steps)))
+
+facts-text : (facts : Option (List FactStep)) → facts_text facts ≡ with_newlines (map line_bytes (facts_of facts))
 facts-text None = refl
-facts-text (Some lines) = fact_lines-text lines
+facts-text (Some steps) = steps-text steps
 
 tree-text : (vertices : List (Vertex Ending)) → tree_lines vertices ≡ with_newlines (map line_bytes (vertices_of vertices))
 tree-text [] = refl
@@ -134,13 +143,13 @@ right-nested : (s r q p c k l i t a u b v n w f m : List ℕ) →
     ≡ s ++ (r ++ (q ++ (p ++ (c ++ (k ++ (l ++ (i ++ (t ++ (a ++ (u ++ (b ++ (v ++ (n ++ (w ++ (f ++ m)))))))))))))))
 right-nested s r q p c k l i t a u b v n w f m = simp append_assoc
 
-pub open-text : (d : Document) → text_before_end d ≡ with_newlines (map line_bytes (open_lines d))
-open-text d =
-    right-nested (codes "S66 CERTIFICATE ") (decimal (version (is_some d.facts) d.rule)) (codes "\nPROFILE") (after_blanks d.profile) (codes "\nBLOCK ") (decimal (length d.block)) (codes "\n") (instructions_text d.block) (codes "TIME ") (decimal d.time) (codes "\nBOUND ") (decimal d.bound) (codes "\nORDER") (after_blanks d.numbers) (codes "\n") (facts_text d.facts) (tree_lines (flat d.tree))
+pub open-text : (head : Version) (d : Document) → text_headed head d ≡ with_newlines (map line_bytes (open_lines head d))
+open-text head d =
+    right-nested (codes "S66 CERTIFICATE ") (decimal (version_number head)) (codes "\nPROFILE") (after_blanks d.profile) (codes "\nBLOCK ") (decimal (length d.block)) (codes "\n") (instructions_text d.block) (codes "TIME ") (decimal d.time) (codes "\nBOUND ") (decimal d.bound) (codes "\nORDER") (after_blanks d.numbers) (codes "\n") (facts_text d.facts) (tree_lines (flat d.tree))
     ∙ rw (instructions-text d.block, facts-text d.facts, tree-text (flat d.tree), lines-append (instructions_of d.block) _, lines-append (facts_of d.facts) (vertices_of (flat d.tree))) refl
 
 document-text : (d : Document) → document_text d ≡ with_newlines (map line_bytes (document_lines d))
-document-text d = ap (λ x. x ++ codes "END\n") (open-text d) ∙ sym (lines-append (open_lines d) (End ∷ []))
+document-text d = ap (λ x. x ++ codes "END\n") (open-text (version d.facts d.rule) d) ∙ sym (lines-append (open_lines (version d.facts d.rule) d) (End ∷ []))
 
 pub documents-text : (ds : List Document) → documents_text ds ≡ with_newlines (map line_bytes (documents_lines ds))
 documents-text [] = refl

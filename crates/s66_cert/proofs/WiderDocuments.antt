@@ -7,9 +7,11 @@ use Rattle.s66_model.specs.declared.rule.Rule.{Rule}
 use Rattle.s66_moments.specs.declared.moment.Moment.{Moment}
 use Rattle.s66_moments.specs.declared.moment.Moment.TheVariants.{Origin, At, End}
 use Rattle.s66_moments.specs.declared.fact_line.FactLine.{FactLine}
+use Rattle.s66_moments.specs.declared.fact_line.FactStep.{FactStep}
+use Rattle.s66_moments.specs.declared.fact_line.FactStep.TheVariants as step
 use Rattle.s66_moments.specs.declared.fact_line.FactLine.TheVariants as fact
 use Rattle.s66_moments.specs.Known.{IsMomentWithin}
-use Rattle.s66_cert.specs.Document.{Document, AreIn, AreNumbers, IsFactLine, AreFactLines, AreFacts, IsLeafLine, SiblingsFit, TreeFits, IsDocumentWithin, AreDocumentsWithin, IsTextWithin}
+use Rattle.s66_cert.specs.Document.{Document, AreIn, AreNumbers, IsFactLine, IsFactStep, AreFactSteps, AreFacts, IsLeafLine, SiblingsFit, TreeFits, IsDocumentWithin, AreDocumentsWithin, IsTextWithin}
 
 module _ (limit wide : ℕ) (wider : limit ≤ wide) where
   wide-in : (ns : List ℕ) → AreIn 1 limit ns → AreIn 1 wide ns
@@ -40,13 +42,18 @@ module _ (limit wide : ℕ) (wider : limit ≤ wide) where
   wide-fact (fact.Load line) is =
       (record { front = (is.0.front.0, wide-moment line.from is.0.front.1); back = (is.0.back.0, wide-moment line.to is.0.back.1) }, is.1, wide-numbers line.numbers.items is.2)
 
-  wide-lines : (lines : List FactLine) → AreFactLines limit lines → AreFactLines wide lines
-  wide-lines [] are = tt
-  wide-lines (line ∷ lines) are = (wide-fact line are.0, wide-lines lines are.1)
+  wide-step : (s : FactStep) → IsFactStep limit s → IsFactStep wide s
+  wide-step (step.Fact line) is = wide-fact line is
+  wide-step (step.Suppose second first) is = wide-in (second ∷ first ∷ []) is
+  wide-step step.Refuted is = tt
 
-  wide-facts : (rule : Rule) (facts : Option (List FactLine)) → AreFacts limit rule facts → AreFacts wide rule facts
+  wide-steps : (steps : List FactStep) → AreFactSteps limit steps → AreFactSteps wide steps
+  wide-steps [] are = tt
+  wide-steps (s ∷ steps) are = (wide-step s are.0, wide-steps steps are.1)
+
+  wide-facts : (rule : Rule) (facts : Option (List FactStep)) → AreFacts limit rule facts → AreFacts wide rule facts
   wide-facts rule None are = tt
-  wide-facts rule (Some lines) are = (are.0, are.1, wide-lines lines are.2)
+  wide-facts rule (Some steps) are = (are.0, are.1, wide-steps steps are.2)
 
   wide-siblings : (ns : List ℕ) (siblings : Siblings Ending) → SiblingsFit limit ns siblings → SiblingsFit wide ns siblings
   wide-siblings [] NoMore fits = tt

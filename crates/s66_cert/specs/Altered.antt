@@ -2,7 +2,7 @@
 use Rattle.std.specs.Prelude.{ℕ, ◌-◌, ◌+◌, Bool, true, false, List, [], ◌∷◌, ◌++◌, codes, take, drop, replicate, Result, Ok, Err}
 use Rattle.s66_isa.specs.Lists.{every, after_blanks}
 use Rattle.s66_cert.specs.Document.{Document}
-use Rattle.s66_cert.specs.Examples.{three_multiplies_text, late_reader_text, by_facts_with, by_facts_text}
+use Rattle.s66_cert.specs.Examples.{three_multiplies_text, late_reader_text, by_facts_with, by_facts_text, by_supposition_with}
 use Rattle.s66_line.specs.Fields.{with_newlines}
 use Rattle.s66_cert.specs.Reading.{whole_lines, read_of}
 use Rattle.s66_cert.specs.declared.error.CertError.{CertError}
@@ -28,6 +28,10 @@ with_factual_line line bytes = replaced line 1 (bytes ∷ []) by_facts_text
 -- with this line, and a tree of one leaf
 abbrev pub with_fact_line : List ℕ → List ℕ
 with_fact_line bytes = by_facts_with (codes "S66 CERTIFICATE 4") (bytes ++ codes "\nP\n")
+
+-- the text by a supposition with these lines between ORDER and its leaf, read by version 5
+abbrev pub with_step_lines : List ℕ → List ℕ
+with_step_lines bytes = by_supposition_with (codes "S66 CERTIFICATE 5") (bytes ++ codes "U ADD\n")
 
 -- the text of three multiplies with another tree: a split of this many numbers, and this many whole orders
 abbrev pub with_split_of : ℕ → ℕ → List ℕ

@@ -1,5 +1,5 @@
 -- To be believed: certificates as documents, with the ranges of their numbers and their trees, and their texts.
-use Rattle.std.specs.Prelude.{◌≡◌, ℕ, Bool, true, false, List, [], ◌∷◌, ◌++◌, ◌≤◌, Option, None, Some, is_some, codes, decimal, length}
+use Rattle.std.specs.Prelude.{◌≡◌, ℕ, Bool, true, false, List, [], ◌∷◌, ◌++◌, ◌≤◌, Option, None, Some, codes, decimal, length}
 use Rattle.s66_model.specs.declared.rule.Rule.{Rule}
 use Rattle.s66_model.specs.declared.rule.Rule.TheVariants.{NoneNamed, WrittenEarlier, ClampedStanding}
 use Rattle.s66_model.specs.Leaves.{Whole, Chain, Load, Parcels}
@@ -11,17 +11,21 @@ use Rattle.s66_moments.specs.declared.moment.Moment.{Moment}
 use Rattle.s66_moments.specs.declared.moment.Moment.TheVariants.{Origin, At, End}
 use Rattle.s66_moments.specs.declared.fact_line.FactLine.{FactLine}
 use Rattle.s66_moments.specs.declared.fact_line.FactLine.TheVariants as fact
+use Rattle.s66_moments.specs.declared.fact_line.FactStep.{FactStep}
+use Rattle.s66_moments.specs.declared.fact_line.FactStep.TheVariants as step
 use Rattle.s66_moments.specs.Known.{IsAnchored}
 use Rattle.s66_isa.specs.KindNames.{kind_name}
 use Rattle.s66_line.specs.InstructionText.{IsInstruction}
 use Rattle.s66_isa.specs.declared.limits.TheConstants.{PROFILE_LENGTH, PROFILE_LIMIT}
 use Rattle.s66_tree.specs.Lines.{has_dominated_line}
+use Rattle.s66_cert.specs.declared.version.Version.{Version}
+use Rattle.s66_cert.specs.Versions.{version, version_number}
 use Rattle.s66_cert.specs.declared.limits.TheConstants.{TIME_LIMIT, SPLIT_LIMIT, FACT_LIMIT, LINE_LIMIT}
 
 -- what it claims: under this profile, the instructions of these texts, in this order, take this time, and none takes less than the bound, as the fact lines, if it may have some, and the tree show by the rule
 pub record Document : Type 0 where
   pub rule : Rule
-  pub facts : Option (List FactLine)
+  pub facts : Option (List FactStep)
   pub profile : List ℕ
   pub block : List (List ℕ)
   pub time : ℕ
@@ -71,14 +75,20 @@ IsFactLine limit (fact.Pair first second) = AreIn 1 limit (first ∷ second ∷ 
 IsFactLine limit (fact.Load line) =
     IsAnchored limit line × AreIn 0 TIME_LIMIT (line.after ∷ line.wait ∷ []) × AreNumbers limit line.numbers.items
 
-abbrev pub AreFactLines : ℕ → List FactLine → Type 0
-AreFactLines limit [] = Unit {0}
-AreFactLines limit (line ∷ lines) = IsFactLine limit line × AreFactLines limit lines
+-- with the lines that begin and end suppositions
+abbrev pub IsFactStep : ℕ → FactStep → Type 0
+IsFactStep limit (step.Fact line) = IsFactLine limit line
+IsFactStep limit (step.Suppose second first) = AreIn 1 limit (second ∷ first ∷ [])
+IsFactStep limit step.Refuted = Unit {0}
+
+abbrev pub AreFactSteps : ℕ → List FactStep → Type 0
+AreFactSteps limit [] = Unit {0}
+AreFactSteps limit (step ∷ steps) = IsFactStep limit step × AreFactSteps limit steps
 
 -- they are few, and there are some only by the rule of standing nodes
-abbrev pub AreFacts : ℕ → Rule → Option (List FactLine) → Type 0
+abbrev pub AreFacts : ℕ → Rule → Option (List FactStep) → Type 0
 AreFacts limit rule None = Unit {0}
-AreFacts limit rule (Some lines) = (rule ≡ ClampedStanding) × (length lines ≤ FACT_LIMIT) × AreFactLines limit lines
+AreFacts limit rule (Some steps) = (rule ≡ ClampedStanding) × (length steps ≤ FACT_LIMIT) × AreFactSteps limit steps
 
 -- WHICH LEAVES A TREE HAS
 
@@ -107,9 +117,9 @@ has_factual tree = some_of is_factual (flat tree)
 
 -- without fact lines nodes are named by the rule exactly when a leaf is dominated, and no leaf is of the kinds that come with fact lines;
 -- with them no leaf is dominated
-abbrev pub HasItsLeaves : Rule → Option (List FactLine) → Tree Ending → Type 0
+abbrev pub HasItsLeaves : Rule → Option (List FactStep) → Tree Ending → Type 0
 HasItsLeaves rule None tree = (names_nodes rule ≡ has_dominated tree) × (has_factual tree ≡ false)
-HasItsLeaves rule (Some lines) tree = has_dominated tree ≡ false
+HasItsLeaves rule (Some steps) tree = has_dominated tree ≡ false
 
 -- THE LINES OF A TREE in preorder, each with its prefix
 
@@ -182,30 +192,28 @@ fact_line (fact.Pair first second) = codes "F" ++ after_blanks (first ∷ second
 fact_line (fact.Load line) =
     codes "A " ++ moment_text line.from ++ codes " " ++ moment_text line.to ++ after_blanks (line.after ∷ line.wait ∷ line.numbers.items) ++ codes "\n"
 
-abbrev pub fact_lines : List FactLine → List ℕ
-fact_lines [] = []
-fact_lines (line ∷ lines) = fact_line line ++ fact_lines lines
+abbrev pub step_line : FactStep → List ℕ
+step_line (step.Fact line) = fact_line line
+step_line (step.Suppose second first) = codes "B" ++ after_blanks (second ∷ first ∷ []) ++ codes "\n"
+step_line step.Refuted = codes "Q\n"
 
-abbrev pub facts_text : Option (List FactLine) → List ℕ
+abbrev pub step_lines : List FactStep → List ℕ
+step_lines [] = []
+step_lines (step ∷ steps) = step_line step ++ step_lines steps
+
+abbrev pub facts_text : Option (List FactStep) → List ℕ
 facts_text None = []
-facts_text (Some lines) = fact_lines lines
+facts_text (Some steps) = step_lines steps
 
--- the version of a document is its rule, and 4 if it may have fact lines
-abbrev pub version : Bool → Rule → ℕ
-version true rule = 4
-version false NoneNamed = 1
-version false WrittenEarlier = 2
-version false ClampedStanding = 3
-
--- up to its last line
-abbrev pub text_before_end : Document → List ℕ
-text_before_end d =
-    codes "S66 CERTIFICATE " ++ decimal (version (is_some d.facts) d.rule) ++ codes "\nPROFILE" ++ after_blanks d.profile ++ codes "\nBLOCK " ++ decimal (length d.block) ++ codes "\n" ++ instructions_text d.block
+-- up to its last line, with the number of this version
+abbrev pub text_headed : Version → Document → List ℕ
+text_headed v d =
+    codes "S66 CERTIFICATE " ++ decimal (version_number v) ++ codes "\nPROFILE" ++ after_blanks d.profile ++ codes "\nBLOCK " ++ decimal (length d.block) ++ codes "\n" ++ instructions_text d.block
     ++ codes "TIME " ++ decimal d.time ++ codes "\nBOUND " ++ decimal d.bound ++ codes "\nORDER" ++ after_blanks d.numbers ++ codes "\n"
     ++ facts_text d.facts ++ tree_lines (flat d.tree)
 
 abbrev pub document_text : Document → List ℕ
-document_text d = text_before_end d ++ codes "END\n"
+document_text d = text_headed (version d.facts d.rule) d ++ codes "END\n"
 
 -- documents follow each other with nothing between
 abbrev pub documents_text : List Document → List ℕ

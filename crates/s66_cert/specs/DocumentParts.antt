@@ -8,15 +8,15 @@ use Rattle.s66_model.specs.Leaves.{Whole}
 use Rattle.s66_model.specs.Tree.{Tree, Vertex, flat}
 use Rattle.s66_model.specs.DominatedLeaves.{Ending, Bounding}
 use Rattle.s66_model.specs.Preorder.{read_tree}
-use Rattle.s66_moments.specs.declared.fact_line.FactLine.{FactLine}
+use Rattle.s66_moments.specs.declared.fact_line.FactStep.{FactStep}
 use Rattle.s66_cert.specs.Document.{Document, IsDocument}
 
-abbrev pub facts_in : Option (Vec FactLine Global) → Option (List FactLine)
-facts_in facts = option_map (λ (lines : Vec FactLine Global). lines.items) facts
+abbrev pub facts_in : Option (Vec FactStep Global) → Option (List FactStep)
+facts_in facts = option_map (λ (steps : Vec FactStep Global). steps.items) facts
 
 pub record Parts : Type 0 where
   pub rule : Rule
-  pub facts : Option (List FactLine)
+  pub facts : Option (List FactStep)
   pub profile : List ℕ
   pub block : List (List ℕ)
   pub time : ℕ

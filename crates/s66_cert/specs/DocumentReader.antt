@@ -7,7 +7,7 @@ use Rattle.s66_cert.specs.declared.error.CertError.{CertError}
 use Rattle.s66_cert.specs.declared.error.CertError.TheVariants.{BadLine, Truncated, TooManyNodes, OutOfMemory}
 
 abbrev pub state : Reader → DocumentState
-state r = record { count = r.lines; documents = map document_of r.documents.items; place = r.place; part = r.claim; left = r.left; splits = r.splits }
+state r = record { count = r.lines; documents = map document_of r.documents.items; place = r.place; version = r.version; part = r.claim; left = r.left; splits = r.splits }
 
 -- what came out is what the definition gives, and a fault is the one that it gives; out of memory may come in place of either
 abbrev pub Gives : {X Y : Type 0} → (X → Y) → Result X CertError → Result Y CertError → Type 0

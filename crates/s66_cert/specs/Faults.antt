@@ -2,9 +2,11 @@
 use Rattle.std.specs.Prelude.{◌≡◌, ◌⊎◌, ◌+◌, ◌==◌, ℕ, true, not, List, [], ◌∷◌, ◌++◌, length}
 use Rattle.s66_isa.specs.Lists.{every}
 use Rattle.s66_isa.specs.declared.limits.TheConstants.{BLOCK_LIMIT}
-use Rattle.s66_model.specs.declared.rule.Rule.TheVariants.{NoneNamed}
 use Rattle.s66_line.specs.Fields.{with_newlines}
-use Rattle.s66_cert.specs.Document.{Document, IsDocumentWithin, AreDocumentsWithin, IsText, text_before_end, documents_text}
+use Rattle.s66_cert.specs.Document.{Document, IsDocumentWithin, AreDocumentsWithin, IsText, text_headed, documents_text}
+use Rattle.s66_cert.specs.declared.version.Version.{Version}
+use Rattle.s66_cert.specs.declared.version.Version.TheVariants.{BoundsAlone, EarlierNodes, StandingNodes, FactLines, Suppositions}
+use Rattle.s66_cert.specs.Versions.{version}
 use Rattle.s66_cert.specs.declared.limits.TheConstants.{SPLIT_LIMIT}
 use Rattle.s66_cert.specs.declared.error.CertError.{CertError}
 use Rattle.s66_cert.specs.declared.error.CertError.TheVariants.{BadLine, Truncated, TooManyNodes, OutOfMemory}
@@ -17,15 +19,26 @@ abbrev pub HaveNoNewline : List (List ℕ) → Type 0
 HaveNoNewline [] = Unit {0}
 HaveNoNewline (line ∷ lines) = IsLine line × HaveNoNewline lines
 
--- a document whose last line is still to come: until then the dominated leaf that its rule requires may be missing
-abbrev pub IsOpenWithin : ℕ → ℕ → Document → Type 0
-IsOpenWithin limit most d = IsDocumentWithin limit most d ⊎ IsDocumentWithin limit most (record d { rule = NoneNamed })
+-- the dominated leaf that the version at its head requires is missing
+abbrev pub LacksDominated : (own head : Version) → Type 0
+LacksDominated own head = (own ≡ BoundsAlone) × ((head ≡ EarlierNodes) ⊎ (head ≡ StandingNodes))
+
+-- the supposition that it requires is missing
+abbrev pub LacksSupposition : (own head : Version) → Type 0
+LacksSupposition own head = (own ≡ FactLines) × (head ≡ Suppositions)
+
+abbrev pub MayHead : (own head : Version) → Type 0
+MayHead own head = (head ≡ own) ⊎ LacksDominated own head ⊎ LacksSupposition own head
+
+-- a document whose last line is still to come: until then what the version at its head requires may be missing
+abbrev pub IsOpenWithin : ℕ → ℕ → Version → Document → Type 0
+IsOpenWithin limit most head d = IsDocumentWithin limit most d × MayHead (version d.facts d.rule) head
 
 -- the text of documents, and of one more up to its last line, begins so; their trees have at most this many splits
 abbrev pub BeginsWithin : ℕ → List ℕ → Type 0
 BeginsWithin most text =
-    (more : List ℕ) × (ds : List Document) × (d : Document) × AreDocumentsWithin BLOCK_LIMIT most ds × IsOpenWithin BLOCK_LIMIT most d
-    × (text ++ more ≡ documents_text ds ++ text_before_end d)
+    (more : List ℕ) × (ds : List Document) × (head : Version) × (d : Document) × AreDocumentsWithin BLOCK_LIMIT most ds
+    × IsOpenWithin BLOCK_LIMIT most head d × (text ++ more ≡ documents_text ds ++ text_headed head d)
 
 -- some text of documents begins so, with one more up to its last line; which may still lack its dominated leaf (`IsOpenWithin`)
 abbrev pub Begins : List ℕ → Type 0

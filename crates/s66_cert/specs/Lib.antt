@@ -12,4 +12,5 @@ pub mod DocumentReader
 pub mod Reading
 pub mod Reads
 pub mod Said
+pub mod Versions
 pub mod Refusals

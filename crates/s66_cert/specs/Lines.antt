@@ -5,8 +5,6 @@ use Rattle.std.specs.Str.{bytes_eq}
 use Rattle.s66_isa.specs.declared.instr.Kind.{Kind}
 use Rattle.s66_isa.specs.declared.instr.Kind.TheVariants.{Boolean, Shift, Add, LongAdd, Multiply, Divide, Increment}
 use Rattle.s66_isa.specs.Lists.{every, after_blanks}
-use Rattle.s66_model.specs.declared.rule.Rule.{Rule}
-use Rattle.s66_model.specs.declared.rule.Rule.TheVariants.{NoneNamed, WrittenEarlier, ClampedStanding}
 use Rattle.s66_model.specs.Leaves.{Whole, Chain, Load, Parcels}
 use Rattle.s66_model.specs.Tree.{Vertex, AtTerminal, AtSplit}
 use Rattle.s66_model.specs.DominatedLeaves.{Ending, Bounding, Dominated, Next, Turned, AtLine, LoadFrom}
@@ -19,20 +17,25 @@ use Rattle.s66_moments.specs.declared.moment.Moment.TheVariants.{Origin, At}
 use Rattle.s66_moments.specs.declared.moment.Moment.TheVariants as moment
 use Rattle.s66_moments.specs.declared.fact_line.FactLine.{FactLine}
 use Rattle.s66_moments.specs.declared.fact_line.FactLine.TheVariants as fact
-use Rattle.s66_cert.specs.Document.{AreIn, AreNumbers, IsLeafLine, IsFactLine, moment_text, version}
+use Rattle.s66_moments.specs.declared.fact_line.FactStep.{FactStep}
+use Rattle.s66_moments.specs.declared.fact_line.FactStep.TheVariants as step
+use Rattle.s66_cert.specs.Document.{AreIn, AreNumbers, IsLeafLine, IsFactStep, moment_text}
 use Rattle.s66_isa.specs.KindNames.{kind_name}
 use Rattle.s66_isa.specs.declared.limits.TheConstants.{PROFILE_LENGTH, PROFILE_LIMIT}
+use Rattle.s66_cert.specs.declared.version.Version.{Version}
+use Rattle.s66_cert.specs.declared.version.Version.TheVariants.{BoundsAlone, EarlierNodes, StandingNodes, FactLines, Suppositions}
+use Rattle.s66_cert.specs.Versions.{version_number}
 use Rattle.s66_cert.specs.declared.limits.TheConstants.{TIME_LIMIT, LINE_LIMIT}
 
 pub data DocumentLine : Type 0 where
-  Header : (facts : Bool) → (rule : Rule) → DocumentLine
+  Header : (version : Version) → DocumentLine
   Profile : (numbers : List ℕ) → DocumentLine
   Block : (count : ℕ) → DocumentLine
   Instruction : (text : List ℕ) → DocumentLine
   Time : (time : ℕ) → DocumentLine
   Bound : (bound : ℕ) → DocumentLine
   Order : (numbers : List ℕ) → DocumentLine
-  OfFact : (line : FactLine) → DocumentLine
+  OfFact : (step : FactStep) → DocumentLine
   OfTree : (vertex : Vertex Ending) → DocumentLine
   End : DocumentLine
 
@@ -57,15 +60,20 @@ abbrev pub fact_bytes : FactLine → List ℕ
 fact_bytes (fact.Pair first second) = codes "F" ++ after_blanks (first ∷ second ∷ [])
 fact_bytes (fact.Load line) = codes "A " ++ moment_text line.from ++ codes " " ++ moment_text line.to ++ after_blanks (line.after ∷ line.wait ∷ line.numbers.items)
 
+abbrev pub step_bytes : FactStep → List ℕ
+step_bytes (step.Fact line) = fact_bytes line
+step_bytes (step.Suppose second first) = codes "B" ++ after_blanks (second ∷ first ∷ [])
+step_bytes step.Refuted = codes "Q"
+
 abbrev pub line_bytes : DocumentLine → List ℕ
-line_bytes (Header facts rule) = codes "S66 CERTIFICATE " ++ decimal (version facts rule)
+line_bytes (Header version) = codes "S66 CERTIFICATE " ++ decimal (version_number version)
 line_bytes (Profile numbers) = codes "PROFILE" ++ after_blanks numbers
 line_bytes (Block count) = codes "BLOCK " ++ decimal count
 line_bytes (Instruction text) = codes "I " ++ text
 line_bytes (Time time) = codes "TIME " ++ decimal time
 line_bytes (Bound bound) = codes "BOUND " ++ decimal bound
 line_bytes (Order numbers) = codes "ORDER" ++ after_blanks numbers
-line_bytes (OfFact line) = fact_bytes line
+line_bytes (OfFact step) = step_bytes step
 line_bytes (OfTree vertex) = vertex_bytes vertex
 line_bytes End = codes "END"
 
@@ -76,15 +84,14 @@ IsVertex limit (AtTerminal leaf) = IsLeafLine limit leaf
 IsVertex limit (AtSplit numbers) = AreNumbers limit numbers
 
 abbrev pub IsLineInRange : ℕ → DocumentLine → Type 0
--- fact lines come only by the rule of standing nodes
-IsLineInRange limit (Header facts rule) = facts ≡ true → rule ≡ ClampedStanding
+IsLineInRange limit (Header version) = Unit {0}
 IsLineInRange limit (Profile numbers) = (length numbers ≡ PROFILE_LENGTH) × AreIn 1 PROFILE_LIMIT numbers
 IsLineInRange limit (Block count) = (1 ≤ count) × (count ≤ limit)
 IsLineInRange limit (Instruction text) = IsInstruction text
 IsLineInRange limit (Time time) = time ≤ TIME_LIMIT
 IsLineInRange limit (Bound bound) = bound ≤ TIME_LIMIT
 IsLineInRange limit (Order numbers) = AreNumbers limit numbers
-IsLineInRange limit (OfFact line) = IsFactLine limit line
+IsLineInRange limit (OfFact step) = IsFactStep limit step
 IsLineInRange limit (OfTree vertex) = IsVertex limit vertex
 IsLineInRange limit End = Unit {0}
 
@@ -206,7 +213,7 @@ back_in limit (Some word) = if bytes_eq word (codes "END") then Some moment.End 
 
 abbrev pub load_with : Option Moment → Option Moment → Option ℕ → Option ℕ → Option (List ℕ) → Option DocumentLine
 load_with (Some from) (Some to) (Some after) (Some wait) (Some numbers) =
-    Some (OfFact (fact.Load (record { from = from; to = to; after = after; wait = wait; numbers = record { items = numbers } })))
+    Some (OfFact (step.Fact (fact.Load (record { from = from; to = to; after = after; wait = wait; numbers = record { items = numbers } }))))
 load_with from to after wait numbers = None
 
 -- after these words
@@ -262,11 +269,12 @@ alone line (Some rest) = None
 abbrev pub header_in : Option (List ℕ) → Option DocumentLine
 header_in None = None
 header_in (Some rest) =
-    if bytes_eq rest (codes "CERTIFICATE 1") then Some (Header false NoneNamed)
-    else (if bytes_eq rest (codes "CERTIFICATE 2") then Some (Header false WrittenEarlier)
-    else (if bytes_eq rest (codes "CERTIFICATE 3") then Some (Header false ClampedStanding)
-    else (if bytes_eq rest (codes "CERTIFICATE 4") then Some (Header true ClampedStanding)
-    else None)))
+    if bytes_eq rest (codes "CERTIFICATE 1") then Some (Header BoundsAlone)
+    else (if bytes_eq rest (codes "CERTIFICATE 2") then Some (Header EarlierNodes)
+    else (if bytes_eq rest (codes "CERTIFICATE 3") then Some (Header StandingNodes)
+    else (if bytes_eq rest (codes "CERTIFICATE 4") then Some (Header FactLines)
+    else (if bytes_eq rest (codes "CERTIFICATE 5") then Some (Header Suppositions)
+    else None))))
 
 -- what a line says whose first word is this, and what comes after its blank
 abbrev pub line_with : ℕ → List ℕ → Option (List ℕ) → Option DocumentLine
@@ -281,8 +289,10 @@ line_with limit name rest =
     else (if bytes_eq name (codes "R") then pair_with (λ n m. OfTree (AtTerminal (Turned n m))) (two_numbers limit rest)
     else (if bytes_eq name (codes "N") then option_map (λ n. OfTree (AtTerminal (AtLine n))) (one_number 1 LINE_LIMIT rest)
     else (if bytes_eq name (codes "L") then load_from_in limit rest
-    else (if bytes_eq name (codes "F") then pair_with (λ n m. OfFact (fact.Pair n m)) (two_numbers limit rest)
+    else (if bytes_eq name (codes "F") then pair_with (λ n m. OfFact (step.Fact (fact.Pair n m))) (two_numbers limit rest)
     else (if bytes_eq name (codes "A") then load_in limit rest
+    else (if bytes_eq name (codes "B") then pair_with (λ n m. OfFact (step.Suppose n m)) (two_numbers limit rest)
+    else (if bytes_eq name (codes "Q") then alone (OfFact step.Refuted) rest
     else (if bytes_eq name (codes "I") then instruction_in rest
     else (if bytes_eq name (codes "S66") then header_in rest
     else (if bytes_eq name (codes "PROFILE") then option_map Profile (profile_in rest)
@@ -291,7 +301,7 @@ line_with limit name rest =
     else (if bytes_eq name (codes "BOUND") then option_map Bound (one_number 0 TIME_LIMIT rest)
     else (if bytes_eq name (codes "ORDER") then option_map Order (block_numbers limit rest)
     else (if bytes_eq name (codes "END") then alone End rest
-    else None)))))))))))))))))))
+    else None)))))))))))))))))))))
 
 -- what a line says, or that it's no line of a document
 abbrev pub line_read : ℕ → List ℕ → Option DocumentLine

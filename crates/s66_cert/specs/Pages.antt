@@ -1,11 +1,11 @@
 -- Used by contracts: text that is printed on a page, and what is on the page is written now and then.
-use Rattle.std.specs.Prelude.{◌≡◌, ℕ, List, [], ◌∷◌, ◌++◌, Option, codes, decimal, length, Result, MatchResult, is_some}
+use Rattle.std.specs.Prelude.{◌≡◌, ℕ, List, [], ◌∷◌, ◌++◌, Option, codes, decimal, length, Result, MatchResult}
 use Rattle.std.specs.Io.KnownBytes.{Appends}
 use Rattle.s66_isa.specs.Lists.{after_blanks}
 use Rattle.s66_device.specs.Devices.{Writer, WriteFails}
 use Rattle.s66_model.specs.Tree.{Vertex}
 use Rattle.s66_model.specs.DominatedLeaves.{Ending}
-use Rattle.s66_cert.specs.Document.{version}
+use Rattle.s66_cert.specs.Versions.{version, version_number}
 use Rattle.s66_tree.specs.Lines.{IsShort}
 use Rattle.s66_cert.specs.DocumentParts.{Parts}
 
@@ -24,7 +24,7 @@ Printed old new before after text result =
 
 -- what a document has before its instructions
 abbrev pub opening_lines : Parts → List ℕ
-opening_lines p = codes "S66 CERTIFICATE " ++ decimal (version (is_some p.facts) p.rule) ++ codes "\nPROFILE" ++ after_blanks p.profile ++ codes "\nBLOCK " ++ decimal (length p.block) ++ codes "\n"
+opening_lines p = codes "S66 CERTIFICATE " ++ decimal (version_number (version p.facts p.rule)) ++ codes "\nPROFILE" ++ after_blanks p.profile ++ codes "\nBLOCK " ++ decimal (length p.block) ++ codes "\n"
 
 -- and between these and its tree
 abbrev pub claim_lines : Parts → List ℕ

@@ -1,16 +1,18 @@
 -- Used by contracts: a text of documents read line by line. A block has at most limit instructions, and a tree most splits.
-use Rattle.std.specs.Prelude.{◌+◌, ◌-◌, ◌==◌, ◌&&◌, if◌then◌else◌, ℕ, suc, Bool, true, false, not, List, [], ◌∷◌, ◌++◌, Option, None, Some, is_some, Result, Ok, Err, nat_le, nat_lt, length}
+use Rattle.std.specs.Prelude.{◌+◌, ◌-◌, ◌==◌, ◌&&◌, ◌||◌, if◌then◌else◌, ℕ, suc, Bool, true, false, not, List, [], ◌∷◌, ◌++◌, Option, None, Some, is_some, Result, Ok, Err, nat_le, nat_lt, length}
 use Rattle.std.specs.Option.{option_map}
 use Rattle.s66_isa.specs.declared.limits.TheConstants.{BLOCK_LIMIT}
-use Rattle.s66_model.specs.declared.rule.Rule.{Rule}
 use Rattle.s66_model.specs.declared.rule.Rule.TheVariants.{NoneNamed}
 use Rattle.s66_model.specs.Tree.{Vertex, AtTerminal, AtSplit}
 use Rattle.s66_model.specs.DominatedLeaves.{Ending, Bounding, Dominated, Next, Turned, AtLine, LoadFrom}
-use Rattle.s66_moments.specs.declared.fact_line.FactLine.{FactLine}
+use Rattle.s66_moments.specs.declared.fact_line.FactStep.{FactStep}
 use Rattle.s66_tree.specs.Lines.{has_dominated_line}
 use Rattle.s66_cert.specs.Document.{Document, names_nodes}
 use Rattle.s66_cert.specs.Lines.{DocumentLine, Header, Profile, Block, Instruction, Time, Bound, Order, OfFact, OfTree, End, line_read}
 use Rattle.s66_cert.specs.DocumentParts.{Parts, document_of}
+use Rattle.s66_cert.specs.declared.version.Version.{Version}
+use Rattle.s66_cert.specs.declared.version.Version.TheVariants.{BoundsAlone}
+use Rattle.s66_cert.specs.Versions.{supposes, has_suppositions, version_rule, has_facts, may_suppose}
 use Rattle.s66_cert.specs.declared.limits.TheConstants.{SPLIT_LIMIT, FACT_LIMIT}
 use Rattle.s66_cert.specs.declared.error.CertError.{CertError}
 use Rattle.s66_cert.specs.declared.error.CertError.TheVariants.{BadLine, Truncated, TooManyNodes}
@@ -24,28 +26,29 @@ abbrev pub nothing : Parts
 nothing = record { rule = NoneNamed; facts = None; profile = []; block = []; time = 0; bound = 0; numbers = []; vertices = [] }
 
 -- no fact lines yet, if there may be some
-abbrev pub first_facts : Bool → Option (List FactLine)
+abbrev pub first_facts : Bool → Option (List FactStep)
 first_facts true = Some []
 first_facts false = None
 
 -- nothing but a version
-abbrev pub headed : Bool → Rule → Parts
-headed facts rule = record nothing { rule = rule; facts = first_facts facts }
+abbrev pub headed : Version → Parts
+headed version = record nothing { rule = version_rule version; facts = first_facts (has_facts version) }
 
 pub record DocumentState : Type 0 where
   -- how many lines were read
   pub count : ℕ
   -- the whole documents
   pub documents : List Document
-  -- which line comes next, and what the lines of this document said
+  -- which line comes next, the version of this document, and what its lines said
   pub place : DocumentPlace
+  pub version : Version
   pub part : Parts
   -- how many instructions, or trees, are still to come
   pub left : ℕ
   pub splits : ℕ
 
 abbrev pub first_state : DocumentState
-first_state = record { count = 0; documents = []; place = AtHeader; part = nothing; left = 0; splits = 0 }
+first_state = record { count = 0; documents = []; place = AtHeader; version = BoundsAlone; part = nothing; left = 0; splits = 0 }
 
 -- ONE LINE
 
@@ -53,7 +56,7 @@ abbrev pub bad : DocumentState → Result DocumentState CertError
 bad s = Err (BadLine (suc s.count))
 
 abbrev pub advanced : DocumentState → DocumentPlace → Parts → ℕ → ℕ → Result DocumentState CertError
-advanced s place part left splits = Ok (record { count = suc s.count; documents = s.documents; place = place; part = part; left = left; splits = splits })
+advanced s place part left splits = Ok (record { count = suc s.count; documents = s.documents; place = place; version = s.version; part = part; left = left; splits = splits })
 
 abbrev pub place_of_instruction : ℕ → DocumentPlace
 place_of_instruction left = if left == 0 then AtTime else AtInstruction
@@ -90,38 +93,54 @@ vertex_step most s (AtSplit numbers) =
     else advanced s (place_of_tree (s.left - 1 + length numbers)) (with_vertex s.part (AtSplit numbers)) (s.left - 1 + length numbers) (suc s.splits)
 
 -- fact lines come before the tree, and there are fewer than FACT_LIMIT
-abbrev pub has_room : Option (List FactLine) → Bool
+abbrev pub has_room : Option (List FactStep) → Bool
 has_room None = false
-has_room (Some lines) = nat_lt (length lines) FACT_LIMIT
+has_room (Some steps) = nat_lt (length steps) FACT_LIMIT
 
 abbrev pub takes_fact : Parts → Bool
 takes_fact p = length p.vertices == 0 && has_room p.facts
 
-abbrev pub with_fact : Parts → FactLine → Parts
-with_fact p line = record p { facts = option_map (λ lines. lines ++ line ∷ []) p.facts }
+-- suppositions come in their version alone
+abbrev pub is_step_of : Version → FactStep → Bool
+is_step_of version step = may_suppose version || not (supposes step)
 
-abbrev pub fact_step : DocumentState → FactLine → Result DocumentState CertError
-fact_step s line = if takes_fact s.part then advanced s AtTree (with_fact s.part line) s.left s.splits else bad s
+abbrev pub takes_step : Version → Parts → FactStep → Bool
+takes_step version p step = takes_fact p && is_step_of version step
+
+abbrev pub with_fact : Parts → FactStep → Parts
+with_fact p step = record p { facts = option_map (λ steps. steps ++ step ∷ []) p.facts }
+
+abbrev pub fact_step : DocumentState → FactStep → Result DocumentState CertError
+fact_step s step =
+    if takes_step s.version s.part step then advanced s AtTree (with_fact s.part step) s.left s.splits else bad s
 
 -- dominated leaves come, and there is none
 abbrev pub wants_dominated : Parts → Bool
 wants_dominated p = may_dominate p && not (has_dominated_line p.vertices)
 
+-- suppositions come, and there is none
+abbrev pub wants_supposition : Version → Parts → Bool
+wants_supposition version p = may_suppose version && not (has_suppositions p.facts)
+
+-- what its version requires is missing
+abbrev pub is_wanting : Version → Parts → Bool
+is_wanting version p = wants_dominated p || wants_supposition version p
+
 abbrev pub end_step : DocumentState → Result DocumentState CertError
 end_step s =
-    if wants_dominated s.part then bad s
-    else Ok (record { count = suc s.count; documents = s.documents ++ document_of s.part ∷ []; place = AtHeader; part = nothing; left = 0; splits = 0 })
+    if is_wanting s.version s.part then bad s
+    else Ok (record { count = suc s.count; documents = s.documents ++ document_of s.part ∷ []; place = AtHeader; version = BoundsAlone; part = nothing; left = 0; splits = 0 })
 
 -- the line that comes at this place, and what it makes; any other is bad
 abbrev pub step_at : ℕ → DocumentState → DocumentPlace → DocumentLine → Result DocumentState CertError
-step_at most s AtHeader (Header facts rule) = advanced s AtProfile (headed facts rule) 0 0
+step_at most s AtHeader (Header version) = advanced (record s { version = version }) AtProfile (headed version) 0 0
 step_at most s AtProfile (Profile numbers) = advanced s AtBlock (record s.part { profile = numbers }) 0 0
 step_at most s AtBlock (Block count) = advanced s AtInstruction (record s.part { block = [] }) count 0
 step_at most s AtInstruction (Instruction text) = advanced s (place_of_instruction (s.left - 1)) (record s.part { block = s.part.block ++ text ∷ [] }) (s.left - 1) 0
 step_at most s AtTime (Time time) = advanced s AtBound (record s.part { time = time }) 0 0
 step_at most s AtBound (Bound bound) = advanced s AtOrder (record s.part { bound = bound }) 0 0
 step_at most s AtOrder (Order numbers) = advanced s AtTree (record s.part { facts = first_facts (is_some s.part.facts); numbers = numbers; vertices = [] }) 1 0
-step_at most s AtTree (OfFact line) = fact_step s line
+step_at most s AtTree (OfFact step) = fact_step s step
 step_at most s AtTree (OfTree vertex) = vertex_step most s vertex
 step_at most s AtEnd End = end_step s
 step_at most s place line = bad s

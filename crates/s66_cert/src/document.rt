@@ -6,7 +6,7 @@ use crate::instruction::InstructionText;
 use arrayvec::ArrayVec;
 use s66_isa::{BLOCK_LIMIT, PROFILE_LENGTH};
 use s66_model::Rule;
-use s66_moments::FactLine;
+use s66_moments::FactStep;
 use s66_tree::{Tree, TreeLine, TreeLines};
 use std::marker::Model;
 
@@ -16,8 +16,8 @@ pub struct Claim {
     /// Which nodes its leaves may name. Without fact lines it is `NoneNamed` exactly when no leaf of the tree is dominated, with them
     /// `ClampedStanding`.
     pub rule: Rule,
-    /// The fact lines, if it may have some; then leaves may be of the kinds that come with them, and none is dominated.
-    pub facts: Option<Vec<FactLine>>,
+    /// The fact lines and suppositions, if it may have some; then leaves may be of the kinds that come with them, and none is dominated.
+    pub facts: Option<Vec<FactStep>>,
     /// The ten times of a profile, then its seven copies of units.
     pub profile: ArrayVec<u8, PROFILE_LENGTH>,
     /// The instructions with their texts.
@@ -46,7 +46,7 @@ impl Model for Claim {
 #[derive(Drop)]
 pub struct Document {
     rule: Rule,
-    facts: Option<Vec<FactLine>>,
+    facts: Option<Vec<FactStep>>,
     profile: ArrayVec<u8, PROFILE_LENGTH>,
     block: Vec<InstructionText>,
     time: u32,
@@ -114,14 +114,14 @@ impl Document {
         self.rule
     }
 
-    /// The fact lines, at most `FACT_LIMIT`, if it may have some.
-    pub fn facts(&self) -> Option<&[FactLine]>
-        ensures value { option_map (λ lines. lines.now) result ≡ self.now.facts }
+    /// The fact lines and the lines of suppositions, together at most `FACT_LIMIT`, if it may have some.
+    pub fn facts(&self) -> Option<&[FactStep]>
+        ensures value { option_map (λ steps. steps.now) result ≡ self.now.facts }
         ensures whole { AreWhole self.now }
     {
         match &self.facts {
             None => None,
-            Some(lines) => Some(lines.as_slice()),
+            Some(steps) => Some(steps.as_slice()),
         }
     }
 

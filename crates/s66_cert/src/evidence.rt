@@ -8,8 +8,8 @@ ghost use Rattle.s66_cert.specs.DocumentParts.{tree_of_lines};
 
 use crate::indexed_tree::sibling_count;
 use crate::limits::{FACT_LIMIT, SPLIT_LIMIT, TIME_LIMIT};
-use crate::ranges::{are_fact_lines, is_vertex};
-use s66_moments::FactLine;
+use crate::ranges::{are_fact_steps, is_vertex};
+use s66_moments::FactStep;
 use s66_tree::Tree;
 use std::marker::Model;
 
@@ -41,7 +41,7 @@ fn is_whole(tree: &Tree, most: u32) -> bool
 #[derive(Drop)]
 pub struct Evidence {
     bound: u32,
-    lines: Vec<FactLine>,
+    lines: Vec<FactStep>,
     tree: Tree,
 }
 
@@ -63,14 +63,14 @@ impl Evidence {
 
     /// Fact lines, and a tree that is to show by them that no order takes less than a bound, in minor cycles. None exactly if a document
     /// may not have them, or the tree has more than this many splits.
-    pub fn new(bound: u32, lines: Vec<FactLine>, tree: Tree, most: u32) -> Option<Evidence>
+    pub fn new(bound: u32, lines: Vec<FactStep>, tree: Tree, most: u32) -> Option<Evidence>
         ensures value { IfSome result (λ e. e ≡ record { bound = bound; lines = lines.items; vertices = tree }) }
         ensures splits { IfSome result (λ e. splits (tree_of_lines e.vertices) ≤ most) }
         ensures none { IfNone result (¬ (IsEvidence (record { bound = bound; lines = lines.items; vertices = tree }) ×
             (splits (tree_of_lines tree) ≤ most))) }
     {
         let are_few = bound <= TIME_LIMIT && lines.len() <= FACT_LIMIT;
-        if !are_few || tree.has_dominated() || !are_fact_lines(lines.as_slice()) {
+        if !are_few || tree.has_dominated() || !are_fact_steps(lines.as_slice()) {
             return None;
         }
         if !is_whole(&tree, most.min(SPLIT_LIMIT)) {
@@ -87,7 +87,7 @@ impl Evidence {
     }
 
     /// The fact lines, at most `FACT_LIMIT`.
-    pub fn lines(&self) -> &[FactLine]
+    pub fn lines(&self) -> &[FactStep]
         ensures { result.now ≡ self.now.lines }
     {
         self.lines.as_slice()
@@ -101,7 +101,7 @@ impl Evidence {
     }
 
     /// The fact lines and the tree.
-    pub fn into_parts(self) -> (Vec<FactLine>, Tree)
+    pub fn into_parts(self) -> (Vec<FactStep>, Tree)
         ensures lines { result.0.items ≡ self.lines }
         ensures tree { result.1 ≡ self.vertices }
         ensures whole { IsEvidence self }

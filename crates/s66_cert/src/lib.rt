@@ -25,6 +25,7 @@ mod reading;
 mod readings;
 mod scan;
 mod text;
+mod version;
 
 pub use document::{Claim, Document};
 pub use error::CertError;
@@ -36,6 +37,6 @@ pub use limits::{FACT_LIMIT, LINE_LIMIT, SPLIT_LIMIT, TIME_LIMIT};
 pub use printing::print;
 pub use reading::read;
 pub use readings::{fault_examples, reading_examples};
-pub use s66_moments::{FactLine, LoadLine};
+pub use s66_moments::{FactLine, FactStep, LoadLine};
 pub use s66_tree::{Tree, TreeLine, TreeLines};
 pub use text::text_examples;

@@ -8,7 +8,8 @@ ghost use Rattle.s66_line.specs.declared.limits.TheConstants.{TEXT_LIMIT};
 ghost use Rattle.s66_model.specs.Tree.{AtTerminal, Vertex};
 ghost use Rattle.s66_model.specs.DominatedLeaves.{LoadFrom};
 ghost use Rattle.s66_moments.specs.declared.fact_line.FactLine.TheVariants as fact;
-ghost use Rattle.s66_cert.specs.Document.{moment_text, instructions_text, fact_lines, tree_lines};
+ghost use Rattle.s66_moments.specs.declared.fact_line.FactStep.TheVariants as step;
+ghost use Rattle.s66_cert.specs.Document.{moment_text, instructions_text, step_lines, tree_lines};
 ghost use Rattle.s66_cert.specs.Pages.{Printed};
 ghost use Rattle.s66_tree.specs.Lines.{vertex_of, IsShort};
 
@@ -16,7 +17,7 @@ use arrayvec::ArrayVec;
 use itoa::Buffer;
 use s66_device::{Sink, WriteError, write_all};
 use s66_isa::{BLOCK_LIMIT, kind_name};
-use s66_moments::{FactLine, LoadLine, Moment, Stage};
+use s66_moments::{FactLine, FactStep, LoadLine, Moment, Stage};
 use s66_tree::TreeLine;
 use std::marker::Model;
 
@@ -151,7 +152,7 @@ impl Page {
     /// Prints the line of a load.
     fn load(&mut self, line: &LoadLine)
         requires { length self.old + LINE_ROOM ≤ PAGE_SIZE }
-        ensures { self.new ≡ self.old ++ fact_lines (fact.Load line.now ∷ []) }
+        ensures { self.new ≡ self.old ++ step_lines (step.Fact (fact.Load line.now) ∷ []) }
     {
         self.text(b"A ");
         self.moment(line.from);
@@ -165,14 +166,18 @@ impl Page {
         self.text(b"\n");
     }
 
-    /// Prints a fact line.
-    pub(crate) fn fact_line(&mut self, line: &FactLine)
+    /// Prints a fact line, or a line of a supposition.
+    pub(crate) fn step(&mut self, step: &FactStep)
         requires { length self.old + LINE_ROOM ≤ PAGE_SIZE }
-        ensures { self.new ≡ self.old ++ fact_lines (line.now ∷ []) }
+        ensures { self.new ≡ self.old ++ step_lines (step.now ∷ []) }
     {
-        match line {
-            FactLine::Pair(first, second) => self.numbered_line(b"F", &[*first, *second]),
-            FactLine::Load(line) => self.load(line),
+        match step {
+            FactStep::Fact(FactLine::Pair(first, second)) => {
+                self.numbered_line(b"F", &[*first, *second]);
+            }
+            FactStep::Fact(FactLine::Load(line)) => self.load(line),
+            FactStep::Suppose(second, first) => self.numbered_line(b"B", &[*second, *first]),
+            FactStep::Refuted => self.text(b"Q\n"),
         }
     }
 

@@ -8,6 +8,7 @@ ghost use Rattle.s66_model.specs.Leaves.{Chain, Load};
 ghost use Rattle.s66_model.specs.Tree.{AtTerminal, AtSplit};
 ghost use Rattle.s66_model.specs.DominatedLeaves.{Bounding, Dominated, Next, Turned, AtLine};
 ghost use Rattle.s66_moments.specs.declared.fact_line.FactLine.TheVariants as fact;
+ghost use Rattle.s66_moments.specs.declared.fact_line.FactStep.TheVariants as step;
 ghost use Rattle.s66_cert.specs.Lines.{line_read, word_in, rest_in, block_numbers, two_numbers, pair_with, profile_in, one_number, stage_in, front_in, back_in, load_in, load_from_in, instruction_in, kind_in, header_in, alone, OfFact, OfTree};
 ghost use Rattle.s66_cert.specs.Lines as line;
 ghost use Rattle.s66_cert.specs.Said.{said};
@@ -17,11 +18,11 @@ use crate::instruction::ReadText;
 use crate::limits::{LINE_LIMIT, TIME_LIMIT};
 use crate::line::LineOf;
 use crate::scan::{number_in, numbers_in, split_word};
+use crate::version::Version;
 use arrayvec::ArrayVec;
 use s66_isa::{BLOCK_LIMIT, Kind, PROFILE_LENGTH, PROFILE_LIMIT};
 use s66_line::instruction_of_text;
-use s66_model::Rule;
-use s66_moments::{FactLine, LoadLine, Moment, Stage};
+use s66_moments::{FactLine, FactStep, LoadLine, Moment, Stage};
 use s66_tree::TreeLine;
 
 fn is_name(bytes: &[u8], name: &[u8]) -> bool
@@ -117,25 +118,21 @@ fn instruction_line(rest: Option<&[u8]>) -> Option<LineOf<'_>>
     Some(LineOf::Instruction(ReadText { bytes, instr }))
 }
 
-fn header<'a>(facts: bool, rule: Rule) -> LineOf<'a>
-    ensures { said result ≡ line.Header facts rule }
-{
-    LineOf::Header { facts, rule }
-}
-
 /// The first line of a document, of each version.
 fn header_line(rest: Option<&[u8]>) -> Option<LineOf<'_>>
     ensures { option_map said result ≡ header_in (option_map (λ r. r.now) rest.entry) }
 {
     let name = rest?;
     if is_name(name, b"CERTIFICATE 1") {
-        Some(header(false, Rule::NoneNamed))
+        Some(LineOf::Header(Version::BoundsAlone))
     } else if is_name(name, b"CERTIFICATE 2") {
-        Some(header(false, Rule::WrittenEarlier))
+        Some(LineOf::Header(Version::EarlierNodes))
     } else if is_name(name, b"CERTIFICATE 3") {
-        Some(header(false, Rule::ClampedStanding))
+        Some(LineOf::Header(Version::StandingNodes))
     } else if is_name(name, b"CERTIFICATE 4") {
-        Some(header(true, Rule::ClampedStanding))
+        Some(LineOf::Header(Version::FactLines))
+    } else if is_name(name, b"CERTIFICATE 5") {
+        Some(LineOf::Header(Version::Suppositions))
     } else {
         None
     }
@@ -220,10 +217,20 @@ fn load_from_line<'a>(
 
 fn pair_line(rest: Option<&[u8]>) -> Option<LineOf<'_>>
     ensures { option_map said result ≡
-        pair_with (λ n m. OfFact (fact.Pair n m)) (two_numbers BLOCK_LIMIT (option_map (λ r. r.now) rest.entry)) }
+        pair_with (λ n m. OfFact (step.Fact (fact.Pair n m))) (two_numbers BLOCK_LIMIT (option_map (λ r. r.now) rest.entry)) }
 {
     match two_numbers(rest)?.as_slice() {
-        [first, second] => Some(LineOf::OfFact(FactLine::Pair(*first, *second))),
+        [first, second] => Some(LineOf::OfFact(FactStep::Fact(FactLine::Pair(*first, *second)))),
+        _ => None,
+    }
+}
+
+fn suppose_line(rest: Option<&[u8]>) -> Option<LineOf<'_>>
+    ensures { option_map said result ≡
+        pair_with (λ n m. OfFact (step.Suppose n m)) (two_numbers BLOCK_LIMIT (option_map (λ r. r.now) rest.entry)) }
+{
+    match two_numbers(rest)?.as_slice() {
+        [second, first] => Some(LineOf::OfFact(FactStep::Suppose(*second, *first))),
         _ => None,
     }
 }
@@ -294,7 +301,7 @@ fn load_fact<'a>(rest: Option<&[u8]>) -> Option<LineOf<'a>>
         wait: number(wait, 0, TIME_LIMIT)?,
         numbers: some_numbers(rest)?,
     };
-    Some(LineOf::OfFact(FactLine::Load(line)))
+    Some(LineOf::OfFact(FactStep::Fact(FactLine::Load(line))))
 }
 
 fn order_line<'a>(
@@ -384,6 +391,12 @@ pub(crate) fn line_of<'a>(
     }
     if is_name(name, b"A") {
         return load_fact(rest);
+    }
+    if is_name(name, b"B") {
+        return suppose_line(rest);
+    }
+    if is_name(name, b"Q") {
+        return alone_line(LineOf::OfFact(FactStep::Refuted), rest);
     }
     if is_name(name, b"I") {
         return instruction_line(rest);

@@ -3,31 +3,17 @@
 ghost use Rattle.std.specs.Option.{option_map};
 ghost use Rattle.std.specs.Prelude.{◌≡◌, ◌-◌, ◌^◌, ◌<◌, ◌++◌, ℕ, [], codes};
 ghost use Rattle.s66_device.specs.Devices.{Written};
-ghost use Rattle.s66_cert.specs.Document.{document_text, instructions_text, fact_lines, facts_text, tree_lines, version};
+ghost use Rattle.s66_cert.specs.Document.{document_text, instructions_text, step_lines, facts_text, tree_lines};
 ghost use Rattle.s66_cert.specs.Pages.{Printed, AreShort, opening_lines, claim_lines};
 ghost use Rattle.s66_cert.specs.DocumentParts.{document_of};
 
 use crate::document::Document;
 use crate::instruction::InstructionText;
 use crate::page::Page;
+use crate::version::Version;
 use s66_device::{Sink, WriteError};
-use s66_model::Rule;
-use s66_moments::FactLine;
+use s66_moments::FactStep;
 use s66_tree::TreeLines;
-
-/// The version of a document that may have fact lines or not, by this rule.
-fn version(facts: bool, rule: Rule) -> u32
-    ensures { result ≡ version facts rule }
-{
-    if facts {
-        return 4;
-    }
-    match rule {
-        Rule::NoneNamed => 1,
-        Rule::WrittenEarlier => 2,
-        Rule::ClampedStanding => 3,
-    }
-}
 
 /// Prints what a document has before its instructions.
 fn print_opening(document: &Document, page: &mut Page)
@@ -35,7 +21,7 @@ fn print_opening(document: &Document, page: &mut Page)
     ensures { page.new ≡ opening_lines document.now }
 {
     page.text(b"S66 CERTIFICATE ");
-    page.number(version(document.facts().is_some(), document.rule()));
+    page.number(Version::of(document.facts(), document.rule()).number());
     page.text(b"\nPROFILE");
     page.numbers(document.profile());
     page.text(b"\nBLOCK ");
@@ -79,35 +65,35 @@ fn print_claim<S: Sink>(
     Ok(())
 }
 
-/// Prints fact lines.
-fn print_lines<S: Sink>(
-    lines: &[FactLine],
+/// Prints fact lines and lines of suppositions.
+fn print_steps<S: Sink>(
+    steps: &[FactStep],
     page: &mut Page,
     writer: &mut S,
 ) -> Result<(), WriteError>
     requires { (S.seen writer.old).failures < 2 ^ 64 - 1 }
-    ensures { Printed (S.seen writer.old) (S.seen writer.new) page.old page.new (fact_lines lines.now) result }
+    ensures { Printed (S.seen writer.old) (S.seen writer.new) page.old page.new (step_lines steps.now) result }
 {
-    for line in lines {
+    for step in steps {
         page.make_room(writer)?;
-        page.fact_line(line);
+        page.step(step);
     }
     Ok(())
 }
 
 /// Prints the fact lines, if there may be some.
 fn print_facts<S: Sink>(
-    facts: Option<&[FactLine]>,
+    facts: Option<&[FactStep]>,
     page: &mut Page,
     writer: &mut S,
 ) -> Result<(), WriteError>
     requires { (S.seen writer.old).failures < 2 ^ 64 - 1 }
     ensures { Printed (S.seen writer.old) (S.seen writer.new) page.old page.new
-        (facts_text (option_map (λ lines. lines.now) facts.entry)) result }
+        (facts_text (option_map (λ steps. steps.now) facts.entry)) result }
 {
     match facts {
         None => Ok(()),
-        Some(lines) => print_lines(lines, page, writer),
+        Some(steps) => print_steps(steps, page, writer),
     }
 }
 

@@ -5,12 +5,12 @@ ghost use Rattle.s66_isa.specs.declared.limits.TheConstants.{BLOCK_LIMIT};
 ghost use Rattle.s66_moments.specs.declared.fact_line.FactLine.TheVariants as fact;
 ghost use Rattle.s66_moments.specs.Known.{IsMomentWithin, is_front, is_back};
 ghost use Rattle.s66_tree.specs.Lines.{vertex_of};
-ghost use Rattle.s66_cert.specs.Document.{AreIn, AreNumbers, AreFactLines, IsFactLine};
+ghost use Rattle.s66_cert.specs.Document.{AreIn, AreNumbers, AreFactSteps, IsFactLine, IsFactStep};
 ghost use Rattle.s66_cert.specs.Lines.{IsVertex};
 
 use crate::limits::{LINE_LIMIT, TIME_LIMIT};
 use s66_isa::BLOCK_LIMIT;
-use s66_moments::{FactLine, LoadLine, Moment, Stage};
+use s66_moments::{FactLine, FactStep, LoadLine, Moment, Stage};
 use s66_tree::TreeLine;
 
 /// Whether a block may have an instruction of this number.
@@ -87,12 +87,22 @@ fn is_fact_line(line: &FactLine) -> bool
     }
 }
 
-/// Whether a document may have each of these fact lines.
-pub(crate) fn are_fact_lines(lines: &[FactLine]) -> bool
-    ensures { IsTrue result ↔ AreFactLines BLOCK_LIMIT lines.now }
+fn is_fact_step(step: &FactStep) -> bool
+    ensures { IsTrue result ↔ IsFactStep BLOCK_LIMIT step.now }
 {
-    for line in lines {
-        if !is_fact_line(line) {
+    match step {
+        FactStep::Fact(line) => is_fact_line(line),
+        FactStep::Suppose(second, first) => is_number(*second) && is_number(*first),
+        FactStep::Refuted => true,
+    }
+}
+
+/// Whether a document may have each of these fact lines.
+pub(crate) fn are_fact_steps(steps: &[FactStep]) -> bool
+    ensures { IsTrue result ↔ AreFactSteps BLOCK_LIMIT steps.now }
+{
+    for step in steps {
+        if !is_fact_step(step) {
             return false;
         }
     }

@@ -9,7 +9,7 @@ ghost use Rattle.s66_cert.specs.Lines.{IsLineInRange, IsVertex, Header, Profile,
 ghost use Rattle.s66_tree.specs.Lines.{vertex_of};
 ghost use Rattle.s66_cert.specs.DocumentParts.{AreWhole, facts_in};
 ghost use Rattle.s66_cert.specs.DocumentReader.{state, Steps, StepsEnd};
-ghost use Rattle.s66_cert.specs.Reading.{nothing, headed, first_state, is_allowed, may_dominate, is_leaf_of, has_room, takes_fact, wants_dominated, step_at, step, steps, whole_lines, last_bytes};
+ghost use Rattle.s66_cert.specs.Reading.{nothing, headed, first_state, is_allowed, may_dominate, is_leaf_of, has_room, takes_fact, takes_step, wants_dominated, wants_supposition, is_wanting, step_at, step, steps, whole_lines, last_bytes};
 ghost use Rattle.s66_cert.specs.Said.{said};
 ghost use Rattle.s66_cert.specs.declared.error.CertError.TheVariants.{BadLine};
 ghost use Rattle.s66_cert.specs.declared.limits.TheConstants.{SPLIT_LIMIT};
@@ -22,10 +22,11 @@ use crate::instruction::{InstructionText, ReadText};
 use crate::limits::{FACT_LIMIT, SPLIT_LIMIT};
 use crate::line::LineOf;
 use crate::parse::line_of;
+use crate::version::{Version, has_suppositions, supposes};
 use arrayvec::ArrayVec;
 use s66_isa::PROFILE_LENGTH;
 use s66_model::Rule;
-use s66_moments::FactLine;
+use s66_moments::FactStep;
 use s66_tree::{Tree, TreeLine};
 use std::alloc::Global;
 use std::mem;
@@ -71,12 +72,12 @@ fn is_allowed(dominated: bool, factual: bool, line: TreeLine<'_>) -> bool
 }
 
 /// Whether there may be a fact line more.
-fn has_room(facts: &Option<Vec<FactLine>>) -> bool
+fn has_room(facts: &Option<Vec<FactStep>>) -> bool
     ensures { result ≡ has_room (facts_in facts.now) }
 {
     match facts {
         None => false,
-        Some(lines) => lines.len() < FACT_LIMIT,
+        Some(steps) => steps.len() < FACT_LIMIT,
     }
 }
 
@@ -89,7 +90,9 @@ pub(crate) struct Reader {
     pub documents: Vec<Document>,
     /// Which line comes next.
     pub place: DocumentPlace,
-    /// What the lines of the open document said.
+    /// The version of the open document.
+    pub version: Version,
+    /// What its lines said.
     pub claim: Claim,
     /// How many instructions, or trees, are still to come.
     pub left: u64,
@@ -106,6 +109,7 @@ impl Reader {
             lines: 0,
             documents: Vec::new(alloc),
             place: DocumentPlace::AtHeader,
+            version: Version::BoundsAlone,
             claim: nothing(alloc),
             left: 0,
             splits: 0,
@@ -174,16 +178,23 @@ impl Reader {
         self.claim.tree.is_empty() && has_room(&self.claim.facts)
     }
 
-    /// Reads a fact line if one may come.
-    fn take_fact(&mut self, line: FactLine) -> Result<(), CertError>
-        requires lines { self.old.lines < 2 ^ 64 - 1 }
-        ensures { Steps (state self.new) result (step_at SPLIT_LIMIT (state self.old) AtTree (OfFact line)) }
+    /// Whether this fact line, or this line of a supposition, may come.
+    fn takes_step(&self, step: &FactStep) -> bool
+        ensures { result ≡ takes_step self.now.version self.now.claim step.now }
     {
-        if !self.takes_fact() {
+        self.takes_fact() && (self.version.may_suppose() || !supposes(step))
+    }
+
+    /// Reads a fact line, or one of a supposition, if it may come.
+    fn take_fact(&mut self, step: FactStep) -> Result<(), CertError>
+        requires lines { self.old.lines < 2 ^ 64 - 1 }
+        ensures { Steps (state self.new) result (step_at SPLIT_LIMIT (state self.old) AtTree (OfFact step)) }
+    {
+        if !self.takes_step(&step) {
             return Err(self.bad_line());
         }
-        if let Some(lines) = &mut self.claim.facts {
-            lines.push(line)?;
+        if let Some(steps) = &mut self.claim.facts {
+            steps.push(step)?;
         }
         self.go_on(DocumentPlace::AtTree, self.left, self.splits);
         Ok(())
@@ -228,32 +239,52 @@ impl Reader {
         self.may_dominate() && !self.claim.tree.has_dominated()
     }
 
+    /// Whether suppositions come, and there is none.
+    fn wants_supposition(&self) -> bool
+        ensures { result ≡ wants_supposition self.now.version self.now.claim }
+    {
+        let facts = match &self.claim.facts {
+            None => None,
+            Some(steps) => Some(steps.as_slice()),
+        };
+        self.version.may_suppose() && !has_suppositions(facts)
+    }
+
+    /// Whether what the version requires is missing.
+    fn is_wanting(&self) -> bool
+        ensures { result ≡ is_wanting self.now.version self.now.claim }
+    {
+        self.wants_dominated() || self.wants_supposition()
+    }
+
     /// Reads the last line if it is due.
     fn take_end(&mut self, alloc: Global) -> Result<(), CertError>
         requires lines { self.old.lines < 2 ^ 64 - 1 }
-        requires named { wants_dominated self.old.claim ≡ false }
+        requires named { is_wanting self.old.version self.old.claim ≡ false }
         requires whole { AreWhole self.old.claim }
         ensures { Steps (state self.new) result (step_at SPLIT_LIMIT (state self.old) AtEnd End) }
     {
         let claim = mem::replace(&mut self.claim, nothing(alloc));
         self.documents.push(Document::new(claim))?;
+        self.version = Version::BoundsAlone;
         self.go_on(DocumentPlace::AtHeader, 0, 0);
         Ok(())
     }
 
     #[tactic(auto, using(crate::proofs::Places::other_header))]
-    fn header(&mut self, alloc: Global, facts: bool, rule: Rule) -> Result<(), CertError>
+    fn header(&mut self, alloc: Global, version: Version) -> Result<(), CertError>
         requires lines { self.old.lines < 2 ^ 64 - 1 }
         ensures { Steps (state self.new) result (step_at SPLIT_LIMIT (state self.old) self.old.place
-            (Header facts rule)) }
+            (Header version)) }
     {
         match self.place {
             DocumentPlace::AtHeader => {
                 self.claim = nothing(alloc);
-                self.claim.rule = rule;
-                if facts {
+                self.claim.rule = version.rule();
+                if version.has_facts() {
                     self.claim.facts = Some(Vec::new(alloc));
                 }
+                self.version = version;
                 self.go_on(DocumentPlace::AtProfile, 0, 0);
                 Ok(())
             }
@@ -360,12 +391,12 @@ impl Reader {
     }
 
     #[tactic(auto, using(crate::proofs::Places::other_fact))]
-    fn fact(&mut self, line: FactLine) -> Result<(), CertError>
+    fn fact(&mut self, step: FactStep) -> Result<(), CertError>
         requires lines { self.old.lines < 2 ^ 64 - 1 }
-        ensures { Steps (state self.new) result (step_at SPLIT_LIMIT (state self.old) self.old.place (OfFact line)) }
+        ensures { Steps (state self.new) result (step_at SPLIT_LIMIT (state self.old) self.old.place (OfFact step)) }
     {
         match self.place {
-            DocumentPlace::AtTree => self.take_fact(line),
+            DocumentPlace::AtTree => self.take_fact(step),
             _ => Err(self.bad_line()),
         }
     }
@@ -392,7 +423,7 @@ impl Reader {
     {
         match self.place {
             DocumentPlace::AtEnd => {
-                if self.wants_dominated() {
+                if self.is_wanting() {
                     return Err(self.bad_line());
                 }
                 self.take_end(alloc)
@@ -410,14 +441,14 @@ impl Reader {
             (said line.entry)) }
     {
         match line {
-            LineOf::Header { facts, rule } => self.header(alloc, facts, rule),
+            LineOf::Header(version) => self.header(alloc, version),
             LineOf::Profile(numbers) => self.profile(numbers),
             LineOf::Block(count) => self.block(alloc, count),
             LineOf::Instruction(text) => self.instruction(alloc, &text),
             LineOf::Time(time) => self.time(time),
             LineOf::Bound(bound) => self.bound(bound),
             LineOf::Order(numbers) => self.order(alloc, numbers),
-            LineOf::OfFact(line) => self.fact(line),
+            LineOf::OfFact(step) => self.fact(step),
             LineOf::OfTree(vertex) => self.vertex(vertex),
             LineOf::End => self.end(alloc),
         }

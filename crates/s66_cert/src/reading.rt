@@ -24,6 +24,7 @@ fn read_lines(alloc: Global, text: &[u8]) -> Result<Vec<Document>, CertError>
         lines: _,
         documents,
         place,
+        version: _,
         claim: _,
         left: _,
         splits: _,

@@ -13,9 +13,10 @@ ghost use Rattle.s66_moments.specs.declared.moment.Stage.TheVariants.{Issue, Sta
 ghost use Rattle.s66_moments.specs.declared.moment.Moment.TheVariants.{Origin, At, End};
 ghost use Rattle.s66_cert.specs.declared.error.CertError.TheVariants.{BadLine, Truncated, TooManyNodes};
 ghost use Rattle.s66_cert.specs.declared.limits.TheConstants.{SPLIT_LIMIT};
-ghost use Rattle.s66_moments.specs.declared.fact_line.FactLine.{FactLine};
+ghost use Rattle.s66_moments.specs.declared.fact_line.FactStep.{FactStep};
+ghost use Rattle.s66_moments.specs.declared.fact_line.FactStep.TheVariants.{Suppose, Refuted};
 ghost use Rattle.s66_cert.specs.Reading.{nothing, takes_fact, read_of, read_within};
-ghost use Rattle.s66_cert.specs.Altered.{replaced, with_line, with_late_line, with_factual_line, with_fact_line, with_split_of, are_truncated};
+ghost use Rattle.s66_cert.specs.Altered.{replaced, with_line, with_late_line, with_factual_line, with_fact_line, with_step_lines, with_split_of, are_truncated};
 ghost use Rattle.s66_cert.specs.Examples as examples;
 ghost use Rattle.s66_cert.specs.Examples.{three_multiplies, three_multiplies_text, one_load, one_load_text, late_reader, late_reader_text};
 
@@ -41,8 +42,13 @@ pub fn reading_examples()
     ensures version_2 { read_of (late_reader_text (codes "S66 CERTIFICATE 2")) ≡ Ok (late_reader WrittenEarlier ∷ []) }
     ensures version_3 { read_of (late_reader_text (codes "S66 CERTIFICATE 3")) ≡ Ok (late_reader ClampedStanding ∷ []) }
     ensures version_4 { read_of examples.by_facts_text ≡ Ok (examples.by_facts ∷ []) }
-    ensures fact_line_4096 { (lines : List FactLine) → length lines ≡ 4095 →
-        takes_fact (record nothing { facts = Some lines }) ≡ true }
+    ensures version_5 { read_of examples.by_supposition_text ≡ Ok (examples.by_supposition ∷ []) }
+    ensures begin_alone { read_of (with_step_lines (codes "B 128 1\n")) ≡ Ok (examples.with_steps (Suppose 128 1 ∷ []) ∷ []) }
+    ensures end_alone { read_of (with_step_lines (codes "Q\n")) ≡ Ok (examples.with_steps (Refuted ∷ []) ∷ []) }
+    ensures begin_within { read_of (with_step_lines (codes "B 2 1\nB 1 2\nQ\n")) ≡
+        Ok (examples.with_steps (Suppose 2 1 ∷ Suppose 1 2 ∷ Refuted ∷ []) ∷ []) }
+    ensures fact_line_4096 { (steps : List FactStep) → length steps ≡ 4095 →
+        takes_fact (record nothing { facts = Some steps }) ≡ true }
     ensures no_fact_lines { read_of (replaced 12 3 [] examples.by_facts_text) ≡ Ok (examples.with_facts [] ∷ []) }
     ensures load_from_the_origin { read_of (with_fact_line (codes "A 0 END 0 100000 3 4")) ≡
         Ok (record (examples.with_load Origin End 0 100000 (3 ∷ 4 ∷ [])) { tree = Alone (Bounding Parcels) } ∷ []) }
@@ -78,11 +84,17 @@ pub fn fault_examples()
     ensures bad_bound_in_the_second { read_of (three_multiplies_text ++
         replaced 8 1 (codes "BOUND 012" ∷ []) one_load_text) ≡ Err (BadLine 34) }
     ensures version_0 { read_of (with_line 1 (codes "S66 CERTIFICATE 0")) ≡ Err (BadLine 1) }
-    ensures version_5 { read_of (with_line 1 (codes "S66 CERTIFICATE 5")) ≡ Err (BadLine 1) }
+    ensures version_6 { read_of (with_line 1 (codes "S66 CERTIFICATE 6")) ≡ Err (BadLine 1) }
     ensures version_of_two_digits { read_of (with_line 1 (codes "S66 CERTIFICATE 02")) ≡ Err (BadLine 1) }
     ensures blank_after_version { read_of (with_line 1 (codes "S66 CERTIFICATE 2 ")) ≡ Err (BadLine 1) }
     ensures none_dominated_in_version_2 { read_of (with_line 1 (codes "S66 CERTIFICATE 2")) ≡ Err (BadLine 26) }
     ensures none_dominated_in_version_3 { read_of (with_line 1 (codes "S66 CERTIFICATE 3")) ≡ Err (BadLine 26) }
+    ensures none_supposed_in_version_5 { read_of (examples.by_supposition_with (codes "S66 CERTIFICATE 5")
+        (codes "F 3 2\nU ADD\n")) ≡ Err (BadLine 12) }
+    ensures no_fact_line_in_version_5 { read_of (with_line 1 (codes "S66 CERTIFICATE 5")) ≡ Err (BadLine 26) }
+    ensures none_supposed_and_no_last_line { read_of (take (length three_multiplies_text - 4)
+        (with_line 1 (codes "S66 CERTIFICATE 5"))) ≡ Err Truncated }
+    ensures dominated_in_version_5 { read_of (late_reader_text (codes "S66 CERTIFICATE 5")) ≡ Err (BadLine 18) }
     ensures none_dominated_and_no_last_line { read_of (take (length three_multiplies_text - 4)
         (with_line 1 (codes "S66 CERTIFICATE 2"))) ≡ Err Truncated }
     ensures dominated_in_version_1 { read_of (late_reader_text (codes "S66 CERTIFICATE 1")) ≡ Err (BadLine 18) }
@@ -96,8 +108,8 @@ pub fn fault_examples()
     ensures tree_below_a_dominated_leaf { read_of (replaced 18 1 (codes "D 1 2 3" ∷ codes "T" ∷ [])
         (late_reader_text (codes "S66 CERTIFICATE 2"))) ≡ Err (BadLine 24) }
     ensures dominated_after_the_tree { read_of (with_late_line 24 (codes "D 1")) ≡ Err (BadLine 24) }
-    ensures fact_line_4097 { (lines : List FactLine) → length lines ≡ 4096 →
-        takes_fact (record nothing { facts = Some lines }) ≡ false }
+    ensures fact_line_4097 { (steps : List FactStep) → length steps ≡ 4096 →
+        takes_fact (record nothing { facts = Some steps }) ≡ false }
     ensures pair_in_version_3 { read_of (with_factual_line 1 (codes "S66 CERTIFICATE 3")) ≡ Err (BadLine 12) }
     ensures pair_after_a_tree_line { read_of (with_factual_line 16 (codes "F 2 1")) ≡ Err (BadLine 16) }
     ensures pair_with_0 { read_of (with_factual_line 13 (codes "F 0 1")) ≡ Err (BadLine 13) }
@@ -113,6 +125,24 @@ pub fn fault_examples()
     ensures load_of_none { read_of (with_fact_line (codes "A 0 END 0 5")) ≡ Err (BadLine 12) }
     ensures load_without_wait { read_of (with_fact_line (codes "A 0 END 0")) ≡ Err (BadLine 12) }
     ensures blank_after_a_load { read_of (with_fact_line (codes "A 0 END 0 5 3 ")) ≡ Err (BadLine 12) }
+    ensures begin_in_version_3 { read_of (examples.by_supposition_with (codes "S66 CERTIFICATE 3")
+        (codes "B 2 1\nQ\nU ADD\n")) ≡ Err (BadLine 10) }
+    ensures begin_in_version_4 { read_of (examples.by_supposition_with (codes "S66 CERTIFICATE 4")
+        (codes "F 3 2\nB 2 1\nQ\nU ADD\n")) ≡ Err (BadLine 11) }
+    ensures end_in_version_4 { read_of (examples.by_supposition_with (codes "S66 CERTIFICATE 4")
+        (codes "Q\nU ADD\n")) ≡ Err (BadLine 10) }
+    ensures end_in_version_1 { read_of (examples.by_supposition_with (codes "S66 CERTIFICATE 1")
+        (codes "Q\nU ADD\n")) ≡ Err (BadLine 10) }
+    ensures begin_after_a_tree_line { read_of (examples.by_supposition_with (codes "S66 CERTIFICATE 5")
+        (codes "Q\nU ADD\nB 2 1\n")) ≡ Err (BadLine 12) }
+    ensures begin_of_none { read_of (with_step_lines (codes "B\n")) ≡ Err (BadLine 10) }
+    ensures begin_of_one { read_of (with_step_lines (codes "B 1\n")) ≡ Err (BadLine 10) }
+    ensures begin_of_three { read_of (with_step_lines (codes "B 2 1 3\n")) ≡ Err (BadLine 10) }
+    ensures begin_with_0 { read_of (with_step_lines (codes "B 0 1\n")) ≡ Err (BadLine 10) }
+    ensures begin_with_129 { read_of (with_step_lines (codes "B 1 129\n")) ≡ Err (BadLine 10) }
+    ensures begin_with_65_at_64 { read_within 64 SPLIT_LIMIT (with_step_lines (codes "B 1 65\n")) ≡ Err (BadLine 10) }
+    ensures end_of_one { read_of (with_step_lines (codes "B 2 1\nQ 1\n")) ≡ Err (BadLine 11) }
+    ensures blank_after_an_end { read_of (with_step_lines (codes "Q \n")) ≡ Err (BadLine 10) }
     ensures next_of_none { read_of (with_factual_line 18 (codes "E")) ≡ Err (BadLine 18) }
     ensures next_of_two { read_of (with_factual_line 18 (codes "E 3 4")) ≡ Err (BadLine 18) }
     ensures turned_of_one { read_of (with_factual_line 16 (codes "R 2")) ≡ Err (BadLine 16) }

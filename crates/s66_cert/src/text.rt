@@ -41,6 +41,8 @@ pub fn text_examples()
         (examples.late_reader ClampedStanding ∷ []) }
     ensures by_facts_text { document_text examples.by_facts ≡ examples.by_facts_text }
     ensures by_facts_is_read { IsText BLOCK_LIMIT examples.by_facts_text (examples.by_facts ∷ []) }
+    ensures by_supposition_text { document_text examples.by_supposition ≡ examples.by_supposition_text }
+    ensures by_supposition_is_read { IsText BLOCK_LIMIT examples.by_supposition_text (examples.by_supposition ∷ []) }
     ensures load_text { document_text (record (examples.with_load (At 1 Issue) End 2 10
         (3 ∷ 4 ∷ [])) { tree = Alone (Bounding Parcels) }) ≡ with_fact_line (codes "A I1 END 2 10 3 4") }
     ensures each_unit_load { tree_lines (flat examples.unit_loads) ≡ examples.unit_loads_lines }
@@ -52,7 +54,7 @@ pub fn text_examples()
     ensures no_document { IsText BLOCK_LIMIT [] [] }
     ensures nothing_is_read_of_no_text { (limit : ℕ) (ds : List Document) → IsText limit [] ds → ds ≡ [] }
     ensures other_version { (limit : ℕ) (more : List ℕ) (ds : List Document) →
-        ¬ IsText limit (codes "S66 CERTIFICATE 5\n" ++ more) ds }
+        ¬ IsText limit (codes "S66 CERTIFICATE 6\n" ++ more) ds }
     ensures unfinished_line { (limit : ℕ) (text : List ℕ) (ds : List Document) →
         ¬ IsText limit (text ++ codes "END") ds }
     ensures text_goes_on { ¬ IsText BLOCK_LIMIT (examples.one_load_text ++ codes "\n") (examples.one_load ∷ []) }

@@ -1,5 +1,5 @@
 -- If the verdict is yes the claim is true, and without fact lines exactly then.
-use Rattle.std.proofs.Common.{ℕ, suc, ◌≡◌, ◌↔◌, ◌≤◌, ◌∙◌, Bool, true, false, cond, not, List, [], ◌∷◌, Option, None, Some, refl, sym, ap, subst, inl, inr, map, unwrap_or}
+use Rattle.std.proofs.Common.{ℕ, suc, ◌≡◌, ◌↔◌, ◌≤◌, ◌∙◌, Bool, false, cond, not, List, [], ◌∷◌, Option, None, Some, refl, sym, ap, subst, inl, inr, unwrap_or}
 use Rattle.std.proofs.lemmas.Bool.{eqb-true, eq-eqb, ltb-false, le-ltb, not-false, not_from_true, or_parts}
 use Rattle.std.specs.Prelude.{nat_lt, ◌==◌}
 use Rattle.s66_isa.specs.Lists.{Among, some_of}
@@ -10,14 +10,16 @@ use Rattle.s66_model.specs.BestAndBound.{IsBound}
 use Rattle.s66_model.specs.Tree.{Vertex, AtTerminal, flat}
 use Rattle.s66_model.specs.DominatedLeaves.{Ending, EndingShows}
 use Rattle.s66_model.proofs.DominatedTrees.{shown-below}
-use Rattle.s66_moments.specs.declared.fact_line.FactLine.{FactLine}
-use Rattle.s66_moments.specs.Known.{line_of, known_first, are_taken}
+use Rattle.s66_moments.specs.declared.fact_line.FactStep.{FactStep}
+use Rattle.s66_moments.specs.LineTrees.{ShowsByLines}
+use Rattle.s66_moments.specs.Suppositions.{standing_first, shown_by_all}
 use Rattle.s66_moments.proofs.ClosedTrees.{lines-below}
 use Rattle.s66_cert.specs.Document.{Document, IsDocument, AreFacts, HasItsLeaves, is_factual, tree_placed}
 use Rattle.s66_checker.specs.declared.verdict.Verdict.{Verdict}
 use Rattle.s66_checker.specs.declared.verdict.Verdict.TheVariants.{Yes, No}
 use Rattle.s66_checker.specs.declared.verdict.Reason.{Reason}
 use Rattle.s66_checker.specs.declared.verdict.Reason.TheVariants as fault
+use Rattle.s66_checker.specs.KeptKnown.{AreTaken}
 use Rattle.s66_checker.specs.TrueClaims.{line_tree, IsShown, IsTrueClaim}
 use Rattle.s66_checker.specs.Verdict.{problem_of, facts_of, is_legal_order, line_fault, unless, lines_verdict, facts_verdict, time_line_number, bound_line_number, order_line_number, fact_line_number, tree_line_number, verdict}
 use Rattle.s66_checker.proofs.Faultless.{passed, is_legal_order-Decides}
@@ -42,14 +44,14 @@ pub record IsGranted (d : Document) : Type 0 where
   pub order : IsLegal (problem_of d).block d.numbers
   pub total : total_of (problem_of d) d.numbers ≡ d.time
   pub within : d.bound ≤ d.time
-  pub facts : are_taken (problem_of d) d.bound (known_first (problem_of d)) (facts_of d) ≡ true
+  pub facts : AreTaken d
   pub lines : Pass d (tree_placed [] d.tree)
 
 pub granted : (d : Document) (time bound : ℕ) → (verdict d ≡ Yes time bound) ↔ ((time ≡ d.time) × (bound ≡ d.bound) × IsGranted d)
 granted d time bound =
     let b : Problem = problem_of d in
     let tree : Verdict = lines_verdict d (tree_line_number d) (tree_placed [] d.tree) in
-    let lines : Verdict = facts_verdict d (fact_line_number d) (known_first b) (facts_of d) tree in
+    let lines : Verdict = facts_verdict d (fact_line_number d) 0 (standing_first b) (facts_of d) tree in
     let high : Bool = nat_lt d.time d.bound in
     let times : Bool = total_of b d.numbers == d.time in
     let legal : Bool = is_legal_order b.block d.numbers in
@@ -58,21 +60,21 @@ granted d time bound =
     let order = passed (not legal) (No (order_line_number d) fault.Order) after_order (Yes time bound) (λ h. (cc)) in
     let total = passed (not times) (No (time_line_number d) fault.Time) after_time (Yes time bound) (λ h. (cc)) in
     let within = passed high (No (bound_line_number d) fault.Bound) lines (Yes time bound) (λ h. (cc)) in
-    let facts = facts-yes d (facts_of d) (fact_line_number d) (known_first b) tree time bound in
+    let facts = facts-yes d (facts_of d) (fact_line_number d) 0 (standing_first b) tree time bound in
     let stated = lines-yes d (tree_placed [] d.tree) (tree_line_number d) time bound in
     let is_legal = is_legal_order-Decides b.block d.numbers in (
       (λ h. (let one = order.0 h in
           let two = total.0 one.1 in
           let three = within.0 two.1 in
           let four = facts.0 three.1 in
-          let five = stated.0 four.1 in (
+          let five = stated.0 four.2 in (
             five.1,
             five.2,
             record {
               order = is_legal.0 (not-false legal one.0);
               total = eqb-true (total_of b d.numbers) d.time (not-false times two.0);
               within = ltb-false d.time d.bound three.0;
-              facts = four.0;
+              facts = record { each = four.0; closed = four.1 };
               lines = five.0;
             },
           ))),
@@ -83,7 +85,7 @@ granted d time bound =
               not_from_true times (eq-eqb (total_of b d.numbers) d.time is.total),
               within.1 (
                 le-ltb d.time d.bound is.within,
-                facts.1 (is.facts, stated.1 (is.lines, h.0, h.1)),
+                facts.1 (is.facts.each, is.facts.closed, stated.1 (is.lines, h.0, h.1)),
               ),
             ),
           )),
@@ -116,7 +118,7 @@ verdict-yes limit d time bound is none =
               order = claim.legal;
               total = claim.time;
               within = claim.bound;
-              facts = rw none refl;
+              facts = record { each = rw none refl; closed = rw none refl };
               lines = tree.1 (subst (IsShown d) none claim.tree);
             },
           )),
@@ -124,13 +126,13 @@ verdict-yes limit d time bound is none =
 
 -- WITH FACT LINES
 
-lines-shown : (limit : ℕ) (d : Document) (lines : List FactLine) → IsDocument limit d → d.facts ≡ Some lines → IsGranted d → IsShown d (Some lines)
-lines-shown limit d lines is some at =
+lines-shown : (limit : ℕ) (d : Document) (steps : List FactStep) → IsDocument limit d → d.facts ≡ Some steps → IsGranted d → IsShown d (Some steps)
+lines-shown limit d steps is some at =
     let b : Problem = problem_of d in
-    let facts : AreFacts limit d.rule (Some lines) = subst (AreFacts limit d.rule) some is.facts in
-    let taken = subst (λ f. are_taken b d.bound (known_first b) (unwrap_or f []) ≡ true) some at.facts in
-    shown-by_lines d lines some facts.0 taken
-    ((tree-shows d (λ ending. Unit {0}) (λ at ending. IsBeginning b.block at × (line_fault d at (AtTerminal ending) ≡ None)) (λ at ending may begins. ((λ h. (begins, h)), λ h. h.1)) limit d.tree is.tree (λ ending among. tt)).0 at.lines)
+    let facts : AreFacts limit d.rule (Some steps) = subst (AreFacts limit d.rule) some is.facts in
+    subst (λ f. ShowsByLines ClampedStanding b d.bound (shown_by_all b (standing_first b) (unwrap_or f [])) [] (line_tree d)) some
+    (shown-by_lines d facts.0 at.facts
+    ((tree-shows d (λ ending. Unit {0}) (λ at ending. IsBeginning b.block at × (line_fault d at (AtTerminal ending) ≡ None)) (λ at ending may begins. ((λ h. (begins, h)), λ h. h.1)) limit d.tree is.tree (λ ending among. tt)).0 at.lines))
 
 -- a yes is true
 pub verdict-claims : (limit : ℕ) (d : Document) (time bound : ℕ) → IsDocument limit d → verdict d ≡ Yes time bound → (time ≡ d.time) × (bound ≡ d.bound) × IsTrueClaim d
@@ -138,15 +140,15 @@ verdict-claims limit d time bound is h =
     let (same, equal, at) = (granted d time bound).0 h in
     (same, equal, record { legal = at.order; time = at.total; bound = at.within; tree = shown d.facts refl at })
   where
-    shown : (facts : Option (List FactLine)) → d.facts ≡ facts → IsGranted d → IsShown d d.facts
+    shown : (facts : Option (List FactStep)) → d.facts ≡ facts → IsGranted d → IsShown d d.facts
     shown None none at = subst (IsShown d) (sym none) ((plain-tree limit d is none).0 at.lines)
-    shown (Some lines) some at = subst (IsShown d) (sym some) (lines-shown limit d lines is some at)
+    shown (Some steps) some at = subst (IsShown d) (sym some) (lines-shown limit d steps is some at)
 
 -- and what is true is a bound
 pub claim-bound : (d : Document) → IsTrueClaim d → IsBound (problem_of d) d.bound
 claim-bound d claim order legal = below d.facts claim.tree
   where
-    below : (facts : Option (List FactLine)) → IsShown d facts → d.bound ≤ total_of (problem_of d) order
+    below : (facts : Option (List FactStep)) → IsShown d facts → d.bound ≤ total_of (problem_of d) order
     below None shown = shown-below d.rule (problem_of d) d.bound [] order d.tree shown legal
-    below (Some lines) shown =
-        lines-below ClampedStanding (problem_of d) d.bound (map (line_of (problem_of d)) lines) [] order (line_tree d) shown legal
+    below (Some steps) shown =
+        lines-below ClampedStanding (problem_of d) d.bound (shown_by_all (problem_of d) (standing_first (problem_of d)) steps) [] order (line_tree d) shown legal

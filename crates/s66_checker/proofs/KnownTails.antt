@@ -18,12 +18,12 @@ use Rattle.s66_moments.specs.declared.moment.Moment.{Moment}
 use Rattle.s66_moments.specs.declared.moment.Moment.TheVariants.{At, End}
 use Rattle.s66_moments.specs.Moments.{is_moment, has_stage}
 use Rattle.s66_moments.specs.Networks.{tail, soonest_path}
-use Rattle.s66_moments.specs.FactLines.{facts_after}
-use Rattle.s66_moments.specs.Known.{Known, line_of, span, arcs_of, next_value}
-use Rattle.s66_moments.proofs.KnownLines.{after-sound, span-tail}
+use Rattle.s66_moments.specs.Known.{Known, span, arcs_of, next_value}
+use Rattle.s66_moments.proofs.KnownLines.{span-tail}
 use Rattle.s66_cert.specs.Document.{Document}
 use Rattle.s66_facts.specs.Ground.{Ground, known_of as known_in}
-use Rattle.s66_checker.specs.Verdict.{problem_of, facts_of, known_of}
+use Rattle.s66_checker.specs.Verdict.{problem_of, known_of}
+use Rattle.s66_checker.proofs.TakenLines.{shown_facts, taken-sound}
 use Rattle.s66_checker.specs.KeptKnown.{KnowsAll, AreTaken, HasTails, AreTails, is_reached, is_result_late, is_point_late}
 
 abbrev TailsAre : Problem → Known → Type 0
@@ -33,7 +33,7 @@ TailsAre b known =
 pub has-tails : (d : Document) (g : Ground) → KnowsAll d g → AreTaken d → HasTails g
 has-tails d g knows taken =
     let b : Problem = problem_of d in
-    let all : TailsAre b (known_of d) = span-tail b (facts_after [] (map (line_of b) (facts_of d))) (known_of d) (after-sound b d.bound (facts_of d) taken).1 in
+    let all : TailsAre b (known_of d) = span-tail b (shown_facts d) (known_of d) (taken-sound d taken) in
     subst (λ (p : Problem). TailsAre p (known_in g)) (sym knows.problem) (subst (λ (k : Known). TailsAre b k) (sym knows.known) all)
 
 moment-is : (b : Problem) (n : ℕ) → IsNumber b n → (stage : Stage) → has_stage (row_at b n) stage ≡ true → is_moment b (At n stage) ≡ true

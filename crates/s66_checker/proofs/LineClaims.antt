@@ -1,5 +1,5 @@
 -- A tree whose lines have no fault, after fact lines that are taken, shows the bound by them.
-use Rattle.std.proofs.Common.{ℕ, ◌≤◌, ◌≡◌, Bool, true, true≢false, cond, not, ◌&&◌, List, [], Option, None, Some, leb, arith, refl, sym, ap, ◌∙◌, subst, map}
+use Rattle.std.proofs.Common.{ℕ, ◌≤◌, ◌≡◌, Bool, true, true≢false, cond, not, ◌&&◌, List, [], Option, None, Some, leb, arith, refl, sym, ap, ◌∙◌, subst}
 use Rattle.std.proofs.lemmas.Bool.{leb-true, not-false, not_from_false, and_parts}
 use Rattle.s66_model.specs.declared.rule.Rule.{Rule}
 use Rattle.s66_model.specs.declared.rule.Rule.TheVariants.{ClampedStanding}
@@ -9,40 +9,33 @@ use Rattle.s66_model.specs.Tree.{Vertex, AtTerminal, TreeHolds}
 use Rattle.s66_model.specs.NodeNames.{node_named}
 use Rattle.s66_model.specs.DominatedLeaves.{Ending, Bounding, Dominated, Next, Turned, AtLine, LoadFrom, is_standing, may_be_named, DominatesByRule}
 use Rattle.s66_model.proofs.TreesHold.{tree-weaken, seen-holds}
-use Rattle.s66_moments.specs.declared.fact_line.FactLine.{FactLine}
 use Rattle.s66_moments.specs.Facts.{Fact}
-use Rattle.s66_moments.specs.FactLines.{facts_after}
-use Rattle.s66_moments.specs.Networks.{IsKnown}
-use Rattle.s66_moments.specs.Known.{Known, line_of, known_first, known_after, are_taken, next_value, is_turned, is_loaded}
+use Rattle.s66_moments.specs.Known.{next_value, is_turned, is_loaded}
 use Rattle.s66_moments.specs.LineTrees.{LineEnding, is_closed, LineEndingShows, ShowsByLines}
 use Rattle.s66_moments.proofs.InUse.{clamped-in_use}
-use Rattle.s66_moments.proofs.KnownLines.{IsSound, after-sound, next-too_late, turned-too_late}
+use Rattle.s66_moments.proofs.KnownLines.{IsSound, next-too_late, turned-too_late}
 use Rattle.s66_moments.proofs.LoadLeaves.{loaded-closed}
 use Rattle.s66_cert.specs.Document.{Document}
 use Rattle.s66_checker.specs.declared.verdict.Reason.TheVariants as fault
 use Rattle.s66_replay.specs.Dominating.{is_beginning, is_same_set, dominates_in_use}
 use Rattle.s66_checker.specs.Verdict.{problem_of, known_of, node_on, is_complete, is_name_at, name_of, at_line_fault, next_fault, turned_fault, load_from_fault, line_fault}
+use Rattle.s66_checker.specs.KeptKnown.{AreTaken}
 use Rattle.s66_checker.specs.TrueClaims.{line_ending, line_tree}
 use Rattle.s66_checker.proofs.Faultless.{passed, is_incomplete-Decides, leaf-shows}
 use Rattle.s66_checker.proofs.DominatedLines.{dominated-shows}
 use Rattle.s66_checker.proofs.InUseTests.{in_use-shown}
 use Rattle.s66_checker.proofs.LineNodes.{closed-node, node-found}
+use Rattle.s66_checker.proofs.TakenLines.{shown_lines, shown_facts, taken-founded, taken-sound}
 
-module _ (d : Document) (lines : List FactLine) (some : d.facts ≡ Some lines) (rule : d.rule ≡ ClampedStanding) (taken : are_taken (problem_of d) d.bound (known_first (problem_of d)) lines ≡ true) where
+module _ (d : Document) (rule : d.rule ≡ ClampedStanding) (taken : AreTaken d) where
   abbrev b : Problem
   b = problem_of d
 
   abbrev facts : List Fact
-  facts = facts_after [] (map (line_of b) lines)
+  facts = shown_facts d
 
-  sound : IsSound b facts (known_after (known_first b) lines)
-  sound = (after-sound b d.bound lines taken).1
-
-  known-is : known_of d ≡ known_after (known_first b) lines
-  known-is = rw some refl
-
-  known-facts : IsKnown b facts (known_of d).before
-  known-facts = subst (λ (k : Known). IsKnown b facts k.before) (sym known-is) sound.is_known
+  sound : IsSound b facts (known_of d)
+  sound = taken-sound d taken
 
   abbrev Shows : List ℕ → LineEnding → Type 0
   Shows at ending = LineEndingShows ClampedStanding b d.bound facts [] (line_tree d) at ending
@@ -57,21 +50,21 @@ module _ (d : Document) (lines : List FactLine) (some : d.facts ≡ Some lines) 
       let two = (passed (not (remains && late)) (Some fault.Event) None None (λ h. (cc))).0 one.1 in
       let (is, reaches) = and_parts remains late (not-false (remains && late) two.0) in
       let high : d.bound ≤ next_value b (known_of d) at n = leb-true d.bound (next_value b (known_of d) at n) reaches in
-      (tt, next-too_late b facts (known_after (known_first b) lines) sound d.bound at n is (subst (λ (k : Known). d.bound ≤ next_value b k at n) known-is high))
+      (tt, next-too_late b facts (known_of d) sound d.bound at n is high)
 
   turned-shows : (at : List ℕ) (m n : ℕ) → turned_fault d at m n ≡ None → Shows at (line_ending d (Turned m n))
   turned-shows at m n h =
       let turned : Bool = is_turned b (known_of d) at m n in
       let one = (passed (is_complete b at) (Some fault.Place) (cond (not turned) (Some fault.Pair) None) None (λ h. (cc))).0 h in
       let two = (passed (not turned) (Some fault.Pair) None None (λ h. (cc))).0 one.1 in
-      (tt, turned-too_late b facts (known_after (known_first b) lines) sound d.bound at m n (subst (λ (k : Known). is_turned b k at m n ≡ true) known-is (not-false turned two.0)))
+      (tt, turned-too_late b facts (known_of d) sound d.bound at m n (not-false turned two.0))
 
   load_from-shows : (at : List ℕ) (after : ℕ) (ns : List ℕ) → load_from_fault d at after ns ≡ None → Shows at (line_ending d (LoadFrom after ns))
   load_from-shows at after ns h =
       let loaded : Bool = is_loaded b (known_of d) at d.bound after ns in
       let one = (passed (is_complete b at) (Some fault.Place) (cond (not loaded) (Some fault.Loaded) None) None (λ h. (cc))).0 h in
       let two = (passed (not loaded) (Some fault.Loaded) None None (λ h. (cc))).0 one.1 in
-      loaded-closed b facts (known_after (known_first b) lines) sound at d.bound after ns (subst (λ (k : Known). is_loaded b k at d.bound after ns ≡ true) known-is (not-false loaded two.0))
+      loaded-closed b facts (known_of d) sound at d.bound after ns (not-false loaded two.0)
 
   -- DOMINATED LEAVES
 
@@ -103,7 +96,7 @@ module _ (d : Document) (lines : List FactLine) (some : d.facts ≡ Some lines) 
         let one = (passed (is_complete b at) (Some fault.Place) (cond (not named) (Some fault.Name) (cond (not dominates) (Some fault.Dominance) None)) None (λ h. (cc))).0 h in
         let two = (passed (not named) (Some fault.Name) (cond (not dominates) (Some fault.Dominance) None) None (λ h. (cc))).0 one.1 in
         let three = (passed (not dominates) (Some fault.Dominance) None None (λ h. (cc))).0 two.1 in (
-          ((is_incomplete-Decides b at begins).0 (not_from_false (is_complete b at) one.0), in_use-shown b d.bound (known_of d) name at facts known-facts (not-false dominates three.0)),
+          ((is_incomplete-Decides b at begins).0 (not_from_false (is_complete b at) one.0), in_use-shown b d.bound (known_of d) name at facts sound.is_known (not-false dominates three.0)),
           node-shows at line (node_on d line) refl (not-false named two.0),
         )
 
@@ -115,12 +108,12 @@ module _ (d : Document) (lines : List FactLine) (some : d.facts ≡ Some lines) 
     ending-line at (AtLine line) h = at_line-shows at line h.0 h.1
     ending-line at (LoadFrom after numbers) h = load_from-shows at after numbers h.1
 
-  pub shown-by_lines : TreeHolds b.block (λ at ending. IsBeginning b.block at × (line_fault d at (AtTerminal ending) ≡ None)) [] d.tree → ShowsByLines ClampedStanding b d.bound (map (line_of b) lines) [] (line_tree d)
+  pub shown-by_lines : TreeHolds b.block (λ at ending. IsBeginning b.block at × (line_fault d at (AtTerminal ending) ≡ None)) [] d.tree → ShowsByLines ClampedStanding b d.bound (shown_lines d) [] (line_tree d)
   shown-by_lines holds = (
     d.bound,
     omega arith,
     (
-      (after-sound b d.bound lines taken).0,
+      taken-founded d taken,
       seen-holds (λ at. line_ending d) b.block Shows d.tree []
           (tree-weaken b.block (λ at ending. IsBeginning b.block at × (line_fault d at (AtTerminal ending) ≡ None)) (λ at ending. Shows at (line_ending d ending)) (ending-line (λ at ending. IsBeginning b.block at × (line_fault d at (AtTerminal ending) ≡ None)) holds) d.tree [] holds),
     ),

@@ -1,40 +1,71 @@
--- The verdict on fact lines is yes exactly when each is taken after those before it, and what comes later is yes.
-use Rattle.std.proofs.Common.{ℕ, suc, ◌≡◌, ◌↔◌, true, false, true≢false, List, [], ◌∷◌, refl, sym, inl, inr}
+-- The verdict on fact lines is yes exactly when each is taken after those before it, no supposition is left open, and what comes later is yes. Then they show what is known after them.
+use Rattle.std.proofs.Common.{ℕ, suc, ◌≡◌, ◌↔◌, true, false, true≢false, cond, List, [], ◌∷◌, Option, None, Some, refl, sym, ap, inl, inr}
+use Rattle.std.specs.Prelude.{is_some}
 use Rattle.std.proofs.lemmas.Bool.{cases_Bool, and_parts}
-use Rattle.s66_moments.specs.declared.fact_line.FactLine.{FactLine}
-use Rattle.s66_moments.specs.Known.{Known, is_taken, with_line, are_taken, known_after}
+use Rattle.std.proofs.lemmas.Option.{none-some}
+use Rattle.s66_moments.specs.declared.fact_line.FactStep.{FactStep}
+use Rattle.s66_moments.specs.Facts.{Fact}
+use Rattle.s66_moments.specs.FactLines.{Line, AreFounded, facts_after}
+use Rattle.s66_moments.specs.Suppositions.{Supposition, Standing, standing_first, with_step, standing_after, is_step_taken, are_steps_taken, shown_by_all}
+use Rattle.s66_moments.proofs.KnownLines.{IsSound}
+use Rattle.s66_moments.proofs.SupposedLines.{after-stands, closed-sound}
 use Rattle.s66_cert.specs.Document.{Document}
 use Rattle.s66_checker.specs.declared.verdict.Verdict.{Verdict}
 use Rattle.s66_checker.specs.declared.verdict.Verdict.TheVariants.{Yes, No}
 use Rattle.s66_checker.specs.declared.verdict.Reason.TheVariants as fault
-use Rattle.s66_checker.specs.Verdict.{problem_of, facts_verdict}
+use Rattle.s66_checker.specs.Verdict.{problem_of, facts_of, standing_of, known_of, begun_by, facts_verdict}
+use Rattle.s66_checker.specs.KeptKnown.{AreTaken}
 
-pub facts-yes : (d : Document) (facts : List FactLine) (line : ℕ) (known : Known) (later : Verdict) (time bound : ℕ) →
-    (facts_verdict d line known facts later ≡ Yes time bound) ↔ ((are_taken (problem_of d) d.bound known facts ≡ true) × (later ≡ Yes time bound))
-facts-yes d [] line known later time bound = ((λ h. (refl, h)), λ h. h.1)
-facts-yes d (fact ∷ facts) line known later time bound =
-    elim (cases_Bool (is_taken (problem_of d) d.bound known fact)) [
-      | inl is ↦ rw is (facts-yes d facts (suc line) (with_line known fact) later time bound)
+closed-yes : (supposed : Option Supposition) (begun : ℕ) (later : Verdict) (time bound : ℕ) →
+    (cond (is_some supposed) (No begun fault.Fact) later ≡ Yes time bound) ↔ ((supposed ≡ None) × (later ≡ Yes time bound))
+closed-yes None begun later time bound = ((λ h. (refl, h)), λ h. h.1)
+closed-yes (Some s) begun later time bound = ((λ h. absurd (cc)), λ h. absurd (none-some s (sym h.0)))
+
+pub facts-yes : (d : Document) (steps : List FactStep) (line begun : ℕ) (standing : Standing) (later : Verdict) (time bound : ℕ) →
+    (facts_verdict d line begun standing steps later ≡ Yes time bound)
+    ↔ ((are_steps_taken (problem_of d) d.bound standing steps ≡ true) × ((standing_after standing steps).supposed ≡ None) × (later ≡ Yes time bound))
+facts-yes d [] line begun standing later time bound =
+    let closed = closed-yes standing.supposed begun later time bound in
+    ((λ h. (refl, (closed.0 h).0, (closed.0 h).1)), λ h. closed.1 (h.1, h.2))
+facts-yes d (step ∷ steps) line begun standing later time bound =
+    elim (cases_Bool (is_step_taken (problem_of d) d.bound standing step)) [
+      | inl is ↦ rw is (facts-yes d steps (suc line) (begun_by line begun step) (with_step standing step) later time bound)
       | inr not ↦ rw not ((λ h. absurd (cc)), λ h. absurd (true≢false (sym h.0)))
     ]
 
-pub facts-taken : (d : Document) (facts : List FactLine) (line : ℕ) (known : Known) (later : Verdict) → are_taken (problem_of d) d.bound known facts ≡ true → facts_verdict d line known facts later ≡ later
-facts-taken d [] line known later taken = refl
-facts-taken d (fact ∷ facts) line known later taken =
-    let (here, past) = and_parts (is_taken (problem_of d) d.bound known fact) (are_taken (problem_of d) d.bound (with_line known fact) facts) taken in
-    rw here (facts-taken d facts (suc line) (with_line known fact) later past)
+pub facts-taken : (d : Document) (steps : List FactStep) (line begun : ℕ) (standing : Standing) (later : Verdict) →
+    are_steps_taken (problem_of d) d.bound standing steps ≡ true → (standing_after standing steps).supposed ≡ None → facts_verdict d line begun standing steps later ≡ later
+facts-taken d [] line begun standing later taken closed = ap (λ (supposed : Option Supposition). cond (is_some supposed) (No begun fault.Fact) later) closed
+facts-taken d (step ∷ steps) line begun standing later taken closed =
+    let (here, past) = and_parts (is_step_taken (problem_of d) d.bound standing step) (are_steps_taken (problem_of d) d.bound (with_step standing step) steps) taken in
+    rw here (facts-taken d steps (suc line) (begun_by line begun step) (with_step standing step) later past closed)
 
 -- a line that isn't taken is the first fault, and else the next lines decide
-module _ (d : Document) (fact : FactLine) (facts rest : List FactLine) (cut : rest ≡ fact ∷ facts) (line : ℕ) (known : Known) (later : Verdict) where
-  pub fact-refused : is_taken (problem_of d) d.bound known fact ≡ false → facts_verdict d line known rest later ≡ No line fault.Fact
-  fact-refused not = rw (cut, not) refl
+module _ (d : Document) (step : FactStep) (steps rest : List FactStep) (cut : rest ≡ step ∷ steps) (line begun : ℕ) (standing : Standing) (later : Verdict) where
+  pub step-refused : is_step_taken (problem_of d) d.bound standing step ≡ false → facts_verdict d line begun standing rest later ≡ No line fault.Fact
+  step-refused not = rw (cut, not) refl
 
-  module _ (is : is_taken (problem_of d) d.bound known fact ≡ true) where
-    pub fact-passed : facts_verdict d (suc line) (with_line known fact) facts later ≡ facts_verdict d line known rest later
-    fact-passed = rw (cut, is) refl
+  module _ (is : is_step_taken (problem_of d) d.bound standing step ≡ true) where
+    pub step-passed : facts_verdict d (suc line) (begun_by line begun step) (with_step standing step) steps later ≡ facts_verdict d line begun standing rest later
+    step-passed = rw (cut, is) refl
 
-    pub taken-next : are_taken (problem_of d) d.bound (with_line known fact) facts ≡ are_taken (problem_of d) d.bound known rest
+    pub taken-next : are_steps_taken (problem_of d) d.bound (with_step standing step) steps ≡ are_steps_taken (problem_of d) d.bound standing rest
     taken-next = rw (cut, is) refl
 
-    pub known-next : known_after (with_line known fact) facts ≡ known_after known rest
-    known-next = rw cut refl
+    pub standing-next : standing_after (with_step standing step) steps ≡ standing_after standing rest
+    standing-next = rw cut refl
+
+-- WHAT THEY SHOW
+
+abbrev pub shown_lines : Document → List Line
+shown_lines d = shown_by_all (problem_of d) (standing_first (problem_of d)) (facts_of d)
+
+abbrev pub shown_facts : Document → List Fact
+shown_facts d = facts_after [] (shown_lines d)
+
+module _ (d : Document) (taken : AreTaken d) where
+  pub taken-founded : AreFounded (problem_of d) d.bound [] (shown_lines d)
+  taken-founded = (after-stands (problem_of d) d.bound (facts_of d) taken.each).0
+
+  pub taken-sound : IsSound (problem_of d) (shown_facts d) (known_of d)
+  taken-sound = closed-sound (problem_of d) d.bound (shown_facts d) (standing_of d) (after-stands (problem_of d) d.bound (facts_of d) taken.each).1 taken.closed

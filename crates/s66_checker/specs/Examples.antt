@@ -1,5 +1,5 @@
 -- Used by examples alone: worked documents with a part changed.
-use Rattle.std.specs.Prelude.{ℕ, List, [], ◌∷◌, Some, None, codes}
+use Rattle.std.specs.Prelude.{ℕ, List, [], ◌∷◌, Some, None, map, codes}
 use Rattle.s66_isa.specs.declared.instr.Instr.{Instr}
 use Rattle.s66_isa.specs.declared.instr.Kind.TheVariants.{Boolean}
 use Rattle.s66_isa.specs.Profiles.{profile_of}
@@ -15,6 +15,8 @@ use Rattle.s66_moments.specs.declared.moment.Stage.TheVariants.{Issue}
 use Rattle.s66_moments.specs.declared.moment.Moment.TheVariants.{At, End}
 use Rattle.s66_moments.specs.declared.fact_line.FactLine.{FactLine}
 use Rattle.s66_moments.specs.declared.fact_line.FactLine.TheVariants.{Pair}
+use Rattle.s66_moments.specs.declared.fact_line.FactStep.{FactStep}
+use Rattle.s66_moments.specs.declared.fact_line.FactStep.TheVariants.{Fact}
 use Rattle.s66_moments.specs.Examples.{load_fact}
 use Rattle.s66_cert.specs.Document.{Document}
 use Rattle.s66_cert.specs.Examples.{standard_numbers, one_load, three_multiplies, after_one, late_reader}
@@ -128,10 +130,10 @@ four_increments rule = record {
 -- WITH FACT LINES, which follow line 6 and a line for each instruction
 
 -- of this block, by an order that takes this time
-abbrev pub with_facts : List (List ℕ) → List ℕ → ℕ → ℕ → List FactLine → Tree Ending → Document
-with_facts block numbers time bound facts tree = record {
+abbrev pub with_steps : List (List ℕ) → List ℕ → ℕ → ℕ → List FactStep → Tree Ending → Document
+with_steps block numbers time bound steps tree = record {
   rule = ClampedStanding;
-  facts = Some facts;
+  facts = Some steps;
   profile = standard_numbers;
   block = block;
   time = time;
@@ -139,6 +141,10 @@ with_facts block numbers time bound facts tree = record {
   numbers = numbers;
   tree = tree;
 }
+
+-- with nothing supposed
+abbrev pub with_facts : List (List ℕ) → List ℕ → ℕ → ℕ → List FactLine → Tree Ending → Document
+with_facts block numbers time bound facts tree = with_steps block numbers time bound (map Fact facts) tree
 
 -- one Add unit for all three
 abbrev pub three_sums : List FactLine → Tree Ending → Document
@@ -169,6 +175,13 @@ abbrev pub booleans_between : ℕ → ℕ → Document
 booleans_between after wait =
     with_facts (codes "BX1 X2*X3" ∷ codes "BX4 X1*X1" ∷ codes "BX5 X1*X1" ∷ codes "FX6 X4+X5" ∷ []) (1 ∷ 2 ∷ 3 ∷ 4 ∷ []) 16 16
     (load_fact (At 1 Issue) End after wait (2 ∷ 3 ∷ []) ∷ []) (Alone (Next 1))
+
+-- one Add unit for three that don't depend on each other, and the second is known to stand before the first
+abbrev pub three_adds : List FactStep → Document
+three_adds steps =
+    with_steps (codes "FX1 X2+X3" ∷ codes "FX4 X2+X5" ∷ codes "FX6 X2+X7" ∷ []) (1 ∷ 2 ∷ 3 ∷ []) 15 15 steps
+    (Parted (1 ∷ 2 ∷ 3 ∷ [])
+    (Unsplit (Turned 2 1) (Unsplit (LoadFrom 5 (1 ∷ 3 ∷ [])) (Unsplit (LoadFrom 5 (1 ∷ 2 ∷ [])) NoMore))))
 
 -- after 1 units do all that these numbers need of them, from a minor cycle on at the soonest
 abbrev pub after_the_first : List (List ℕ) → ℕ → ℕ → ℕ → List ℕ → Document

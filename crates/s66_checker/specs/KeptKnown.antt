@@ -7,7 +7,8 @@ use Rattle.s66_moments.specs.declared.moment.Moment.TheVariants.{End}
 use Rattle.s66_moments.specs.Facts.{IsNumber}
 use Rattle.s66_moments.specs.Moments.{is_moment}
 use Rattle.s66_moments.specs.Networks.{tail}
-use Rattle.s66_moments.specs.Known.{span, arcs_of, known_first, are_taken}
+use Rattle.s66_moments.specs.Known.{span, arcs_of}
+use Rattle.s66_moments.specs.Suppositions.{standing_first, are_steps_taken}
 use Rattle.s66_cert.specs.Document.{Document}
 use Rattle.s66_facts.specs.declared.times.Times.{Times}
 use Rattle.s66_facts.specs.Passes.{AreTimes, times_at}
@@ -15,21 +16,22 @@ use Rattle.s66_facts.specs.Ground.{Ground, known_of as known_in}
 use Rattle.s66_checker.specs.declared.verdict.Verdict.{Verdict}
 use Rattle.s66_checker.specs.declared.verdict.Verdict.TheVariants.{No}
 use Rattle.s66_checker.specs.declared.verdict.Reason.TheVariants as fault
-use Rattle.s66_checker.specs.Verdict.{problem_of, facts_of, known_of, fact_line_number, facts_verdict}
+use Rattle.s66_checker.specs.Verdict.{problem_of, facts_of, standing_of, known_of, fact_line_number, facts_verdict}
 
 -- all that is known of its block after its fact lines
 pub record KnowsAll (d : Document) (g : Ground) : Type 0 where
   pub problem : g.problem ≡ problem_of d
   pub known : known_in g ≡ known_of d
 
--- each of its fact lines is taken
-abbrev pub AreTaken : Document → Type 0
-AreTaken d = are_taken (problem_of d) d.bound (known_first (problem_of d)) (facts_of d) ≡ true
+-- each of its fact lines is taken, and no supposition is left open
+pub record AreTaken (d : Document) : Type 0 where
+  pub each : are_steps_taken (problem_of d) d.bound (standing_first (problem_of d)) (facts_of d) ≡ true
+  pub closed : (standing_of d).supposed ≡ None
 
--- the line of this number is the first that isn't
+-- the line of this number is the first that isn't, or that of the supposition
 abbrev pub IsUntaken : Document → ℕ → Type 0
 IsUntaken d line =
-    (later : Verdict) → facts_verdict d (fact_line_number d) (known_first (problem_of d)) (facts_of d) later ≡ No line fault.Fact
+    (later : Verdict) → facts_verdict d (fact_line_number d) 0 (standing_first (problem_of d)) (facts_of d) later ≡ No line fault.Fact
 
 -- the longest path from each moment to the end is what follows it
 abbrev pub HasTails : Ground → Type 0

@@ -1,13 +1,14 @@
 -- To be believed: when what a document claims is true.
-use Rattle.std.specs.Prelude.{◌≡◌, ◌≤◌, List, [], ◌∷◌, Option, None, Some, map}
+use Rattle.std.specs.Prelude.{◌≡◌, ◌≤◌, List, [], ◌∷◌, Option, None, Some}
 use Rattle.s66_model.specs.declared.rule.Rule.TheVariants.{ClampedStanding}
 use Rattle.s66_model.specs.Timing.{total_of}
 use Rattle.s66_model.specs.LegalOrder.{IsLegal}
 use Rattle.s66_model.specs.Tree.{Tree}
 use Rattle.s66_model.specs.Stated.{tree_seen}
 use Rattle.s66_model.specs.DominatedLeaves.{Ending, Bounding, Dominated, Next, Turned, AtLine, LoadFrom, ShowsBy}
-use Rattle.s66_moments.specs.declared.fact_line.FactLine.{FactLine}
-use Rattle.s66_moments.specs.Known.{line_of, load_of}
+use Rattle.s66_moments.specs.declared.fact_line.FactStep.{FactStep}
+use Rattle.s66_moments.specs.Known.{load_of}
+use Rattle.s66_moments.specs.Suppositions.{standing_first, shown_by_all}
 use Rattle.s66_moments.specs.LineTrees.{LineEnding, AtLeaf, AtLines, DominatedBy, ShowsByLines}
 use Rattle.s66_cert.specs.Document.{Document}
 use Rattle.s66_checker.specs.Verdict.{problem_of, node_on, name_of}
@@ -31,11 +32,11 @@ line_tree d = tree_seen (λ at. line_ending d) [] d.tree
 -- WHAT IS CLAIMED
 
 -- Its tree shows the bound: without fact lines by its rule. With them each line is founded on those before it, for orders that take less
--- than the bound, and the tree shows the bound by all.
-abbrev pub IsShown : Document → Option (List FactLine) → Type 0
+-- than the bound, and the tree shows the bound by all. A supposition is one line, founded on those that it holds too.
+abbrev pub IsShown : Document → Option (List FactStep) → Type 0
 IsShown d None = ShowsBy d.rule (problem_of d) d.bound [] d.tree
-IsShown d (Some lines) =
-    ShowsByLines ClampedStanding (problem_of d) d.bound (map (line_of (problem_of d)) lines) [] (line_tree d)
+IsShown d (Some steps) =
+    ShowsByLines ClampedStanding (problem_of d) d.bound (shown_by_all (problem_of d) (standing_first (problem_of d)) steps) [] (line_tree d)
 
 -- under its own profile its order is legal and takes its time, its bound isn't above the time, and its tree shows it
 pub record IsTrueClaim (d : Document) : Type 0 where

@@ -1,5 +1,5 @@
 -- To be believed: the verdict on a document: yes, or its first fault.
-use Rattle.std.specs.Prelude.{ℕ, suc, ◌+◌, ◌-◌, ◌==◌, ◌&&◌, if◌then◌else◌, Bool, true, false, not, List, [], ◌∷◌, Option, None, Some, length, map, nat_le, nat_lt, slice_get, unwrap_or}
+use Rattle.std.specs.Prelude.{ℕ, suc, ◌+◌, ◌-◌, ◌==◌, ◌&&◌, if◌then◌else◌, Bool, true, false, not, List, [], ◌∷◌, Option, None, Some, length, map, nat_le, nat_lt, slice_get, unwrap_or, is_some}
 use Rattle.std.specs.Str.{bytes_eq}
 use Rattle.s66_isa.specs.declared.instr.Instr.{Instr}
 use Rattle.s66_isa.specs.Profiles.{profile_of}
@@ -12,8 +12,10 @@ use Rattle.s66_model.specs.Leaves.{Leaf, Whole, Chain, Load, Parcels, value, is_
 use Rattle.s66_model.specs.Tree.{Vertex, AtTerminal, AtSplit}
 use Rattle.s66_model.specs.NodeNames.{node_named}
 use Rattle.s66_model.specs.DominatedLeaves.{Ending, Bounding, Dominated, Next, Turned, AtLine, LoadFrom, is_standing, may_be_named}
-use Rattle.s66_moments.specs.declared.fact_line.FactLine.{FactLine}
-use Rattle.s66_moments.specs.Known.{Known, known_first, with_line, known_after, is_taken, next_value, is_turned, is_loaded}
+use Rattle.s66_moments.specs.declared.fact_line.FactStep.{FactStep}
+use Rattle.s66_moments.specs.declared.fact_line.FactStep.TheVariants.{Fact, Suppose, Refuted}
+use Rattle.s66_moments.specs.Known.{Known, next_value, is_turned, is_loaded}
+use Rattle.s66_moments.specs.Suppositions.{Standing, standing_first, with_step, standing_after, is_step_taken}
 use Rattle.s66_cert.specs.Document.{Document, tree_placed}
 use Rattle.s66_checker.specs.declared.verdict.Verdict.{Verdict}
 use Rattle.s66_checker.specs.declared.verdict.Verdict.TheVariants.{Yes, No}
@@ -33,14 +35,17 @@ problem_of d = record { block = map instr_in_text d.block; profile = profile_of 
 abbrev pub is_legal_order : List Instr → List ℕ → Bool
 is_legal_order block order = is_beginning block order && length order == length block
 
--- ITS FACT LINES, which a document of version 4 may have
+-- ITS FACT LINES, which a document of version 4 may have, and in version 5 with suppositions
 
-abbrev pub facts_of : Document → List FactLine
+abbrev pub facts_of : Document → List FactStep
 facts_of d = unwrap_or d.facts []
 
--- what is known after all of them
+-- what is known after all of them, and the supposition that is open
+abbrev pub standing_of : Document → Standing
+standing_of d = standing_after (standing_first (problem_of d)) (facts_of d)
+
 abbrev pub known_of : Document → Known
-known_of d = known_after (known_first (problem_of d)) (facts_of d)
+known_of d = (standing_of d).known
 
 -- THE NUMBERS OF ITS LINES, from 1: a header, PROFILE, BLOCK, the instructions, TIME, BOUND, ORDER, the fact lines, and then the tree
 
@@ -181,17 +186,23 @@ abbrev pub lines_verdict : Document → ℕ → List (List ℕ × Vertex Ending)
 lines_verdict d line [] = Yes d.time d.bound
 lines_verdict d line (at ∷ later) = unless line (line_fault d at.0 at.1) (lines_verdict d (suc line) later)
 
--- of these fact lines, by what is known before them, and then of what comes later
-abbrev pub facts_verdict : Document → ℕ → Known → List FactLine → Verdict → Verdict
-facts_verdict d line known [] later = later
-facts_verdict d line known (fact ∷ facts) later =
-    if is_taken (problem_of d) d.bound known fact then facts_verdict d (suc line) (with_line known fact) facts later
+-- the line on which the last supposition began, if this line has this step
+abbrev pub begun_by : (line begun : ℕ) → FactStep → ℕ
+begun_by line begun (Fact fact) = begun
+begun_by line begun (Suppose first second) = line
+begun_by line begun Refuted = begun
+
+-- of these fact lines, by what is known before them, and then of what comes later; a supposition that doesn't end is a fault where it began
+abbrev pub facts_verdict : Document → (line begun : ℕ) → Standing → List FactStep → Verdict → Verdict
+facts_verdict d line begun standing [] later = if is_some standing.supposed then No begun fault.Fact else later
+facts_verdict d line begun standing (step ∷ steps) later =
+    if is_step_taken (problem_of d) d.bound standing step then facts_verdict d (suc line) (begun_by line begun step) (with_step standing step) steps later
     else No line fault.Fact
 
 -- the fact lines one by one, and then the tree line by line
 abbrev pub proof_verdict : Document → Verdict
 proof_verdict d =
-    facts_verdict d (fact_line_number d) (known_first (problem_of d)) (facts_of d)
+    facts_verdict d (fact_line_number d) 0 (standing_first (problem_of d)) (facts_of d)
     (lines_verdict d (tree_line_number d) (tree_placed [] d.tree))
 
 -- first the order, the time and the bound, and then what shows it; the fact lines one by one, each by what is known before it, and then

@@ -2,7 +2,7 @@
 //! The functions do nothing.
 #![tactic(auto, unfolding(s66_isa::specs::Table::row, s66_isa::specs::Profiles::profile_of, s66_model::specs::Dependence::conflict, s66_model::specs::Timing::issue_of, s66_model::specs::Timing::start_of, s66_model::specs::Timing::point))]
 
-ghost use Rattle.std.specs.Prelude.{[], ◌∷◌, ◌≡◌, true, false};
+ghost use Rattle.std.specs.Prelude.{[], ◌∷◌, ◌++◌, ◌≡◌, true, false};
 ghost use Rattle.s66_isa.specs.declared.instr.Kind.TheVariants.{Boolean, Multiply};
 ghost use Rattle.s66_model.specs.declared.rule.Rule.TheVariants.{NoneNamed, WrittenEarlier, ClampedStanding};
 ghost use Rattle.s66_model.specs.Examples.{standard_problem, late_reader, three_increments, packing_gap, two_gaps, booleans_and_sets, late_result, later_gap, fourth_bounding, fourth_split, increments_tree, increments_load};
@@ -10,6 +10,7 @@ ghost use Rattle.s66_model.specs.Leaves.{Whole, Chain, Load, Parcels};
 ghost use Rattle.s66_model.specs.Tree.{Alone, Parted, NoMore, Unsplit, Split};
 ghost use Rattle.s66_model.specs.DominatedLeaves.{Bounding, Dominated, Next, Turned, AtLine, LoadFrom};
 ghost use Rattle.s66_moments.specs.declared.fact_line.FactLine.TheVariants.{Pair};
+ghost use Rattle.s66_moments.specs.declared.fact_line.FactStep.TheVariants.{Fact, Suppose, Refuted};
 ghost use Rattle.s66_moments.specs.Examples as in_use;
 ghost use Rattle.s66_moments.specs.Known.{is_loaded};
 ghost use Rattle.s66_moments.specs.Examples.{known_of};
@@ -19,7 +20,7 @@ ghost use Rattle.s66_checker.specs.declared.verdict.Verdict.TheVariants.{Yes, No
 ghost use Rattle.s66_checker.specs.declared.verdict.Reason.TheVariants as fault;
 ghost use Rattle.s66_checker.specs.Verdict.{verdict};
 ghost use Rattle.s66_replay.specs.Dominating.{dominates_by, dominates_in_use};
-ghost use Rattle.s66_checker.specs.Examples.{refused_order, slow_one_load, multiplies_at_once, load_and_multiplies, multiplies_split, second_line, third_line, last_leaf, late_naming, late_order, late_misplaced, increments, four_increments, three_sums, two_sums, first_of_two, after_pair, at_the_end, booleans_between, increments_named, booleans_left, one_is_added, waits_for_the_product, before_their_writers, multiplies_left, booleans_named, waits_for_the_unit, waits_for_x1, two_parcels_beside};
+ghost use Rattle.s66_checker.specs.Examples.{refused_order, slow_one_load, multiplies_at_once, load_and_multiplies, multiplies_split, second_line, third_line, last_leaf, late_naming, late_order, late_misplaced, increments, four_increments, three_sums, two_sums, first_of_two, after_pair, at_the_end, booleans_between, increments_named, booleans_left, one_is_added, waits_for_the_product, before_their_writers, multiplies_left, booleans_named, waits_for_the_unit, waits_for_x1, two_parcels_beside, three_adds};
 
 /// Verdicts on the worked documents: a leaf of each kind, and whole orders alone.
 pub fn verdict_examples()
@@ -135,6 +136,23 @@ pub fn fact_examples()
     ensures by_a_load { verdict (booleans_between 4 16) ≡ Yes 16 16 }
     ensures load_too_long { verdict (booleans_between 4 17) ≡ No 11 fault.Fact }
     ensures load_too_late { verdict (booleans_between 5 16) ≡ No 11 fault.Fact }
+{}
+
+/// Verdicts on documents with suppositions, which begin on line 10.
+pub fn supposition_examples()
+    ensures by_what_it_shows { verdict (three_adds in_use.second_by_lines) ≡ Yes 15 15 }
+    ensures not_without_it { verdict (three_adds []) ≡ No 11 fault.Pair }
+    ensures not_refuted { verdict (three_adds (Suppose 2 1 ∷ Fact (Pair 3 2) ∷ Refuted ∷ [])) ≡ No 12 fault.Fact }
+    ensures the_other_way { verdict (three_adds (Suppose 1 2 ∷ Fact (Pair 3 2) ∷ Fact (Pair 1 3) ∷ Refuted ∷ [])) ≡
+        No 11 fault.Fact }
+    ensures supposed_no_more { verdict (three_adds (in_use.second_by_lines ++ Fact (Pair 1 3) ∷ [])) ≡
+        No 14 fault.Fact }
+    ensures of_a_known_pair { verdict (three_adds (in_use.second_by_lines ++ Suppose 2 1 ∷ [])) ≡ No 14 fault.Fact }
+    ensures within_another { verdict (three_adds (Suppose 2 1 ∷ Suppose 3 2 ∷ [])) ≡ No 11 fault.Fact }
+    ensures ended_twice { verdict (three_adds (in_use.second_by_lines ++ Refuted ∷ [])) ≡ No 14 fault.Fact }
+    ensures left_open { verdict (three_adds (Suppose 2 1 ∷ Fact (Pair 3 2) ∷ [])) ≡ No 10 fault.Fact }
+    ensures second_left_open { verdict (three_adds (in_use.second_by_lines ++ Suppose 3 2 ∷ Fact (Pair 2 3) ∷ [])) ≡
+        No 14 fault.Fact }
 {}
 
 /// Verdicts on leaves by facts.

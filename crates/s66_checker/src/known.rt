@@ -1,22 +1,23 @@
 //! What is known after the fact lines of a document, by which further leaves close a prefix.
 //! The fact lines are taken in one after the other (`s66_facts`), and the longest paths to the end kept.
 
-ghost use Rattle.std.specs.Prelude.{◌≡◌, ◌≤◌, ◌<◌, ◌+◌, IsTrue, IfSome, IfNone, length};
+ghost use Rattle.std.specs.Prelude.{◌≡◌, ◌≤◌, IfSome, IfNone, length};
 ghost use Rattle.s66_cert.specs.DocumentParts.{document_of};
 ghost use Rattle.s66_cert.specs.declared.limits.TheConstants.{FACT_LIMIT};
-ghost use Rattle.s66_moments.specs.Known.{known_first, with_line, is_taken};
+ghost use Rattle.s66_moments.specs.Suppositions.{standing_first};
 ghost use Rattle.s66_facts.specs.Ground.{known_of as known_in};
-ghost use Rattle.s66_checker.specs.Verdict.{problem_of, facts_of};
+ghost use Rattle.s66_facts.specs.Supposing.{standing_in};
+ghost use Rattle.s66_checker.specs.Verdict.{problem_of, facts_of, begun_by};
 ghost use Rattle.s66_checker.specs.KeptKnown.{KnowsAll, AreTaken, IsUntaken, is_reached, is_result_late, is_point_late};
 
-use s66_cert::{Document, FactLine};
-use s66_facts::{Facts, Times, times_at};
+use s66_cert::{Document, FactStep};
+use s66_facts::{Facts, Supposing, Times, times_at};
 use s66_isa::{BLOCK_LIMIT, Instr, Profile, Write};
 use s66_replay::{KeptPoint, Prefix};
 use std::marker::Model;
 
-/// The fact lines of a document; none in versions 1 to 3.
-pub fn fact_lines(document: &Document) -> &[FactLine]
+/// The fact lines of a document, with the suppositions among them; none in versions 1 to 3.
+pub fn fact_lines(document: &Document) -> &[FactStep]
     ensures value { result.now ≡ facts_of (document_of document.now) }
     ensures few { length result.now ≤ FACT_LIMIT }
 {
@@ -26,39 +27,42 @@ pub fn fact_lines(document: &Document) -> &[FactLine]
     }
 }
 
-/// Takes a fact line in if it is shown by what is known, and returns whether it is. If it isn't, nothing changes.
-pub fn take(facts: &mut Facts, bound: u32, line: &FactLine) -> bool
-    requires room { length (known_in facts.old).loads < FACT_LIMIT }
-    ensures value { result ≡ is_taken facts.old.problem bound (known_in facts.old) line.now }
-    ensures problem { facts.new.problem ≡ facts.old.problem }
-    ensures taken { IsTrue result → known_in facts.new ≡ with_line (known_in facts.old) line.now }
-    ensures one_more { length (known_in facts.new).loads ≤ length (known_in facts.old).loads + 1 }
+/// The line on which the last supposition began, if a line has this step.
+fn begun_by(line: u32, begun: u32, step: &FactStep) -> u32
+    ensures { result ≡ begun_by line begun step.now }
 {
-    match line {
-        FactLine::Pair(first, second) => facts.take_pair(bound, *first, *second),
-        FactLine::Load(load) => facts.take_load(load),
+    match step {
+        FactStep::Suppose(..) => line,
+        FactStep::Fact(_) | FactStep::Refuted => begun,
     }
 }
 
 /// Takes the fact lines of a document one after the other, and stops at the first that isn't shown by what is known before it. Returns
-/// its number in the document, if there is one.
-fn first_untaken(document: &Document, facts: &mut Facts) -> Option<u32>
-    requires problem { facts.old.problem ≡ problem_of (document_of document.now) }
-    requires first { known_in facts.old ≡ known_first facts.old.problem }
+/// its number in the document, or that of the supposition that doesn't end, if there is one.
+fn first_untaken(document: &Document, supposing: &mut Supposing) -> Option<u32>
+    requires problem { supposing.old.ground.problem ≡ problem_of (document_of document.now) }
+    requires first { standing_in supposing.old ≡ standing_first supposing.old.ground.problem }
+    requires steps { supposing.old.steps ≡ 0 }
     ensures untaken { IfSome result (λ line. IsUntaken (document_of document.now) line) }
     ensures taken { IfNone result (AreTaken (document_of document.now)) }
-    ensures known { IfNone result (KnowsAll (document_of document.now) facts.new) }
+    ensures known { IfNone result (KnowsAll (document_of document.now) supposing.new.ground) }
 {
     let bound = document.bound();
     let mut number = document.block().len() as u32 + 7;
+    let mut begun = 0;
     let lines = fact_lines(document);
     for line in lines {
-        if !take(facts, bound, line) {
+        if !supposing.take(bound, line) {
             return Some(number);
         }
+        begun = begun_by(number, begun, line);
         number += 1;
     }
-    None
+    if supposing.is_open() {
+        Some(begun)
+    } else {
+        None
+    }
 }
 
 /// Whether a time and the longest path from there reach a bound; all in minor cycles.
@@ -127,7 +131,7 @@ impl Known {
     ghost use Rattle.s66_moments.specs.Known.{arcs_of, next_value, is_turned};
 
     /// What is known after the fact lines of a document of this block under this profile. If one of them isn't shown by what is known
-    /// before it, the number of the first such line in the document.
+    /// before it, the number of the first such line in the document; if a supposition doesn't end, that of the line on which it began.
     pub(crate) fn after(
         document: &Document,
         block: &[Instr],
@@ -140,10 +144,11 @@ impl Known {
         ensures taken { OnOk result (AreTaken (document_of document.now)) }
         ensures known { IfOk result (λ k. KnowsAll (document_of document.now) k) }
     {
-        let mut facts = Facts::new(block, profile);
-        if let Some(line) = first_untaken(document, &mut facts) {
+        let mut supposing = Supposing::new(block, profile);
+        if let Some(line) = first_untaken(document, &mut supposing) {
             return Err(line);
         }
+        let facts = supposing.into_facts();
         let tails = facts.tails();
         Ok(Known { facts, tails })
     }

@@ -1,6 +1,6 @@
 //! What a verdict and the test of dominance say, each the contract of a function that does nothing.
 
-ghost use Rattle.std.specs.Prelude.{ℕ, List, [], ◌≡◌, ◌↔◌, true, false, None, map};
+ghost use Rattle.std.specs.Prelude.{ℕ, List, [], ◌≡◌, ◌↔◌, true, false, None};
 ghost use Rattle.s66_model.specs.declared.rule.Rule.TheVariants.{NoneNamed, WrittenEarlier, ClampedStanding};
 ghost use Rattle.s66_model.specs.Timing.{Problem};
 ghost use Rattle.s66_model.specs.Digits.{HaveDigits};
@@ -9,10 +9,11 @@ ghost use Rattle.s66_model.specs.BestAndBound.{IsBound};
 ghost use Rattle.s66_cert.specs.Document.{Document, IsDocument};
 ghost use Rattle.s66_checker.specs.declared.verdict.Verdict.TheVariants.{Yes};
 ghost use Rattle.s66_checker.specs.Verdict.{verdict, problem_of};
-ghost use Rattle.s66_moments.specs.declared.fact_line.FactLine.{FactLine};
+ghost use Rattle.s66_moments.specs.declared.fact_line.FactStep.{FactStep};
 ghost use Rattle.s66_moments.specs.FactLines.{facts_after};
 ghost use Rattle.s66_moments.specs.InUse.{DominatesInUse};
-ghost use Rattle.s66_moments.specs.Known.{Known, line_of, known_first, known_after, are_taken};
+ghost use Rattle.s66_moments.specs.Known.{Known};
+ghost use Rattle.s66_moments.specs.Suppositions.{standing_first, standing_after, are_steps_taken, shown_by_all};
 ghost use Rattle.s66_replay.specs.Dominating.{dominates_by, dominates_in_use};
 ghost use Rattle.s66_checker.specs.TrueClaims.{IsTrueClaim};
 
@@ -28,16 +29,17 @@ pub fn yes_law()
 
 /// The test of dominance says yes exactly when one beginning dominates another by the rule, if the digits of the block's
 /// instructions are 0 to 7. Those of each document's block are. That of dominance in use says yes only when there is, by fact lines that
-/// are taken, and of all that dominates clamped.
+/// are taken and leave no supposition open, and of all that dominates clamped.
 pub fn dominating_law()
     ensures written { (b : Problem) (name at : List ℕ) → HaveDigits b.block →
         (dominates_by WrittenEarlier b name at ≡ true) ↔ Dominates b name at }
     ensures clamped { (b : Problem) (name at : List ℕ) → HaveDigits b.block →
         (dominates_by ClampedStanding b name at ≡ true) ↔ DominatesClamped b name at }
-    ensures in_use { (b : Problem) (bound : ℕ) (lines : List FactLine) (name at : List ℕ) →
-        are_taken b bound (known_first b) lines ≡ true →
-        dominates_in_use b bound (known_after (known_first b) lines) name at ≡ true →
-        DominatesInUse b bound (facts_after [] (map (line_of b) lines)) name at }
+    ensures in_use { (b : Problem) (bound : ℕ) (steps : List FactStep) (name at : List ℕ) →
+        are_steps_taken b bound (standing_first b) steps ≡ true →
+        (standing_after (standing_first b) steps).supposed ≡ None →
+        dominates_in_use b bound (standing_after (standing_first b) steps).known name at ≡ true →
+        DominatesInUse b bound (facts_after [] (shown_by_all b (standing_first b) steps)) name at }
     ensures clamped_in_use { (b : Problem) (bound : ℕ) (known : Known) (name at : List ℕ) → DominatesClamped b name at →
         dominates_in_use b bound known name at ≡ true }
     ensures none_named { (b : Problem) (name at : List ℕ) → dominates_by NoneNamed b name at ≡ false }

@@ -4,11 +4,11 @@
 //!
 //! A yes is proved to mean that what the document claims is true (`yes_law`).
 //!
-//! It goes through the order, then through the fact lines of a document of version 4, and then through the tree of the bound line
-//! by line. A fact line has to be shown by what is known before it. A split has to go on with all instructions that are ready
+//! It goes through the order, then through the fact lines of a document of version 4 or 5, and then through the tree of the bound line
+//! by line. A fact line has to be shown by what is known before it, and in version 5 by what is supposed. A split has to go on with all instructions that are ready
 //! there. A leaf has to have a value that reaches the bound, by one of the four rules of the model, or to name a node of the tree
-//! that dominates it. Such a node is an earlier one (version 2), or is no dominated leaf itself (versions 3 and 4), so that no two
-//! rest on one another; in version 4 it has to dominate in use only, below the bound, by what is known after all fact lines. By that a
+//! that dominates it. Such a node is an earlier one (version 2), or is no dominated leaf itself (versions 3 to 5), so that no two
+//! rest on one another; from version 4 on it has to dominate in use only, below the bound, by what is known after all fact lines. By that a
 //! leaf may also be closed without a node.
 //!
 //! It shares nothing with the search that made the certificate: no clock, no marks, no sets of dependences, no bounds, no ledger.
@@ -45,9 +45,9 @@ pub use check::{instructions_of, profile_of, verify};
 pub use examples::{
     dominated_examples, dominating_examples, fact_examples, fact_leaf_examples, fault_examples,
     in_use_examples, leaf_examples, line_name_examples, load_leaf_examples, profile_examples,
-    split_examples, verdict_examples,
+    split_examples, supposition_examples, verdict_examples,
 };
-pub use known::{fact_lines, take};
+pub use known::fact_lines;
 pub use laws::{dominating_law, yes_law};
 pub use leaf::{head, load, remaining_parcels, remaining_work};
 pub use links::{link, own_parcels, tail, uses};

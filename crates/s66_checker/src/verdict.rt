@@ -30,11 +30,11 @@ pub enum Reason {
     /// `BOUND` is above `TIME`.
     Bound,
     /// The name of a dominated leaf is none that it may have. It may be that of a node of the tree over the same set of numbers:
-    /// an earlier one in version 2, and none that is dominated itself in versions 3 and 4.
+    /// an earlier one in version 2, and none that is dominated itself in versions 3 to 5.
     Name,
     /// The node that a dominated leaf names doesn't dominate.
     Dominance,
-    /// A fact line isn't shown by what is known before it.
+    /// A fact line isn't shown by what is known before it. Or a supposition may not begin or end there, or doesn't end.
     Fact,
     /// An instruction that doesn't remain, or isn't too late for the bound if it comes next.
     Event,

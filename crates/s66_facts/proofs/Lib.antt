@@ -17,3 +17,5 @@ pub mod PairTaken
 pub mod LoadTaken
 pub mod SameTimes
 pub mod Settled
+pub mod Suppose
+pub mod Opened

@@ -5,3 +5,4 @@ pub mod Chained
 pub mod Near
 pub mod Directions
 pub mod Settled
+pub mod Supposing

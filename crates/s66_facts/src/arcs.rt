@@ -236,6 +236,13 @@ impl Arcs {
         self.all.push(arc);
     }
 
+    /// All of them, in order.
+    pub(crate) fn as_slice(&self) -> &[KnownArc]
+        ensures { result.now ≡ self.now }
+    {
+        self.all.as_slice()
+    }
+
     /// Those that are found by the number to which they lead.
     fn chains(&self, direction: Direction) -> &Chains
         ensures { IsChained BLOCK_LIMIT direction self.now result.now.last result.now.before.items }

@@ -1,14 +1,14 @@
 //! What is known of a block under a profile, with the longest paths from the origin and to the end.
 //! These are the calls of the crate: a line is taken in if what is known shows it (`take_pair`, `take_load`).
 
-ghost use Rattle.std.specs.Prelude.{ℕ, ◌≡◌, ◌≤◌, ◌<◌, ◌||◌, if◌then◌else◌, true, length};
+ghost use Rattle.std.specs.Prelude.{ℕ, ◌≡◌, ◌≢◌, ◌≤◌, ◌<◌, ◌||◌, if◌then◌else◌, true, false, length};
 ghost use Rattle.s66_isa.specs.declared.limits.TheConstants.{BLOCK_LIMIT};
 ghost use Rattle.s66_facts.specs.declared.limits.TheConstants.{FACT_LIMIT};
 
 use crate::again::{all_but, all_kept, find_again, find_all};
 use crate::direction::Direction;
 use crate::graph::Graph;
-use crate::loads::{are_used, is_load_line};
+use crate::loads::{are_used, is_load_late, is_load_line};
 use crate::times::{Times, is_same_moment, reaches_both, reaches_through, times_at};
 use s66_isa::{BLOCK_LIMIT, Instr, Profile};
 use s66_moments::{LoadLine, Moment};
@@ -53,6 +53,9 @@ impl Facts {
     ghost use Rattle.s66_moments.specs.declared.fact_line.FactLine.TheVariants.{Pair, Load};
     ghost use Rattle.s66_moments.specs.Facts.{IsNumber};
     ghost use Rattle.s66_moments.specs.Known.{known_first, with_line, arcs_of, span, is_late_by_parcels, is_late_by_unit, is_pair_taken, is_taken, is_front, is_back, is_load_taken};
+    ghost use Rattle.s66_isa.specs.Lists.{some_of};
+    ghost use Rattle.s66_isa.specs.Table.{numbers};
+    ghost use Rattle.s66_moments.specs.Suppositions.{is_late_through, is_late as is_too_late};
     ghost use Rattle.s66_facts.specs.Marked.{before_in};
     ghost use Rattle.s66_facts.specs.Ground.{IsOrdered, known_of};
     ghost use Rattle.s66_facts.specs.Passes.{times_at, AreTimes};
@@ -211,22 +214,19 @@ impl Facts {
             && self.is_late(bound, m, n)
     }
 
-    /// Takes a pair in if it is a fact of all legal orders that take less than the bound, by what is known, and returns whether it is: m
-    /// stands before n, since in the other case the order takes the bound at least. If it isn't, nothing changes, and it takes some
-    /// looks only.
-    pub fn take_pair(&mut self, bound: u32, m: u8, n: u8) -> bool
-        ensures taken { result ≡ is_taken self.old.problem bound (known_of self.old) (Pair m n) }
+    /// Takes a pair in, shown or supposed: m stands before n, and isn't known to stand after it.
+    pub fn add_pair(&mut self, m: u8, n: u8)
+        requires m { IsNumber self.old.problem m }
+        requires n { IsNumber self.old.problem n }
+        requires differ { m ≢ n }
+        requires turned { before_in self.old.marks n m ≡ false }
         ensures problem { self.new.problem ≡ self.old.problem }
-        ensures known { known_of self.new ≡
-            (if result then with_line (known_of self.old) (Pair m n) else known_of self.old) }
+        ensures known { known_of self.new ≡ with_line (known_of self.old) (Pair m n) }
     {
-        if !self.is_forced(bound, m, n) {
-            return false;
-        }
         // as in `new`
         let _count = self.graph.count();
         if self.is_before(m, n) {
-            return true;
+            return;
         }
         let same_before = all_kept(Direction::Forward, &self.graph, m, n);
         let same_after = all_kept(Direction::Backward, &self.graph, n, m);
@@ -250,7 +250,52 @@ impl Facts {
         self.heads_from = self.heads;
         self.to = Moment::End;
         self.tails_to = self.tails;
+    }
+
+    /// Takes a pair in if it is a fact of all legal orders that take less than the bound, by what is known, and returns whether it is: m
+    /// stands before n, since in the other case the order takes the bound at least. If it isn't, nothing changes, and it takes some
+    /// looks only.
+    pub fn take_pair(&mut self, bound: u32, m: u8, n: u8) -> bool
+        ensures taken { result ≡ is_taken self.old.problem bound (known_of self.old) (Pair m n) }
+        ensures problem { self.new.problem ≡ self.old.problem }
+        ensures known { known_of self.new ≡
+            (if result then with_line (known_of self.old) (Pair m n) else known_of self.old) }
+    {
+        if !self.is_forced(bound, m, n) {
+            return false;
+        }
+        self.add_pair(m, n);
         true
+    }
+
+    /// Whether the longest path through the issue or the start of a number takes the bound at least.
+    fn is_late_through(&self, bound: u32, n: u8) -> bool
+        requires { IsNumber self.now.problem n }
+        ensures { result ≡ is_late_through self.now.problem (arcs_of self.now.problem (known_of self.now)) bound n }
+    {
+        let head = self.head(n);
+        let tail = self.tail(n);
+        reaches_both(bound, head.issue, tail.issue) || reaches_both(bound, head.start, tail.start)
+    }
+
+    /// Whether that of some number does.
+    fn is_some_late(&self, bound: u32) -> bool
+        ensures { result ≡ some_of (is_late_through self.now.problem (arcs_of self.now.problem (known_of self.now)) bound)
+            (numbers self.now.problem.block) }
+    {
+        for position in 0..self.count() {
+            if self.is_late_through(bound, position + 1) {
+                return true;
+            }
+        }
+        false
+    }
+
+    /// Whether by what is known every order takes the bound at least.
+    pub fn is_late_for(&self, bound: u32) -> bool
+        ensures { result ≡ is_too_late self.now.problem bound (known_of self.now) }
+    {
+        self.is_some_late(bound) || is_load_late(bound, self.graph.loads().as_slice())
     }
 
     /// Whether a load line is a fact of all legal orders, by what is known.

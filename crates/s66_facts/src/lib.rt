@@ -19,6 +19,7 @@ mod marked_numbers;
 mod near;
 mod pairs;
 mod paths;
+mod supposing;
 mod tails;
 mod times;
 
@@ -26,4 +27,5 @@ pub use facts::Facts;
 pub use limits::FACT_LIMIT;
 pub use loads::are_rising;
 pub use marked_numbers::MarkedNumbers;
+pub use supposing::Supposing;
 pub use times::{Times, fetches, is_same_moment, latency_to, times_at, writes};

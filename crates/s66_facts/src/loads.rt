@@ -6,13 +6,14 @@
 
 ghost use Rattle.std.specs.Prelude.{◌+◌, ◌*◌, ◌^◌, ◌≡◌, ◌≤◌, ◌<◌, ◌&&◌, true, Some, length, map, nat_lt};
 ghost use Rattle.s66_isa.specs.declared.limits.TheConstants.{BLOCK_LIMIT};
-ghost use Rattle.s66_isa.specs.Lists.{every, least, weigh};
+ghost use Rattle.s66_isa.specs.Lists.{every, some_of, least, weigh};
 ghost use Rattle.s66_model.specs.Timing.{row_at};
 ghost use Rattle.s66_model.specs.Leaves.{over};
 ghost use Rattle.s66_moments.specs.Facts.{IsNumber};
 ghost use Rattle.s66_moments.specs.Moments.{is_moment};
 ghost use Rattle.s66_moments.specs.FactLines.{Use, use_time};
 ghost use Rattle.s66_moments.specs.Known.{is_front, is_back, is_number, use_of, kind_of_load, plus, span, reaches, are_rising, leads_up, is_used, are_used, is_arc_up};
+ghost use Rattle.s66_moments.specs.Suppositions.{is_late_load};
 ghost use Rattle.s66_facts.specs.Marked.{before_in};
 ghost use Rattle.s66_facts.specs.Ground.{ground_arcs};
 ghost use Rattle.s66_facts.specs.Passes.{AreTimes};
@@ -20,9 +21,9 @@ ghost use Rattle.s66_facts.specs.declared.direction.Direction.TheVariants.{Forwa
 ghost use Rattle.s66_facts.specs.Settled.{AreAll};
 
 use crate::graph::Graph;
-use crate::times::{Times, times_at};
+use crate::times::{Times, is_same_moment, times_at};
 use s66_isa::{BLOCK_LIMIT, Kind, is_same_kind};
-use s66_moments::{LoadLine, Moment, Stage};
+use s66_moments::{KnownArc, LoadLine, Moment, Stage};
 
 /// Whether a load may come after a moment: it is the origin, or an issue or a start of an instruction of the block.
 fn is_front(graph: &Graph, moment: &Moment) -> bool
@@ -261,4 +262,25 @@ pub(crate) fn is_load_line(graph: &Graph, line: &LoadLine) -> bool
     is_arc_up(graph, &line.from, &line.to)
         && !line.numbers.is_empty()
         && are_rising(line.numbers.as_slice())
+}
+
+/// Whether a load takes the bound at least from the origin to the end.
+fn is_late_load(bound: u32, load: &KnownArc) -> bool
+    ensures { result ≡ is_late_load bound load.now }
+{
+    is_same_moment(&load.from, &Moment::Origin)
+        && is_same_moment(&load.to, &Moment::End)
+        && bound <= load.wait
+}
+
+/// Whether one of them does.
+pub(crate) fn is_load_late(bound: u32, loads: &[KnownArc]) -> bool
+    ensures { result ≡ some_of (is_late_load bound) loads.now }
+{
+    for load in loads {
+        if is_late_load(bound, load) {
+            return true;
+        }
+    }
+    false
 }

@@ -7,20 +7,13 @@ use Rattle.s66_model.specs.Timing.{Problem, total_of}
 use Rattle.s66_model.specs.LegalOrder.{IsLegal}
 use Rattle.s66_model.specs.Tree.{Tree, Vertex, AtTerminal, AtSplit}
 use Rattle.s66_model.specs.NodeNames.{node_named}
-use Rattle.s66_moments.specs.declared.moment.Moment.TheVariants.{Origin, End}
-use Rattle.s66_moments.specs.Facts.{Fact, Begins, AreSo, NoOrder}
+use Rattle.s66_moments.specs.Facts.{Fact, Begins, AreSo}
 use Rattle.s66_moments.specs.FactLines.{Line, facts_after}
-use Rattle.s66_moments.specs.LineTrees.{LineEnding, AtLeaf, AtLines, DominatedBy, IsTooLate, IsClosedByLines, is_closed, may_be_named, DominatesBelow, LineEndingShows, ShowsByLines}
+use Rattle.s66_moments.specs.LineTrees.{LineEnding, AtLeaf, AtLines, DominatedBy, IsClosedByLines, is_closed, may_be_named, DominatesBelow, LineEndingShows, ShowsByLines}
 use Rattle.s66_model.proofs.Dominating.{set-length}
 use Rattle.s66_model.proofs.DominatedTrees.{IsShut, StaysBelow, IsTaken, may_name, IsNamed, whole-legal, shown-by, leaf-shuts, rule-takes}
-use Rattle.s66_moments.proofs.FactLaws.{before-itself}
-use Rattle.s66_moments.proofs.Steps.{precedes-so, leads-so}
-use Rattle.s66_moments.proofs.FoundedLines.{lines-so}
+use Rattle.s66_moments.proofs.FoundedLines.{too_late-none, lines-so}
 use Rattle.s66_moments.proofs.InUse.{no_worse-below}
-
-too_late-none : (b : Problem) (low : ℕ) (known : List Fact) → IsTooLate b low known → NoOrder b low known
-too_late-none b low known (inl leads) = λ order legal less so. absurd (omega (arith, leads-so b known order legal so Origin low End leads, less))
-too_late-none b low known (inr (n, is, ring)) = λ order legal less so. before-itself b order legal n (precedes-so b known order legal so n n ring)
 
 abbrev closes : LineEnding → Bool
 closes ending = is_closed (Some (AtTerminal ending))

@@ -10,12 +10,12 @@ use Rattle.s66_moments.specs.declared.moment.Stage.TheVariants.{Issue, Start, Fr
 use Rattle.s66_moments.specs.declared.moment.Moment.{Moment}
 use Rattle.s66_moments.specs.declared.moment.Moment.TheVariants.{Origin, At, End}
 use Rattle.s66_moments.specs.Moments.{time_of}
-use Rattle.s66_moments.specs.Facts.{Fact, Arc, Before, Begins, AreSo, Follows, IsNumber, Work, shared_time, AreOnce, IsWithin}
+use Rattle.s66_moments.specs.Facts.{Fact, Arc, Before, Begins, AreSo, Follows, NoOrder, IsNumber, Work, shared_time, AreOnce, IsWithin}
 use Rattle.s66_moments.specs.Paths.{Leads}
-use Rattle.s66_moments.specs.FactLines.{Use, Line, ForcedPair, LoadArc, fact_of, IsForced, use_time, IsBetween, AreBetween, IsFounded, AreFounded, facts_after}
+use Rattle.s66_moments.specs.FactLines.{Use, Line, ForcedPair, LoadArc, Supposed, fact_of, IsForced, use_time, IsBetween, AreBetween, IsFoundedByPaths, AreFoundedByPaths, IsTooLate, IsRefuted, IsFounded, AreFounded, facts_after}
 use Rattle.s66_moments.proofs.LoadArcs.{load-arc}
-use Rattle.s66_moments.proofs.FactLaws.{among-so, issue-start, start-free, forced-parcels, forced-unit, prefix-time_at}
-use Rattle.s66_moments.proofs.Steps.{leads-so}
+use Rattle.s66_moments.proofs.FactLaws.{among-so, issue-start, start-free, before-itself, forced, forced-parcels, forced-unit, prefix-time_at}
+use Rattle.s66_moments.proofs.Steps.{precedes-so, leads-so}
 
 -- AMOUNTS
 
@@ -143,10 +143,29 @@ module _ (b : Problem) (low : ℕ) (known : List Fact) where
       let arc = load-arc b low known kind e f h (wait - (h + time)) (h + time - wait) works (some-works u.number (map (λ (w : Use). w.number) us) works numbers) once2 all order legal less so in
       omega (arith, arc, shared-same (λ (x : Work). x.amount) (λ (v : Use). v.amount) works (u ∷ us) (copies b kind) amounts)
 
-  pub line-follows : (line : Line) → IsFounded b low known line → Follows b low known (fact_of line)
-  line-follows (ForcedPair y x) founded = pair-follows y x founded
-  line-follows (LoadArc kind e f h wait []) founded = absurd founded
-  line-follows (LoadArc kind e f h wait (u ∷ us)) founded = span-follows kind e f h wait u us founded.0 founded.1
+  paths-follow : (line : Line) → IsFoundedByPaths b low known line → Follows b low known (fact_of line)
+  paths-follow (ForcedPair y x) founded = pair-follows y x founded
+  paths-follow (LoadArc kind e f h wait []) founded = absurd founded
+  paths-follow (LoadArc kind e f h wait (u ∷ us)) founded = span-follows kind e f h wait u us founded.0 founded.1
+  paths-follow (Supposed y x) founded = absurd founded
+
+  pub too_late-none : IsTooLate b low known → NoOrder b low known
+  too_late-none (inl leads) = λ order legal less so. absurd (omega (arith, leads-so b known order legal so Origin low End leads, less))
+  too_late-none (inr (n, is, ring)) = λ order legal less so. before-itself b order legal n (precedes-so b known order legal so n n ring)
+
+by_paths-none : (b : Problem) (low : ℕ) (known : List Fact) (lines : List Line) → AreFoundedByPaths b low known lines → IsTooLate b low (facts_after known lines) → NoOrder b low known
+by_paths-none b low known [] founded late = too_late-none b low known late
+by_paths-none b low known (line ∷ lines) founded late =
+    λ order legal less so. by_paths-none b low (fact_of line ∷ known) lines founded.1 late order legal less (paths-follow b low known line founded.0 order legal less so, so)
+
+-- what is refuted no order has
+refuted-none : (b : Problem) (low : ℕ) (known : List Fact) → IsRefuted b low known → NoOrder b low known
+refuted-none b low known (lines, founded, late) = by_paths-none b low known lines founded late
+
+pub line-follows : (b : Problem) (low : ℕ) (known : List Fact) (line : Line) → IsFounded b low known line → Follows b low known (fact_of line)
+line-follows b low known (ForcedPair y x) founded = paths-follow b low known (ForcedPair y x) founded
+line-follows b low known (LoadArc kind e f h wait uses) founded = paths-follow b low known (LoadArc kind e f h wait uses) founded
+line-follows b low known (Supposed y x) (differ, is_x, is_y, refuted) = forced b low known x y differ is_x is_y (refuted-none b low (Before x y ∷ known) refuted)
 
 -- ALL LINES
 
@@ -158,13 +177,30 @@ lines-so b low known (line ∷ lines) founded order legal less so =
 -- A LOWER TIME: what is shown of one is shown of each that is less
 
 module _ (b : Problem) (low other : ℕ) (less : other ≤ low) where
-  founded-lower : (known : List Fact) (line : Line) → IsFounded b low known line → IsFounded b other known line
-  founded-lower known (ForcedPair y x) (differ, is_x, is_y, inl (h, t, head, tail, late)) =
+  paths-lower : (known : List Fact) (line : Line) → IsFoundedByPaths b low known line → IsFoundedByPaths b other known line
+  paths-lower known (ForcedPair y x) (differ, is_x, is_y, inl (h, t, head, tail, late)) =
       (differ, is_x, is_y, inl (h, t, head, tail, omega (arith, late, less)))
-  founded-lower known (ForcedPair y x) (differ, is_x, is_y, inr (h, t, one, head, tail, late)) =
+  paths-lower known (ForcedPair y x) (differ, is_x, is_y, inr (h, t, one, head, tail, late)) =
       (differ, is_x, is_y, inr (h, t, one, head, tail, omega (arith, late, less)))
-  founded-lower known (LoadArc kind e f h wait []) founded = founded
-  founded-lower known (LoadArc kind e f h wait (u ∷ us)) founded = founded
+  paths-lower known (LoadArc kind e f h wait []) founded = founded
+  paths-lower known (LoadArc kind e f h wait (u ∷ us)) founded = founded
+  paths-lower known (Supposed y x) founded = founded
+
+  too_late-lower : (known : List Fact) → IsTooLate b low known → IsTooLate b other known
+  too_late-lower known (inl (hops, path, long)) = inl (hops, path, omega (arith, long, less))
+  too_late-lower known (inr ring) = inr ring
+
+  by_paths-lower : (known : List Fact) (lines : List Line) → AreFoundedByPaths b low known lines → AreFoundedByPaths b other known lines
+  by_paths-lower known [] founded = tt
+  by_paths-lower known (line ∷ lines) founded = (paths-lower known line founded.0, by_paths-lower (fact_of line ∷ known) lines founded.1)
+
+  refuted-lower : (known : List Fact) → IsRefuted b low known → IsRefuted b other known
+  refuted-lower known (lines, founded, late) = (lines, by_paths-lower known lines founded, too_late-lower (facts_after known lines) late)
+
+  founded-lower : (known : List Fact) (line : Line) → IsFounded b low known line → IsFounded b other known line
+  founded-lower known (ForcedPair y x) founded = paths-lower known (ForcedPair y x) founded
+  founded-lower known (LoadArc kind e f h wait uses) founded = paths-lower known (LoadArc kind e f h wait uses) founded
+  founded-lower known (Supposed y x) (differ, is_x, is_y, refuted) = (differ, is_x, is_y, refuted-lower (Before x y ∷ known) refuted)
 
   pub lines-lower : (known : List Fact) (lines : List Line) → AreFounded b low known lines → AreFounded b other known lines
   lines-lower known [] founded = tt

@@ -20,8 +20,7 @@ use Rattle.s66_moments.specs.declared.fact_line.KnownArc.{KnownArc}
 use Rattle.s66_moments.specs.Moments.{is_moment, own_arc, arc}
 use Rattle.s66_moments.specs.Facts.{Fact, Arc, Before, Begins, IsNumber, AreOnce}
 use Rattle.s66_moments.specs.Paths.{IsStep, Hop, IsPath, waits, Leads}
-use Rattle.s66_moments.specs.FactLines.{Use, LoadArc, fact_of, IsLateByParcels, IsLateByUnit, use_time, IsBetween, AreBetween, IsFounded, AreFounded, facts_after}
-use Rattle.s66_moments.specs.LineTrees.{IsTooLate}
+use Rattle.s66_moments.specs.FactLines.{Use, LoadArc, fact_of, IsLateByParcels, IsLateByUnit, use_time, IsBetween, AreBetween, IsFoundedByPaths, IsTooLate, IsFounded, AreFounded, facts_after}
 use Rattle.s66_moments.specs.Networks.{Network, network, IsKnown, AreSteps, IsRising, RisesBy, HasOwnArcs, IsTransitive, HasNoRing, IsNetworkPath, targets, most_arcs, rank_by, place_by, moments_of, with_arc, with_pair, soonest_path, tail}
 use Rattle.s66_moments.specs.Known.{Known, is_front, is_back, use_of, kind_of_load, line_of, plus, span, reaches, known_first, with_line, with_loads, arcs_of, is_number, is_late_by_parcels, is_late_by_unit, is_pair_taken, are_rising, leads_up, is_used_from, is_used, are_used, is_arc_up, is_load_taken, is_taken, are_taken, known_after, next_value, is_turned}
 use Rattle.s66_moments.proofs.TableArcs.{Some-same, moment-number}
@@ -41,7 +40,7 @@ pub record IsSound (b : Problem) (facts : List Fact) (known : Known) : Type 0 wh
   pub up : (load : KnownArc) → Among load known.loads → is_arc_up b known.before load.from load.to ≡ true
   pub among : (load : KnownArc) → Among load known.loads → Among (Arc load.from load.wait load.to 0) facts
 
-number-is : (b : Problem) (n : ℕ) → is_number b n ≡ true → IsNumber b n
+pub number-is : (b : Problem) (n : ℕ) → is_number b n ≡ true → IsNumber b n
 number-is b n h =
     let (low, high) = and_parts (leb 1 n) (leb n (length b.block)) h in
     (leb-true 1 n low, leb-true n (length b.block) high)
@@ -174,12 +173,12 @@ module _ (b : Problem) (facts : List Fact) (known : Known) (sound : IsSound b fa
   abbrev S : Moment → Moment → Option ℕ
   S e f = span b (arcs_of b known) e f
 
-  span-leads : (e f : Moment) (w : ℕ) → S e f ≡ Some w → Leads b facts e w f
+  pub span-leads : (e f : Moment) (w : ℕ) → S e f ≡ Some w → Leads b facts e w f
   span-leads e f w is =
       let (hops, path, takes) = span-path b (arcs_of b known) e f w is in
       (hops, step-path e f hops path, omega (arith, takes))
 
-  reaches-some : (low : ℕ) (o : Option ℕ) → reaches low o ≡ true → (w : ℕ) × (o ≡ Some w) × (low ≤ w)
+  pub reaches-some : (low : ℕ) (o : Option ℕ) → reaches low o ≡ true → (w : ℕ) × (o ≡ Some w) × (low ≤ w)
   reaches-some low None h = absurd (true≢false (sym h))
   reaches-some low (Some w) h = (w, refl, leb-true low w h)
 
@@ -282,15 +281,20 @@ module _ (b : Problem) (bound : ℕ) (facts : List Fact) (known : Known) (sound 
       let (up, some) = and_parts (is_arc_up b known.before line.from line.to) (ltb 0 (length ns)) rest2 in
       (up, load-founded line ns refl some rises used)
 
-  pub line-founded : (line : FactLine) → is_taken b bound known line ≡ true → IsFounded b bound facts (line_of b line)
-  line-founded (Pair m n) h =
+  pub line-by_paths : (line : FactLine) → is_taken b bound known line ≡ true → IsFoundedByPaths b bound facts (line_of b line)
+  line-by_paths (Pair m n) h =
       let (differ, is_m, is_n, off, late) = pair-parts b facts known sound bound m n h in
       ((λ e. differ (sym e)), is_n, is_m, late)
-  line-founded (Load line) h = (load-parts line h).1
+  line-by_paths (Load line) h = (load-parts line h).1
 
-  pub line-sound : (line : FactLine) → is_taken b bound known line ≡ true → IsSound b (fact_of (line_of b line) ∷ facts) (with_line known line)
-  line-sound (Pair m n) h =
-      let (differ, is_m, is_n, off, late) = pair-parts b facts known sound bound m n h in
+  pub line-founded : (line : FactLine) → is_taken b bound known line ≡ true → IsFounded b bound facts (line_of b line)
+  line-founded (Pair m n) h = line-by_paths (Pair m n) h
+  line-founded (Load line) h = line-by_paths (Load line) h
+
+  -- with a pair that forms no ring
+  pub pair-sound : (m n : ℕ) → m ≢ n → IsNumber b m → IsNumber b n → known.before n m ≡ false →
+      IsSound b (Before m n ∷ facts) (record { before = with_pair known.before m n; loads = known.loads })
+  pair-sound m n differ is_m is_n off =
       record {
         is_known = pair-known b (Before m n ∷ facts) known.before m n (known-more (Before m n)) is_m is_n (inl refl);
         transitive = pair-transitive b known.before m n is_m is_n sound.transitive;
@@ -301,6 +305,11 @@ module _ (b : Problem) (bound : ℕ) (facts : List Fact) (known : Known) (sound 
     where
       known-more : (fact : Fact) → IsKnown b (fact ∷ facts) known.before
       known-more fact i j is_i is_j first = precedes-more b facts fact i j (sound.is_known i j is_i is_j first)
+
+  pub line-sound : (line : FactLine) → is_taken b bound known line ≡ true → IsSound b (fact_of (line_of b line) ∷ facts) (with_line known line)
+  line-sound (Pair m n) h =
+      let (differ, is_m, is_n, off, late) = pair-parts b facts known sound bound m n h in
+      pair-sound m n differ is_m is_n off
   line-sound (Load line) h =
       let (up, founded) = load-parts line h in
       record {

@@ -21,3 +21,4 @@ pub mod KnownLines
 pub mod LeastUse
 pub mod LoadLeaves
 pub mod Turns
+pub mod SupposedLines

@@ -10,7 +10,7 @@ use Rattle.s66_moments.specs.declared.moment.Moment.TheVariants.{Origin, At, End
 use Rattle.s66_moments.specs.Moments.{is_moment, has_stage, soonest, own_arc}
 use Rattle.s66_moments.specs.Facts.{Fact, Begins, IsNumber}
 use Rattle.s66_moments.specs.Paths.{IsFirst, PrecedesBy, Precedes, IsPlacedFirst, IsInOrder, IsStep, Hop, IsPath, waits, Leads}
-use Rattle.s66_moments.specs.LineTrees.{IsTooLate}
+use Rattle.s66_moments.specs.FactLines.{IsTooLate}
 use Rattle.s66_moments.specs.Networks.{Network, AreSteps, IsRemaining, IsNetworkPath, most_arcs, tail}
 use Rattle.s66_model.proofs.Remaining.{remaining-parts}
 use Rattle.s66_moments.proofs.Tails.{tail-reached}

@@ -8,8 +8,7 @@ use Rattle.s66_moments.specs.declared.moment.Stage.TheVariants.{Issue, Start, Do
 use Rattle.s66_moments.specs.declared.moment.Moment.TheVariants.{Origin, At, End}
 use Rattle.s66_moments.specs.Facts.{Before, Begins}
 use Rattle.s66_moments.specs.Paths.{Leads}
-use Rattle.s66_moments.specs.FactLines.{ForcedPair, IsFounded}
-use Rattle.s66_moments.specs.LineTrees.{IsTooLate}
+use Rattle.s66_moments.specs.FactLines.{ForcedPair, IsTooLate, IsFounded}
 use Rattle.s66_moments.specs.Examples.{hop, two_adds, booleans_between, load_line, inner_line, until_free_line, two_copies_line, two_free_adds, still_line, first_of_two, two_sums}
 
 -- TWO OF ONE UNIT BETWEEN

@@ -18,6 +18,9 @@ use Rattle.s66_moments.specs.declared.fact_line.FactLine.{FactLine}
 use Rattle.s66_moments.specs.declared.fact_line.FactLine.TheVariants as fact
 use Rattle.s66_moments.specs.Known.{Known, span, known_first, known_after, is_taken, next_value, is_turned, is_loaded, start_at_least}
 use Rattle.s66_moments.specs.Known.{arcs_of as known_arcs}
+use Rattle.s66_moments.specs.declared.fact_line.FactStep.{FactStep}
+use Rattle.s66_moments.specs.declared.fact_line.FactStep.TheVariants.{Fact, Suppose, Refuted}
+use Rattle.s66_moments.specs.Suppositions.{standing_first, standing_after, are_steps_taken, shown_by_all}
 
 -- ARCS
 
@@ -96,6 +99,10 @@ first_of_two = instr 0o11 2 4 3 ∷ instr 0o36 1 3 1 ∷ instr 0o40 2 1 4 ∷ []
 abbrev pub two_sums : List Instr
 two_sums = instr 0o11 5 2 5 ∷ instr 0o30 2 4 4 ∷ instr 0o30 5 1 4 ∷ []
 
+-- FX1 X2+X3 / FX4 X2+X5 / FX6 X2+X7: one Add unit for three that don't depend on each other
+abbrev pub three_free_adds : List Instr
+three_free_adds = instr 0o30 1 2 3 ∷ instr 0o30 4 2 5 ∷ instr 0o30 6 2 7 ∷ []
+
 -- IN USE: what follows the first two comes after them in either order
 
 -- BX1 X2 / BX3 X4 / BX5 X1: the third waits for the only Boolean unit, and by then X1 is there
@@ -144,6 +151,23 @@ is_loaded_after block bound lines prefix after numbers =
 
 abbrev pub start_after : List Instr → List FactLine → List ℕ → ℕ → ℕ
 start_after block lines prefix n = start_at_least (standard_problem block) (known_of block lines) prefix n
+
+-- SUPPOSITIONS
+
+abbrev pub are_steps_taken_of : List Instr → ℕ → List FactStep → Bool
+are_steps_taken_of block bound steps = are_steps_taken (standard_problem block) bound (standing_first (standard_problem block)) steps
+
+-- what is known after these steps
+abbrev pub known_after_steps : List Instr → List FactStep → Known
+known_after_steps block steps = (standing_after (standing_first (standard_problem block)) steps).known
+
+-- what they show
+abbrev pub lines_shown : List Instr → List FactStep → List Line
+lines_shown block steps = shown_by_all (standard_problem block) (standing_first (standard_problem block)) steps
+
+-- of three adds, the second stands before the first: else the third stands before the second, and after the first
+abbrev pub second_by_lines : List FactStep
+second_by_lines = Suppose 2 1 ∷ Fact (fact.Pair 3 2) ∷ Fact (fact.Pair 1 3) ∷ Refuted ∷ []
 
 -- TREES
 

@@ -9,7 +9,7 @@ use Rattle.s66_moments.specs.declared.moment.Moment.{Moment}
 use Rattle.s66_moments.specs.declared.moment.Moment.TheVariants.{Origin, At, End}
 use Rattle.s66_moments.specs.Moments.{time_of}
 use Rattle.s66_moments.specs.Facts.{Fact, Arc, Before, Begins, IsNumber, IsOnlyUnit, shared_time, AreOnce}
-use Rattle.s66_moments.specs.Paths.{Leads}
+use Rattle.s66_moments.specs.Paths.{Precedes, Leads}
 
 -- for how long the unit of a number is in use between two moments
 pub record Use : Type 0 where
@@ -21,10 +21,13 @@ pub data Line : Type 0 where
   ForcedPair : ℕ → ℕ → Line
   -- f comes a wait later than e, since units of the kind are so used between, each at least h after e
   LoadArc : (kind : Kind) → (e f : Moment) → (h wait : ℕ) → List Use → Line
+  -- the first number stands before the second, since no order that takes less than low has them the other way round
+  Supposed : ℕ → ℕ → Line
 
 abbrev pub fact_of : Line → Fact
 fact_of (ForcedPair m n) = Before m n
 fact_of (LoadArc kind e f h wait uses) = Arc e wait f 0
+fact_of (Supposed m n) = Before m n
 
 -- FORCED PAIRS: if n stood before m
 
@@ -91,17 +94,39 @@ AreBetween b known kind e f h wait time (u ∷ us) =
 
 -- LINES, one after the other
 
--- the pair is forced; or the load arc's uses are of one kind, none of one instruction twice, one at least, and each lies between
-abbrev pub IsFounded : Problem → ℕ → List Fact → Line → Type 0
-IsFounded b low known (ForcedPair m n) = IsForced b low known m n
-IsFounded b low known (LoadArc kind e f h wait []) = ⊥
-IsFounded b low known (LoadArc kind e f h wait (u ∷ us)) =
+-- by paths that are known, with nothing supposed: the pair is forced; or the load arc's uses are of one kind, none of one instruction twice, one at least, and each lies between
+abbrev pub IsFoundedByPaths : Problem → ℕ → List Fact → Line → Type 0
+IsFoundedByPaths b low known (ForcedPair m n) = IsForced b low known m n
+IsFoundedByPaths b low known (LoadArc kind e f h wait []) = ⊥
+IsFoundedByPaths b low known (LoadArc kind e f h wait (u ∷ us)) =
     AreOnce (map (λ (v : Use). v.number) (u ∷ us)) × AreBetween b known kind e f h wait (use_time b kind (u ∷ us)) (u ∷ us)
+IsFoundedByPaths b low known (Supposed m n) = ⊥
 
 -- what is known after lines, the newest first
 abbrev pub facts_after : List Fact → List Line → List Fact
 facts_after known [] = known
 facts_after known (line ∷ lines) = facts_after (fact_of line ∷ known) lines
+
+-- a path takes low, or a number stands before itself
+abbrev pub IsTooLate : Problem → ℕ → List Fact → Type 0
+IsTooLate b low known = Leads b known Origin low End ⊎ ((n : ℕ) × IsNumber b n × Precedes b known n n)
+
+-- each by paths, on what is known before it
+abbrev pub AreFoundedByPaths : Problem → ℕ → List Fact → List Line → Type 0
+AreFoundedByPaths b low known [] = Unit {0}
+AreFoundedByPaths b low known (line ∷ lines) = IsFoundedByPaths b low known line × AreFoundedByPaths b low (fact_of line ∷ known) lines
+
+-- lines lead from there to what is too late: no order that takes less than low has what is known
+abbrev pub IsRefuted : Problem → ℕ → List Fact → Type 0
+IsRefuted b low known = (lines : List Line) × AreFoundedByPaths b low known lines × IsTooLate b low (facts_after known lines)
+
+-- with n before m, what is known is refuted
+abbrev pub IsSupposed : Problem → ℕ → List Fact → ℕ → ℕ → Type 0
+IsSupposed b low known m n = (n ≢ m) × IsNumber b n × IsNumber b m × IsRefuted b low (Before n m ∷ known)
+
+abbrev pub IsFounded : Problem → ℕ → List Fact → Line → Type 0
+IsFounded b low known (Supposed m n) = IsSupposed b low known m n
+IsFounded b low known line = IsFoundedByPaths b low known line
 
 -- each on what is known before it
 abbrev pub AreFounded : Problem → ℕ → List Fact → List Line → Type 0

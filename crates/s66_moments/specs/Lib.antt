@@ -6,4 +6,5 @@ pub mod InUse
 pub mod LineTrees
 pub mod Networks
 pub mod Known
+pub mod Suppositions
 pub mod Examples

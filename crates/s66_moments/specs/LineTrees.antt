@@ -1,5 +1,5 @@
 -- To be believed: trees whose unsplit prefixes are closed by leaves or by lines, or name a node that dominates them, and what they show.
-use Rattle.std.specs.Prelude.{ℕ, ◌≡◌, ◌≤◌, ◌⊎◌, Bool, true, false, List, [], ◌∷◌, Option, Some, None}
+use Rattle.std.specs.Prelude.{ℕ, ◌≡◌, ◌≤◌, Bool, true, false, List, [], ◌∷◌, Option, Some, None}
 use Rattle.s66_model.specs.declared.rule.Rule.{Rule}
 use Rattle.s66_model.specs.declared.rule.Rule.TheVariants.{NoneNamed, WrittenEarlier, ClampedStanding}
 use Rattle.s66_model.specs.Timing.{Problem}
@@ -8,10 +8,8 @@ use Rattle.s66_model.specs.Leaves.{Leaf}
 use Rattle.s66_model.specs.Tree.{Tree, Vertex, AtTerminal, AtSplit, TreeHolds, LeafShows}
 use Rattle.s66_model.specs.NodeNames.{node_named, is_node}
 use Rattle.s66_model.specs.DominatedLeaves.{DominatesByRule}
-use Rattle.s66_moments.specs.declared.moment.Moment.TheVariants.{Origin, End}
-use Rattle.s66_moments.specs.Facts.{Fact, Begins, IsNumber}
-use Rattle.s66_moments.specs.Paths.{Precedes, Leads}
-use Rattle.s66_moments.specs.FactLines.{Line, AreFounded, facts_after}
+use Rattle.s66_moments.specs.Facts.{Fact, Begins}
+use Rattle.s66_moments.specs.FactLines.{Line, IsTooLate, AreFounded, facts_after}
 use Rattle.s66_moments.specs.InUse.{DominatesInUse}
 
 -- what an unsplit prefix has: a leaf that bounds; lines of its own, by which no order through it takes less than low; or the name of
@@ -20,10 +18,6 @@ pub data LineEnding : Type 0 where
   AtLeaf : Leaf → LineEnding
   AtLines : List Line → LineEnding
   DominatedBy : (name : List ℕ) → LineEnding
-
--- a path takes low, or a number stands before itself
-abbrev pub IsTooLate : Problem → ℕ → List Fact → Type 0
-IsTooLate b low known = Leads b known Origin low End ⊎ ((n : ℕ) × IsNumber b n × Precedes b known n n)
 
 -- with the prefix known too
 abbrev pub IsClosedByLines : Problem → ℕ → List Fact → List ℕ → List Line → Type 0

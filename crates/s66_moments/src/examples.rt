@@ -1,7 +1,7 @@
 //! Worked examples of arcs, paths, lines and trees.
 //! The functions do nothing.
 
-ghost use Rattle.std.specs.Prelude.{ℕ, List, [], ◌∷◌, ◌+◌, ◌≡◌, ◌≤◌, ◌≢◌, true, false, Some, None};
+ghost use Rattle.std.specs.Prelude.{ℕ, List, [], ◌∷◌, ◌++◌, ◌+◌, ◌≡◌, ◌≤◌, ◌≢◌, true, false, Some, None};
 ghost use Rattle.s66_isa.specs.declared.instr.Kind.TheVariants.{Boolean};
 ghost use Rattle.s66_isa.specs.Table.{a_reg, x_reg};
 ghost use Rattle.s66_model.specs.declared.rule.Rule.TheVariants.{NoneNamed, WrittenEarlier, ClampedStanding};
@@ -29,9 +29,9 @@ ghost use Rattle.s66_moments.specs.Moments.{time_of, soonest};
 ghost use Rattle.s66_moments.specs.Facts.{Before, Begins};
 ghost use Rattle.s66_moments.specs.Paths.{waits};
 ghost use Rattle.s66_moments.specs.Networks.{IsRemaining, IsNetworkPath, precedes, tail, greatest_path};
-ghost use Rattle.s66_moments.specs.FactLines.{ForcedPair, IsFounded};
+ghost use Rattle.s66_moments.specs.FactLines.{ForcedPair, Supposed, IsTooLate, IsFounded};
 ghost use Rattle.s66_moments.specs.InUse.{DominatesInUse};
-ghost use Rattle.s66_moments.specs.LineTrees.{AtLines, DominatedBy, IsTooLate, ShowsByLines};
+ghost use Rattle.s66_moments.specs.LineTrees.{AtLines, DominatedBy, ShowsByLines};
 ghost use Rattle.s66_moments.specs.Examples.{
   arcs_of,
   arc_in,
@@ -63,8 +63,14 @@ ghost use Rattle.s66_moments.specs.Examples.{
   two_copies_of_a_quotient,
   is_turned_after,
   start_after,
+  three_free_adds,
+  are_steps_taken_of,
+  known_after_steps,
+  lines_shown,
+  second_by_lines,
 };
 ghost use Rattle.s66_moments.specs.declared.fact_line.FactLine.TheVariants.{Pair};
+ghost use Rattle.s66_moments.specs.declared.fact_line.FactStep.TheVariants.{Fact, Suppose, Refuted};
 
 /// Which moments have an arc, and of how long.
 pub fn arc_examples()
@@ -233,4 +239,28 @@ pub fn fact_line_examples()
     ensures start_by_a_pair { start_after two_free_adds (Pair 2 1 ∷ []) [] 1 ≡ 1 }
     ensures start_without_the_pair { start_after two_free_adds [] [] 1 ≡ 0 }
     ensures not_turned { is_turned_after first_of_two (Pair 1 2 ∷ []) (1 ∷ []) 1 2 ≡ false }
+{}
+
+/// Which suppositions are taken, what is known after them, and what they show.
+pub fn supposition_examples()
+    ensures at_once { are_steps_taken_of first_of_two 15 (Suppose 1 2 ∷ Refuted ∷ []) ≡ true }
+    ensures not_for_another_bound { are_steps_taken_of first_of_two 16 (Suppose 1 2 ∷ Refuted ∷ []) ≡ false }
+    ensures not_what_depends { are_steps_taken_of first_of_two 1 (Suppose 1 3 ∷ []) ≡ false }
+    ensures nor_the_other_way { are_steps_taken_of first_of_two 1 (Suppose 3 1 ∷ []) ≡ false }
+    ensures not_itself { are_steps_taken_of first_of_two 1 (Suppose 2 2 ∷ []) ≡ false }
+    ensures no_number { are_steps_taken_of first_of_two 1 (Suppose 2 4 ∷ []) ≡ false }
+    ensures no_end_without_begin { are_steps_taken_of first_of_two 0 (Refuted ∷ []) ≡ false }
+    ensures by_lines { are_steps_taken_of three_free_adds 15 second_by_lines ≡ true }
+    ensures not_without_them { are_steps_taken_of three_free_adds 15 (Suppose 2 1 ∷ Refuted ∷ []) ≡ false }
+    ensures by_a_load { are_steps_taken_of three_free_adds 15
+        (Suppose 2 1 ∷ Fact (load_fact Origin End 0 15 (1 ∷ 2 ∷ 3 ∷ [])) ∷ Refuted ∷ []) ≡ true }
+    ensures not_by_a_pair { are_steps_taken_of three_free_adds 15 (Fact (Pair 2 1) ∷ []) ≡ false }
+    ensures one { are_steps_taken_of three_free_adds 15 (Suppose 2 1 ∷ []) ≡ true }
+    ensures none_within { are_steps_taken_of three_free_adds 15 (Suppose 2 1 ∷ Suppose 3 2 ∷ []) ≡ false }
+    ensures one_after_another { are_steps_taken_of three_free_adds 15 (second_by_lines ++ Suppose 3 2 ∷ []) ≡ true }
+    ensures shown { lines_shown three_free_adds second_by_lines ≡ Supposed 2 1 ∷ [] }
+    ensures known { (known_after_steps three_free_adds second_by_lines).before 2 1 ≡ true }
+    ensures no_more_known { (known_after_steps three_free_adds second_by_lines).before 3 2 ≡ false }
+    ensures nothing_shown_within { lines_shown three_free_adds (Suppose 2 1 ∷ Fact (Pair 3 2) ∷ []) ≡ [] }
+    ensures founded { IsFounded (standard_problem three_free_adds) 15 [] (Supposed 2 1) }
 {}

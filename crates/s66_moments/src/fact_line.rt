@@ -14,6 +14,16 @@ pub enum FactLine {
     Load(LoadLine),
 }
 
+/// A fact line of a certificate, or the beginning or the end of a supposition. A supposition never holds another.
+#[derive(Drop)]
+pub enum FactStep {
+    Fact(FactLine),
+    /// The first number stands before the second, as the lines up to the end show: it is supposed that the second stands before the first.
+    Suppose(u8, u8),
+    /// Ends the supposition: by what is known there, no order takes less than the bound.
+    Refuted,
+}
+
 /// Instructions of one kind of unit begin their use of it at least `after` minor cycles after a moment, and have to be over before
 /// another. So this one comes later, by `wait` minor cycles at least.
 #[derive(Drop)]

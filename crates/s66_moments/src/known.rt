@@ -11,9 +11,9 @@ ghost use Rattle.s66_moments.specs.Moments.{is_moment, only_if};
 ghost use Rattle.s66_moments.specs.Facts.{Fact, Begins};
 ghost use Rattle.s66_moments.specs.Paths.{Hop, waits};
 ghost use Rattle.s66_moments.specs.Networks.{Network, IsKnown, AreSteps, IsRising, HasOwnArcs, IsTransitive, HasNoRing, targets, IsNetworkPath, same_moment, tail};
-ghost use Rattle.s66_moments.specs.FactLines.{AreFounded, facts_after};
+ghost use Rattle.s66_moments.specs.FactLines.{IsTooLate, AreFounded, facts_after};
 ghost use Rattle.s66_moments.specs.InUse.{ComesNoSooner};
-ghost use Rattle.s66_moments.specs.LineTrees.{IsTooLate, IsClosedByLines};
+ghost use Rattle.s66_moments.specs.LineTrees.{IsClosedByLines};
 ghost use Rattle.s66_moments.specs.Known.{Known, line_of, later, latest, plus, span, known_first, known_after, arcs_of, are_taken, next_value, is_turned, is_loaded, load_of, issue_at_least, start_at_least};
 
 /// A span is how long some path takes, and if no arcs form a ring none takes longer. So it is the latest of the arcs from its first

@@ -16,8 +16,8 @@ ghost use Rattle.s66_moments.specs.Paths.{Precedes, IsPlacedFirst};
 ghost use Rattle.s66_moments.specs.Networks.{Network, AreSteps, IsRemaining, tail};
 ghost use Rattle.s66_model.specs.Dominance.{DominatesClamped};
 ghost use Rattle.s66_moments.specs.InUse.{ComesNoSooner, DominatesInUse, IsNoWorseBelow};
-ghost use Rattle.s66_moments.specs.FactLines.{Line, fact_of, IsFounded, AreFounded, facts_after};
-ghost use Rattle.s66_moments.specs.LineTrees.{LineEnding, IsTooLate, ShowsByLines};
+ghost use Rattle.s66_moments.specs.FactLines.{Line, fact_of, IsTooLate, IsFounded, AreFounded, facts_after};
+ghost use Rattle.s66_moments.specs.LineTrees.{LineEnding, ShowsByLines};
 
 /// A line's fact follows from what is known before it, if it is founded on that. So what follows from all lines follows from what was
 /// known before them, and lines that are founded for a time are founded for each that is less.

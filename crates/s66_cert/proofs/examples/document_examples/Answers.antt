@@ -59,6 +59,12 @@ returns-clause-order_at_64 c = search (rules, instruction)
 pub returns-clause-facts : goal.returns-clause-facts
 returns-clause-facts c = search (rules, instruction)
 
+pub returns-clause-supposition : goal.returns-clause-supposition
+returns-clause-supposition c = search (rules, instruction)
+
+pub returns-clause-supposition_without_end : goal.returns-clause-supposition_without_end
+returns-clause-supposition_without_end c = search (rules, instruction)
+
 pub returns-clause-no_facts : goal.returns-clause-no_facts
 returns-clause-no_facts c = search (rules, instruction)
 
@@ -75,7 +81,7 @@ pub returns-clause-load_leaf : goal.returns-clause-load_leaf
 returns-clause-load_leaf c = search (rules, instruction)
 
 pub returns-clause-facts_4096 : goal.returns-clause-facts_4096
-returns-clause-facts_4096 c = λ lines e are.
+returns-clause-facts_4096 c = λ steps e are.
     let is : IsDocument BLOCK_LIMIT by_facts = search (rules, instruction) in
     record {
       profile = is.profile;
@@ -90,4 +96,4 @@ returns-clause-facts_4096 c = λ lines e are.
     }
 
 pub returns-clause-facts_4097 : goal.returns-clause-facts_4097
-returns-clause-facts_4097 c = λ lines e is. omega (arith, e, is.facts.1)
+returns-clause-facts_4097 c = λ steps e is. omega (arith, e, is.facts.1)

@@ -2,4 +2,4 @@ use Rattle.std.proofs.Common.{refl}
 use Rattle.s66_cert.proofs.readings.fault_examples.Goals as goal
 
 pub returns-clause-fact_line_4097 : goal.returns-clause-fact_line_4097
-returns-clause-fact_line_4097 c = λ lines e. rw e refl
+returns-clause-fact_line_4097 c = λ steps e. rw e refl

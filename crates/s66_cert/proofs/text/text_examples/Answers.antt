@@ -53,6 +53,10 @@ pub returns-clause-text_goes_on : goal.returns-clause-text_goes_on
 unfolding digits
 returns-clause-text_goes_on c = search (rules, instruction)
 
+pub returns-clause-by_supposition_is_read : goal.returns-clause-by_supposition_is_read
+unfolding digits
+returns-clause-by_supposition_is_read c = search (rules, instruction)
+
 pub returns-clause-by_facts_is_read : goal.returns-clause-by_facts_is_read
 unfolding digits
 returns-clause-by_facts_is_read c = search (rules, instruction)

@@ -2,7 +2,7 @@ use Rattle.std.proofs.Common.{◌∙◌, [], sym}
 use Rattle.s66_cert.specs.DocumentParts.{document_of}
 use Rattle.s66_cert.specs.Document.{tree_placed}
 use Rattle.s66_checker.specs.Verdict.{problem_of, facts_of, tree_line_number, fact_line_number, lines_verdict}
-use Rattle.s66_moments.specs.Known.{known_first}
+use Rattle.s66_moments.specs.Suppositions.{standing_first}
 use Rattle.s66_checker.proofs.TakenLines.{facts-taken}
 use Rattle.s66_checker.proofs.check.proof_verdict.Goals as goal
 
@@ -12,4 +12,4 @@ returns-in-Err c = let d = document_of c.args.document.now in sym (c.in-Err.ensu
 pub returns-in-Ok : goal.returns-in-Ok
 returns-in-Ok c =
     let d = document_of c.args.document.now in
-    c.tree_verdict.ensures ∙ sym (facts-taken d (facts_of d) (fact_line_number d) (known_first (problem_of d)) (lines_verdict d (tree_line_number d) (tree_placed [] d.tree)) c.in-Ok.ensures.taken)
+    c.tree_verdict.ensures ∙ sym (facts-taken d (facts_of d) (fact_line_number d) 0 (standing_first (problem_of d)) (lines_verdict d (tree_line_number d) (tree_placed [] d.tree)) c.in-Ok.ensures.taken.each c.in-Ok.ensures.taken.closed)

@@ -1,7 +1,7 @@
 use Rattle.std.proofs.Common.{◌∙◌, ◌+◌, [], length, refl, sym, ap, arith, inl, inr, true, false, List}
 use Rattle.s66_model.specs.Tree.{Vertex}
 use Rattle.s66_model.specs.DominatedLeaves.{Ending}
-use Rattle.s66_moments.specs.declared.fact_line.FactLine.{FactLine}
+use Rattle.s66_moments.specs.declared.fact_line.FactStep.{FactStep}
 use Rattle.s66_tree.specs.Lines.{vertex_of}
 use Rattle.s66_cert.specs.DocumentParts.{document_of}
 use Rattle.s66_replay.specs.Checked.{Checked}
@@ -15,7 +15,7 @@ pub loop-line-init : goal.loop-line-init
 loop-line-init c =
     let p = c.args.document.now in
     let facts = length c.fact_lines.result.now in
-    let held = ap (λ (fs : List FactLine). length fs) c.fact_lines.ensures.value in
+    let held = ap (λ (fs : List FactStep). length fs) c.fact_lines.ensures.value in
     record {
       problem = ap (λ (x : Checked). x.problem) c.requires.start;
       same = c.requires.same;

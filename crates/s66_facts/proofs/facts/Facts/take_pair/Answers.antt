@@ -1,33 +1,23 @@
-use Rattle.std.proofs.Common.{◌≡◌, true, refl, sym, subst, ◌∙◌}
-use Rattle.s66_moments.specs.declared.moment.Moment.TheVariants.{Origin, End}
-use Rattle.s66_moments.specs.declared.fact_line.FactLine.TheVariants.{Pair}
-use Rattle.s66_moments.specs.Known.{is_pair_taken, with_line}
-use Rattle.s66_facts.specs.declared.direction.Direction.TheVariants.{Forward, Backward}
-use Rattle.s66_facts.specs.Marked.{before_in}
+use Rattle.std.proofs.Common.{ℕ, ◌≡◌, ◌≢◌, true, false, sym, ◌∙◌}
+use Rattle.s66_moments.specs.Known.{is_pair_taken}
+use Rattle.s66_moments.specs.Facts.{IsNumber}
 use Rattle.s66_moments.proofs.KnownLines.{pair-tests}
+use Rattle.s66_facts.specs.Marked.{before_in}
 use Rattle.s66_facts.specs.Ground.{Ground, known_of}
-use Rattle.s66_facts.proofs.Settled.{settled-with_pair}
-use Rattle.s66_facts.proofs.PairTaken.{known-pair}
 use Rattle.s66_facts.proofs.facts.Facts.take_pair.Goals as goal
 
-pub find_again-requires-clause-settled : goal.find_again-requires-clause-settled
-find_again-requires-clause-settled c =
-    let g : Ground = c.self.inside.graph in
-    let taken : is_pair_taken g.problem c.args.bound (known_of g) c.args.m c.args.n ≡ true = subst (λ (k : Ground). is_pair_taken k.problem c.args.bound (known_of k) c.args.m c.args.n ≡ true) (sym c.self.view_is) (sym c.is_forced.ensures ∙ c.if-not-is_forced.false) in
-    let (differ, is_m, is_n, off, late) = pair-tests g.problem c.args.bound (known_of g) c.args.m c.args.n taken in
-    settled-with_pair Forward g c.add_pair.new.self c.count-count.ensures.ordered c.count-count-2.ensures.ordered c.add_pair.ensures.problem Origin refl c.self.inside.heads c.self.invariant.0 c.all_kept-same_before.result c.args.m c.args.n is_m is_n c.add_pair.ensures.known c.all_kept-same_before.ensures
+-- what its test says
+parts : (g : Ground) (bound m n : ℕ) → is_pair_taken g.problem bound (known_of g) m n ≡ true → (m ≢ n) × IsNumber g.problem m × IsNumber g.problem n × (before_in g.marks n m ≡ false)
+parts g bound m n taken = (let (differ, is_m, is_n, off, late) = pair-tests g.problem bound (known_of g) m n taken in (differ, is_m, is_n, off))
 
-pub find_again-requires-2-clause-settled : goal.find_again-requires-2-clause-settled
-find_again-requires-2-clause-settled c =
-    let g : Ground = c.self.inside.graph in
-    let taken : is_pair_taken g.problem c.args.bound (known_of g) c.args.m c.args.n ≡ true = subst (λ (k : Ground). is_pair_taken k.problem c.args.bound (known_of k) c.args.m c.args.n ≡ true) (sym c.self.view_is) (sym c.is_forced.ensures ∙ c.if-not-is_forced.false) in
-    let (differ, is_m, is_n, off, late) = pair-tests g.problem c.args.bound (known_of g) c.args.m c.args.n taken in
-    settled-with_pair Backward g c.add_pair.new.self c.count-count.ensures.ordered c.count-count-2.ensures.ordered c.add_pair.ensures.problem End refl c.self.inside.tails c.self.invariant.1 c.all_kept-same_after.result c.args.m c.args.n is_m is_n c.add_pair.ensures.known c.all_kept-same_after.ensures
+pub add_pair-requires-clause-differ : goal.add_pair-requires-clause-differ
+add_pair-requires-clause-differ c = (parts c.args.self.now c.args.bound c.args.m c.args.n (sym c.is_forced.ensures ∙ c.if-not-is_forced.false)).0
 
-pub returns-then-is_before-clause-known : goal.returns-then-is_before-clause-known
-returns-then-is_before-clause-known c =
-    let g : Ground = c.self.inside.graph in
-    let taken : is_pair_taken g.problem c.args.bound (known_of g) c.args.m c.args.n ≡ true = subst (λ (k : Ground). is_pair_taken k.problem c.args.bound (known_of k) c.args.m c.args.n ≡ true) (sym c.self.view_is) (sym c.is_forced.ensures ∙ c.if-not-is_forced.false) in
-    let (differ, is_m, is_n, off, late) = pair-tests g.problem c.args.bound (known_of g) c.args.m c.args.n taken in
-    subst (λ (k : Ground). known_of k ≡ with_line (known_of k) (Pair c.args.m c.args.n)) c.self.view_is
-    (known-pair g c.count-count.ensures.ordered c.args.m c.args.n is_m is_n (subst (λ (k : Ground). before_in k.marks c.args.m c.args.n ≡ true) (sym c.self.view_is) (sym c.is_before.ensures ∙ c.if-is_before.true)))
+pub add_pair-requires-clause-m : goal.add_pair-requires-clause-m
+add_pair-requires-clause-m c = (parts c.args.self.now c.args.bound c.args.m c.args.n (sym c.is_forced.ensures ∙ c.if-not-is_forced.false)).1
+
+pub add_pair-requires-clause-n : goal.add_pair-requires-clause-n
+add_pair-requires-clause-n c = (parts c.args.self.now c.args.bound c.args.m c.args.n (sym c.is_forced.ensures ∙ c.if-not-is_forced.false)).2
+
+pub add_pair-requires-clause-turned : goal.add_pair-requires-clause-turned
+add_pair-requires-clause-turned c = (parts c.args.self.now c.args.bound c.args.m c.args.n (sym c.is_forced.ensures ∙ c.if-not-is_forced.false)).3

@@ -1,0 +1,20 @@
+-- The numbers of a block that are left, and whether one of them passes a test.
+use Rattle.std.proofs.Common.{ℕ, suc, ◌+◌, ◌-◌, ◌≡◌, ◌≤◌, ◌<◌, ◌∙◌, Bool, true, false, ◌∷◌, refl, ap, arith}
+use Rattle.s66_isa.specs.Lists.{some_of, rising}
+
+rising-next : (n i : ℕ) → i < n → rising (n - i) (i + 1) ≡ (i + 1) ∷ rising (n - (i + 1)) (i + 1 + 1)
+rising-next n i lt =
+    let more : n - i ≡ suc (n - (i + 1)) = omega arith in
+    let next : suc (i + 1) ≡ i + 1 + 1 = omega arith in
+    ap (λ k. rising k (i + 1)) more ∙ ap (λ m. (i + 1) ∷ rising (n - (i + 1)) m) next
+
+pub some-end : (test : ℕ → Bool) (n i : ℕ) → n ≤ i → some_of test (rising (n - i) (i + 1)) ≡ false
+some-end test n i le =
+    let none : n - i ≡ 0 = omega arith in
+    ap (λ k. some_of test (rising k (i + 1))) none
+
+pub some-here : (test : ℕ → Bool) (n i : ℕ) → i < n → test (i + 1) ≡ true → some_of test (rising (n - i) (i + 1)) ≡ true
+some-here test n i lt is = ap (some_of test) (rising-next n i lt) ∙ rw is refl
+
+pub some-later : (test : ℕ → Bool) (n i : ℕ) → i < n → test (i + 1) ≡ false → some_of test (rising (n - i) (i + 1)) ≡ some_of test (rising (n - (i + 1)) (i + 1 + 1))
+some-later test n i lt off = ap (some_of test) (rising-next n i lt) ∙ rw off refl

@@ -1,0 +1,59 @@
+use Rattle.std.proofs.Common.{ℕ, ◌≡◌, true, List, [], None}
+use Rattle.s66_model.specs.Timing.{Problem}
+use Rattle.s66_moments.specs.declared.fact_line.FactStep.{FactStep}
+use Rattle.s66_moments.specs.Facts.{Fact}
+use Rattle.s66_moments.specs.FactLines.{facts_after}
+use Rattle.s66_moments.specs.Suppositions.{Standing, standing_first, standing_after, are_steps_taken, shown_by_all}
+use Rattle.s66_moments.proofs.KnownLines.{IsSound, arcs-steps, arcs-own, arcs-rise, next-too_late, turned-too_late, span-tail}
+use Rattle.s66_moments.proofs.LoadLeaves.{loaded-closed}
+use Rattle.s66_moments.proofs.Turns.{turn-comes}
+use Rattle.s66_moments.proofs.SupposedLines.{Stands, after-stands, closed-sound}
+use Rattle.s66_moments.proofs.suppositions.supposition_law.Goals as goal
+
+abbrev facts : Problem → List FactStep → List Fact
+facts b steps = facts_after [] (shown_by_all b (standing_first b) steps)
+
+abbrev after : Problem → List FactStep → Standing
+after b steps = standing_after (standing_first b) steps
+
+stands : (b : Problem) (bound : ℕ) (steps : List FactStep) → are_steps_taken b bound (standing_first b) steps ≡ true → Stands b bound (facts b steps) (after b steps)
+stands b bound steps taken = (after-stands b bound steps taken).1
+
+sound : (b : Problem) (bound : ℕ) (steps : List FactStep) → are_steps_taken b bound (standing_first b) steps ≡ true → (after b steps).supposed ≡ None → IsSound b (facts b steps) (after b steps).known
+sound b bound steps taken none = closed-sound b bound (facts b steps) (after b steps) (stands b bound steps taken) none
+
+pub returns-clause-founded : goal.returns-clause-founded
+returns-clause-founded c = λ b bound steps taken. (after-stands b bound steps taken).0
+
+pub returns-clause-transitive : goal.returns-clause-transitive
+returns-clause-transitive c = λ b bound steps taken. (stands b bound steps taken).sound.transitive
+
+pub returns-clause-no_ring : goal.returns-clause-no_ring
+returns-clause-no_ring c = λ b bound steps taken. (stands b bound steps taken).sound.no_ring
+
+pub returns-clause-rising : goal.returns-clause-rising
+returns-clause-rising c = λ b bound steps taken. (let all = stands b bound steps taken in arcs-rise b all.facts (after b steps).known all.sound)
+
+pub returns-clause-own : goal.returns-clause-own
+returns-clause-own c = λ b bound steps taken. (let all = stands b bound steps taken in arcs-own b all.facts (after b steps).known all.sound)
+
+pub returns-clause-tails : goal.returns-clause-tails
+returns-clause-tails c = λ b bound steps e taken is. (let all = stands b bound steps taken in span-tail b all.facts (after b steps).known all.sound e is)
+
+pub returns-clause-known : goal.returns-clause-known
+returns-clause-known c = λ b bound steps taken none. (sound b bound steps taken none).is_known
+
+pub returns-clause-steps : goal.returns-clause-steps
+returns-clause-steps c = λ b bound steps taken none. arcs-steps b (facts b steps) (after b steps).known (sound b bound steps taken none)
+
+pub returns-clause-next : goal.returns-clause-next
+returns-clause-next c = λ b bound steps prefix n taken none remains le. next-too_late b (facts b steps) (after b steps).known (sound b bound steps taken none) bound prefix n remains le
+
+pub returns-clause-turned : goal.returns-clause-turned
+returns-clause-turned c = λ b bound steps prefix m n taken none turned. turned-too_late b (facts b steps) (after b steps).known (sound b bound steps taken none) bound prefix m n turned
+
+pub returns-clause-loaded : goal.returns-clause-loaded
+returns-clause-loaded c = λ b bound steps prefix after2 numbers taken none loaded. loaded-closed b (facts b steps) (after b steps).known (sound b bound steps taken none) prefix bound after2 numbers loaded
+
+pub returns-clause-no_sooner : goal.returns-clause-no_sooner
+returns-clause-no_sooner c = λ b bound steps prefix n taken none left. turn-comes b (facts b steps) (after b steps).known (sound b bound steps taken none).is_known bound prefix n left
