@@ -1,16 +1,22 @@
 -- To be believed: fact lines in sentences, each number in them one that the line is checked by.
-use Rattle.std.specs.Prelude.{ℕ, ◌+◌, ◌-◌, ◌*◌, if◌then◌else◌, ◌==◌, max, List, [], ◌∷◌, ◌++◌, codes, decimal, get_or, length, map, unwrap_or}
+use Rattle.std.specs.Prelude.{ℕ, ◌+◌, ◌-◌, ◌*◌, if◌then◌else◌, ◌==◌, ◌&&◌, max, Option, None, Some, List, [], ◌∷◌, ◌++◌, codes, decimal, get_or, length, map, unwrap_or}
 use Rattle.s66_isa.specs.declared.instr.Kind.{Kind}
-use Rattle.s66_isa.specs.Lists.{weigh}
+use Rattle.s66_isa.specs.Lists.{greatest, weigh}
+use Rattle.s66_isa.specs.Table.{numbers}
 use Rattle.s66_model.specs.Timing.{Problem, copies, row_at}
+use Rattle.s66_moments.specs.declared.moment.Stage.{Stage}
 use Rattle.s66_moments.specs.declared.moment.Stage.TheVariants.{Issue, Start, Done, Free}
 use Rattle.s66_moments.specs.declared.moment.Moment.{Moment}
 use Rattle.s66_moments.specs.declared.moment.Moment.TheVariants.{Origin, At, End}
 use Rattle.s66_moments.specs.declared.fact_line.FactLine.{FactLine}
 use Rattle.s66_moments.specs.declared.fact_line.FactLine.TheVariants as fact
+use Rattle.s66_moments.specs.declared.fact_line.FactStep.{FactStep}
+use Rattle.s66_moments.specs.declared.fact_line.FactStep.TheVariants as step
+use Rattle.s66_moments.specs.declared.fact_line.KnownArc.{KnownArc}
 use Rattle.s66_moments.specs.FactLines.{Use, use_time}
-use Rattle.s66_moments.specs.Networks.{Network}
-use Rattle.s66_moments.specs.Known.{Known, arcs_of, is_late_by_parcels, kind_of_load, span, use_of, with_line}
+use Rattle.s66_moments.specs.Networks.{Network, same_moment}
+use Rattle.s66_moments.specs.Suppositions.{Supposition, Standing, with_step}
+use Rattle.s66_moments.specs.Known.{Known, arcs_of, is_late_by_parcels, kind_of_load, plus, span, use_of}
 use Rattle.s66_cert.specs.Document.{Document}
 use Rattle.s66_checker.specs.Verdict.{problem_of}
 use Rattle.s66_reasons.specs.declared.work.Work.{Work}
@@ -142,9 +148,39 @@ abbrev pub fact_sentence : Document → Known → FactLine → List ℕ
 fact_sentence d known (fact.Pair m n) = pair_sentence d (arcs_of (problem_of d) known) m n
 fact_sentence d known (fact.Load line) = load_sentence (problem_of d) line.from line.to line.after line.wait line.numbers.items
 
-abbrev pub numbered_fact : Document → Known → ℕ → FactLine → List ℕ
-numbered_fact d known number line = codes "  " ++ decimal number ++ codes ". " ++ fact_sentence d known line ++ codes "\n"
+-- SUPPOSITIONS: the lines between the first and the last sentence hold of faster orders that have what is supposed
 
-abbrev pub facts_from : Document → Known → ℕ → List FactLine → List ℕ
-facts_from d known number [] = []
-facts_from d known number (line ∷ lines) = numbered_fact d known number line ++ facts_from d (with_line known line) (number + 1) lines
+abbrev pub suppose_sentence : Document → (m n : ℕ) → List ℕ
+suppose_sentence d m n = codes "if " ++ instruction d n ++ (codes " came before " ++ instruction d m ++ codes ":")
+
+-- how long the longest path through a stage of n takes, by what is known
+abbrev pub through : Problem → Network → Stage → ℕ → ℕ
+through b arcs stage n = unwrap_or (plus (span b arcs Origin (At n stage)) (span b arcs (At n stage) End)) 0
+
+abbrev pub through_any : Problem → Network → ℕ → ℕ
+through_any b arcs n = max (through b arcs Issue n) (through b arcs Start n)
+
+-- how long a load from the beginning to the end takes; 0 of any other
+abbrev pub to_the_end : KnownArc → ℕ
+to_the_end load = if same_moment load.from Origin && same_moment load.to End then load.wait else 0
+
+-- when the end comes at the soonest: the last line of a supposition is taken if that is the bound or later
+abbrev pub end_known : Problem → Known → ℕ
+end_known b known = max (greatest (through_any b (arcs_of b known)) (numbers b.block)) (greatest to_the_end known.loads)
+
+abbrev pub refuted_sentence : Document → (end : ℕ) → Option Supposition → List ℕ
+refuted_sentence d end None = []
+refuted_sentence d end (Some s) =
+    codes "the end would come at " ++ decimal end ++ (codes " or later, so " ++ instruction d s.first ++ (codes " comes before " ++ instruction d s.second))
+
+abbrev pub step_sentence : Document → Standing → FactStep → List ℕ
+step_sentence d standing (step.Fact line) = fact_sentence d standing.known line
+step_sentence d standing (step.Suppose m n) = suppose_sentence d m n
+step_sentence d standing step.Refuted = refuted_sentence d (end_known (problem_of d) standing.known) standing.supposed
+
+abbrev pub numbered_step : Document → Standing → ℕ → FactStep → List ℕ
+numbered_step d standing number s = codes "  " ++ decimal number ++ codes ". " ++ step_sentence d standing s ++ codes "\n"
+
+abbrev pub facts_from : Document → Standing → ℕ → List FactStep → List ℕ
+facts_from d standing number [] = []
+facts_from d standing number (s ∷ steps) = numbered_step d standing number s ++ facts_from d (with_step standing s) (number + 1) steps

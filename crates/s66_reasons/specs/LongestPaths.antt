@@ -9,6 +9,9 @@ use Rattle.s66_moments.specs.declared.moment.Moment.{Moment}
 use Rattle.s66_moments.specs.declared.moment.Moment.TheVariants.{Origin, At, End}
 use Rattle.s66_moments.specs.declared.fact_line.FactLine.{FactLine}
 use Rattle.s66_moments.specs.declared.fact_line.FactLine.TheVariants.{Pair, Load}
+use Rattle.s66_moments.specs.declared.fact_line.FactStep.{FactStep}
+use Rattle.s66_moments.specs.declared.fact_line.FactStep.TheVariants.{Fact, Suppose, Refuted}
+use Rattle.s66_moments.specs.Suppositions.{Supposition, Standing, standing_first, with_step}
 use Rattle.s66_moments.specs.Networks.{Network, most_arcs, network, precedes, same_moment, targets}
 use Rattle.s66_moments.specs.Known.{arcs_of, plus, reaches, span}
 use Rattle.s66_cert.specs.Document.{Document}
@@ -59,10 +62,32 @@ hops_of d n = hops_from d (most_arcs (problem_of d)) (unwrap_or (to_end d (At n 
 
 -- WHICH FACT LINES GIVE AN ARC
 
--- the number of the first of these lines that passes, if the first of them has this number; 0 if none passes
-abbrev pub first_line : (FactLine → Bool) → ℕ → List FactLine → ℕ
-first_line test number [] = 0
-first_line test number (line ∷ lines) = if test line then number else first_line test (number + 1) lines
+-- what the step of a number leaves known after all: a fact line outside of suppositions, and the pair that a supposition shows at its end
+abbrev pub left_by : (number : ℕ) → Option Supposition → FactStep → List (ℕ × FactLine)
+left_by number None (Fact line) = (number, line) ∷ []
+left_by number None (Suppose m n) = []
+left_by number None Refuted = []
+left_by number (Some s) (Fact line) = []
+left_by number (Some s) (Suppose m n) = []
+left_by number (Some s) Refuted = (number, Pair s.first s.second) ∷ []
+
+abbrev pub left_by_all : (number : ℕ) → Standing → List FactStep → List (ℕ × FactLine)
+left_by_all number standing [] = []
+left_by_all number standing (step ∷ steps) = left_by number standing.supposed step ++ left_by_all (number + 1) (with_step standing step) steps
+
+-- the lines by which something is known after all, with the numbers of their steps
+abbrev pub lines_left : Document → List (ℕ × FactLine)
+lines_left d = left_by_all 1 (standing_first (problem_of d)) (facts_of d)
+
+-- the number of the first of these lines that passes; 0 if none passes
+abbrev pub first_line : (FactLine → Bool) → List (ℕ × FactLine) → ℕ
+first_line test [] = 0
+first_line test (line ∷ lines) = if test line.1 then line.0 else first_line test lines
+
+-- the line of this number; none but a blank if there is none
+abbrev pub line_at : ℕ → List (ℕ × FactLine) → FactLine
+line_at number [] = Pair 0 0
+line_at number (line ∷ lines) = if line.0 == number then line.1 else line_at number lines
 
 -- m is n, or stands before it by this
 abbrev pub up_to : (before : ℕ → ℕ → Bool) → (m n : ℕ) → Bool
@@ -75,7 +100,7 @@ puts_before d before m n (Load line) = false
 
 -- the number of the first such pair; 0 if there is none
 abbrev pub pair_by : Document → (before : ℕ → ℕ → Bool) → (m n : ℕ) → ℕ
-pair_by d before m n = first_line (puts_before d before m n) 1 (facts_of d)
+pair_by d before m n = first_line (puts_before d before m n) (lines_left d)
 
 -- the first of two numbers that isn't 0
 abbrev pub either : ℕ → ℕ → ℕ
@@ -95,7 +120,7 @@ second (Load line) = 0
 
 -- that of the pair of this number
 abbrev pub second_of : Document → (number : ℕ) → ℕ
-second_of d number = second (get_or (facts_of d) (number - 1) (Pair 0 0))
+second_of d number = second (line_at number (lines_left d))
 
 -- the numbers of pairs, at most so many, that together put m before n: of one, and then of those that put its second before n
 abbrev pub pairs_over : Document → (most m n : ℕ) → List ℕ
@@ -115,7 +140,7 @@ keeps_apart e f wait (Load line) = same_moment line.from e && same_moment line.t
 
 -- the number of the first load that gives this arc from e; 0 if none does
 abbrev pub line_of_load : Document → Moment → Hop → ℕ
-line_of_load d e hop = first_line (keeps_apart e hop.to hop.wait) 1 (facts_of d)
+line_of_load d e hop = first_line (keeps_apart e hop.to hop.wait) (lines_left d)
 
 -- WHAT IS SAID
 

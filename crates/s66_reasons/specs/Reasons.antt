@@ -12,7 +12,7 @@ use Rattle.s66_model.specs.DominatedLeaves.{Ending, Bounding, Dominated, Next, T
 use Rattle.s66_cert.specs.Document.{Document, has_factual, tree_placed}
 use Rattle.s66_moments.specs.declared.moment.Stage.TheVariants.{Issue}
 use Rattle.s66_moments.specs.declared.moment.Moment.TheVariants.{Origin, At, End}
-use Rattle.s66_moments.specs.Known.{known_first}
+use Rattle.s66_moments.specs.Suppositions.{standing_first}
 use Rattle.s66_checker.specs.Verdict.{problem_of, facts_of}
 use Rattle.s66_reasons.specs.declared.tree.TheConstants.{SAID_SPLITS}
 use Rattle.s66_reasons.specs.Words.{Reason, counted, each_words, instruction, listed, longest_use, rows_text, unit_name}
@@ -205,7 +205,7 @@ colon count = (if count == 0 then [] else splits_words count) ++ codes ":\n"
 -- leaves by facts are said after them
 abbrev pub facts_text : Document → List ℕ
 facts_text d =
-    if has_factual d.tree then facts_from d (known_first (problem_of d)) 1 (facts_of d) ++ faster_words d.bound else []
+    if has_factual d.tree then facts_from d (standing_first (problem_of d)) 1 (facts_of d) ++ faster_words d.bound else []
 
 abbrev pub leaves_text : Document → List ℕ
 leaves_text d = facts_text d ++ lines_text d (tree_placed [] d.tree)

@@ -1,5 +1,5 @@
 -- To be believed: what the rows of a leaf show of the end of all orders that begin with its prefix.
-use Rattle.std.specs.Prelude.{ℕ, ◌+◌, ◌≡◌, ◌≤◌, ◌<◌, ◌⊎◌, List, [], ◌∷◌, ◌++◌, Some}
+use Rattle.std.specs.Prelude.{ℕ, ◌+◌, ◌≡◌, ◌≤◌, ◌<◌, ◌⊎◌, true, List, [], ◌∷◌, ◌++◌, Option, None, Some}
 use Rattle.s66_isa.specs.Lists.{Among, least, weigh}
 use Rattle.s66_model.specs.Timing.{Problem, row_at, total_of}
 use Rattle.s66_model.specs.LegalOrder.{IsLegal}
@@ -11,12 +11,17 @@ use Rattle.s66_moments.specs.declared.moment.Stage.TheVariants.{Issue, Start}
 use Rattle.s66_moments.specs.declared.moment.Moment.{Moment}
 use Rattle.s66_moments.specs.declared.moment.Moment.TheVariants.{At, End}
 use Rattle.s66_moments.specs.Moments.{soonest, time_of}
+use Rattle.s66_moments.specs.Facts.{Arc, Before, IsNumber, IsSo}
+use Rattle.s66_moments.specs.Known.{Known}
+use Rattle.s66_moments.specs.declared.fact_line.KnownArc.{KnownArc}
+use Rattle.s66_moments.specs.declared.fact_line.FactStep.{FactStep}
+use Rattle.s66_moments.specs.Suppositions.{Supposition, Standing, standing_first, standing_after}
 use Rattle.s66_moments.specs.Networks.{Network}
 use Rattle.s66_cert.specs.Document.{Document, tree_placed}
 use Rattle.s66_checker.specs.Verdict.{problem_of}
 use Rattle.s66_reasons.specs.declared.hop.Hop.{Hop}
 use Rattle.s66_reasons.specs.LongestPaths.{arcs, hops_of, to_end}
-use Rattle.s66_reasons.specs.FactWords.{work_of_load}
+use Rattle.s66_reasons.specs.FactWords.{end_known, work_of_load}
 use Rattle.s66_reasons.specs.Reasons.{left_row, next_rows}
 use Rattle.s66_reasons.specs.Words.{Reason}
 
@@ -83,6 +88,25 @@ pub record IsLoadShown (d : Document) (at : List ℕ) (bound after : ℕ) (ns : 
 abbrev pub AreNoSooner : (times : Moment → ℕ) → (number : ℕ) → List Hop → Type 0
 AreNoSooner times number [] = Unit {0}
 AreNoSooner times number (hop ∷ hops) = (number + hop.wait ≤ times hop.to) × AreNoSooner times (number + hop.wait) hops
+
+-- IN A SUPPOSITION
+
+-- after the steps up to a place an order has what is known: pairs stand so, and no load is sooner
+pub record HasKnown (b : Problem) (known : Known) (order : List ℕ) : Type 0 where
+  pub pairs : (m n : ℕ) → IsNumber b m → IsNumber b n → known.before m n ≡ true → IsSo b order (Before m n)
+  pub loads : (load : KnownArc) → Among load known.loads → IsSo b order (Arc load.from load.wait load.to 0)
+
+-- it has what is supposed there
+abbrev pub HasSupposed : Problem → Option Supposition → List ℕ → Type 0
+HasSupposed b None order = Unit {0}
+HasSupposed b (Some s) order = IsSo b order (Before s.second s.first)
+
+-- each faster order that also has what is supposed has it; and its end is no sooner than the number of a last line
+abbrev pub HoldsAt : Document → (front : List FactStep) → Type 0
+HoldsAt d front =
+    let standing : Standing = standing_after (standing_first (problem_of d)) front in
+    (order : List ℕ) → IsLegal (problem_of d).block order → total_of (problem_of d) order < d.bound → HasSupposed (problem_of d) standing.supposed order →
+    HasKnown (problem_of d) standing.known order × (end_known (problem_of d) standing.known ≤ total_of (problem_of d) order)
 
 -- nor is the path's in any legal order that takes less than the bound of the document
 abbrev pub HasNoneSooner : Document → ℕ → Type 0
