@@ -14,7 +14,7 @@ use Rattle.s66_model.specs.DominatedLeaves.{Ending}
 use Rattle.s66_model.specs.LegalOrder.{IsLegal}
 use Rattle.s66_model.specs.Timing.{Problem, total_of}
 use Rattle.s66_model.specs.Tree.{Tree, splits}
-use Rattle.s66_moments.specs.declared.fact_line.FactLine.{FactLine}
+use Rattle.s66_moments.specs.declared.fact_line.FactStep.{FactStep}
 use Rattle.s66_cert.specs.Document.{Document, IsDocument, has_dominated}
 use Rattle.s66_checker.specs.declared.verdict.Verdict.TheVariants.{Yes}
 use Rattle.s66_checker.specs.Verdict.{verdict}
@@ -27,7 +27,7 @@ pub record Answer : Type 0 where
   pub time : ℕ
   pub bound : ℕ
   pub splits : ℕ
-  pub facts : Option (List FactLine)
+  pub facts : Option (List FactStep)
   pub tree : Tree Ending
 
 -- a block's orders under a profile
@@ -41,9 +41,9 @@ abbrev pub texts_of : Block → List (List ℕ)
 texts_of block = map (text_of block) (numbers (instrs_of block))
 
 -- a document needs the rule by which leaves are dominated if one is, or if it has fact lines
-abbrev pub rule_of : Rule → Option (List FactLine) → Tree Ending → Rule
+abbrev pub rule_of : Rule → Option (List FactStep) → Tree Ending → Rule
 rule_of rule None tree = if has_dominated tree then rule else NoneNamed
-rule_of rule (Some lines) tree = ClampedStanding
+rule_of rule (Some steps) tree = ClampedStanding
 
 -- what an answer, whose dominated leaves are by this rule, claims of a block under a profile
 abbrev pub document_under : Rule → Profile → Block → Answer → Document

@@ -15,7 +15,7 @@ use crate::lines::{Bound, Halved, Lined, beam_by, best_by_lines, found_below, ha
 use crate::orders::faster;
 use s66_cert::{Tree, TreeLine};
 use s66_line::Block;
-use s66_moments::FactLine;
+use s66_moments::{FactLine, FactStep};
 use s66_time::Timed;
 use std::alloc::{AllocError, Global};
 
@@ -26,7 +26,7 @@ const HEAD_LINES: u32 = 6;
 #[derive(Drop)]
 pub(crate) struct Written {
     pub(crate) bound: u32,
-    pub(crate) lines: Vec<FactLine>,
+    pub(crate) lines: Vec<FactStep>,
     pub(crate) tree: Tree,
 }
 
@@ -82,7 +82,7 @@ fn by_leaf(alloc: Global, bound: Bound, is_printed: bool) -> Result<Written, All
     tree.push(TreeLine::Next(leaf))?;
     Ok(Written {
         bound: value,
-        lines: finder.into_lines(),
+        lines: finder.steps()?,
         tree,
     })
 }
@@ -157,7 +157,7 @@ fn search_below(
     let shown = match tree {
         Some(tree) => Some(Written {
             bound,
-            lines: below.into_lines(),
+            lines: below.steps()?,
             tree,
         }),
         None => None,

@@ -2,7 +2,7 @@
 //! It is the fixed point of two rules: forced pairs (`pairs.rt`) and load lines (`ways.rt`), each tried anew where paths have grown,
 //! until nothing more is found or some path takes the bound.
 
-use crate::facts::copies::{copies_of, copy_of_line};
+use crate::facts::copies::{copies_of, copy_of_line, steps_of};
 use crate::facts::ground::Ground;
 use crate::facts::load::{Best, Load};
 use crate::facts::needed::needed_of;
@@ -20,7 +20,7 @@ use s66_dep::Set;
 use s66_facts::{Facts, Times};
 use s66_isa::{BLOCK_LIMIT, KINDS, Kind, Profile};
 use s66_line::Block;
-use s66_moments::{FactLine, LoadLine, Moment, Stage};
+use s66_moments::{FactLine, FactStep, LoadLine, Moment, Stage};
 use std::alloc::{AllocError, Global};
 use std::boxed::Box;
 
@@ -211,9 +211,9 @@ impl Finder {
         self.lines.as_slice()
     }
 
-    /// The same.
-    pub fn into_lines(self) -> Vec<FactLine> {
-        self.lines
+    /// The same, as a certificate has them. `Err` is out of memory.
+    pub(crate) fn steps(&self) -> Result<Vec<FactStep>, AllocError> {
+        steps_of(self.alloc, self.lines.as_slice())
     }
 
     /// The same finder. `Err` is out of memory.
