@@ -21,10 +21,11 @@ MOST_TIME = 100_000  # minor cycles
 MOST_BYTES = 199  # of an instruction
 MOST_FACTS = 4096  # fact lines of a document
 MOST_LINES = 200_000_000  # of a document
-VERSIONS = {f"S66 CERTIFICATE {version}": version for version in (1, 2, 3, 4)}
+VERSIONS = {f"S66 CERTIFICATE {version}": version for version in (1, 2, 3, 4, 5)}
 # The tree lines with numbers: which a version has, the greatest number, and how many there are at least and at most. An L line
 # has them after a minor cycle.
-NUMBERED = {1: ["S", "C"], 2: ["S", "C", "D"], 3: ["S", "C", "D"], 4: ["S", "C", "E", "R", "N", "L"]}
+BY_FACTS = ["S", "C", "E", "R", "N", "L"]
+NUMBERED = {1: ["S", "C"], 2: ["S", "C", "D"], 3: ["S", "C", "D"], 4: BY_FACTS, 5: BY_FACTS}
 SHAPES = {**dict.fromkeys("SCD", (MOST, 1, MOST)), "E": (MOST, 1, 1), "R": (MOST, 2, 2), "N": (MOST_LINES, 1, 1)}
 
 TIMES = "boolean shift normalise add longadd multiply divide population increment load".split()
@@ -101,9 +102,13 @@ def instruction_of(text):
 ORIGIN, END = ("origin", 0), ("end", 0)
 ANCHORS = {stage[0].upper() + str(n): (stage, n) for stage in ("issue", "start") for n in range(1, MOST + 1)}
 FROM, TO = {"0": ORIGIN, **ANCHORS}, {"END": END, **ANCHORS}
-# Fact lines: that one instruction stands before another, and what loads the units of a kind between two moments.
+# Fact lines: that one instruction stands before another; what loads the units of a kind between two moments; that one stands
+# before another, as is shown by supposing that it stands behind; and the end of what that begins.
 Pair = namedtuple("Pair", "first second")
 Load = namedtuple("Load", "begin end after wait numbers")
+Suppose = namedtuple("Suppose", "first second")
+Refuted = namedtuple("Refuted", "")
+FACT_LINES = {1: "", 2: "", 3: "", 4: "FA", 5: "FABQ"}  # how they begin, by version
 
 # What a document has: its profile is a number of each name, its block the instructions, its tree the lines in preorder, each
 # with the number of the line.
@@ -161,11 +166,18 @@ class Reader:
             self.fail()
         return Load(FROM[begin], TO[end], after, wait, numbers)
 
-    def facts(self):
-        facts = []
-        while self.ahead[:1] in (b"F", b"A") and len(facts) < MOST_FACTS:
-            line = self.line()
-            facts.append(self.load(line) if line[0] == "A" else Pair(*self.numbers(line, "F", 1, MOST, 2, 2)))
+    def fact(self, line):
+        if line == "Q":
+            return Refuted()
+        if line[0] == "A":
+            return self.load(line)
+        names = self.numbers(line, "[FB]", 1, MOST, 2, 2)
+        return Pair(*names) if line[0] == "F" else Suppose(*names)
+
+    def facts(self, version):
+        facts, begins = [], tuple(map(str.encode, FACT_LINES[version]))
+        while self.ahead.startswith(begins) and len(facts) < MOST_FACTS:
+            facts.append(self.fact(self.line()))
         return facts
 
     def tree_line(self, version, way):
@@ -202,9 +214,11 @@ class Reader:
         [time] = self.numbers(self.line(), "TIME", 0, MOST_TIME)
         [bound] = self.numbers(self.line(), "BOUND", 0, MOST_TIME)
         order = self.numbers(self.line(), "ORDER", 1, MOST, 1, MOST)
-        facts = self.facts() if version == 4 else []
+        facts = self.facts(version)
         tree = dict(enumerate(self.tree(version), 7 + instructions + len(facts)))
-        if self.line() != "END" or any(line.kind == "D" for line in tree.values()) != (version in (2, 3)):
+        has_supposed = any(isinstance(fact, (Suppose, Refuted)) for fact in facts)
+        has_dominated = any(line.kind == "D" for line in tree.values())
+        if self.line() != "END" or has_supposed != (version == 5) or has_dominated != (version in (2, 3)):
             self.fail()
         return Document(version, dict(zip(names, numbers)), block, time, bound, order, facts, tree)
 
@@ -388,6 +402,8 @@ class Known:
     def __init__(self, problem, bound):
         self.problem, self.bound, self.arcs = problem, bound, {ORIGIN: {END: 0}, END: {}}
         self.before = {n: set() for n in problem.block}  # what stands before each
+        self.outer = None  # in a supposition: what it is to show, and the arcs and what stood before each when it began
+        self.longest = {}  # the longest paths from a moment, and to one, as they were worked out since there were other arcs
         for n in problem.block:
             self.add_own_arcs(n)
         for n, needs in problem.needs.items():
@@ -395,7 +411,9 @@ class Known:
                 self.add_pair(m, n)
 
     def add_arc(self, begin, end, wait):
-        self.arcs[begin][end] = max(wait, self.arcs[begin].get(end, 0))
+        if wait > self.arcs[begin].get(end, -1):
+            self.arcs[begin][end] = wait
+            self.longest = {}
 
     def add_own_arcs(self, n):
         """Those of one instruction."""
@@ -443,20 +461,22 @@ class Known:
 
     def paths_from(self, begin):
         """The longest path from one moment to each other to which some path leads."""
-        paths = {begin: 0}
-        for moment in self.all_moments():
-            for later, wait in self.arcs[moment].items() if moment in paths else ():
-                paths[later] = max(paths[moment] + wait, paths.get(later, 0))
-        return paths
+        if ("from", begin) not in self.longest:
+            paths = self.longest["from", begin] = {begin: 0}
+            for moment in self.all_moments():
+                for later, wait in self.arcs[moment].items() if moment in paths else ():
+                    paths[later] = max(paths[moment] + wait, paths.get(later, 0))
+        return self.longest["from", begin]
 
     def paths_to(self, end):
         """The longest path to one moment from each other from which some path leads there."""
-        paths = {end: 0}
-        for moment in reversed(self.all_moments()):
-            for later, wait in self.arcs[moment].items():
-                if later in paths:
-                    paths[moment] = max(wait + paths[later], paths.get(moment, 0))
-        return paths
+        if ("to", end) not in self.longest:
+            paths = self.longest["to", end] = {end: 0}
+            for moment in reversed(self.all_moments()):
+                for later, wait in self.arcs[moment].items():
+                    if later in paths:
+                        paths[moment] = max(wait + paths[later], paths.get(moment, 0))
+        return self.longest["to", end]
 
     def is_forced(self, y, x):
         """Whether an order takes the bound at least in which x stands before y."""
@@ -494,12 +514,37 @@ class Known:
         leads_up = self.leads_up(load.begin, load.end)
         return leads_up and self.is_in_use(load, self.paths_from(load.begin), self.paths_to(load.end))
 
+    def may_be_supposed(self, y, x):
+        """Whether nothing is supposed, and which of these two stands first isn't known."""
+        are_two = x != y and {x, y} <= self.before.keys()
+        return not self.outer and are_two and y not in self.before[x] and x not in self.before[y]
+
+    def suppose(self, y, x):
+        self.outer = (y, x), self.arcs, self.before
+        self.arcs = {moment: dict(waits) for moment, waits in self.arcs.items()}
+        self.before = {n: set(numbers) for n, numbers in self.before.items()}
+        self.add_pair(x, y)
+
+    def is_refuted(self):
+        """Whether every order takes the bound at least that has what is supposed."""
+        return bool(self.outer) and self.paths_from(ORIGIN)[END] >= self.bound
+
+    def leave_supposition(self):
+        """Nothing is supposed again, and what was known before is known; what the supposition was to show."""
+        pair, self.arcs, self.before = self.outer
+        self.outer, self.longest = None, {}
+        return pair
+
     def add_fact(self, fact):
         """Whether a fact line is right; what it says is then known."""
         if isinstance(fact, Pair) and self.is_forced(*fact):
             self.add_pair(*fact)
         elif isinstance(fact, Load) and self.is_loaded(fact):
             self.add_arc(fact.begin, fact.end, fact.wait)
+        elif isinstance(fact, Suppose) and self.may_be_supposed(*fact):
+            self.suppose(*fact)
+        elif isinstance(fact, Refuted) and self.is_refuted():
+            self.add_pair(*self.leave_supposition())
         else:
             return False
         return True
@@ -620,10 +665,13 @@ def faults(document):
         yield order_line - 2, NOT_THE_TIME
     if document.bound > document.time:
         yield order_line - 1, ABOVE_TIME
-    known = Known(problem, document.bound)
+    known, begun = Known(problem, document.bound), None
     for number, fact in enumerate(document.facts, order_line + 1):
         if not known.add_fact(fact):
             yield number, NO_FACT
+        begun = number if isinstance(fact, Suppose) else begun
+    if known.outer:
+        yield begun, NO_FACT
     to_come = [()]  # the prefixes of the trees that are still to come, the next one last
     for number, line in document.tree.items():
         prefix = to_come.pop()

@@ -3,12 +3,12 @@
 
     tools/compare_certificates.py PROGRAM [--texts N] [--seed N]
 
-PROGRAM is the built program. It makes N texts, 2000 unless given. They begin with documents that `s66 prove` writes of
-random blocks of 2 to 9 instructions, some under a random profile. Many get dominated leaves in place of some of their trees,
-right or wrong, or fact lines and a tree that tools/find_facts.py finds, so they have all versions, and most of the others a
-few damages. Both programs have to write the same bytes, with the same status and the same first line of standard error. Each
-difference is printed with its text, and at the end how often each refusal came, and each verdict by version. The status is 1
-if there is a difference. The same seed makes the same texts.
+PROGRAM is the built program. It makes N texts, 2000 unless given. They begin with documents that `s66 prove` writes of random
+blocks of 2 to 12 instructions, some under a random profile. Many get dominated leaves in place of some of their trees, right
+or wrong, or fact lines and a tree that tools/find_facts.py finds, with suppositions or without, so they have all versions, and
+most of the others a few damages. Both programs have to write the same bytes, with the same status and the same first line of
+standard error. Each difference is printed with its text, and at the end how often each refusal came, and each verdict by
+version. The status is 1 if there is a difference. The same seed makes the same texts.
 """
 import argparse
 import collections
@@ -87,10 +87,10 @@ class Maker:
         copies = {"units_" + unit.lower(): self.any.choice([1, 2, 3]) for unit in UNITS[:7] if self.any.random() < 0.4}
         return json.dumps({**times, **copies})
 
-    def document(self, budgets=(0, 1, 3, 10, 50, 200)):
-        """A right document, with the source and the profile of its block."""
+    def document(self, budgets=(0, 1, 3, 10, 50, 200), most=9):
+        """A right document of a block of at most so many instructions, with its source and its profile."""
         some = self.any.sample(INSTRUCTIONS, self.any.choice([3, 10, len(INSTRUCTIONS)]))
-        source = "".join(f"  {self.instruction(some)}\n" for _ in range(self.any.randint(2, 9)))
+        source = "".join(f"  {self.instruction(some)}\n" for _ in range(self.any.randint(2, most)))
         profile, nodes = self.profile(), self.any.choice(budgets)
         words = ["--workers", "1", "--nodes", str(nodes), "--profile", profile]
         proved = run([self.program, "prove", *words], source)
@@ -151,8 +151,8 @@ class Maker:
                 break
         return many, block
 
-    def with_facts(self, lines, profile):
-        """A document of version 4 with the claims of this one, if its tree is small; else the same document."""
+    def with_facts(self, lines, profile, is_supposing=False):
+        """A document of version 4 or, if it is supposing, 5, with the claims of this one, if its tree is small; else the same document."""
         begin = next(place for place, line in enumerate(lines) if line.startswith("ORDER")) + 1
         block = [instruction_of(line[2:]) for line in lines[:begin] if line.startswith("I ")]
         finder = find_facts.Finder(
@@ -161,14 +161,17 @@ class Maker:
             splits=self.any.choice([20, 200]),
             leaves=find_facts.any_leaves(self.any),
             least=self.any.choice([0, 0, 1, 1, 2, 3]),
+            is_wide=len(block) < 6,
         )
-        if self.any.random() < 0.8:
-            finder.find_facts(has_loads=self.any.random() < 0.7)
+        if self.any.random() < (0.4 if is_supposing else 0.8):
+            finder.find_facts(has_loads=len(block) < 10 and self.any.random() < 0.7)
+        if is_supposing:
+            finder.find_suppositions(has_loads=self.any.random() < 0.7)
         try:
             found = find_facts.proof(finder, finder.prune() if self.any.random() < 0.3 else finder.find_tree(), begin + 1)
         except find_facts.TooManySplits:
             return lines
-        return ["S66 CERTIFICATE 4", *lines[1:begin], *found, "END"]
+        return [f"S66 CERTIFICATE {find_facts.version_of(finder.facts)}", *lines[1:begin], *found, "END"]
 
     def fact_documents(self):
         """A document of version 4, many times, right or with a wrong line, with the source and the profile of its block."""
@@ -182,11 +185,26 @@ class Maker:
                 self.any.choice([self.change_fact, self.change_leaf, self.change_load, self.change_load])(one)
         return many, block
 
+    def supposed_documents(self):
+        """A document of version 5, many times, right or with wrong lines, with the source and the profile of its block."""
+        for _ in range(12):
+            lines, block = self.document(most=12)
+            supposed = self.with_facts(lines, block[1], is_supposing=True)
+            if supposed[0].endswith("5"):
+                break
+        many = [list(supposed) for _ in range(8)]
+        for one in many:
+            for _ in range(self.any.choice([0, 1, 1, 1, 2])):
+                self.any.choice([self.change_fact, self.change_supposition, self.change_supposition, self.change_supposition])(one)
+        return many, block
+
     def fact(self, count):
         """A fact line: right or wrong at its place."""
         numbers = [str(self.any.randint(1, count)) for _ in range(2)]
         if self.any.random() < 0.4:
             return " ".join(["F", *numbers])
+        if self.any.random() < 0.05:
+            return self.any.choice(["Q", " ".join(["B", *numbers])])
         anchors = [self.any.choice(["0", *ANCHORS]), self.any.choice(["END", *ANCHORS])]
         amounts = [self.any.choice("00134"), self.any.choice(["0", "1", "2", "5", "8", "12"])]
         return " ".join(["A", *anchors, *amounts, *(sorted(set(numbers)) if self.any.random() < 0.9 else numbers)])
@@ -204,7 +222,7 @@ class Maker:
         return f"U {self.any.choice(UNITS[:7])}" if kind == "U" else kind
 
     def change_version(self, lines):
-        lines[0] = f"S66 CERTIFICATE {self.any.choice([1, 2, 2, 3, 3, 4, 4, 5])}"
+        lines[0] = f"S66 CERTIFICATE {self.any.choice([1, 2, 2, 3, 3, 4, 4, 5, 5, 6])}"
 
     def change_number(self, lines):
         place = self.place(lines, r"[A-Z0-9]+ (\d|[IS]\d+ )")
@@ -215,7 +233,7 @@ class Maker:
             changed = self.any.choice(near * 10 + NUMBERS)
             lines[place] = lines[place][: chosen.start()] + changed + lines[place][chosen.end() :]
 
-    def exchange_numbers(self, lines, pattern="(ORDER|S|C|D|F|A|R|L) .* "):
+    def exchange_numbers(self, lines, pattern="(ORDER|S|C|D|F|A|B|R|L) .* "):
         place = self.place(lines, pattern)
         fields = lines[place].split(" ")
         places = range(len(fields))[1 if self.any.random() < 0.9 else 0 :] or [0]  # seldom the word
@@ -227,7 +245,7 @@ class Maker:
         self.exchange_numbers(lines, "D .* ")
 
     def change_length(self, lines):
-        place = self.place(lines, "(ORDER|S|C|D|F|A|E|R|N|L|PROFILE) ")
+        place = self.place(lines, "(ORDER|S|C|D|F|A|B|Q|E|R|N|L|PROFILE)( |$)")
         fields = lines[place].split(" ")
         at = self.any.randrange(len(fields))
         lines[place] = " ".join(fields[:at] + self.any.choice([[], [fields[at]] * 2]) + fields[at + 1 :])
@@ -245,7 +263,8 @@ class Maker:
         lines.insert(place, lines[place])
 
     def change_leaf(self, lines):
-        kinds = {"1": "CCCUUUPPT", "4": "CUPTEEERRRNNNLLL"}.get(lines[0][-1:], "CCUUPTDDD")
+        by_facts = "CUPTEEERRRNNNLLL"
+        kinds = {"1": "CCCUUUPPT", "4": by_facts, "5": by_facts}.get(lines[0][-1:], "CCUUPTDDD")
         lines[self.place(lines, "[CUPTDERNL]( |$)")] = self.leaf(5, kinds)
 
     def change_load(self, lines):
@@ -270,8 +289,8 @@ class Maker:
 
     def change_fact(self, lines):
         """Adds, drops or changes a fact line, or exchanges two."""
-        place, other = self.place(lines, "[FA] |ORDER"), self.place(lines, "[FA] |ORDER")
-        change = self.any.randrange(4) if re.match("[FA] ", lines[place]) else 0
+        place, other = self.place(lines, "([FAB] |Q$|ORDER)"), self.place(lines, "([FAB] |Q$|ORDER)")
+        change = self.any.randrange(4) if re.match("([FAB] |Q$)", lines[place]) else 0
         if change == 0:
             lines.insert(place + 1, self.fact(5))
         elif change == 1:
@@ -280,6 +299,33 @@ class Maker:
             lines[place] = self.fact(5)
         else:
             lines[place], lines[other] = lines[other], lines[place]
+
+    def change_supposition(self, lines):
+        """Changes a line B or Q, adds or drops one, or moves a line into a supposition or out of it."""
+        place, other = self.place(lines, "([FAB] |Q$)"), self.place(lines, "(B |Q$)")
+        numbers, change = lines[other].split(" ")[1:], self.any.choice("0011222333444555667")
+        if change == "0":
+            del lines[other]
+        elif change == "1":
+            lines[other] = " ".join(["B", *(numbers[::-1] or ["1", "2"])])
+        elif change == "2":
+            changed = self.any.choice(numbers or ["1"])
+            near = [max(1, int(changed) + more) for more in (-1, 1)] if changed.isdigit() else [1]
+            words = [self.any.choice(near), self.any.choice(numbers or [1])]
+            lines[other] = " ".join(map(str, ["B", *self.any.sample(words, 2)]))
+        elif change == "3":
+            begin = f"B {self.any.randint(1, 5)} {self.any.randint(1, 5)}"
+            lines.insert(other + self.any.choice([0, 1]), self.any.choice(["Q", lines[other], begin]))
+        elif change == "4":
+            block = [str(n) for n in range(1, 1 + sum(line.startswith("I ") for line in lines))]
+            some = sorted(self.any.sample(block, self.any.randint(1, len(block))), key=int)
+            lines.insert(other + 1, " ".join(["A 0 END", self.any.choice("0012"), str(self.any.randint(1, 12)), *some]))
+        elif change == "5":
+            lines.insert(other, lines.pop(place))
+        elif change == "6":
+            del lines[place]
+        else:
+            lines[other] = self.any.choice(["B 1", "B 1 2 3", "B 0 1", "B 1 129", "B 01 2", "B", "B 1  2", "B I1 2", "Q 1", "Q ", "QQ", "Q\r"])
 
     def change_anchor(self, lines):
         place = self.place(lines, "A ")
@@ -316,7 +362,8 @@ class Maker:
             self.weaken(lines, self.time_of(*block))
         often = [self.change_number, self.exchange_numbers, self.exchange_in_name] * 2
         often += [self.change_leaf] * 4 + [self.change_instruction] * 2
-        often += ([self.change_fact] * 3 + [self.change_anchor, self.change_load]) * 2 if lines[0].endswith("4") else []
+        often += ([self.change_fact] * 3 + [self.change_anchor, self.change_load]) * 2 if lines[0][-1:] in "45" else []
+        often += [self.change_supposition] * 6 if lines[0].endswith("5") else []
         seldom = [self.change_length, self.exchange_lines, self.drop_line, self.double_line]
         seldom += [self.change_byte, self.change_version]
         for damage in self.any.choices(often + seldom, k=self.any.choice([0, 0, 1, 1, 1, 2])):
@@ -325,15 +372,15 @@ class Maker:
 
     def text(self):
         """One document or a few, right or damaged, and seldom cut off."""
-        kind = self.any.random()
-        if kind < 0.35:
-            documents = self.dominated_documents()[0] if kind < 0.2 else self.fact_documents()[0]
+        kind, makers = self.any.random(), [self.dominated_documents, self.fact_documents, self.supposed_documents]
+        if kind < 0.45:
+            documents = makers[0 if kind < 0.15 else 1 if kind < 0.3 else 2]()[0]
         else:
             documents = []
             for _ in range(self.any.choice([1, 1, 1, 2, 3])):
                 lines, block = self.document()
                 if self.any.random() < 0.7:
-                    many, block = self.any.choice([self.dominated_documents, self.fact_documents])()
+                    many, block = self.any.choice(makers)()
                     lines = list(self.any.choice(many))
                 documents.append(self.damaged(lines, block))
         text = "".join(line + "\n" for lines in documents for line in lines)

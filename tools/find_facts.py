@@ -1,11 +1,12 @@
 #!/usr/bin/env python3
-"""Finds a certificate of version 4 for a small block: fact lines, and the tree that they leave. For tests, and unverified.
+"""Finds a certificate of version 4 or 5 for a small block: fact lines, and the tree that they leave. For tests, and unverified.
 
-    tools/find_facts.py [--profile TEXT] [--bound N] [--splits N] < SOURCE
+    tools/find_facts.py [--profile TEXT] [--bound N] [--splits N] [--suppose] < SOURCE
 
 The lines of SOURCE are the instructions of one block, without location fields. Without a bound all legal orders are timed, and
 the document shows that none takes less than the best one. With a bound it claims the source order with its time, and the
-bound. Status 1: some order takes less, or the tree has more than N splits, 10,000 unless given.
+bound. With --suppose suppositions are tried too. Status 1: some order takes less, or the tree has more than N splits, 10,000
+unless given.
 """
 import argparse
 import itertools
@@ -13,7 +14,7 @@ import json
 import sys
 
 import certificate
-from certificate import END, FROM, ORIGIN, TO, Known, Load, Pair, Problem
+from certificate import END, FROM, ORIGIN, TO, Known, Load, Pair, Problem, Refuted, Suppose
 
 PROFILE = dict(zip(certificate.TIMES + certificate.UNITS, [3, 3, 4, 4, 3, 10, 29, 8, 3, 8, 1, 1, 1, 1, 2, 1, 2]))
 LEAVES = "RUPENL"  # the kinds of leaves, T left out
@@ -51,12 +52,13 @@ class TooManySplits(Exception):
 
 class Finder:
     """Looks for fact lines and a tree that show a bound. A line of the tree is its kind and what it names; an N line names the
-    place of a line of the tree. A prefix of fewer numbers than `least` has no leaf.
+    place of a line of the tree. A prefix of fewer numbers than `least` has no leaf. Loads within a supposition are looked for
+    from the origin to the end alone, or if it `is_wide`, between all moments.
     """
 
-    def __init__(self, problem, bound, splits=10_000, leaves=LEAVES, least=0):
+    def __init__(self, problem, bound, splits=10_000, leaves=LEAVES, least=0, is_wide=False):
         self.problem, self.bound, self.splits, self.leaves, self.least = problem, bound, splits, leaves, least
-        self.known, self.facts = Known(problem, bound), []
+        self.known, self.facts, self.is_wide = Known(problem, bound), [], is_wide
 
     def add(self, fact):
         """Whether a fact is right; it is then known, and kept."""
@@ -71,6 +73,8 @@ class Finder:
 
     def anchors(self):
         """The moments between which a load may be."""
+        if self.known.outer and not self.is_wide:
+            return [(ORIGIN, END)]
         moments = [[m for m in anchors.values() if m in self.known.arcs] for anchors in (FROM, TO)]
         return [(begin, end) for begin, end in itertools.product(*moments) if self.known.leads_up(begin, end)]
 
@@ -107,15 +111,45 @@ class Finder:
         heads = self.next_moments(prefix)
         return [load for unit in certificate.UNITS for load in self.loads(ORIGIN, END, unit, heads, self.known.tails)]
 
+    def candidates(self, has_loads):
+        """Pairs, and loads that say more than the longest path, each by what is known when it is asked for."""
+        yield from self.pairs()
+        for begin, end in self.anchors() if has_loads else []:
+            for unit in sorted({own.unit for own in self.problem.block.values()}):
+                load = self.load_between(begin, end, unit)
+                if load:
+                    yield load
+
     def find_facts(self, has_loads=True):
-        """Adds facts until there are no more."""
+        """Adds facts until there are no more, or what is supposed is refuted."""
         is_more = True
         while is_more:
-            is_more = any([self.add(pair) for pair in self.pairs()])
-            for begin, end in self.anchors() if has_loads else []:
-                for unit in {own.unit for own in self.problem.block.values()}:
-                    load = self.load_between(begin, end, unit)
-                    is_more |= bool(load) and self.add(load)
+            is_more = False
+            for fact in self.candidates(has_loads):
+                if self.known.is_refuted():
+                    return
+                is_more |= self.add(fact)
+
+    def give_up(self):
+        """Leaves a supposition that isn't refuted, and its lines."""
+        self.known.leave_supposition()
+        while not isinstance(self.facts.pop(), Suppose):
+            pass
+
+    def find_supposition(self, pair, has_loads=True):
+        """Whether a pair is shown by a supposition, which is then kept with the facts that refute it."""
+        if not self.add(Suppose(*pair)):
+            return False
+        self.find_facts(has_loads)
+        if self.add(Refuted()):
+            return True
+        self.give_up()
+        return False
+
+    def find_suppositions(self, has_loads=True):
+        """Adds suppositions until there are no more."""
+        while any([self.find_supposition(pair, has_loads) for pair in self.pairs()]):
+            pass
 
     def leaf(self, prefix, closed):
         """A leaf for a prefix that isn't complete, or nothing; closed are the nodes of its numbers that it may name."""
@@ -152,12 +186,26 @@ class Finder:
                 raise TooManySplits
         return lines
 
+    def parts(self):
+        """What may be left out, the last first: each fact, and a supposition with all that is within; then each that is within one."""
+        parts, begun = [], []
+        for fact in self.facts:
+            if begun:
+                begun.append(fact)
+            else:
+                parts.append([fact])
+            if isinstance(fact, (Suppose, Refuted)):
+                begun = parts[-1] if isinstance(fact, Suppose) else []
+        within = [[fact] for part in parts for fact in part[1:-1]]
+        return [*reversed(parts), *reversed(within)]
+
     def prune(self):
         """Leaves out the facts without which the tree grows no larger; the lines of the tree."""
         tree = self.find_tree()
-        for fact in list(reversed(self.facts)) if tree else []:
-            fewer = Finder(self.problem, self.bound, self.splits, self.leaves, self.least)
-            if all([fewer.add(other) for other in self.facts if other is not fact]):
+        for part in self.parts() if tree else []:
+            left_out, fewer = set(map(id, part)), Finder(self.problem, self.bound, self.splits, self.leaves, self.least)
+            kept = [other for other in self.facts if id(other) not in left_out]
+            if len(kept) < len(self.facts) and all(map(fewer.add, kept)):
                 smaller = fewer.find_tree()
                 if smaller and len(smaller) <= len(tree):
                     tree, self.facts, self.known = smaller, fewer.facts, fewer.known
@@ -165,10 +213,17 @@ class Finder:
 
 
 def fact_text(fact):
-    if isinstance(fact, Pair):
-        return f"F {fact.first} {fact.second}"
+    if isinstance(fact, Refuted):
+        return "Q"
+    if isinstance(fact, (Pair, Suppose)):
+        return f"{'F' if isinstance(fact, Pair) else 'B'} {fact.first} {fact.second}"
     words = [ANCHOR_TEXTS[fact.begin], ANCHOR_TEXTS[fact.end], fact.after, fact.wait, *fact.numbers]
     return " ".join(["A", *map(str, words)])
+
+
+def version_of(facts):
+    """The version of a document with these facts."""
+    return 5 if any(isinstance(fact, Suppose) for fact in facts) else 4
 
 
 def proof(finder, tree, begin):
@@ -180,8 +235,8 @@ def proof(finder, tree, begin):
 
 def document(texts, order, finder, tree):
     """The lines of a document that claims an order with its time, and the bound of what was found."""
-    problem = finder.problem
-    head = ["S66 CERTIFICATE 4", " ".join(["PROFILE", *map(str, problem.profile.values())]), f"BLOCK {len(texts)}"]
+    problem, version = finder.problem, version_of(finder.facts)
+    head = [f"S66 CERTIFICATE {version}", " ".join(["PROFILE", *map(str, problem.profile.values())]), f"BLOCK {len(texts)}"]
     head += [f"I {text}" for text in texts] + [f"TIME {problem.total(order)}", f"BOUND {finder.bound}"]
     head.append(" ".join(["ORDER", *(str(point.number) for point in order)]))
     return head + proof(finder, tree, len(head) + 1) + ["END"]
@@ -192,6 +247,7 @@ def main():
     parser.add_argument("--profile", type=profile_of, default=PROFILE)
     parser.add_argument("--bound", type=int)
     parser.add_argument("--splits", type=int, default=10_000)
+    parser.add_argument("--suppose", action="store_true")
     asked = parser.parse_args()
     texts = [instruction_text(line) for line in sys.stdin if line.strip()]
     block = [certificate.instruction_of(text) for text in texts]
@@ -203,6 +259,8 @@ def main():
         order = min(legal_orders(problem), key=problem.total)
     finder = Finder(problem, problem.total(order) if asked.bound is None else asked.bound, asked.splits)
     finder.find_facts()
+    if asked.suppose:
+        finder.find_suppositions()
     try:
         tree = finder.prune()
     except TooManySplits:

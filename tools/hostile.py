@@ -5,7 +5,7 @@
 
 Documents for `check`: each front of one, numbers of 10,000 digits, a million nodes and one more, a tree of the deepest block, trees
 of two million lines whose splits are as wide as may be, names that point to each wrong place, 362,879 leaves that name one node, and
-as many fact lines as there may be; some also for `check --text`. Sources: a gigabyte of newlines, of blanks without a newline, and of
+as many fact lines as there may be, with suppositions too; some also for `check --text`. Sources: a gigabyte of newlines, of blanks without a newline, and of
 instructions, for each subcommand but `lint`; for that a part of it, and the longest ones with many macros in each other, many places
 of a name, long sums, continuations, redefinitions and counts. What each has to answer stands beside it. None may take more than 10
 seconds of processor time, a document of fact lines no more than 30 for each megabyte that it has, or 60 with `--text`; or more than
@@ -181,6 +181,49 @@ def fact_lines():
         yield f"{MOST_FACTS} fact lines: {name}", text, yes(time, 0)
 
 
+def supposing(lines, time=512):
+    """A document of the greatest length of instructions that don't differ, under one Increment unit, with these lines as facts."""
+    texts, order = "I SB0 B1\n" * MOST, " ".join(map(str, range(1, MOST + 1)))
+    facts = "".join(f"{line}\n" for line in lines)
+    return f"S66 CERTIFICATE 5\n{PROFILE[:-2]}1\nBLOCK {MOST}\n{texts}TIME {time}\nBOUND 0\nORDER {order}\n{facts}P\nEND\n"
+
+
+def suppositions():
+    """As many lines of suppositions as there may be, all right, since no order takes less than the bound."""
+    half = MOST // 2
+    pairs = [(first, second) for first in range(1, half + 1) for second in range(half + 1, MOST + 1)]
+    # each of two rows, of which nothing is known but what was shown: the one that is supposed adds up to 4,096 pairs
+    rows = [f"F {n} {n + 1}" for n in range(1, MOST) if n != half]
+    between = sorted(pairs, key=lambda pair: pair[0] - pair[1])
+    load = "A 0 END 0 0 " + " ".join(map(str, range(1, MOST + 1)))
+    for name, lines in (
+        ("many", [line for first, second in pairs for line in (f"B {first} {second}", "Q")]),
+        ("many, with a load", [line for first, second in pairs for line in (f"B {first} {second}", load, "Q")]),
+        ("between two rows", rows + [line for first, second in between for line in (f"B {first} {second}", "Q")]),
+        ("one, with many loads", ["B 2 1", *[load] * (MOST_FACTS - 2), "Q"]),
+        ("one, with many pairs", ["B 2 1", *[f"F {first} {second}" for first, second in pairs[: MOST_FACTS - 2]], "Q"]),
+    ):
+        text = supposing(lines[: MOST_FACTS - (lines[MOST_FACTS - 1][0] == "B")])
+        yield f"{MOST_FACTS} lines of suppositions: {name}", text, yes(512, 0)
+
+
+def wrong_suppositions():
+    """Suppositions that nothing ends, that begin in another one, or that never began, and a line too many."""
+    first = MOST + 7  # the line of the first fact
+    begins = [f"B {n} {n + 1}" for n in range(1, MOST)] * (MOST_FACTS // MOST + 1)
+    load = "A 0 END 0 0 1 2"
+    for name, lines, answer in (
+        (f"{MOST_FACTS} lines B", begins[:MOST_FACTS], no(first + 1, 11)),
+        (f"{MOST_FACTS} lines B and one", begins[: MOST_FACTS + 1], bad_line(first + MOST_FACTS)),
+        (f"{MOST_FACTS} lines Q", ["Q"] * MOST_FACTS, no(first, 11)),
+        ("one that nothing ends", ["B 1 2", *[load] * (MOST_FACTS - 1)], no(first, 11)),
+        ("the last one that nothing ends", [*[load] * (MOST_FACTS - 1), "B 1 2"], no(first + MOST_FACTS - 1, 11)),
+        ("an end too many", ["B 1 2", *[load] * (MOST_FACTS - 3), "Q", "Q"], no(first + MOST_FACTS - 1, 11)),
+        ("an end after the last fact line", ["B 1 2", *[load] * (MOST_FACTS - 1), "Q"], bad_line(first + MOST_FACTS)),
+    ):
+        yield f"suppositions: {name}", supposing(lines), answer
+
+
 def with_reasons(text):
     """A document of fact lines with a leaf that is said by them."""
     return altered(text, "\nP\nEND", "\nE 1\nEND")
@@ -287,7 +330,7 @@ def in_sentences():
     text = wide_document(dict(wide_trees())["leaves P"])
     told = b"DOCUMENT 1 YES TIME 257 BOUND 0\nEvery order takes 0 or more, by 16385 splits.\nThe order found takes 257.\n"
     yield "a wide tree", text, (0, told, b""), SECONDS
-    for name, text, (status, verdict, _) in fact_lines():
+    for name, text, (status, verdict, _) in itertools.chain(fact_lines(), suppositions()):
         text, time = with_reasons(text), verdict.split()[4]
         yield name, text, Ends(status, verdict, b"The order found takes %s.\n" % time), TEXT_MEGABYTE_SECONDS * len(text) / 1e6
 
@@ -298,9 +341,10 @@ def main(arguments):
         return 2
     program, wrong, count, most = os.path.abspath(arguments[0]), 0, 0, (0, "")
     wide = ((f"a wide tree, {name}", wide_document(leaf_at), yes(257, 0)) for name, leaf_at in wide_trees())
-    documents = itertools.chain(fronts(), long_numbers(), many_nodes(), deep_trees(), wide, wrong_names(), many_leaves())
+    documents = itertools.chain(fronts(), long_numbers(), many_nodes(), deep_trees(), wide, wrong_names(), many_leaves(), wrong_suppositions())
     checks = ((["check"], name, [text.encode()], answer, MEGABYTES, SECONDS) for name, text, answer in documents)
-    facts = ((["check"], name, [text.encode()], answer, MEGABYTES, MEGABYTE_SECONDS * len(text) / 1e6) for name, text, answer in fact_lines())
+    facts = ((["check"], name, [text.encode()], answer, MEGABYTES, MEGABYTE_SECONDS * len(text) / 1e6)
+             for name, text, answer in itertools.chain(fact_lines(), suppositions()))
     texts = ((["check", "--text"], name, [text.encode()], answer, MEGABYTES, limit) for name, text, answer, limit in in_sentences())
     decks = ((["lint"], name, [text_of(lines)], (status, text_of(found), b""), MEGABYTES, SECONDS) for name, lines, status, found in hostile_decks())
     sources = ((*source, SECONDS) for source in long_sources())

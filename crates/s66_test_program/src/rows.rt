@@ -20,6 +20,7 @@ mod page;
 mod profile;
 mod remarks;
 mod sum;
+mod suppositions;
 mod time;
 mod why;
 mod words;
@@ -193,6 +194,7 @@ fn runs_rows(rt: HostRuntime) {
     check_rows(&rt, profile::ROWS);
     check_rows(&rt, remarks::ROWS);
     check_rows(&rt, words::ROWS);
+    check_rows(&rt, suppositions::ROWS);
 }
 
 /// The profile is refused before anything is read, so also if the input is refused.

@@ -33,9 +33,9 @@ pub(crate) const ROWS: &[Row] = &[
         "S66 CERTIFICATE 1\nPROFILE 3 3 4 4 3 10 29 8 3 8 1 1 1 1 2 1 2\nBLOCK 2\nI SA6 A6+B1\nI SA1 A2+B2\nTIME 9\nBOUND 9\nORDER 1 2\nC 1 2\nEND\n",
     ),
     (
-        "a document of version 5",
+        "a document of version 6",
         CHECK,
-        "S66 CERTIFICATE 5\n",
+        "S66 CERTIFICATE 6\n",
         3,
         "LINE 1 BAD LINE\ns66 check reads what s66 prove prints\n",
     ),
