@@ -1,3 +1,5 @@
+//! Rows of `check`: documents with suppositions, right and wrong.
+
 use crate::rows::Row;
 use crate::running::CHECK;
 
