@@ -1,5 +1,5 @@
 use Rattle.std.proofs.Common.{◌≡◌, ◌+◌, ◌-◌, ◌++◌, ◌∙◌, [], ◌∷◌, ap, append_assoc, arith, replicate, suc, sym}
-use Rattle.s66_why.proofs.text_chart.push_blanks.Goals as goal
+use Rattle.s66_why.proofs.places.push_blanks.Goals as goal
 
 pub loop-done-preserved : goal.loop-done-preserved
 loop-done-preserved c =

@@ -1,7 +1,7 @@
 use Rattle.std.proofs.Common.{ℕ, ◌≡◌, ◌-◌, ◌*◌, ◌++◌, flat_map}
 use Rattle.std.specs.List.{range_with_len}
 use Rattle.s66_why.specs.TextChart.{in_ten}
-use Rattle.s66_why.proofs.text_chart.push_tens.Given as goal
+use Rattle.s66_why.proofs.chart.push_tens.Given as goal
 
 abbrev pub invariant-loop-ten : goal.invariant-loop-ten
 invariant-loop-ten l =

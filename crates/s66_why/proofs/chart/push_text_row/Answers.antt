@@ -5,11 +5,11 @@ use Rattle.s66_line.specs.Block.{text_of}
 use Rattle.s66_time.specs.TimedOrder.{point_at}
 use Rattle.s66_time.proofs.Positions.{number-at}
 use Rattle.s66_why.specs.Chart.{instruction_row}
-use Rattle.s66_why.specs.TextChart.{in_places}
-use Rattle.s66_why.proofs.text_chart.push_text_row.Goals as goal
+use Rattle.s66_why.specs.Rows.{before_row}
+use Rattle.s66_why.proofs.chart.push_text_row.Goals as goal
 
-pub returns-clause-text : goal.returns-clause-text
-returns-clause-text c =
+pub returns : goal.returns
+returns c =
     let out = c.args.out.now.items in
     let block = c.args.block.now in
     let t = c.args.timed.now in
@@ -19,6 +19,6 @@ returns-clause-text c =
     let text : c.as_slice.result.now ≡ text_of block (point_at t i).number =
     c.as_slice.ensures.value ∙ c.text-text.ensures.value ∙ ap (text_of block) (ap (λ (ns : List ℕ). get_or ns i 0) numbers ∙ sym (number-at t i c.requires.position))
     in
-    IfOk-equal c.push_instruction.result _ _ _ c.push_instruction.ensures.text
-    (ap (λ xs. xs ++ row) c.in_ok-push_in_places.ensures ∙ append_assoc out (in_places c.args.width c.as_slice.result.now) row
-    ∙ ap (λ xs. out ++ (in_places c.args.width xs ++ row)) text)
+    IfOk-equal c.push_instruction.result _ _ _ c.push_instruction.ensures
+    (ap (λ xs. xs ++ row) c.in_ok-push_before.ensures ∙ append_assoc out (before_row c.args.places c.as_slice.result.now) row
+    ∙ ap (λ xs. out ++ (before_row c.args.places xs ++ row)) text)

@@ -3,7 +3,7 @@ use Rattle.s66_isa.specs.Lists.{greatest, rising}
 use Rattle.s66_line.specs.Block.{instrs_of, text_of}
 use Rattle.s66_line.specs.declared.limits.TheConstants.{TEXT_LIMIT}
 use Rattle.s66_why.specs.TextChart.{text_width}
-use Rattle.s66_why.proofs.text_chart.text_width.Given as goal
+use Rattle.s66_why.proofs.places.text_width.Given as goal
 
 abbrev pub invariant-loop-position : goal.invariant-loop-position
 invariant-loop-position l = record {
