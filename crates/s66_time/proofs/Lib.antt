@@ -1,6 +1,7 @@
 pub mod Loops
 pub mod Back
 pub mod WorkOfKinds
+pub mod Fillers
 pub mod FreeUnits
 pub mod ClockPoints
 pub mod Clocks

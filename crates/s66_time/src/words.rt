@@ -2,7 +2,7 @@
 //! registers are free), starts (its operands are done) and has its results (earlier readers have started). These are the three orders
 //! of conflict of the 6600's scoreboard (J. E. Thornton, Design of a Computer: The Control Data 6600).
 
-ghost use Rattle.std.specs.Prelude.{ℕ, ◌≡◌, ◌+◌, ◌-◌, ◌<◌, ◌≤◌, List, [], ◌∷◌, length, get_or};
+ghost use Rattle.std.specs.Prelude.{ℕ, ◌≡◌, ◌+◌, ◌-◌, ◌^◌, ◌<◌, ◌≤◌, List, [], ◌∷◌, length, get_or};
 ghost use Rattle.s66_isa.specs.Table.{copies_of, kind_number};
 ghost use Rattle.s66_isa.specs.declared.profile.Profile.{Profile as ProfileOf};
 ghost use Rattle.s66_isa.specs.declared.limits.TheConstants.{BLOCK_LIMIT};
@@ -12,13 +12,25 @@ ghost use Rattle.s66_model.specs.Timing.{Point, issue_of, start_of, point};
 ghost use Rattle.s66_time.specs.declared.limits.TheConstants.{COPIES_LIMIT, TOTAL_LIMIT, UNIT_LIMIT, WORK_LIMIT};
 ghost use Rattle.s66_time.specs.ClockWords.{under, IsWords, InTurn, IsSoonest, AreWordsInTurn, wait_of, point_of_tick, after_undo, Takes};
 
-use crate::packing::fits_at;
 use crate::progress::Progress;
 use crate::registers::RegisterWords;
 use crate::step::Step;
 use crate::tick::{Tick, free_after};
 use crate::units::UnitWords;
 use s66_isa::{KIND_COUNT, Memory, Profile, Row, kind_number};
+
+/// Where an instruction of `parcels` parcels begins, when the parcels from this one on are empty: one of two parcels doesn't
+/// begin in the last parcel of a word.
+fn fits_at(empty: u32, parcels: u32) -> u32
+    requires { empty + 1 < 2 ^ 32 }
+    ensures { result ≡ fits_at empty parcels }
+{
+    if parcels == 2 && empty % 4 == 3 {
+        empty + 1
+    } else {
+        empty
+    }
+}
 
 /// The words of a clock.
 #[derive(Drop)]

@@ -1,4 +1,4 @@
-//! A chart of a timed order: a row of letters for each instruction (`push_chart`), or with texts before the rows and a ruler above them
+//! A chart of a timed order: a row of letters for each instruction (`push_chart`), or with texts before the rows and a ruler above
 //! (`push_text_chart`). One row is drawn in `row.rt`.
 
 ghost use Rattle.std.specs.Prelude.{◌≡◌, ◌*◌, ◌^◌, ◌<◌, ◌≤◌, ◌++◌, OnOk, flat_map, length};
