@@ -25,7 +25,7 @@ use s66_isa::{BLOCK_LIMIT, Profile};
 use s66_ledger::Answer;
 use s66_line::Block;
 use s66_model::{Options, Rule};
-use s66_near::nearer;
+use s66_node::nearer;
 use s66_pool::{Free, LoneSearch, run};
 use s66_time::Timed;
 use std::alloc::{AllocError, Global};

@@ -2,7 +2,7 @@
 
 ghost use Rattle.std.specs.Prelude.{◌≡◌, ◌+◌, ◌<◌, ◌≤◌, length, drop, get_or};
 ghost use Rattle.s66_isa.specs.declared.limits.TheConstants.{BLOCK_LIMIT};
-ghost use Rattle.s66_near.specs.Reversed.{below, reversed};
+ghost use Rattle.s66_node.specs.Reversed.{below, reversed};
 
 /// How many numbers after a place are below the one there.
 fn below_after(numbers: &[u8], place: usize) -> u32

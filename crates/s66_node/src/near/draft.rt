@@ -2,12 +2,13 @@
 
 ghost use Rattle.std.specs.Prelude.{◌≡◌, ◌+◌, ◌<◌, ◌≤◌, IfSome, get_or, length};
 ghost use Rattle.s66_isa.specs.declared.limits.TheConstants.{BLOCK_LIMIT};
-ghost use Rattle.s66_near.specs.Reversed.{reversed};
+ghost use Rattle.s66_node.specs.Reversed.{reversed};
 
-use crate::pairs::{exchange, pairs_in_reverse};
+use crate::near::pairs::{exchange, pairs_in_reverse};
+use crate::walk::Walk;
+use crate::whole_order::copy_of;
 use arrayvec::ArrayVec;
 use s66_isa::BLOCK_LIMIT;
-use s66_node::{Walk, copy_of};
 
 /// How often a changed order is timed at most.
 const TRIES_LIMIT: u32 = 2_000;

@@ -1,6 +1,6 @@
 use Rattle.std.proofs.Common.{◌≡◌, ◌≤◌, length}
-use Rattle.s66_near.specs.Reversed.{reversed}
-use Rattle.s66_near.proofs.draft.Draft.move_forward.Given as goal
+use Rattle.s66_node.specs.Reversed.{reversed}
+use Rattle.s66_node.proofs.near.draft.Draft.move_forward.Given as goal
 
 abbrev pub invariant-loop-step : goal.invariant-loop-step
 invariant-loop-step l =

@@ -1,7 +1,7 @@
 use Rattle.std.proofs.Common.{◌≡◌, ◌≤◌, ◌+◌, ◌*◌, drop, length}
 use Rattle.s66_isa.specs.declared.limits.TheConstants.{BLOCK_LIMIT}
-use Rattle.s66_near.specs.Reversed.{reversed}
-use Rattle.s66_near.proofs.pairs.pairs_in_reverse.Given as goal
+use Rattle.s66_node.specs.Reversed.{reversed}
+use Rattle.s66_node.proofs.near.pairs.pairs_in_reverse.Given as goal
 
 abbrev pub invariant-loop-place : goal.invariant-loop-place
 invariant-loop-place l =

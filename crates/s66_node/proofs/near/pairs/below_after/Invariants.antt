@@ -1,6 +1,6 @@
 use Rattle.std.proofs.Common.{◌≡◌, ◌≤◌, ◌+◌, drop}
-use Rattle.s66_near.specs.Reversed.{below}
-use Rattle.s66_near.proofs.pairs.below_after.Given as goal
+use Rattle.s66_node.specs.Reversed.{below}
+use Rattle.s66_node.proofs.near.pairs.below_after.Given as goal
 
 abbrev pub invariant-loop-later : goal.invariant-loop-later
 invariant-loop-later l =

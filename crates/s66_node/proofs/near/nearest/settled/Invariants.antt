@@ -1,6 +1,6 @@
 use Rattle.std.proofs.Common.{◌≡◌, ◌≤◌}
-use Rattle.s66_near.specs.Reversed.{reversed}
-use Rattle.s66_near.proofs.nearest.settled.Given as goal
+use Rattle.s66_node.specs.Reversed.{reversed}
+use Rattle.s66_node.proofs.near.nearest.settled.Given as goal
 
 abbrev pub invariant-loop : goal.invariant-loop
 invariant-loop l = record {

@@ -4,11 +4,11 @@
 ghost use Rattle.std.specs.Prelude.{◌≡◌, ◌≤◌};
 ghost use Rattle.s66_line.specs.Block.{instrs_of};
 ghost use Rattle.s66_model.specs.Timing.{total_of};
-ghost use Rattle.s66_near.specs.Reversed.{reversed};
+ghost use Rattle.s66_node.specs.Reversed.{reversed};
 
-use crate::draft::Draft;
+use crate::near::draft::Draft;
+use crate::walk::Walk;
 use s66_line::Block;
-use s66_node::Walk;
 use s66_time::Timed;
 
 /// How often all numbers are settled at most.

@@ -1,5 +1,5 @@
 use Rattle.std.proofs.Common.{◌≡◌, ◌≤◌}
-use Rattle.s66_near.proofs.draft.Draft.settle_all.Given as goal
+use Rattle.s66_node.proofs.near.draft.Draft.settle_all.Given as goal
 
 abbrev pub invariant-loop-index : goal.invariant-loop-index
 invariant-loop-index l = record {
