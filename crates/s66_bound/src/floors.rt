@@ -19,7 +19,7 @@ use s66_isa::KINDS;
 use s66_time::Clock;
 
 /// The floor, if something remains and the floor's value is known: the first of the bounds that has it.
-pub fn floor_of_value(
+pub(crate) fn floor_of_value(
     costs: &[Cost],
     tables: &Tables,
     clock: &Clock<'_>,

@@ -10,7 +10,7 @@ use s66_dep::Set;
 use s66_isa::BLOCK_LIMIT;
 
 /// The least word of these numbers.
-pub fn least_of(words: &[u32; BLOCK_LIMIT], numbers: &Set) -> u32
+pub(crate) fn least_of(words: &[u32; BLOCK_LIMIT], numbers: &Set) -> u32
     requires { 0 < length (numbers_in numbers.now) }
     ensures { result ≡ least (λ n. get_or words.now (n - 1) 0) (numbers_in numbers.now) }
 {
@@ -23,7 +23,7 @@ pub fn least_of(words: &[u32; BLOCK_LIMIT], numbers: &Set) -> u32
 }
 
 /// Of the numbers up to a count, those of the least word.
-pub fn ends_of(words: &[u32; BLOCK_LIMIT], count: usize) -> Set
+pub(crate) fn ends_of(words: &[u32; BLOCK_LIMIT], count: usize) -> Set
     requires { count ≤ BLOCK_LIMIT }
     ensures { AreEnds words.now count result }
 {

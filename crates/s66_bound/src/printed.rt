@@ -117,7 +117,7 @@ fn walk_from(costs: &[Cost], tables: &Tables, rest: &Set, first: u8) -> ArrayVec
 }
 
 /// The numbers of the greatest chain, whose value this is: of equal ones the first in a dictionary.
-pub fn chain_numbers(
+pub(crate) fn chain_numbers(
     costs: &[Cost],
     tables: &Tables,
     clock: &Clock<'_>,

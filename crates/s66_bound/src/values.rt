@@ -22,7 +22,7 @@ use s66_isa::{Kind, Reg, kind_number};
 use s66_time::Clock;
 
 /// The numbers that aren't pushed.
-pub fn remaining_numbers(tables: &Tables, clock: &Clock<'_>) -> Set
+pub(crate) fn remaining_numbers(tables: &Tables, clock: &Clock<'_>) -> Set
     requires { IsTables (problem_of clock.now) tables.now }
     ensures { AreRemaining clock.now result }
 {
@@ -84,7 +84,7 @@ fn least_or_chain(tables: &Tables, clock: &Clock<'_>, ranks: &Set, least: u32) -
 }
 
 /// The greatest value of a chain.
-pub fn chain_of(tables: &Tables, clock: &Clock<'_>, rest: &Set) -> u32
+pub(crate) fn chain_of(tables: &Tables, clock: &Clock<'_>, rest: &Set) -> u32
     requires tables { IsTables (problem_of clock.now) tables.now }
     requires rest { AreRemaining clock.now rest.now }
     requires some { length clock.now.numbers < length (instrs_of clock.now.block) }
@@ -124,7 +124,7 @@ fn single_load(tables: &Tables, clock: &Clock<'_>, kind: Kind) -> u32
 }
 
 /// The load of a kind of unit, also if nothing remains.
-pub fn load_of(tables: &Tables, clock: &Clock<'_>, kind: Kind) -> u32
+pub(crate) fn load_of(tables: &Tables, clock: &Clock<'_>, kind: Kind) -> u32
     requires { IsTables (problem_of clock.now) tables.now }
     ensures { result ≡ load (problem_of clock.now) clock.now.numbers kind }
 {
@@ -169,7 +169,7 @@ fn least_spare(tables: &Tables, clock: &Clock<'_>, rest: &Set) -> u32
 }
 
 /// The parcels that remain, and the least that a last number's tail is longer than its own.
-pub fn parcels_of(tables: &Tables, clock: &Clock<'_>, rest: &Set) -> u32
+pub(crate) fn parcels_of(tables: &Tables, clock: &Clock<'_>, rest: &Set) -> u32
     requires tables { IsTables (problem_of clock.now) tables.now }
     requires rest { AreRemaining clock.now rest.now }
     requires some { length clock.now.numbers < length (instrs_of clock.now.block) }
@@ -196,7 +196,7 @@ fn greatest_load_by(tables: &Tables, clock: &Clock<'_>, singles: bool) -> u32
 }
 
 /// The greatest load. The loads of single units are worked out without a look at how many there are.
-pub fn greatest_load(tables: &Tables, clock: &Clock<'_>) -> u32
+pub(crate) fn greatest_load(tables: &Tables, clock: &Clock<'_>) -> u32
     requires { IsTables (problem_of clock.now) tables.now }
     ensures { result ≡ greatest (load (problem_of clock.now) clock.now.numbers) all_kinds }
 {
@@ -209,7 +209,7 @@ pub fn greatest_load(tables: &Tables, clock: &Clock<'_>) -> u32
 }
 
 /// The greatest of the chain, the loads and the parcels; `ranks` are those of what remains.
-pub fn floor_value_of(tables: &Tables, clock: &Clock<'_>, rest: &Set, ranks: &Set) -> u32
+pub(crate) fn floor_value_of(tables: &Tables, clock: &Clock<'_>, rest: &Set, ranks: &Set) -> u32
     requires tables { IsTables (problem_of clock.now) tables.now }
     requires rest { AreRemaining clock.now rest.now }
     requires ranks { AreRanksLeft (problem_of clock.now) clock.now.numbers ranks.now }

@@ -85,19 +85,19 @@ fn has_room(facts: &Option<Vec<FactStep>>) -> bool
 #[derive(Drop)]
 pub(crate) struct Reader {
     /// How many lines were read.
-    pub lines: u64,
+    pub(crate) lines: u64,
     /// The whole documents.
-    pub documents: Vec<Document>,
+    pub(crate) documents: Vec<Document>,
     /// Which line comes next.
-    pub place: DocumentPlace,
+    pub(crate) place: DocumentPlace,
     /// The version of the open document.
-    pub version: Version,
+    pub(crate) version: Version,
     /// What its lines said.
-    pub claim: Claim,
+    pub(crate) claim: Claim,
     /// How many instructions, or trees, are still to come.
-    pub left: u64,
+    pub(crate) left: u64,
     /// How many lines of the open tree are splits.
-    pub splits: u32,
+    pub(crate) splits: u32,
 }
 
 impl Reader {

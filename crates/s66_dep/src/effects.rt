@@ -6,7 +6,7 @@ use s66_isa::{Instr, Memory, Registers, is_memory_conflict};
 /// What of an instruction its dependences rest on: the registers that it reads and those that it writes, each in one word, and
 /// how it references memory.
 #[derive(Clone, Copy)]
-pub struct Effects {
+pub(crate) struct Effects {
     reads: Registers,
     results: Registers,
     memory: Memory,

@@ -64,7 +64,7 @@ fn push_head(
 
 /// A block, whose number is from 1, as it is written, to where it is said what is found.
 #[tactic(auto, unfolding(crate::specs::Pieces::start_text))]
-pub fn push_start(
+pub(crate) fn push_start(
     out: &mut Vec<u8>,
     number: usize,
     entry: &[u8],

@@ -104,7 +104,7 @@ fn push_list(
 }
 
 /// The instructions of a block under a profile.
-pub fn push_instructions(
+pub(crate) fn push_instructions(
     out: &mut Vec<u8>,
     profile: &Profile,
     block: &Block,

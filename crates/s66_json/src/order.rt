@@ -82,7 +82,7 @@ fn push_lost(out: &mut Vec<u8>, sums: &Lost) -> Result<(), AllocError>
 }
 
 /// A timed order, without the brace that closes it.
-pub fn push_timed(out: &mut Vec<u8>, timed: &Timed) -> Result<(), AllocError>
+pub(crate) fn push_timed(out: &mut Vec<u8>, timed: &Timed) -> Result<(), AllocError>
     ensures { OnOk result (out.new.items ≡ out.old.items ++ timed_text timed.now) }
 {
     let points = points_of(timed);
@@ -99,7 +99,12 @@ pub fn push_timed(out: &mut Vec<u8>, timed: &Timed) -> Result<(), AllocError>
 
 /// What every order takes at least, and how many splits there were.
 #[tactic(auto, unfolding(crate::specs::Pieces::bound_text))]
-pub fn push_bound(out: &mut Vec<u8>, bound: u32, splits: u32, best: bool) -> Result<(), AllocError>
+pub(crate) fn push_bound(
+    out: &mut Vec<u8>,
+    bound: u32,
+    splits: u32,
+    best: bool,
+) -> Result<(), AllocError>
     ensures { OnOk result (out.new.items ≡ out.old.items ++ bound_text bound splits best) }
 {
     push_field(out, b",\"bound\":", bound as usize)?;

@@ -58,7 +58,7 @@ fn push_terminal(
 
 /// Appends the line of the prefix at which the walk stands, and goes on to the next prefix. Returns whether there is one. The
 /// time is that of a floor, and that of a look at each earlier sibling of the next prefix.
-pub fn push_line(
+pub(crate) fn push_line(
     nodes: &[Node],
     links: &Links,
     walk: &mut Walk<'_>,

@@ -68,7 +68,7 @@ impl<'a> Machine<'a> {
 
     /// A machine of a walk's block and profile: of one open node, the empty prefix, at which the walk is, and whose best order is the
     /// source order; the workers count from 1, and the rule is that of dominated leaves.
-    pub fn new(
+    pub(crate) fn new(
         alloc: Global,
         walk: &Walk<'a>,
         rule: Rule,
@@ -106,13 +106,13 @@ impl<'a> Machine<'a> {
         })
     }
 
-    pub fn bound(&self) -> u32
+    pub(crate) fn bound(&self) -> u32
         ensures { result ≡ bound_of self.now.problem self.now.state }
     {
         self.table.least_floor(self.best.total())
     }
 
-    pub fn grant(&mut self, w: u8) -> u32
+    pub(crate) fn grant(&mut self, w: u8) -> u32
         requires { (1 ≤ w) × (w ≤ self.old.workers) }
         ensures granted { IsMove self.old (Grant w) (Granted result) self.new }
         ensures lines { self.new.lines ≡ self.old.lines }
@@ -123,7 +123,7 @@ impl<'a> Machine<'a> {
         share
     }
 
-    pub fn retire(&mut self, w: u8)
+    pub(crate) fn retire(&mut self, w: u8)
         requires { (1 ≤ w) × (w ≤ self.old.workers) }
         ensures retired { IsMove self.old (Retire w) Retired self.new }
         ensures lines { self.new.lines ≡ self.old.lines }
@@ -157,7 +157,7 @@ impl<'a> Machine<'a> {
         self.table.value_of(node)
     }
 
-    pub fn claim(&mut self, w: u8) -> Option<Ticket>
+    pub(crate) fn claim(&mut self, w: u8) -> Option<Ticket>
         requires { (1 ≤ w) × (w ≤ self.old.workers) }
         ensures ok { IsMove self.old (Claim w) (Claimed (claimed_node result)) self.new }
         ensures lines { self.new.lines ≡ self.old.lines }
@@ -172,7 +172,7 @@ impl<'a> Machine<'a> {
         Some(Ticket::new(node, prefix))
     }
 
-    pub fn back(&mut self, w: u8, node: u32) -> Result<(), BackError>
+    pub(crate) fn back(&mut self, w: u8, node: u32) -> Result<(), BackError>
         requires { (1 ≤ w) × (w ≤ self.old.workers) }
         ensures ok { OnOk result (IsMove self.old (Back w node) Returned self.new) }
         ensures lines { self.new.lines ≡ self.old.lines }
@@ -211,7 +211,7 @@ impl<'a> Machine<'a> {
         !self.table.may_reach(self.block.count())
     }
 
-    pub fn workers(&self) -> u8
+    pub(crate) fn workers(&self) -> u8
         ensures value { result ≡ self.now.workers }
         ensures allowances { result ≡ length self.now.state.allowances }
     {
@@ -247,7 +247,7 @@ impl<'a> Machine<'a> {
         }
     }
 
-    pub fn offer(&mut self, w: u8, timed: Timed) -> Offered
+    pub(crate) fn offer(&mut self, w: u8, timed: Timed) -> Offered
         requires { (1 ≤ w) × (w ≤ self.old.workers) }
         ensures offered { (event : Event) × IsOfferOf self.old.problem w timed.problem timed.numbers event ×
             IsMove self.old event (offered_reply result) self.new }
@@ -268,14 +268,20 @@ impl<'a> Machine<'a> {
     }
 
     /// Whether a piece is of the block and the profile, and by the rule, in time linear in the block's length.
-    pub fn is_own(&self, piece: &Piece) -> bool
+    pub(crate) fn is_own(&self, piece: &Piece) -> bool
         ensures { IsTrue result ↔ ((piece.now.rule ≡ self.now.rule) × (piece.now.problem ≡ self.now.problem)) }
     {
         piece.rule() == self.rule && piece.is_of(self.block, &self.profile)
     }
 
     /// Puts a piece in the place of a node; `own` says whether it is of the block and the profile, and by the rule.
-    pub fn graft(&mut self, w: u8, node: u32, piece: &Piece, own: bool) -> Result<(), GraftError>
+    pub(crate) fn graft(
+        &mut self,
+        w: u8,
+        node: u32,
+        piece: &Piece,
+        own: bool,
+    ) -> Result<(), GraftError>
         requires worker { (1 ≤ w) × (w ≤ self.old.workers) }
         requires own { IsOwnPiece self.old.rule self.old.problem piece.now.rule piece.now.problem own }
         ensures ok { OnOk result (IsTakenMove self.old w node piece.now self.new) }

@@ -14,9 +14,9 @@ use std::marker::Model;
 /// What a piece is a tree over: a prefix of the legal orders of a block, timed under a profile.
 #[derive(Drop)]
 pub(crate) struct Origin {
-    pub source: Order,
-    pub profile: Profile,
-    pub prefix: ArrayVec<u8, BLOCK_LIMIT>,
+    pub(crate) source: Order,
+    pub(crate) profile: Profile,
+    pub(crate) prefix: ArrayVec<u8, BLOCK_LIMIT>,
 }
 
 /// A tree over a prefix of a block's legal orders: splits with exactly the ready numbers, leaves that are floors, dominated leaves

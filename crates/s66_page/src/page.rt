@@ -23,7 +23,7 @@ use std::alloc::AllocError;
 
 /// What a page has of each block: its row in the list of blocks, or its orders.
 #[derive(Clone, Copy)]
-pub enum Part {
+pub(crate) enum Part {
     Row,
     Orders,
 }
@@ -165,7 +165,7 @@ fn push_title(out: &mut Vec<u8>, before: usize, found: &[FoundOrder]) -> Result<
 }
 
 /// The numbers of a profile that aren't the standard profile's, if there are any.
-pub fn push_profile_line(out: &mut Vec<u8>, changes: &[Change]) -> Result<(), AllocError>
+pub(crate) fn push_profile_line(out: &mut Vec<u8>, changes: &[Change]) -> Result<(), AllocError>
     ensures { OnOk result (out.new.items ≡ out.old.items ++ profile_line changes.now) }
 {
     match changes {

@@ -136,7 +136,7 @@ fn text_at<'a>(block: &Block<'a>, timed: &Timed, position: usize) -> &'a [u8]
 }
 
 /// The rows of the instructions of a timed order.
-pub fn push_rows(
+pub(crate) fn push_rows(
     out: &mut Vec<u8>,
     block: &Block,
     timed: &Timed,

@@ -72,7 +72,13 @@ fn are_all_units_no_later(own: &Past, other: &Past, profile: &Profile, clamp: u3
 
 /// Whether a past under a profile leaves nothing later than another one does, or than the clamps: that of registers'
 /// readers, and that of all else.
-pub fn is_no_later(own: &Past, other: &Past, profile: &Profile, readers: u32, others: u32) -> bool
+pub(crate) fn is_no_later(
+    own: &Past,
+    other: &Past,
+    profile: &Profile,
+    readers: u32,
+    others: u32,
+) -> bool
     requires own { AreTimed own.now }
     requires other { AreTimed other.now }
     ensures { result ≡

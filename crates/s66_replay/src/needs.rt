@@ -117,7 +117,7 @@ fn needs(block: &[Effects], position: usize) -> MarkedNumbers
 }
 
 /// What each instruction of the block depends on.
-pub fn needs_of_all(block: &[Instr]) -> ArrayVec<MarkedNumbers, BLOCK_LIMIT>
+pub(crate) fn needs_of_all(block: &[Instr]) -> ArrayVec<MarkedNumbers, BLOCK_LIMIT>
     requires { length block.now ≤ BLOCK_LIMIT }
     ensures { AreNeeds block.now result.items }
 {

@@ -35,7 +35,7 @@ impl KeptResult {
 }
 
 /// When the last of these results is done; 0 if there is none.
-pub fn last_time(results: &[KeptResult]) -> u32
+pub(crate) fn last_time(results: &[KeptResult]) -> u32
     ensures { result ≡ greatest (λ (d : ResultAt). d.time) results.now }
 {
     let mut last = 0u32;
@@ -58,7 +58,7 @@ fn last_held_time(results: &[KeptResult]) -> u32
 
 /// When the unit of an instruction is free: one minor cycle after the last result that it holds, or after its hold if nothing is
 /// written.
-pub fn free_after(start: u32, hold: u32, results: &[KeptResult]) -> u32
+pub(crate) fn free_after(start: u32, hold: u32, results: &[KeptResult]) -> u32
     requires start { start + hold + 1 < 2 ^ 32 }
     requires results { greatest (λ (d : ResultAt). d.time) results.now + 1 < 2 ^ 32 }
     ensures { result ≡ free_after start hold results.now }

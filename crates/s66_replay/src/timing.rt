@@ -143,7 +143,7 @@ fn results(past: &Past, writes: &[Write], start: u32) -> ArrayVec<KeptResult, 2>
 }
 
 /// The next instruction with its times under a profile.
-pub fn next_point(past: &Past, profile: &Profile, number: u8, row: Row) -> KeptPoint
+pub(crate) fn next_point(past: &Past, profile: &Profile, number: u8, row: Row) -> KeptPoint
     requires { AreTimed past.now }
     ensures { result ≡ point (with_profile profile.now) (reverse past.now) number row }
 {

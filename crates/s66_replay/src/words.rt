@@ -13,13 +13,13 @@ use s66_isa::{KIND_COUNT, Memory, REGISTER_COUNT, Reg, kind_number};
 
 /// A word for each register, by its index.
 #[derive(Clone, Copy, Drop)]
-pub struct RegisterWords {
-    pub words: [u32; REGISTER_COUNT],
+pub(crate) struct RegisterWords {
+    pub(crate) words: [u32; REGISTER_COUNT],
 }
 
 impl RegisterWords {
     /// The word of a register.
-    pub fn at(&self, register: Reg) -> u32
+    pub(crate) fn at(&self, register: Reg) -> u32
         ensures { result ≡ word_of self.now.words register }
     {
         self.words[register.index() as usize]
@@ -56,7 +56,7 @@ impl RegisterWords {
     }
 
     /// Whether each word is no later than the other's of that register, or than the clamp.
-    pub fn are_no_later(&self, other: &RegisterWords, clamp: u32) -> bool
+    pub(crate) fn are_no_later(&self, other: &RegisterWords, clamp: u32) -> bool
         ensures { IsTrue result ↔ ((i : ℕ) → i < REGISTER_COUNT →
             get_or self.now.words i 0 ≤ max (get_or other.now.words i 0) clamp) }
     {
@@ -71,11 +71,11 @@ impl RegisterWords {
 
 /// When the units of a kind are free.
 #[derive(Clone, Copy, Drop)]
-pub struct FreeTimes {
+pub(crate) struct FreeTimes {
     /// When all are.
-    pub all: u32,
+    pub(crate) all: u32,
     /// When all but one are.
-    pub all_but_one: u32,
+    pub(crate) all_but_one: u32,
 }
 
 impl FreeTimes {
@@ -93,19 +93,19 @@ impl FreeTimes {
 
 /// The words of what is placed.
 #[derive(Clone, Copy, Drop)]
-pub struct Words {
+pub(crate) struct Words {
     /// When the last result in each register is done.
-    pub done: RegisterWords,
+    pub(crate) done: RegisterWords,
     /// One minor cycle after the last start of each register's readers.
-    pub read: RegisterWords,
+    pub(crate) read: RegisterWords,
     /// By the number of the kind.
-    pub free: [FreeTimes; KIND_COUNT],
+    pub(crate) free: [FreeTimes; KIND_COUNT],
     /// From when on a load may start.
-    pub load: u32,
+    pub(crate) load: u32,
     /// From when on a store may start.
-    pub store: u32,
+    pub(crate) store: u32,
     /// When all units are free and all results are done.
-    pub total: u32,
+    pub(crate) total: u32,
 }
 
 impl Default for Words {
@@ -116,7 +116,7 @@ impl Default for Words {
 
 impl Words {
     /// Before the first instruction.
-    pub fn new() -> Words
+    pub(crate) fn new() -> Words
         ensures { AreWords [] result }
     {
         Words {
@@ -137,7 +137,7 @@ impl Words {
     }
 
     /// Places one more instruction.
-    pub fn push(&mut self, point: &KeptPoint)
+    pub(crate) fn push(&mut self, point: &KeptPoint)
         ensures { (xs : List Point) → AreWords xs self.old → AreWords (xs ++ point.now ∷ []) self.new }
     {
         self.done.raise_results(point.results());

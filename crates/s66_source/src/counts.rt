@@ -14,7 +14,7 @@ use memchr::memchr;
 use s66_line::{from_operand, is_decimal_digit, split_word};
 
 /// The operations that end a part which an `IF`, a `SKIP`, an `ELSE`, a `DUP` or an `ECHO` covers.
-pub const RANGE_ENDS: [&[u8]; 4] = [b"ENDD", b"ENDIF", b"END", b"IDENT"];
+pub(crate) const RANGE_ENDS: [&[u8]; 4] = [b"ENDD", b"ENDIF", b"END", b"IDENT"];
 
 /// The operations whose operand is a count.
 const COUNTED_ALONE: [&[u8]; 8] = [

@@ -44,7 +44,7 @@ fn check_piece<R: Abort>(
 }
 
 /// A piece over a prefix by the nodes before each in the piece.
-pub fn dominated_piece<R: AllocGlobal + Abort>(
+pub(crate) fn dominated_piece<R: AllocGlobal + Abort>(
     rt: &R,
     block: &Block,
     prefix: &[u8],

@@ -31,7 +31,7 @@ impl Least for Falling {
 }
 
 /// What a prefix of a block gives, for a best time and a number of splits that are allowed.
-pub fn piece_of<R: AllocGlobal + Abort>(
+pub(crate) fn piece_of<R: AllocGlobal + Abort>(
     rt: &R,
     block: &Block,
     prefix: &[u8],

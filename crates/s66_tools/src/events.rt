@@ -148,14 +148,14 @@ fn answer(alloc: Global, block: &Block) -> Result<Answered, AllocError> {
 }
 
 /// What the ledger returns after the events.
-pub fn searched(alloc: Global) -> Result<Answered, AllocError> {
+pub(crate) fn searched(alloc: Global) -> Result<Answered, AllocError> {
     let source = source_of(alloc, MULTIPLIES)?;
     let block = block_of(&source)?;
     readings(alloc, block)
 }
 
 /// What its answer is when it is finished.
-pub fn finished(alloc: Global) -> Result<Answered, AllocError> {
+pub(crate) fn finished(alloc: Global) -> Result<Answered, AllocError> {
     let source = source_of(alloc, MULTIPLIES)?;
     let block = block_of(&source)?;
     answer(alloc, block)

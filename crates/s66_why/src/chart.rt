@@ -162,7 +162,7 @@ pub fn push_chart(out: &mut Vec<u8>, block: &Block, timed: &Timed) -> Result<(),
 ///
 /// A text is on the left of its places, and a blank follows it; the row of a `NO` has none. The ruler has the number of every tenth
 /// minor cycle, from 0 to the end, above its column.
-pub fn push_chart_in_places(
+pub(crate) fn push_chart_in_places(
     out: &mut Vec<u8>,
     block: &Block,
     width: usize,

@@ -10,7 +10,7 @@ use crate::places::push_blanks;
 use std::alloc::AllocError;
 
 /// The places of a name.
-pub const NAME_ROOM: usize = 3;
+pub(crate) const NAME_ROOM: usize = 3;
 
 /// Writes a letter over those of the minor cycles before the end.
 fn fill_until(letters: &mut [u8], end: usize, letter: u8)
@@ -48,7 +48,7 @@ fn push_letters(out: &mut Vec<u8>, activity: &Activity, cycles: u32) -> Result<(
 }
 
 /// Appends a row: a name, right in three places, one blank, the letters of `cycles` minor cycles, and a newline.
-pub fn push_row(
+pub(crate) fn push_row(
     out: &mut Vec<u8>,
     name: &[u8],
     activity: &Activity,
