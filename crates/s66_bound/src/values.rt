@@ -1,7 +1,7 @@
 //! The value of each bound by the tables of the clock's block: chain, loads and parcels, and the greatest of them. All are in minor
 //! cycles.
 
-ghost use Rattle.std.specs.Prelude.{◌≡◌, ◌+◌, ◌-◌, ◌<◌, ◌≤◌, ◌^◌, Bool, true, length, max, get_or};
+ghost use Rattle.std.specs.Prelude.{◌≡◌, ◌+◌, ◌-◌, ◌<◌, ◌≤◌, ◌^◌, true, length, max, get_or};
 ghost use Rattle.s66_isa.specs.Lists.{greatest, least};
 ghost use Rattle.s66_isa.specs.Table.{all_kinds, copies_of};
 ghost use Rattle.s66_line.specs.Block.{instrs_of};

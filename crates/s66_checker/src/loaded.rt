@@ -3,7 +3,7 @@
 //! It is energetic reasoning below a prefix: from a minor cycle on at the soonest these instructions use units of one kind, for so long
 //! in sum, and after any of them so much is left; so each order that begins with the prefix takes the bound at least.
 
-ghost use Rattle.std.specs.Prelude.{◌≡◌, ◌≤◌, ◌<◌, ◌+◌, ◌*◌, ◌^◌, ◌&&◌, Some, true, nat_le, length, map};
+ghost use Rattle.std.specs.Prelude.{◌≡◌, ◌≤◌, ◌<◌, ◌+◌, ◌*◌, ◌&&◌, Some, true, nat_le, length, map};
 ghost use Rattle.s66_isa.specs.declared.limits.TheConstants.{BLOCK_LIMIT};
 ghost use Rattle.s66_isa.specs.Lists.{every, least, weigh};
 ghost use Rattle.s66_model.specs.Timing.{row_at};

@@ -1,6 +1,6 @@
 //! The object of an instruction: its text, what the table has of it, and on which it depends.
 
-ghost use Rattle.std.specs.Prelude.{ℕ, List, ◌≡◌, ◌≤◌, ◌++◌, OnOk, length};
+ghost use Rattle.std.specs.Prelude.{◌≡◌, ◌≤◌, ◌++◌, OnOk, length};
 ghost use Rattle.s66_line.specs.Block.{instrs_of};
 ghost use Rattle.s66_model.specs.Dependence.{all_needs, needs};
 ghost use Rattle.s66_dep.specs.Members.{numbers_in};

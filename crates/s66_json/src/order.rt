@@ -1,6 +1,6 @@
 //! The members of a timed order: time, instructions, path, steps and sums; with a found order, bound and splits.
 
-ghost use Rattle.std.specs.Prelude.{ℕ, ◌≡◌, ◌≤◌, ◌++◌, OnOk, IfOk, length, map, reverse};
+ghost use Rattle.std.specs.Prelude.{◌≡◌, ◌≤◌, ◌++◌, OnOk, IfOk, length, map, reverse};
 ghost use Rattle.s66_isa.specs.declared.limits.TheConstants.{BLOCK_LIMIT};
 ghost use Rattle.s66_why.specs.Sums.{sum_of};
 ghost use Rattle.s66_why.specs.Why.{lost, stretches};

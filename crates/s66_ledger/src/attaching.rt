@@ -7,7 +7,7 @@ ghost use Rattle.s66_node.specs.Nodes.{named};
 ghost use Rattle.s66_ledger.specs.LiveNodes.{AreCounted};
 ghost use Rattle.s66_ledger.specs.Nodes.{put_state};
 ghost use Rattle.s66_ledger.specs.OpenNodes.{AreOpenNodes, compare_ranked};
-ghost use Rattle.s66_ledger.specs.Grafting.{placed_parent, placed, settled_state, opened_state, IsNamed, Grafts, IsGrafting, HaveNames};
+ghost use Rattle.s66_ledger.specs.Grafting.{placed, settled_state, opened_state, IsNamed, Grafts, IsGrafting, HaveNames};
 
 use crate::path;
 use crate::rank::rank_of;

@@ -1,6 +1,6 @@
 //! The children of each node of a table, since nodes know only their parents; for writing the tree.
 
-ghost use Rattle.std.specs.Prelude.{◌≡◌, ◌<◌, ◌^◌, length, IfOk};
+ghost use Rattle.std.specs.Prelude.{◌<◌, ◌^◌, length, IfOk};
 ghost use Rattle.s66_ledger.specs.Links.{AreLinks, IsChild, HasChild};
 
 use crate::path::up;

@@ -6,7 +6,7 @@ use s66_time::time_of;
 use std::alloc::AllocError;
 
 impl Ledger<'_> {
-    ghost use Rattle.std.specs.Prelude.{◌≡◌, ◌<◌, ◌≤◌, length, OnOk};
+    ghost use Rattle.std.specs.Prelude.{◌<◌, ◌≤◌, length, OnOk};
     ghost use Rattle.s66_model.specs.Timing.{total_of};
     ghost use Rattle.s66_model.specs.LegalOrder.{IsLegal};
     ghost use Rattle.s66_machine.specs.Ledger.{best_time};

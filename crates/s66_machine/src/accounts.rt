@@ -5,8 +5,8 @@ ghost use Rattle.s66_isa.specs.Lists.{weigh};
 ghost use Rattle.s66_model.specs.declared.rule.Rule.{Rule};
 ghost use Rattle.s66_model.specs.declared.rule.Rule.TheVariants.{NoneNamed};
 ghost use Rattle.s66_model.specs.Timing.{Problem};
-ghost use Rattle.s66_machine.specs.Ledger.{Ledger, Event, Reply, Step, Run, worker, Open, Out, Grant, Claim, Graft, Offer, Back, Granted, Claimed, Taken, NotOut, Lower, NotLower, OtherBlock, Returned, opening};
-ghost use Rattle.s66_machine.specs.Accounts.{Grants, Claims, Grafts, Offers, GivesBack, Retires, brief, account_of, counted, no_account, Account, Summary, summary_of, account_at, SeatRecord, Agrees, opened, after_event, after_reading};
+ghost use Rattle.s66_machine.specs.Ledger.{Ledger, Event, Reply, Step, Run, worker, Open, Out, Graft, Offer, Back, Claimed, Taken, NotOut, Lower, NotLower, OtherBlock, opening};
+ghost use Rattle.s66_machine.specs.Accounts.{Claims, Grafts, Offers, GivesBack, brief, account_of, counted, no_account, Summary, summary_of, SeatRecord, Agrees, opened, after_event, after_reading};
 ghost use Rattle.s66_model.specs.Examples.{load_problem, multiply_problem};
 ghost use Rattle.s66_machine.specs.Examples.{ledger_events, root_split};
 

@@ -9,7 +9,7 @@ ghost use Rattle.s66_model.specs.Tree.{Tree, splits};
 ghost use Rattle.s66_model.specs.Piece.{Terminal, Frontier};
 ghost use Rattle.s66_model.specs.Answer.{source_time};
 ghost use Rattle.s66_machine.specs.Ledger.{Ledger, Event, Reply, Step, Run, opening, best_time, Graft, Offer, Taken, NotOut, OtherPrefix, OverAllowance};
-ghost use Rattle.s66_machine.specs.Coverage.{Covers, NeverRises};
+ghost use Rattle.s66_machine.specs.Coverage.{Covers};
 ghost use Rattle.s66_machine.specs.NodeTable.{IsTable};
 ghost use Rattle.s66_machine.specs.Reached.{IsReached};
 ghost use Rattle.s66_machine.specs.Accounts.{Grafts, brief};

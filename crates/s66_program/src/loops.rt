@@ -156,7 +156,7 @@ fn or_else(closed: Option<Loop>, other: Option<Loop>) -> Option<Loop>
 impl<'s, 'a> Orders<'s, 'a> {
     ghost use Rattle.std.specs.Prelude.{◌≡◌, ◌≤◌, ◌<◌, ◌+◌, ◌*◌, ◌^◌, IfOk, None, drop, length, slice_get};
     ghost use Rattle.s66_source.specs.Printed.{ArePlaced};
-    ghost use Rattle.s66_program.specs.Loops.{block_after, loop_behind, loop_closed, loop_from, loop_through, loops_from, parcels_through, part_after};
+    ghost use Rattle.s66_program.specs.Loops.{block_after, loop_behind, loop_closed, loop_through, loops_from, parcels_through, part_after};
     ghost use Rattle.s66_program.specs.declared.statement.Step.TheVariants.{Branch};
     ghost use Rattle.s66_program.specs.declared.limits.TheConstants.{LOOP_LIMIT};
 

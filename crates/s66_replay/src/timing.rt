@@ -1,7 +1,7 @@
 //! The times of an instruction by what all that come before it leave. Points are in order, the oldest first, and times are in
 //! minor cycles.
 
-ghost use Rattle.std.specs.Prelude.{◌≡◌, ◌+◌, ◌<◌, ◌≤◌, ◌^◌, if◌then◌else◌, length, map, reverse};
+ghost use Rattle.std.specs.Prelude.{◌≡◌, ◌+◌, ◌<◌, ◌≤◌, ◌^◌, length, map, reverse};
 ghost use Rattle.s66_isa.specs.Lists.{greatest, weigh};
 ghost use Rattle.s66_isa.specs.Table.{Write as WriteOf};
 ghost use Rattle.s66_model.specs.Packing.{fits_at};

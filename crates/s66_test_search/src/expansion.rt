@@ -1,7 +1,5 @@
 //! Tests of expansions: the nodes of a piece and its best order, also by a best time that falls meanwhile.
 
-ghost use Rattle.std.specs.Prelude.{ℕ, ◌≡◌, ◌≤◌};
-
 use crate::blocks::{MULTIPLIES, ONE_LOAD, SEVEN_MULTIPLIES};
 use crate::reading::{block_of, source_of};
 use s66_dep::is_beginning;

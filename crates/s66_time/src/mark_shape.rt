@@ -1,6 +1,6 @@
 //! How many free times of each kind of unit a mark keeps: no more than there are instructions of the kind.
 
-ghost use Rattle.std.specs.Prelude.{◌≡◌, ◌+◌, ◌≤◌, List, length, min, take};
+ghost use Rattle.std.specs.Prelude.{◌≡◌, ◌+◌, ◌≤◌, length, min};
 ghost use Rattle.s66_isa.specs.Lists.{tally, weigh};
 ghost use Rattle.s66_isa.specs.Table.{Row as RowOf, all_kinds, same_kind};
 ghost use Rattle.s66_isa.specs.declared.instr.Kind.{Kind as KindOf};

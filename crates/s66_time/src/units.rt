@@ -1,6 +1,6 @@
 //! A word for each functional unit, when it is free; and the unit of a kind that is free soonest.
 
-ghost use Rattle.std.specs.Prelude.{ℕ, ◌≡◌, ◌+◌, ◌-◌, ◌*◌, ◌<◌, ◌≤◌, ◌^◌, length, set, get_or, replicate};
+ghost use Rattle.std.specs.Prelude.{ℕ, ◌≡◌, ◌+◌, ◌-◌, ◌*◌, ◌<◌, ◌≤◌, length, get_or, replicate};
 ghost use Rattle.s66_isa.specs.Lists.{greatest, weigh};
 ghost use Rattle.s66_isa.specs.Table.{copies_of};
 ghost use Rattle.s66_isa.specs.declared.instr.Kind.{Kind as KindOf};
