@@ -1,5 +1,5 @@
 //! Calls for `tools/refused.py` that search by workers, make the document of an answer, read documents, and run `sum`.
-ghost use Rattle.std.specs.Prelude.{◌+◌, ◌^◌, ◌<◌};
+ghost use Rattle.std.specs.Prelude.{◌+◌, ◌<◌};
 
 use crate::calls::Answered;
 use crate::sources::{block_of, source_of};
