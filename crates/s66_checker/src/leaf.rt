@@ -7,13 +7,13 @@ ghost use Rattle.std.specs.Option.{is_some};
 ghost use Rattle.s66_model.specs.Timing.{points_of, row_at, next};
 ghost use Rattle.s66_model.specs.LegalOrder.{is_remaining, ready, sum_remaining};
 ghost use Rattle.s66_model.specs.Leaves.{Chain, head, link, is_linked, walk, work_of, over, if_last, parcels, load, chain_value};
-ghost use Rattle.s66_replay.specs.KeptPrefix.{TOTAL_LIMIT};
+ghost use Rattle.s66_checker.specs.KeptPrefix.{TOTAL_LIMIT};
 ghost use Rattle.s66_checker.specs.Verdict.{has_links, is_walk};
 
 use crate::links::{link, own_parcels, tail, work};
+use crate::replay::{Numbers, Prefix, next, registers_done, rest_busy, writes_done};
 use arrayvec::ArrayVec;
 use s66_isa::Kind;
-use s66_replay::{Numbers, Prefix, next, registers_done, rest_busy, writes_done};
 
 /// What is ready after the prefix, rising: one look at a word for each number of the block.
 pub(crate) fn ready(prefix: &Prefix) -> Numbers

@@ -38,6 +38,7 @@ mod leaf;
 mod links;
 mod loaded;
 mod name;
+mod replay;
 mod verdict;
 mod walk;
 
@@ -52,4 +53,5 @@ pub use laws::{dominating_law, yes_law};
 pub use leaf::{head, load, remaining_parcels, remaining_work};
 pub use links::{link, own_parcels, tail, uses};
 pub use loaded::{amounts, use_time};
+pub use replay::{KeptPoint, Prefix, next, rest_busy};
 pub use verdict::{Reason, Verdict};

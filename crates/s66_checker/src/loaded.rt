@@ -14,9 +14,9 @@ ghost use Rattle.s66_facts.specs.Ground.{known_of as known_in};
 
 use crate::known::Known;
 use crate::leaf::over;
+use crate::replay::Prefix;
 use s66_facts::are_rising;
 use s66_isa::{Kind, is_same_kind};
-use s66_replay::Prefix;
 
 /// Whether each of these numbers remains.
 fn are_remaining(prefix: &Prefix, numbers: &[u8]) -> bool

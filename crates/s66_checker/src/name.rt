@@ -10,11 +10,11 @@ ghost use Rattle.s66_checker.specs.Verdict.{problem_of, is_early_enough, is_name
 ghost use Rattle.s66_checker.specs.NamedNodes.{IsNodeOn};
 
 use crate::known::fact_lines;
+use crate::replay::Prefix;
 use arrayvec::ArrayVec;
 use s66_cert::{Document, TreeLine};
 use s66_isa::BLOCK_LIMIT;
 use s66_model::Rule;
-use s66_replay::Prefix;
 
 /// Whether the node of this line is no dominated leaf.
 fn is_standing(line: TreeLine<'_>) -> bool

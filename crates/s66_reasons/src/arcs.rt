@@ -8,10 +8,10 @@ ghost use Rattle.s66_moments.specs.Networks.{Network as NetworkOf, network};
 ghost use Rattle.s66_facts.specs.Marked.{before_in};
 ghost use Rattle.s66_reasons.specs.Within.{IsNumberOf, with_line, with_lines};
 
+use s66_checker::Prefix;
 use s66_facts::{Facts, fetches, is_same_moment, latency_to, writes};
 use s66_isa::{Row, has_register, is_memory_conflict, is_same_kind};
 use s66_moments::{FactLine, Moment, Stage};
-use s66_replay::Prefix;
 
 /// Whether an instruction has a stage.
 fn has_stage(row: &Row, stage: &Stage) -> bool

@@ -7,10 +7,9 @@ ghost use Rattle.s66_reasons.specs.LongestPaths.{keeps_apart};
 use crate::arcs::{arc_by_lines, table_arc};
 use crate::hop::Hop;
 use s66_cert::Document;
-use s66_checker::fact_lines;
+use s66_checker::{Prefix, fact_lines};
 use s66_facts::{Facts, is_same_moment};
 use s66_moments::{FactLine, Moment, Stage};
-use s66_replay::Prefix;
 use std::marker::Model;
 
 /// What is known of a document's block, by dependence alone and after all fact lines. Contracts see the document.

@@ -19,11 +19,10 @@ use crate::paragraphs::push_paragraphs;
 use crate::tree::{has_factual, is_said, splits};
 use crate::words::{push_between, push_counted};
 use s66_cert::Document;
-use s66_checker::{fact_lines, instructions_of, profile_of};
+use s66_checker::{Prefix, fact_lines, instructions_of, profile_of};
 use s66_device::push_field;
 use s66_facts::Facts;
 use s66_isa::{Instr, Profile};
-use s66_replay::Prefix;
 use std::alloc::AllocError;
 
 /// Up to the bound.
