@@ -19,7 +19,7 @@ pub struct KeptPoint {
     pub issue: u32,
     pub start: u32,
     pub free: u32,
-    pub results: ArrayVec<KeptResult, 2>,
+    pub(crate) results: ArrayVec<KeptResult, 2>,
 }
 
 impl Model for KeptPoint {
@@ -71,7 +71,7 @@ impl KeptPoint {
     }
 
     /// Its results.
-    pub fn results(&self) -> &[KeptResult]
+    pub(crate) fn results(&self) -> &[KeptResult]
         ensures { result.now ≡ self.now.results }
     {
         self.results.as_slice()

@@ -148,7 +148,7 @@ impl Prefix {
     }
 
     /// The same points, with what they leave.
-    pub fn past(&self) -> &Past
+    pub(crate) fn past(&self) -> &Past
         ensures value { reverse result.now ≡ points_of self.now.problem self.now.numbers }
         ensures timed { AreTimed result.now }
     {
