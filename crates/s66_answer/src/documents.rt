@@ -17,11 +17,11 @@ use crate::block_texts::texts_of;
 use arrayvec::ArrayVec;
 use s66_cert::{Claim, Document, Evidence, Tree};
 use s66_checker::{Verdict, verify};
-use s66_dep::Order;
 use s66_isa::{BLOCK_LIMIT, Profile};
 use s66_ledger::Answer;
 use s66_line::Block;
 use s66_model::{BUDGET_LIMIT, Rule};
+use s66_time::Order;
 use std::alloc::{AllocError, Global};
 
 /// The rule of a document with this tree: that of its dominated leaves if it has some, else `NoneNamed`.

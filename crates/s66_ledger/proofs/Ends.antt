@@ -9,7 +9,7 @@ use Rattle.s66_machine.specs.Ledger.{Node, Open, Out, Cut, Closed, State, is_ope
 use Rattle.s66_machine.specs.Coverage.{Covers, NodesHold, IsFinished, bound_of}
 use Rattle.s66_machine.specs.Reached.{IsReached}
 use Rattle.s66_machine.specs.Ended.{IsEnded, ended_answer}
-use Rattle.s66_dep.proofs.LongestBeginning.{beginning-few}
+use Rattle.s66_time.proofs.LongestBeginning.{beginning-few}
 use Rattle.s66_machine.proofs.Histories.{run-join, reached-covers, reached-table}
 use Rattle.s66_machine.proofs.EndedLedgers.{ended-finishes}
 use Rattle.s66_ledger.specs.Ledgers.{LedgerOf}

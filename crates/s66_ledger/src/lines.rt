@@ -2,7 +2,7 @@
 
 ghost use Rattle.std.specs.Prelude.{◌≡◌, ◌≢◌, ◌<◌, ◌+◌, ◌++◌, [], ◌∷◌, true, length, IfOk, OnOk};
 ghost use Rattle.s66_bound.specs.LeafValues.{leaf_of};
-ghost use Rattle.s66_dep.specs.Members.{numbers_in};
+ghost use Rattle.s66_time.specs.Members.{numbers_in};
 ghost use Rattle.s66_model.specs.Later.{children, later};
 ghost use Rattle.s66_model.specs.LegalOrder.{is_ready, ready};
 ghost use Rattle.s66_machine.specs.NodeTree.{is_split_at, ending_at};
@@ -16,8 +16,8 @@ ghost use Rattle.s66_node.specs.declared.node.State.TheVariants as state;
 use crate::links::Links;
 use crate::path::{name_of, up};
 use s66_bound::Leaf;
-use s66_dep::Set;
 use s66_node::{Node, State, Walk};
+use s66_time::Set;
 use s66_tree::{Tree, TreeLine};
 use std::alloc::AllocError;
 

@@ -6,13 +6,12 @@ use crate::limits::GRANT_LIMIT;
 use crate::node_table::NodeTable;
 use crate::reply::{BackError, GraftError, Offered};
 use arrayvec::ArrayVec;
-use s66_dep::Order;
 use s66_isa::{BLOCK_LIMIT, Profile};
 use s66_line::Block;
 use s66_machine::Ticket;
 use s66_model::{BUDGET_LIMIT, Rule};
 use s66_node::{Piece, Walk};
-use s66_time::{Timed, time_of};
+use s66_time::{Order, Timed, time_of};
 use std::alloc::{AllocError, Global};
 use std::marker::Model;
 

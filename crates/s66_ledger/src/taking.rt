@@ -1,8 +1,7 @@
 //! What is taken back before a search goes on alone: allowances, nodes that are out, and whole orders among the nodes.
 
 use crate::ledger::Ledger;
-use s66_dep::Order;
-use s66_time::time_of;
+use s66_time::{Order, time_of};
 use std::alloc::AllocError;
 
 impl Ledger<'_> {

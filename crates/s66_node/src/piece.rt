@@ -3,11 +3,10 @@
 use crate::name::Dominance;
 use crate::node::Node;
 use arrayvec::ArrayVec;
-use s66_dep::Order;
 use s66_isa::{BLOCK_LIMIT, Profile, is_same_profile};
 use s66_line::Block;
 use s66_model::Rule;
-use s66_time::Timed;
+use s66_time::{Order, Timed};
 use std::boxed::Box;
 use std::marker::Model;
 

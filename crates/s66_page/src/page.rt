@@ -14,11 +14,10 @@ use crate::start::{PAGE_HEAD, PAGE_LIST, PAGE_START};
 use crate::summary::{Summary, Total};
 use crate::text::push_text;
 use s66_command::{Change, changes_of, push_changes};
-use s66_dep::Order;
 use s66_device::push_field;
 use s66_isa::Profile;
 use s66_line::Block;
-use s66_time::Timer;
+use s66_time::{Order, Timer};
 use std::alloc::AllocError;
 
 /// What a page has of each block: its row in the list of blocks, or its orders.

@@ -6,11 +6,10 @@ ghost use Rattle.s66_program.specs.ChartText.{IsChartOutput, chart_lines};
 use crate::block_head::push_timed_line;
 use crate::listing::{Listing, listing_output};
 use s66_answer::Output;
-use s66_dep::Order;
 use s66_isa::Profile;
 use s66_line::Block;
 use s66_source::Source;
-use s66_time::Timer;
+use s66_time::{Order, Timer};
 use s66_why::{push_chart, push_text_chart, push_units_chart};
 use std::alloc::{AllocError, Global};
 

@@ -9,9 +9,9 @@ ghost use Rattle.s66_program.specs.declared.limits.TheConstants.{LOOP_LIMIT};
 use crate::limits::LOOP_LIMIT;
 use crate::statement::{Step, begins_word, is_same, name_of, passes, step_of, target_of};
 use crate::words::{WORD, parcel_after, words_for};
-use s66_dep::Order;
 use s66_line::Block;
 use s66_source::{FramePart, Placed, Source, frame_of};
+use s66_time::Order;
 use std::alloc::{AllocError, Global};
 use std::marker::Model;
 

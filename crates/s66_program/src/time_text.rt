@@ -8,12 +8,11 @@ ghost use Rattle.s66_program.specs.TimeText.{IsTimeOutput, time_line, trace_line
 use crate::block_head::push_block_head;
 use crate::listing::{Listing, listing_output};
 use s66_answer::Output;
-use s66_dep::Order;
 use s66_device::push_field;
 use s66_isa::Profile;
 use s66_line::Block;
 use s66_source::Source;
-use s66_time::{Timed, Timer};
+use s66_time::{Order, Timed, Timer};
 use std::alloc::{AllocError, Global};
 
 /// The line of a block, whose number is from 1, and which is timed as it was written.

@@ -3,11 +3,10 @@
 ghost use Rattle.std.specs.Prelude.{◌≡◌};
 ghost use Rattle.s66_line.specs.Block.{instrs_of};
 
-use s66_dep::Order;
 use s66_isa::Profile;
 use s66_line::Block;
 use s66_source::Source;
-use s66_time::{Timed, time_of};
+use s66_time::{Order, Timed, time_of};
 
 /// The legal orders take 16 (1 2 3), 12 (1 3 2) and 13 (3 1 2).
 pub const ONE_LOAD: &str = "  SA1 A1+B1\n  BX6 X1\n  BX7 X2\n";

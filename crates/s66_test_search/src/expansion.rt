@@ -2,10 +2,10 @@
 
 use crate::blocks::{MULTIPLIES, ONE_LOAD, SEVEN_MULTIPLIES};
 use crate::reading::{block_of, source_of};
-use s66_dep::is_beginning;
 use s66_isa::Profile;
 use s66_line::Block;
 use s66_node::{Constant, Least, Node, Piece, State, Walk};
+use s66_time::is_beginning;
 use std::process::Abort;
 
 /// A best time that is read once, and falls when it is read again.

@@ -7,13 +7,12 @@ use crate::blocks::{MULTIPLIES, ONE_LOAD};
 use crate::expansion::piece_of;
 use crate::ledger::open_ledger;
 use crate::reading::{block_of, source_of};
-use s66_dep::Order;
 use s66_isa::Profile;
 use s66_ledger::{GraftError, Offered, Ticket};
 use s66_line::Block;
 use s66_node::Piece;
 use s66_pool::{Hub, Needs, Seat, SeatsMissing, Supply};
-use s66_time::{Timed, time_of};
+use s66_time::{Order, Timed, time_of};
 use std::process::Abort;
 use std::sync::Wait;
 

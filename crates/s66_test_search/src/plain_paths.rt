@@ -2,13 +2,12 @@
 //! number that remains. All times are in minor cycles.
 
 use s66_deep::Tails;
-use s66_dep::depends;
 use s66_isa::{
     BLOCK_LIMIT, Profile, Reg, Row, Write, has_register, is_memory_conflict, is_same_kind,
     is_same_register,
 };
 use s66_line::Block;
-use s66_time::Clock;
+use s66_time::{Clock, depends};
 
 /// What follows the result in a register, 0 if there is none.
 fn after_result(row: &Row, tails: &Tails, register: Reg) -> u32 {

@@ -4,10 +4,9 @@ ghost use Rattle.std.specs.Prelude.{◌≡◌, ◌++◌, [], ◌∷◌, IsTrue};
 ghost use Rattle.s66_time.specs.Ticking.{problem_of};
 
 use crate::plain_clock::PlainClock;
-use s66_dep::ready;
 use s66_isa::{Bank, KINDS, Profile, Reg};
 use s66_line::Block;
-use s66_time::Clock;
+use s66_time::{Clock, ready};
 use std::process::Abort;
 
 /// A walk through the legal orders of a block, depth first, the children of a beginning in rising number. At each step it checks

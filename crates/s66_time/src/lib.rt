@@ -1,12 +1,15 @@
-//! How an order of a block is packed, and when each of its instructions issues, starts and is done. Begin at `timed.rt`, which times a
-//! whole order, and `clock.rt`, which times a beginning that grows and shrinks.
+//! Legal orders of a block, by the dependences between its instructions (`graph/`); how an order is packed, and when each of its
+//! instructions issues, starts and is done. Begin at `timed.rt`, which times a whole order, and `clock.rt`, which times a beginning that
+//! grows and shrinks.
 //!
-//! It promises that its times are those of the definition (`s66_model`), whatever was timed or pushed before.
+//! It promises that an `Order` is legal, and that its times are those of the definition (`s66_model`), whatever was timed or pushed
+//! before.
 #![tactic(auto)]
 
 mod clock;
 mod copies;
 mod dominance;
+mod graph;
 mod limits;
 mod mark;
 mod mark_shape;
@@ -23,6 +26,9 @@ mod words;
 
 pub use clock::{Clock, rows_of};
 pub use dominance::{dominates, dominates_clamped};
+pub use graph::{
+    Dependences, NotLegal, Openings, Order, Ranking, Set, depends, is_beginning, ready,
+};
 pub use limits::{LOOK_LIMIT, TOTAL_LIMIT};
 pub use mark::Mark;
 pub use result::{ResultAt, last_time};

@@ -3,9 +3,8 @@
 
 use crate::best_first::instructions::Instructions;
 use crate::best_first::waits::{READERS_AT, REFERENCES_AT, STORES_AT, UNITS_AT};
-use s66_dep::Set;
 use s66_isa::{KINDS, Row};
-use s66_time::Clock;
+use s66_time::{Clock, Set};
 
 /// When an instruction looks at a word.
 #[derive(Clone, Copy)]

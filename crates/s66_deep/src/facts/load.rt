@@ -3,8 +3,8 @@
 use crate::facts::ground::Ground;
 use crate::facts::spans::{Spans, at_issue, at_start};
 use arrayvec::ArrayVec;
-use s66_dep::Set;
 use s66_isa::BLOCK_LIMIT;
+use s66_time::Set;
 
 /// What may be said of a load: its instructions begin so late, and so much is left after them; the wait follows.
 #[derive(Clone, Copy)]

@@ -7,9 +7,9 @@ ghost use Rattle.s66_moments.specs.Facts.{IsNumber};
 
 use crate::facts::copies::copy_of;
 use arrayvec::ArrayVec;
-use s66_dep::Set;
 use s66_facts::Facts;
 use s66_isa::BLOCK_LIMIT;
+use s66_time::Set;
 
 /// Which number is known to stand before which, as words. What is of number n is at n - 1.
 #[derive(Drop)]

@@ -3,14 +3,14 @@
 
 ghost use Rattle.std.specs.Prelude.{ℕ, ◌≤◌, length};
 ghost use Rattle.s66_isa.specs.declared.limits.TheConstants.{BLOCK_LIMIT};
-ghost use Rattle.s66_dep.specs.Ranks.{IsRanking, AreAtMost};
+ghost use Rattle.s66_time.specs.Ranks.{IsRanking, AreAtMost};
 ghost use Rattle.s66_deep.specs.declared.limits.TheConstants.{TAIL_LIMIT};
 ghost use Rattle.s66_deep.specs.FollowingWords.{AreSmall, AreSmallWords, HasSmallWords, HasRanks};
 
 use crate::classes::{Class, Role, those_of, users_of};
 use crate::floors::tails::{Part, Tails};
-use s66_dep::{Ranking, Set};
 use s66_isa::{BLOCK_LIMIT, KIND_COUNT, KINDS, REGISTER_COUNT, Reg, Row};
+use s66_time::{Ranking, Set};
 
 /// What the greatest paths of a block look up. Words are in minor cycles; that of n is at place n - 1.
 #[derive(Drop)]

@@ -2,7 +2,7 @@
 //! values are in minor cycles.
 
 ghost use Rattle.std.specs.Prelude.{◌+◌, ◌≤◌};
-ghost use Rattle.s66_dep.specs.Ranks.{AreAtMost};
+ghost use Rattle.s66_time.specs.Ranks.{AreAtMost};
 ghost use Rattle.s66_time.specs.declared.limits.TheConstants.{TOTAL_LIMIT};
 ghost use Rattle.s66_deep.specs.declared.limits.TheConstants.{TAIL_LIMIT};
 ghost use Rattle.s66_deep.specs.FollowingWords.{AreSmallWords, HasSmallWords};
@@ -10,9 +10,8 @@ ghost use Rattle.s66_deep.specs.FollowingWords.{AreSmallWords, HasSmallWords};
 use crate::floors::left::Left;
 use crate::floors::tables::PathTables;
 use crate::floors::words::done_of;
-use s66_dep::{Ranking, Set};
 use s66_isa::{BLOCK_LIMIT, Kind, Memory, Reg, kind_number};
-use s66_time::Clock;
+use s66_time::{Clock, Ranking, Set};
 
 /// A value, or a word and what follows if that is greater, at one of those that remain of a class.
 fn raised(ranking: &Ranking, left: &Set, those: &Set, word: u32, top: u32, most: u32) -> u32

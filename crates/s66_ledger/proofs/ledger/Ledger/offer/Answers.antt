@@ -1,5 +1,5 @@
 use Rattle.std.proofs.Common.{◌≡◌, ◌∙◌, refl, ap, subst, arith}
-use Rattle.s66_dep.specs.Ordered.{Ordered}
+use Rattle.s66_time.specs.Ordered.{Ordered}
 use Rattle.s66_machine.specs.Ledger.{Event}
 use Rattle.s66_machine.specs.Recorded.{IsOwn, IsOfferOf}
 use Rattle.s66_ledger.specs.Replies.{offered_reply}
