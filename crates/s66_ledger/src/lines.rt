@@ -5,7 +5,7 @@ ghost use Rattle.s66_bound.specs.LeafValues.{leaf_of};
 ghost use Rattle.s66_time.specs.Members.{numbers_in};
 ghost use Rattle.s66_model.specs.Later.{children, later};
 ghost use Rattle.s66_model.specs.LegalOrder.{is_ready, ready};
-ghost use Rattle.s66_machine.specs.NodeTree.{is_split_at, ending_at};
+ghost use Rattle.s66_model.specs.NodeTree.{is_split_at, ending_at};
 ghost use Rattle.s66_model.specs.DominatedLeaves.{Bounding};
 ghost use Rattle.s66_model.specs.Tree.{AtTerminal};
 ghost use Rattle.s66_ledger.specs.AnswerLines.{AreOneTree, StandsAt, lines_left, to_come};

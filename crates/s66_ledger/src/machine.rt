@@ -1,5 +1,5 @@
 //! The machine (`Machine`): the state of a ledger without its history, and what each event does to it. What the events mean is
-//! `s66_machine/specs/Ledger.antt`.
+//! `s66_model/specs/Ledger.antt`.
 
 use crate::answer::Answer;
 use crate::limits::GRANT_LIMIT;
@@ -8,8 +8,7 @@ use crate::reply::{BackError, GraftError, Offered};
 use arrayvec::ArrayVec;
 use s66_isa::{BLOCK_LIMIT, Profile};
 use s66_line::Block;
-use s66_machine::Ticket;
-use s66_model::{BUDGET_LIMIT, Rule};
+use s66_model::{BUDGET_LIMIT, Rule, Ticket};
 use s66_node::{Piece, Walk};
 use s66_time::{Order, Timed, time_of};
 use std::alloc::{AllocError, Global};
@@ -51,12 +50,12 @@ impl<'a> Machine<'a> {
     ghost use Rattle.s66_model.specs.LegalOrder.{IsBeginning};
     ghost use Rattle.s66_model.specs.Leaves.{floor_value};
     ghost use Rattle.s66_model.specs.Tree.{splits};
-    ghost use Rattle.s66_machine.specs.Ledger.{Event, opening, best_time, allowance, is_live, node_at, IsOut, Grant, Granted, Claim, Claimed, Back, Returned, NotOut, Retire, Retired};
-    ghost use Rattle.s66_machine.specs.Recorded.{IsOfferOf, IsOwnPiece};
-    ghost use Rattle.s66_machine.specs.Coverage.{bound_of};
+    ghost use Rattle.s66_model.specs.Ledger.{Event, opening, best_time, allowance, is_live, node_at, IsOut, Grant, Granted, Claim, Claimed, Back, Returned, NotOut, Retire, Retired};
+    ghost use Rattle.s66_model.specs.Recorded.{IsOfferOf, IsOwnPiece};
+    ghost use Rattle.s66_model.specs.Coverage.{bound_of};
     ghost use Rattle.s66_node.specs.Pieces.{tree_of};
     ghost use Rattle.s66_ledger.specs.LedgerMachine.{IsMove};
-    ghost use Rattle.s66_machine.specs.Ended.{IsEnded, ended_answer};
+    ghost use Rattle.s66_model.specs.Ended.{IsEnded, ended_answer};
     ghost use Rattle.s66_ledger.specs.Answers.{answer_of};
     ghost use Rattle.s66_ledger.specs.Finishing.{NoneOut, WholesAreTimed};
     ghost use Rattle.s66_ledger.specs.GraftMoves.{IsTakenMove, IsRefusedMove};

@@ -17,7 +17,7 @@ use Rattle.s66_node.specs.declared.whole_order.WholeOrder.{WholeOrder}
 use Rattle.s66_node.specs.Walked.{front}
 use Rattle.s66_node.specs.Growing.{TreeGrows, tree_prefixes}
 use Rattle.s66_model.specs.Piece.{Terminal, Frontier, Passed}
-use Rattle.s66_machine.specs.Expansion.{whole_at}
+use Rattle.s66_model.specs.Expansion.{whole_at}
 use Rattle.s66_node.specs.declared.grow.OpenSplit.{OpenSplit}
 use Rattle.s66_node.specs.Walking.{Span, AreOpen, FramesStand, IsDue, IsLeft, IsKnown, IsLeast, IsBeingMade, GrowsFor, AreOfSplits, NameSplits, lefts}
 use Rattle.s66_node.proofs.Nodes.{get_or-front, get_or-last}

@@ -7,7 +7,7 @@ ghost use Rattle.s66_line.specs.Block.{instrs_of};
 ghost use Rattle.s66_model.specs.Timing.{Problem};
 ghost use Rattle.s66_model.specs.Tree.{Tree};
 ghost use Rattle.s66_model.specs.Piece.{Terminal};
-ghost use Rattle.s66_machine.specs.Expansion.{whole_orders};
+ghost use Rattle.s66_model.specs.Expansion.{whole_orders};
 ghost use Rattle.s66_node.specs.Pieces.{IsBestTimed};
 ghost use Rattle.s66_node.specs.Walking.{IsLeast};
 

@@ -3,7 +3,7 @@
 use crate::incumbent::Incumbent;
 use crate::seat::Seat;
 use crate::victim::Victim;
-use s66_machine::Ticket;
+use s66_model::Ticket;
 use s66_share::Lane;
 
 /// What a worker needs beside its seat at the hub: its view of the best time, a lane of nodes, and the lanes from which it may steal.
