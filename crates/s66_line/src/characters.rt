@@ -15,7 +15,7 @@ use crate::limits::TEXT_LIMIT;
 /// Where in an operand a byte stands, by the bytes before it. The assembler counts characters, as in `10HREAD ERROR`, or reads them
 /// up to a mark, as in `=C/A B/`.
 #[derive(Clone, Copy)]
-pub(crate) enum Place {
+pub enum Place {
     /// At the beginning of a term.
     AtTerm,
     /// Within a term.

@@ -29,7 +29,7 @@ pub use dominance::{dominates, dominates_clamped};
 pub use graph::{
     Dependences, NotLegal, Openings, Order, Ranking, Set, depends, is_beginning, ready,
 };
-pub use limits::{LOOK_LIMIT, TOTAL_LIMIT};
+pub use limits::{COPIES_LIMIT, LOOK_LIMIT, TOTAL_LIMIT};
 pub use mark::Mark;
 pub use result::{ResultAt, last_time};
 pub use timed::{Timed, Timer, Times, time_of};

@@ -12,7 +12,7 @@ pub const TOTAL_LIMIT: u32 = STEP_LIMIT * BLOCK_LIMIT as u32;
 pub(crate) const WORK_LIMIT: u32 = 101 * BLOCK_LIMIT as u32;
 
 /// The most units of a kind that a profile has.
-pub(crate) const COPIES_LIMIT: usize = 100;
+pub const COPIES_LIMIT: usize = 100;
 
 /// How many units the seven kinds have at most, all together.
 pub(crate) const UNIT_LIMIT: usize = KIND_COUNT * COPIES_LIMIT;
