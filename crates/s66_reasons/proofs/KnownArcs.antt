@@ -1,11 +1,10 @@
 -- The arcs by all that is known are those of the table with the loads that fact lines leave known.
-use Rattle.std.proofs.Common.{ℕ, ◌≡◌, ◌∙◌, true, true≢false, Bool, List, [], ◌∷◌, ◌++◌, Option, None, Some, ap, ap₂, append_assoc, arith, inl, inr, max, option_map, refl, subst, sym}
+use Rattle.std.proofs.Common.{ℕ, ◌≡◌, ◌∙◌, true, true≢false, List, [], ◌∷◌, ◌++◌, Option, None, Some, ap, ap₂, append_assoc, arith, inl, inr, max, refl, sym}
 use Rattle.std.specs.Prelude.{unwrap_or, ◌&&◌}
 use Rattle.std.proofs.lemmas.Bool.{and_parts, cases_Bool}
 use Rattle.std.proofs.lemmas.List.{append-nil}
 use Rattle.s66_model.specs.Timing.{Problem}
 use Rattle.s66_moments.specs.declared.moment.Moment.{Moment}
-use Rattle.s66_moments.specs.declared.fact_line.FactLine.{FactLine}
 use Rattle.s66_moments.specs.declared.fact_line.FactLine.TheVariants.{Pair, Load}
 use Rattle.s66_moments.specs.declared.fact_line.FactStep.{FactStep}
 use Rattle.s66_moments.specs.declared.fact_line.FactStep.TheVariants.{Fact, Suppose, Refuted}
@@ -38,18 +37,18 @@ to_show-after standing Refuted = ended standing.known standing.supposed
 abbrev arc_of : LoadLine → KnownArc
 arc_of line = record { from = line.from; wait = line.wait; to = line.to }
 
-loads_in : List (Option LoadLine) → List KnownArc
+abbrev loads_in : List (Option LoadLine) → List KnownArc
 loads_in [] = []
 loads_in (None ∷ loads) = loads_in loads
 loads_in (Some line ∷ loads) = arc_of line ∷ loads_in loads
 
 -- those that are known with nothing supposed
-loads_out : Standing → List KnownArc
-loads_out standing = out standing.known standing.supposed
-  where
-    out : Known → Option Supposition → List KnownArc
-    out known None = known.loads
-    out known (Some s) = s.outer.loads
+abbrev loads_by : Known → Option Supposition → List KnownArc
+loads_by known None = known.loads
+loads_by known (Some s) = s.outer.loads
+
+abbrev loads_out : Standing → List KnownArc
+loads_out standing = loads_by standing.known standing.supposed
 
 module _ (b : Problem) (bound : ℕ) where
   abbrev left_of : Standing → FactStep → List KnownArc

@@ -123,9 +123,9 @@ module _ (b : Problem) (bound : ℕ) where
         facts = fact_of (line_of b line) ∷ holds.facts;
         sound = line-sound b bound holds.facts known holds.sound line taken;
         so = λ order legal less has. (
-            line-follows b bound holds.facts (line_of b line) (line-founded b bound holds.facts known holds.sound line taken) order legal less (holds.so order legal less has),
-            holds.so order legal less has,
-          );
+          line-follows b bound holds.facts (line_of b line) (line-founded b bound holds.facts known holds.sound line taken) order legal less (holds.so order legal less has),
+          holds.so order legal less has,
+        );
         outer = holds.outer;
       }
   step-holds known None (Suppose m n) holds taken =

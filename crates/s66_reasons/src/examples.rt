@@ -11,7 +11,7 @@ ghost use Rattle.s66_checker.specs.Examples.{before_their_writers, multiplies_at
 ghost use Rattle.s66_reasons.specs.Examples.{shifts_in_turn};
 ghost use Rattle.s66_reasons.specs.FactWords.{by_parcels, by_unit};
 ghost use Rattle.s66_reasons.specs.LongestPaths.{by_words, pairs_of};
-ghost use Rattle.s66_reasons.specs.Reasons.{reasons_text};
+ghost use Rattle.s66_reasons.specs.Reasons.{facts_text, reasons_text};
 
 /// Which fact lines together put a number before another, and how they are named.
 #[tactic(auto, unfolding(s66_isa::specs::Table::row, s66_isa::specs::Profiles::profile_of, s66_model::specs::Dependence::conflict, crate::specs::Words::digits))]
@@ -33,7 +33,20 @@ pub fn above_examples()
         codes "1 has the Divide unit until 30 or later; behind it 2 could issue then, and from there to the end it is 0 or more: 30" }
 {}
 
-/// Leaves of each kind that may close a tree, a supposition, a tree that is said, and one that is counted.
+/// What is said of a supposition, and that the number of its last line stands for what it shows, and no line within it for anything.
+#[tactic(auto, unfolding(s66_isa::specs::Table::row, s66_isa::specs::Profiles::profile_of, s66_model::specs::Dependence::conflict, crate::specs::Words::digits))]
+pub fn supposition_examples()
+    ensures said { facts_text (three_adds second_by_lines) ≡
+        codes "  1. If 1 FX1 X2+X3 stood before 2 FX4 X2+X5 in a faster order:\n" ++
+        codes "    2. 3 FX6 X2+X7 stands before 2 FX4 X2+X5 in a faster order: 2 has the Add unit until 10 or later; behind it 3 could issue then, and from there to the end it is 5 or more: 15\n" ++
+        codes "    3. 1 FX1 X2+X3 stands before 3 FX6 X2+X7 in a faster order: 3 has the Add unit until 5 or later; behind it 1 could issue then, and from there to the end it is 10 or more: 15\n" ++
+        codes "  4. 2 FX4 X2+X5 stands before 1 FX1 X2+X3 in a faster order: if not, 1 issues at 0 or later, and from there to the end it is 15 or more: 15\n" ++
+        codes "If an order took less than 15:\n" }
+    ensures shown { pairs_of (three_adds second_by_lines) 2 1 ≡ 4 ∷ [] }
+    ensures within { pairs_of (three_adds second_by_lines) 3 2 ≡ [] }
+{}
+
+/// Leaves of each kind that may close a tree, a tree that is said, and one that is counted.
 #[tactic(auto, unfolding(s66_isa::specs::Table::row, s66_isa::specs::Profiles::profile_of, s66_model::specs::Timing::issue_of, s66_model::specs::Timing::start_of, s66_model::specs::Timing::point, crate::specs::Words::digits))]
 pub fn reasons_examples()
     ensures chain { reasons_text one_load ≡
@@ -56,20 +69,6 @@ pub fn reasons_examples()
         codes "If an order took less than 16:\n" ++
         codes "  16  From the beginning it is 0 or more until one of 1 and 2 has its Boolean unit; these need it for 4 each, 8 in all; so the last of them begins at 4 or later, and from there to the end it is 12 or more: 16\n" ++
         codes "So the order of 16 is best.\n" }
-    ensures supposed { reasons_text (three_adds second_by_lines) ≡
-        codes "Every order takes 15 or more, by 1 split:\n" ++
-        codes "  1. If 1 FX1 X2+X3 stood before 2 FX4 X2+X5 in a faster order:\n" ++
-        codes "    2. 3 FX6 X2+X7 stands before 2 FX4 X2+X5 in a faster order: 2 has the Add unit until 10 or later; behind it 3 could issue then, and from there to the end it is 5 or more: 15\n" ++
-        codes "    3. 1 FX1 X2+X3 stands before 3 FX6 X2+X7 in a faster order: 3 has the Add unit until 5 or later; behind it 1 could issue then, and from there to the end it is 10 or more: 15\n" ++
-        codes "  4. 2 FX4 X2+X5 stands before 1 FX1 X2+X3 in a faster order: if not, 1 issues at 0 or later, and from there to the end it is 15 or more: 15\n" ++
-        codes "If an order took less than 15:\n" ++
-        codes "If 1 comes first:\n" ++
-        codes "      2 FX4 X2+X5 stands before 1 FX1 X2+X3 in a faster order (by 4.)\n" ++
-        codes "If 2 comes first:\n" ++
-        codes "  15  From the beginning it is 5 or more until one of 1 and 3 has its Add unit; these need it for 5 each, 10 in all; so the last of them begins at 10 or later, and from there to the end it is 5 or more: 15\n" ++
-        codes "If 3 comes first:\n" ++
-        codes "  15  From the beginning it is 5 or more until one of 1 and 2 has its Add unit; these need it for 5 each, 10 in all; so the last of them begins at 10 or later, and from there to the end it is 5 or more: 15\n" ++
-        codes "So the order of 15 is best.\n" }
     ensures tree { reasons_text (record three_multiplies { bound = 17; tree = Parted (1 ∷ 2 ∷ 3 ∷ []) (Unsplit (Bounding (Load Multiply)) (Unsplit (Bounding (Load Multiply)) (Unsplit (Bounding (Load Multiply)) NoMore))) }) ≡
         codes "Every order takes 17 or more, by 1 split:\n" ++
         codes "If 1 comes first:\n" ++

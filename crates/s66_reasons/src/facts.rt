@@ -363,7 +363,12 @@ fn soonest_issue(facts: &Facts, n: u8) -> u64
 }
 
 /// That m stands before n.
-pub(crate) fn push_pair_words(out: &mut Vec<u8>, document: &Document, m: u8, n: u8) -> Result<(), AllocError>
+pub(crate) fn push_pair_words(
+    out: &mut Vec<u8>,
+    document: &Document,
+    m: u8,
+    n: u8,
+) -> Result<(), AllocError>
     ensures { OnOk result (out.new.items ≡ out.old.items ++ pair_words (document_of document.now) m n) }
 {
     push_instruction(out, document, m)?;

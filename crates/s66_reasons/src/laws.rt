@@ -20,8 +20,8 @@ ghost use Rattle.s66_reasons.specs.Shown.{end_by, HasNoneSooner, HoldsIn, IsLeaf
 /// parcels or a whole order, no legal order that begins with the leaf's prefix takes less than they say. By facts they say what holds in
 /// legal orders that take less than the bound: so there are none. Those of a longest path add up to what it takes, and in such an order no
 /// moment of it is sooner than its row says; those of a load are of instructions that need their units so late and so long; and a pair that
-/// is turned is known to stand the other way round. What is known after fact lines that are taken, such an order has, within a supposition if
-/// it also has what is supposed; at its end none has.
+/// is turned is known to stand the other way round. After fact lines that are taken each such order has what is known; within a supposition,
+/// if it has what is supposed; and where that ends, none has it.
 pub fn reasons_law()
     ensures bounding { (limit : ℕ) (d : Document) (time bound : ℕ) (at : List ℕ) (leaf : Leaf) →
         IsDocument limit d → verdict d ≡ Yes time bound → IsLeafAt d at (Bounding leaf) →

@@ -25,7 +25,7 @@ mod units;
 mod words;
 mod work;
 
-pub use examples::{above_examples, by_examples, reasons_examples};
+pub use examples::{above_examples, by_examples, reasons_examples, supposition_examples};
 pub use laws::reasons_law;
 pub use reasons::push_reasons;
 pub use work::Work;

@@ -1,4 +1,4 @@
-use Rattle.std.proofs.Common.{ℕ, ◌≡◌, ◌+◌, ◌∙◌, true, List, ap, sym, drop, arith, subst, IsTrue}
+use Rattle.std.proofs.Common.{◌≡◌, ◌+◌, ◌∙◌, true, List, ap, sym, drop, arith, subst}
 use Rattle.s66_model.specs.Timing.{Problem}
 use Rattle.s66_moments.specs.declared.fact_line.FactStep.{FactStep}
 use Rattle.s66_moments.specs.Suppositions.{Standing, are_steps_taken, is_step_taken, standing_after, with_step}
@@ -34,7 +34,7 @@ loop-line-preserved c =
     let both = next-taken b c.bound-bound.result standing lines i line c.loop-line-test.true c.line-item.is inv.taken in
     let right : is_step_taken c.loop-line.supposing.ground.problem c.bound-bound.result standing line ≡ true =
     subst (λ (q : Problem). is_step_taken q c.bound-bound.result standing line ≡ true) (sym inv.problem) both.0 in
-    let taken : standing_in c.take.new.self ≡ with_step standing line = c.take.ensures.standing (subst IsTrue (sym (c.take.ensures.taken ∙ right)) tt) in
+    let taken : standing_in c.take.new.self ≡ with_step standing line = c.take.ensures.standing (c.take.ensures.taken ∙ right) in
     record {
       text = facts-more d standing _ (c.loop-line.number + 1) line more (drop i lines) _ _ here taken c.in_ok-push_numbered.ensures ∙ inv.text;
       number = omega (arith, inv.number);
