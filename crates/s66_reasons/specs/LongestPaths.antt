@@ -77,7 +77,7 @@ pair_left (Some pair) (Fact line) = None
 pair_left (Some pair) (Suppose m n) = None
 pair_left (Some pair) Refuted = Some pair
 
--- and the load
+-- the load that it leaves known
 abbrev pub load_left : (to_show : Option (ℕ × ℕ)) → FactStep → Option LoadLine
 load_left None (Fact (Pair m n)) = None
 load_left None (Fact (Load line)) = Some line

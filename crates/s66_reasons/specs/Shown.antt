@@ -100,7 +100,7 @@ pub record HasKnown (b : Problem) (known : Known) (order : List ℕ) : Type 0 wh
   pub pairs : (m n : ℕ) → IsNumber b m → IsNumber b n → known.before m n ≡ true → IsSo b order (Before m n)
   pub paths : (e f : Moment) (wait : ℕ) → span b (arcs_of b known) e f ≡ Some wait → IsSo b order (Arc e wait f 0)
 
--- and what is supposed, if something is
+-- it has what is supposed, if something is
 abbrev pub HasSupposed : Problem → Option Supposition → List ℕ → Type 0
 HasSupposed b None order = Unit {0}
 HasSupposed b (Some s) order = IsSo b order (Before s.second s.first)
@@ -111,7 +111,7 @@ HoldsIn d standing =
     (order : List ℕ) → IsLegal (problem_of d).block order → total_of (problem_of d) order < d.bound → HasSupposed (problem_of d) standing.supposed order →
     HasKnown (problem_of d) standing.known order
 
--- no faster order has it
+-- no faster order has what is supposed
 abbrev pub IsRefutedIn : Document → Standing → Type 0
 IsRefutedIn d standing =
     (order : List ℕ) → IsLegal (problem_of d).block order → HasSupposed (problem_of d) standing.supposed order → d.bound ≤ total_of (problem_of d) order
