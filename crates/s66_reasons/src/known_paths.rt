@@ -2,14 +2,14 @@
 
 ghost use Rattle.std.specs.Prelude.{◌≡◌};
 ghost use Rattle.s66_moments.specs.Known.{plus, reaches};
-ghost use Rattle.s66_reasons.specs.LongestPaths.{keeps_apart};
 
 use crate::arcs::{arc_by_lines, table_arc};
 use crate::hop::Hop;
+use crate::left::{leaves_apart, to_show_after};
 use s66_cert::Document;
 use s66_checker::fact_lines;
-use s66_facts::{Facts, is_same_moment};
-use s66_moments::{FactLine, Moment, Stage};
+use s66_facts::Facts;
+use s66_moments::{Moment, Stage};
 use s66_replay::Prefix;
 use std::marker::Model;
 
@@ -41,18 +41,6 @@ fn takes(left: u64, arc: Option<u32>, path: Option<u64>) -> bool
     match (arc, path) {
         (Some(arc), Some(path)) => left.saturating_sub(arc as u64) <= path,
         _ => false,
-    }
-}
-
-/// Whether a load keeps two moments so many minor cycles apart.
-fn keeps_apart(line: &FactLine, from: &Moment, to: &Moment, wait: u32) -> bool
-    ensures { result ≡ keeps_apart from.now to.now wait line.now }
-{
-    match line {
-        FactLine::Pair(..) => false,
-        FactLine::Load(load) => {
-            is_same_moment(&load.from, from) && is_same_moment(&load.to, to) && wait <= load.wait
-        }
     }
 }
 
@@ -192,11 +180,13 @@ impl<'a> KnownPaths<'a> {
     {
         let lines = fact_lines(self.document);
         let mut number = 0;
+        let mut to_show = None;
         for line in lines {
             number += 1;
-            if keeps_apart(line, from, &hop.to, hop.wait) {
+            if leaves_apart(to_show, line, from, &hop.to, hop.wait) {
                 return number;
             }
+            to_show = to_show_after(to_show, line);
         }
         0
     }
