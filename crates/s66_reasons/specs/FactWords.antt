@@ -170,7 +170,7 @@ abbrev pub too_late_words : Problem → Network → (bound : ℕ) → Option ℕ
 too_late_words b arcs bound None = codes "the end comes at " ++ decimal bound ++ codes " or later"
 too_late_words b arcs bound (Some n) = through_words b arcs bound n
 
--- of all, but of the one that would stand behind first
+-- the number that would stand behind is looked at first, and then all
 abbrev pub refuted_words : Problem → Network → (bound behind : ℕ) → List ℕ
 refuted_words b arcs bound behind = codes "if not, " ++ too_late_words b arcs bound (late_number b arcs bound (behind ∷ numbers b.block))
 
