@@ -265,8 +265,9 @@ class Texts:
         """Whether a sentence says what a supposition shows, and where a path leads through that is too long with it."""
         bound, heads, tails = self.document.bound, self.known.paths_from(ORIGIN), self.known.paths_to(END)
         first, second, why = read("(.*) stands before (.*) in a faster order: if not, (.*)", sentence)
-        must((self.number(first), self.number(second)) == self.known.outer[0], f"other instructions: {sentence}")
-        moments = [(stage, n) for n in sorted(self.problem.block) for stage in ("issue", "start")]
+        behind, before = self.known.outer[0]
+        must((self.number(first), self.number(second)) == (behind, before), f"other instructions: {sentence}")
+        moments = [(stage, n) for n in [behind, *sorted(self.problem.block)] for stage in ("issue", "start")]
         late = [moment for moment in moments if heads[moment] + tails[moment] >= bound]
         if not late:
             must(why == f"the end comes at {bound} or later" and self.known.arcs[ORIGIN][END] >= bound, f"not so: {sentence}")

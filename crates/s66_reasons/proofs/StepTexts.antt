@@ -1,14 +1,18 @@
 -- What is said of fact lines, one after the other, and which instruction is too late by what is known.
-use Rattle.std.proofs.Common.{ℕ, ◌+◌, ◌-◌, ◌≡◌, ◌≤◌, ◌<◌, ◌∙◌, true, false, List, ◌∷◌, ◌++◌, None, Some, ap, append_assoc, arith, drop, get_or, length, refl, sym}
+use Rattle.std.proofs.Common.{ℕ, ◌+◌, ◌-◌, ◌≡◌, ◌≤◌, ◌<◌, ◌∙◌, true, false, List, ◌∷◌, ◌++◌, IfSome, Option, None, Some, ap, append_assoc, arith, drop, get_or, length, refl, sym}
 use Rattle.std.proofs.lemmas.Bool.{and_parts}
 use Rattle.s66_isa.specs.Lists.{rising}
 use Rattle.s66_model.specs.Timing.{Problem}
 use Rattle.s66_moments.specs.declared.fact_line.FactStep.{FactStep}
+use Rattle.s66_moments.specs.declared.fact_line.FactStep.TheVariants.{Fact, Suppose, Refuted}
+use Rattle.s66_moments.specs.Facts.{IsNumber}
 use Rattle.s66_moments.specs.Networks.{Network}
-use Rattle.s66_moments.specs.Suppositions.{Standing, are_steps_taken, is_late_through, is_step_taken, with_step}
+use Rattle.s66_moments.specs.Suppositions.{Standing, are_steps_taken, is_late_through, is_step_taken, may_be_supposed, with_step}
+use Rattle.s66_moments.proofs.SupposedLines.{supposed-parts}
 use Rattle.s66_cert.specs.Document.{Document}
 use Rattle.s66_cert.proofs.Printed.{drop-here}
 use Rattle.s66_reasons.specs.FactWords.{facts_from, late_number, numbered_step}
+use Rattle.s66_reasons.specs.LongestPaths.{to_show_after}
 use Rattle.s66_reasons.proofs.Hops.{rising-first}
 
 -- LINES
@@ -30,6 +34,13 @@ pub next-taken : (b : Problem) (bound : ℕ) (standing : Standing) (steps : List
 next-taken b bound standing steps i step within is taken =
     and_parts (is_step_taken b bound standing step) (are_steps_taken b bound (with_step standing step) (drop (i + 1) steps))
     (sym (ap (are_steps_taken b bound standing) (drop-here steps i step within is)) ∙ taken)
+
+-- the first of a pair that is to be shown is a number of the block
+pub number-shown : (b : Problem) (bound : ℕ) (standing : Standing) (shows : Option (ℕ × ℕ)) (step : FactStep) → is_step_taken b bound standing step ≡ true →
+    IfSome shows (λ pair. IsNumber b pair.0) → IfSome (to_show_after shows step) (λ pair. IsNumber b pair.0)
+number-shown b bound standing shows (Fact line) taken number = number
+number-shown b bound standing shows (Suppose m n) taken number = (supposed-parts b bound standing.known m n (and_parts _ (may_be_supposed b standing.known m n) taken).1).is_m
+number-shown b bound standing shows Refuted taken number = tt
 
 -- THE FIRST NUMBER that is too late
 

@@ -170,8 +170,9 @@ abbrev pub too_late_words : Problem → Network → (bound : ℕ) → Option ℕ
 too_late_words b arcs bound None = codes "the end comes at " ++ decimal bound ++ codes " or later"
 too_late_words b arcs bound (Some n) = through_words b arcs bound n
 
-abbrev pub refuted_words : Problem → Network → (bound : ℕ) → List ℕ
-refuted_words b arcs bound = codes "if not, " ++ too_late_words b arcs bound (late_number b arcs bound (numbers b.block))
+-- the number that would stand behind is looked at first, and then all
+abbrev pub refuted_words : Problem → Network → (bound behind : ℕ) → List ℕ
+refuted_words b arcs bound behind = codes "if not, " ++ too_late_words b arcs bound (late_number b arcs bound (behind ∷ numbers b.block))
 
 -- the pair that is to be shown
 abbrev pub to_show : Standing → Option (ℕ × ℕ)
@@ -179,7 +180,7 @@ to_show standing = option_map (λ (s : Supposition). (s.first, s.second)) standi
 
 abbrev pub refuted_sentence : Document → Network → Option (ℕ × ℕ) → List ℕ
 refuted_sentence d arcs None = []
-refuted_sentence d arcs (Some pair) = pair_words d pair.0 pair.1 ++ refuted_words (problem_of d) arcs d.bound
+refuted_sentence d arcs (Some pair) = pair_words d pair.0 pair.1 ++ refuted_words (problem_of d) arcs d.bound pair.0
 
 -- ALL LINES, numbered, each by what is known there
 

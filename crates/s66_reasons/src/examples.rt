@@ -40,7 +40,7 @@ pub fn supposition_examples()
         codes "  1. If 1 FX1 X2+X3 stood before 2 FX4 X2+X5 in a faster order:\n" ++
         codes "    2. 3 FX6 X2+X7 stands before 2 FX4 X2+X5 in a faster order: 2 has the Add unit until 10 or later; behind it 3 could issue then, and from there to the end it is 5 or more: 15\n" ++
         codes "    3. 1 FX1 X2+X3 stands before 3 FX6 X2+X7 in a faster order: 3 has the Add unit until 5 or later; behind it 1 could issue then, and from there to the end it is 10 or more: 15\n" ++
-        codes "  4. 2 FX4 X2+X5 stands before 1 FX1 X2+X3 in a faster order: if not, 1 issues at 0 or later, and from there to the end it is 15 or more: 15\n" ++
+        codes "  4. 2 FX4 X2+X5 stands before 1 FX1 X2+X3 in a faster order: if not, 2 issues at 10 or later, and from there to the end it is 5 or more: 15\n" ++
         codes "If an order took less than 15:\n" }
     ensures shown { pairs_of (three_adds second_by_lines) 2 1 ≡ 4 ∷ [] }
     ensures within { pairs_of (three_adds second_by_lines) 3 2 ≡ [] }

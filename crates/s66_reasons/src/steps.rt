@@ -1,6 +1,6 @@
 //! The fact lines of a document in sentences, numbered, with the suppositions among them.
 
-ghost use Rattle.std.specs.Prelude.{◌≡◌, ◌++◌, [], true, IfOk, IfSome, OnOk};
+ghost use Rattle.std.specs.Prelude.{◌≡◌, ◌++◌, [], ◌∷◌, true, IfOk, IfSome, OnOk};
 ghost use Rattle.s66_isa.specs.Table.{numbers};
 ghost use Rattle.s66_moments.specs.Facts.{IsNumber};
 ghost use Rattle.s66_moments.specs.Known.{arcs_of, plus, reaches};
@@ -67,7 +67,7 @@ fn is_late_through(facts: &Facts, bound: u32, n: u8) -> bool
 }
 
 /// The first number of the block of which that is so.
-fn late_number(facts: &Facts, bound: u32) -> Option<u8>
+fn some_late(facts: &Facts, bound: u32) -> Option<u8>
     ensures value { result ≡ late_number facts.now.problem (arcs_of facts.now.problem (known_in facts.now)) bound
         (numbers facts.now.problem.block) }
     ensures number { IfSome result (λ n. IsNumber facts.now.problem n) }
@@ -78,6 +78,20 @@ fn late_number(facts: &Facts, bound: u32) -> Option<u8>
         }
     }
     None
+}
+
+/// This number if that is so of it, and else the first one.
+fn late_number(facts: &Facts, bound: u32, n: u8) -> Option<u8>
+    requires { IsNumber facts.now.problem n }
+    ensures value { result ≡ late_number facts.now.problem (arcs_of facts.now.problem (known_in facts.now)) bound
+        (n ∷ numbers facts.now.problem.block) }
+    ensures number { IfSome result (λ n. IsNumber facts.now.problem n) }
+{
+    if is_late_through(facts, bound, n) {
+        Some(n)
+    } else {
+        some_late(facts, bound)
+    }
 }
 
 /// When n issues if it is too late by that, and else when it starts.
@@ -111,13 +125,19 @@ fn push_too_late(
     }
 }
 
-/// Why each order takes the bound that has what is supposed.
-fn push_refuted_words(out: &mut Vec<u8>, facts: &Facts, bound: u32) -> Result<(), AllocError>
+/// Why each order takes the bound in which this number stands behind, as is supposed.
+fn push_refuted_words(
+    out: &mut Vec<u8>,
+    facts: &Facts,
+    bound: u32,
+    behind: u8,
+) -> Result<(), AllocError>
+    requires { IsNumber facts.now.problem behind }
     ensures { OnOk result (out.new.items ≡ out.old.items ++
-        refuted_words facts.now.problem (arcs_of facts.now.problem (known_in facts.now)) bound) }
+        refuted_words facts.now.problem (arcs_of facts.now.problem (known_in facts.now)) bound behind) }
 {
     out.extend_from_slice(b"if not, ")?;
-    push_too_late(out, facts, bound, late_number(facts, bound))
+    push_too_late(out, facts, bound, late_number(facts, bound, behind))
 }
 
 /// The pair that a supposition shows, and why.
@@ -127,7 +147,8 @@ fn push_refuted(
     facts: &Facts,
     to_show: Option<(u8, u8)>,
 ) -> Result<(), AllocError>
-    requires { facts.now.problem ≡ problem_of (document_of document.now) }
+    requires problem { facts.now.problem ≡ problem_of (document_of document.now) }
+    requires number { IfSome to_show (λ pair. IsNumber facts.now.problem pair.0) }
     ensures { OnOk result (out.new.items ≡ out.old.items ++
         refuted_sentence (document_of document.now)
         (arcs_of (problem_of (document_of document.now)) (known_in facts.now)) to_show) }
@@ -136,7 +157,7 @@ fn push_refuted(
         None => Ok(()),
         Some((m, n)) => {
             push_pair_words(out, document, m, n)?;
-            push_refuted_words(out, facts, document.bound())
+            push_refuted_words(out, facts, document.bound(), m)
         }
     }
 }
@@ -154,6 +175,7 @@ fn push_step(
     requires start { prefix.now.numbers ≡ [] }
     requires problem { supposing.now.ground.problem ≡ problem_of (document_of document.now) }
     requires shows { shows ≡ to_show (standing_in supposing.now) }
+    requires number { IfSome shows (λ pair. IsNumber supposing.now.ground.problem pair.0) }
     requires taken { is_step_taken (problem_of (document_of document.now)) (document_of document.now).bound
         (standing_in supposing.now) step.now ≡ true }
     ensures { OnOk result (out.new.items ≡ out.old.items ++
@@ -193,6 +215,7 @@ fn push_numbered(
     requires start { prefix.now.numbers ≡ [] }
     requires problem { supposing.now.ground.problem ≡ problem_of (document_of document.now) }
     requires shows { shows ≡ to_show (standing_in supposing.now) }
+    requires number { IfSome shows (λ pair. IsNumber supposing.now.ground.problem pair.0) }
     requires taken { is_step_taken (problem_of (document_of document.now)) (document_of document.now).bound
         (standing_in supposing.now) step.now ≡ true }
     ensures { OnOk result (out.new.items ≡ out.old.items ++

@@ -1,6 +1,7 @@
-use Rattle.std.proofs.Common.{◌≡◌, ◌+◌, ◌∙◌, true, List, ap, sym, drop, arith, subst}
+use Rattle.std.proofs.Common.{◌≡◌, ◌+◌, ◌∙◌, true, List, ap, sym, drop, arith, subst, IfSome}
 use Rattle.s66_model.specs.Timing.{Problem}
 use Rattle.s66_moments.specs.declared.fact_line.FactStep.{FactStep}
+use Rattle.s66_moments.specs.Facts.{IsNumber}
 use Rattle.s66_moments.specs.Suppositions.{Standing, are_steps_taken, is_step_taken, standing_after, with_step}
 use Rattle.s66_facts.specs.Supposing.{standing_in}
 use Rattle.s66_cert.specs.DocumentParts.{document_of}
@@ -9,7 +10,7 @@ use Rattle.s66_checker.specs.Verdict.{problem_of}
 use Rattle.s66_reasons.specs.FactWords.{to_show}
 use Rattle.s66_reasons.specs.LongestPaths.{to_show_after}
 use Rattle.s66_reasons.proofs.KnownArcs.{to_show-after}
-use Rattle.s66_reasons.proofs.StepTexts.{facts-more, next-taken}
+use Rattle.s66_reasons.proofs.StepTexts.{facts-more, next-taken, number-shown}
 use Rattle.s66_reasons.proofs.steps.push_facts.Goals as goal
 
 pub push_numbered-requires-clause-taken : goal.push_numbered-requires-clause-taken
@@ -41,6 +42,9 @@ loop-line-preserved c =
       problem = c.take.ensures.problem ∙ inv.problem;
       room = omega (arith, inv.room, c.take.ensures.steps);
       shows = c.to_show_after-to_show.ensures ∙ ap (λ t. to_show_after t line) inv.shows ∙ to_show-after standing line ∙ sym (ap to_show taken);
+      numbers = subst (λ (q : Problem). IfSome c.to_show_after-to_show.result (λ pair. IsNumber q pair.0)) (sym c.take.ensures.problem)
+          (subst (λ t. IfSome t (λ pair. IsNumber c.loop-line.supposing.ground.problem pair.0)) (sym c.to_show_after-to_show.ensures)
+          (number-shown c.loop-line.supposing.ground.problem c.bound-bound.result standing c.loop-line.to_show line right inv.numbers));
       standing = ap (λ (s : Standing). standing_after s more) taken ∙ sym (ap (standing_after standing) here) ∙ inv.standing;
       taken = ap (λ (s : Standing). are_steps_taken b c.bound-bound.result s more) taken ∙ both.1;
     }

@@ -1,4 +1,5 @@
-use Rattle.std.proofs.Common.{◌≡◌, ◌≤◌, ◌+◌, ◌++◌, true, drop}
+use Rattle.std.proofs.Common.{◌≡◌, ◌≤◌, ◌+◌, ◌++◌, true, drop, IfSome}
+use Rattle.s66_moments.specs.Facts.{IsNumber}
 use Rattle.s66_moments.specs.Suppositions.{are_steps_taken, standing_after, standing_first}
 use Rattle.s66_facts.specs.Supposing.{standing_in}
 use Rattle.s66_cert.specs.DocumentParts.{document_of}
@@ -15,6 +16,7 @@ invariant-loop-line l = record {
   problem : l.supposing.ground.problem ≡ problem_of (document_of l.document);
   room : l.supposing.steps ≤ l.line-index;
   shows : l.to_show ≡ to_show (standing_in l.supposing);
+  numbers : IfSome l.to_show (λ pair. IsNumber l.supposing.ground.problem pair.0);
   standing : standing_after (standing_in l.supposing) (drop l.line-index l.lines) ≡ standing_of (document_of l.document);
   taken : are_steps_taken (problem_of (document_of l.document)) l.bound (standing_in l.supposing) (drop l.line-index l.lines) ≡ true;
 }

@@ -3,7 +3,7 @@ use Rattle.s66_moments.specs.Known.{arcs_of}
 use Rattle.s66_moments.specs.Networks.{Network}
 use Rattle.s66_facts.specs.Ground.{Ground, known_of}
 use Rattle.s66_reasons.proofs.StepTexts.{late-here, late-later, late-none}
-use Rattle.s66_reasons.proofs.steps.late_number.Goals as goal
+use Rattle.s66_reasons.proofs.steps.some_late.Goals as goal
 
 abbrev arcs : Ground → Network
 arcs g = arcs_of g.problem (known_of g)

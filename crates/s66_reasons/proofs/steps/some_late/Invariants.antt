@@ -4,7 +4,7 @@ use Rattle.s66_isa.specs.Table.{numbers}
 use Rattle.s66_moments.specs.Known.{arcs_of}
 use Rattle.s66_facts.specs.Ground.{known_of}
 use Rattle.s66_reasons.specs.FactWords.{late_number}
-use Rattle.s66_reasons.proofs.steps.late_number.Given as goal
+use Rattle.s66_reasons.proofs.steps.some_late.Given as goal
 
 -- the numbers so far aren't late
 abbrev pub invariant-loop-position : goal.invariant-loop-position
