@@ -14,6 +14,7 @@ use crate::limits::{
 };
 use crate::lines::{Bound, Halved, Lined, beam_by, best_by_lines, found_below, halve};
 use crate::orders::faster;
+use crate::walk::Prefix;
 use s66_cert::{Tree, TreeLine};
 use s66_line::Block;
 use s66_moments::FactStep;
@@ -125,6 +126,22 @@ fn first_line(block: &Block, lines: usize) -> u32 {
     }
 }
 
+/// Whether one leaf of the empty prefix shows that no order takes less than a limit: a path by the fact lines, or the work of a kind of
+/// unit, or the parcels.
+fn has_leaf(instance: &Instance<'_>, below: &Finder, limit: u32) -> bool {
+    let tails = below.tails();
+    let prefix = Prefix::new(instance.block, instance.profile, &tails);
+    !prefix.walk().is_complete() && prefix.leaf(limit).is_some()
+}
+
+/// The fact lines of a tree: none if it is one leaf that speaks of the work of units or of the parcels, which shows as much without them.
+fn lines_of(alloc: Global, below: &Finder, tree: &Tree) -> Result<Vec<FactStep>, AllocError> {
+    match tree.lines().next() {
+        Some(TreeLine::Load(_) | TreeLine::Parcels) => Ok(Vec::new(alloc)),
+        _ => below.steps(),
+    }
+}
+
 /// A search for orders of a goal, by fact lines of such orders.
 fn search_below(
     instance: &Instance<'_>,
@@ -160,7 +177,7 @@ fn search_below(
     let shown = match tree {
         Some(tree) => Some(Shown::ByTree(Written {
             bound,
-            lines: below.steps()?,
+            lines: lines_of(instance.alloc, &below, &tree)?,
             tree,
         })),
         None => None,
@@ -172,7 +189,8 @@ fn search_below(
     })
 }
 
-/// Suppositions of orders of a goal, and if these don't show that there is none, a search for such orders.
+/// Suppositions of orders of a goal, and if these don't show that there is none, a search for such orders. Nothing is supposed where the
+/// search needs no split.
 fn suppose_and_search(
     instance: &Instance<'_>,
     below: Finder,
@@ -184,7 +202,9 @@ fn suppose_and_search(
     ensures splits { IfOk result (λ tried. tried.splits ≤ goal.splits) }
 {
     let mut below = below;
-    below.suppose_below(goal.limit, goal.suppositions)?;
+    if !has_leaf(instance, &below, goal.limit) {
+        below.suppose_below(goal.limit, goal.suppositions)?;
+    }
     if goal.limit <= below.root().1 {
         return Ok(Tried {
             best,
