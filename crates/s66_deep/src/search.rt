@@ -9,13 +9,15 @@ use crate::best_first::{Branched, Limits, branch};
 use crate::facts::Finder;
 use crate::instance::Instance;
 use crate::limits::{
-    BEAM_WIDTH, FIRST_SHARE, RAISES_LIMIT, SHORT_COUNT, WIDE_SPLITS, WIDE_WIDTH, WIDEST_WIDTH,
+    BEAM_WIDTH, FIRST_SHARE, RAISES_LIMIT, SHORT_COUNT, SPLITS_A_SUPPOSITION, WIDE_SPLITS,
+    WIDE_WIDTH, WIDEST_WIDTH,
 };
 use crate::lines::{Bound, Halved, Lined, beam_by, best_by_lines, found_below, halve};
 use crate::orders::faster;
+use crate::walk::Prefix;
 use s66_cert::{Tree, TreeLine};
 use s66_line::Block;
-use s66_moments::{FactLine, FactStep};
+use s66_moments::FactStep;
 use s66_time::Timed;
 use std::alloc::{AllocError, Global};
 
@@ -54,14 +56,16 @@ struct Goal {
     bound: u32,
     /// The most splits.
     splits: u32,
+    /// The most suppositions.
+    suppositions: u32,
 }
 
-/// What a search of so many splits found: the best order, and what its tree shows, if that is more than was known.
+/// What a search of so many splits found: the best order, and what suppositions or its tree show, if that is more than was known.
 #[derive(Drop)]
 pub(crate) struct Tried {
     pub(crate) best: Timed,
     pub(crate) splits: u32,
-    pub(crate) shown: Option<Written>,
+    pub(crate) shown: Option<Shown>,
 }
 
 /// The finder of a bound. If its lines are to be printed, it has only those that the bound needs.
@@ -96,10 +100,10 @@ impl Shown {
         }
     }
 
-    /// This, or what a tree shows if that is more.
-    fn or_more(self, other: Option<Written>) -> Shown {
+    /// This, or the other if it is more.
+    fn or_more(self, other: Option<Shown>) -> Shown {
         match other {
-            Some(written) if self.bound() < written.bound => Shown::ByTree(written),
+            Some(shown) if self.bound() < shown.bound() => shown,
             _ => self,
         }
     }
@@ -113,12 +117,28 @@ impl Shown {
     }
 }
 
-/// The number in its document of the first line of a tree after these fact lines.
-fn first_line(block: &Block, lines: &[FactLine]) -> u32 {
-    let before = block.count().saturating_add(lines.len());
+/// The number in its document of the first line of a tree after so many fact lines.
+fn first_line(block: &Block, lines: usize) -> u32 {
+    let before = block.count().saturating_add(lines);
     match u32::try_from(before) {
         Ok(before) => before.saturating_add(HEAD_LINES + 1),
         Err(_) => u32::MAX,
+    }
+}
+
+/// Whether one leaf of the empty prefix shows that no order takes less than a limit: a path by the fact lines, or the work of a kind of
+/// unit, or the parcels.
+fn has_leaf(instance: &Instance<'_>, below: &Finder, limit: u32) -> bool {
+    let tails = below.tails();
+    let prefix = Prefix::new(instance.block, instance.profile, &tails);
+    !prefix.walk().is_complete() && prefix.leaf(limit).is_some()
+}
+
+/// The fact lines of a tree: none if it is one leaf that speaks of the work of units or of the parcels, which shows as much without them.
+fn lines_of(alloc: Global, below: &Finder, tree: &Tree) -> Result<Vec<FactStep>, AllocError> {
+    match tree.lines().next() {
+        Some(TreeLine::Load(_) | TreeLine::Parcels) => Ok(Vec::new(alloc)),
+        _ => below.steps(),
     }
 }
 
@@ -137,7 +157,7 @@ fn search_below(
         below: goal.limit,
         enough: goal.bound,
         splits: goal.splits,
-        first_line: first_line(instance.block, below.lines()),
+        first_line: first_line(instance.block, below.line_count()),
     };
     let copy = best.duplicate();
     let branched = branch(
@@ -155,11 +175,11 @@ fn search_below(
         tree,
     } = branched;
     let shown = match tree {
-        Some(tree) => Some(Written {
+        Some(tree) => Some(Shown::ByTree(Written {
             bound,
-            lines: below.steps()?,
+            lines: lines_of(instance.alloc, &below, &tree)?,
             tree,
-        }),
+        })),
         None => None,
     };
     Ok(Tried {
@@ -167,6 +187,35 @@ fn search_below(
         splits,
         shown,
     })
+}
+
+/// Suppositions of orders of a goal, and if these don't show that there is none, a search for such orders. Nothing is supposed where the
+/// search needs no split.
+fn suppose_and_search(
+    instance: &Instance<'_>,
+    below: Finder,
+    best: Timed,
+    goal: Goal,
+) -> Result<Tried, AllocError>
+    requires { IsGood instance.now best }
+    ensures best { IfOk result (λ tried. IsGood instance.now tried.best) }
+    ensures splits { IfOk result (λ tried. tried.splits ≤ goal.splits) }
+{
+    let mut below = below;
+    if !has_leaf(instance, &below, goal.limit) {
+        below.suppose_below(goal.limit, goal.suppositions)?;
+    }
+    if goal.limit <= below.root().1 {
+        return Ok(Tried {
+            best,
+            splits: 0,
+            shown: Some(Shown::ByLeaf(Bound {
+                value: goal.limit,
+                finder: below,
+            })),
+        });
+    }
+    search_below(instance, below, best, goal)
 }
 
 /// An order that takes no more than a bound of all, or a tree that shows one minor cycle more: by the fact lines of orders that take no
@@ -197,8 +246,9 @@ fn try_above(
         limit,
         bound,
         splits,
+        suppositions: splits / SPLITS_A_SUPPOSITION,
     };
-    search_below(instance, below, best, goal)
+    suppose_and_search(instance, below, best, goal)
 }
 
 /// Raises what is shown of all orders, one minor cycle after the other, each by the fact lines of orders that take less than what is to
@@ -241,14 +291,15 @@ fn raise(
     })
 }
 
-/// Goes on from what was found, unless no order takes less: a search by fact lines of orders that take less, of at most so many more
-/// splits.
+/// Goes on from what was found, unless no order takes less: by fact lines of orders that take less, at most so many suppositions, and a
+/// search of at most so many more splits.
 fn search_lines(
     instance: &Instance<'_>,
     lined: Lined,
     shown: Shown,
     splits: u32,
     most: u32,
+    suppositions: u32,
 ) -> Result<Searched, AllocError>
     requires { IsGood instance.now lined.best }
     ensures best { IfOk result (λ next. IsGood instance.now next.best) }
@@ -267,8 +318,9 @@ fn search_lines(
         limit: best.total(),
         bound,
         splits: most,
+        suppositions,
     };
-    let tried = search_below(instance, below, best, goal)?;
+    let tried = suppose_and_search(instance, below, best, goal)?;
     Ok(Searched {
         best: tried.best,
         shown: shown.or_more(tried.shown),
@@ -284,6 +336,7 @@ fn go_on(
     searched: Searched,
     width: usize,
     most: u32,
+    suppositions: u32,
 ) -> Result<Searched, AllocError>
     requires { IsGood instance.now searched.best }
     ensures best { IfOk result (λ next. IsGood instance.now next.best) }
@@ -298,7 +351,7 @@ fn go_on(
         splits,
     } = searched;
     let lined = best_by_lines(instance, finder, width, best)?;
-    search_lines(instance, lined, shown, splits, most)
+    search_lines(instance, lined, shown, splits, most, suppositions)
 }
 
 /// The best order that is found, and what shows that none takes less, or how little less: fact lines and a leaf, or a tree of at most
@@ -317,7 +370,7 @@ pub(crate) fn search(
     let lined = best_by_lines(instance, finder, BEAM_WIDTH, best)?;
     if most < WIDE_SPLITS && SHORT_COUNT < instance.block.count() {
         let shown = Shown::ByLeaf(lined.bound()?);
-        return search_lines(instance, lined, shown, 0, most);
+        return search_lines(instance, lined, shown, 0, most, 0);
     }
     let Halved { best, below, bound } = halve(instance, lined)?;
     let searched = Searched {
@@ -325,9 +378,17 @@ pub(crate) fn search(
         shown: Shown::ByLeaf(bound),
         splits: 0,
     };
-    let first = go_on(instance, &below, searched, WIDE_WIDTH, most / FIRST_SHARE)?;
+    let few = most / SPLITS_A_SUPPOSITION;
+    let first = go_on(
+        instance,
+        &below,
+        searched,
+        WIDE_WIDTH,
+        most / FIRST_SHARE,
+        few,
+    )?;
     let left = most.saturating_sub(first.splits);
-    let second = go_on(instance, &below, first, WIDEST_WIDTH, left)?;
+    let second = go_on(instance, &below, first, WIDEST_WIDTH, left, few)?;
     raise(instance, &below, second, most / 2)
 }
 
@@ -354,7 +415,7 @@ pub(crate) fn show(
         return Ok(Tried {
             best,
             splits: 0,
-            shown: Some(written),
+            shown: Some(Shown::ByTree(written)),
         });
     }
     let goal = Goal {
@@ -362,6 +423,7 @@ pub(crate) fn show(
         // a tree that shows less is of no use
         bound: total.saturating_sub(1),
         splits: most,
+        suppositions: 0,
     };
     search_below(instance, below, best, goal)
 }

@@ -3,7 +3,7 @@
 
 use arrayvec::ArrayVec;
 use s66_isa::BLOCK_LIMIT;
-use s66_moments::{FactLine, FactStep, LoadLine};
+use s66_moments::{FactLine, LoadLine};
 use std::alloc::{AllocError, Global};
 
 /// The same items, of which there are no more than a block's instructions.
@@ -39,13 +39,4 @@ pub fn copies_of(alloc: Global, lines: &[FactLine]) -> Result<Vec<FactLine>, All
         copies.push(copy_of_line(line))?;
     }
     Ok(copies)
-}
-
-/// The same lines, as a certificate has them.
-pub fn steps_of(alloc: Global, lines: &[FactLine]) -> Result<Vec<FactStep>, AllocError> {
-    let mut steps = Vec::new(alloc);
-    for line in lines {
-        steps.push(FactStep::Fact(copy_of_line(line)))?;
-    }
-    Ok(steps)
 }

@@ -1,7 +1,9 @@
 //! Instructions of a kind between two places, of which a load line may speak.
 
 use crate::facts::ground::Ground;
-use crate::facts::spans::{Spans, at_issue, at_start};
+use crate::facts::network::Paths;
+use crate::facts::nodes::time_at;
+use crate::facts::spans::{Spans, at_issue, at_start, node_at};
 use arrayvec::ArrayVec;
 use s66_dep::Set;
 use s66_isa::BLOCK_LIMIT;
@@ -26,23 +28,64 @@ pub struct Way {
     pub left: i64,
 }
 
-/// Instructions that need units of a kind between two places.
+/// The longest paths between two places and those that lie between them.
+pub trait Reach {
+    /// From the first one.
+    fn head(&self, place: usize) -> Option<u32>;
+
+    /// To the last one.
+    fn tail(&self, place: usize) -> Option<u32>;
+}
+
+/// Between two places of a block.
 #[derive(Clone, Copy)]
-pub struct Load<'a> {
-    pub ground: &'a Ground,
+pub struct Between<'a> {
     pub spans: &'a Spans,
     pub from: usize,
     pub to: usize,
+}
+
+impl Reach for Between<'_> {
+    fn head(&self, place: usize) -> Option<u32> {
+        self.spans.between(self.from, place)
+    }
+
+    fn tail(&self, place: usize) -> Option<u32> {
+        self.spans.between(place, self.to)
+    }
+}
+
+/// Between the origin and the end.
+#[derive(Clone, Copy)]
+pub struct Whole<'a> {
+    pub paths: &'a Paths,
+}
+
+impl Reach for Whole<'_> {
+    fn head(&self, place: usize) -> Option<u32> {
+        time_at(&self.paths.heads, node_at(place))
+    }
+
+    fn tail(&self, place: usize) -> Option<u32> {
+        time_at(&self.paths.tails, node_at(place))
+    }
+}
+
+/// Instructions that need units of a kind between two places.
+#[derive(Clone, Copy)]
+pub struct Load<'a, R> {
+    pub ground: &'a Ground,
+    pub reach: R,
     pub numbers: Set,
     /// How many units there are.
     pub copies: u32,
 }
 
-impl Load<'_> {
+impl<R: Reach> Load<'_, R> {
     /// The way of an instruction whose use begins at a place, if there are paths to there and from there.
     pub fn way(&self, n: u8, place: usize) -> Option<Way> {
-        let head = self.spans.between(self.from, place)?;
-        let tail = self.spans.between(place, self.to)?;
+        let head = self.reach.head(place)?;
+        let tail = self.reach.tail(place)?;
         let amount = self.ground.amount(n);
         Some(Way {
             number: n,

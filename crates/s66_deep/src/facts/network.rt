@@ -2,6 +2,7 @@
 //! It is a reduction of what `s66_facts` knows, in which longest paths are followed in one pass over the arcs.
 
 use crate::classes::is_written;
+use crate::facts::found::Found;
 use crate::facts::ground::Ground;
 use crate::facts::nodes::{
     END, NODE_COUNT, ORIGIN, Times, first, free, issue, raise, second, start, time_at,
@@ -9,15 +10,15 @@ use crate::facts::nodes::{
 use crate::facts::precedence::Precedence;
 use s66_dep::Set;
 use s66_isa::{Memory, Reg, Row, has_register, is_same_register};
-use s66_moments::{FactLine, KnownArc, Moment, Stage};
+use s66_moments::{FactLine, Moment, Stage};
 use std::alloc::{AllocError, Global};
 
 /// How much later one node comes at least than another, in minor cycles.
 #[derive(Clone, Copy)]
-struct Arc {
-    from: usize,
-    wait: u32,
-    to: usize,
+pub struct Arc {
+    pub from: usize,
+    pub wait: u32,
+    pub to: usize,
 }
 
 /// The arcs of a block by what is known: all that lead to a node stand before all that lead from there.
@@ -80,18 +81,18 @@ fn belongs_to(from: &Moment, to: &Moment, n: u8) -> bool {
 }
 
 impl Network {
-    /// Of a block by what is known of it, with the arcs of the load lines among these. `Err` is out of memory.
+    /// Of a block by what is known of it, with the arcs of the load lines among what was found. `Err` is out of memory.
     pub fn of(
         alloc: Global,
         ground: &Ground,
         known: &Precedence,
-        lines: &[FactLine],
+        found: &[Found],
     ) -> Result<Network, AllocError> {
         let mut network = Network {
             arcs: Vec::new(alloc),
         };
         for n in known.order() {
-            network.add_issue(ground, known, lines, *n)?;
+            network.add_issue(ground, known, found, *n)?;
             network.add_start(ground, *n)?;
             network.add_results(ground, *n)?;
         }
@@ -108,7 +109,7 @@ impl Network {
         &mut self,
         ground: &Ground,
         known: &Precedence,
-        lines: &[FactLine],
+        found: &[Found],
         n: u8,
     ) -> Result<(), AllocError> {
         let Some(row) = ground.row(n) else {
@@ -122,7 +123,7 @@ impl Network {
         for write in row.writes.as_slice() {
             self.add_writer(ground, n, write.reg, issue(n))?;
         }
-        self.add_loads(lines, n)
+        self.add_loads(found, n)
     }
 
     /// To the issue of n from those of the numbers right before it.
@@ -168,9 +169,9 @@ impl Network {
     }
 
     /// By load lines.
-    fn add_loads(&mut self, lines: &[FactLine], n: u8) -> Result<(), AllocError> {
-        for line in lines {
-            if let FactLine::Load(load) = line
+    fn add_loads(&mut self, found: &[Found], n: u8) -> Result<(), AllocError> {
+        for one in found {
+            if let Found::ByLine(FactLine::Load(load)) = one
                 && belongs_to(&load.from, &load.to, n)
             {
                 self.add(node_of(&load.from), load.wait, node_of(&load.to))?;
@@ -250,36 +251,9 @@ impl Network {
         Ok(())
     }
 
-    /// How many arcs stand before those that lead from a node.
-    fn count_before(&self, node: usize) -> usize {
-        for place in 0..self.arcs.len() {
-            if self.arcs[place].from == node {
-                return place;
-            }
-        }
-        self.arcs.len()
-    }
-
-    /// Adds the arc of a load after all that lead to its node and before all that lead from there. `Err` is out of memory.
-    pub fn insert(&mut self, load: &KnownArc) -> Result<(), AllocError> {
-        let to = node_of(&load.to);
-        let place = self.count_before(to).min(self.arcs.len());
-        self.arcs.insert(
-            place,
-            Arc {
-                from: node_of(&load.from),
-                wait: load.wait,
-                to,
-            },
-        )?;
-        Ok(())
-    }
-
-    /// The same. `Err` is out of memory.
-    pub fn duplicate(&self, alloc: Global) -> Result<Network, AllocError> {
-        let mut arcs = Vec::new(alloc);
-        arcs.extend_from_slice(self.arcs.as_slice())?;
-        Ok(Network { arcs })
+    /// The arcs.
+    pub fn arcs(&self) -> &[Arc] {
+        self.arcs.as_slice()
     }
 
     /// The longest paths from the origin and to the end.

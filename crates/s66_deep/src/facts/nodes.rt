@@ -1,5 +1,6 @@
 //! What longest paths go through: the origin, the stages of each instruction, and the end.
 
+use s66_dep::Set;
 use s66_isa::BLOCK_LIMIT;
 
 /// How many there are: five of each number, and two in the places of number 0.
@@ -55,4 +56,27 @@ pub fn raise(times: &mut [Option<u32>], place: usize, time: u32) {
             Some(own) => Some(own.max(time)),
         };
     }
+}
+
+/// Makes the path at a place so long at least, and returns whether it grew.
+pub fn lift(times: &mut Times, place: usize, time: u32) -> bool {
+    if place >= NODE_COUNT {
+        return false;
+    }
+    match times[place] {
+        Some(own) if time <= own => false,
+        _ => {
+            times[place] = Some(time);
+            true
+        }
+    }
+}
+
+/// These numbers, and that of a node, if it has one.
+pub fn number_at(numbers: Set, node: usize) -> Set {
+    let number = node / 5;
+    if number == 0 || number > BLOCK_LIMIT {
+        return numbers;
+    }
+    numbers.with(number as u8)
 }

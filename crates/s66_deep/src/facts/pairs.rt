@@ -27,23 +27,31 @@ struct Looks<'a> {
     bound: u32,
 }
 
-/// Whether two paths, one after the other, take so long at least.
-fn reaches(bound: u32, head: Option<u32>, wait: u32, tail: Option<u32>) -> bool {
+/// How long two paths take, one after the other; 0 if there is none.
+fn along(head: Option<u32>, wait: u32, tail: Option<u32>) -> u32 {
     match (head, tail) {
-        (Some(head), Some(tail)) => bound <= head.saturating_add(wait).saturating_add(tail),
-        _ => false,
+        (Some(head), Some(tail)) => head.saturating_add(wait).saturating_add(tail),
+        _ => 0,
+    }
+}
+
+/// How long the longest path from n to m is if n stands before m: by parcels, or by the only unit of their kind.
+pub fn longest_with(ground: &Ground, paths: &Paths, n: u8, m: u8) -> u32 {
+    let (Some(row), Some(other)) = (ground.row(n), ground.row(m)) else {
+        return 0;
+    };
+    let tail = time_at(&paths.tails, issue(m));
+    let by_parcels = along(time_at(&paths.heads, issue(n)), row.parcels, tail);
+    if is_same_kind(row.kind, other.kind) && ground.copies(row.kind) == 1 {
+        by_parcels.max(along(time_at(&paths.heads, free(n)), 0, tail))
+    } else {
+        by_parcels
     }
 }
 
 /// Whether m would come too late for a bound if n stood before it: by parcels, or by the only unit of their kind.
 pub fn is_late(ground: &Ground, paths: &Paths, bound: u32, m: u8, n: u8) -> bool {
-    let (Some(row), Some(other)) = (ground.row(n), ground.row(m)) else {
-        return false;
-    };
-    let tail = time_at(&paths.tails, issue(m));
-    let is_shared = is_same_kind(row.kind, other.kind) && ground.copies(row.kind) == 1;
-    let by_parcels = reaches(bound, time_at(&paths.heads, issue(n)), row.parcels, tail);
-    by_parcels || is_shared && reaches(bound, time_at(&paths.heads, free(n)), 0, tail)
+    bound <= longest_with(ground, paths, n, m)
 }
 
 impl<'a> Looks<'a> {

@@ -110,12 +110,16 @@ fn order_of(before: &[Set; BLOCK_LIMIT], count: u8) -> ArrayVec<u8, BLOCK_LIMIT>
     order
 }
 
+/// The numbers that are in either set, of all numbers of a block.
+pub fn joined(all: Set, one: Set, other: Set) -> Set {
+    all.without(&all.without(&one).without(&other))
+}
+
 /// Adds some numbers to the sets of these.
 fn add_each(sets: &mut [Set; BLOCK_LIMIT], all: Set, at: Set, more: Set) {
     for position in 0..BLOCK_LIMIT {
         if at.has((position + 1) as u8) {
-            let others = all.without(&sets[position]).without(&more);
-            sets[position] = all.without(&others);
+            sets[position] = joined(all, sets[position], more);
         }
     }
 }
@@ -167,6 +171,16 @@ impl Precedence {
     /// The numbers after n.
     pub fn after(&self, n: u8) -> Set {
         set_of(&self.after, n)
+    }
+
+    /// The numbers before each; those of n are at n - 1.
+    pub fn all_before(&self) -> &[Set; BLOCK_LIMIT] {
+        &self.before
+    }
+
+    /// The numbers after each.
+    pub fn all_after(&self) -> &[Set; BLOCK_LIMIT] {
+        &self.after
     }
 
     /// The numbers that stand after one and before another; from 0 they are after the origin, and to 0 before the end.

@@ -1,7 +1,7 @@
 //! Whether a load may say more than a wait: a quick look, which few loads pass.
 //! An upper bound of what the load line can say tells whether `ways.rt` is worth its time.
 
-use crate::facts::load::Load;
+use crate::facts::load::{Load, Reach};
 use crate::facts::sort::sort;
 use crate::facts::spans::{at_issue, at_start};
 use crate::work::Work;
@@ -76,14 +76,14 @@ impl Shares {
     }
 
     /// Finds those of a load.
-    pub fn find(&mut self, load: &Load) -> Result<(), AllocError> {
+    pub fn find<R: Reach>(&mut self, load: &Load<R>) -> Result<(), AllocError> {
         self.shares.clear();
         let mut rest = load.numbers;
         while let Some(n) = rest.pop_first() {
             self.shares.push(Share {
                 amount: load.ground.amount(n),
-                head: load.spans.between(load.from, at_start(n)).unwrap_or(0),
-                tail: load.spans.between(at_issue(n), load.to).unwrap_or(0),
+                head: load.reach.head(at_start(n)).unwrap_or(0),
+                tail: load.reach.tail(at_issue(n)).unwrap_or(0),
             })?;
         }
         Ok(())

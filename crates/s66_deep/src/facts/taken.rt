@@ -83,6 +83,24 @@ impl Taken {
         is_taken
     }
 
+    /// Takes in what a supposition with so many lines within shows, m before n, if it wasn't known how they stand and there is room for its
+    /// lines, and returns whether it did.
+    pub fn take_shown(&mut self, m: u8, n: u8, within: usize) -> bool {
+        let is_full = self.lines >= FACT_LIMIT || within >= FACT_LIMIT;
+        if is_full || self.lines + within + 2 > FACT_LIMIT {
+            return false;
+        }
+        if self.is_before(m, n) || self.is_before(n, m) {
+            return false;
+        }
+        // each pair is forced in orders that take less than 0
+        let is_taken = take(&mut self.facts, 0, &FactLine::Pair(m, n));
+        if is_taken {
+            self.lines += within + 2;
+        }
+        is_taken
+    }
+
     /// The same.
     pub fn duplicate(&self) -> Taken {
         Taken {
