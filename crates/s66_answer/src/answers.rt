@@ -335,6 +335,32 @@ fn plain_order(
     })
 }
 
+/// The best order, or a better one that a plain search finds which ends at a bound of all orders; there is nothing to find if it takes no
+/// more. The splits are those of that search.
+fn seek_plain(
+    alloc: Global,
+    block: &Block,
+    profile: &Profile,
+    strategy: Strategy,
+    best: Timed,
+    bound: u32,
+) -> Result<Sought, AllocError>
+    requires within { IsSearchWithin strategy.search }
+    requires best { IsGood (problem_of profile.now block.now) best }
+    ensures best { IfOk result (λ sought. IsGood (problem_of profile.now block.now) sought.best) }
+    ensures splits { IfOk result (λ sought. sought.splits ≤ strategy.search.nodes) }
+{
+    if best.total() <= bound {
+        return Ok(Sought { best, splits: 0 });
+    }
+    let plain = plain_order(alloc, block, profile, strategy, bound)?;
+    let splits = plain.splits;
+    Ok(Sought {
+        best: faster(best, Some(plain.best)),
+        splits,
+    })
+}
+
 /// The best order, or a better one that searches find which end at a bound of all orders; there is nothing to find if it takes no more.
 /// The splits are those of a search beside this one.
 fn seek(
@@ -353,12 +379,8 @@ fn seek(
     ensures best { IfOk result (λ sought. IsGood (problem_of profile.now block.now) sought.best) }
     ensures splits { IfOk result (λ sought. sought.splits ≤ strategy.search.nodes) }
 {
-    if best.total() <= bound {
-        return Ok(Sought { best, splits: 0 });
-    }
-    let plain = plain_order(alloc, block, profile, strategy, bound)?;
-    let splits = plain.splits;
-    let best = faster(best, Some(plain.best));
+    let plain = seek_plain(alloc, block, profile, strategy, best, bound)?;
+    let Sought { best, splits } = plain;
     if best.total() <= bound {
         return Ok(Sought { best, splits });
     }
@@ -408,6 +430,100 @@ fn answer_by(
     match shown_by(alloc, block, profile, candidate, evidence)? {
         Some(shown) => Ok(Found::Shown(shown)),
         None => found_by_search(block, search, beside),
+    }
+}
+
+/// The answer of a search that made all its splits, or if this order takes less, that of the same search made anew, with the order.
+/// Searches beside it made so many splits.
+fn better_found(
+    alloc: Global,
+    block: &Block,
+    profile: &Profile,
+    strategy: Strategy,
+    answer: Answer,
+    best: &Timed,
+    beside: u32,
+) -> Result<Found, AllocError>
+    requires within { IsSearchWithin strategy.search }
+    requires answer { IsFound strategy profile.now block.now answer }
+    ensures { AreBeside strategy beside → IfOk result (IsFor strategy profile.now block.now) }
+{
+    if answer.time() <= best.total() {
+        return Ok(by_search(nearest(block, answer), beside));
+    }
+    let mut search = LoneSearch::new(alloc, block, profile, strategy.search)?;
+    search.search(first_splits(block), 0)?;
+    search.offer(best)?;
+    found_by_search(block, search, beside)
+}
+
+/// An answer by what was found beside a search that made all its splits, with so many more, or by that search if it shows more.
+fn answer_beside(
+    alloc: Global,
+    block: &Block,
+    profile: &Profile,
+    strategy: Strategy,
+    answer: Answer,
+    looked: Looked,
+    made: u32,
+) -> Result<Found, AllocError>
+    requires within { IsSearchWithin strategy.search }
+    requires answer { IsFound strategy profile.now block.now answer }
+    requires deep { strategy.deep ≡ true }
+    requires looked { IsLooked (problem_of profile.now block.now) strategy.search.nodes made looked }
+    requires made { made ≤ strategy.search.nodes + strategy.search.nodes / 2 }
+    ensures { IfOk result (IsFor strategy profile.now block.now) }
+{
+    let Looked {
+        best,
+        source,
+        evidence,
+    } = looked;
+    let bound = evidence.bound();
+    let found = seek_plain(alloc, block, profile, strategy, best, bound)?;
+    let Sought { best, splits } = found;
+    let beside = made.saturating_add(splits);
+    if bound < answer.bound() {
+        return better_found(alloc, block, profile, strategy, answer, &best, beside);
+    }
+    if answer.time() < best.total() {
+        return Ok(by_search(nearest(block, answer), beside));
+    }
+    let near = nearest_order(block, best, source);
+    let candidate = Candidate {
+        order: near.order().duplicate(),
+        time: near.total(),
+        source,
+        splits: answer.splits().saturating_add(beside),
+    };
+    match shown_by(alloc, block, profile, candidate, evidence)? {
+        Some(shown) => Ok(Found::Shown(shown)),
+        None => better_found(alloc, block, profile, strategy, answer, &near, beside),
+    }
+}
+
+/// An answer with facts to a block that a search leaves open which made all its splits. While facts are looked for, only the tree of the
+/// search is kept.
+fn answer_after(
+    alloc: Global,
+    block: &Block,
+    profile: &Profile,
+    strategy: Strategy,
+    search: LoneSearch<'_>,
+    is_printed: bool,
+) -> Result<Found, AllocError>
+    requires within { IsSearchWithin strategy.search }
+    requires search { IsSearchOf strategy profile.now block.now search }
+    requires deep { strategy.deep ≡ true }
+    ensures { IfOk result (IsFor strategy profile.now block.now) }
+{
+    let answer = search.finish()?;
+    let most = strategy.search.nodes;
+    let look = look_at(alloc, block, profile, answer.best(), most, is_printed)?;
+    let Look { found, splits } = look;
+    match found {
+        Some(looked) => answer_beside(alloc, block, profile, strategy, answer, looked, splits),
+        None => Ok(by_search(nearest(block, answer), splits)),
     }
 }
 
@@ -514,6 +630,9 @@ pub fn answer_alone(
     search.search(first_splits(block), 0)?;
     if search.is_best() {
         return found_best(alloc, block, profile, search, is_printed, most);
+    }
+    if most <= search.splits() {
+        return answer_after(alloc, block, profile, strategy, search, is_printed);
     }
     let look = look_at(alloc, block, profile, search.best(), most, is_printed)?;
     let Look { found, splits } = look;
