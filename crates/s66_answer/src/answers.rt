@@ -2,7 +2,8 @@
 //! (`answer_alone`).
 //!
 //! With facts a few splits come first, which decide most blocks. Else `s66_deep` looks for a better order and what shows a bound; its
-//! document counts only if the checker accepts it; and the search goes on to that bound if no order that takes so little was found.
+//! document counts only if the checker accepts it; and the search goes on to that bound if no order that takes so little was found. Of a
+//! search that made all its splits only the tree is kept meanwhile, and a faster order is put in its answer.
 
 ghost use Rattle.std.specs.Prelude.{◌≡◌, ◌≤◌, ◌+◌, ◌/◌, true, IfOk, IfSome};
 ghost use Rattle.s66_line.specs.Block.{instrs_of, Block as BlockOf};
@@ -280,27 +281,26 @@ fn shown_or_searched(
     }
 }
 
-/// What a search finds that is brought to its end, or its order by facts if these show as much or more. Searches beside it made so many
-/// splits.
+/// An answer with an order that is nearer to the source, if one is found; by facts if these show as much or more. Searches beside it made
+/// so many splits.
 fn found_or_shown(
     alloc: Global,
     block: &Block,
     profile: &Profile,
-    search: LoneSearch<'_>,
+    answer: Answer,
     beside: u32,
     evidence: Evidence,
 ) -> Result<Found, AllocError>
-    requires search { search.problem ≡ problem_of profile.now block.now }
+    requires problem { answer.problem ≡ problem_of profile.now block.now }
     requires made { tree_splits evidence ≤ beside }
-    ensures { (strategy : StrategyOf) → strategy.deep ≡ true → IsSearchOf strategy profile.now block.now search.entry →
+    ensures { (strategy : StrategyOf) → strategy.deep ≡ true → IsFound strategy profile.now block.now answer →
         AreBeside strategy beside → IfOk result (IsFor strategy profile.now block.now) }
 {
-    let found = search.finish()?;
-    let answer = nearest(block, found);
-    if evidence.bound() < answer.bound() {
-        return Ok(by_search(answer, beside));
+    let near = nearest(block, answer);
+    if evidence.bound() < near.bound() {
+        return Ok(by_search(near, beside));
     }
-    shown_or_searched(alloc, block, profile, answer, beside, evidence)
+    shown_or_searched(alloc, block, profile, near, beside, evidence)
 }
 
 /// An order that is sought, and how many splits were made for it.
@@ -418,7 +418,8 @@ fn answer_by(
     let Sought { best, splits } = found;
     let beside = made.saturating_add(splits);
     if best.total() != bound {
-        return found_or_shown(alloc, block, profile, search, beside, evidence);
+        let answer = search.finish()?;
+        return found_or_shown(alloc, block, profile, answer, beside, evidence);
     }
     let near = nearest_order(block, best, source);
     let candidate = Candidate {
@@ -433,31 +434,20 @@ fn answer_by(
     }
 }
 
-/// The answer of a search that made all its splits, or if this order takes less, that of the same search made anew, with the order.
-/// Searches beside it made so many splits.
-fn better_found(
-    alloc: Global,
-    block: &Block,
-    profile: &Profile,
-    strategy: Strategy,
-    answer: Answer,
-    best: &Timed,
-    beside: u32,
-) -> Result<Found, AllocError>
-    requires within { IsSearchWithin strategy.search }
-    requires answer { IsFound strategy profile.now block.now answer }
-    ensures { AreBeside strategy beside → IfOk result (IsFor strategy profile.now block.now) }
+/// The answer, or the same with this order if that takes less.
+fn with_faster(answer: Answer, best: Timed) -> Answer
+    requires { best.problem ≡ answer.problem }
+    ensures rule { result.rule ≡ answer.rule }
+    ensures problem { result.problem ≡ answer.problem }
+    ensures budget { result.budget ≡ answer.budget }
 {
-    if answer.time() <= best.total() {
-        return Ok(by_search(nearest(block, answer), beside));
+    if best.total() < answer.time() {
+        return answer.with_order(best);
     }
-    let mut search = LoneSearch::new(alloc, block, profile, strategy.search)?;
-    search.search(first_splits(block), 0)?;
-    search.offer(best)?;
-    found_by_search(block, search, beside)
+    answer
 }
 
-/// An answer by what was found beside a search that made all its splits, with so many more, or by that search if it shows more.
+/// An answer by what was found beside a search that made all its splits, with so many more.
 fn answer_beside(
     alloc: Global,
     block: &Block,
@@ -474,35 +464,15 @@ fn answer_beside(
     requires made { made ≤ strategy.search.nodes + strategy.search.nodes / 2 }
     ensures { IfOk result (IsFor strategy profile.now block.now) }
 {
-    let Looked {
-        best,
-        source,
-        evidence,
-    } = looked;
-    let bound = evidence.bound();
-    let found = seek_plain(alloc, block, profile, strategy, best, bound)?;
+    let Looked { best, evidence, .. } = looked;
+    let found = seek_plain(alloc, block, profile, strategy, best, evidence.bound())?;
     let Sought { best, splits } = found;
     let beside = made.saturating_add(splits);
-    if bound < answer.bound() {
-        return better_found(alloc, block, profile, strategy, answer, &best, beside);
-    }
-    if answer.time() < best.total() {
-        return Ok(by_search(nearest(block, answer), beside));
-    }
-    let near = nearest_order(block, best, source);
-    let candidate = Candidate {
-        order: near.order().duplicate(),
-        time: near.total(),
-        source,
-        splits: answer.splits().saturating_add(beside),
-    };
-    match shown_by(alloc, block, profile, candidate, evidence)? {
-        Some(shown) => Ok(Found::Shown(shown)),
-        None => better_found(alloc, block, profile, strategy, answer, &near, beside),
-    }
+    let better = with_faster(answer, best);
+    found_or_shown(alloc, block, profile, better, beside, evidence)
 }
 
-/// An answer with facts to a block that a search leaves open which made all its splits. While facts are looked for, only the tree of the
+/// An answer with facts to a block that a search leaves open which made all its splits. While facts are looked for, only the tree of that
 /// search is kept.
 fn answer_after(
     alloc: Global,

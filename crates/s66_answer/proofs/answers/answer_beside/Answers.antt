@@ -1,75 +1,16 @@
-use Rattle.std.proofs.Common.{◌≡◌, ◌*◌, ◌≤◌, ◌∙◌, IfSome, ap, arith, inr, subst, sym}
-use Rattle.s66_line.specs.Block.{instrs_of}
-use Rattle.s66_dep.specs.Ordered.{Ordered}
-use Rattle.s66_model.specs.LegalOrder.{IsLegal}
-use Rattle.s66_model.specs.Timing.{Problem, total_of}
-use Rattle.s66_model.specs.Tree.{splits}
-use Rattle.s66_ledger.specs.Answers.{answer_of}
-use Rattle.s66_cert.specs.DocumentParts.{Parts, tree_of_lines}
-use Rattle.s66_cert.specs.Evidence.{EvidenceOf}
-use Rattle.s66_answer.specs.declared.answers.Candidate.{Candidate}
-use Rattle.s66_answer.specs.Answers.{IsEnough, problem_of}
-use Rattle.s66_answer.specs.Stored.{IsShownBy, claimed, tree_splits}
-use Rattle.s66_answer.proofs.SearchAnswers.{beside-deep, search-answers}
-use Rattle.s66_answer.proofs.ByFacts.{IsCandidate, as-good, as-long, shown-claimed}
+use Rattle.std.proofs.Common.{◌∙◌, arith, sym}
+use Rattle.s66_answer.proofs.SearchAnswers.{beside-deep}
 use Rattle.s66_answer.proofs.answers.answer_beside.Goals as goal
 
-pub returns-then-bound : goal.returns-then-bound
-returns-then-bound c =
-    c.better_found.ensures (beside-deep c.args.strategy c.saturating_add-beside.result c.requires.deep (omega (arith, c.saturating_add-beside.ensures, c.requires.made, c.in_ok-found.ensures.splits)))
+pub with_faster-better-requires : goal.with_faster-better-requires
+with_faster-better-requires c = c.in_ok-found.ensures.best.problem ∙ sym c.requires.answer.1
 
-pub returns-then-time-total : goal.returns-then-time-total
-returns-then-time-total c =
-    let near = c.nearest.ensures in
+pub found_or_shown-requires-clause-made : goal.found_or_shown-requires-clause-made
+found_or_shown-requires-clause-made c = omega (arith, c.saturating_add-beside.ensures, c.requires.looked.made, c.ranges.made)
+
+pub returns : goal.returns
+returns c =
+    let better = c.with_faster-better.ensures in
     let found = c.requires.answer in
-    c.by_search.ensures c.args.strategy c.args.profile.now c.args.block.now (near.rule ∙ found.0, near.problem ∙ found.1, near.budget ∙ found.2)
+    c.found_or_shown.ensures c.args.strategy c.requires.deep (better.rule ∙ found.0, better.problem ∙ found.1, better.budget ∙ found.2)
     (beside-deep c.args.strategy c.saturating_add-beside.result c.requires.deep (omega (arith, c.saturating_add-beside.ensures, c.requires.made, c.in_ok-found.ensures.splits)))
-
-pub returns-in-None : goal.returns-in-None
-returns-in-None c =
-    c.better_found-in-None.ensures (beside-deep c.args.strategy c.saturating_add-beside.result c.requires.deep (omega (arith, c.saturating_add-beside.ensures, c.requires.made, c.in_ok-found.ensures.splits)))
-
-pub returns-in-Some : goal.returns-in-Some
-returns-in-Some c =
-    let strategy = c.args.strategy in
-    let p = c.args.profile.now in
-    let block = c.args.block.now in
-    let b : Problem = problem_of p block in
-    let looked = c.args.looked in
-    let is = c.requires.looked in
-    let a = answer_of c.args.answer in
-    let answered = search-answers strategy p block c.args.answer c.requires.answer c.time.ensures.answer in
-    let best = c.in_ok-found.found.best in
-    let found = c.in_ok-found.ensures.best in
-    let near = c.nearest_order-near.result in
-    let nearer = c.nearest_order-near.ensures in
-    let good = as-good b best near nearer.problem nearer.time found nearer.first in
-    let same = as-long b best near nearer.problem nearer.time found.problem in
-    let evidence : EvidenceOf = looked.evidence in
-    let candidate : Candidate = record { order = c.duplicate.result; time = c.total-2.result; source = looked.source; splits = c.saturating_add.result } in
-    let s = c.in-Some.shown in
-    let shown : IsShownBy p block candidate evidence s = subst (λ o. IfSome o (IsShownBy p block candidate evidence)) c.in-Some.is c.in_ok-shown.ensures in
-    let order : c.duplicate.result ≡ record { block = near.problem.block; numbers = near.numbers } = c.duplicate.ensures ∙ c.order.ensures.value in
-    let numbers : c.duplicate.result.numbers ≡ near.numbers = ap (λ (o : Ordered). o.numbers) order in
-    let total : c.total-2.result ≡ total_of b near.numbers = c.total-2.ensures.value ∙ ap (λ (q : Problem). total_of q near.numbers) good.problem in
-    let right : IsCandidate p block candidate =
-    record {
-      of_block = ap (λ (o : Ordered). o.block) order ∙ ap (λ (q : Problem). q.block) good.problem;
-      legal = subst (λ ns. IsLegal (instrs_of block) ns) (sym numbers) (subst (λ (q : Problem). IsLegal q.block near.numbers) good.problem c.order.ensures.legal);
-      time = total ∙ ap (total_of b) (sym numbers);
-      within = omega (arith, total, good.source);
-      first = λ same. numbers ∙ good.first (same ∙ total);
-      source = is.source;
-    }
-    in
-    let first : c.total.result ≡ total_of b best.numbers = c.total.ensures.value ∙ ap (λ (q : Problem). total_of q best.numbers) found.problem in
-    let time : s.document.time ≡ c.total-2.result = ap (λ (d : Parts). d.time) shown.document in
-    let bound : s.document.bound ≡ evidence.bound = ap (λ (d : Parts). d.bound) shown.document in
-    let enough : IsEnough strategy.search b (claimed s) =
-    inr (a, answered, omega (arith, time, total, same, first, c.if-time-total.false, c.time.ensures.value), omega (arith, bound, c.bound-bound.ensures, c.bound.ensures.value, c.if-bound.false), omega (arith, shown.splits, c.saturating_add.ensures, c.splits.ensures.value, c.splits.ensures.few))
-    in
-    let made : tree_splits evidence ≤ s.splits = omega (arith, shown.splits, c.saturating_add.ensures, c.saturating_add-beside.ensures, is.made, c.ranges.made) in
-    let all : 2 * s.splits ≤ 7 * strategy.search.nodes =
-    omega (arith, shown.splits, c.saturating_add.ensures, c.splits.ensures.value, answered.within, c.saturating_add-beside.ensures, c.requires.made, c.in_ok-found.ensures.splits)
-    in
-    shown-claimed strategy p block candidate evidence s shown c.requires.deep right enough made all
