@@ -5,7 +5,7 @@
 ghost use Rattle.std.specs.Prelude.{◌≡◌, ◌≤◌, ◌+◌, ◌/◌, IfOk};
 ghost use Rattle.s66_deep.specs.Orders.{IsGood};
 
-use crate::best_first::{Branched, Limits, branch};
+use crate::best_first::{Branched, Limits, branch, root_leaf};
 use crate::facts::Finder;
 use crate::instance::Instance;
 use crate::limits::{
@@ -14,7 +14,6 @@ use crate::limits::{
 };
 use crate::lines::{Bound, Halved, Lined, beam_by, best_by_lines, found_below, halve};
 use crate::orders::faster;
-use crate::walk::Prefix;
 use s66_cert::{Tree, TreeLine};
 use s66_line::Block;
 use s66_moments::FactStep;
@@ -126,22 +125,6 @@ fn first_line(block: &Block, lines: usize) -> u32 {
     }
 }
 
-/// Whether one leaf of the empty prefix shows that no order takes less than a limit: a path by the fact lines, or the work of a kind of
-/// unit, or the parcels.
-fn has_leaf(instance: &Instance<'_>, below: &Finder, limit: u32) -> bool {
-    let tails = below.tails();
-    let prefix = Prefix::new(instance.block, instance.profile, &tails);
-    !prefix.walk().is_complete() && prefix.leaf(limit).is_some()
-}
-
-/// The fact lines of a tree: none if it is one leaf that speaks of the work of units or of the parcels, which shows as much without them.
-fn lines_of(alloc: Global, below: &Finder, tree: &Tree) -> Result<Vec<FactStep>, AllocError> {
-    match tree.lines().next() {
-        Some(TreeLine::Load(_) | TreeLine::Parcels) => Ok(Vec::new(alloc)),
-        _ => below.steps(),
-    }
-}
-
 /// A search for orders of a goal, by fact lines of such orders.
 fn search_below(
     instance: &Instance<'_>,
@@ -177,7 +160,7 @@ fn search_below(
     let shown = match tree {
         Some(tree) => Some(Shown::ByTree(Written {
             bound,
-            lines: lines_of(instance.alloc, &below, &tree)?,
+            lines: below.steps()?,
             tree,
         })),
         None => None,
@@ -189,8 +172,45 @@ fn search_below(
     })
 }
 
-/// Suppositions of orders of a goal, and if these don't show that there is none, a search for such orders. Nothing is supposed where the
-/// search needs no split.
+/// The lines of a finder and one leaf of the empty prefix, if they show that no order takes less than a limit.
+fn by_root(
+    instance: &Instance<'_>,
+    finder: &Finder,
+    limit: u32,
+) -> Result<Option<Written>, AllocError> {
+    let tree = root_leaf(
+        instance.alloc,
+        instance.block,
+        instance.profile,
+        finder,
+        limit,
+    )?;
+    match tree {
+        Some(tree) => Ok(Some(Written {
+            bound: limit,
+            lines: finder.steps()?,
+            tree,
+        })),
+        None => Ok(None),
+    }
+}
+
+/// The same without a line, if that is enough.
+fn by_short_root(
+    instance: &Instance<'_>,
+    finder: &Finder,
+    limit: u32,
+) -> Result<Option<Written>, AllocError> {
+    let written = by_root(instance, finder, limit)?;
+    if written.is_none() {
+        return Ok(None);
+    }
+    let first = finder.without_lines()?;
+    let short = by_root(instance, &first, limit)?;
+    Ok(short.or(written))
+}
+
+/// A leaf of the empty prefix, or suppositions of orders of a goal, and if these don't show that there is none, a search for such orders.
 fn suppose_and_search(
     instance: &Instance<'_>,
     below: Finder,
@@ -202,9 +222,16 @@ fn suppose_and_search(
     ensures splits { IfOk result (λ tried. tried.splits ≤ goal.splits) }
 {
     let mut below = below;
-    if !has_leaf(instance, &below, goal.limit) {
-        below.suppose_below(goal.limit, goal.suppositions)?;
+    if below.root().1 < goal.limit
+        && let Some(written) = by_short_root(instance, &below, goal.limit)?
+    {
+        return Ok(Tried {
+            best,
+            splits: 0,
+            shown: Some(Shown::ByTree(written)),
+        });
     }
+    below.suppose_below(goal.limit, goal.suppositions)?;
     if goal.limit <= below.root().1 {
         return Ok(Tried {
             best,
@@ -393,7 +420,7 @@ pub(crate) fn search(
 }
 
 /// What shows that no order takes less than this one, which is known to be best: fact lines and a leaf, or a tree of at most so many
-/// splits. The lines are those that are needed, since they are for print.
+/// splits.
 pub(crate) fn show(
     instance: &Instance<'_>,
     finder: &Finder,
@@ -406,18 +433,6 @@ pub(crate) fn show(
 {
     let total = best.total();
     let below = found_below(finder, total)?;
-    if total <= below.root().1 {
-        let bound = Bound {
-            value: total,
-            finder: below,
-        };
-        let written = by_leaf(instance.alloc, bound, true)?;
-        return Ok(Tried {
-            best,
-            splits: 0,
-            shown: Some(Shown::ByTree(written)),
-        });
-    }
     let goal = Goal {
         limit: total,
         // a tree that shows less is of no use
@@ -425,5 +440,5 @@ pub(crate) fn show(
         splits: most,
         suppositions: 0,
     };
-    search_below(instance, below, best, goal)
+    suppose_and_search(instance, below, best, goal)
 }

@@ -100,7 +100,7 @@ pub struct Leaves<'s> {
 
 impl Leaves<'_> {
     /// Writes the leaf of a prefix, if it has one: it is a whole order, a bound is so great at least, or a load closes it.
-    fn write(&mut self, prefix: &Prefix<'_>, tree: &mut Tree) -> Result<bool, AllocError> {
+    pub fn write(&mut self, prefix: &Prefix<'_>, tree: &mut Tree) -> Result<bool, AllocError> {
         if prefix.walk().is_complete() {
             tree.push(TreeLine::Whole)?;
             return Ok(true);

@@ -262,7 +262,7 @@ impl Finder {
     }
 
     /// A finder of the block that knows only what follows by dependence. `Err` is out of memory.
-    fn without_lines(&self) -> Result<Finder, AllocError> {
+    pub(crate) fn without_lines(&self) -> Result<Finder, AllocError> {
         Finder::of_ground(self.alloc, Box::new(self.alloc, self.ground.duplicate())?)
     }
 
