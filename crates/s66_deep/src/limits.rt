@@ -15,13 +15,17 @@ pub const PASSES_LIMIT: u8 = 16;
 /// How many lines are taken in, some more than once, to find out which are needed.
 pub const TAKES_LIMIT: u32 = 2_000;
 
+/// How often at most it is tried to drop lines of a supposition that is to be printed.
+pub const TRIALS_LIMIT: u32 = 1_000;
+
 /// How near to a bound some path has to come, in minor cycles, that it is supposed that one instruction stands before another.
 pub const NEAR: u32 = 10;
 
 /// How often at most it is looked for what follows from a pair, and for pairs to be supposed.
 pub const FOLLOWED_LIMIT: usize = 64;
 
-/// How many pairs are supposed at most, as a share of the splits: it takes about as long as so many.
+/// How many pairs are supposed at most, as a share of the splits: it takes about as long as so many. Where one is refuted, each trial to
+/// drop some of its lines counts too.
 pub const SPLITS_A_SUPPOSITION: u32 = 16;
 
 /// How many beginnings of a length a beam keeps.

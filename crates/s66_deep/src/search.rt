@@ -55,8 +55,6 @@ struct Goal {
     bound: u32,
     /// The most splits.
     splits: u32,
-    /// The most suppositions.
-    suppositions: u32,
 }
 
 /// What a search of so many splits found: the best order, and what suppositions or its tree show, if that is more than was known.
@@ -211,11 +209,13 @@ fn by_short_root(
 }
 
 /// A leaf of the empty prefix, or suppositions of orders of a goal, and if these don't show that there is none, a search for such orders.
+/// How many suppositions are left is counted down.
 fn suppose_and_search(
     instance: &Instance<'_>,
     below: Finder,
     best: Timed,
     goal: Goal,
+    suppositions: &mut u32,
 ) -> Result<Tried, AllocError>
     requires { IsGood instance.now best }
     ensures best { IfOk result (λ tried. IsGood instance.now tried.best) }
@@ -231,7 +231,7 @@ fn suppose_and_search(
             shown: Some(Shown::ByTree(written)),
         });
     }
-    below.suppose_below(goal.limit, goal.suppositions)?;
+    *suppositions = below.suppose_below(goal.limit, *suppositions)?;
     if goal.limit <= below.root().1 {
         return Ok(Tried {
             best,
@@ -253,6 +253,7 @@ fn try_above(
     best: Timed,
     bound: u32,
     splits: u32,
+    suppositions: &mut u32,
 ) -> Result<Tried, AllocError>
     requires { IsGood instance.now best }
     ensures best { IfOk result (λ tried. IsGood instance.now tried.best) }
@@ -273,9 +274,8 @@ fn try_above(
         limit,
         bound,
         splits,
-        suppositions: splits / SPLITS_A_SUPPOSITION,
     };
-    suppose_and_search(instance, below, best, goal)
+    suppose_and_search(instance, below, best, goal, suppositions)
 }
 
 /// Raises what is shown of all orders, one minor cycle after the other, each by the fact lines of orders that take less than what is to
@@ -285,6 +285,7 @@ fn raise(
     finder: &Finder,
     searched: Searched,
     most: u32,
+    suppositions: &mut u32,
 ) -> Result<Searched, AllocError>
     requires { IsGood instance.now searched.best }
     ensures best { IfOk result (λ raised. IsGood instance.now raised.best) }
@@ -302,7 +303,7 @@ fn raise(
             break;
         }
         let left = most.saturating_sub(made);
-        let tried = try_above(instance, finder, best, bound, left)?;
+        let tried = try_above(instance, finder, best, bound, left, suppositions)?;
         best = tried.best;
         made = made.saturating_add(tried.splits);
         shown = shown.or_more(tried.shown);
@@ -326,7 +327,7 @@ fn search_lines(
     shown: Shown,
     splits: u32,
     most: u32,
-    suppositions: u32,
+    suppositions: &mut u32,
 ) -> Result<Searched, AllocError>
     requires { IsGood instance.now lined.best }
     ensures best { IfOk result (λ next. IsGood instance.now next.best) }
@@ -345,9 +346,8 @@ fn search_lines(
         limit: best.total(),
         bound,
         splits: most,
-        suppositions,
     };
-    let tried = suppose_and_search(instance, below, best, goal)?;
+    let tried = suppose_and_search(instance, below, best, goal, suppositions)?;
     Ok(Searched {
         best: tried.best,
         shown: shown.or_more(tried.shown),
@@ -363,7 +363,7 @@ fn go_on(
     searched: Searched,
     width: usize,
     most: u32,
-    suppositions: u32,
+    suppositions: &mut u32,
 ) -> Result<Searched, AllocError>
     requires { IsGood instance.now searched.best }
     ensures best { IfOk result (λ next. IsGood instance.now next.best) }
@@ -397,7 +397,7 @@ pub(crate) fn search(
     let lined = best_by_lines(instance, finder, BEAM_WIDTH, best)?;
     if most < WIDE_SPLITS && SHORT_COUNT < instance.block.count() {
         let shown = Shown::ByLeaf(lined.bound()?);
-        return search_lines(instance, lined, shown, 0, most, 0);
+        return search_lines(instance, lined, shown, 0, most, &mut 0);
     }
     let Halved { best, below, bound } = halve(instance, lined)?;
     let searched = Searched {
@@ -405,18 +405,25 @@ pub(crate) fn search(
         shown: Shown::ByLeaf(bound),
         splits: 0,
     };
-    let few = most / SPLITS_A_SUPPOSITION;
+    let mut suppositions = most / SPLITS_A_SUPPOSITION;
     let first = go_on(
         instance,
         &below,
         searched,
         WIDE_WIDTH,
         most / FIRST_SHARE,
-        few,
+        &mut suppositions,
     )?;
     let left = most.saturating_sub(first.splits);
-    let second = go_on(instance, &below, first, WIDEST_WIDTH, left, few)?;
-    raise(instance, &below, second, most / 2)
+    let second = go_on(
+        instance,
+        &below,
+        first,
+        WIDEST_WIDTH,
+        left,
+        &mut suppositions,
+    )?;
+    raise(instance, &below, second, most / 2, &mut suppositions)
 }
 
 /// What shows that no order takes less than this one, which is known to be best: fact lines and a leaf, or a tree of at most so many
@@ -438,7 +445,6 @@ pub(crate) fn show(
         // a tree that shows less is of no use
         bound: total.saturating_sub(1),
         splits: most,
-        suppositions: 0,
     };
-    suppose_and_search(instance, below, best, goal)
+    suppose_and_search(instance, below, best, goal, &mut 0)
 }

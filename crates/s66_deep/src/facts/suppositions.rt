@@ -42,7 +42,7 @@ pub struct Shaving<'a> {
     bound: u32,
     selection: Selection,
     ways: Ways,
-    /// How many more pairs may be supposed.
+    /// How many more pairs may be supposed, and trials made to drop lines.
     left: u32,
     found: Vec<Found>,
     is_refuted: bool,
@@ -146,9 +146,11 @@ impl<'a> Shaving<'a> {
             second: m,
             lines: followed.lines,
         };
+        let mut left = self.left;
         let short = self
             .trial()
-            .shortened(self.alloc, self.bound, &supposition)?;
+            .shortened(self.alloc, self.bound, &supposition, &mut left)?;
+        self.left = left;
         self.found.push(Found::BySupposition(short))?;
         self.keep(n, m)
     }
