@@ -22,7 +22,7 @@ const NARROW_BEAMS: &str =
 /// Every order takes 13. Two pairs show that, and neither of them alone; that 1 comes before 5 is found too, and not needed.
 const TWO_PAIRS: &str = "  FX6 X5*X6\n  PX2 B5,X0\n  CX3 X4\n  ZX0 X0\n  MX4 57\n";
 
-/// Every order takes 8, since two units do all of them. Two pairs show that too, and aren't needed.
+/// Every order takes 8, since two units do all of them. Two pairs are found too, and not needed.
 const THREE_INCREMENTS: &str = "  SX5 B1+B2\n  SX5 B1+B2\n  SX7 B3+5\n";
 
 pub(crate) const ROWS: &[Row] = &[
