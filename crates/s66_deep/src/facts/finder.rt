@@ -1,6 +1,6 @@
 //! Finds fact lines of a block.
 //! It is the fixed point of two rules: forced pairs (`pairs.rt`) and load lines (`ways.rt`), each tried anew where paths have grown,
-//! until nothing more is found or some path takes the bound.
+//! until nothing more is found or some path takes the bound. Where these end, suppositions (`suppositions.rt`) may show more pairs.
 
 use crate::facts::arcs::Arcs;
 use crate::facts::found::{Found, Supposition, duplicates_of, line_count, steps_of};
@@ -337,8 +337,8 @@ impl Finder {
         }
     }
 
-    /// Takes pairs that suppositions show for orders that take less than the bound, and what follows from them, until nothing more is found,
-    /// or a path takes the bound, or so many pairs were supposed. Returns how many more may be. `Err` is out of memory.
+    /// Takes pairs that suppositions show for orders that take less than the bound, and what follows from them, until nothing more is
+    /// found, or a path takes the bound, or so many pairs were supposed. Returns how many more may be. `Err` is out of memory.
     pub fn suppose_below(&mut self, bound: u32, most: u32) -> Result<u32, AllocError> {
         let mut left = most;
         for _round in 0..ROUNDS_LIMIT {

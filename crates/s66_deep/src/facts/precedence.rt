@@ -5,7 +5,6 @@ ghost use Rattle.std.specs.Prelude.{◌≤◌};
 ghost use Rattle.s66_isa.specs.declared.limits.TheConstants.{BLOCK_LIMIT};
 ghost use Rattle.s66_moments.specs.Facts.{IsNumber};
 
-use crate::facts::copies::copy_of;
 use arrayvec::ArrayVec;
 use s66_dep::Set;
 use s66_facts::Facts;
@@ -115,15 +114,6 @@ pub fn joined(all: Set, one: Set, other: Set) -> Set {
     all.without(&all.without(&one).without(&other))
 }
 
-/// Adds some numbers to the sets of these.
-fn add_each(sets: &mut [Set; BLOCK_LIMIT], all: Set, at: Set, more: Set) {
-    for position in 0..BLOCK_LIMIT {
-        if at.has((position + 1) as u8) {
-            sets[position] = joined(all, sets[position], more);
-        }
-    }
-}
-
 impl Precedence {
     /// By what is known of a block.
     pub fn of(facts: &Facts) -> Precedence {
@@ -134,28 +124,6 @@ impl Precedence {
             after: turned(&before),
             order: order_of(&before, facts.count()),
         }
-    }
-
-    /// The same.
-    pub fn duplicate(&self) -> Precedence {
-        Precedence {
-            all: self.all,
-            before: self.before,
-            after: self.after,
-            order: copy_of(self.order()),
-        }
-    }
-
-    /// One pair more: m stands before n, and then so do others.
-    pub fn add_pair(&mut self, m: u8, n: u8) {
-        if m == 0 || m as usize > BLOCK_LIMIT || n == 0 || n as usize > BLOCK_LIMIT {
-            return;
-        }
-        let front = self.before(m).with(m);
-        let back = self.after(n).with(n);
-        add_each(&mut self.before, self.all, back, front);
-        add_each(&mut self.after, self.all, front, back);
-        self.order = order_of(&self.before, self.all.count().min(128) as u8);
     }
 
     /// All numbers of the block.
