@@ -4,12 +4,12 @@
     tools/reasons.py PROGRAM [--count N] [--seed N]
 
 Certificates are those of examples/, with and without --deep, and of N random blocks, 100 unless given, under random profiles; of some of
-these others are made that have fact lines, and some have many pairs. Of each document with YES the first line must have the bound, count
+these others are made that have fact lines, with suppositions or without, and some have many pairs. Of each document with YES the first line must have the bound, count
 splits, and of a tree that isn't said count facts. Of one that is, each leaf must follow its prefix, whose times are worked out anew. Each
 row must have a number that follows from the row before it and from what its sentence names: the time of a result, a unit or a parcel, of
 instructions that the leaf names, with their texts. The last row has to reach the bound, or of parcels each; of a longest path it alone is
-the end, at the path's length. The last line must have the time. Of documents of version 5 only the first line and the last one are read. Each
-wrong thing is told, and the last line counts the documents. The status is 1 if something is wrong.
+the end, at the path's length. The last line must have the time. Each wrong thing
+is told, and the last line counts the documents. The status is 1 if something is wrong.
 """
 import argparse
 import glob
@@ -18,7 +18,7 @@ import os
 import re
 import sys
 
-from certificate import END, ORIGIN, Known, Load, Pair, Problem, Reader, instruction_of, meet_in_memory, name_of
+from certificate import END, ORIGIN, Known, Load, Pair, Problem, Reader, Refuted, Suppose, instruction_of, meet_in_memory, name_of
 from compare_certificates import Maker, run
 from find_facts import PROFILE
 
@@ -85,10 +85,7 @@ class Texts:
         head = f"Every order takes {document.bound} or more"
         splits = sum(line.kind == "S" for line in tree)
         by_splits = f", by {several(splits, 'split')}" if splits else ""
-        if document.version == 5:  # of which no more is read
-            must(first.startswith(head + by_splits), f"not the head of a tree: {first}")
-            self.lines = []
-        elif splits > 3 or any(line.kind in ("D", "N") or line.kind == "E" and splits for line in tree):
+        if splits > 3 or any(line.kind in ("D", "N") or line.kind == "E" and splits for line in tree):
             facts = f" and {several(len(document.facts), 'fact')}" if document.facts else ""
             must(first == f"{head}{by_splits}{facts}.", f"not the head of a tree that is counted: {first}")
         else:
@@ -209,7 +206,7 @@ class Texts:
         must([self.number(first), self.number(second)] == list(pair), f"other instructions: {line}")
         placed, by_pair = [point.number for point in self.prefix], pair[0] not in self.at_first[pair[1]]
         must(pair[0] in self.known.before[pair[1]] and pair[1] in placed and pair[0] not in placed, f"not turned: {line}")
-        must(bool(by) == by_pair and (not by or isinstance(self.document.facts[int(by) - 1], Pair)), f"by which line: {line}")
+        must(bool(by) == by_pair and (not by or int(by) in self.pairs), f"by which line: {line}")
 
     def moment(self, moment):
         return "the end" if moment == END else f"where {moment[1]} {moment[0]}s"
@@ -259,13 +256,39 @@ class Texts:
         must((head + parcels, rest, all) == (until, max(0, bound - until), until + rest), f"not the sum: {sentence}")
         must(rest <= tail, f"the path to the end is shorter: {sentence}")
 
+    def suppose_sentence(self, pair, sentence):
+        """Whether a sentence says that the second of a pair is supposed to stand before the first."""
+        second, first = read("If (.*) stood before (.*) in a faster order:", sentence)
+        must((self.number(first), self.number(second)) == pair, f"other instructions: {sentence}")
+
+    def refuted_sentence(self, _, sentence):
+        """Whether a sentence says what a supposition shows, and where a path leads through that is too long with it."""
+        bound, heads, tails = self.document.bound, self.known.paths_from(ORIGIN), self.known.paths_to(END)
+        first, second, why = read("(.*) stands before (.*) in a faster order: if not, (.*)", sentence)
+        behind, before = self.known.outer[0]
+        must((self.number(first), self.number(second)) == (behind, before), f"other instructions: {sentence}")
+        moments = [(stage, n) for n in [behind, *sorted(self.problem.block)] for stage in ("issue", "start")]
+        late = [moment for moment in moments if heads[moment] + tails[moment] >= bound]
+        if not late:
+            must(why == f"the end comes at {bound} or later" and self.known.arcs[ORIGIN][END] >= bound, f"not so: {sentence}")
+            return
+        stage, n = late[0]
+        head, rest, all = map(int, read(f"{n} {stage}s at ([0-9]+) or later, and from there to the end it is ([0-9]+) or more: ([0-9]+)", why))
+        must((head, rest, all) == (heads[late[0]], max(0, bound - head), head + rest), f"not the sum: {sentence}")
+
     def facts(self):
-        """The fact lines, each by what is known before it, and the orders in which they hold."""
+        """The fact lines, each by what is known before it, what they leave known, and the orders in which they hold."""
+        self.pairs, self.loads = {}, {}
+        kinds = {Pair: self.pair_sentence, Load: self.load_sentence, Suppose: self.suppose_sentence, Refuted: self.refuted_sentence}
         for number, fact in enumerate(self.document.facts, 1):
-            place, sentence = read("  ([0-9]+)[.] (.*)", self.line())
+            is_within = self.known.outer and isinstance(fact, (Pair, Load))
+            place, sentence = read(("    " if is_within else "  ") + "([0-9]+)[.] (.*)", self.line())
             must(int(place) == number, f"not number {number}: {sentence}")
-            (self.pair_sentence if isinstance(fact, Pair) else self.load_sentence)(fact, sentence)
+            kinds[type(fact)](fact, sentence)
+            left = Pair(*self.known.outer[0]) if isinstance(fact, Refuted) else fact
             must(self.known.add_fact(fact), f"not right: {sentence}")
+            if not self.known.outer:
+                (self.pairs if isinstance(left, Pair) else self.loads)[number] = left
         line = self.line()
         must(line == f"If an order took less than {self.document.bound}:", f"not the orders of the rows: {line}")
 
@@ -297,8 +320,8 @@ class Texts:
         """The arcs that a row may be of."""
         found = re.fullmatch("(?:([0-9]+) (issue|start)s|the end), by ([0-9]+)[.]", sentence)
         if found:
-            load, end = self.document.facts[int(found[3]) - 1], (found[2], int(found[1])) if found[1] else END
-            must(isinstance(load, Load) and load.end == end, f"another line: {sentence}")
+            load, end = self.loads.get(int(found[3])), (found[2], int(found[1])) if found[1] else END
+            must(load and load.end == end, f"another line: {sentence}")
             return [(load.begin, end)]
         sentence, by = read(r"(.*?)(?: \(by ([0-9., and]+)\))?", sentence)
         arcs = self.table_arcs(sentence)
@@ -312,7 +335,7 @@ class Texts:
         """The fact lines that put m before n, each from the second number of the one before it on, with dependence between: one that ends
         the way if there is any, and else one from which on it is known.
         """
-        pairs, lines = {line: fact for line, fact in enumerate(self.document.facts, 1) if isinstance(fact, Pair)}, []
+        pairs, lines = self.pairs, []
         while m != n and m not in self.at_first[n]:
             begun = [line for line, (j, _) in pairs.items() if m == j or m in self.at_first[j]]
             for before in self.at_first, self.known.before:
@@ -382,7 +405,18 @@ def texts(program, count, seed):
         lines, (_, profile) = maker.document((0, 3, 50))
         yield f"random {number}", "\n".join(lines + [""]).encode()
         yield f"random {number} with facts", "\n".join(maker.with_facts(lines, profile) + [""]).encode()
+        yield f"random {number} with suppositions", "\n".join(with_suppositions(maker) + [""]).encode()
         yield f"random {number} with pairs", "\n".join(with_pairs(maker.any) + [""]).encode()
+
+
+def with_suppositions(maker):
+    """A document with suppositions, unless none is found for a dozen blocks."""
+    for _ in range(12):
+        lines, (_, profile) = maker.document(most=12)
+        supposed = maker.with_facts(lines, profile, is_supposing=True)
+        if supposed[0].endswith("5"):
+            break
+    return supposed
 
 
 def with_pairs(any):

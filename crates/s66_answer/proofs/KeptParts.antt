@@ -1,5 +1,5 @@
 -- What is kept of each block is kept of all, and makes the whole.
-use Rattle.std.proofs.Common.{ℕ, suc, ◌+◌, ◌≡◌, ◌≤◌, ◌<◌, ◌∙◌, Bool, true, false, List, [], ◌∷◌, ◌++◌, Ok, Option, append_assoc, arith, drop, length, refl, sym, subst, ap, ap₂, slice_index_or}
+use Rattle.std.proofs.Common.{ℕ, suc, ◌+◌, ◌≡◌, ◌≤◌, ◌<◌, ◌∙◌, Bool, List, [], ◌∷◌, ◌++◌, Ok, Option, append_assoc, arith, drop, length, refl, sym, subst, ap, ap₂, slice_index_or}
 use Rattle.std.proofs.lemmas.List.{append-nil, at_drop_all, drop_more}
 use Rattle.s66_isa.specs.declared.profile.Profile.{Profile}
 use Rattle.s66_line.specs.Block.{Block}

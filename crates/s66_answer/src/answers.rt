@@ -2,7 +2,8 @@
 //! (`answer_alone`).
 //!
 //! With facts a few splits come first, which decide most blocks. Else `s66_deep` looks for a better order and what shows a bound; its
-//! document counts only if the checker accepts it; and the search goes on to that bound if no order that takes so little was found.
+//! document counts only if the checker accepts it; and the search goes on to that bound if no order that takes so little was found. Of a
+//! search that made all its splits only the tree is kept meanwhile, and a faster order is put in its answer.
 
 ghost use Rattle.std.specs.Prelude.{◌≡◌, ◌≤◌, ◌+◌, ◌/◌, true, IfOk, IfSome};
 ghost use Rattle.s66_line.specs.Block.{instrs_of, Block as BlockOf};
@@ -42,7 +43,7 @@ const SHORTER_SHARE: usize = 2;
 
 /// An answer that facts show, by a document which the checker accepts.
 #[derive(Drop)]
-pub struct ByFacts {
+pub(crate) struct ByFacts {
     order: Order,
     document: Document,
     /// The total of the source order, in minor cycles.
@@ -53,7 +54,7 @@ pub struct ByFacts {
 
 /// An answer of a search.
 #[derive(Drop)]
-pub struct BySearch {
+pub(crate) struct BySearch {
     answer: Answer,
     /// How often orders were split, in this search and those beside it.
     splits: u32,
@@ -279,27 +280,26 @@ fn shown_or_searched(
     }
 }
 
-/// What a search finds that is brought to its end, or its order by facts if these show as much or more. Searches beside it made so many
-/// splits.
+/// An answer with an order that is nearer to the source, if one is found; by facts if these show as much or more. Searches beside it made
+/// so many splits.
 fn found_or_shown(
     alloc: Global,
     block: &Block,
     profile: &Profile,
-    search: LoneSearch<'_>,
+    answer: Answer,
     beside: u32,
     evidence: Evidence,
 ) -> Result<Found, AllocError>
-    requires search { search.problem ≡ problem_of profile.now block.now }
+    requires problem { answer.problem ≡ problem_of profile.now block.now }
     requires made { tree_splits evidence ≤ beside }
-    ensures { (strategy : StrategyOf) → strategy.deep ≡ true → IsSearchOf strategy profile.now block.now search.entry →
+    ensures { (strategy : StrategyOf) → strategy.deep ≡ true → IsFound strategy profile.now block.now answer →
         AreBeside strategy beside → IfOk result (IsFor strategy profile.now block.now) }
 {
-    let found = search.finish()?;
-    let answer = nearest(block, found);
-    if evidence.bound() < answer.bound() {
-        return Ok(by_search(answer, beside));
+    let near = nearest(block, answer);
+    if evidence.bound() < near.bound() {
+        return Ok(by_search(near, beside));
     }
-    shown_or_searched(alloc, block, profile, answer, beside, evidence)
+    shown_or_searched(alloc, block, profile, near, beside, evidence)
 }
 
 /// An order that is sought, and how many splits were made for it.
@@ -334,6 +334,32 @@ fn plain_order(
     })
 }
 
+/// The best order, or a better one that a plain search finds which ends at a bound of all orders; there is nothing to find if it takes no
+/// more. The splits are those of that search.
+fn seek_plain(
+    alloc: Global,
+    block: &Block,
+    profile: &Profile,
+    strategy: Strategy,
+    best: Timed,
+    bound: u32,
+) -> Result<Sought, AllocError>
+    requires within { IsSearchWithin strategy.search }
+    requires best { IsGood (problem_of profile.now block.now) best }
+    ensures best { IfOk result (λ sought. IsGood (problem_of profile.now block.now) sought.best) }
+    ensures splits { IfOk result (λ sought. sought.splits ≤ strategy.search.nodes) }
+{
+    if best.total() <= bound {
+        return Ok(Sought { best, splits: 0 });
+    }
+    let plain = plain_order(alloc, block, profile, strategy, bound)?;
+    let splits = plain.splits;
+    Ok(Sought {
+        best: faster(best, Some(plain.best)),
+        splits,
+    })
+}
+
 /// The best order, or a better one that searches find which end at a bound of all orders; there is nothing to find if it takes no more.
 /// The splits are those of a search beside this one.
 fn seek(
@@ -352,12 +378,8 @@ fn seek(
     ensures best { IfOk result (λ sought. IsGood (problem_of profile.now block.now) sought.best) }
     ensures splits { IfOk result (λ sought. sought.splits ≤ strategy.search.nodes) }
 {
-    if best.total() <= bound {
-        return Ok(Sought { best, splits: 0 });
-    }
-    let plain = plain_order(alloc, block, profile, strategy, bound)?;
-    let splits = plain.splits;
-    let best = faster(best, Some(plain.best));
+    let plain = seek_plain(alloc, block, profile, strategy, best, bound)?;
+    let Sought { best, splits } = plain;
     if best.total() <= bound {
         return Ok(Sought { best, splits });
     }
@@ -395,7 +417,8 @@ fn answer_by(
     let Sought { best, splits } = found;
     let beside = made.saturating_add(splits);
     if best.total() != bound {
-        return found_or_shown(alloc, block, profile, search, beside, evidence);
+        let answer = search.finish()?;
+        return found_or_shown(alloc, block, profile, answer, beside, evidence);
     }
     let near = nearest_order(block, best, source);
     let candidate = Candidate {
@@ -407,6 +430,69 @@ fn answer_by(
     match shown_by(alloc, block, profile, candidate, evidence)? {
         Some(shown) => Ok(Found::Shown(shown)),
         None => found_by_search(block, search, beside),
+    }
+}
+
+/// The answer, or the same with this order if that takes less.
+fn with_faster(answer: Answer, best: Timed) -> Answer
+    requires { best.problem ≡ answer.problem }
+    ensures rule { result.rule ≡ answer.rule }
+    ensures problem { result.problem ≡ answer.problem }
+    ensures budget { result.budget ≡ answer.budget }
+{
+    if best.total() < answer.time() {
+        return answer.with_order(best);
+    }
+    answer
+}
+
+/// An answer by what was found beside a search that made all its splits, with so many more.
+fn answer_beside(
+    alloc: Global,
+    block: &Block,
+    profile: &Profile,
+    strategy: Strategy,
+    answer: Answer,
+    looked: Looked,
+    made: u32,
+) -> Result<Found, AllocError>
+    requires within { IsSearchWithin strategy.search }
+    requires answer { IsFound strategy profile.now block.now answer }
+    requires deep { strategy.deep ≡ true }
+    requires looked { IsLooked (problem_of profile.now block.now) strategy.search.nodes made looked }
+    requires made { made ≤ strategy.search.nodes + strategy.search.nodes / 2 }
+    ensures { IfOk result (IsFor strategy profile.now block.now) }
+{
+    let Looked { best, evidence, .. } = looked;
+    let found = seek_plain(alloc, block, profile, strategy, best, evidence.bound())?;
+    let Sought { best, splits } = found;
+    let beside = made.saturating_add(splits);
+    let better = with_faster(answer, best);
+    found_or_shown(alloc, block, profile, better, beside, evidence)
+}
+
+/// An answer with facts to a block that a search leaves open which made all its splits. While facts are looked for, only the tree of that
+/// search is kept.
+fn answer_after(
+    alloc: Global,
+    block: &Block,
+    profile: &Profile,
+    strategy: Strategy,
+    search: LoneSearch<'_>,
+    is_printed: bool,
+) -> Result<Found, AllocError>
+    requires within { IsSearchWithin strategy.search }
+    requires search { IsSearchOf strategy profile.now block.now search }
+    requires deep { strategy.deep ≡ true }
+    ensures { IfOk result (IsFor strategy profile.now block.now) }
+{
+    let answer = search.finish()?;
+    let most = strategy.search.nodes;
+    let look = look_at(alloc, block, profile, answer.best(), most, is_printed)?;
+    let Look { found, splits } = look;
+    match found {
+        Some(looked) => answer_beside(alloc, block, profile, strategy, answer, looked, splits),
+        None => Ok(by_search(nearest(block, answer), splits)),
     }
 }
 
@@ -497,7 +583,7 @@ fn first_splits(block: &Block) -> u32 {
 /// are looked for, and then the search goes on, unless they show that an order is best. If documents are printed, a short one is sought.
 ///
 /// `Err` is out of memory.
-pub fn answer_alone(
+pub(crate) fn answer_alone(
     alloc: Global,
     block: &Block,
     profile: &Profile,
@@ -514,6 +600,9 @@ pub fn answer_alone(
     if search.is_best() {
         return found_best(alloc, block, profile, search, is_printed, most);
     }
+    if most <= search.splits() {
+        return answer_after(alloc, block, profile, strategy, search, is_printed);
+    }
     let look = look_at(alloc, block, profile, search.best(), most, is_printed)?;
     let Look { found, splits } = look;
     match found {
@@ -525,7 +614,7 @@ pub fn answer_alone(
 /// What is answered for a block under a profile by a search of its orders, which all workers share.
 ///
 /// `Err` is out of memory.
-pub fn answer_to<R: AllocGlobal + Threads + Wait + Sync>(
+pub(crate) fn answer_to<R: AllocGlobal + Threads + Wait + Sync>(
     rt: &R,
     block: &Block,
     profile: &Profile,

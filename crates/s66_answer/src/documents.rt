@@ -69,7 +69,7 @@ pub fn document_of(
 }
 
 /// The document of an order of this block under this profile, with what it takes, and of what is to show a bound. `Err` is out of memory.
-pub fn document_by(
+pub(crate) fn document_by(
     alloc: Global,
     block: &Block,
     profile: &Profile,
@@ -101,7 +101,7 @@ pub fn document_by(
 }
 
 /// Whether the checker accepts a document.
-pub fn is_accepted(document: &Document) -> bool
+pub(crate) fn is_accepted(document: &Document) -> bool
     ensures { IsTrue result → IsAccepted document.now }
 {
     // so it is a document

@@ -131,7 +131,7 @@ pub fn show_best(
         shown,
     } = show(&instance, &finder, first, most)?;
     let found = match shown {
-        Some(written) => fitting(best, source, written, most, splits),
+        Some(shown) => fitting(best, source, shown.written(alloc, true)?, most, splits),
         None => None,
     };
     Ok(Look { found, splits })

@@ -2,20 +2,21 @@
 //! Searches seek orders below the best time, with wider beams between them; then what they show is raised a minor cycle at a time, each
 //! time by the lines and the tree of a search for orders that take less.
 
-ghost use Rattle.std.specs.Prelude.{◌≡◌, ◌≤◌, ◌+◌, ◌/◌, IfOk};
+ghost use Rattle.std.specs.Prelude.{◌≤◌, ◌+◌, ◌/◌, IfOk};
 ghost use Rattle.s66_deep.specs.Orders.{IsGood};
 
-use crate::best_first::{Branched, Limits, branch};
+use crate::best_first::{Branched, Limits, branch, root_leaf};
 use crate::facts::Finder;
 use crate::instance::Instance;
 use crate::limits::{
-    BEAM_WIDTH, FIRST_SHARE, RAISES_LIMIT, SHORT_COUNT, WIDE_SPLITS, WIDE_WIDTH, WIDEST_WIDTH,
+    BEAM_WIDTH, FIRST_SHARE, RAISES_LIMIT, SHORT_COUNT, SPLITS_A_SUPPOSITION, WIDE_SPLITS,
+    WIDE_WIDTH, WIDEST_WIDTH,
 };
 use crate::lines::{Bound, Halved, Lined, beam_by, best_by_lines, found_below, halve};
 use crate::orders::faster;
 use s66_cert::{Tree, TreeLine};
 use s66_line::Block;
-use s66_moments::{FactLine, FactStep};
+use s66_moments::FactStep;
 use s66_time::Timed;
 use std::alloc::{AllocError, Global};
 
@@ -56,12 +57,12 @@ struct Goal {
     splits: u32,
 }
 
-/// What a search of so many splits found: the best order, and what its tree shows, if that is more than was known.
+/// What a search of so many splits found: the best order, and what suppositions or its tree show, if that is more than was known.
 #[derive(Drop)]
 pub(crate) struct Tried {
     pub(crate) best: Timed,
     pub(crate) splits: u32,
-    pub(crate) shown: Option<Written>,
+    pub(crate) shown: Option<Shown>,
 }
 
 /// The finder of a bound. If its lines are to be printed, it has only those that the bound needs.
@@ -96,10 +97,10 @@ impl Shown {
         }
     }
 
-    /// This, or what a tree shows if that is more.
-    fn or_more(self, other: Option<Written>) -> Shown {
+    /// This, or the other if it is more.
+    fn or_more(self, other: Option<Shown>) -> Shown {
         match other {
-            Some(written) if self.bound() < written.bound => Shown::ByTree(written),
+            Some(shown) if self.bound() < shown.bound() => shown,
             _ => self,
         }
     }
@@ -113,9 +114,9 @@ impl Shown {
     }
 }
 
-/// The number in its document of the first line of a tree after these fact lines.
-fn first_line(block: &Block, lines: &[FactLine]) -> u32 {
-    let before = block.count().saturating_add(lines.len());
+/// The number in its document of the first line of a tree after so many fact lines.
+fn first_line(block: &Block, lines: usize) -> u32 {
+    let before = block.count().saturating_add(lines);
     match u32::try_from(before) {
         Ok(before) => before.saturating_add(HEAD_LINES + 1),
         Err(_) => u32::MAX,
@@ -137,7 +138,7 @@ fn search_below(
         below: goal.limit,
         enough: goal.bound,
         splits: goal.splits,
-        first_line: first_line(instance.block, below.lines()),
+        first_line: first_line(instance.block, below.line_count()),
     };
     let copy = best.duplicate();
     let branched = branch(
@@ -155,11 +156,11 @@ fn search_below(
         tree,
     } = branched;
     let shown = match tree {
-        Some(tree) => Some(Written {
+        Some(tree) => Some(Shown::ByTree(Written {
             bound,
             lines: below.steps()?,
             tree,
-        }),
+        })),
         None => None,
     };
     Ok(Tried {
@@ -167,6 +168,81 @@ fn search_below(
         splits,
         shown,
     })
+}
+
+/// The lines of a finder and one leaf of the empty prefix, if they show that no order takes less than a limit.
+fn by_root(
+    instance: &Instance<'_>,
+    finder: &Finder,
+    limit: u32,
+) -> Result<Option<Written>, AllocError> {
+    let tree = root_leaf(
+        instance.alloc,
+        instance.block,
+        instance.profile,
+        finder,
+        limit,
+    )?;
+    match tree {
+        Some(tree) => Ok(Some(Written {
+            bound: limit,
+            lines: finder.steps()?,
+            tree,
+        })),
+        None => Ok(None),
+    }
+}
+
+/// The same without a line, if that is enough.
+fn by_short_root(
+    instance: &Instance<'_>,
+    finder: &Finder,
+    limit: u32,
+) -> Result<Option<Written>, AllocError> {
+    let written = by_root(instance, finder, limit)?;
+    if written.is_none() {
+        return Ok(None);
+    }
+    let first = finder.without_lines()?;
+    let short = by_root(instance, &first, limit)?;
+    Ok(short.or(written))
+}
+
+/// A leaf of the empty prefix, or suppositions of orders of a goal, and if these don't show that there is none, a search for such orders.
+/// How many suppositions are left is counted down.
+fn suppose_and_search(
+    instance: &Instance<'_>,
+    below: Finder,
+    best: Timed,
+    goal: Goal,
+    suppositions: &mut u32,
+) -> Result<Tried, AllocError>
+    requires { IsGood instance.now best }
+    ensures best { IfOk result (λ tried. IsGood instance.now tried.best) }
+    ensures splits { IfOk result (λ tried. tried.splits ≤ goal.splits) }
+{
+    let mut below = below;
+    if below.root().1 < goal.limit
+        && let Some(written) = by_short_root(instance, &below, goal.limit)?
+    {
+        return Ok(Tried {
+            best,
+            splits: 0,
+            shown: Some(Shown::ByTree(written)),
+        });
+    }
+    *suppositions = below.suppose_below(goal.limit, *suppositions)?;
+    if goal.limit <= below.root().1 {
+        return Ok(Tried {
+            best,
+            splits: 0,
+            shown: Some(Shown::ByLeaf(Bound {
+                value: goal.limit,
+                finder: below,
+            })),
+        });
+    }
+    search_below(instance, below, best, goal)
 }
 
 /// An order that takes no more than a bound of all, or a tree that shows one minor cycle more: by the fact lines of orders that take no
@@ -177,6 +253,7 @@ fn try_above(
     best: Timed,
     bound: u32,
     splits: u32,
+    suppositions: &mut u32,
 ) -> Result<Tried, AllocError>
     requires { IsGood instance.now best }
     ensures best { IfOk result (λ tried. IsGood instance.now tried.best) }
@@ -198,7 +275,7 @@ fn try_above(
         bound,
         splits,
     };
-    search_below(instance, below, best, goal)
+    suppose_and_search(instance, below, best, goal, suppositions)
 }
 
 /// Raises what is shown of all orders, one minor cycle after the other, each by the fact lines of orders that take less than what is to
@@ -208,6 +285,7 @@ fn raise(
     finder: &Finder,
     searched: Searched,
     most: u32,
+    suppositions: &mut u32,
 ) -> Result<Searched, AllocError>
     requires { IsGood instance.now searched.best }
     ensures best { IfOk result (λ raised. IsGood instance.now raised.best) }
@@ -225,7 +303,7 @@ fn raise(
             break;
         }
         let left = most.saturating_sub(made);
-        let tried = try_above(instance, finder, best, bound, left)?;
+        let tried = try_above(instance, finder, best, bound, left, suppositions)?;
         best = tried.best;
         made = made.saturating_add(tried.splits);
         shown = shown.or_more(tried.shown);
@@ -241,14 +319,15 @@ fn raise(
     })
 }
 
-/// Goes on from what was found, unless no order takes less: a search by fact lines of orders that take less, of at most so many more
-/// splits.
+/// Goes on from what was found, unless no order takes less: by fact lines of orders that take less, at most so many suppositions, and a
+/// search of at most so many more splits.
 fn search_lines(
     instance: &Instance<'_>,
     lined: Lined,
     shown: Shown,
     splits: u32,
     most: u32,
+    suppositions: &mut u32,
 ) -> Result<Searched, AllocError>
     requires { IsGood instance.now lined.best }
     ensures best { IfOk result (λ next. IsGood instance.now next.best) }
@@ -268,7 +347,7 @@ fn search_lines(
         bound,
         splits: most,
     };
-    let tried = search_below(instance, below, best, goal)?;
+    let tried = suppose_and_search(instance, below, best, goal, suppositions)?;
     Ok(Searched {
         best: tried.best,
         shown: shown.or_more(tried.shown),
@@ -284,6 +363,7 @@ fn go_on(
     searched: Searched,
     width: usize,
     most: u32,
+    suppositions: &mut u32,
 ) -> Result<Searched, AllocError>
     requires { IsGood instance.now searched.best }
     ensures best { IfOk result (λ next. IsGood instance.now next.best) }
@@ -298,7 +378,7 @@ fn go_on(
         splits,
     } = searched;
     let lined = best_by_lines(instance, finder, width, best)?;
-    search_lines(instance, lined, shown, splits, most)
+    search_lines(instance, lined, shown, splits, most, suppositions)
 }
 
 /// The best order that is found, and what shows that none takes less, or how little less: fact lines and a leaf, or a tree of at most
@@ -317,7 +397,7 @@ pub(crate) fn search(
     let lined = best_by_lines(instance, finder, BEAM_WIDTH, best)?;
     if most < WIDE_SPLITS && SHORT_COUNT < instance.block.count() {
         let shown = Shown::ByLeaf(lined.bound()?);
-        return search_lines(instance, lined, shown, 0, most);
+        return search_lines(instance, lined, shown, 0, most, &mut 0);
     }
     let Halved { best, below, bound } = halve(instance, lined)?;
     let searched = Searched {
@@ -325,14 +405,29 @@ pub(crate) fn search(
         shown: Shown::ByLeaf(bound),
         splits: 0,
     };
-    let first = go_on(instance, &below, searched, WIDE_WIDTH, most / FIRST_SHARE)?;
+    let mut suppositions = most / SPLITS_A_SUPPOSITION;
+    let first = go_on(
+        instance,
+        &below,
+        searched,
+        WIDE_WIDTH,
+        most / FIRST_SHARE,
+        &mut suppositions,
+    )?;
     let left = most.saturating_sub(first.splits);
-    let second = go_on(instance, &below, first, WIDEST_WIDTH, left)?;
-    raise(instance, &below, second, most / 2)
+    let second = go_on(
+        instance,
+        &below,
+        first,
+        WIDEST_WIDTH,
+        left,
+        &mut suppositions,
+    )?;
+    raise(instance, &below, second, most / 2, &mut suppositions)
 }
 
 /// What shows that no order takes less than this one, which is known to be best: fact lines and a leaf, or a tree of at most so many
-/// splits. The lines are those that are needed, since they are for print.
+/// splits.
 pub(crate) fn show(
     instance: &Instance<'_>,
     finder: &Finder,
@@ -345,23 +440,11 @@ pub(crate) fn show(
 {
     let total = best.total();
     let below = found_below(finder, total)?;
-    if total <= below.root().1 {
-        let bound = Bound {
-            value: total,
-            finder: below,
-        };
-        let written = by_leaf(instance.alloc, bound, true)?;
-        return Ok(Tried {
-            best,
-            splits: 0,
-            shown: Some(written),
-        });
-    }
     let goal = Goal {
         limit: total,
         // a tree that shows less is of no use
         bound: total.saturating_sub(1),
         splits: most,
     };
-    search_below(instance, below, best, goal)
+    suppose_and_search(instance, below, best, goal, &mut 0)
 }

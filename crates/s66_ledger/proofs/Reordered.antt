@@ -1,13 +1,17 @@
--- An answer with another order that takes as long.
-use Rattle.std.proofs.Common.{ℕ, ◌≡◌, ◌≤◌, ◌<◌, List, [], ◌∷◌, ap, arith, inr, refl, subst, sym}
+-- An answer with another order that takes no longer.
+use Rattle.std.proofs.Common.{ℕ, ◌≡◌, ◌≤◌, ◌<◌, ◌∙◌, List, [], ◌∷◌, ap, arith, inl, inr, refl, sym}
 use Rattle.s66_isa.specs.Lists.{least}
+use Rattle.s66_isa.proofs.Lists.{least-le}
 use Rattle.s66_model.specs.declared.rule.Rule.{Rule}
 use Rattle.s66_model.specs.Timing.{Problem, total_of}
 use Rattle.s66_model.specs.LegalOrder.{IsLegal}
 use Rattle.s66_model.specs.Leaves.{Whole, value}
-use Rattle.s66_model.specs.Tree.{TreeHolds, tree_values}
-use Rattle.s66_model.specs.DominatedLeaves.{Bounding}
-use Rattle.s66_model.specs.Answer.{Answer, ending_values, source_time}
+use Rattle.s66_model.specs.Tree.{Tree, tree_values}
+use Rattle.s66_model.specs.DominatedLeaves.{Ending, Bounding}
+use Rattle.s66_model.specs.Answer.{ending_values, source_time}
+use Rattle.s66_model.proofs.AnswerBound.{answer-bound}
+use Rattle.s66_model.proofs.Floors.{floor-stands}
+use Rattle.s66_model.proofs.TreesHold.{tree-weaken}
 use Rattle.s66_model.specs.Coverage.{live_floors}
 use Rattle.s66_model.specs.Ended.{ended_answer}
 use Rattle.s66_model.specs.NodeTree.{node_tree}
@@ -16,41 +20,46 @@ use Rattle.s66_ledger.specs.Answers.{IsKeptAnswer, ended_of}
 use Rattle.s66_ledger.specs.LedgerMachine.{ledger_from}
 use Rattle.s66_ledger.specs.Nodes.{nodes_of}
 
-abbrev answer_with : Problem → List Node → (spent : ℕ) → List ℕ → ℕ → Answer
-answer_with b nodes spent order time =
-    let all = nodes_of b nodes in
-    record { order = order; time = time; bound = least (λ v. v) (time ∷ live_floors b all); splits = spent; tree = node_tree b all }
+-- the least stays if the first number falls, but not below it
+least-stays : (old new : ℕ) (others : List ℕ) → new ≤ old → least (λ v. v) (old ∷ others) ≤ new → least (λ v. v) (new ∷ others) ≡ least (λ v. v) (old ∷ others)
+least-stays old new [] falls above = omega (arith, falls, above)
+least-stays old new (other ∷ others) falls above = omega (arith, falls, above)
 
--- nothing but the order is another
-pub reordered-answer : (b : Problem) (nodes : List Node) (best other : List ℕ) (spent : ℕ) → total_of b other ≡ total_of b best →
-    ended_answer b (ledger_from b nodes other 0 [] spent) ≡ record (ended_answer b (ledger_from b nodes best 0 [] spent)) { order = other }
-reordered-answer b nodes best other spent same = ap (answer_with b nodes spent other) same
+module _ (rule : Rule) (b : Problem) (budget : ℕ) (nodes : List Node) (best other : List ℕ) (spent low first : ℕ) (kept : IsKeptAnswer (ended_of rule b budget nodes best spent) nodes low first) (legal : IsLegal b.block other) (falls : total_of b other ≤ total_of b best) where
+  same-bound : least (λ v. v) (total_of b other ∷ live_floors b (nodes_of b nodes)) ≡ least (λ v. v) (total_of b best ∷ live_floors b (nodes_of b nodes))
+  same-bound =
+      least-stays (total_of b best) (total_of b other) (live_floors b (nodes_of b nodes)) falls
+      (answer-bound floor-stands rule b budget (ended_answer b (ledger_from b nodes best 0 [] spent)) kept.answer other legal)
 
-module _ (rule : Rule) (b : Problem) (budget : ℕ) (nodes : List Node) (best other : List ℕ) (spent low first : ℕ) where
-  pub reordered : IsKeptAnswer (ended_of rule b budget nodes best spent) nodes low first → IsLegal b.block other → total_of b other ≡ total_of b best → total_of b best < source_time b → IsKeptAnswer (ended_of rule b budget nodes other spent) nodes low first
-  reordered kept legal same faster =
-      let all = nodes_of b nodes in
-      let tree = node_tree b all in
+  -- nothing but the order and its time is another
+  pub reordered-answer : ended_answer b (ledger_from b nodes other 0 [] spent) ≡ record (ended_answer b (ledger_from b nodes best 0 [] spent)) { order = other; time = total_of b other }
+  reordered-answer = ap (λ bound. record { order = other; time = total_of b other; bound = bound; splits = spent; tree = node_tree b (nodes_of b nodes) }) same-bound
+
+  pub reordered : total_of b other < source_time b → IsKeptAnswer (ended_of rule b budget nodes other spent) nodes low first
+  reordered faster =
+      let tree : Tree Ending = node_tree b (nodes_of b nodes) in
+      let values = tree_values (ending_values b) [] tree in
       let is = kept.answer in
-      let as_long : total_of b best ≡ total_of b other = sym same in
-      let sooner : total_of b other < source_time b = subst (λ t. t < source_time b) as_long faster in
+      let above : least (λ v. v) (total_of b best ∷ values) ≤ total_of b other = omega (arith, sym is.bound, same-bound, least-le (λ v. v) (total_of b other) (total_of b other ∷ live_floors b (nodes_of b nodes)) (inl refl)) in
       record {
         answer = record {
           legal = legal;
           time = refl;
-          source = omega (arith, sooner);
-          wholes = subst (λ t. TreeHolds b.block (λ at ending. ending ≡ Bounding Whole → t ≤ value b at Whole) [] tree) as_long is.wholes;
+          source = omega (arith, faster);
+          wholes =
+              tree-weaken b.block (λ at ending. ending ≡ Bounding Whole → total_of b best ≤ value b at Whole) (λ at ending. ending ≡ Bounding Whole → total_of b other ≤ value b at Whole)
+              (λ at ending old whole. omega (arith, falls, old whole)) tree [] is.wholes;
           tree = is.tree;
-          bound = subst (λ t. least (λ v. v) (t ∷ live_floors b all) ≡ least (λ v. v) (t ∷ tree_values (ending_values b) [] tree)) as_long is.bound;
+          bound = same-bound ∙ is.bound ∙ sym (least-stays (total_of b best) (total_of b other) values falls above);
           splits = is.splits;
           within = is.within;
-          spent = subst (λ t. least (λ v. v) (t ∷ live_floors b all) < t → spent ≡ budget) as_long is.spent;
-          first = λ e. absurd (omega (arith, e, sooner));
+          spent = λ below. is.spent (omega (arith, below, same-bound, falls));
+          first = λ e. absurd (omega (arith, e, faster));
         };
-        bound = subst (λ t. least (λ v. v) (t ∷ live_floors b all) ≡ low) as_long kept.bound;
+        bound = same-bound ∙ kept.bound;
         source = kept.source;
         few = kept.few;
-        table = record { root = kept.table.root; children = kept.table.children; others = kept.table.others; splits = kept.table.splits; best = inr sooner };
+        table = record { root = kept.table.root; children = kept.table.children; others = kept.table.others; splits = kept.table.splits; best = inr faster };
         begins = kept.begins;
         floors = kept.floors;
         room = kept.room;

@@ -58,13 +58,13 @@ impl Answer {
         &self.best
     }
 
-    /// The same answer, also its bound and its tree, with another order that takes as long, where that is less than the source order
-    /// takes.
+    /// The same answer, also its bound and its tree, with another order that takes no longer, and less than the source order.
     pub fn with_order(self, timed: Timed) -> Answer
         requires problem { timed.problem ≡ self.problem }
-        requires time { total_of timed.problem timed.numbers ≡ (answer_of self).time }
-        requires faster { (answer_of self).time < source_time self.problem }
-        ensures answer { answer_of result ≡ record (answer_of self) { order = timed.numbers } }
+        requires time { total_of timed.problem timed.numbers ≤ (answer_of self).time }
+        requires faster { total_of timed.problem timed.numbers < source_time self.problem }
+        ensures answer { answer_of result ≡ record (answer_of self)
+            { order = timed.numbers; time = total_of timed.problem timed.numbers } }
         ensures rule { result.rule ≡ self.rule }
         ensures problem { result.problem ≡ self.problem }
         ensures budget { result.budget ≡ self.budget }

@@ -1,5 +1,5 @@
--- What is said of fact lines, one after the other, and what is granted of those that are taken.
-use Rattle.std.proofs.Common.{ℕ, ◌+◌, ◌≡◌, ◌<◌, ◌&&◌, ◌∙◌, Bool, true, false, List, [], ◌∷◌, ◌++◌, Option, Some, ap, append_assoc, sym, refl, drop, get_or, map, length}
+-- What is granted of fact lines that are taken, and why a pair is forced.
+use Rattle.std.proofs.Common.{ℕ, ◌≡◌, ◌&&◌, ◌∙◌, Bool, true, false, List, [], ◌∷◌, Option, Some, ap, sym, refl, map}
 use Rattle.std.specs.Prelude.{unwrap_or}
 use Rattle.std.proofs.lemmas.Bool.{and_parts, cond-true, cond-false}
 use Rattle.s66_isa.specs.declared.instr.Kind.{Kind}
@@ -9,32 +9,11 @@ use Rattle.s66_model.specs.Timing.{Problem, row_at}
 use Rattle.s66_model.specs.LegalOrder.{is_remaining}
 use Rattle.s66_moments.specs.declared.moment.Stage.TheVariants.{Issue, Free}
 use Rattle.s66_moments.specs.declared.moment.Moment.TheVariants.{Origin, At, End}
-use Rattle.s66_moments.specs.declared.fact_line.FactLine.{FactLine}
 use Rattle.s66_moments.specs.declared.fact_line.LoadLine.{LoadLine}
 use Rattle.s66_moments.specs.FactLines.{use_time}
 use Rattle.s66_moments.specs.Networks.{Network}
-use Rattle.s66_moments.specs.Known.{Known, arcs_of, are_taken, are_used, is_late_by_parcels, is_load_taken, is_number, is_taken, is_used, kind_of_load, plus, reaches, span, use_of, with_line}
-use Rattle.s66_cert.specs.Document.{Document}
-use Rattle.s66_cert.proofs.Printed.{drop-here}
-use Rattle.s66_reasons.specs.FactWords.{by_parcels, by_unit, facts_from, late_words, numbered_fact, soonest_known}
-
-pub facts-more : (d : Document) (known after : Known) (number : ℕ) (line : FactLine) (more all : List FactLine) (old new : List ℕ) → all ≡ line ∷ more →
-    after ≡ with_line known line → new ≡ old ++ numbered_fact d known number line →
-    new ++ facts_from d after (number + 1) more ≡ old ++ facts_from d known number all
-facts-more d known after number line more all old new is then pushed =
-    let one = numbered_fact d known number line in
-    let rest = facts_from d (with_line known line) (number + 1) more in
-    ap (λ (k : Known). new ++ facts_from d k (number + 1) more) then
-    ∙ ap (λ xs. xs ++ rest) pushed ∙ append_assoc old one rest
-    ∙ ap (λ (ls : List FactLine). old ++ facts_from d known number ls) (sym is)
-
--- the next of lines that are taken is, and so are those after it
-pub next-taken : (b : Problem) (bound : ℕ) (known : Known) (lines : List FactLine) (i : ℕ) (line : FactLine) → i < length lines → line ≡ get_or lines i line →
-    are_taken b bound known (drop i lines) ≡ true →
-    (is_taken b bound known line ≡ true) × (are_taken b bound (with_line known line) (drop (i + 1) lines) ≡ true)
-next-taken b bound known lines i line within is taken =
-    and_parts (is_taken b bound known line) (are_taken b bound (with_line known line) (drop (i + 1) lines))
-    (sym (ap (are_taken b bound known) (drop-here lines i line within is)) ∙ taken)
+use Rattle.s66_moments.specs.Known.{Known, arcs_of, are_used, is_late_by_parcels, is_load_taken, is_number, is_used, kind_of_load, plus, reaches, span, use_of}
+use Rattle.s66_reasons.specs.FactWords.{by_parcels, by_unit, late_words, soonest_known}
 
 -- the instructions of a load are those of the block
 used-remain : (b : Problem) (arcs : Network) (line : LoadLine) (kind : Kind) (time : ℕ) (ns : List ℕ) → every (is_used b arcs line kind time) ns ≡ true → every (is_remaining b.block []) ns ≡ true

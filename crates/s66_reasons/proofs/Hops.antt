@@ -39,7 +39,7 @@ first-append d left e (f ∷ fs) gs =
     ap (λ (o : Option Hop). option_or (hop_to d left e f) o) (first-append d left e fs gs)
     ∙ sym (or-assoc (hop_to d left e f) (first_hop d left e fs) (first_hop d left e gs))
 
-rising-first : (count p : ℕ) → p < count → rising (count - p) (p + 1) ≡ (p + 1) ∷ rising (count - (p + 1)) (p + 1 + 1)
+pub rising-first : (count p : ℕ) → p < count → rising (count - p) (p + 1) ≡ (p + 1) ∷ rising (count - (p + 1)) (p + 1 + 1)
 rising-first count p within =
     let k = count - (p + 1) in
     let more : count - p ≡ suc k = omega (arith, within) in

@@ -1,55 +1,135 @@
--- The arcs by all that is known are those of the table with those of fact lines, and lead from and to instructions of the block.
-use Rattle.std.proofs.Common.{ℕ, ◌≡◌, ◌∙◌, List, [], ◌∷◌, ◌++◌, Option, Some, ap, ap₂, append_assoc, inl, inr, max, refl, sym}
+-- The arcs by all that is known are those of the table with the loads that fact lines leave known.
+use Rattle.std.proofs.Common.{ℕ, ◌≡◌, ◌∙◌, true, true≢false, List, [], ◌∷◌, ◌++◌, Option, None, Some, ap, ap₂, append_assoc, arith, inl, inr, max, refl, sym}
 use Rattle.std.specs.Prelude.{unwrap_or, ◌&&◌}
 use Rattle.std.proofs.lemmas.Bool.{and_parts, cases_Bool}
 use Rattle.std.proofs.lemmas.List.{append-nil}
+use Rattle.s66_model.specs.Timing.{Problem}
 use Rattle.s66_moments.specs.declared.moment.Moment.{Moment}
-use Rattle.s66_moments.specs.declared.fact_line.FactLine.{FactLine}
 use Rattle.s66_moments.specs.declared.fact_line.FactLine.TheVariants.{Pair, Load}
+use Rattle.s66_moments.specs.declared.fact_line.FactStep.{FactStep}
+use Rattle.s66_moments.specs.declared.fact_line.FactStep.TheVariants.{Fact, Suppose, Refuted}
 use Rattle.s66_moments.specs.declared.fact_line.KnownArc.{KnownArc}
 use Rattle.s66_moments.specs.declared.fact_line.LoadLine.{LoadLine}
 use Rattle.s66_moments.specs.Networks.{Network, network, same_moment, with_arc}
-use Rattle.s66_moments.specs.Known.{Known, known_after, known_first, with_line as known_with, with_loads}
+use Rattle.s66_moments.specs.Known.{Known, with_loads as known_with}
+use Rattle.s66_moments.specs.Suppositions.{Supposition, Standing, are_steps_taken, is_step_taken, standing_after, standing_first, with_step}
 use Rattle.s66_moments.proofs.MoreArcs.{same_moment-true}
 use Rattle.s66_cert.specs.Document.{Document}
-use Rattle.s66_checker.specs.Verdict.{facts_of, known_of, problem_of}
-use Rattle.s66_reasons.specs.LongestPaths.{arcs}
-use Rattle.s66_reasons.specs.Within.{with_line, with_lines}
+use Rattle.s66_checker.specs.KeptKnown.{AreTaken}
+use Rattle.s66_checker.specs.Verdict.{facts_of, known_of, problem_of, standing_of}
+use Rattle.s66_reasons.specs.FactWords.{to_show}
+use Rattle.s66_reasons.specs.LongestPaths.{arcs, each_left, load_left, loads_left, to_show_after}
+use Rattle.s66_reasons.specs.Within.{with_load, with_loads}
 
--- THE LOADS OF FACT LINES
+-- WHAT IS TO BE SHOWN behind a line
 
-abbrev loads_in : List FactLine → List KnownArc
+pub to_show-after : (standing : Standing) (step : FactStep) → to_show_after (to_show standing) step ≡ to_show (with_step standing step)
+to_show-after standing (Fact line) = refl
+to_show-after standing (Suppose m n) = refl
+to_show-after standing Refuted = ended standing.known standing.supposed
+  where
+    ended : (known : Known) (supposed : Option Supposition) → None ≡ to_show (with_step (record { known = known; supposed = supposed }) Refuted)
+    ended known None = refl
+    ended known (Some s) = refl
+
+-- LOADS
+
+abbrev arc_of : LoadLine → KnownArc
+arc_of line = record { from = line.from; wait = line.wait; to = line.to }
+
+abbrev loads_in : List (Option LoadLine) → List KnownArc
 loads_in [] = []
-loads_in (Pair m n ∷ lines) = loads_in lines
-loads_in (Load line ∷ lines) = record { from = line.from; wait = line.wait; to = line.to } ∷ loads_in lines
+loads_in (None ∷ loads) = loads_in loads
+loads_in (Some line ∷ loads) = arc_of line ∷ loads_in loads
 
-loads-after : (known : Known) (lines : List FactLine) → (known_after known lines).loads ≡ known.loads ++ loads_in lines
-loads-after known [] = sym (append-nil known.loads)
-loads-after known (Pair m n ∷ lines) = loads-after (known_with known (Pair m n)) lines
-loads-after known (Load line ∷ lines) =
-    let load : KnownArc = record { from = line.from; wait = line.wait; to = line.to } in
-    loads-after (known_with known (Load line)) lines ∙ append_assoc known.loads (load ∷ []) (loads_in lines)
+-- those that are known with nothing supposed
+abbrev loads_by : Known → Option Supposition → List KnownArc
+loads_by known None = known.loads
+loads_by known (Some s) = s.outer.loads
 
-line-same : (net other : Network) (line : LoadLine) (e f : Moment) → net line.from line.to ≡ other line.from line.to → net e f ≡ other e f →
-    with_arc net line.from line.wait line.to e f ≡ with_line other (Load line) e f
-line-same net other line e f there here =
-    elim (cases_Bool (same_moment e line.from && same_moment f line.to)) [
-      | inl meets ↦
-          let (first, second) = and_parts (same_moment e line.from) (same_moment f line.to) meets in
-          let at : other line.from line.to ≡ other e f = ap₂ other (sym (same_moment-true e line.from first)) (sym (same_moment-true f line.to second)) in
-          rw meets (ap (λ (o : Option ℕ). Some (max line.wait (unwrap_or o 0))) (there ∙ at))
-      | inr apart ↦ rw apart here
-    ]
+abbrev loads_out : Standing → List KnownArc
+loads_out standing = loads_by standing.known standing.supposed
 
-loads-lines : (net : Network) (lines : List FactLine) (e f : Moment) → with_loads net (loads_in lines) e f ≡ with_lines net lines e f
-loads-lines net [] e f = refl
-loads-lines net (Pair m n ∷ lines) e f = loads-lines net lines e f
-loads-lines net (Load line ∷ lines) e f =
-    line-same (with_loads net (loads_in lines)) (with_lines net lines) line e f (loads-lines net lines line.from line.to) (loads-lines net lines e f)
+module _ (b : Problem) (bound : ℕ) where
+  abbrev left_of : Standing → FactStep → List KnownArc
+  left_of standing step = loads_in (load_left (to_show standing) step ∷ [])
 
-pub arcs-lines : (d : Document) (e f : Moment) → arcs d e f ≡ with_lines (network (problem_of d) (known_of d).before) (facts_of d) e f
-arcs-lines d e f =
+  step-loads : (known : Known) (supposed : Option Supposition) (step : FactStep) → is_step_taken b bound (record { known = known; supposed = supposed }) step ≡ true →
+      loads_out (with_step (record { known = known; supposed = supposed }) step) ≡ loads_out (record { known = known; supposed = supposed }) ++ left_of (record { known = known; supposed = supposed }) step
+  step-loads known None (Fact (Pair m n)) taken = sym (append-nil known.loads)
+  step-loads known None (Fact (Load line)) taken = refl
+  step-loads known None (Suppose m n) taken = sym (append-nil known.loads)
+  step-loads known None Refuted taken = absurd (true≢false (sym taken))
+  step-loads known (Some s) (Fact line) taken = sym (append-nil s.outer.loads)
+  step-loads known (Some s) (Suppose m n) taken = absurd (true≢false (sym taken))
+  step-loads known (Some s) Refuted taken = sym (append-nil s.outer.loads)
+
+  one-more : (load : Option LoadLine) (loads : List (Option LoadLine)) → loads_in (load ∷ []) ++ loads_in loads ≡ loads_in (load ∷ loads)
+  one-more None loads = refl
+  one-more (Some line) loads = refl
+
+  loads-after : (standing : Standing) (steps : List FactStep) → are_steps_taken b bound standing steps ≡ true →
+      loads_out (standing_after standing steps) ≡ loads_out standing ++ loads_in (each_left load_left (to_show standing) steps)
+  loads-after standing [] taken = sym (append-nil (loads_out standing))
+  loads-after standing (step ∷ steps) taken =
+      let (here, past) = and_parts (is_step_taken b bound standing step) _ taken in
+      let rest : List (Option LoadLine) = each_left load_left (to_show_after (to_show standing) step) steps in
+      loads-after (with_step standing step) steps past
+      ∙ ap (λ t. loads_out (with_step standing step) ++ loads_in (each_left load_left t steps)) (sym (to_show-after standing step))
+      ∙ ap (λ (loads : List KnownArc). loads ++ loads_in rest) (step-loads standing.known standing.supposed step here)
+      ∙ append_assoc (loads_out standing) (left_of standing step) (loads_in rest)
+      ∙ ap (λ (loads : List KnownArc). loads_out standing ++ loads) (one-more (load_left (to_show standing) step) rest)
+
+-- out of a supposition
+loads-known : (standing : Standing) → standing.supposed ≡ None → loads_out standing ≡ standing.known.loads
+loads-known standing closed = same standing.known standing.supposed closed
+  where
+    same : (known : Known) (supposed : Option Supposition) → supposed ≡ None → loads_out (record { known = known; supposed = supposed }) ≡ known.loads
+    same known None closed = refl
+    same known (Some s) closed = absurd cc
+
+-- AN ARC, with loads one after the other
+
+module _ (e f : Moment) where
+  -- which of two comes first doesn't matter
+  swapped : (one two : Option LoadLine) (wait : Option ℕ) → with_load e f one (with_load e f two wait) ≡ with_load e f two (with_load e f one wait)
+  swapped None two wait = refl
+  swapped (Some x) None wait = refl
+  swapped (Some x) (Some y) wait =
+      elim (cases_Bool (same_moment e x.from && same_moment f x.to)) [
+        | inl one ↦ elim (cases_Bool (same_moment e y.from && same_moment f y.to)) [
+          | inl two ↦ rw (one, two) (ap (λ k. Some k) (omega arith))
+          | inr two ↦ rw (one, two) refl
+        ]
+        | inr one ↦ rw one refl
+      ]
+
+  first-last : (load : Option LoadLine) (loads : List (Option LoadLine)) (wait : Option ℕ) →
+      with_loads e f loads (with_load e f load wait) ≡ with_load e f load (with_loads e f loads wait)
+  first-last load [] wait = refl
+  first-last load (next ∷ loads) wait =
+      ap (with_loads e f loads) (swapped next load wait) ∙ first-last load loads (with_load e f next wait)
+
+  load-same : (net : Network) (line : LoadLine) → with_arc net line.from line.wait line.to e f ≡ with_load e f (Some line) (net e f)
+  load-same net line =
+      elim (cases_Bool (same_moment e line.from && same_moment f line.to)) [
+        | inl meets ↦
+            let (first, second) = and_parts (same_moment e line.from) (same_moment f line.to) meets in
+            let at : net line.from line.to ≡ net e f = ap₂ net (sym (same_moment-true e line.from first)) (sym (same_moment-true f line.to second)) in
+            rw meets (ap (λ (o : Option ℕ). Some (max line.wait (unwrap_or o 0))) at)
+        | inr apart ↦ rw apart refl
+      ]
+
+  loads-each : (net : Network) (loads : List (Option LoadLine)) → known_with net (loads_in loads) e f ≡ with_loads e f loads (net e f)
+  loads-each net [] = refl
+  loads-each net (None ∷ loads) = loads-each net loads
+  loads-each net (Some line ∷ loads) =
+      load-same (known_with net (loads_in loads)) line
+      ∙ ap (with_load e f (Some line)) (loads-each net loads)
+      ∙ sym (first-last (Some line) loads (net e f))
+
+pub arcs-lines : (d : Document) → AreTaken d → (e f : Moment) → arcs d e f ≡ with_loads e f (loads_left d) (network (problem_of d) (known_of d).before e f)
+arcs-lines d taken e f =
     let net : Network = network (problem_of d) (known_of d).before in
-    ap (λ (loads : List KnownArc). with_loads net loads e f) (loads-after (known_first (problem_of d)) (facts_of d)) ∙ loads-lines net (facts_of d) e f
-
--- INSTRUCTIONS OF THE BLOCK
+    ap (λ (loads : List KnownArc). known_with net loads e f) (sym (loads-known (standing_of d) taken.closed) ∙ loads-after (problem_of d) d.bound (standing_first (problem_of d)) (facts_of d) taken.each)
+    ∙ loads-each e f net (loads_left d)

@@ -10,4 +10,6 @@ pub mod PathEnds
 pub mod Rows
 pub mod SoonestIssue
 pub mod Splits
+pub mod StepTexts
+pub mod SupposedHolds
 pub mod Texts

@@ -21,15 +21,17 @@ use Rattle.s66_moments.specs.Facts.{AreSo, Fact, IsNumber}
 use Rattle.s66_moments.specs.FactLines.{facts_after, use_time}
 use Rattle.s66_moments.specs.Paths.{Hop as Step}
 use Rattle.s66_moments.specs.Networks.{HasOwnArcs, IsRising, most_arcs, moments_of, network, soonest_path, tail}
-use Rattle.s66_moments.specs.Known.{is_left, is_left_from, kind_of_load, line_of, next_value, reaches, use_of}
+use Rattle.s66_moments.specs.Known.{is_left, is_left_from, kind_of_load, next_value, reaches, use_of}
+use Rattle.s66_moments.specs.Suppositions.{shown_by_all, standing_first}
 use Rattle.s66_moments.proofs.Tails.{all-among, arc-some, own-among, path-tail, tail-reached}
-use Rattle.s66_moments.proofs.KnownLines.{IsSound, after-sound, arcs-own, arcs-rise, arcs-steps, span-tail}
+use Rattle.s66_moments.proofs.KnownLines.{IsSound, arcs-own, arcs-rise, arcs-steps, span-tail}
 use Rattle.s66_moments.proofs.FoundedLines.{lines-so}
 use Rattle.s66_moments.proofs.Steps.{step-so}
+use Rattle.s66_moments.proofs.SupposedLines.{after-stands, closed-sound}
 use Rattle.s66_moments.proofs.Spans.{height-some}
 use Rattle.s66_cert.specs.Document.{Document}
 use Rattle.s66_checker.specs.KeptKnown.{AreTaken}
-use Rattle.s66_checker.specs.Verdict.{facts_of, known_of, problem_of}
+use Rattle.s66_checker.specs.Verdict.{facts_of, known_of, problem_of, standing_of}
 use Rattle.s66_reasons.specs.declared.hop.Hop.{Hop}
 use Rattle.s66_reasons.specs.declared.work.Work.{Work}
 use Rattle.s66_reasons.specs.FactWords.{load_end, work_of_load}
@@ -177,10 +179,10 @@ module _ (d : Document) (taken : AreTaken d) where
   b2 = problem_of d
 
   abbrev facts : List Fact
-  facts = facts_after [] (map (line_of b2) (facts_of d))
+  facts = facts_after [] (shown_by_all b2 (standing_first b2) (facts_of d))
 
   sound : IsSound b2 facts (known_of d)
-  sound = (after-sound b2 d.bound (facts_of d) taken).1
+  sound = closed-sound b2 d.bound facts (standing_of d) (after-stands b2 d.bound (facts_of d) taken.each).1 taken.closed
 
   pub rises-of : IsRising b2 (arcs d)
   rises-of = arcs-rise b2 facts (known_of d) sound
@@ -258,7 +260,7 @@ module _ (d : Document) (taken : AreTaken d) where
 
     module _ (order : List ℕ) (legal : IsLegal b2.block order) (less : total_of b2 order < d.bound) where
       so : AreSo b2 order facts
-      so = lines-so b2 d.bound [] (map (line_of b2) (facts_of d)) (after-sound b2 d.bound (facts_of d) taken).0 order legal less tt
+      so = lines-so b2 d.bound [] (shown_by_all b2 (standing_first b2) (facts_of d)) (after-stands b2 d.bound (facts_of d) taken.each).0 order legal less tt
 
       none-sooner : (number : ℕ) (e : Moment) (hops : List Hop) (f : Moment) → number ≤ time_of b2 order e → IsAlong (arcs d) e hops f → AreNoSooner (time_of b2 order) number hops
       none-sooner number e [] f le leads = tt

@@ -1,10 +1,9 @@
 -- To be believed: fact lines in sentences, each number in them one that the line is checked by.
-use Rattle.std.specs.Prelude.{ℕ, ◌+◌, ◌-◌, ◌*◌, if◌then◌else◌, ◌==◌, ◌&&◌, max, Option, None, Some, List, [], ◌∷◌, ◌++◌, codes, decimal, get_or, length, map, unwrap_or}
+use Rattle.std.specs.Prelude.{ℕ, ◌+◌, ◌-◌, ◌*◌, if◌then◌else◌, ◌==◌, max, Option, None, Some, List, [], ◌∷◌, ◌++◌, codes, decimal, get_or, length, map, option_map, unwrap_or}
 use Rattle.s66_isa.specs.declared.instr.Kind.{Kind}
-use Rattle.s66_isa.specs.Lists.{greatest, weigh}
+use Rattle.s66_isa.specs.Lists.{weigh}
 use Rattle.s66_isa.specs.Table.{numbers}
 use Rattle.s66_model.specs.Timing.{Problem, copies, row_at}
-use Rattle.s66_moments.specs.declared.moment.Stage.{Stage}
 use Rattle.s66_moments.specs.declared.moment.Stage.TheVariants.{Issue, Start, Done, Free}
 use Rattle.s66_moments.specs.declared.moment.Moment.{Moment}
 use Rattle.s66_moments.specs.declared.moment.Moment.TheVariants.{Origin, At, End}
@@ -12,11 +11,10 @@ use Rattle.s66_moments.specs.declared.fact_line.FactLine.{FactLine}
 use Rattle.s66_moments.specs.declared.fact_line.FactLine.TheVariants as fact
 use Rattle.s66_moments.specs.declared.fact_line.FactStep.{FactStep}
 use Rattle.s66_moments.specs.declared.fact_line.FactStep.TheVariants as step
-use Rattle.s66_moments.specs.declared.fact_line.KnownArc.{KnownArc}
 use Rattle.s66_moments.specs.FactLines.{Use, use_time}
-use Rattle.s66_moments.specs.Networks.{Network, same_moment}
-use Rattle.s66_moments.specs.Suppositions.{Supposition, Standing, with_step}
-use Rattle.s66_moments.specs.Known.{Known, arcs_of, is_late_by_parcels, kind_of_load, plus, span, use_of}
+use Rattle.s66_moments.specs.Networks.{Network}
+use Rattle.s66_moments.specs.Suppositions.{Supposition, Standing, is_late_at, is_late_through, with_step}
+use Rattle.s66_moments.specs.Known.{Known, arcs_of, is_late_by_parcels, kind_of_load, span, use_of}
 use Rattle.s66_cert.specs.Document.{Document}
 use Rattle.s66_checker.specs.Verdict.{problem_of}
 use Rattle.s66_reasons.specs.declared.work.Work.{Work}
@@ -142,44 +140,64 @@ late_words b bound arcs m n =
 abbrev pub pair_sentence : Document → Network → ℕ → ℕ → List ℕ
 pair_sentence d arcs m n = pair_words d m n ++ late_words (problem_of d) d.bound arcs m n
 
--- ALL FACT LINES, numbered, each by what is known before it
+-- A FACT LINE, by what is known before it
 
 abbrev pub fact_sentence : Document → Known → FactLine → List ℕ
 fact_sentence d known (fact.Pair m n) = pair_sentence d (arcs_of (problem_of d) known) m n
 fact_sentence d known (fact.Load line) = load_sentence (problem_of d) line.from line.to line.after line.wait line.numbers.items
 
--- SUPPOSITIONS: the lines between the first and the last sentence hold of faster orders that have what is supposed
+-- SUPPOSITIONS: what is said from the first line to the last one, further in, holds of faster orders that have what is supposed
 
 abbrev pub suppose_sentence : Document → (m n : ℕ) → List ℕ
-suppose_sentence d m n = codes "if " ++ instruction d n ++ (codes " came before " ++ instruction d m ++ codes ":")
+suppose_sentence d m n = codes "If " ++ instruction d n ++ (codes " stood before " ++ instruction d m ++ codes " in a faster order:")
 
--- how long the longest path through a stage of n takes, by what is known
-abbrev pub through : Problem → Network → Stage → ℕ → ℕ
-through b arcs stage n = unwrap_or (plus (span b arcs Origin (At n stage)) (span b arcs (At n stage) End)) 0
+-- n issues or starts then, so late that the bound is reached
+abbrev pub comes_words : (does : List ℕ) → (bound soonest n : ℕ) → List ℕ
+comes_words does bound soonest n = decimal n ++ does ++ (decimal soonest ++ codes " or later") ++ rest_words bound soonest
 
-abbrev pub through_any : Problem → Network → ℕ → ℕ
-through_any b arcs n = max (through b arcs Issue n) (through b arcs Start n)
+abbrev pub through_words : Problem → Network → (bound n : ℕ) → List ℕ
+through_words b arcs bound n =
+    if is_late_at b arcs bound Issue n then comes_words (codes " issues at ") bound (soonest_known b arcs (At n Issue)) n
+    else comes_words (codes " starts at ") bound (soonest_known b arcs (At n Start)) n
 
--- how long a load from the beginning to the end takes; 0 of any other
-abbrev pub to_the_end : KnownArc → ℕ
-to_the_end load = if same_moment load.from Origin && same_moment load.to End then load.wait else 0
+-- the first of these whose issue or start a path of the bound leads through
+abbrev pub late_number : Problem → Network → (bound : ℕ) → List ℕ → Option ℕ
+late_number b arcs bound [] = None
+late_number b arcs bound (n ∷ ns) = if is_late_through b arcs bound n then Some n else late_number b arcs bound ns
 
--- when the end comes at the soonest: the last line of a supposition is taken if that is the bound or later
-abbrev pub end_known : Problem → Known → ℕ
-end_known b known = max (greatest (through_any b (arcs_of b known)) (numbers b.block)) (greatest to_the_end known.loads)
+-- if there is none, a load from the beginning to the end takes the bound
+abbrev pub too_late_words : Problem → Network → (bound : ℕ) → Option ℕ → List ℕ
+too_late_words b arcs bound None = codes "the end comes at " ++ decimal bound ++ codes " or later"
+too_late_words b arcs bound (Some n) = through_words b arcs bound n
 
-abbrev pub refuted_sentence : Document → (end : ℕ) → Option Supposition → List ℕ
-refuted_sentence d end None = []
-refuted_sentence d end (Some s) =
-    codes "the end would come at " ++ decimal end ++ (codes " or later, so " ++ instruction d s.first ++ (codes " comes before " ++ instruction d s.second))
+-- the number that would stand behind is looked at first, and then all
+abbrev pub refuted_words : Problem → Network → (bound behind : ℕ) → List ℕ
+refuted_words b arcs bound behind = codes "if not, " ++ too_late_words b arcs bound (late_number b arcs bound (behind ∷ numbers b.block))
+
+-- the pair that is to be shown
+abbrev pub to_show : Standing → Option (ℕ × ℕ)
+to_show standing = option_map (λ (s : Supposition). (s.first, s.second)) standing.supposed
+
+abbrev pub refuted_sentence : Document → Network → Option (ℕ × ℕ) → List ℕ
+refuted_sentence d arcs None = []
+refuted_sentence d arcs (Some pair) = pair_words d pair.0 pair.1 ++ refuted_words (problem_of d) arcs d.bound pair.0
+
+-- ALL LINES, numbered, each by what is known there
 
 abbrev pub step_sentence : Document → Standing → FactStep → List ℕ
 step_sentence d standing (step.Fact line) = fact_sentence d standing.known line
 step_sentence d standing (step.Suppose m n) = suppose_sentence d m n
-step_sentence d standing step.Refuted = refuted_sentence d (end_known (problem_of d) standing.known) standing.supposed
+step_sentence d standing step.Refuted = refuted_sentence d (arcs_of (problem_of d) standing.known) (to_show standing)
+
+-- a fact line within a supposition stands further in
+abbrev pub margin : (to_show : Option (ℕ × ℕ)) → FactStep → List ℕ
+margin None s = codes "  "
+margin (Some pair) (step.Fact line) = codes "    "
+margin (Some pair) (step.Suppose m n) = codes "  "
+margin (Some pair) step.Refuted = codes "  "
 
 abbrev pub numbered_step : Document → Standing → ℕ → FactStep → List ℕ
-numbered_step d standing number s = codes "  " ++ decimal number ++ codes ". " ++ step_sentence d standing s ++ codes "\n"
+numbered_step d standing number s = margin (to_show standing) s ++ decimal number ++ codes ". " ++ step_sentence d standing s ++ codes "\n"
 
 abbrev pub facts_from : Document → Standing → ℕ → List FactStep → List ℕ
 facts_from d standing number [] = []

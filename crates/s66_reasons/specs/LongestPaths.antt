@@ -7,11 +7,10 @@ use Rattle.s66_moments.specs.declared.moment.Stage.{Stage}
 use Rattle.s66_moments.specs.declared.moment.Stage.TheVariants.{Issue, Start, Done, Free}
 use Rattle.s66_moments.specs.declared.moment.Moment.{Moment}
 use Rattle.s66_moments.specs.declared.moment.Moment.TheVariants.{Origin, At, End}
-use Rattle.s66_moments.specs.declared.fact_line.FactLine.{FactLine}
 use Rattle.s66_moments.specs.declared.fact_line.FactLine.TheVariants.{Pair, Load}
+use Rattle.s66_moments.specs.declared.fact_line.LoadLine.{LoadLine}
 use Rattle.s66_moments.specs.declared.fact_line.FactStep.{FactStep}
 use Rattle.s66_moments.specs.declared.fact_line.FactStep.TheVariants.{Fact, Suppose, Refuted}
-use Rattle.s66_moments.specs.Suppositions.{Supposition, Standing, standing_first, with_step}
 use Rattle.s66_moments.specs.Networks.{Network, most_arcs, network, precedes, same_moment, targets}
 use Rattle.s66_moments.specs.Known.{arcs_of, plus, reaches, span}
 use Rattle.s66_cert.specs.Document.{Document}
@@ -60,47 +59,63 @@ hops_from d (suc more) left e = hop_and (next_hop d left e) (λ (hop : Hop). hop
 abbrev pub hops_of : Document → ℕ → List Hop
 hops_of d n = hops_from d (most_arcs (problem_of d)) (unwrap_or (to_end d (At n Issue)) 0) (At n Issue)
 
--- WHICH FACT LINES GIVE AN ARC
+-- WHICH FACT LINES GIVE AN ARC: those outside of suppositions, and the last one of a supposition, which leaves its pair known
 
--- what the step of a number leaves known after all: a fact line outside of suppositions, and the pair that a supposition shows at its end
-abbrev pub left_by : (number : ℕ) → Option Supposition → FactStep → List (ℕ × FactLine)
-left_by number None (Fact line) = (number, line) ∷ []
-left_by number None (Suppose m n) = []
-left_by number None Refuted = []
-left_by number (Some s) (Fact line) = []
-left_by number (Some s) (Suppose m n) = []
-left_by number (Some s) Refuted = (number, Pair s.first s.second) ∷ []
+-- the pair that is to be shown behind a line
+abbrev pub to_show_after : Option (ℕ × ℕ) → FactStep → Option (ℕ × ℕ)
+to_show_after to_show (Fact line) = to_show
+to_show_after to_show (Suppose m n) = Some (m, n)
+to_show_after to_show Refuted = None
 
-abbrev pub left_by_all : (number : ℕ) → Standing → List FactStep → List (ℕ × FactLine)
-left_by_all number standing [] = []
-left_by_all number standing (step ∷ steps) = left_by number standing.supposed step ++ left_by_all (number + 1) (with_step standing step) steps
+-- the pair that a line leaves known
+abbrev pub pair_left : (to_show : Option (ℕ × ℕ)) → FactStep → Option (ℕ × ℕ)
+pair_left None (Fact (Pair m n)) = Some (m, n)
+pair_left None (Fact (Load line)) = None
+pair_left None (Suppose m n) = None
+pair_left None Refuted = None
+pair_left (Some pair) (Fact line) = None
+pair_left (Some pair) (Suppose m n) = None
+pair_left (Some pair) Refuted = Some pair
 
--- the lines by which something is known after all, with the numbers of their steps
-abbrev pub lines_left : Document → List (ℕ × FactLine)
-lines_left d = left_by_all 1 (standing_first (problem_of d)) (facts_of d)
+-- the load that it leaves known
+abbrev pub load_left : (to_show : Option (ℕ × ℕ)) → FactStep → Option LoadLine
+load_left None (Fact (Pair m n)) = None
+load_left None (Fact (Load line)) = Some line
+load_left None (Suppose m n) = None
+load_left None Refuted = None
+load_left (Some pair) step = None
 
--- the number of the first of these lines that passes; 0 if none passes
-abbrev pub first_line : (FactLine → Bool) → List (ℕ × FactLine) → ℕ
-first_line test [] = 0
-first_line test (line ∷ lines) = if test line.1 then line.0 else first_line test lines
+-- what each of these lines leaves known
+abbrev pub each_left : {X : Type 0} → (Option (ℕ × ℕ) → FactStep → Option X) → (to_show : Option (ℕ × ℕ)) → List FactStep → List (Option X)
+each_left left to_show [] = []
+each_left left to_show (step ∷ steps) = left to_show step ∷ each_left left (to_show_after to_show step) steps
 
--- the line of this number; none but a blank if there is none
-abbrev pub line_at : ℕ → List (ℕ × FactLine) → FactLine
-line_at number [] = Pair 0 0
-line_at number (line ∷ lines) = if line.0 == number then line.1 else line_at number lines
+abbrev pub pairs_left : Document → List (Option (ℕ × ℕ))
+pairs_left d = each_left pair_left None (facts_of d)
+
+abbrev pub loads_left : Document → List (Option LoadLine)
+loads_left d = each_left load_left None (facts_of d)
+
+abbrev pub passes : {X : Type 0} → (X → Bool) → Option X → Bool
+passes test None = false
+passes test (Some x) = test x
+
+-- the number of the first of these that is there and passes, if the first of them has this number; 0 if none does
+abbrev pub first_number : {X : Type 0} → (X → Bool) → ℕ → List (Option X) → ℕ
+first_number test number [] = 0
+first_number test number (x ∷ xs) = if passes test x then number else first_number test (number + 1) xs
 
 -- m is n, or stands before it by this
 abbrev pub up_to : (before : ℕ → ℕ → Bool) → (m n : ℕ) → Bool
 up_to before m n = m == n || before m n
 
 -- m stands before n by dependence, this pair, and then this
-abbrev pub puts_before : Document → (before : ℕ → ℕ → Bool) → (m n : ℕ) → FactLine → Bool
-puts_before d before m n (Pair j k) = up_to (precedes (problem_of d).block) m j && up_to before k n
-puts_before d before m n (Load line) = false
+abbrev pub puts_before : Document → (before : ℕ → ℕ → Bool) → (m n : ℕ) → ℕ × ℕ → Bool
+puts_before d before m n pair = up_to (precedes (problem_of d).block) m pair.0 && up_to before pair.1 n
 
 -- the number of the first such pair; 0 if there is none
 abbrev pub pair_by : Document → (before : ℕ → ℕ → Bool) → (m n : ℕ) → ℕ
-pair_by d before m n = first_line (puts_before d before m n) (lines_left d)
+pair_by d before m n = first_number (puts_before d before m n) 1 (pairs_left d)
 
 -- the first of two numbers that isn't 0
 abbrev pub either : ℕ → ℕ → ℕ
@@ -113,14 +128,9 @@ pair_from d m n =
     let depends : ℕ → ℕ → Bool = precedes (problem_of d).block in
     if up_to depends m n then 0 else either (pair_by d depends m n) (pair_by d (known_of d).before m n)
 
--- the second number of a pair
-abbrev pub second : FactLine → ℕ
-second (Pair j k) = k
-second (Load line) = 0
-
--- that of the pair of this number
+-- the second number of the pair that the line of this number leaves
 abbrev pub second_of : Document → (number : ℕ) → ℕ
-second_of d number = second (line_at number (lines_left d))
+second_of d number = (unwrap_or (get_or (pairs_left d) (number - 1) None) (0, 0)).1
 
 -- the numbers of pairs, at most so many, that together put m before n: of one, and then of those that put its second before n
 abbrev pub pairs_over : Document → (most m n : ℕ) → List ℕ
@@ -134,13 +144,12 @@ abbrev pub pairs_of : Document → (m n : ℕ) → List ℕ
 pairs_of d m n = pairs_over d (length (problem_of d).block) m n
 
 -- f comes so much later than e by this load
-abbrev pub keeps_apart : (e f : Moment) → (wait : ℕ) → FactLine → Bool
-keeps_apart e f wait (Pair m n) = false
-keeps_apart e f wait (Load line) = same_moment line.from e && same_moment line.to f && nat_le wait line.wait
+abbrev pub keeps_apart : (e f : Moment) → (wait : ℕ) → LoadLine → Bool
+keeps_apart e f wait line = same_moment line.from e && same_moment line.to f && nat_le wait line.wait
 
 -- the number of the first load that gives this arc from e; 0 if none does
 abbrev pub line_of_load : Document → Moment → Hop → ℕ
-line_of_load d e hop = first_line (keeps_apart e hop.to hop.wait) (lines_left d)
+line_of_load d e hop = first_number (keeps_apart e hop.to hop.wait) 1 (loads_left d)
 
 -- WHAT IS SAID
 

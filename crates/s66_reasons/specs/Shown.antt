@@ -12,16 +12,14 @@ use Rattle.s66_moments.specs.declared.moment.Moment.{Moment}
 use Rattle.s66_moments.specs.declared.moment.Moment.TheVariants.{At, End}
 use Rattle.s66_moments.specs.Moments.{soonest, time_of}
 use Rattle.s66_moments.specs.Facts.{Arc, Before, IsNumber, IsSo}
-use Rattle.s66_moments.specs.Known.{Known}
-use Rattle.s66_moments.specs.declared.fact_line.KnownArc.{KnownArc}
-use Rattle.s66_moments.specs.declared.fact_line.FactStep.{FactStep}
-use Rattle.s66_moments.specs.Suppositions.{Supposition, Standing, standing_first, standing_after}
+use Rattle.s66_moments.specs.Known.{Known, arcs_of, span}
+use Rattle.s66_moments.specs.Suppositions.{Supposition, Standing}
 use Rattle.s66_moments.specs.Networks.{Network}
 use Rattle.s66_cert.specs.Document.{Document, tree_placed}
 use Rattle.s66_checker.specs.Verdict.{problem_of}
 use Rattle.s66_reasons.specs.declared.hop.Hop.{Hop}
 use Rattle.s66_reasons.specs.LongestPaths.{arcs, hops_of, to_end}
-use Rattle.s66_reasons.specs.FactWords.{end_known, work_of_load}
+use Rattle.s66_reasons.specs.FactWords.{work_of_load}
 use Rattle.s66_reasons.specs.Reasons.{left_row, next_rows}
 use Rattle.s66_reasons.specs.Words.{Reason}
 
@@ -89,27 +87,31 @@ abbrev pub AreNoSooner : (times : Moment → ℕ) → (number : ℕ) → List Ho
 AreNoSooner times number [] = Unit {0}
 AreNoSooner times number (hop ∷ hops) = (number + hop.wait ≤ times hop.to) × AreNoSooner times (number + hop.wait) hops
 
--- IN A SUPPOSITION
-
--- after the steps up to a place an order has what is known: pairs stand so, and no load is sooner
-pub record HasKnown (b : Problem) (known : Known) (order : List ℕ) : Type 0 where
-  pub pairs : (m n : ℕ) → IsNumber b m → IsNumber b n → known.before m n ≡ true → IsSo b order (Before m n)
-  pub loads : (load : KnownArc) → Among load known.loads → IsSo b order (Arc load.from load.wait load.to 0)
-
--- it has what is supposed there
-abbrev pub HasSupposed : Problem → Option Supposition → List ℕ → Type 0
-HasSupposed b None order = Unit {0}
-HasSupposed b (Some s) order = IsSo b order (Before s.second s.first)
-
--- each faster order that also has what is supposed has it; and its end is no sooner than the number of a last line
-abbrev pub HoldsAt : Document → (front : List FactStep) → Type 0
-HoldsAt d front =
-    let standing : Standing = standing_after (standing_first (problem_of d)) front in
-    (order : List ℕ) → IsLegal (problem_of d).block order → total_of (problem_of d) order < d.bound → HasSupposed (problem_of d) standing.supposed order →
-    HasKnown (problem_of d) standing.known order × (end_known (problem_of d) standing.known ≤ total_of (problem_of d) order)
-
 -- nor is the path's in any legal order that takes less than the bound of the document
 abbrev pub HasNoneSooner : Document → ℕ → Type 0
 HasNoneSooner d n =
     (order : List ℕ) → IsLegal (problem_of d).block order → total_of (problem_of d) order < d.bound →
     AreNoSooner (time_of (problem_of d) order) 0 (hops_of d n)
+
+-- IN A SUPPOSITION
+
+-- an order has what is known: pairs stand so, and no longest path between two moments is longer than the time between
+pub record HasKnown (b : Problem) (known : Known) (order : List ℕ) : Type 0 where
+  pub pairs : (m n : ℕ) → IsNumber b m → IsNumber b n → known.before m n ≡ true → IsSo b order (Before m n)
+  pub paths : (e f : Moment) (wait : ℕ) → span b (arcs_of b known) e f ≡ Some wait → IsSo b order (Arc e wait f 0)
+
+-- it has what is supposed, if something is
+abbrev pub HasSupposed : Problem → Option Supposition → List ℕ → Type 0
+HasSupposed b None order = Unit {0}
+HasSupposed b (Some s) order = IsSo b order (Before s.second s.first)
+
+-- each faster order that has what is supposed has what is known with it
+abbrev pub HoldsIn : Document → Standing → Type 0
+HoldsIn d standing =
+    (order : List ℕ) → IsLegal (problem_of d).block order → total_of (problem_of d) order < d.bound → HasSupposed (problem_of d) standing.supposed order →
+    HasKnown (problem_of d) standing.known order
+
+-- no faster order has what is supposed
+abbrev pub IsRefutedIn : Document → Standing → Type 0
+IsRefutedIn d standing =
+    (order : List ℕ) → IsLegal (problem_of d).block order → HasSupposed (problem_of d) standing.supposed order → d.bound ≤ total_of (problem_of d) order

@@ -1,5 +1,5 @@
 -- Used by contracts within the crate alone: numbers of a block, what is granted of the leaves of a document, which lines of a tree are splits, the arcs of fact lines, moments of a block, and what is known of it.
-use Rattle.std.specs.Prelude.{ℕ, ◌≡◌, ◌≤◌, ◌<◌, if◌then◌else◌, ◌&&◌, [], ◌∷◌, Bool, true, false, List, None, Some, length, get_or, max, unwrap_or}
+use Rattle.std.specs.Prelude.{ℕ, ◌≡◌, ◌≤◌, ◌<◌, if◌then◌else◌, ◌&&◌, [], ◌∷◌, Bool, true, false, List, Option, None, Some, length, get_or, max, unwrap_or}
 use Rattle.s66_isa.specs.declared.limits.TheConstants.{BLOCK_LIMIT}
 use Rattle.s66_isa.specs.Lists.{every}
 use Rattle.s66_model.specs.Timing.{Problem}
@@ -7,14 +7,15 @@ use Rattle.s66_model.specs.LegalOrder.{IsBeginning, is_remaining}
 use Rattle.s66_model.specs.Leaves.{Whole, Chain, Load, Parcels}
 use Rattle.s66_model.specs.Tree.{TreeHolds, Vertex, AtTerminal, AtSplit}
 use Rattle.s66_model.specs.DominatedLeaves.{Ending, Bounding, Dominated, Next, Turned, AtLine, LoadFrom}
-use Rattle.s66_moments.specs.declared.fact_line.FactLine.{FactLine}
-use Rattle.s66_moments.specs.declared.fact_line.FactLine.TheVariants as fact
+use Rattle.s66_moments.specs.declared.fact_line.LoadLine.{LoadLine}
 use Rattle.s66_moments.specs.declared.moment.Moment.{Moment}
 use Rattle.s66_moments.specs.declared.moment.Moment.TheVariants.{Origin, At, End}
 use Rattle.s66_moments.specs.Facts.{IsNumber}
 use Rattle.s66_moments.specs.Known.{known_first}
-use Rattle.s66_moments.specs.Networks.{Network, same_moment}
+use Rattle.s66_moments.specs.Networks.{same_moment}
+use Rattle.s66_moments.specs.Suppositions.{standing_first}
 use Rattle.s66_facts.specs.Ground.{Ground, known_of as known_in}
+use Rattle.s66_facts.specs.Supposing.{Grounds, standing_in}
 use Rattle.s66_cert.specs.Document.{Document, IsDocument}
 use Rattle.s66_checker.specs.Checked.{Checked}
 use Rattle.s66_checker.specs.KeptKnown.{AreTaken, KnowsAll}
@@ -54,15 +55,15 @@ IsGranted d at (AtTerminal (AtLine line)) = Unit {0}
 IsGranted d at (AtTerminal (LoadFrom after numbers)) =
     (0 < length numbers) × (length numbers ≤ BLOCK_LIMIT) × (every (is_remaining (problem_of d).block at) numbers ≡ true)
 
--- the arcs, with that of a fact line too
-abbrev pub with_line : Network → FactLine → Network
-with_line arcs (fact.Pair m n) e f = arcs e f
-with_line arcs (fact.Load line) e f =
-    if same_moment e line.from && same_moment f line.to then Some (max line.wait (unwrap_or (arcs e f) 0)) else arcs e f
+-- an arc from e to f, with a load that may be there too
+abbrev pub with_load : (e f : Moment) → Option LoadLine → Option ℕ → Option ℕ
+with_load e f None wait = wait
+with_load e f (Some line) wait =
+    if same_moment e line.from && same_moment f line.to then Some (max line.wait (unwrap_or wait 0)) else wait
 
-abbrev pub with_lines : Network → List FactLine → Network
-with_lines arcs [] e f = arcs e f
-with_lines arcs (line ∷ lines) e f = with_line (with_lines arcs lines) line e f
+abbrev pub with_loads : (e f : Moment) → List (Option LoadLine) → Option ℕ → Option ℕ
+with_loads e f [] wait = wait
+with_loads e f (load ∷ loads) wait = with_loads e f loads (with_load e f load wait)
 
 -- a moment of an instruction is of one of the block
 abbrev pub IsNumberOf : Problem → Moment → Type 0
@@ -93,3 +94,9 @@ pub record AreFirst (d : Document) (prefix : Checked) (by_dependence : Ground) :
 pub record AreKnown (d : Document) (prefix : Checked) (by_dependence by_lines : Ground) : Type 0 where
   pub first : AreFirst d prefix by_dependence
   pub all : KnowsAll d by_lines
+
+-- the empty prefix, and what is known before the first step
+pub record AreBegun (d : Document) (prefix : Checked) (grounds : Grounds) : Type 0 where
+  pub first : AreFirst d prefix grounds.ground
+  pub standing : standing_in grounds ≡ standing_first (problem_of d)
+  pub steps : grounds.steps ≡ 0

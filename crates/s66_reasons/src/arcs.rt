@@ -4,14 +4,16 @@ ghost use Rattle.std.specs.Prelude.{◌≡◌, if◌then◌else◌, ◌||◌, �
 ghost use Rattle.s66_moments.specs.declared.moment.Moment.TheVariants.{At};
 ghost use Rattle.s66_moments.specs.Facts.{IsNumber};
 ghost use Rattle.s66_moments.specs.Moments.{arc, has_stage, is_moment, later_arc, own_arc};
-ghost use Rattle.s66_moments.specs.Networks.{Network as NetworkOf, network};
+ghost use Rattle.s66_moments.specs.Networks.{network};
 ghost use Rattle.s66_facts.specs.Marked.{before_in};
-ghost use Rattle.s66_reasons.specs.Within.{IsNumberOf, with_line, with_lines};
+ghost use Rattle.s66_reasons.specs.LongestPaths.{each_left, load_left};
+ghost use Rattle.s66_reasons.specs.Within.{IsNumberOf, with_loads};
 
+use crate::left::{to_show_after, with_left};
 use s66_checker::Prefix;
-use s66_facts::{Facts, fetches, is_same_moment, latency_to, writes};
+use s66_facts::{Facts, fetches, latency_to, writes};
 use s66_isa::{Row, has_register, is_memory_conflict, is_same_kind};
-use s66_moments::{FactLine, Moment, Stage};
+use s66_moments::{FactStep, Moment, Stage};
 
 /// Whether an instruction has a stage.
 fn has_stage(row: &Row, stage: &Stage) -> bool
@@ -130,39 +132,24 @@ pub(crate) fn table_arc(prefix: &Prefix, facts: &Facts, from: &Moment, to: &Mome
     }
 }
 
-/// The same with one more fact line, where it is `wait` without that.
-fn with_line(wait: Option<u32>, line: &FactLine, from: &Moment, to: &Moment) -> Option<u32>
-    ensures { (arcs : NetworkOf) → wait ≡ arcs from.now to.now → result ≡ with_line arcs line.now from.now to.now }
-{
-    match line {
-        FactLine::Pair(..) => wait,
-        FactLine::Load(load) => {
-            if is_same_moment(from, &load.from) && is_same_moment(to, &load.to) {
-                Some(load.wait.max(wait.unwrap_or(0)))
-            } else {
-                wait
-            }
-        }
-    }
-}
-
-/// The same with all of these fact lines.
+/// The same with all loads that fact lines leave known.
 pub(crate) fn arc_by_lines(
     prefix: &Prefix,
     facts: &Facts,
-    lines: &[FactLine],
+    lines: &[FactStep],
     from: &Moment,
     to: &Moment,
 ) -> Option<u32>
     requires same { prefix.now.problem ≡ facts.now.problem }
     requires start { prefix.now.numbers ≡ [] }
-    ensures { result ≡ with_lines (network prefix.now.problem (before_in facts.now.marks)) lines.now from.now to.now }
+    ensures { result ≡ with_loads from.now to.now (each_left load_left None lines.now)
+        (network prefix.now.problem (before_in facts.now.marks) from.now to.now) }
 {
     let mut wait = table_arc(prefix, facts, from, to);
-    let mut left = lines.len();
-    while left > 0 {
-        left -= 1;
-        wait = with_line(wait, &lines[left], from, to);
+    let mut to_show = None;
+    for line in lines {
+        wait = with_left(wait, to_show, line, from, to);
+        to_show = to_show_after(to_show, line);
     }
     wait
 }

@@ -4,7 +4,6 @@ ghost use Rattle.std.specs.Prelude.{◌≡◌, ◌+◌, ◌≤◌, ◌<◌, ◌^
 ghost use Rattle.s66_isa.specs.declared.limits.TheConstants.{BLOCK_LIMIT};
 ghost use Rattle.s66_model.specs.Timing.{points_of, row_at};
 ghost use Rattle.s66_model.specs.Leaves.{head, link};
-ghost use Rattle.s66_checker.specs.KeptPrefix.{TOTAL_LIMIT};
 ghost use Rattle.s66_cert.specs.DocumentParts.{document_of};
 ghost use Rattle.s66_checker.specs.Verdict.{problem_of};
 ghost use Rattle.s66_reasons.specs.ChainWords.{awaited, chain_rows, end_row, end_words, last_result, lasting, link_row, link_words, start_rows, walk_rows};

@@ -6,11 +6,12 @@ ghost use Rattle.s66_model.specs.Leaves.{Load};
 ghost use Rattle.s66_model.specs.Tree.{Alone, Parted, NoMore, Unsplit};
 ghost use Rattle.s66_model.specs.DominatedLeaves.{Bounding};
 ghost use Rattle.s66_cert.specs.Examples.{one_load, three_multiplies};
-ghost use Rattle.s66_checker.specs.Examples.{before_their_writers, multiplies_at_once};
+ghost use Rattle.s66_moments.specs.Examples.{second_by_lines};
+ghost use Rattle.s66_checker.specs.Examples.{before_their_writers, multiplies_at_once, three_adds};
 ghost use Rattle.s66_reasons.specs.Examples.{shifts_in_turn};
 ghost use Rattle.s66_reasons.specs.FactWords.{by_parcels, by_unit};
 ghost use Rattle.s66_reasons.specs.LongestPaths.{by_words, pairs_of};
-ghost use Rattle.s66_reasons.specs.Reasons.{reasons_text};
+ghost use Rattle.s66_reasons.specs.Reasons.{facts_text, reasons_text};
 
 /// Which fact lines together put a number before another, and how they are named.
 #[tactic(auto, unfolding(s66_isa::specs::Table::row, s66_isa::specs::Profiles::profile_of, s66_model::specs::Dependence::conflict, crate::specs::Words::digits))]
@@ -30,6 +31,19 @@ pub fn above_examples()
         codes "2 issues at 8 or later; behind it 3 could issue 1 later, and from there to the end it is 0 or more: 9" }
     ensures unit { by_unit Divide 20 30 2 1 ≡
         codes "1 has the Divide unit until 30 or later; behind it 2 could issue then, and from there to the end it is 0 or more: 30" }
+{}
+
+/// What is said of a supposition, and that the number of its last line stands for what it shows, and no line within it for anything.
+#[tactic(auto, unfolding(s66_isa::specs::Table::row, s66_isa::specs::Profiles::profile_of, s66_model::specs::Dependence::conflict, crate::specs::Words::digits))]
+pub fn supposition_examples()
+    ensures said { facts_text (three_adds second_by_lines) ≡
+        codes "  1. If 1 FX1 X2+X3 stood before 2 FX4 X2+X5 in a faster order:\n" ++
+        codes "    2. 3 FX6 X2+X7 stands before 2 FX4 X2+X5 in a faster order: 2 has the Add unit until 10 or later; behind it 3 could issue then, and from there to the end it is 5 or more: 15\n" ++
+        codes "    3. 1 FX1 X2+X3 stands before 3 FX6 X2+X7 in a faster order: 3 has the Add unit until 5 or later; behind it 1 could issue then, and from there to the end it is 10 or more: 15\n" ++
+        codes "  4. 2 FX4 X2+X5 stands before 1 FX1 X2+X3 in a faster order: if not, 2 issues at 10 or later, and from there to the end it is 5 or more: 15\n" ++
+        codes "If an order took less than 15:\n" }
+    ensures shown { pairs_of (three_adds second_by_lines) 2 1 ≡ 4 ∷ [] }
+    ensures within { pairs_of (three_adds second_by_lines) 3 2 ≡ [] }
 {}
 
 /// Leaves of each kind that may close a tree, a tree that is said, and one that is counted.

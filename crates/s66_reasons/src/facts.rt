@@ -1,27 +1,24 @@
-//! Fact lines in sentences, each by what is known before it.
+//! A fact line in a sentence, by what is known before it.
 
-ghost use Rattle.std.specs.Prelude.{◌≡◌, ◌≤◌, ◌<◌, ◌+◌, ◌^◌, ◌++◌, [], true, IfOk, OnOk, Some, decimal, length};
+ghost use Rattle.std.specs.Prelude.{◌≡◌, ◌≤◌, ◌<◌, ◌+◌, ◌^◌, ◌++◌, [], true, OnOk, Some, decimal, length};
 ghost use Rattle.s66_isa.specs.declared.limits.TheConstants.{BLOCK_LIMIT};
 ghost use Rattle.s66_model.specs.Timing.{row_at};
 ghost use Rattle.s66_moments.specs.declared.fact_line.FactLine.TheVariants.{Load};
 ghost use Rattle.s66_moments.specs.declared.moment.Stage.TheVariants.{Issue};
 ghost use Rattle.s66_moments.specs.declared.moment.Moment.TheVariants.{At};
 ghost use Rattle.s66_moments.specs.Facts.{IsNumber};
-ghost use Rattle.s66_moments.specs.Known.{arcs_of, is_taken, known_first, plus, reaches, with_line};
+ghost use Rattle.s66_moments.specs.Known.{arcs_of, is_taken, plus, reaches};
 ghost use Rattle.s66_facts.specs.Ground.{known_of as known_in};
-ghost use Rattle.s66_cert.specs.declared.limits.TheConstants.{FACT_LIMIT};
 ghost use Rattle.s66_cert.specs.DocumentParts.{document_of};
-ghost use Rattle.s66_checker.specs.KeptKnown.{KnowsAll};
-ghost use Rattle.s66_checker.specs.Verdict.{facts_of, problem_of};
-ghost use Rattle.s66_reasons.specs.Within.{AreFirst, AreLoaded};
+ghost use Rattle.s66_checker.specs.Verdict.{problem_of};
+ghost use Rattle.s66_reasons.specs.Within.{AreLoaded};
 ghost use Rattle.s66_reasons.specs.Words.{listed};
-ghost use Rattle.s66_reasons.specs.FactWords.{begins, by_parcels, by_unit, could_words, fact_sentence, facts_from, from_words, has_words, in_all, issues_words, last_words, late_words, left_to, load_end, load_sentence, many_words, mixed_words, need_words, numbered_fact, one_words, pair_sentence, pair_words, rest_words, side_by_side, so_words, soonest_known, to_words, units_words, until_words, which_words};
+ghost use Rattle.s66_reasons.specs.FactWords.{begins, by_parcels, by_unit, could_words, fact_sentence, from_words, has_words, in_all, issues_words, last_words, late_words, left_to, load_end, load_sentence, many_words, mixed_words, need_words, one_words, pair_sentence, pair_words, rest_words, side_by_side, so_words, soonest_known, to_words, units_words, until_words, which_words};
 
 use crate::units::{kind_of, push_each};
 use crate::words::{push_around, push_between, push_instruction, separator, unit_name};
 use crate::work::Work;
 use s66_cert::Document;
-use s66_checker::{Prefix, fact_lines, take};
 use s66_device::push_field;
 use s66_facts::Facts;
 use s66_isa::Kind;
@@ -254,7 +251,7 @@ pub(crate) fn push_load_sentence(
 }
 
 /// How long it is to the end from a minor cycle, so that the bound is reached, and how long in all.
-fn push_rest(out: &mut Vec<u8>, bound: u32, until: u64) -> Result<(), AllocError>
+pub(crate) fn push_rest(out: &mut Vec<u8>, bound: u32, until: u64) -> Result<(), AllocError>
     ensures { OnOk result (out.new.items ≡ out.old.items ++ rest_words bound until) }
 {
     let rest = (bound as u64).saturating_sub(until);
@@ -365,7 +362,12 @@ fn soonest_issue(facts: &Facts, n: u8) -> u64
 }
 
 /// That m stands before n.
-fn push_pair_words(out: &mut Vec<u8>, document: &Document, m: u8, n: u8) -> Result<(), AllocError>
+pub(crate) fn push_pair_words(
+    out: &mut Vec<u8>,
+    document: &Document,
+    m: u8,
+    n: u8,
+) -> Result<(), AllocError>
     ensures { OnOk result (out.new.items ≡ out.old.items ++ pair_words (document_of document.now) m n) }
 {
     push_instruction(out, document, m)?;
@@ -445,7 +447,7 @@ fn push_load_fact(
 }
 
 /// A fact line that is right by what is known before it.
-fn push_fact(
+pub(crate) fn push_fact(
     out: &mut Vec<u8>,
     document: &Document,
     prefix: &Prefix,
@@ -463,60 +465,4 @@ fn push_fact(
         FactLine::Pair(first, second) => push_pair(out, document, prefix, facts, *first, *second),
         FactLine::Load(load) => push_load_fact(out, prefix, facts, document.bound(), load),
     }
-}
-
-/// The same, with a number.
-fn push_numbered(
-    out: &mut Vec<u8>,
-    document: &Document,
-    prefix: &Prefix,
-    facts: &Facts,
-    number: usize,
-    line: &FactLine,
-) -> Result<(), AllocError>
-    requires same { prefix.now.problem ≡ facts.now.problem }
-    requires start { prefix.now.numbers ≡ [] }
-    requires problem { facts.now.problem ≡ problem_of (document_of document.now) }
-    requires taken { is_taken facts.now.problem (document_of document.now).bound (known_in facts.now) line.now ≡ true }
-    ensures { OnOk result (out.new.items ≡ out.old.items ++
-        numbered_fact (document_of document.now) (known_in facts.now) number line.now) }
-{
-    push_between(out, b"  ", number, b". ")?;
-    push_fact(out, document, prefix, facts, line)?;
-    out.extend_from_slice(b"\n")
-}
-
-/// Takes in a fact line that is right.
-fn take_right(facts: &mut Facts, bound: u32, line: &FactLine)
-    requires room { length (known_in facts.old).loads < FACT_LIMIT }
-    requires right { is_taken facts.old.problem bound (known_in facts.old) line.now ≡ true }
-    ensures problem { facts.new.problem ≡ facts.old.problem }
-    ensures known { known_in facts.new ≡ with_line (known_in facts.old) line.now }
-    ensures one_more { length (known_in facts.new).loads ≤ length (known_in facts.old).loads + 1 }
-{
-    take(facts, bound, line);
-}
-
-/// All fact lines of a document, numbered. Returns what is known after them.
-pub(crate) fn push_facts(
-    out: &mut Vec<u8>,
-    document: &Document,
-    prefix: &Prefix,
-    mut facts: Facts,
-) -> Result<Facts, AllocError>
-    requires { AreFirst (document_of document.now) prefix.now facts }
-    ensures text { OnOk result (out.new.items ≡ out.old.items ++
-        facts_from (document_of document.now) (known_first (problem_of (document_of document.now))) 1
-        (facts_of (document_of document.now))) }
-    ensures knows { IfOk result (KnowsAll (document_of document.now)) }
-{
-    let bound = document.bound();
-    let mut number = 0;
-    let lines = fact_lines(document);
-    for line in lines {
-        number += 1;
-        push_numbered(out, document, prefix, &facts, number, line)?;
-        take_right(&mut facts, bound, line);
-    }
-    Ok(facts)
 }

@@ -2,19 +2,19 @@
 
 ghost use Rattle.std.specs.Prelude.{◌≡◌};
 ghost use Rattle.s66_moments.specs.Known.{plus, reaches};
-ghost use Rattle.s66_reasons.specs.LongestPaths.{keeps_apart};
 
 use crate::arcs::{arc_by_lines, table_arc};
 use crate::hop::Hop;
+use crate::left::{leaves_apart, to_show_after};
 use s66_cert::Document;
 use s66_checker::{Prefix, fact_lines};
-use s66_facts::{Facts, is_same_moment};
-use s66_moments::{FactLine, Moment, Stage};
+use s66_facts::Facts;
+use s66_moments::{Moment, Stage};
 use std::marker::Model;
 
 /// What is known of a document's block, by dependence alone and after all fact lines. Contracts see the document.
 #[derive(Drop)]
-pub struct KnownPaths<'a> {
+pub(crate) struct KnownPaths<'a> {
     pub(crate) document: &'a Document,
     /// The empty one.
     pub(crate) prefix: &'a Prefix,
@@ -43,18 +43,6 @@ fn takes(left: u64, arc: Option<u32>, path: Option<u64>) -> bool
     }
 }
 
-/// Whether a load keeps two moments so many minor cycles apart.
-fn keeps_apart(line: &FactLine, from: &Moment, to: &Moment, wait: u32) -> bool
-    ensures { result ≡ keeps_apart from.now to.now wait line.now }
-{
-    match line {
-        FactLine::Pair(..) => false,
-        FactLine::Load(load) => {
-            is_same_moment(&load.from, from) && is_same_moment(&load.to, to) && wait <= load.wait
-        }
-    }
-}
-
 impl<'a> KnownPaths<'a> {
     ghost use Rattle.std.specs.Prelude.{◌≡◌, IsTrue, map};
     ghost use Rattle.s66_isa.specs.Table.{Write as WriteOf, numbers};
@@ -63,9 +51,9 @@ impl<'a> KnownPaths<'a> {
     ghost use Rattle.s66_moments.specs.declared.moment.Stage.TheVariants.{Done};
     ghost use Rattle.s66_moments.specs.Facts.{IsNumber};
     ghost use Rattle.s66_moments.specs.Known.{reaches};
-    ghost use Rattle.s66_moments.specs.Networks.{moments_among, moments_of, network, precedes};
+    ghost use Rattle.s66_moments.specs.Networks.{moments_among, moments_of, network};
     ghost use Rattle.s66_cert.specs.DocumentParts.{document_of};
-    ghost use Rattle.s66_checker.specs.Verdict.{facts_of, known_of, problem_of};
+    ghost use Rattle.s66_checker.specs.Verdict.{known_of, problem_of};
     ghost use Rattle.s66_reasons.specs.LongestPaths.{arcs, first_hop, hop_to, line_of_load, next_hop, to_end};
     ghost use Rattle.s66_reasons.specs.Within.{AreKnown, IsNumberOf};
 
@@ -191,11 +179,13 @@ impl<'a> KnownPaths<'a> {
     {
         let lines = fact_lines(self.document);
         let mut number = 0;
+        let mut to_show = None;
         for line in lines {
             number += 1;
-            if keeps_apart(line, from, &hop.to, hop.wait) {
+            if leaves_apart(to_show, line, from, &hop.to, hop.wait) {
                 return number;
             }
+            to_show = to_show_after(to_show, line);
         }
         0
     }

@@ -1,33 +1,39 @@
 //! What reasons say, the contract of a function that does nothing.
 
-ghost use Rattle.std.specs.Prelude.{ℕ, List, ◌++◌, ◌≡◌, true};
+ghost use Rattle.std.specs.Prelude.{ℕ, List, ◌≡◌, true};
 ghost use Rattle.s66_model.specs.Leaves.{Leaf};
 ghost use Rattle.s66_model.specs.Tree.{Alone};
 ghost use Rattle.s66_model.specs.DominatedLeaves.{Bounding, LoadFrom, Next, Turned};
 ghost use Rattle.s66_moments.specs.Facts.{IsNumber};
 ghost use Rattle.s66_moments.specs.Known.{is_turned};
 ghost use Rattle.s66_moments.specs.declared.fact_line.FactStep.{FactStep};
+ghost use Rattle.s66_moments.specs.declared.fact_line.FactStep.TheVariants.{Refuted};
+ghost use Rattle.s66_moments.specs.Suppositions.{are_steps_taken, is_step_taken, standing_after, standing_first};
 ghost use Rattle.s66_cert.specs.Document.{Document, IsDocument};
 ghost use Rattle.s66_checker.specs.declared.verdict.Verdict.TheVariants.{Yes};
 ghost use Rattle.s66_checker.specs.KeptKnown.{AreTaken};
-ghost use Rattle.s66_checker.specs.Verdict.{facts_of, known_of, problem_of, verdict};
+ghost use Rattle.s66_checker.specs.Verdict.{known_of, problem_of, verdict};
 ghost use Rattle.s66_reasons.specs.Reasons.{leaf_rows};
-ghost use Rattle.s66_reasons.specs.Shown.{end_by, HasNoneSooner, HoldsAt, IsLeafAt, IsLoadShown, IsPathShown, IsReached};
+ghost use Rattle.s66_reasons.specs.Shown.{end_by, HasNoneSooner, HoldsIn, IsLeafAt, IsLoadShown, IsPathShown, IsReached, IsRefutedIn};
 
 /// If the verdict on a document is yes, the rows of each leaf of its tree reach the bound. If it is a chain, all units of a kind, all
 /// parcels or a whole order, no legal order that begins with the leaf's prefix takes less than they say. By facts they say what holds in
 /// legal orders that take less than the bound: so there are none. Those of a longest path add up to what it takes, and in such an order no
 /// moment of it is sooner than its row says; those of a load are of instructions that need their units so late and so long; and a pair that
-/// is turned is known to stand the other way round. Within a supposition lines say what holds in such orders that also have what is
-/// supposed.
+/// is turned is known to stand the other way round. After fact lines that are taken each such order has what is known; within a supposition,
+/// if it has what is supposed; and where that ends, none has it.
 pub fn reasons_law()
     ensures bounding { (limit : ℕ) (d : Document) (time bound : ℕ) (at : List ℕ) (leaf : Leaf) →
         IsDocument limit d → verdict d ≡ Yes time bound → IsLeafAt d at (Bounding leaf) →
         IsReached (problem_of d) at bound (end_by leaf (leaf_rows d at (Bounding leaf))) }
     ensures next { (limit : ℕ) (d : Document) (time bound n : ℕ) → IsDocument limit d → verdict d ≡ Yes time bound →
         d.tree ≡ Alone (Next n) → IsPathShown d bound n }
-    ensures supposed { (d : Document) (front rest : List FactStep) → AreTaken d → facts_of d ≡ front ++ rest →
-        HoldsAt d front }
+    ensures supposed { (d : Document) (front : List FactStep) → are_steps_taken (problem_of d) d.bound
+        (standing_first (problem_of d)) front ≡ true → HoldsIn d (standing_after (standing_first (problem_of d)) front) }
+    ensures refuted { (d : Document) (front : List FactStep) → are_steps_taken (problem_of d) d.bound
+        (standing_first (problem_of d)) front ≡ true → is_step_taken (problem_of d) d.bound
+        (standing_after (standing_first (problem_of d)) front) Refuted ≡ true →
+        IsRefutedIn d (standing_after (standing_first (problem_of d)) front) }
     ensures no_sooner { (d : Document) (n : ℕ) → AreTaken d → IsNumber (problem_of d) n → HasNoneSooner d n }
     ensures left { (limit : ℕ) (d : Document) (time bound : ℕ) (at : List ℕ) (after : ℕ) (ns : List ℕ) →
         IsDocument limit d → verdict d ≡ Yes time bound → IsLeafAt d at (LoadFrom after ns) →

@@ -5,11 +5,11 @@ ghost use Rattle.s66_facts.specs.Marked.{before_in};
 ghost use Rattle.s66_reasons.specs.LongestPaths.{up_to};
 
 use crate::known_paths::KnownPaths;
+use crate::left::{pair_left, to_show_after};
 use arrayvec::ArrayVec;
 use s66_checker::fact_lines;
 use s66_facts::Facts;
 use s66_isa::BLOCK_LIMIT;
-use s66_moments::FactLine;
 
 /// Whether m is known to stand before n; not if one of them is no number of the block.
 fn is_before(facts: &Facts, m: u8, n: u8) -> bool
@@ -35,7 +35,7 @@ impl<'a> KnownPaths<'a> {
     ghost use Rattle.s66_facts.specs.Marked.{before_in};
     ghost use Rattle.s66_cert.specs.DocumentParts.{document_of};
     ghost use Rattle.s66_checker.specs.Verdict.{known_of, problem_of};
-    ghost use Rattle.s66_reasons.specs.LongestPaths.{pair_by, pair_from, pairs_of, puts_before, second_of, up_to};
+    ghost use Rattle.s66_reasons.specs.LongestPaths.{pair_by, pair_from, pairs_of, passes, puts_before, second_of, up_to};
 
     /// Whether m is n, or n depends on it.
     fn depends(&self, m: u8, n: u8) -> bool
@@ -44,27 +44,29 @@ impl<'a> KnownPaths<'a> {
         is_up_to(self.by_dependence, m, n)
     }
 
-    /// Whether m stands before n by dependence, a pair, and then what is known.
-    fn puts_before(&self, known: &Facts, m: u8, n: u8, line: &FactLine) -> bool
-        ensures { result ≡ puts_before (document_of self.now) (before_in known.now.marks) m n line.now }
+    /// Whether m stands before n by dependence, a pair that is there, and then what is known.
+    fn puts_before(&self, known: &Facts, m: u8, n: u8, pair: Option<(u8, u8)>) -> bool
+        ensures { result ≡ passes (puts_before (document_of self.now) (before_in known.now.marks) m n) pair }
     {
-        match line {
-            FactLine::Pair(j, k) => self.depends(m, *j) && is_up_to(known, *k, n),
-            FactLine::Load(_) => false,
+        match pair {
+            None => false,
+            Some((j, k)) => self.depends(m, j) && is_up_to(known, k, n),
         }
     }
 
-    /// The number of the first such pair; 0 if there is none.
+    /// The number of the first line that leaves such a pair known; 0 if none does.
     fn pair_by(&self, known: &Facts, m: u8, n: u8) -> usize
         ensures { result ≡ pair_by (document_of self.now) (before_in known.now.marks) m n }
     {
         let lines = fact_lines(self.document);
         let mut number = 0;
+        let mut to_show = None;
         for line in lines {
             number += 1;
-            if self.puts_before(known, m, n, line) {
+            if self.puts_before(known, m, n, pair_left(to_show, line)) {
                 return number;
             }
+            to_show = to_show_after(to_show, line);
         }
         0
     }
@@ -98,14 +100,21 @@ impl<'a> KnownPaths<'a> {
         }
     }
 
-    /// The second number of the pair of this number.
+    /// The second number of the pair that the line of this number leaves known.
     fn second_of(&self, number: usize) -> u8
         ensures { result ≡ second_of (document_of self.now) number }
     {
-        match fact_lines(self.document).get(number.saturating_sub(1)) {
-            Some(FactLine::Pair(_, second)) => *second,
-            Some(FactLine::Load(_)) | None => 0,
+        let lines = fact_lines(self.document);
+        let mut before = number.saturating_sub(1);
+        let mut to_show = None;
+        for line in lines {
+            if before == 0 {
+                return pair_left(to_show, line).unwrap_or((0, 0)).1;
+            }
+            before -= 1;
+            to_show = to_show_after(to_show, line);
         }
+        0
     }
 
     /// The numbers of the pairs that together put m before n.

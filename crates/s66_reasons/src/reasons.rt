@@ -1,27 +1,27 @@
 //! All that is said of a document (`push_reasons`): the opening, then fact lines and leaves or how many there are, and whether the
 //! order is best.
 
-ghost use Rattle.std.specs.Prelude.{◌≡◌, ◌≤◌, ◌++◌, [], true, OnOk, length};
+ghost use Rattle.std.specs.Prelude.{◌≡◌, ◌≤◌, ◌++◌, [], OnOk, length};
 ghost use Rattle.s66_isa.specs.declared.limits.TheConstants.{BLOCK_LIMIT};
 ghost use Rattle.s66_model.specs.Tree.{splits};
-ghost use Rattle.s66_moments.specs.Known.{known_first};
+ghost use Rattle.s66_moments.specs.Suppositions.{standing_first};
 ghost use Rattle.s66_cert.specs.Document.{tree_placed};
 ghost use Rattle.s66_cert.specs.DocumentParts.{document_of};
 ghost use Rattle.s66_checker.specs.declared.verdict.Verdict.TheVariants.{Yes};
 ghost use Rattle.s66_checker.specs.Verdict.{facts_of, problem_of, verdict};
 ghost use Rattle.s66_reasons.specs.Reasons.{and_facts, colon, counts_text, faster_words, last_line, leaves_text, lines_text, opening, reasons_text, splits_words, tree_text};
 ghost use Rattle.s66_reasons.specs.FactWords.{facts_from};
-ghost use Rattle.s66_reasons.specs.Within.{AreFirst, IsRight};
+ghost use Rattle.s66_reasons.specs.Within.{AreBegun, IsRight};
 
-use crate::facts::push_facts;
 use crate::known_paths::KnownPaths;
 use crate::paragraphs::push_paragraphs;
+use crate::steps::push_facts;
 use crate::tree::{has_factual, is_said, splits};
 use crate::words::{push_between, push_counted};
 use s66_cert::Document;
 use s66_checker::{Prefix, fact_lines, instructions_of, profile_of};
 use s66_device::push_field;
-use s66_facts::Facts;
+use s66_facts::Supposing;
 use s66_isa::{Instr, Profile};
 use std::alloc::AllocError;
 
@@ -84,17 +84,17 @@ fn push_by_facts(
     out: &mut Vec<u8>,
     document: &Document,
     prefix: Prefix,
-    facts: Facts,
+    supposing: Supposing,
 ) -> Result<(), AllocError>
-    requires first { AreFirst (document_of document.now) prefix facts }
+    requires begun { AreBegun (document_of document.now) prefix supposing }
     requires right { IsRight (document_of document.now) }
     ensures { OnOk result (out.new.items ≡ out.old.items ++
-        (facts_from (document_of document.now) (known_first (problem_of (document_of document.now))) 1 (facts_of (document_of document.now)) ++
+        (facts_from (document_of document.now) (standing_first (problem_of (document_of document.now))) 1 (facts_of (document_of document.now)) ++
         faster_words (document_of document.now).bound) ++
         lines_text (document_of document.now) (tree_placed [] (document_of document.now).tree)) }
 {
-    let by_dependence = facts.duplicate();
-    let by_lines = push_facts(out, document, &prefix, facts)?;
+    let by_dependence = supposing.facts().duplicate();
+    let by_lines = push_facts(out, document, &prefix, supposing)?;
     push_faster(out, document.bound())?;
     let known = KnownPaths::new(document, &prefix, &by_dependence, &by_lines);
     push_paragraphs(out, document, Some(&known), prefix.start_again())
@@ -115,7 +115,7 @@ fn push_leaves(
 {
     let prefix = Prefix::new(block, profile);
     if has_factual(document) {
-        push_by_facts(out, document, prefix, Facts::new(block, profile))
+        push_by_facts(out, document, prefix, Supposing::new(block, profile))
     } else {
         push_paragraphs(out, document, None, prefix)
     }

@@ -51,7 +51,7 @@ fn search_until<R: AllocGlobal + Abort>(
         below,
         enough,
         splits,
-        first_line: first_line(block, finder.lines().len()),
+        first_line: first_line(block, finder.line_count()),
     };
     branch(rt.alloc(), block, &profile, finder, written, limits).expect(rt, "memory")
 }
@@ -67,7 +67,8 @@ fn check_tree<R: AllocGlobal + Abort>(rt: &R, code: &str, finder: &Finder, branc
     let time = timed.total();
     let claimed = Claimed { code, timed, bound };
     let tree = tree_text(rt, tree_of(rt, branched));
-    let verdict = verdict_on(rt, claimed, finder.lines(), NONE, tree.as_str());
+    let steps = finder.steps().expect(rt, "memory");
+    let verdict = verdict_on(rt, claimed, steps.as_slice(), NONE, tree.as_str());
     assert!(rt; verdict == Verdict::Yes { time, bound }, "{code}");
 }
 

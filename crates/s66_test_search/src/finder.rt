@@ -7,7 +7,7 @@ use s66_checker::{Reason, Verdict};
 use s66_deep::Finder;
 use s66_isa::Profile;
 use s66_line::Block;
-use s66_moments::FactLine;
+use s66_moments::{FactLine, FactStep};
 use std::process::Abort;
 
 /// What a finder knows of a block by dependences alone.
@@ -29,6 +29,12 @@ pub(crate) fn found_below<R: AllocGlobal + Abort>(rt: &R, block: &Block, below: 
     finder
 }
 
+/// The steps of those lines that a bound needs.
+fn needed_steps<R: AllocGlobal + Abort>(rt: &R, finder: &Finder, bound: u32) -> Vec<FactStep> {
+    let needed = finder.needed(bound).expect(rt, "memory");
+    needed.steps().expect(rt, "memory")
+}
+
 /// The tree that is one leaf: an instruction comes too late if it comes first.
 fn leaf_of<R: AllocGlobal + Abort>(rt: &R, n: u8) -> String {
     format!(in rt.alloc(); "E {n}\n").expect(rt, "memory")
@@ -48,11 +54,11 @@ fn a_load_shows_more_than_a_path(rt: HostRuntime) {
     assert!(rt; found_at_first(&rt, block).root() == (1, 12));
     let finder = found_by_loads(&rt, block);
     assert!(rt; finder.root() == (1, 16));
-    let needed = finder.needed(16).expect(&rt, "memory");
-    assert!(rt; needed.lines().len() == 1);
-    let verdict = verdict_on(&rt, claimed, needed.lines(), NONE, "E 1\n");
+    let needed = needed_steps(&rt, &finder, 16);
+    assert!(rt; needed.len() == 1);
+    let verdict = verdict_on(&rt, claimed, needed.as_slice(), NONE, "E 1\n");
     assert!(rt; matches!(verdict, Verdict::Yes { .. }));
-    let verdict = verdict_on(&rt, claimed, needed.lines(), 0, "E 1\n");
+    let verdict = verdict_on(&rt, claimed, needed.as_slice(), 0, "E 1\n");
     let reason = Reason::Event;
     assert!(rt; verdict == Verdict::No { line: 11, reason });
 }
@@ -65,8 +71,44 @@ fn a_pair_shows_more_than_loads(rt: HostRuntime) {
     assert!(rt; found_by_loads(&rt, block).root().1 < 31);
     let finder = found_below(&rt, block, 31);
     assert!(rt; finder.root() == (1, 31));
-    let needed = finder.needed(31).expect(&rt, "memory");
-    assert!(rt; matches!(needed.lines(), [FactLine::Pair(5, 6)]));
+    let needed = needed_steps(&rt, &finder, 31);
+    assert!(rt; matches!(needed.as_slice(), [FactStep::Fact(FactLine::Pair(5, 6))]));
+}
+
+/// A block of whose orders paths and loads show that they take 19 at least, and only a supposition that they take 22, as some do.
+const SUPPOSED: &str = "  DX3 X1-X4
+  IX3 X1+X0
+  DX2 X2-X5
+  FX7 X1*X1
+  LX2 B2,X3
+  BX2 X2*X2
+  BX0 X7*X4
+  BX5 X7*X5
+";
+
+/// Of two numbers one is supposed to stand before the other, and then no order takes less.
+#[test]
+fn a_supposition_shows_more_than_pairs(rt: HostRuntime) {
+    let source = source_of(&rt, SUPPOSED);
+    let block = block_of(&rt, &source);
+    let timed = as_written(block, &Profile::standard());
+    let mut finder = found_below(&rt, block, 22);
+    assert!(rt; finder.root().1 == 19);
+    let left = finder.suppose_below(22, 0).expect(&rt, "memory");
+    assert!(rt; left == 0 && finder.root().1 == 19);
+    finder.suppose_below(22, 100).expect(&rt, "memory");
+    assert!(rt; 22 <= finder.root().1);
+    let needed = finder.needed(22).expect(&rt, "memory");
+    let steps = needed.steps().expect(&rt, "memory");
+    let claimed = Claimed {
+        code: SUPPOSED,
+        timed: &timed,
+        bound: 22,
+    };
+    let leaf = leaf_of(&rt, needed.root().0);
+    let verdict = verdict_on(&rt, claimed, steps.as_slice(), NONE, leaf.as_str());
+    assert!(rt; matches!(verdict, Verdict::Yes { .. }));
+    assert!(rt; steps.len() < finder.line_count());
 }
 
 /// Checks that a document with what is found shows a bound, that fewer lines do so too, and that none of these can be left out.
@@ -78,12 +120,13 @@ fn check_lines<R: AllocGlobal + Abort>(rt: &R, claimed: Claimed<'_>, finder: &Fi
     let needed = finder.needed(claimed.bound).expect(rt, "memory");
     let all = leaf_of(rt, finder.root().0);
     let few = leaf_of(rt, needed.root().0);
-    let lines = needed.lines();
-    assert!(rt; verdict_on(rt, claimed, finder.lines(), NONE, all.as_str()) == yes);
-    assert!(rt; verdict_on(rt, claimed, lines, NONE, few.as_str()) == yes);
-    assert!(rt; lines.len() < finder.lines().len());
-    for place in 0..lines.len() {
-        let verdict = verdict_on(rt, claimed, lines, place, few.as_str());
+    let steps = finder.steps().expect(rt, "memory");
+    let left = needed.steps().expect(rt, "memory");
+    assert!(rt; verdict_on(rt, claimed, steps.as_slice(), NONE, all.as_str()) == yes);
+    assert!(rt; verdict_on(rt, claimed, left.as_slice(), NONE, few.as_str()) == yes);
+    assert!(rt; left.len() < steps.len());
+    for place in 0..left.len() {
+        let verdict = verdict_on(rt, claimed, left.as_slice(), place, few.as_str());
         assert!(rt; matches!(verdict, Verdict::No { .. }));
     }
 }

@@ -3,7 +3,7 @@
 use s66_cert::{FactLine, Tree, TreeLine, read};
 use s66_checker::{Verdict, verify};
 use s66_isa::kind_name;
-use s66_moments::{Moment, Stage};
+use s66_moments::{FactStep, Moment, Stage};
 use s66_time::Timed;
 use std::process::Abort;
 use std::str;
@@ -55,6 +55,25 @@ fn push_fact<R: Abort>(rt: &R, text: &mut String, line: &FactLine) {
     }
 }
 
+/// Appends the line of a step.
+fn push_step<R: Abort>(rt: &R, text: &mut String, step: &FactStep) {
+    match step {
+        FactStep::Fact(line) => push_fact(rt, text, line),
+        FactStep::Suppose(m, n) => push_line(rt, text, "B", &[*m, *n]),
+        FactStep::Refuted => push_line(rt, text, "Q", &[]),
+    }
+}
+
+/// The version of a document with these steps.
+fn version_of(steps: &[FactStep]) -> u8 {
+    for step in steps {
+        if let FactStep::Suppose(_, _) = step {
+            return 5;
+        }
+    }
+    4
+}
+
 /// Appends a line of a tree.
 fn push_tree_line<R: Abort>(rt: &R, text: &mut String, line: TreeLine) {
     match line {
@@ -87,14 +106,14 @@ pub(crate) fn tree_text<R: AllocGlobal + Abort>(rt: &R, tree: &Tree) -> String {
     text
 }
 
-/// Appends the lines of a document up to that of its order.
-fn push_claim<R: Abort>(rt: &R, text: &mut String, claimed: Claimed<'_>) {
+/// Appends the lines of a document of a version up to that of its order.
+fn push_claim<R: Abort>(rt: &R, text: &mut String, claimed: Claimed<'_>, version: u8) {
     let Claimed { code, timed, bound } = claimed;
     let (numbers, time) = (timed.order().numbers(), timed.total());
     let count = numbers.len();
     write!(
         text,
-        "S66 CERTIFICATE 4\nPROFILE 3 3 4 4 3 10 29 8 3 8 1 1 1 1 2 1 2\nBLOCK {count}\n"
+        "S66 CERTIFICATE {version}\nPROFILE 3 3 4 4 3 10 29 8 3 8 1 1 1 1 2 1 2\nBLOCK {count}\n"
     )
     .expect(rt, "memory");
     for line in code.lines() {
@@ -104,19 +123,19 @@ fn push_claim<R: Abort>(rt: &R, text: &mut String, claimed: Claimed<'_>) {
     push_line(rt, text, "ORDER", numbers);
 }
 
-/// The verdict on a document that claims this, with these fact lines, but for the one at a place if there is one, and with a tree.
+/// The verdict on a document that claims this, with these steps, but for the one at a place if there is one, and with a tree.
 pub(crate) fn verdict_on<R: AllocGlobal + Abort>(
     rt: &R,
     claimed: Claimed<'_>,
-    lines: &[FactLine],
+    steps: &[FactStep],
     left_out: usize,
     tree: &str,
 ) -> Verdict {
     let mut text = String::new(rt.alloc());
-    push_claim(rt, &mut text, claimed);
-    for place in 0..lines.len() {
+    push_claim(rt, &mut text, claimed, version_of(steps));
+    for place in 0..steps.len() {
         if place != left_out {
-            push_fact(rt, &mut text, &lines[place]);
+            push_step(rt, &mut text, &steps[place]);
         }
     }
     write!(text, "{tree}END\n").expect(rt, "memory");

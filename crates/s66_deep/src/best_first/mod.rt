@@ -10,9 +10,11 @@ mod loads;
 mod nodes;
 mod open;
 mod remaining;
+mod root;
 mod search;
 mod trail;
 mod waits;
 mod writer;
 
+pub(crate) use root::root_leaf;
 pub use search::{Branched, Limits, branch};

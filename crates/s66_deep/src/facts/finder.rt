@@ -1,16 +1,19 @@
 //! Finds fact lines of a block.
 //! It is the fixed point of two rules: forced pairs (`pairs.rt`) and load lines (`ways.rt`), each tried anew where paths have grown,
-//! until nothing more is found or some path takes the bound.
+//! until nothing more is found or some path takes the bound. Where these end, suppositions (`suppositions.rt`) may show more pairs.
 
-use crate::facts::copies::{copies_of, copy_of_line, steps_of};
+use crate::facts::arcs::Arcs;
+use crate::facts::found::{Found, Supposition, duplicates_of, line_count, steps_of};
 use crate::facts::ground::Ground;
-use crate::facts::load::{Best, Load};
+use crate::facts::load::{Best, Between, Load};
 use crate::facts::needed::needed_of;
 use crate::facts::network::Network;
 use crate::facts::pairs::Forced;
 use crate::facts::precedence::Precedence;
+use crate::facts::selection::Selection;
 use crate::facts::sketch::Sketch;
 use crate::facts::spans::{FROM_ORIGIN, Spans, TO_END, at_issue};
+use crate::facts::suppositions::Shaving;
 use crate::facts::taken::{Taken, word};
 use crate::facts::tried::Tried;
 use crate::facts::ways::Ways;
@@ -31,7 +34,7 @@ pub struct Finder {
     alloc: Global,
     ground: Box<Ground>,
     taken: Box<Taken>,
-    lines: Vec<FactLine>,
+    found: Vec<Found>,
     ways: Ways,
     tried: Tried,
     /// The bound for which there is nothing more to be found, if there is one.
@@ -119,12 +122,14 @@ fn load_of<'a>(
     to: u8,
     kind: Kind,
     numbers: Set,
-) -> Load<'a> {
+) -> Load<'a, Between<'a>> {
     Load {
         ground,
-        spans,
-        from: front_place(from),
-        to: back_place(to),
+        reach: Between {
+            spans,
+            from: front_place(from),
+            to: back_place(to),
+        },
         numbers,
         copies: ground.copies(kind),
     }
@@ -142,7 +147,7 @@ impl Finder {
             alloc,
             taken: Box::new(alloc, Taken::new(&ground))?,
             ground,
-            lines: Vec::new(alloc),
+            found: Vec::new(alloc),
             ways: Ways::new(alloc),
             tried: Tried::new(alloc)?,
             settled: None,
@@ -206,14 +211,14 @@ impl Finder {
         self.taken.facts()
     }
 
-    /// The lines that were taken, in their order.
-    pub fn lines(&self) -> &[FactLine] {
-        self.lines.as_slice()
+    /// How many lines a document has for what was found.
+    pub fn line_count(&self) -> usize {
+        line_count(self.found.as_slice())
     }
 
-    /// The same, as a certificate has them. `Err` is out of memory.
-    pub(crate) fn steps(&self) -> Result<Vec<FactStep>, AllocError> {
-        steps_of(self.alloc, self.lines.as_slice())
+    /// What was found, as the steps of a document. `Err` is out of memory.
+    pub fn steps(&self) -> Result<Vec<FactStep>, AllocError> {
+        steps_of(self.alloc, self.found.as_slice())
     }
 
     /// The same finder. `Err` is out of memory.
@@ -222,7 +227,7 @@ impl Finder {
             alloc: self.alloc,
             ground: Box::new(self.alloc, self.ground.duplicate())?,
             taken: Box::new(self.alloc, self.taken.duplicate())?,
-            lines: copies_of(self.alloc, self.lines.as_slice())?,
+            found: duplicates_of(self.alloc, self.found.as_slice())?,
             ways: Ways::new(self.alloc),
             tried: self.tried.duplicate(self.alloc)?,
             settled: self.settled,
@@ -238,14 +243,16 @@ impl Finder {
         if self.root().1 < bound {
             return self.duplicate();
         }
-        let lines = self.lines.as_slice();
+        let found = self.found.as_slice();
         let known = Precedence::of(Taken::new(&self.ground).facts());
-        let first = Sketch::of(self.alloc, &self.ground, known)?;
-        let places = needed_of(self.alloc, first, lines, bound)?;
+        let mut sketch = Sketch::of(self.alloc, &self.ground, &known)?;
+        let places = needed_of(self.alloc, sketch.duplicate()?, found, bound)?;
         let mut other = self.without_lines()?;
         for place in places.as_slice() {
-            if let Some(line) = lines.get(*place) {
-                other.take(bound, copy_of_line(line))?;
+            if let Some(one) = found.get(*place) {
+                let short = sketch.shortened(bound, one)?;
+                sketch.take(bound, &short)?;
+                other.take_found(bound, short)?;
             }
         }
         if other.root().1 < bound {
@@ -255,13 +262,13 @@ impl Finder {
     }
 
     /// A finder of the block that knows only what follows by dependence. `Err` is out of memory.
-    fn without_lines(&self) -> Result<Finder, AllocError> {
+    pub(crate) fn without_lines(&self) -> Result<Finder, AllocError> {
         Finder::of_ground(self.alloc, Box::new(self.alloc, self.ground.duplicate())?)
     }
 
     /// The arcs by what is known.
     fn network(&self, known: &Precedence) -> Result<Network, AllocError> {
-        Network::of(self.alloc, &self.ground, known, self.lines.as_slice())
+        Network::of(self.alloc, &self.ground, known, self.found.as_slice())
     }
 
     /// Takes pairs until there are no more, or a path takes the bound, or `PASSES_LIMIT` passes are over.
@@ -305,9 +312,62 @@ impl Finder {
         if is_taken {
             self.settled = None;
             self.forget_before(number_of(&line));
-            self.lines.push(line)?;
+            self.found.push(Found::ByLine(line))?;
         }
         Ok(is_taken)
+    }
+
+    /// Takes what a supposition shows, if that wasn't known; whether it did.
+    fn take_supposition(&mut self, supposition: Supposition) -> Result<bool, AllocError> {
+        let (m, n) = (supposition.first, supposition.second);
+        let is_taken = self.taken.take_shown(m, n, supposition.lines.len());
+        if is_taken {
+            self.settled = None;
+            self.forget_before(m);
+            self.found.push(Found::BySupposition(supposition))?;
+        }
+        Ok(is_taken)
+    }
+
+    /// Takes what was found; whether it did.
+    fn take_found(&mut self, bound: u32, found: Found) -> Result<bool, AllocError> {
+        match found {
+            Found::ByLine(line) => self.take(bound, line),
+            Found::BySupposition(supposition) => self.take_supposition(supposition),
+        }
+    }
+
+    /// Takes pairs that suppositions show for orders that take less than the bound, and what follows from them, until nothing more is
+    /// found, or a path takes the bound, or so many pairs were supposed. Returns how many more may be. `Err` is out of memory.
+    pub fn suppose_below(&mut self, bound: u32, most: u32) -> Result<u32, AllocError> {
+        let mut left = most;
+        for _round in 0..ROUNDS_LIMIT {
+            if left == 0 || self.root().1 >= bound {
+                break;
+            }
+            let count = self.found.len();
+            left = self.shave(bound, left)?;
+            if self.found.len() == count {
+                break;
+            }
+            self.find_below(bound)?;
+        }
+        Ok(left)
+    }
+
+    /// The same of what is known now; pairs alone.
+    fn shave(&mut self, bound: u32, most: u32) -> Result<u32, AllocError> {
+        let known = Precedence::of(self.taken.facts());
+        let network = self.network(&known)?;
+        let arcs = Arcs::of(self.alloc, &network)?;
+        let selection = Selection::of(&known, network.paths());
+        let mut shaving = Shaving::new(self.alloc, &self.ground, arcs, selection, bound, most);
+        shaving.shave()?;
+        let left = shaving.left();
+        for one in shaving.into_found() {
+            self.take_found(bound, one)?;
+        }
+        Ok(left)
     }
 
     /// Paths from a number grew, 0 for the origin, and so did those through it: from numbers before it, and from the origin.

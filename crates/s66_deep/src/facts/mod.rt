@@ -1,8 +1,10 @@
 //! Fact lines of a block, which hold for all orders or for those that take less than a bound. Nothing is promised of what is found:
 //! `Facts` takes a line only if it is right.
 
+mod arcs;
 mod copies;
 mod finder;
+mod found;
 mod ground;
 mod load;
 mod needed;
@@ -10,15 +12,19 @@ mod network;
 mod nodes;
 mod pairs;
 mod precedence;
+mod selection;
 mod shares;
 mod sketch;
 mod sort;
 mod spans;
+mod suppositions;
 mod taken;
+mod trial;
 mod tried;
+mod uses;
 mod ways;
 
-pub use copies::copy_of;
+pub(crate) use copies::copy_of;
 pub use finder::Finder;
-pub use ground::Ground;
-pub use precedence::Precedence;
+pub(crate) use ground::Ground;
+pub(crate) use precedence::Precedence;

@@ -4,9 +4,9 @@
 //! Parts of the lines are left out and the bound is tried without them: a part that isn't needed goes as a whole, another is divided
 //! into halves. So few lines are tried singly, as in the search for a minimal conflict by division (U. Junker, QuickXplain, AAAI 2004).
 
+use crate::facts::found::Found;
 use crate::facts::sketch::Sketch;
 use crate::limits::TAKES_LIMIT;
-use s66_moments::FactLine;
 use std::alloc::{AllocError, Global};
 
 /// Whether a bound needs some of a part's lines.
@@ -34,7 +34,7 @@ struct Part<'a> {
 #[derive(Drop)]
 struct Dropping<'a> {
     alloc: Global,
-    lines: &'a [FactLine],
+    lines: &'a [Found],
     bound: u32,
     /// The parts that aren't decided, the last one last.
     parts: Vec<Part<'a>>,
@@ -179,10 +179,10 @@ impl<'a> Dropping<'a> {
 /// is what is known without them. No more of these can be dropped one by one, unless `TAKES_LIMIT` lines were taken to find out.
 ///
 /// `Err` is out of memory.
-pub fn needed_of<'a>(
+pub(crate) fn needed_of<'a>(
     alloc: Global,
     before: Sketch<'a>,
-    lines: &'a [FactLine],
+    lines: &'a [Found],
     bound: u32,
 ) -> Result<Vec<usize>, AllocError> {
     let mut parts = Vec::new(alloc);

@@ -2,35 +2,35 @@
 //! It is a reduction of what `s66_facts` knows, in which longest paths are followed in one pass over the arcs.
 
 use crate::classes::is_written;
+use crate::facts::found::Found;
 use crate::facts::ground::Ground;
 use crate::facts::nodes::{
     END, NODE_COUNT, ORIGIN, Times, first, free, issue, raise, second, start, time_at,
 };
 use crate::facts::precedence::Precedence;
 use s66_isa::{Memory, Reg, Row, has_register, is_same_register};
-use s66_moments::{FactLine, KnownArc, Moment, Stage};
-use s66_time::Set;
+use s66_moments::{FactLine, Moment, Stage};
 use std::alloc::{AllocError, Global};
 
 /// How much later one node comes at least than another, in minor cycles.
 #[derive(Clone, Copy)]
-struct Arc {
-    from: usize,
-    wait: u32,
-    to: usize,
+pub(crate) struct Arc {
+    pub(crate) from: usize,
+    pub(crate) wait: u32,
+    pub(crate) to: usize,
 }
 
 /// The arcs of a block by what is known: all that lead to a node stand before all that lead from there.
 #[derive(Drop)]
-pub struct Network {
+pub(crate) struct Network {
     arcs: Vec<Arc>,
 }
 
 /// The longest paths from the origin to each node, and from each to the end, in minor cycles.
 #[derive(Clone, Copy)]
-pub struct Paths {
-    pub heads: Times,
-    pub tails: Times,
+pub(crate) struct Paths {
+    pub(crate) heads: Times,
+    pub(crate) tails: Times,
 }
 
 /// The last number before n that writes a register, in the block's own order; 0 if none does.
@@ -60,7 +60,7 @@ fn done(row: &Row, n: u8, register: Reg) -> usize {
 }
 
 /// The node of a moment of which a load line may speak.
-pub fn node_of(moment: &Moment) -> usize {
+pub(crate) fn node_of(moment: &Moment) -> usize {
     match moment {
         Moment::Origin => ORIGIN,
         Moment::At(n, Stage::Issue) => issue(*n),
@@ -80,18 +80,18 @@ fn belongs_to(from: &Moment, to: &Moment, n: u8) -> bool {
 }
 
 impl Network {
-    /// Of a block by what is known of it, with the arcs of the load lines among these. `Err` is out of memory.
-    pub fn of(
+    /// Of a block by what is known of it, with the arcs of the load lines among what was found. `Err` is out of memory.
+    pub(crate) fn of(
         alloc: Global,
         ground: &Ground,
         known: &Precedence,
-        lines: &[FactLine],
+        found: &[Found],
     ) -> Result<Network, AllocError> {
         let mut network = Network {
             arcs: Vec::new(alloc),
         };
         for n in known.order() {
-            network.add_issue(ground, known, lines, *n)?;
+            network.add_issue(ground, known, found, *n)?;
             network.add_start(ground, *n)?;
             network.add_results(ground, *n)?;
         }
@@ -108,7 +108,7 @@ impl Network {
         &mut self,
         ground: &Ground,
         known: &Precedence,
-        lines: &[FactLine],
+        found: &[Found],
         n: u8,
     ) -> Result<(), AllocError> {
         let Some(row) = ground.row(n) else {
@@ -122,7 +122,7 @@ impl Network {
         for write in row.writes.as_slice() {
             self.add_writer(ground, n, write.reg, issue(n))?;
         }
-        self.add_loads(lines, n)
+        self.add_loads(found, n)
     }
 
     /// To the issue of n from those of the numbers right before it.
@@ -168,9 +168,9 @@ impl Network {
     }
 
     /// By load lines.
-    fn add_loads(&mut self, lines: &[FactLine], n: u8) -> Result<(), AllocError> {
-        for line in lines {
-            if let FactLine::Load(load) = line
+    fn add_loads(&mut self, found: &[Found], n: u8) -> Result<(), AllocError> {
+        for one in found {
+            if let Found::ByLine(FactLine::Load(load)) = one
                 && belongs_to(&load.from, &load.to, n)
             {
                 self.add(node_of(&load.from), load.wait, node_of(&load.to))?;
@@ -250,40 +250,13 @@ impl Network {
         Ok(())
     }
 
-    /// How many arcs stand before those that lead from a node.
-    fn count_before(&self, node: usize) -> usize {
-        for place in 0..self.arcs.len() {
-            if self.arcs[place].from == node {
-                return place;
-            }
-        }
-        self.arcs.len()
-    }
-
-    /// Adds the arc of a load after all that lead to its node and before all that lead from there. `Err` is out of memory.
-    pub fn insert(&mut self, load: &KnownArc) -> Result<(), AllocError> {
-        let to = node_of(&load.to);
-        let place = self.count_before(to).min(self.arcs.len());
-        self.arcs.insert(
-            place,
-            Arc {
-                from: node_of(&load.from),
-                wait: load.wait,
-                to,
-            },
-        )?;
-        Ok(())
-    }
-
-    /// The same. `Err` is out of memory.
-    pub fn duplicate(&self, alloc: Global) -> Result<Network, AllocError> {
-        let mut arcs = Vec::new(alloc);
-        arcs.extend_from_slice(self.arcs.as_slice())?;
-        Ok(Network { arcs })
+    /// The arcs.
+    pub(crate) fn arcs(&self) -> &[Arc] {
+        self.arcs.as_slice()
     }
 
     /// The longest paths from the origin and to the end.
-    pub fn paths(&self) -> Paths {
+    pub(crate) fn paths(&self) -> Paths {
         Paths {
             heads: self.heads(ORIGIN),
             tails: self.tails(END),
@@ -291,7 +264,7 @@ impl Network {
     }
 
     /// The longest paths from a node.
-    pub fn heads(&self, from: usize) -> Times {
+    pub(crate) fn heads(&self, from: usize) -> Times {
         let mut times = [None; NODE_COUNT];
         raise(&mut times, from, 0);
         for arc in self.arcs.as_slice() {
@@ -303,7 +276,7 @@ impl Network {
     }
 
     /// The longest paths to a node.
-    pub fn tails(&self, to: usize) -> Times {
+    pub(crate) fn tails(&self, to: usize) -> Times {
         let mut times = [None; NODE_COUNT];
         raise(&mut times, to, 0);
         let arcs = self.arcs.as_slice();

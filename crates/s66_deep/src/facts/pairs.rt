@@ -13,7 +13,7 @@ use s66_time::Set;
 
 /// The numbers that have to stand after each, and before each; what is of n is at n - 1.
 #[derive(Drop)]
-pub struct Forced {
+pub(crate) struct Forced {
     after: [Set; BLOCK_LIMIT],
     before: [Set; BLOCK_LIMIT],
 }
@@ -27,23 +27,31 @@ struct Looks<'a> {
     bound: u32,
 }
 
-/// Whether two paths, one after the other, take so long at least.
-fn reaches(bound: u32, head: Option<u32>, wait: u32, tail: Option<u32>) -> bool {
+/// How long two paths take, one after the other; 0 if there is none.
+fn along(head: Option<u32>, wait: u32, tail: Option<u32>) -> u32 {
     match (head, tail) {
-        (Some(head), Some(tail)) => bound <= head.saturating_add(wait).saturating_add(tail),
-        _ => false,
+        (Some(head), Some(tail)) => head.saturating_add(wait).saturating_add(tail),
+        _ => 0,
+    }
+}
+
+/// How long the longest path from n to m is if n stands before m: by parcels, or by the only unit of their kind.
+pub(crate) fn longest_with(ground: &Ground, paths: &Paths, n: u8, m: u8) -> u32 {
+    let (Some(row), Some(other)) = (ground.row(n), ground.row(m)) else {
+        return 0;
+    };
+    let tail = time_at(&paths.tails, issue(m));
+    let by_parcels = along(time_at(&paths.heads, issue(n)), row.parcels, tail);
+    if is_same_kind(row.kind, other.kind) && ground.copies(row.kind) == 1 {
+        by_parcels.max(along(time_at(&paths.heads, free(n)), 0, tail))
+    } else {
+        by_parcels
     }
 }
 
 /// Whether m would come too late for a bound if n stood before it: by parcels, or by the only unit of their kind.
-pub fn is_late(ground: &Ground, paths: &Paths, bound: u32, m: u8, n: u8) -> bool {
-    let (Some(row), Some(other)) = (ground.row(n), ground.row(m)) else {
-        return false;
-    };
-    let tail = time_at(&paths.tails, issue(m));
-    let is_shared = is_same_kind(row.kind, other.kind) && ground.copies(row.kind) == 1;
-    let by_parcels = reaches(bound, time_at(&paths.heads, issue(n)), row.parcels, tail);
-    by_parcels || is_shared && reaches(bound, time_at(&paths.heads, free(n)), 0, tail)
+pub(crate) fn is_late(ground: &Ground, paths: &Paths, bound: u32, m: u8, n: u8) -> bool {
+    bound <= longest_with(ground, paths, n, m)
 }
 
 impl<'a> Looks<'a> {
@@ -78,7 +86,7 @@ impl<'a> Looks<'a> {
 
 impl Forced {
     /// By what is known, for a bound.
-    pub fn of(ground: &Ground, known: &Precedence, network: &Network, bound: u32) -> Forced {
+    pub(crate) fn of(ground: &Ground, known: &Precedence, network: &Network, bound: u32) -> Forced {
         let looks = Looks {
             ground,
             known,
@@ -93,7 +101,7 @@ impl Forced {
     }
 
     /// Two numbers of which each has to stand before the other, if there are such.
-    pub fn ring(&self) -> Option<(u8, u8)> {
+    pub(crate) fn ring(&self) -> Option<(u8, u8)> {
         for position in 0..BLOCK_LIMIT {
             let mut both = self.after[position].both(&self.before[position]);
             if let Some(n) = both.pop_first() {
@@ -104,12 +112,12 @@ impl Forced {
     }
 
     /// The numbers that have to stand after m, which isn't known.
-    pub fn after(&self, known: &Precedence, m: u8) -> Set {
+    pub(crate) fn after(&self, known: &Precedence, m: u8) -> Set {
         set_of(&self.after, m).without(&known.after(m))
     }
 
     /// Those of them that don't follow from what others have to.
-    pub fn right_after(&self, known: &Precedence, m: u8) -> Set {
+    pub(crate) fn right_after(&self, known: &Precedence, m: u8) -> Set {
         let mut those = Set::empty();
         let all = set_of(&self.after, m);
         let mut new = self.after(known, m);

@@ -1,7 +1,7 @@
 //! Whether a load may say more than a wait: a quick look, which few loads pass.
 //! An upper bound of what the load line can say tells whether `ways.rt` is worth its time.
 
-use crate::facts::load::Load;
+use crate::facts::load::{Load, Reach};
 use crate::facts::sort::sort;
 use crate::facts::spans::{at_issue, at_start};
 use crate::work::Work;
@@ -63,34 +63,34 @@ fn pass_after(shares: &[Share], copies: u32, after: u32, wait: u32) -> bool {
 
 /// What the instructions of a load may add. The room is kept from one load to the next.
 #[derive(Drop)]
-pub struct Shares {
+pub(crate) struct Shares {
     shares: Vec<Share>,
 }
 
 impl Shares {
     /// With no room.
-    pub fn new(alloc: Global) -> Shares {
+    pub(crate) fn new(alloc: Global) -> Shares {
         Shares {
             shares: Vec::new(alloc),
         }
     }
 
     /// Finds those of a load.
-    pub fn find(&mut self, load: &Load) -> Result<(), AllocError> {
+    pub(crate) fn find<R: Reach>(&mut self, load: &Load<R>) -> Result<(), AllocError> {
         self.shares.clear();
         let mut rest = load.numbers;
         while let Some(n) = rest.pop_first() {
             self.shares.push(Share {
                 amount: load.ground.amount(n),
-                head: load.spans.between(load.from, at_start(n)).unwrap_or(0),
-                tail: load.spans.between(at_issue(n), load.to).unwrap_or(0),
+                head: load.reach.head(at_start(n)).unwrap_or(0),
+                tail: load.reach.tail(at_issue(n)).unwrap_or(0),
             })?;
         }
         Ok(())
     }
 
     /// How long so many units have work by any of them at most.
-    pub fn longest_time(&self, copies: u32) -> u32 {
+    pub(crate) fn longest_time(&self, copies: u32) -> u32 {
         longest_after(self.shares.as_slice(), copies, 0)
     }
 
@@ -109,7 +109,7 @@ impl Shares {
     }
 
     /// Whether some of them may say more than a wait; those are left out that can't. It takes time quadratic in how many there are.
-    pub fn may_pass(&mut self, copies: u32, wait: u32) -> bool {
+    pub(crate) fn may_pass(&mut self, copies: u32, wait: u32) -> bool {
         self.leave_out(copies, wait);
         // as many as there are units say no more than a path
         if self.shares.len() <= copies as usize {

@@ -6,7 +6,7 @@
 //! place comes. The best of all such choices is found in time quadratic in their number (energetic reasoning: J. Erschler and P. Lopez;
 //! P. Baptiste, C. Le Pape and W. Nuijten, Constraint-Based Scheduling, 2001).
 
-use crate::facts::load::{Best, Load, Way};
+use crate::facts::load::{Best, Load, Reach, Way};
 use crate::facts::shares::Shares;
 use crate::facts::sort::sort;
 use crate::facts::spans::{at_issue, at_start};
@@ -77,7 +77,7 @@ fn best_after(ways: &[Way], copies: u32, longest: u32, after: u32, best: Best) -
 
 /// The ways of a load. The room is kept from one load to the next.
 #[derive(Drop)]
-pub struct Ways {
+pub(crate) struct Ways {
     shares: Shares,
     ways: Vec<Way>,
     /// The last way of each number.
@@ -88,7 +88,7 @@ pub struct Ways {
 
 impl Ways {
     /// With no room.
-    pub fn new(alloc: Global) -> Ways {
+    pub(crate) fn new(alloc: Global) -> Ways {
         Ways {
             shares: Shares::new(alloc),
             ways: Vec::new(alloc),
@@ -106,7 +106,7 @@ impl Ways {
     }
 
     /// Adds the ways of an instruction of a load: its use begins at its issue or at its start, which comes later.
-    fn add_both(&mut self, load: &Load, n: u8) -> Result<(), AllocError> {
+    fn add_both<R: Reach>(&mut self, load: &Load<R>, n: u8) -> Result<(), AllocError> {
         let (issue, start) = (load.way(n, at_issue(n)), load.way(n, at_start(n)));
         if let Some(way) = start.or(issue) {
             self.latest.push(Latest {
@@ -119,7 +119,7 @@ impl Ways {
     }
 
     /// Finds those of a load, sorted by what is left, the most first.
-    fn find(&mut self, load: &Load) -> Result<(), AllocError> {
+    fn find<R: Reach>(&mut self, load: &Load<R>) -> Result<(), AllocError> {
         self.ways.clear();
         self.latest.clear();
         let mut rest = load.numbers;
@@ -133,7 +133,11 @@ impl Ways {
     /// What says most of a load, and more than a wait, if something does. It takes time quadratic in how many numbers there are.
     ///
     /// `Err` is out of memory.
-    pub fn best(&mut self, load: &Load, wait: u32) -> Result<Option<Best>, AllocError> {
+    pub(crate) fn best<R: Reach>(
+        &mut self,
+        load: &Load<R>,
+        wait: u32,
+    ) -> Result<Option<Best>, AllocError> {
         self.shares.find(load)?;
         if !self.shares.may_pass(load.copies, wait) {
             return Ok(None);

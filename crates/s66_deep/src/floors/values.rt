@@ -185,7 +185,7 @@ fn slot_value(tables: &PathTables, clock: &Clock<'_>, left: &Left, top: u32) -> 
 }
 
 /// The greatest path of what remains, 0 if nothing does: a few looks for each word of the clock that is late, and none at a number.
-pub fn greatest_value(tables: &PathTables, clock: &Clock<'_>, left: &Left) -> u32
+pub(crate) fn greatest_value(tables: &PathTables, clock: &Clock<'_>, left: &Left) -> u32
     requires { HasSmallWords tables.now }
 {
     let Some(top) = tables.by_issue.greatest(&left.by_issue) else {

@@ -22,6 +22,9 @@ const NARROW_BEAMS: &str =
 /// Every order takes 13. Two pairs show that, and neither of them alone; that 1 comes before 5 is found too, and not needed.
 const TWO_PAIRS: &str = "  FX6 X5*X6\n  PX2 B5,X0\n  CX3 X4\n  ZX0 X0\n  MX4 57\n";
 
+/// Every order takes 8, since two units do all of them. Two pairs are found too, and not needed.
+const THREE_INCREMENTS: &str = "  SX5 B1+B2\n  SX5 B1+B2\n  SX7 B3+5\n";
+
 pub(crate) const ROWS: &[Row] = &[
     ("empty input", ORDER, "", 0, ""),
     ("empty input", &["s66", "prove"], "", 0, ""),
@@ -161,6 +164,13 @@ pub(crate) const ROWS: &[Row] = &[
         TWO_PAIRS,
         0,
         "S66 CERTIFICATE 4\nPROFILE 3 3 4 4 3 10 29 8 3 8 1 1 1 1 2 1 2\nBLOCK 5\nI FX6 X5*X6\nI PX2 B5,X0\nI CX3 X4\nI ZX0 X0\nI MX4 57\nTIME 13\nBOUND 13\nORDER 2 1 3 4 5\nF 2 5\nF 5 4\nE 2\nEND\n",
+    ),
+    (
+        "a certificate whose leaf needs no fact line at all",
+        &["s66", "prove", "--workers", "1", "--deep", "--nodes", "0"],
+        THREE_INCREMENTS,
+        0,
+        "S66 CERTIFICATE 4\nPROFILE 3 3 4 4 3 10 29 8 3 8 1 1 1 1 2 1 2\nBLOCK 3\nI SX5 B1+B2\nI SX5 B1+B2\nI SX7 B3+5\nTIME 8\nBOUND 8\nORDER 1 2 3\nL 0 1 2 3\nEND\n",
     ),
     (
         "third order",

@@ -18,7 +18,9 @@ found_or_shown-requires-clause-made c = omega (arith, c.saturating_add-beside.en
 
 pub returns-then-total-bound : goal.returns-then-total-bound
 returns-then-total-bound c =
-    c.found_or_shown.ensures c.args.strategy c.requires.deep c.seek.ensures.search
+    let searched = c.seek.ensures.search in
+    let ended = c.in_ok-answer.ensures in
+    c.found_or_shown.ensures c.args.strategy c.requires.deep (ended.rule ∙ searched.0, ended.problem ∙ searched.1, ended.budget ∙ searched.2)
     (beside-deep c.args.strategy c.saturating_add-beside.result c.requires.deep (omega (arith, c.saturating_add-beside.ensures, c.requires.made, c.in_ok-found.ensures.splits)))
 
 pub returns-in-None : goal.returns-in-None

@@ -1,15 +1,12 @@
-use Rattle.std.proofs.Common.{◌≡◌, ◌≤◌, drop, length}
+use Rattle.std.proofs.Common.{◌≡◌, None, drop}
 use Rattle.s66_moments.specs.Networks.{network}
 use Rattle.s66_facts.specs.Marked.{before_in}
-use Rattle.s66_reasons.specs.Within.{with_lines}
+use Rattle.s66_reasons.specs.LongestPaths.{each_left, load_left}
+use Rattle.s66_reasons.specs.Within.{with_loads}
 use Rattle.s66_reasons.proofs.arcs.arc_by_lines.Given as goal
 
-abbrev pub decreases-loop-left : goal.decreases-loop-left
-decreases-loop-left l = l.left
-
--- the arc by the lines from there on
-abbrev pub invariant-loop-left : goal.invariant-loop-left
-invariant-loop-left l = record {
-  wait : l.wait ≡ with_lines (network l.prefix.problem (before_in l.facts.marks)) (drop l.left l.lines) l.from l.to;
-  within : l.left ≤ length l.lines;
-}
+-- the loads that are left are still to be added
+abbrev pub invariant-loop-line : goal.invariant-loop-line
+invariant-loop-line l =
+    with_loads l.from l.to (each_left load_left l.to_show (drop l.line-index l.lines)) l.wait
+    ≡ with_loads l.from l.to (each_left load_left None l.lines) (network l.prefix.problem (before_in l.facts.marks) l.from l.to)

@@ -15,6 +15,7 @@ use Rattle.s66_reasons.specs.Shown.{end_by}
 use Rattle.s66_reasons.proofs.Claimed.{claimed-leaf, faultless, granted-each, granted-next, granted-turned, right-each}
 use Rattle.s66_reasons.proofs.PathEnds.{has-none_sooner, load-shown, path-shown}
 use Rattle.s66_reasons.proofs.Rows.{rows-end}
+use Rattle.s66_reasons.proofs.SupposedHolds.{holds-in, refuted-in}
 use Rattle.s66_reasons.proofs.laws.reasons_law.Goals as goal
 
 pub returns-clause-bounding : goal.returns-clause-bounding
@@ -36,6 +37,12 @@ returns-clause-next c = λ limit d time bound n is holds alone.
     let granted_here = granted-next d [] n (right-each d [] (Next n) all.1 among).1 in
     let (low, high, new) = remaining-parts (problem_of d).block [] n granted_here.0 in
     path-shown d all.0 n (low, high) bound (omega (arith, ((granted d time bound).0 holds).1, leb-true d.bound (next_value (problem_of d) (known_of d) [] n) granted_here.1))
+
+pub returns-clause-supposed : goal.returns-clause-supposed
+returns-clause-supposed c = holds-in
+
+pub returns-clause-refuted : goal.returns-clause-refuted
+returns-clause-refuted c = refuted-in
 
 pub returns-clause-no_sooner : goal.returns-clause-no_sooner
 returns-clause-no_sooner c = λ d n taken is_n. has-none_sooner d taken n is_n

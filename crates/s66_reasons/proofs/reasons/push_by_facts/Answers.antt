@@ -2,7 +2,7 @@ use Rattle.std.proofs.Common.{ℕ, ◌++◌, ◌∙◌, [], List, ap, append_ass
 use Rattle.std.proofs.lemmas.Result.{IfOk-equal}
 use Rattle.s66_cert.specs.Document.{tree_placed}
 use Rattle.s66_cert.specs.DocumentParts.{document_of}
-use Rattle.s66_moments.specs.Known.{known_first}
+use Rattle.s66_moments.specs.Suppositions.{standing_first}
 use Rattle.s66_checker.specs.Verdict.{facts_of, problem_of}
 use Rattle.s66_reasons.specs.FactWords.{facts_from}
 use Rattle.s66_reasons.specs.Reasons.{faster_words, lines_text}
@@ -12,7 +12,7 @@ pub returns : goal.returns
 returns c =
     let d = document_of c.args.document.now in
     let out = c.args.out.now.items in
-    let facts : List ℕ = facts_from d (known_first (problem_of d)) 1 (facts_of d) in
+    let facts : List ℕ = facts_from d (standing_first (problem_of d)) 1 (facts_of d) in
     let faster : List ℕ = faster_words d.bound in
     let lines : List ℕ = lines_text d (tree_placed [] d.tree) in
     let to_faster = c.in_ok-push_faster.ensures ∙ ap (λ k. c.push_facts.new.out.items ++ faster_words k) c.bound.ensures ∙ ap (λ xs. xs ++ faster) c.in_ok-by_lines.ensures.text in

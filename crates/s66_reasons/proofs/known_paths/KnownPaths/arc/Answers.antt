@@ -1,13 +1,13 @@
-use Rattle.std.proofs.Common.{◌∙◌, List, ap, sym}
+use Rattle.std.proofs.Common.{◌∙◌, None, List, ap, sym}
 use Rattle.s66_model.specs.Timing.{Problem}
-use Rattle.s66_moments.specs.declared.fact_line.FactLine.{FactLine}
+use Rattle.s66_moments.specs.declared.fact_line.FactStep.{FactStep}
 use Rattle.s66_moments.specs.Known.{Known}
 use Rattle.s66_moments.specs.Networks.{network}
 use Rattle.s66_facts.specs.Marked.{before_in}
 use Rattle.s66_cert.specs.DocumentParts.{Parts, document_of}
 use Rattle.s66_checker.specs.Verdict.{known_of, problem_of}
-use Rattle.s66_reasons.specs.LongestPaths.{arcs}
-use Rattle.s66_reasons.specs.Within.{with_lines}
+use Rattle.s66_reasons.specs.LongestPaths.{arcs, each_left, load_left}
+use Rattle.s66_reasons.specs.Within.{with_loads}
 use Rattle.s66_reasons.proofs.KnownArcs.{arcs-lines}
 use Rattle.s66_reasons.proofs.known_paths.KnownPaths.arc.Goals as goal
 
@@ -18,8 +18,8 @@ returns c =
     let f = c.args.to.now in
     let lines = c.fact_lines-lines.result.now in
     c.arc_by_lines.ensures
-    ∙ ap (λ (q : Problem). with_lines (network q (before_in c.self.inside.by_lines.now.marks)) lines e f) c.self.invariant.first.problem
-    ∙ ap (λ (known : Known). with_lines (network (problem_of d) known.before) lines e f) c.self.invariant.all.known
-    ∙ ap (λ (ls : List FactLine). with_lines (network (problem_of d) (known_of d).before) ls e f) c.fact_lines-lines.ensures.value
-    ∙ sym (arcs-lines d e f)
+    ∙ ap (λ (q : Problem). with_loads e f (each_left load_left None lines) (network q (before_in c.self.inside.by_lines.now.marks) e f)) c.self.invariant.first.problem
+    ∙ ap (λ (known : Known). with_loads e f (each_left load_left None lines) (network (problem_of d) known.before e f)) c.self.invariant.all.known
+    ∙ ap (λ (ls : List FactStep). with_loads e f (each_left load_left None ls) (network (problem_of d) (known_of d).before e f)) c.fact_lines-lines.ensures.value
+    ∙ sym (arcs-lines d c.self.invariant.first.taken e f)
     ∙ ap (λ (p : Parts). arcs (document_of p) e f) c.self.view_is

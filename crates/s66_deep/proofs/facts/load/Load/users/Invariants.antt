@@ -3,4 +3,4 @@ use Rattle.s66_time.specs.Members.{numbers_in}
 use Rattle.s66_deep.proofs.facts.load.Load.users.Given as goal
 
 abbrev pub decreases-loop-n : goal.decreases-loop-n
-decreases-loop-n l = length (numbers_in l.rest)
+decreases-loop-n g l = length (numbers_in l.rest)
