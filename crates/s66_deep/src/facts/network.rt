@@ -10,6 +10,7 @@ use crate::facts::nodes::{
 use crate::facts::precedence::Precedence;
 use s66_isa::{Memory, Reg, Row, has_register, is_same_register};
 use s66_moments::{FactLine, Moment, Stage};
+use s66_time::Set;
 use std::alloc::{AllocError, Global};
 
 /// How much later one node comes at least than another, in minor cycles.
