@@ -33,7 +33,7 @@ pub(crate) enum Part {
 
 impl Tails {
     /// What follows a part.
-    pub fn after(&self, part: Part) -> u32
+    pub(crate) fn after(&self, part: Part) -> u32
         requires { IsSmall self.now }
         ensures { result ≤ TAIL_LIMIT }
     {
