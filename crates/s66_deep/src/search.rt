@@ -14,6 +14,7 @@ use crate::limits::{
 };
 use crate::lines::{Bound, Halved, Lined, beam_by, best_by_lines, found_below, halve};
 use crate::orders::faster;
+use crate::walk::Prefix;
 use s66_cert::{Tree, TreeLine};
 use s66_line::Block;
 use s66_moments::FactStep;
@@ -172,7 +173,14 @@ fn search_below(
     })
 }
 
-/// Suppositions of orders of a goal, and if these don't show that there is none, a search for such orders.
+/// Whether one leaf shows that no order takes less than a limit, by fact lines of such orders.
+fn is_closed(instance: &Instance<'_>, below: &Finder, limit: u32) -> bool {
+    let prefix = Prefix::new(instance.block, instance.profile, &below.tails());
+    !prefix.walk().is_complete() && limit <= prefix.floor()
+}
+
+/// Suppositions of orders of a goal, and if these don't show that there is none, a search for such orders. Nothing is supposed where the
+/// search has nothing to split.
 fn suppose_and_search(
     instance: &Instance<'_>,
     below: Finder,
@@ -184,7 +192,9 @@ fn suppose_and_search(
     ensures splits { IfOk result (λ tried. tried.splits ≤ goal.splits) }
 {
     let mut below = below;
-    below.suppose_below(goal.limit, goal.suppositions)?;
+    if !is_closed(instance, &below, goal.limit) {
+        below.suppose_below(goal.limit, goal.suppositions)?;
+    }
     if goal.limit <= below.root().1 {
         return Ok(Tried {
             best,
