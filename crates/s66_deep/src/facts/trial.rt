@@ -23,26 +23,50 @@ pub struct Trial<'a> {
 struct Within<'a> {
     trial: Trial<'a>,
     bound: u32,
+    /// Whether there may be longer paths by the pairs that were selected last.
+    is_open: bool,
     /// Whether no order is left that takes less than the bound.
     is_refuted: bool,
 }
 
 impl Within<'_> {
-    /// Selects a pair.
+    /// Selects a pair. What paths follow is found by `settle`, which takes most of the time of a trial.
     fn select(&mut self, m: u8, n: u8) {
-        let trial = &mut self.trial;
-        trial.selection.select(m, n);
-        trial.selection.settle(trial.ground, trial.arcs);
-        self.is_refuted = trial.selection.is_late(self.bound);
+        self.trial.selection.select(m, n);
+        self.is_open = true;
     }
 
-    /// Takes a pair in if it is right and new, and returns whether it is.
+    /// Finds the paths that follow from what was selected, and whether an order is left.
+    fn settle(&mut self) {
+        if self.is_open {
+            let trial = &mut self.trial;
+            trial.selection.settle(trial.ground, trial.arcs);
+            self.is_refuted = trial.selection.is_late(self.bound);
+            self.is_open = false;
+        }
+    }
+
+    /// Whether n before m would be too late by the paths that were found.
+    fn is_late(&self, m: u8, n: u8) -> bool {
+        is_late(
+            self.trial.ground,
+            self.trial.selection.paths(),
+            self.bound,
+            m,
+            n,
+        )
+    }
+
+    /// Takes a pair in if it is right and new and an order is left, and returns whether it did.
     fn take_pair(&mut self, m: u8, n: u8) -> bool {
-        let selection = &self.trial.selection;
-        if !selection.open_to(m).has(n)
-            || !is_late(self.trial.ground, selection.paths(), self.bound, m, n)
-        {
+        if !self.trial.selection.open_to(m).has(n) {
             return false;
+        }
+        if !self.is_late(m, n) {
+            self.settle();
+            if self.is_refuted || !self.is_late(m, n) {
+                return false;
+            }
         }
         self.select(m, n);
         true
@@ -50,6 +74,7 @@ impl Within<'_> {
 
     /// Takes a load line in, from the origin to the end, if it is right and takes the bound, and returns whether it does.
     fn take_load(&mut self, load: &LoadLine) -> bool {
+        self.settle();
         let paths = self.trial.selection.paths();
         if load.wait < self.bound
             || !are_used(self.trial.ground, load, &paths.heads, &paths.tails)
@@ -79,6 +104,7 @@ impl Within<'_> {
                 self.take(&lines[place]);
             }
         }
+        self.settle();
         self.is_refuted
     }
 }
@@ -89,9 +115,11 @@ impl<'a> Trial<'a> {
         let mut within = Within {
             trial: *self,
             bound,
+            is_open: false,
             is_refuted: false,
         };
         within.select(m, n);
+        within.settle();
         within
     }
 
