@@ -21,8 +21,11 @@ pub const NEAR: u32 = 10;
 /// How often at most it is looked for what follows from a pair, and for pairs to be supposed.
 pub const FOLLOWED_LIMIT: usize = 64;
 
-/// How many pairs are supposed at most, as a share of the splits: it takes about as long as so many.
+/// How many pairs are supposed at most, as a share of the splits: it takes about as long as so many. A trial of lines counts as one more.
 pub const SPLITS_A_SUPPOSITION: u32 = 16;
+
+/// How often at most it is tried which lines of a supposition are needed, before it is printed.
+pub const TRIALS_LIMIT: u32 = 1_000;
 
 /// How many beginnings of a length a beam keeps.
 pub const BEAM_WIDTH: usize = 64;

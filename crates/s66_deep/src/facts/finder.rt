@@ -361,7 +361,16 @@ impl Finder {
         let network = self.network(&known)?;
         let arcs = Arcs::of(self.alloc, &network)?;
         let selection = Selection::of(&known, network.paths());
-        let mut shaving = Shaving::new(self.alloc, &self.ground, arcs, selection, bound, most);
+        let lines = self.line_count();
+        let mut shaving = Shaving::new(
+            self.alloc,
+            &self.ground,
+            arcs,
+            selection,
+            bound,
+            most,
+            lines,
+        );
         shaving.shave()?;
         let left = shaving.left();
         for one in shaving.into_found() {

@@ -11,6 +11,7 @@ use crate::facts::precedence::Precedence;
 use crate::facts::selection::Selection;
 use crate::facts::trial::Trial;
 use crate::facts::uses::are_used;
+use crate::limits::TRIALS_LIMIT;
 use s66_dep::Set;
 use s66_isa::BLOCK_LIMIT;
 use s66_moments::{FactLine, LoadLine, Moment};
@@ -127,9 +128,12 @@ impl<'a> Sketch<'a> {
     pub fn shortened(&self, bound: u32, found: &Found) -> Result<Found, AllocError> {
         match found {
             Found::ByLine(_) => found.duplicate(self.alloc),
-            Found::BySupposition(supposition) => Ok(Found::BySupposition(
-                self.trial().shortened(self.alloc, bound, supposition)?,
-            )),
+            Found::BySupposition(supposition) => {
+                let mut left = TRIALS_LIMIT;
+                let trial = self.trial();
+                let short = trial.shortened(self.alloc, bound, supposition, &mut left)?;
+                Ok(Found::BySupposition(short))
+            }
         }
     }
 

@@ -12,6 +12,7 @@ use crate::facts::selection::Selection;
 use crate::facts::trial::Trial;
 use crate::facts::ways::Ways;
 use crate::limits::{FOLLOWED_LIMIT, NEAR};
+use s66_facts::FACT_LIMIT;
 use s66_isa::{BLOCK_LIMIT, KINDS, Kind};
 use s66_moments::{FactLine, LoadLine, Moment};
 use std::alloc::{AllocError, Global};
@@ -42,14 +43,16 @@ pub struct Shaving<'a> {
     bound: u32,
     selection: Selection,
     ways: Ways,
-    /// How many more pairs may be supposed.
+    /// How many more pairs may be supposed, and lines tried.
     left: u32,
+    /// How many more lines a document may have.
+    room: usize,
     found: Vec<Found>,
     is_refuted: bool,
 }
 
 impl<'a> Shaving<'a> {
-    /// By what is known, and the arcs that stand for it.
+    /// By what is known, and the arcs that stand for it; a document has so many lines.
     pub fn new(
         alloc: Global,
         ground: &'a Ground,
@@ -57,6 +60,7 @@ impl<'a> Shaving<'a> {
         selection: Selection,
         bound: u32,
         left: u32,
+        lines: usize,
     ) -> Shaving<'a> {
         Shaving {
             alloc,
@@ -66,12 +70,13 @@ impl<'a> Shaving<'a> {
             selection,
             ways: Ways::new(alloc),
             left,
+            room: FACT_LIMIT.saturating_sub(lines),
             found: Vec::new(alloc),
             is_refuted: false,
         }
     }
 
-    /// How many more pairs may be supposed.
+    /// How many more pairs may be supposed, and lines tried.
     pub fn left(&self) -> u32 {
         self.left
     }
@@ -87,7 +92,7 @@ impl<'a> Shaving<'a> {
             let count = self.found.len();
             let candidates = self.candidates()?;
             for candidate in candidates.as_slice() {
-                if self.is_refuted || self.left == 0 {
+                if self.is_refuted || self.left == 0 || self.room == 0 {
                     return Ok(());
                 }
                 self.suppose(candidate.first, candidate.second)?;
@@ -146,11 +151,20 @@ impl<'a> Shaving<'a> {
             second: m,
             lines: followed.lines,
         };
+        let mut left = self.left;
         let short = self
             .trial()
-            .shortened(self.alloc, self.bound, &supposition)?;
-        self.found.push(Found::BySupposition(short))?;
+            .shortened(self.alloc, self.bound, &supposition, &mut left)?;
+        self.left = left;
+        self.add(Found::BySupposition(short))?;
         self.keep(n, m)
+    }
+
+    /// Adds what was found.
+    fn add(&mut self, found: Found) -> Result<(), AllocError> {
+        self.room = self.room.saturating_sub(found.line_count());
+        self.found.push(found)?;
+        Ok(())
     }
 
     /// What is known, for suppositions.
@@ -172,7 +186,7 @@ impl<'a> Shaving<'a> {
         self.selection = selection;
         self.is_refuted = is_refuted;
         for line in lines.as_slice() {
-            self.found.push(Found::ByLine(copy_of_line(line)))?;
+            self.add(Found::ByLine(copy_of_line(line)))?;
         }
         Ok(())
     }

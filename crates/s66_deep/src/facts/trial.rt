@@ -129,19 +129,20 @@ impl<'a> Trial<'a> {
         within.takes_all(supposition.lines.as_slice(), 0, 0)
     }
 
-    /// A supposition with those of its lines that are needed, as far as is found: parts that aren't are dropped from the last one on, first
-    /// of half the lines, then of fewer. `Err` is out of memory.
+    /// A supposition with those of its lines that are needed, as far as is found by so many trials of them, each of which is taken off
+    /// what is left: parts that aren't are dropped from the last one on, first of all lines, then of fewer. `Err` is out of memory.
     pub fn shortened(
         &self,
         alloc: Global,
         bound: u32,
         supposition: &Supposition,
+        left: &mut u32,
     ) -> Result<Supposition, AllocError> {
         let start = self.within(bound, supposition.second, supposition.first);
         let mut lines = right_of(alloc, &start, supposition.lines.as_slice())?;
         let mut size = lines.len();
         for _size in 0..32 {
-            lines = without_parts(alloc, &start, lines, size)?;
+            lines = without_parts(alloc, &start, lines, size, left)?;
             if size <= 1 {
                 break;
             }
@@ -190,19 +191,21 @@ fn without(
     Ok(others)
 }
 
-/// The lines without parts of some size that aren't needed, from the last one on.
+/// The lines without parts of some size that aren't needed, from the last one on, as long as trials are left.
 fn without_parts(
     alloc: Global,
     start: &Within<'_>,
     lines: Vec<FactLine>,
     size: usize,
+    left: &mut u32,
 ) -> Result<Vec<FactLine>, AllocError> {
     let mut lines = lines;
     let mut end = lines.len();
     for _part in 0..lines.len() {
-        if end == 0 {
+        if end == 0 || *left == 0 {
             break;
         }
+        *left = (*left).saturating_sub(1);
         let first = end.saturating_sub(size);
         let mut within = *start;
         if within.takes_all(lines.as_slice(), first, end) {
