@@ -56,8 +56,6 @@ struct Goal {
     bound: u32,
     /// The most splits.
     splits: u32,
-    /// The most suppositions.
-    suppositions: u32,
 }
 
 /// What a search of so many splits found: the best order, and what suppositions or its tree show, if that is more than was known.
@@ -129,7 +127,7 @@ fn first_line(block: &Block, lines: usize) -> u32 {
 /// A search for orders of a goal, by fact lines of such orders.
 fn search_below(
     instance: &Instance<'_>,
-    below: Finder,
+    below: &Finder,
     best: Timed,
     goal: Goal,
 ) -> Result<Tried, AllocError>
@@ -148,7 +146,7 @@ fn search_below(
         instance.alloc,
         instance.block,
         instance.profile,
-        &below,
+        below,
         copy,
         limits,
     )?;
@@ -179,50 +177,62 @@ fn is_closed(instance: &Instance<'_>, below: &Finder, limit: u32) -> bool {
     !prefix.walk().is_complete() && limit <= prefix.floor()
 }
 
-/// Suppositions of orders of a goal, and if these don't show that there is none, a search for such orders. Nothing is supposed where the
-/// search has nothing to split.
+/// Takes what suppositions show of orders that take less than a limit, as many as are left. Nothing is supposed where one leaf shows that
+/// there is none.
+fn suppose(
+    instance: &Instance<'_>,
+    below: &mut Finder,
+    limit: u32,
+    left: &mut u32,
+) -> Result<(), AllocError> {
+    if !is_closed(instance, below, limit) {
+        *left = below.suppose_below(limit, *left)?;
+    }
+    Ok(())
+}
+
+/// Suppositions of orders of a goal, as many as are left, and if these don't show that there is none, a search for such orders.
 fn suppose_and_search(
     instance: &Instance<'_>,
-    below: Finder,
+    below: &mut Finder,
     best: Timed,
     goal: Goal,
+    left: &mut u32,
 ) -> Result<Tried, AllocError>
     requires { IsGood instance.now best }
     ensures best { IfOk result (λ tried. IsGood instance.now tried.best) }
     ensures splits { IfOk result (λ tried. tried.splits ≤ goal.splits) }
 {
-    let mut below = below;
-    if !is_closed(instance, &below, goal.limit) {
-        below.suppose_below(goal.limit, goal.suppositions)?;
-    }
+    suppose(instance, below, goal.limit, left)?;
     if goal.limit <= below.root().1 {
         return Ok(Tried {
             best,
             splits: 0,
             shown: Some(Shown::ByLeaf(Bound {
                 value: goal.limit,
-                finder: below,
+                finder: below.duplicate()?,
             })),
         });
     }
     search_below(instance, below, best, goal)
 }
 
-/// An order that takes no more than a bound of all, or a tree that shows one minor cycle more: by the fact lines of orders that take no
-/// more, a beam, and a search of at most so many splits.
+/// An order that takes no more than a bound of all, or what shows one minor cycle more: by the fact lines of orders that take no more, a
+/// beam, suppositions, as many as are left, and a search of at most so many splits.
 fn try_above(
     instance: &Instance<'_>,
     finder: &Finder,
     best: Timed,
     bound: u32,
     splits: u32,
+    left: &mut u32,
 ) -> Result<Tried, AllocError>
     requires { IsGood instance.now best }
     ensures best { IfOk result (λ tried. IsGood instance.now tried.best) }
     ensures splits { IfOk result (λ tried. tried.splits ≤ splits) }
 {
     let limit = bound.saturating_add(1);
-    let below = found_below(finder, limit)?;
+    let mut below = found_below(finder, limit)?;
     let other = beam_by(instance, &below, WIDE_WIDTH, limit)?;
     let best = faster(best, other);
     if best.total() <= bound {
@@ -236,18 +246,18 @@ fn try_above(
         limit,
         bound,
         splits,
-        suppositions: splits / SPLITS_A_SUPPOSITION,
     };
-    suppose_and_search(instance, below, best, goal)
+    suppose_and_search(instance, &mut below, best, goal, left)
 }
 
 /// Raises what is shown of all orders, one minor cycle after the other, each by the fact lines of orders that take less than what is to
-/// be shown, until an order takes no more, or so many more splits are made.
+/// be shown, until an order takes no more, or so many more splits are made. Pairs are supposed as long as some are left.
 fn raise(
     instance: &Instance<'_>,
     finder: &Finder,
     searched: Searched,
     most: u32,
+    suppositions: &mut u32,
 ) -> Result<Searched, AllocError>
     requires { IsGood instance.now searched.best }
     ensures best { IfOk result (λ raised. IsGood instance.now raised.best) }
@@ -265,7 +275,7 @@ fn raise(
             break;
         }
         let left = most.saturating_sub(made);
-        let tried = try_above(instance, finder, best, bound, left)?;
+        let tried = try_above(instance, finder, best, bound, left, suppositions)?;
         best = tried.best;
         made = made.saturating_add(tried.splits);
         shown = shown.or_more(tried.shown);
@@ -281,21 +291,21 @@ fn raise(
     })
 }
 
-/// Goes on from what was found, unless no order takes less: by fact lines of orders that take less, at most so many suppositions, and a
-/// search of at most so many more splits.
+/// Goes on from what was found, unless no order takes less: by fact lines of orders that take less, suppositions, as many as are left,
+/// and a search of at most so many more splits.
 fn search_lines(
     instance: &Instance<'_>,
-    lined: Lined,
+    best: Timed,
+    below: &mut Finder,
     shown: Shown,
     splits: u32,
     most: u32,
-    suppositions: u32,
+    left: &mut u32,
 ) -> Result<Searched, AllocError>
-    requires { IsGood instance.now lined.best }
+    requires { IsGood instance.now best }
     ensures best { IfOk result (λ next. IsGood instance.now next.best) }
     ensures splits { IfOk result (λ next. next.splits ≤ splits + most) }
 {
-    let Lined { best, below } = lined;
     let bound = shown.bound();
     if best.total() <= bound {
         return Ok(Searched {
@@ -308,9 +318,8 @@ fn search_lines(
         limit: best.total(),
         bound,
         splits: most,
-        suppositions,
     };
-    let tried = suppose_and_search(instance, below, best, goal)?;
+    let tried = suppose_and_search(instance, below, best, goal, left)?;
     Ok(Searched {
         best: tried.best,
         shown: shown.or_more(tried.shown),
@@ -318,15 +327,17 @@ fn search_lines(
     })
 }
 
-/// Goes on from what was found, unless no order takes less, by the fact lines of orders that take less: beams of this width, and a search
-/// of at most so many more splits.
+/// Goes on from what was found, unless no order takes less, by the fact lines of orders that take less: suppositions, as many as are left,
+/// beams of this width, and a search of at most so many more splits. What suppositions show stays known, since it is so in all faster
+/// orders too; but beams go without it, since it leads some of them to worse orders.
 fn go_on(
     instance: &Instance<'_>,
     finder: &Finder,
+    supposed: &mut Finder,
     searched: Searched,
     width: usize,
     most: u32,
-    suppositions: u32,
+    left: &mut u32,
 ) -> Result<Searched, AllocError>
     requires { IsGood instance.now searched.best }
     ensures best { IfOk result (λ next. IsGood instance.now next.best) }
@@ -340,8 +351,15 @@ fn go_on(
         shown,
         splits,
     } = searched;
-    let lined = best_by_lines(instance, finder, width, best)?;
-    search_lines(instance, lined, shown, splits, most, suppositions)
+    supposed.find_below(best.total())?;
+    suppose(instance, supposed, best.total(), left)?;
+    let best = if best.total() <= supposed.root().1 {
+        best
+    } else {
+        best_by_lines(instance, finder, width, best)?.best
+    };
+    supposed.find_below(best.total())?;
+    search_lines(instance, best, supposed, shown, splits, most, left)
 }
 
 /// The best order that is found, and what shows that none takes less, or how little less: fact lines and a leaf, or a tree of at most
@@ -360,26 +378,37 @@ pub(crate) fn search(
     let lined = best_by_lines(instance, finder, BEAM_WIDTH, best)?;
     if most < WIDE_SPLITS && SHORT_COUNT < instance.block.count() {
         let shown = Shown::ByLeaf(lined.bound()?);
-        return search_lines(instance, lined, shown, 0, most, 0);
+        let Lined { best, mut below } = lined;
+        return search_lines(instance, best, &mut below, shown, 0, most, &mut 0);
     }
     let Halved { best, below, bound } = halve(instance, lined)?;
+    let mut supposed = below.duplicate()?;
     let searched = Searched {
         best,
         shown: Shown::ByLeaf(bound),
         splits: 0,
     };
-    let few = most / SPLITS_A_SUPPOSITION;
+    let mut few = most / SPLITS_A_SUPPOSITION;
     let first = go_on(
         instance,
         &below,
+        &mut supposed,
         searched,
         WIDE_WIDTH,
         most / FIRST_SHARE,
-        few,
+        &mut few,
     )?;
     let left = most.saturating_sub(first.splits);
-    let second = go_on(instance, &below, first, WIDEST_WIDTH, left, few)?;
-    raise(instance, &below, second, most / 2)
+    let second = go_on(
+        instance,
+        &below,
+        &mut supposed,
+        first,
+        WIDEST_WIDTH,
+        left,
+        &mut few,
+    )?;
+    raise(instance, &below, second, most / 2, &mut few)
 }
 
 /// What shows that no order takes less than this one, which is known to be best: fact lines and a leaf, or a tree of at most so many
@@ -413,7 +442,6 @@ pub(crate) fn show(
         // a tree that shows less is of no use
         bound: total.saturating_sub(1),
         splits: most,
-        suppositions: 0,
     };
-    search_below(instance, below, best, goal)
+    search_below(instance, &below, best, goal)
 }

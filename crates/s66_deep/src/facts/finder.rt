@@ -39,6 +39,8 @@ pub struct Finder {
     tried: Tried,
     /// The bound for which there is nothing more to be found, if there is one.
     settled: Option<u32>,
+    /// The same by suppositions.
+    shaved: Option<u32>,
 }
 
 /// What a look for pairs came to.
@@ -151,6 +153,7 @@ impl Finder {
             ways: Ways::new(alloc),
             tried: Tried::new(alloc)?,
             settled: None,
+            shaved: None,
         })
     }
 
@@ -231,6 +234,7 @@ impl Finder {
             ways: Ways::new(self.alloc),
             tried: self.tried.duplicate(self.alloc)?,
             settled: self.settled,
+            shaved: self.shaved,
         })
     }
 
@@ -311,6 +315,7 @@ impl Finder {
         let is_taken = self.taken.take(bound, &line);
         if is_taken {
             self.settled = None;
+            self.shaved = None;
             self.forget_before(number_of(&line));
             self.found.push(Found::ByLine(line))?;
         }
@@ -323,6 +328,7 @@ impl Finder {
         let is_taken = self.taken.take_shown(m, n, supposition.lines.len());
         if is_taken {
             self.settled = None;
+            self.shaved = None;
             self.forget_before(m);
             self.found.push(Found::BySupposition(supposition))?;
         }
@@ -342,12 +348,15 @@ impl Finder {
     pub fn suppose_below(&mut self, bound: u32, most: u32) -> Result<u32, AllocError> {
         let mut left = most;
         for _round in 0..ROUNDS_LIMIT {
-            if left == 0 || self.root().1 >= bound {
+            if left == 0 || self.root().1 >= bound || self.shaved == Some(bound) {
                 break;
             }
             let count = self.found.len();
             left = self.shave(bound, left)?;
             if self.found.len() == count {
+                if left > 0 {
+                    self.shaved = Some(bound);
+                }
                 break;
             }
             self.find_below(bound)?;
