@@ -24,6 +24,9 @@ pub const FOLLOWED_LIMIT: usize = 64;
 /// How many pairs are supposed at most, as a share of the splits: it takes about as long as so many. A trial of lines counts as one more.
 pub const SPLITS_A_SUPPOSITION: u32 = 16;
 
+/// What part of these is supposed before the first search, which is short and decides many blocks.
+pub const FIRST_SUPPOSED: u32 = 4;
+
 /// How often at most it is tried which lines of a supposition are needed, before it is printed.
 pub const TRIALS_LIMIT: u32 = 1_000;
 

@@ -9,8 +9,8 @@ use crate::best_first::{Branched, Limits, branch};
 use crate::facts::Finder;
 use crate::instance::Instance;
 use crate::limits::{
-    BEAM_WIDTH, FIRST_SHARE, RAISES_LIMIT, SHORT_COUNT, SPLITS_A_SUPPOSITION, WIDE_SPLITS,
-    WIDE_WIDTH, WIDEST_WIDTH,
+    BEAM_WIDTH, FIRST_SHARE, FIRST_SUPPOSED, RAISES_LIMIT, SHORT_COUNT, SPLITS_A_SUPPOSITION,
+    WIDE_SPLITS, WIDE_WIDTH, WIDEST_WIDTH,
 };
 use crate::lines::{Bound, Halved, Lined, beam_by, best_by_lines, found_below, halve};
 use crate::orders::faster;
@@ -388,7 +388,9 @@ pub(crate) fn search(
         shown: Shown::ByLeaf(bound),
         splits: 0,
     };
-    let mut few = most / SPLITS_A_SUPPOSITION;
+    let all = most / SPLITS_A_SUPPOSITION;
+    let mut few = all / FIRST_SUPPOSED;
+    let rest = all.saturating_sub(few);
     let first = go_on(
         instance,
         &below,
@@ -398,6 +400,7 @@ pub(crate) fn search(
         most / FIRST_SHARE,
         &mut few,
     )?;
+    few = few.saturating_add(rest);
     let left = most.saturating_sub(first.splits);
     let second = go_on(
         instance,
