@@ -329,7 +329,7 @@ fn search_lines(
 
 /// Goes on from what was found, unless no order takes less, by the fact lines of orders that take less: suppositions, as many as are left,
 /// beams of this width, and a search of at most so many more splits. What suppositions show stays known, since it is so in all faster
-/// orders too; but beams go without it, since it leads some of them to worse orders.
+/// orders too. It leads a beam to better orders of some blocks, and to worse ones of others, so the widest goes without it.
 fn go_on(
     instance: &Instance<'_>,
     finder: &Finder,
@@ -355,6 +355,8 @@ fn go_on(
     suppose(instance, supposed, best.total(), left)?;
     let best = if best.total() <= supposed.root().1 {
         best
+    } else if width == WIDE_WIDTH {
+        best_by_lines(instance, supposed, width, best)?.best
     } else {
         best_by_lines(instance, finder, width, best)?.best
     };
