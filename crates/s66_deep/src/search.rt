@@ -381,7 +381,8 @@ pub(crate) fn search(
     if most < WIDE_SPLITS && SHORT_COUNT < instance.block.count() {
         let shown = Shown::ByLeaf(lined.bound()?);
         let Lined { best, mut below } = lined;
-        return search_lines(instance, best, &mut below, shown, 0, most, &mut 0);
+        let mut few = most / SPLITS_A_SUPPOSITION;
+        return search_lines(instance, best, &mut below, shown, 0, most, &mut few);
     }
     let Halved { best, below, bound } = halve(instance, lined)?;
     let mut supposed = below.duplicate()?;
