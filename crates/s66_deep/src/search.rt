@@ -328,8 +328,9 @@ fn search_lines(
 }
 
 /// Goes on from what was found, unless no order takes less, by the fact lines of orders that take less: suppositions, as many as are left,
-/// beams of this width, and a search of at most so many more splits. What suppositions show stays known, since it is so in all faster
-/// orders too. It leads a beam to better orders of some blocks, and to worse ones of others, so the widest goes without it.
+/// beams of this width, and a search of at most so many more splits. What suppositions show of orders below one time stays known for the
+/// next call; those below another time have other suppositions, so that documents have few. What they show leads a beam to better orders
+/// of some blocks, and to worse ones of others, so the widest goes without it.
 fn go_on(
     instance: &Instance<'_>,
     finder: &Finder,
@@ -351,16 +352,21 @@ fn go_on(
         shown,
         splits,
     } = searched;
-    supposed.find_below(best.total())?;
-    suppose(instance, supposed, best.total(), left)?;
-    let best = if best.total() <= supposed.root().1 {
+    let total = best.total();
+    if !supposed.is_shaved_below(total) {
+        *supposed = found_below(finder, total)?;
+    }
+    suppose(instance, supposed, total, left)?;
+    let best = if total <= supposed.root().1 {
         best
     } else if width == WIDE_WIDTH {
         best_by_lines(instance, supposed, width, best)?.best
     } else {
         best_by_lines(instance, finder, width, best)?.best
     };
-    supposed.find_below(best.total())?;
+    if best.total() < total {
+        *supposed = found_below(finder, best.total())?;
+    }
     search_lines(instance, best, supposed, shown, splits, most, left)
 }
 

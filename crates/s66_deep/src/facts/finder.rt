@@ -343,6 +343,11 @@ impl Finder {
         }
     }
 
+    /// Whether suppositions show no more of orders that take less than the bound.
+    pub fn is_shaved_below(&self, bound: u32) -> bool {
+        self.shaved == Some(bound)
+    }
+
     /// Takes pairs that suppositions show for orders that take less than the bound, and what follows from them, until nothing more is found,
     /// or a path takes the bound, or so many pairs were supposed. Returns how many more may be. `Err` is out of memory.
     pub fn suppose_below(&mut self, bound: u32, most: u32) -> Result<u32, AllocError> {
