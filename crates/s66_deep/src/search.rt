@@ -5,7 +5,7 @@
 ghost use Rattle.std.specs.Prelude.{◌≡◌, ◌≤◌, ◌+◌, ◌/◌, IfOk};
 ghost use Rattle.s66_deep.specs.Orders.{IsGood};
 
-use crate::best_first::{Branched, Limits, branch};
+use crate::best_first::{Branched, Limits, branch, is_closed};
 use crate::facts::Finder;
 use crate::instance::Instance;
 use crate::limits::{
@@ -14,7 +14,6 @@ use crate::limits::{
 };
 use crate::lines::{Bound, Halved, Lined, beam_by, best_by_lines, found_below, halve};
 use crate::orders::faster;
-use crate::walk::Prefix;
 use s66_cert::{Tree, TreeLine};
 use s66_line::Block;
 use s66_moments::FactStep;
@@ -171,12 +170,6 @@ fn search_below(
     })
 }
 
-/// Whether one leaf shows that no order takes less than a limit, by fact lines of such orders.
-fn is_closed(instance: &Instance<'_>, below: &Finder, limit: u32) -> bool {
-    let prefix = Prefix::new(instance.block, instance.profile, &below.tails());
-    !prefix.walk().is_complete() && limit <= prefix.floor()
-}
-
 /// Takes what suppositions show of orders that take less than a limit, as many as are left. Nothing is supposed where one leaf shows that
 /// there is none.
 fn suppose(
@@ -185,7 +178,7 @@ fn suppose(
     limit: u32,
     left: &mut u32,
 ) -> Result<(), AllocError> {
-    if !is_closed(instance, below, limit) {
+    if !is_closed(instance.alloc, instance.block, instance.profile, below, limit)? {
         *left = below.suppose_below(limit, *left)?;
     }
     Ok(())

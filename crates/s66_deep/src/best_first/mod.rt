@@ -15,4 +15,4 @@ mod trail;
 mod waits;
 mod writer;
 
-pub use search::{Branched, Limits, branch};
+pub use search::{Branched, Limits, branch, is_closed};

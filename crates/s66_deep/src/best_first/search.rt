@@ -296,6 +296,28 @@ impl<'a> Search<'a> {
     }
 }
 
+/// Whether one leaf shows that no order of a block takes less than a limit, by what a finder knows of such orders: then a search has
+/// nothing to split. `Err` is out of memory.
+pub fn is_closed(
+    alloc: Global,
+    block: &Block<'_>,
+    profile: &Profile,
+    finder: &Finder,
+    limit: u32,
+) -> Result<bool, AllocError> {
+    let tails = finder.tails();
+    let prefix = Prefix::new(block, profile, &tails);
+    if prefix.walk().is_complete() {
+        return Ok(false);
+    }
+    if limit <= prefix.floor() {
+        return Ok(true);
+    }
+    let instructions = Instructions::new(finder);
+    let mut loads = Loads::of(alloc, &instructions, &tails)?;
+    Ok(loads.close(&instructions, prefix.walk().clock(), limit))
+}
+
 /// Goes through the legal orders of a block under a profile that take less than a limit, the most promising prefix first, and writes the
 /// tree of why none does, or why none takes less than the fastest that it met. `best` is the fastest order so far. What the finder knows of
 /// the block is so in the orders below the limit; it stays so when a faster order is met.
