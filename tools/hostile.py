@@ -5,11 +5,11 @@
 
 Documents for `check`: each front of one, numbers of 10,000 digits, a million nodes and one more, a tree of the deepest block, trees
 of two million lines whose splits are as wide as may be, names that point to each wrong place, 362,879 leaves that name one node, and
-as many fact lines as there may be, with suppositions too; some also for `check --text`. Sources: a gigabyte of newlines, of blanks without a newline, and of
-instructions, for each subcommand but `lint`; for that a part of it, and the longest ones with many macros in each other, many places
-of a name, long sums, continuations, redefinitions and counts. What each has to answer stands beside it. None may take more than 10
-seconds of processor time, a document of fact lines no more than 30 for each megabyte that it has, or 60 with `--text`; or more than
-200 MB of address space, and a source of a gigabyte no more than 32 MB. The status is 1 if something is wrong.
+as many fact lines as there may be, with suppositions too; some also for `check --text`. Sources: a gigabyte of newlines, of blanks
+without a newline, and of instructions, for each subcommand but `lint`; for that a part of it, and the longest ones with many macros in
+each other, many places of a name, long sums, continuations, redefinitions and counts. What each has to answer stands beside it. None may
+take more than 10 seconds of processor time, a document of fact lines no more than 30 for each megabyte that it has, or 60 with `--text`;
+or more than 200 MB of address space, and a source of a gigabyte no more than 32 MB. The status is 1 if something is wrong.
 """
 import itertools
 import os

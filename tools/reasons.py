@@ -4,12 +4,12 @@
     tools/reasons.py PROGRAM [--count N] [--seed N]
 
 Certificates are those of examples/, with and without --deep, and of N random blocks, 100 unless given, under random profiles; of some of
-these others are made that have fact lines, with suppositions or without, and some have many pairs. Of each document with YES the first line must have the bound, count
-splits, and of a tree that isn't said count facts. Of one that is, each leaf must follow its prefix, whose times are worked out anew. Each
-row must have a number that follows from the row before it and from what its sentence names: the time of a result, a unit or a parcel, of
-instructions that the leaf names, with their texts. The last row has to reach the bound, or of parcels each; of a longest path it alone is
-the end, at the path's length. The last line must have the time. Each wrong thing
-is told, and the last line counts the documents. The status is 1 if something is wrong.
+these others are made that have fact lines, with suppositions or without, and some have many pairs. Of each document with YES the first
+line must have the bound, count splits, and of a tree that isn't said count facts. Of one that is, each leaf must follow its prefix, whose
+times are worked out anew. Each row must have a number that follows from the row before it and from what its sentence names: the time of a
+result, a unit or a parcel, of instructions that the leaf names, with their texts. The last row has to reach the bound, or of parcels each;
+of a longest path it alone is the end, at the path's length. The last line must have the time. Each wrong thing is told, and the last line
+counts the documents. The status is 1 if something is wrong.
 """
 import argparse
 import glob

@@ -8,11 +8,12 @@ timed. tools/certificate.py has to say YES to the document that tools/find_facts
 bound there must be no tree, and no YES to that document with the greater bound and damages. And what fact lines say for a
 greater bound, found ones and random ones, has to be so in each order that takes less: pairs, those that suppositions show too,
 the longest path between any two moments, and the values of E lines at its prefixes; and within a supposition, in each such
-order that has what is supposed. After a supposition that has to be known which is known without its lines, and its pair. To
+order that has what is supposed. After a supposition its pair has to be known, and else what is known without its lines. To
 documents with a line B or Q where none may be it has to say NO for that line. By such fact lines no L line after a beginning,
 found or random, may say more than all take that complete the beginning below the bound. Where a beginning dominates another in
 use by such fact lines, whatever completes the other below the bound has to complete it so too. With --suppositions only these
-are tried, on blocks of fewer orders, in a tenth of the time. Each fault is printed with its block. The same seed makes the same blocks.
+are tried, on blocks of fewer orders, in a tenth of the time. Each fault is printed with its block. The same seed makes the same
+blocks.
 """
 import argparse
 import collections

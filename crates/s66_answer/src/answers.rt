@@ -447,7 +447,7 @@ fn with_faster(answer: Answer, best: Timed) -> Answer
     answer
 }
 
-/// An answer by what was found beside a search that made all its splits, with so many more.
+/// An answer by what was found beside a search that made all its splits; `made` more were made for that.
 fn answer_beside(
     alloc: Global,
     block: &Block,

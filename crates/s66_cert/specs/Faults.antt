@@ -27,6 +27,7 @@ LacksDominated own head = (own ≡ BoundsAlone) × ((head ≡ EarlierNodes) ⊎ 
 abbrev pub LacksSupposition : (own head : Version) → Type 0
 LacksSupposition own head = (own ≡ FactLines) × (head ≡ Suppositions)
 
+-- a document whose lines so far make it of its own version may have the other at its head
 abbrev pub MayHead : (own head : Version) → Type 0
 MayHead own head = (head ≡ own) ⊎ LacksDominated own head ⊎ LacksSupposition own head
 
@@ -40,7 +41,7 @@ BeginsWithin most text =
     (more : List ℕ) × (ds : List Document) × (head : Version) × (d : Document) × AreDocumentsWithin BLOCK_LIMIT most ds
     × IsOpenWithin BLOCK_LIMIT most head d × (text ++ more ≡ documents_text ds ++ text_headed head d)
 
--- some text of documents begins so, with one more up to its last line; which may still lack its dominated leaf (`IsOpenWithin`)
+-- some text of documents begins so, with one more up to its last line; which may still lack what its version requires (`IsOpenWithin`)
 abbrev pub Begins : List ℕ → Type 0
 Begins text = BeginsWithin SPLIT_LIMIT text
 

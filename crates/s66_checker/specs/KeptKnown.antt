@@ -28,7 +28,7 @@ pub record AreTaken (d : Document) : Type 0 where
   pub each : are_steps_taken (problem_of d) d.bound (standing_first (problem_of d)) (facts_of d) ≡ true
   pub closed : (standing_of d).supposed ≡ None
 
--- the line of this number is the first that isn't, or that of the supposition
+-- the line of this number is the first that isn't; or all are, and on this one the supposition began that is open
 abbrev pub IsUntaken : Document → ℕ → Type 0
 IsUntaken d line =
     (later : Verdict) → facts_verdict d (fact_line_number d) 0 (standing_first (problem_of d)) (facts_of d) later ≡ No line fault.Fact

@@ -32,7 +32,7 @@ line_tree d = tree_seen (λ at. line_ending d) [] d.tree
 -- WHAT IS CLAIMED
 
 -- Its tree shows the bound: without fact lines by its rule. With them each line is founded on those before it, for orders that take less
--- than the bound, and the tree shows the bound by all. A supposition is one line, founded on those that it holds too.
+-- than the bound, and the tree shows the bound by all. A supposition counts as one line, which the lines within it show.
 abbrev pub IsShown : Document → Option (List FactStep) → Type 0
 IsShown d None = ShowsBy d.rule (problem_of d) d.bound [] d.tree
 IsShown d (Some steps) =

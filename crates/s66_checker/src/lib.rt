@@ -5,11 +5,11 @@
 //! A yes is proved to mean that what the document claims is true (`yes_law`).
 //!
 //! It goes through the order, then through the fact lines of a document of version 4 or 5, and then through the tree of the bound line
-//! by line. A fact line has to be shown by what is known before it, and in version 5 by what is supposed. A split has to go on with all instructions that are ready
-//! there. A leaf has to have a value that reaches the bound, by one of the four rules of the model, or to name a node of the tree
-//! that dominates it. Such a node is an earlier one (version 2), or is no dominated leaf itself (versions 3 to 5), so that no two
-//! rest on one another; from version 4 on it has to dominate in use only, below the bound, by what is known after all fact lines. By that a
-//! leaf may also be closed without a node.
+//! by line. A fact line has to be shown by what is known before it, and in version 5 by what is supposed. A split has to go on with all
+//! instructions that are ready there. A leaf has to have a value that reaches the bound, by one of the four rules of the model, or to
+//! name a node of the tree that dominates it. Such a node is an earlier one (version 2), or is no dominated leaf itself (versions 3 to
+//! 5), so that no two rest on one another; from version 4 on it has to dominate in use only, below the bound, by what is known after
+//! all fact lines. By that a leaf may also be closed without a node.
 //!
 //! It shares nothing with the search that made the certificate: no clock, no marks, no sets of dependences, no bounds, no ledger.
 //! So a mistake there, or in what is proved of it, doesn't come back here as a yes. It uses the table of instructions

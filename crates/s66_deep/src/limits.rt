@@ -18,10 +18,10 @@ pub const TAKES_LIMIT: u32 = 2_000;
 /// How often at most it is tried to drop lines of a supposition that is to be printed.
 pub const TRIALS_LIMIT: u32 = 1_000;
 
-/// How near to a bound some path has to come, in minor cycles, that it is supposed that one instruction stands before another.
+/// A pair is supposed only if some path then comes so near to the bound, in minor cycles.
 pub const NEAR: u32 = 10;
 
-/// How often at most it is looked for what follows from a pair, and for pairs to be supposed.
+/// In how many rounds at most pairs are supposed, and what follows from one is found.
 pub const FOLLOWED_LIMIT: usize = 64;
 
 /// How many pairs are supposed at most, as a share of the splits: it takes about as long as so many. Where one is refuted, each trial to

@@ -7,7 +7,7 @@ use Rattle.s66_facts.specs.declared.supposing.OpenSupposition.{OpenSupposition}
 use Rattle.s66_facts.specs.Marked.{before_in}
 use Rattle.s66_facts.specs.Ground.{Ground, known_of}
 
--- what is known, the supposition that is open, and how many steps were taken at most
+-- what is known, the supposition that is open, and how many fact lines were tried
 pub record Grounds : Type 0 where
   pub ground : Ground
   pub supposed : Option OpenSupposition

@@ -17,12 +17,12 @@ struct OpenSupposition {
     outer: Facts,
 }
 
-/// What is known of a block, with what is supposed.
+/// What is known of a block, with what is supposed. After a step that may not be taken only the block and its profile are sure.
 #[derive(Drop)]
 pub struct Supposing {
     facts: Facts,
     supposed: Option<OpenSupposition>,
-    /// How many steps were taken at most.
+    /// How many fact lines were tried. No more loads are known.
     steps: u32,
 }
 

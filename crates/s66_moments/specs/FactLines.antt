@@ -124,6 +124,7 @@ IsRefuted b low known = (lines : List Line) × AreFoundedByPaths b low known lin
 abbrev pub IsSupposed : Problem → ℕ → List Fact → ℕ → ℕ → Type 0
 IsSupposed b low known m n = (n ≢ m) × IsNumber b n × IsNumber b m × IsRefuted b low (Before n m ∷ known)
 
+-- a pair since what is known is refuted with its second number before its first; any other line by paths
 abbrev pub IsFounded : Problem → ℕ → List Fact → Line → Type 0
 IsFounded b low known (Supposed m n) = IsSupposed b low known m n
 IsFounded b low known line = IsFoundedByPaths b low known line

@@ -1,5 +1,5 @@
 //! Fact lines of a block, which hold for all orders or for those that take less than a bound. Nothing is promised of what is found:
-//! `Facts` takes a line only if it is right.
+//! `Facts` takes a line only if it is right, and on trust what a supposition shows: whether that is right too is for a checker to say.
 
 mod arcs;
 mod copies;

@@ -1,4 +1,5 @@
-//! A selection: which instruction stands before which, one pair more after the other, and the longest paths that follow.
+//! A selection, as of a disjunctive graph: which instruction stands before which, one pair more after the other, and the longest paths
+//! that follow.
 
 use crate::facts::arcs::{Arcs, Fan};
 use crate::facts::ground::Ground;
@@ -47,7 +48,7 @@ fn lowest(numbers: Set) -> Option<u8> {
     rest.pop_first()
 }
 
-/// One of these numbers that has none of them in its set of these.
+/// One of these numbers in whose set none of them is.
 fn first_of(sets: &[Set; BLOCK_LIMIT], numbers: Set) -> Option<u8> {
     let mut first = lowest(numbers)?;
     for _step in 0..BLOCK_LIMIT {

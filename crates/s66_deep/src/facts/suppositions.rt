@@ -215,7 +215,7 @@ impl<'a> Shaving<'a> {
         Ok(is_more)
     }
 
-    /// The same, and if that isn't enough, by what units have to do in all.
+    /// What follows if m stands before n by the pairs that it forces, and if that isn't enough, by what units have to do in all.
     fn followed_by_loads(&mut self, m: u8, n: u8) -> Result<Followed, AllocError> {
         let mut followed = self.followed(m, n)?;
         if !followed.is_refuted
