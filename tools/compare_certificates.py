@@ -270,7 +270,7 @@ class Maker:
     def change_load(self, lines):
         """Changes an L line: its minor cycle, or its numbers, to one more, one twice, one less, or two exchanged."""
         place = self.place(lines, r"L \d+( \d+)+$")
-        if not re.fullmatch(r"L \d+( \d+)+", lines[place]):
+        if not lines[place].startswith("L "):
             return self.change_leaf(lines)
         after, *numbers = map(int, lines[place].split(" ")[1:])
         block = range(1, 1 + sum(line.startswith("I ") for line in lines))

@@ -21,14 +21,13 @@ use crate::documents::{document_by, document_of, is_accepted};
 use s66_cert::{Document, Evidence, Tree};
 use s66_command::Strategy;
 use s66_deep::{Look, Looked, faster, look_at, show_best};
-use s66_dep::Order;
 use s66_isa::{BLOCK_LIMIT, Profile};
 use s66_ledger::Answer;
 use s66_line::Block;
 use s66_model::{Options, Rule};
-use s66_near::nearer;
+use s66_node::nearer;
 use s66_pool::{Free, LoneSearch, run};
-use s66_time::Timed;
+use s66_time::{Order, Timed};
 use std::alloc::{AllocError, Global};
 use std::sync::Wait;
 use std::thread::Threads;
@@ -44,7 +43,7 @@ const SHORTER_SHARE: usize = 2;
 
 /// An answer that facts show, by a document which the checker accepts.
 #[derive(Drop)]
-pub struct ByFacts {
+pub(crate) struct ByFacts {
     order: Order,
     document: Document,
     /// The total of the source order, in minor cycles.
@@ -55,7 +54,7 @@ pub struct ByFacts {
 
 /// An answer of a search.
 #[derive(Drop)]
-pub struct BySearch {
+pub(crate) struct BySearch {
     answer: Answer,
     /// How often orders were split, in this search and those beside it.
     splits: u32,
@@ -584,7 +583,7 @@ fn first_splits(block: &Block) -> u32 {
 /// are looked for, and then the search goes on, unless they show that an order is best. If documents are printed, a short one is sought.
 ///
 /// `Err` is out of memory.
-pub fn answer_alone(
+pub(crate) fn answer_alone(
     alloc: Global,
     block: &Block,
     profile: &Profile,
@@ -615,7 +614,7 @@ pub fn answer_alone(
 /// What is answered for a block under a profile by a search of its orders, which all workers share.
 ///
 /// `Err` is out of memory.
-pub fn answer_to<R: AllocGlobal + Threads + Wait + Sync>(
+pub(crate) fn answer_to<R: AllocGlobal + Threads + Wait + Sync>(
     rt: &R,
     block: &Block,
     profile: &Profile,

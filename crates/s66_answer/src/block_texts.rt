@@ -9,7 +9,7 @@ use s66_line::Block;
 use std::alloc::{AllocError, Global};
 
 /// The instructions of a block with their texts. `Err` is out of memory.
-pub fn texts_of(alloc: Global, block: &Block) -> Result<Vec<InstructionText>, AllocError>
+pub(crate) fn texts_of(alloc: Global, block: &Block) -> Result<Vec<InstructionText>, AllocError>
     ensures texts { IfOk result (λ texts. texts.items ≡ texts_of block.now) }
     ensures spelled { IfOk result (λ texts. IsSpelled block.now) }
 {

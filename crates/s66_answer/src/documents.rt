@@ -17,11 +17,11 @@ use crate::block_texts::texts_of;
 use arrayvec::ArrayVec;
 use s66_cert::{Claim, Document, Evidence, Tree};
 use s66_checker::{Verdict, verify};
-use s66_dep::Order;
 use s66_isa::{BLOCK_LIMIT, Profile};
 use s66_ledger::Answer;
 use s66_line::Block;
 use s66_model::{BUDGET_LIMIT, Rule};
+use s66_time::Order;
 use std::alloc::{AllocError, Global};
 
 /// The rule of a document with this tree: that of its dominated leaves if it has some, else `NoneNamed`.
@@ -69,7 +69,7 @@ pub fn document_of(
 }
 
 /// The document of an order of this block under this profile, with what it takes, and of what is to show a bound. `Err` is out of memory.
-pub fn document_by(
+pub(crate) fn document_by(
     alloc: Global,
     block: &Block,
     profile: &Profile,
@@ -101,7 +101,7 @@ pub fn document_by(
 }
 
 /// Whether the checker accepts a document.
-pub fn is_accepted(document: &Document) -> bool
+pub(crate) fn is_accepted(document: &Document) -> bool
     ensures { IsTrue result → IsAccepted document.now }
 {
     // so it is a document

@@ -52,26 +52,26 @@ pub trait Keep<X> {
 /// What is kept of an answer, and whether it is best.
 #[derive(Drop)]
 pub(crate) struct KeptBlock<X> {
-    pub parts: Vec<X>,
-    pub is_best: bool,
+    pub(crate) parts: Vec<X>,
+    pub(crate) is_best: bool,
 }
 
 /// What is kept of answers to blocks, one after the other, and how many of them aren't best.
 #[derive(Drop)]
 pub(crate) struct Kept<X> {
-    pub parts: Vec<X>,
-    pub bounded: usize,
+    pub(crate) parts: Vec<X>,
+    pub(crate) bounded: usize,
 }
 
 /// The searches of blocks, before which so many come, and what is kept of their answers.
 #[derive(Drop)]
 pub(crate) struct Searches<'s, 'b, K> {
-    pub alloc: Global,
-    pub what: &'s K,
-    pub before: usize,
-    pub blocks: &'s [Block<'b>],
-    pub profile: &'s Profile,
-    pub strategy: Strategy,
+    pub(crate) alloc: Global,
+    pub(crate) what: &'s K,
+    pub(crate) before: usize,
+    pub(crate) blocks: &'s [Block<'b>],
+    pub(crate) profile: &'s Profile,
+    pub(crate) strategy: Strategy,
 }
 
 /// Appends what is kept of an answer to the block at a place. Returns whether the answer is best.

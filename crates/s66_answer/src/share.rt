@@ -10,8 +10,8 @@ use std::sync::atomic::{AtomicUsize, Ordering};
 /// What a worker made for a number.
 #[derive(Drop)]
 pub(crate) struct Made<T> {
-    pub number: usize,
-    pub value: T,
+    pub(crate) number: usize,
+    pub(crate) value: T,
 }
 
 /// A worker's share: it takes the next number and makes what is asked for it, until all are taken or memory runs out.

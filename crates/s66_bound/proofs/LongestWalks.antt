@@ -6,7 +6,7 @@ use Rattle.s66_isa.proofs.Lists.{greatest-append, greatest-le, among-rising}
 use Rattle.s66_model.specs.Timing.{Problem, row_at}
 use Rattle.s66_model.specs.Leaves.{link, is_linked}
 use Rattle.s66_model.specs.Tails.{longest_tail, walk_to}
-use Rattle.s66_dep.proofs.OrderNumbers.{rising-more}
+use Rattle.s66_time.proofs.OrderNumbers.{rising-more}
 
 -- none goes on with a number that isn't later
 walk-back : (b : Problem) (n m : ℕ) → m ≤ n → walk_to b n m ≡ 0

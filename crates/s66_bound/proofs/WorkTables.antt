@@ -11,7 +11,7 @@ use Rattle.s66_model.specs.LegalOrder.{IsBeginning, sum_remaining}
 use Rattle.s66_model.specs.Leaves.{work_of}
 use Rattle.s66_model.proofs.LegalOrders.{sum_remaining-run}
 use Rattle.s66_model.proofs.PointTimes.{good-at, point_of-row}
-use Rattle.s66_dep.proofs.OrderNumbers.{rising-more}
+use Rattle.s66_time.proofs.OrderNumbers.{rising-more}
 use Rattle.s66_time.proofs.WorkOfKinds.{kinds-few}
 use Rattle.s66_bound.specs.TableWords.{HasWorks}
 

@@ -16,17 +16,17 @@ use s66_line::Block;
 
 /// What the bounds know of an instruction under a profile, worked out once. Times are in minor cycles.
 #[derive(Drop)]
-pub struct Cost {
-    pub kind: Kind,
-    pub parcels: u32,
-    pub writes: ArrayVec<Write, 2>,
+pub(crate) struct Cost {
+    pub(crate) kind: Kind,
+    pub(crate) parcels: u32,
+    pub(crate) writes: ArrayVec<Write, 2>,
     /// The registers that it reads or writes.
     pub used: Registers,
-    pub memory: Memory,
+    pub(crate) memory: Memory,
     /// For how long it takes its unit: its hold and one.
-    pub work: u32,
+    pub(crate) work: u32,
     /// The least time from its start until its unit is free and its results are done.
-    pub tail: u32,
+    pub(crate) tail: u32,
 }
 
 impl Default for Cost {
@@ -68,7 +68,7 @@ fn greatest_latency(writes: &[Write]) -> u32
 }
 
 /// What the bounds know of an instruction.
-pub fn cost_of(instr: &Instr, profile: &Profile) -> Cost
+pub(crate) fn cost_of(instr: &Instr, profile: &Profile) -> Cost
     ensures { IsCostOf (row profile.now instr.now) result }
 {
     let writes = writes_of(instr, profile);
@@ -86,7 +86,7 @@ pub fn cost_of(instr: &Instr, profile: &Profile) -> Cost
 }
 
 /// The costs of a block's instructions.
-pub fn costs_of(block: &Block<'_>, profile: &Profile) -> ArrayVec<Cost, BLOCK_LIMIT>
+pub(crate) fn costs_of(block: &Block<'_>, profile: &Profile) -> ArrayVec<Cost, BLOCK_LIMIT>
     ensures { AreCosts (timed_by block.now profile.now) result.items }
 {
     let mut costs = ArrayVec::new();
@@ -111,7 +111,7 @@ fn greatest_shared(writes: &[Write], used: &Registers) -> u32
 }
 
 /// How long a later instruction waits at least from the start of this one, 0 if they have no link.
-pub fn link(from: &Cost, to: &Cost) -> u32
+pub(crate) fn link(from: &Cost, to: &Cost) -> u32
     ensures { (r s : Row) → IsCostOf r from.now → IsCostOf s to.now → result ≡ link r s }
 {
     let shared = greatest_shared(from.writes.as_slice(), &to.used);

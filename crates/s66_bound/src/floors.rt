@@ -14,12 +14,11 @@ use crate::leaf::Leaf;
 use crate::printed::chain_numbers;
 use crate::tables::Tables;
 use crate::values::{chain_of, load_of};
-use s66_dep::Set;
 use s66_isa::KINDS;
-use s66_time::Clock;
+use s66_time::{Clock, Set};
 
 /// The floor, if something remains and the floor's value is known: the first of the bounds that has it.
-pub fn floor_of_value(
+pub(crate) fn floor_of_value(
     costs: &[Cost],
     tables: &Tables,
     clock: &Clock<'_>,

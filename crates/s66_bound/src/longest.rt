@@ -38,7 +38,7 @@ fn longest_from(costs: &[Cost], longest: &[u32; BLOCK_LIMIT], place: usize) -> u
 }
 
 /// The longest walk from each instruction of a block, in minor cycles; each pair is looked at once.
-pub fn longest_tails(costs: &[Cost]) -> [u32; BLOCK_LIMIT]
+pub(crate) fn longest_tails(costs: &[Cost]) -> [u32; BLOCK_LIMIT]
     requires few { length costs.now ≤ BLOCK_LIMIT }
     requires known { (b : Problem) × AreCosts b costs.now }
     ensures { (b : Problem) → AreCosts b costs.now → HasWords b (longest_tail b) result }

@@ -3,14 +3,14 @@
 ghost use Rattle.std.specs.Prelude.{◌≡◌, ◌-◌, ◌<◌, ◌≤◌, get_or, length};
 ghost use Rattle.s66_isa.specs.Lists.{least};
 ghost use Rattle.s66_isa.specs.declared.limits.TheConstants.{BLOCK_LIMIT};
-ghost use Rattle.s66_dep.specs.Members.{numbers_in};
+ghost use Rattle.s66_time.specs.Members.{numbers_in};
 ghost use Rattle.s66_bound.specs.LeastWords.{AreEnds};
 
-use s66_dep::Set;
 use s66_isa::BLOCK_LIMIT;
+use s66_time::Set;
 
 /// The least word of these numbers.
-pub fn least_of(words: &[u32; BLOCK_LIMIT], numbers: &Set) -> u32
+pub(crate) fn least_of(words: &[u32; BLOCK_LIMIT], numbers: &Set) -> u32
     requires { 0 < length (numbers_in numbers.now) }
     ensures { result ≡ least (λ n. get_or words.now (n - 1) 0) (numbers_in numbers.now) }
 {
@@ -23,7 +23,7 @@ pub fn least_of(words: &[u32; BLOCK_LIMIT], numbers: &Set) -> u32
 }
 
 /// Of the numbers up to a count, those of the least word.
-pub fn ends_of(words: &[u32; BLOCK_LIMIT], count: usize) -> Set
+pub(crate) fn ends_of(words: &[u32; BLOCK_LIMIT], count: usize) -> Set
     requires { count ≤ BLOCK_LIMIT }
     ensures { AreEnds words.now count result }
 {

@@ -19,39 +19,39 @@ use crate::cost::Cost;
 use crate::longest::longest_tails;
 use crate::numbers::ends_of;
 use arrayvec::ArrayVec;
-use s66_dep::{Ranking, Set};
 use s66_isa::{
     BLOCK_LIMIT, KIND_COUNT, Profile, REGISTER_COUNT, Reg, Write, is_same_register, kind_number,
 };
+use s66_time::{Ranking, Set};
 
 /// What bounds look up of the numbers of a block; the word of n is at place n - 1. Times are in minor cycles.
 #[derive(Drop)]
-pub struct Tables {
+pub(crate) struct Tables {
     /// All numbers of the block.
-    pub all: Set,
+    pub(crate) all: Set,
     /// The numbers of two parcels: what remains has as many parcels as numbers, and one more for each of these.
-    pub long: Set,
+    pub(crate) long: Set,
     /// The longest tail of each number along the links to later ones.
-    pub longest: [u32; BLOCK_LIMIT],
+    pub(crate) longest: [u32; BLOCK_LIMIT],
     /// By how much its own tail is longer than its parcels.
-    pub spare: [u32; BLOCK_LIMIT],
+    pub(crate) spare: [u32; BLOCK_LIMIT],
     /// The numbers by longest tail: rank 1 has the greatest.
-    pub by_tail: Ranking,
+    pub(crate) by_tail: Ranking,
     /// The numbers of the least spare.
-    pub ends: Set,
+    pub(crate) ends: Set,
     /// Of each kind, by its number, for how long the instructions take a unit, summed: each for its hold and one.
-    pub works: [u32; KIND_COUNT],
+    pub(crate) works: [u32; KIND_COUNT],
     /// Whether the profile has one unit of each kind of which the standard machine has one.
-    pub has_singles: bool,
+    pub(crate) has_singles: bool,
     /// The ranks of the numbers that read or write each register, by its index.
     pub users_by_rank: [Set; REGISTER_COUNT],
     /// The registers that the block writes, each once.
-    pub written: ArrayVec<Reg, REGISTER_COUNT>,
+    pub(crate) written: ArrayVec<Reg, REGISTER_COUNT>,
 }
 
 impl Tables {
     /// The tables of a block of these costs under a profile.
-    pub fn of(costs: &[Cost], profile: &Profile) -> Tables
+    pub(crate) fn of(costs: &[Cost], profile: &Profile) -> Tables
         requires few { length costs.now ≤ BLOCK_LIMIT }
         requires known { (b : Problem) × AreCosts b costs.now }
         ensures { (b : Problem) → b.profile ≡ profile.now → AreCosts b costs.now → IsTables b result }

@@ -1,7 +1,7 @@
 //! The value of each bound by the tables of the clock's block: chain, loads and parcels, and the greatest of them. All are in minor
 //! cycles.
 
-ghost use Rattle.std.specs.Prelude.{◌≡◌, ◌+◌, ◌-◌, ◌<◌, ◌≤◌, ◌^◌, Bool, true, length, max, get_or};
+ghost use Rattle.std.specs.Prelude.{◌≡◌, ◌+◌, ◌-◌, ◌<◌, ◌≤◌, ◌^◌, true, length, max, get_or};
 ghost use Rattle.s66_isa.specs.Lists.{greatest, least};
 ghost use Rattle.s66_isa.specs.Table.{all_kinds, copies_of};
 ghost use Rattle.s66_line.specs.Block.{instrs_of};
@@ -9,7 +9,7 @@ ghost use Rattle.s66_model.specs.Timing.{row_at};
 ghost use Rattle.s66_model.specs.LegalOrder.{IsBeginning, sum_remaining};
 ghost use Rattle.s66_model.specs.Leaves.{work_of, over, chain, load, parcels, floor_value};
 ghost use Rattle.s66_model.specs.Tails.{tail_remaining, chain_by};
-ghost use Rattle.s66_dep.specs.Members.{numbers_in};
+ghost use Rattle.s66_time.specs.Members.{numbers_in};
 ghost use Rattle.s66_time.specs.declared.limits.TheConstants.{COPIES_LIMIT, TOTAL_LIMIT};
 ghost use Rattle.s66_time.specs.Ticking.{problem_of};
 ghost use Rattle.s66_bound.specs.Ranks.{AreRanksLeft};
@@ -17,12 +17,11 @@ ghost use Rattle.s66_bound.specs.TableWords.{AreRemaining, HasSingles, IsTables}
 
 use crate::numbers::least_of;
 use crate::tables::Tables;
-use s66_dep::Set;
 use s66_isa::{Kind, Reg, kind_number};
-use s66_time::Clock;
+use s66_time::{Clock, Set};
 
 /// The numbers that aren't pushed.
-pub fn remaining_numbers(tables: &Tables, clock: &Clock<'_>) -> Set
+pub(crate) fn remaining_numbers(tables: &Tables, clock: &Clock<'_>) -> Set
     requires { IsTables (problem_of clock.now) tables.now }
     ensures { AreRemaining clock.now result }
 {
@@ -84,7 +83,7 @@ fn least_or_chain(tables: &Tables, clock: &Clock<'_>, ranks: &Set, least: u32) -
 }
 
 /// The greatest value of a chain.
-pub fn chain_of(tables: &Tables, clock: &Clock<'_>, rest: &Set) -> u32
+pub(crate) fn chain_of(tables: &Tables, clock: &Clock<'_>, rest: &Set) -> u32
     requires tables { IsTables (problem_of clock.now) tables.now }
     requires rest { AreRemaining clock.now rest.now }
     requires some { length clock.now.numbers < length (instrs_of clock.now.block) }
@@ -124,7 +123,7 @@ fn single_load(tables: &Tables, clock: &Clock<'_>, kind: Kind) -> u32
 }
 
 /// The load of a kind of unit, also if nothing remains.
-pub fn load_of(tables: &Tables, clock: &Clock<'_>, kind: Kind) -> u32
+pub(crate) fn load_of(tables: &Tables, clock: &Clock<'_>, kind: Kind) -> u32
     requires { IsTables (problem_of clock.now) tables.now }
     ensures { result ≡ load (problem_of clock.now) clock.now.numbers kind }
 {
@@ -169,7 +168,7 @@ fn least_spare(tables: &Tables, clock: &Clock<'_>, rest: &Set) -> u32
 }
 
 /// The parcels that remain, and the least that a last number's tail is longer than its own.
-pub fn parcels_of(tables: &Tables, clock: &Clock<'_>, rest: &Set) -> u32
+pub(crate) fn parcels_of(tables: &Tables, clock: &Clock<'_>, rest: &Set) -> u32
     requires tables { IsTables (problem_of clock.now) tables.now }
     requires rest { AreRemaining clock.now rest.now }
     requires some { length clock.now.numbers < length (instrs_of clock.now.block) }
@@ -196,7 +195,7 @@ fn greatest_load_by(tables: &Tables, clock: &Clock<'_>, singles: bool) -> u32
 }
 
 /// The greatest load. The loads of single units are worked out without a look at how many there are.
-pub fn greatest_load(tables: &Tables, clock: &Clock<'_>) -> u32
+pub(crate) fn greatest_load(tables: &Tables, clock: &Clock<'_>) -> u32
     requires { IsTables (problem_of clock.now) tables.now }
     ensures { result ≡ greatest (load (problem_of clock.now) clock.now.numbers) all_kinds }
 {
@@ -209,7 +208,7 @@ pub fn greatest_load(tables: &Tables, clock: &Clock<'_>) -> u32
 }
 
 /// The greatest of the chain, the loads and the parcels; `ranks` are those of what remains.
-pub fn floor_value_of(tables: &Tables, clock: &Clock<'_>, rest: &Set, ranks: &Set) -> u32
+pub(crate) fn floor_value_of(tables: &Tables, clock: &Clock<'_>, rest: &Set, ranks: &Set) -> u32
     requires tables { IsTables (problem_of clock.now) tables.now }
     requires rest { AreRemaining clock.now rest.now }
     requires ranks { AreRanksLeft (problem_of clock.now) clock.now.numbers ranks.now }

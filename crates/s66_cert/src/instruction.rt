@@ -9,8 +9,8 @@ use std::marker::Model;
 /// The text of an instruction in what is read, with the instruction.
 #[derive(Clone, Copy)]
 pub(crate) struct ReadText<'a> {
-    pub bytes: &'a [u8],
-    pub instr: Instr,
+    pub(crate) bytes: &'a [u8],
+    pub(crate) instr: Instr,
     ghost is: { IsTextOf bytes.now instr },
 }
 

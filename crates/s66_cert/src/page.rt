@@ -5,7 +5,7 @@ ghost use Rattle.std.specs.Prelude.{◌≡◌, ◌+◌, ◌-◌, ◌^◌, ◌<�
 ghost use Rattle.s66_isa.specs.Lists.{after_blanks};
 ghost use Rattle.s66_isa.specs.declared.limits.TheConstants.{BLOCK_LIMIT};
 ghost use Rattle.s66_line.specs.declared.limits.TheConstants.{TEXT_LIMIT};
-ghost use Rattle.s66_model.specs.Tree.{AtTerminal, Vertex};
+ghost use Rattle.s66_model.specs.Tree.{AtTerminal};
 ghost use Rattle.s66_model.specs.DominatedLeaves.{LoadFrom};
 ghost use Rattle.s66_moments.specs.declared.fact_line.FactLine.TheVariants as fact;
 ghost use Rattle.s66_moments.specs.declared.fact_line.FactStep.TheVariants as step;

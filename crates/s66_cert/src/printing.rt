@@ -1,7 +1,7 @@
 //! Prints a document (`print`): its lines in order, from the version to `END`.
 
 ghost use Rattle.std.specs.Option.{option_map};
-ghost use Rattle.std.specs.Prelude.{◌≡◌, ◌-◌, ◌^◌, ◌<◌, ◌++◌, ℕ, [], codes};
+ghost use Rattle.std.specs.Prelude.{◌≡◌, ◌-◌, ◌^◌, ◌<◌, ◌++◌, [], codes};
 ghost use Rattle.s66_device.specs.Devices.{Written};
 ghost use Rattle.s66_cert.specs.Document.{document_text, instructions_text, step_lines, facts_text, tree_lines};
 ghost use Rattle.s66_cert.specs.Pages.{Printed, AreShort, opening_lines, claim_lines};

@@ -3,13 +3,12 @@
 ghost use Rattle.std.specs.Prelude.{suc, false, ◌≡◌, ◌≤◌, ◌<◌, ◌+◌, ◌-◌, ◌^◌, [], length, OnOk};
 ghost use Rattle.s66_isa.specs.declared.limits.TheConstants.{BLOCK_LIMIT};
 ghost use Rattle.s66_cert.specs.Document.{names_nodes};
-ghost use Rattle.std.specs.Option.{option_map};
 ghost use Rattle.s66_cert.specs.Fine.{IsFine};
 ghost use Rattle.s66_cert.specs.Lines.{IsLineInRange, IsVertex, Header, Profile, Block, Instruction, Time, Bound, Order, OfFact, OfTree, End};
 ghost use Rattle.s66_tree.specs.Lines.{vertex_of};
 ghost use Rattle.s66_cert.specs.DocumentParts.{AreWhole, facts_in};
 ghost use Rattle.s66_cert.specs.DocumentReader.{state, Steps, StepsEnd};
-ghost use Rattle.s66_cert.specs.Reading.{nothing, headed, first_state, is_allowed, may_dominate, is_leaf_of, has_room, takes_fact, takes_step, wants_dominated, wants_supposition, is_wanting, step_at, step, steps, whole_lines, last_bytes};
+ghost use Rattle.s66_cert.specs.Reading.{nothing, first_state, is_allowed, may_dominate, is_leaf_of, has_room, takes_fact, takes_step, wants_dominated, wants_supposition, is_wanting, step_at, step, steps, whole_lines, last_bytes};
 ghost use Rattle.s66_cert.specs.Said.{said};
 ghost use Rattle.s66_cert.specs.declared.error.CertError.TheVariants.{BadLine};
 ghost use Rattle.s66_cert.specs.declared.limits.TheConstants.{SPLIT_LIMIT};
@@ -85,19 +84,19 @@ fn has_room(facts: &Option<Vec<FactStep>>) -> bool
 #[derive(Drop)]
 pub(crate) struct Reader {
     /// How many lines were read.
-    pub lines: u64,
+    pub(crate) lines: u64,
     /// The whole documents.
-    pub documents: Vec<Document>,
+    pub(crate) documents: Vec<Document>,
     /// Which line comes next.
-    pub place: DocumentPlace,
+    pub(crate) place: DocumentPlace,
     /// The version of the open document.
-    pub version: Version,
+    pub(crate) version: Version,
     /// What its lines said.
-    pub claim: Claim,
+    pub(crate) claim: Claim,
     /// How many instructions, or trees, are still to come.
-    pub left: u64,
+    pub(crate) left: u64,
     /// How many lines of the open tree are splits.
-    pub splits: u32,
+    pub(crate) splits: u32,
 }
 
 impl Reader {

@@ -1,6 +1,6 @@
 //! Reads a text as documents (`read`), or tells its first fault: the call that others make, over `reader.rt`.
 
-ghost use Rattle.std.specs.Prelude.{ℕ, map, IfOk};
+ghost use Rattle.std.specs.Prelude.{map, IfOk};
 ghost use Rattle.s66_isa.specs.declared.limits.TheConstants.{BLOCK_LIMIT};
 ghost use Rattle.s66_cert.specs.Document.{IsText};
 ghost use Rattle.s66_cert.specs.DocumentParts.{document_of};

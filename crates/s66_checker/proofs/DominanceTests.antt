@@ -19,10 +19,10 @@ use Rattle.s66_model.specs.Dominance.{place_in_word, references_wait, stores_wai
 use Rattle.s66_model.proofs.LowRegisters.{OnlyLow, low-points}
 use Rattle.s66_cert.specs.Document.{Document}
 use Rattle.s66_checker.specs.Verdict.{problem_of}
-use Rattle.s66_replay.specs.Dominating.{are_registers_no_later, are_units_no_later, is_no_later, is_same_set, is_beginning, is_ahead, dominates_by}
-use Rattle.s66_replay.proofs.GoingTo.{goes_on-Decides}
-use Rattle.s66_replay.proofs.NoLater.{le-Decides, registers-Decides, units-Decides}
-use Rattle.s66_replay.proofs.AheadOf.{same_set-Decides}
+use Rattle.s66_checker.specs.Dominating.{are_registers_no_later, are_units_no_later, is_no_later, is_same_set, is_beginning, is_ahead, dominates_by}
+use Rattle.s66_checker.proofs.GoingTo.{goes_on-Decides}
+use Rattle.s66_checker.proofs.NoLater.{le-Decides, registers-Decides, units-Decides}
+use Rattle.s66_checker.proofs.AheadOf.{same_set-Decides}
 
 -- NO LATER
 

@@ -13,12 +13,12 @@ use Rattle.s66_model.specs.DominatedLeaves.{Ending, Bounding, Dominated, Next, T
 use Rattle.s66_model.specs.Tree.{AtTerminal}
 use Rattle.s66_cert.specs.Document.{Document, is_factual}
 use Rattle.s66_checker.specs.declared.verdict.Reason.TheVariants as fault
-use Rattle.s66_replay.specs.Dominating.{dominates_by}
+use Rattle.s66_checker.specs.Dominating.{dominates_by}
 use Rattle.s66_checker.specs.Verdict.{problem_of, is_complete, is_early_enough, is_name, dominated_fault, line_fault}
-use Rattle.s66_replay.proofs.GoingTo.{goes_on-Decides}
+use Rattle.s66_checker.proofs.GoingTo.{goes_on-Decides}
 use Rattle.s66_checker.proofs.Faultless.{passed, is_incomplete-Decides, leaf-shows}
-use Rattle.s66_replay.proofs.AheadOf.{same_set-Decides}
-use Rattle.s66_replay.proofs.Earlier.{is_earlier-Decides}
+use Rattle.s66_checker.proofs.AheadOf.{same_set-Decides}
+use Rattle.s66_checker.proofs.Earlier.{is_earlier-Decides}
 use Rattle.s66_checker.proofs.DominanceTests.{written-Decides, clamped-Decides, document-digits}
 
 -- BY A RULE

@@ -15,8 +15,8 @@ use Rattle.s66_model.proofs.LegalOrders.{order-legal, legal-order}
 use Rattle.s66_model.proofs.Beginnings.{beginning-front}
 use Rattle.s66_model.proofs.Remaining.{ready-among, step-begins}
 use Rattle.s66_checker.specs.declared.verdict.Reason.TheVariants as fault
-use Rattle.s66_replay.specs.Dominating.{is_beginning_after}
-use Rattle.s66_replay.proofs.GoingTo.{goes_on-Decides}
+use Rattle.s66_checker.specs.Dominating.{is_beginning_after}
+use Rattle.s66_checker.proofs.GoingTo.{goes_on-Decides}
 use Rattle.s66_checker.specs.Verdict.{problem_of, is_legal_order, is_walk, has_links, is_complete, is_at_its_place, leaf_fault, line_fault}
 
 -- no fault if the test fails, and none after it

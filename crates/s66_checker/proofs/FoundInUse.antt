@@ -9,10 +9,10 @@ use Rattle.s66_model.specs.Timing.{Problem, Point, next, points_of, total_of}
 use Rattle.s66_model.specs.LegalOrder.{IsBeginning, is_remaining, remaining}
 use Rattle.s66_model.specs.Dominance.{place_in_word}
 use Rattle.s66_moments.specs.Known.{Known}
-use Rattle.s66_replay.specs.Dominating.{is_beginning, is_same_set, finds_no_later, number_finds_no_later, dominates_in_use}
-use Rattle.s66_replay.proofs.GoingTo.{goes_on-Decides}
-use Rattle.s66_replay.proofs.NoLater.{le-Decides}
-use Rattle.s66_replay.proofs.NoLater.{last-left as last-of-seven}
+use Rattle.s66_checker.specs.Dominating.{is_beginning, is_same_set, finds_no_later, number_finds_no_later, dominates_in_use}
+use Rattle.s66_checker.proofs.GoingTo.{goes_on-Decides}
+use Rattle.s66_checker.proofs.NoLater.{le-Decides}
+use Rattle.s66_checker.proofs.NoLater.{last-left as last-of-seven}
 use Rattle.s66_checker.proofs.InUseTests.{remaining-Decides}
 
 pub found-stated : (count : ℕ) (xs ys : List Point) (issue start : ℕ) (r : Row) (count2 : ℕ) (xs2 ys2 : List Point) (issue2 start2 : ℕ) (r2 : Row) → count ≡ count2 → xs ≡ xs2 → ys ≡ ys2 → issue ≡ issue2 → start ≡ start2 → r ≡ r2 → finds_no_later count xs ys issue start r ≡ finds_no_later count2 xs2 ys2 issue2 start2 r2

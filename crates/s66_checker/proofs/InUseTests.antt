@@ -22,10 +22,10 @@ use Rattle.s66_moments.proofs.Turns.{turn-comes}
 use Rattle.s66_cert.specs.Document.{Document}
 use Rattle.s66_checker.specs.Verdict.{problem_of, known_of, node_on, is_complete, is_name_at, name_of, at_line_fault}
 use Rattle.s66_checker.proofs.DominanceTests.{clamped-Decides, document-digits}
-use Rattle.s66_replay.specs.Dominating.{dominates_by, is_beginning, is_same_set, finds_no_later, number_finds_no_later, dominates_in_use}
-use Rattle.s66_replay.proofs.GoingTo.{goes_on-Decides}
-use Rattle.s66_replay.proofs.NoLater.{le-Decides, places-Decides}
-use Rattle.s66_replay.proofs.AheadOf.{same_set-Decides}
+use Rattle.s66_checker.specs.Dominating.{dominates_by, is_beginning, is_same_set, finds_no_later, number_finds_no_later, dominates_in_use}
+use Rattle.s66_checker.proofs.GoingTo.{goes_on-Decides}
+use Rattle.s66_checker.proofs.NoLater.{le-Decides, places-Decides}
+use Rattle.s66_checker.proofs.AheadOf.{same_set-Decides}
 
 -- each is at most another
 every-Decides : {X : Type 0} (f g : X → ℕ) (xs : List X) → Decides (every (λ x. leb (f x) (g x)) xs) ((x : X) → Among x xs → f x ≤ g x)

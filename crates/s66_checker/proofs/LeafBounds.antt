@@ -11,10 +11,10 @@ use Rattle.s66_model.specs.Timing.{Problem, Point, row_at, copies, points_of, to
 use Rattle.s66_model.specs.LegalOrder.{is_remaining, sum_remaining}
 use Rattle.s66_model.specs.Leaves.{tail, uses, work_of, link, is_linked, head, over, load, rest_busy}
 use Rattle.s66_model.proofs.Issue.{done_of-le-total}
-use Rattle.s66_replay.specs.KeptPrefix.{TOTAL_LIMIT, AreTimed}
+use Rattle.s66_checker.specs.KeptPrefix.{TOTAL_LIMIT, AreTimed}
 use Rattle.s66_checker.specs.Verdict.{is_walk}
-use Rattle.s66_replay.proofs.Reversed.{greatest-reverse}
-use Rattle.s66_replay.proofs.KeptPoints.{latencies-le, timed-total}
+use Rattle.s66_checker.proofs.Reversed.{greatest-reverse}
+use Rattle.s66_checker.proofs.KeptPoints.{latencies-le, timed-total}
 
 pub tail-le : (r : Row) → IsInRange r → tail r ≤ 101
 tail-le r good = omega (arith, good.hold, latencies-le r good)

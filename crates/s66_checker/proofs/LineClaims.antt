@@ -17,7 +17,7 @@ use Rattle.s66_moments.proofs.KnownLines.{IsSound, next-too_late, turned-too_lat
 use Rattle.s66_moments.proofs.LoadLeaves.{loaded-closed}
 use Rattle.s66_cert.specs.Document.{Document}
 use Rattle.s66_checker.specs.declared.verdict.Reason.TheVariants as fault
-use Rattle.s66_replay.specs.Dominating.{is_beginning, is_same_set, dominates_in_use}
+use Rattle.s66_checker.specs.Dominating.{is_beginning, is_same_set, dominates_in_use}
 use Rattle.s66_checker.specs.Verdict.{problem_of, known_of, node_on, is_complete, is_name_at, name_of, at_line_fault, next_fault, turned_fault, load_from_fault, line_fault}
 use Rattle.s66_checker.specs.KeptKnown.{AreTaken}
 use Rattle.s66_checker.specs.TrueClaims.{line_ending, line_tree}

@@ -14,14 +14,14 @@ use Rattle.s66_model.proofs.Remaining.{filter-among}
 use Rattle.s66_moments.proofs.Tails.{split-among}
 use Rattle.s66_moments.specs.LineTrees.{LineEnding, is_closed}
 use Rattle.s66_cert.specs.Document.{Document, siblings_placed, tree_placed}
-use Rattle.s66_replay.specs.Dominating.{is_beginning, is_same_set}
+use Rattle.s66_checker.specs.Dominating.{is_beginning, is_same_set}
 use Rattle.s66_checker.specs.Verdict.{problem_of, tree_line_number, node_on, is_name_at}
 use Rattle.s66_isa.specs.declared.limits.TheConstants.{BLOCK_LIMIT}
 use Rattle.s66_cert.specs.NodePlaces.{IsLineAt}
 use Rattle.s66_checker.specs.NamedNodes.{IsNodeOn}
 use Rattle.s66_checker.specs.TrueClaims.{line_ending, line_tree}
-use Rattle.s66_replay.proofs.GoingTo.{goes_on-Decides}
-use Rattle.s66_replay.proofs.ReadyByNeeds.{beginning-few}
+use Rattle.s66_checker.proofs.GoingTo.{goes_on-Decides}
+use Rattle.s66_checker.proofs.ReadyByNeeds.{beginning-few}
 
 -- WHICH NODES MAY BE NAMED
 

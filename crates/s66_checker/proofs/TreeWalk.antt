@@ -14,7 +14,7 @@ use Rattle.s66_cert.specs.Document.{Document, tree_placed}
 use Rattle.s66_cert.specs.DocumentParts.{Parts, AreWhole, document_of}
 use Rattle.s66_cert.specs.declared.limits.TheConstants.{SPLIT_LIMIT, FACT_LIMIT}
 use Rattle.s66_isa.specs.declared.limits.TheConstants.{BLOCK_LIMIT}
-use Rattle.s66_replay.specs.Checked.{Checked}
+use Rattle.s66_checker.specs.Checked.{Checked}
 use Rattle.s66_checker.specs.declared.verdict.Verdict.TheVariants.{Yes, No}
 use Rattle.s66_checker.specs.declared.verdict.Reason.{Reason}
 use Rattle.s66_line.specs.InstructionText.{instr_in_text}

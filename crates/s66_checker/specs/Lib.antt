@@ -1,3 +1,7 @@
+pub mod Dominating
+pub mod Checked
+pub mod KeptPrefix
+pub mod PastWords
 pub mod Reasons
 pub mod Verdict
 pub mod TrueClaims

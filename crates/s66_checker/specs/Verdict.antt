@@ -21,7 +21,7 @@ use Rattle.s66_checker.specs.declared.verdict.Verdict.{Verdict}
 use Rattle.s66_checker.specs.declared.verdict.Verdict.TheVariants.{Yes, No}
 use Rattle.s66_checker.specs.declared.verdict.Reason.{Reason}
 use Rattle.s66_checker.specs.declared.verdict.Reason.TheVariants as fault
-use Rattle.s66_replay.specs.Dominating.{is_beginning, is_same_set, is_earlier, dominates_by, dominates_in_use}
+use Rattle.s66_checker.specs.Dominating.{is_beginning, is_same_set, is_earlier, dominates_by, dominates_in_use}
 
 -- ITS BLOCK, under its own profile
 

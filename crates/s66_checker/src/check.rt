@@ -12,12 +12,12 @@ ghost use Rattle.s66_checker.specs.TrueClaims.{IsTrueClaim};
 ghost use Rattle.s66_checker.specs.declared.verdict.Verdict.TheVariants.{Yes};
 
 use crate::known::Known;
+use crate::replay::Prefix;
 use crate::verdict::{Reason, Verdict};
 use crate::walk::tree_verdict;
 use arrayvec::ArrayVec;
 use s66_cert::{Document, InstructionText};
 use s66_isa::{BLOCK_LIMIT, Instr, PROFILE_LENGTH, Profile};
-use s66_replay::Prefix;
 
 /// A document's profile.
 pub fn profile_of(document: &Document) -> Profile

@@ -19,7 +19,7 @@ ghost use Rattle.s66_cert.specs.Examples.{after_one, with_times, with_order, wit
 ghost use Rattle.s66_checker.specs.declared.verdict.Verdict.TheVariants.{Yes, No};
 ghost use Rattle.s66_checker.specs.declared.verdict.Reason.TheVariants as fault;
 ghost use Rattle.s66_checker.specs.Verdict.{verdict};
-ghost use Rattle.s66_replay.specs.Dominating.{dominates_by, dominates_in_use};
+ghost use Rattle.s66_checker.specs.Dominating.{dominates_by, dominates_in_use};
 ghost use Rattle.s66_checker.specs.Examples.{refused_order, slow_one_load, multiplies_at_once, load_and_multiplies, multiplies_split, second_line, third_line, last_leaf, late_naming, late_order, late_misplaced, increments, four_increments, three_sums, two_sums, first_of_two, after_pair, at_the_end, booleans_between, increments_named, booleans_left, one_is_added, waits_for_the_product, before_their_writers, multiplies_left, booleans_named, waits_for_the_unit, waits_for_x1, two_parcels_beside, three_adds};
 
 /// Verdicts on the worked documents: a leaf of each kind, and whole orders alone.

@@ -17,11 +17,11 @@ use crate::known::Known;
 use crate::leaf::{chain_value, load, parcels, ready};
 use crate::loaded::is_loaded;
 use crate::name::{is_name, is_name_at};
+use crate::replay::Prefix;
 use crate::verdict::Reason;
 use s66_cert::{Document, TreeLine};
 use s66_isa::Kind;
 use s66_model::Rule;
-use s66_replay::Prefix;
 
 /// What is wrong with a line of a document's tree at the prefix, if anything is. A leaf's value has to reach the bound, and
 /// the node that a dominated leaf names has to dominate; a leaf by facts has to be right by what is known after all fact lines.

@@ -6,11 +6,11 @@ ghost use Rattle.s66_isa.specs.declared.limits.TheConstants.{BLOCK_LIMIT};
 ghost use Rattle.s66_model.specs.Timing.{row_at};
 ghost use Rattle.s66_model.specs.LegalOrder.{is_remaining, sum_remaining};
 ghost use Rattle.s66_facts.specs.Ground.{known_of as known_in};
-ghost use Rattle.s66_replay.specs.Dominating.{number_finds_no_later, dominates_in_use};
+ghost use Rattle.s66_checker.specs.Dominating.{number_finds_no_later, dominates_in_use};
 
 use crate::known::Known;
 use crate::links::own_parcels;
-use s66_replay::{Prefix, finds_no_later, next, next_parcel};
+use crate::replay::{Prefix, finds_no_later, next, next_parcel};
 
 /// The parcels of a number that is known to stand before another, 0 if it isn't.
 fn parcels_if_before(prefix: &Prefix, known: &Known, m: u8, n: u8) -> u32

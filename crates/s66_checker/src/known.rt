@@ -10,10 +10,10 @@ ghost use Rattle.s66_facts.specs.Supposing.{standing_in};
 ghost use Rattle.s66_checker.specs.Verdict.{problem_of, facts_of, begun_by};
 ghost use Rattle.s66_checker.specs.KeptKnown.{KnowsAll, AreTaken, IsUntaken, is_reached, is_result_late, is_point_late};
 
+use crate::replay::{KeptPoint, Prefix};
 use s66_cert::{Document, FactStep};
 use s66_facts::{Facts, Supposing, Times, times_at};
 use s66_isa::{BLOCK_LIMIT, Instr, Profile, Write};
-use s66_replay::{KeptPoint, Prefix};
 use std::marker::Model;
 
 /// The fact lines of a document, with the suppositions among them; none in versions 1 to 3.

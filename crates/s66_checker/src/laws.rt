@@ -14,7 +14,7 @@ ghost use Rattle.s66_moments.specs.FactLines.{facts_after};
 ghost use Rattle.s66_moments.specs.InUse.{DominatesInUse};
 ghost use Rattle.s66_moments.specs.Known.{Known};
 ghost use Rattle.s66_moments.specs.Suppositions.{standing_first, standing_after, are_steps_taken, shown_by_all};
-ghost use Rattle.s66_replay.specs.Dominating.{dominates_by, dominates_in_use};
+ghost use Rattle.s66_checker.specs.Dominating.{dominates_by, dominates_in_use};
 ghost use Rattle.s66_checker.specs.TrueClaims.{IsTrueClaim};
 
 /// If the verdict on a document is yes, with its time and its bound, what it claims is true; without fact lines it is yes exactly

@@ -1,22 +1,22 @@
 //! Values of leaves, in minor cycles, and the numbers that are ready.
 //! The leaves are the four bounds without facts: a whole order, a chain, a load, and parcels.
 
-ghost use Rattle.std.specs.Prelude.{ℕ, ◌≡◌, ◌+◌, ◌-◌, ◌*◌, ◌≤◌, ◌<◌, ◌^◌, ◌&&◌, nat_lt, true, length, IfSome};
+ghost use Rattle.std.specs.Prelude.{◌≡◌, ◌+◌, ◌-◌, ◌*◌, ◌≤◌, ◌<◌, ◌^◌, ◌&&◌, nat_lt, true, length, IfSome};
 ghost use Rattle.s66_isa.specs.declared.limits.TheConstants.{BLOCK_LIMIT};
 ghost use Rattle.std.specs.Option.{is_some};
 ghost use Rattle.s66_model.specs.Timing.{points_of, row_at, next};
 ghost use Rattle.s66_model.specs.LegalOrder.{is_remaining, ready, sum_remaining};
 ghost use Rattle.s66_model.specs.Leaves.{Chain, head, link, is_linked, walk, work_of, over, if_last, parcels, load, chain_value};
-ghost use Rattle.s66_replay.specs.KeptPrefix.{TOTAL_LIMIT};
+ghost use Rattle.s66_checker.specs.KeptPrefix.{TOTAL_LIMIT};
 ghost use Rattle.s66_checker.specs.Verdict.{has_links, is_walk};
 
 use crate::links::{link, own_parcels, tail, work};
+use crate::replay::{Numbers, Prefix, next, registers_done, rest_busy, writes_done};
 use arrayvec::ArrayVec;
 use s66_isa::Kind;
-use s66_replay::{Numbers, Prefix, next, registers_done, rest_busy, writes_done};
 
 /// What is ready after the prefix, rising: one look at a word for each number of the block.
-pub fn ready(prefix: &Prefix) -> Numbers
+pub(crate) fn ready(prefix: &Prefix) -> Numbers
     ensures { result.items ≡ ready prefix.now.problem.block prefix.now.numbers }
 {
     let mut ready = ArrayVec::new();
@@ -57,7 +57,7 @@ fn if_last(prefix: &Prefix, slot: u32, parcels: u32, n: u8) -> u32
 }
 
 /// The parcels that remain after the next slot, and the least tail after them.
-pub fn parcels(prefix: &Prefix) -> u32
+pub(crate) fn parcels(prefix: &Prefix) -> u32
     ensures { result ≡ parcels prefix.now.problem prefix.now.numbers }
 {
     let slot = next(prefix.points());
@@ -161,7 +161,7 @@ fn walk(prefix: &Prefix, n: u8, later: &[u8]) -> Option<u32>
 }
 
 /// The value of a chain; None if one of its numbers doesn't remain, or neighbours have no link.
-pub fn chain_value(prefix: &Prefix, numbers: &[u8]) -> Option<u32>
+pub(crate) fn chain_value(prefix: &Prefix, numbers: &[u8]) -> Option<u32>
     requires { length prefix.now.problem.block ≤ BLOCK_LIMIT }
     ensures links { is_some result ≡ has_links prefix.now.problem prefix.now.numbers (Chain numbers.now) }
     ensures value { IfSome result (λ value. value ≡ chain_value prefix.now.problem prefix.now.numbers numbers.now) }

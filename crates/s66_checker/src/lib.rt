@@ -13,7 +13,7 @@
 //!
 //! It shares nothing with the search that made the certificate: no clock, no marks, no sets of dependences, no bounds, no ledger.
 //! So a mistake there, or in what is proved of it, doesn't come back here as a yes. It uses the table of instructions
-//! (`s66_isa`), the definitions of the model (`s66_model`), beginnings of orders that are worked out anew (`s66_replay`), what fact
+//! (`s66_isa`), the definitions of the model (`s66_model`), beginnings of orders that are worked out anew (`replay/`), what fact
 //! lines give of a block (`s66_moments`, `s66_facts`), and documents, their trees and their texts (`s66_cert`, `s66_tree`,
 //! `s66_line`). It allocates nothing.
 //!
@@ -38,6 +38,7 @@ mod leaf;
 mod links;
 mod loaded;
 mod name;
+mod replay;
 mod verdict;
 mod walk;
 
@@ -52,4 +53,5 @@ pub use laws::{dominating_law, yes_law};
 pub use leaf::{head, load, remaining_parcels, remaining_work};
 pub use links::{link, own_parcels, tail, uses};
 pub use loaded::{amounts, use_time};
+pub use replay::{KeptPoint, Prefix, next, rest_busy};
 pub use verdict::{Reason, Verdict};

@@ -35,7 +35,7 @@ pub fn own_parcels(row: &Row) -> u32
 }
 
 /// For how long an instruction takes a unit of the kind.
-pub fn work(row: &Row, kind: Kind) -> u32
+pub(crate) fn work(row: &Row, kind: Kind) -> u32
     ensures { result ≡ work_of kind row.now }
 {
     if is_same_kind(row.kind, kind) {

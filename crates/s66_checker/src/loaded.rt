@@ -3,7 +3,7 @@
 //! It is energetic reasoning below a prefix: from a minor cycle on at the soonest these instructions use units of one kind, for so long
 //! in sum, and after any of them so much is left; so each order that begins with the prefix takes the bound at least.
 
-ghost use Rattle.std.specs.Prelude.{◌≡◌, ◌≤◌, ◌<◌, ◌+◌, ◌*◌, ◌^◌, ◌&&◌, Some, true, nat_le, length, map};
+ghost use Rattle.std.specs.Prelude.{◌≡◌, ◌≤◌, ◌<◌, ◌+◌, ◌*◌, ◌&&◌, Some, true, nat_le, length, map};
 ghost use Rattle.s66_isa.specs.declared.limits.TheConstants.{BLOCK_LIMIT};
 ghost use Rattle.s66_isa.specs.Lists.{every, least, weigh};
 ghost use Rattle.s66_model.specs.Timing.{row_at};
@@ -14,9 +14,9 @@ ghost use Rattle.s66_facts.specs.Ground.{known_of as known_in};
 
 use crate::known::Known;
 use crate::leaf::over;
+use crate::replay::Prefix;
 use s66_facts::are_rising;
 use s66_isa::{Kind, is_same_kind};
-use s66_replay::Prefix;
 
 /// Whether each of these numbers remains.
 fn are_remaining(prefix: &Prefix, numbers: &[u8]) -> bool

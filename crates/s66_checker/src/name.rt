@@ -10,11 +10,11 @@ ghost use Rattle.s66_checker.specs.Verdict.{problem_of, is_early_enough, is_name
 ghost use Rattle.s66_checker.specs.NamedNodes.{IsNodeOn};
 
 use crate::known::fact_lines;
+use crate::replay::Prefix;
 use arrayvec::ArrayVec;
 use s66_cert::{Document, TreeLine};
 use s66_isa::BLOCK_LIMIT;
 use s66_model::Rule;
-use s66_replay::Prefix;
 
 /// Whether the node of this line is no dominated leaf.
 fn is_standing(line: TreeLine<'_>) -> bool
@@ -49,7 +49,7 @@ fn is_early_enough(prefix: &Prefix, rule: Rule, name: &[u8]) -> bool
 
 /// Whether a dominated leaf at the prefix may have this name. It has to be that of a node which the rule lets be named, and the
 /// beginning of a legal order of the same numbers. The other prefix is then there, and else anywhere.
-pub fn is_name(prefix: &Prefix, named: &mut Prefix, document: &Document, name: &[u8]) -> bool
+pub(crate) fn is_name(prefix: &Prefix, named: &mut Prefix, document: &Document, name: &[u8]) -> bool
     requires problem { prefix.now.problem ≡ problem_of (document_of document.now) }
     requires same { named.old.problem ≡ prefix.now.problem }
     ensures value { result ≡ is_name (document_of document.now) prefix.now.numbers name.now }
@@ -86,7 +86,12 @@ fn node_on<'a>(
 }
 
 /// The same of the node of a line of the document.
-pub fn is_name_at(prefix: &Prefix, named: &mut Prefix, document: &Document, line: u32) -> bool
+pub(crate) fn is_name_at(
+    prefix: &Prefix,
+    named: &mut Prefix,
+    document: &Document,
+    line: u32,
+) -> bool
     requires problem { prefix.now.problem ≡ problem_of (document_of document.now) }
     requires same { named.old.problem ≡ prefix.now.problem }
     ensures value { result ≡

@@ -11,9 +11,9 @@ ghost use Rattle.s66_checker.specs.Walk.{coming, coming_after, HasReady};
 
 use crate::fault::line_fault;
 use crate::known::{Known, fact_lines};
+use crate::replay::Prefix;
 use crate::verdict::Verdict;
 use s66_cert::{Document, TreeLine};
-use s66_replay::Prefix;
 
 /// The least number above another that is ready after the prefix: one look at a word for each number above it.
 fn next_ready(prefix: &Prefix, n: u8) -> Option<u8>

@@ -1,6 +1,6 @@
 -- The first number of a block that passes a test, for what a search for a partner or for a missing instruction finds.
-use Rattle.std.proofs.Common.{ℕ, zero, suc, ◌+◌, ◌-◌, ◌≡◌, ◌≢◌, ◌≤◌, ◌<◌, ◌∙◌, Bool, true, false, if◌then◌else◌, List, [], ◌∷◌, refl, ap, sym, arith, inl, inr}
-use Rattle.std.proofs.lemmas.Bool.{cases_Bool, cases_eq}
+use Rattle.std.proofs.Common.{ℕ, zero, suc, ◌+◌, ◌-◌, ◌≡◌, ◌≢◌, ◌≤◌, ◌<◌, ◌∙◌, Bool, true, false, if◌then◌else◌, [], ◌∷◌, refl, ap, sym, arith, inl, inr}
+use Rattle.std.proofs.lemmas.Bool.{cases_eq}
 use Rattle.s66_isa.specs.Lists.{first_that, rising}
 
 pub rising_next : (n i : ℕ) → i < n → rising (n - i) (i + 1) ≡ (i + 1) ∷ rising (n - (i + 1)) (i + 1 + 1)

@@ -1,10 +1,10 @@
 -- A block whose instructions all have their partners, and in whose order nothing is missing, is the old one in a legal order.
-use Rattle.std.proofs.Common.{ℕ, suc, ◌+◌, ◌≡◌, ◌≢◌, ◌≤◌, ◌<◌, ◌∙◌, Bool, true, false, true≢false, ◌&&◌, not, if◌then◌else◌, List, [], ◌∷◌, ◌++◌, length, map, refl, ap, ap₂, sym, subst, arith, inl, inr, append_assoc, eqb}
+use Rattle.std.proofs.Common.{ℕ, ◌+◌, ◌≡◌, ◌≢◌, ◌≤◌, ◌∙◌, Bool, true, false, true≢false, ◌&&◌, not, if◌then◌else◌, List, [], ◌∷◌, ◌++◌, length, map, refl, ap, ap₂, sym, subst, arith, inl, inr, append_assoc, eqb}
 use Rattle.std.specs.Prelude.{◌==◌, bytes_eq, nat_lt}
 use Rattle.std.proofs.lemmas.Bool.{and_parts, cases_Bool, eqb-true, ltb-false, not-true}
 use Rattle.std.proofs.lemmas.List.{append-nil, length-map}
 use Rattle.std.proofs.lemmas.Slice.Eq.{bytes_eq-Decides}
-use Rattle.s66_isa.specs.Lists.{first_that, has, rising}
+use Rattle.s66_isa.specs.Lists.{has}
 use Rattle.s66_isa.specs.Table.{numbers}
 use Rattle.s66_isa.specs.declared.instr.Instr.{Instr}
 use Rattle.s66_line.specs.Block.{Block, instrs_of, line_of, whole_text_of}

@@ -2,4 +2,4 @@
 
 /// The most pairs of an old block and a new one, between the beginning and the end that two sources have in common, for which blocks are
 /// aligned. Beyond it they are paired by number.
-pub const ALIGNED_PAIRS_LIMIT: usize = 1_000_000;
+pub(crate) const ALIGNED_PAIRS_LIMIT: usize = 1_000_000;

@@ -8,10 +8,9 @@ ghost use Rattle.s66_compare.specs.Rows.{AreAligned, AreOfBlocks, both, is_legal
 
 use crate::alignment::{Step, align};
 use crate::verdict::{Judged, judge};
-use s66_dep::Order;
 use s66_isa::Profile;
 use s66_line::Block;
-use s66_time::Timer;
+use s66_time::{Order, Timer};
 use std::alloc::{AllocError, Global};
 
 /// What is printed of a block as it was written.

@@ -8,9 +8,9 @@ ghost use Rattle.s66_compare.specs.Verdict.{by_order, first_missing, is_missing,
 
 use crate::pairing::{first_left, is_among, paired};
 use arrayvec::ArrayVec;
-use s66_dep::{Order, depends};
 use s66_isa::BLOCK_LIMIT;
 use s66_line::Block;
+use s66_time::{Order, depends};
 use std::marker::Model;
 
 /// What a new block is beside an old one. Numbers are those of the old one's instructions.

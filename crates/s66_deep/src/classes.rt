@@ -3,16 +3,16 @@
 
 ghost use Rattle.std.specs.Prelude.{◌≤◌, length};
 ghost use Rattle.s66_isa.specs.declared.limits.TheConstants.{BLOCK_LIMIT};
-ghost use Rattle.s66_dep.specs.Ranks.{AreUpTo};
+ghost use Rattle.s66_time.specs.Ranks.{AreUpTo};
 
-use s66_dep::Set;
 use s66_isa::{
     Kind, Memory, REGISTER_COUNT, Reg, Row, Write, has_register, is_same_kind, is_same_register,
 };
+use s66_time::Set;
 
 /// What an instruction does with a register.
 #[derive(Clone, Copy)]
-pub enum Role {
+pub(crate) enum Role {
     Writes,
     Reads,
     /// Its first result is in it.
@@ -23,7 +23,7 @@ pub enum Role {
 
 /// Instructions that wait for one word of a clock.
 #[derive(Clone, Copy)]
-pub enum Class {
+pub(crate) enum Class {
     /// Those of two parcels, for their slot.
     Long,
     /// For a unit of a kind.
@@ -37,7 +37,7 @@ pub enum Class {
 }
 
 /// Whether one of the results is in the register.
-pub fn is_written(writes: &[Write], register: Reg) -> bool {
+pub(crate) fn is_written(writes: &[Write], register: Reg) -> bool {
     for write in writes {
         if is_same_register(write.reg, register) {
             return true;
@@ -102,7 +102,7 @@ fn is_store(memory: Memory) -> bool {
 }
 
 /// The numbers of a class.
-pub fn those_of(rows: &[Row], class: &Class) -> Set
+pub(crate) fn those_of(rows: &[Row], class: &Class) -> Set
     requires { length rows.now ≤ BLOCK_LIMIT }
     ensures { AreUpTo (length rows.now) result }
 {
@@ -116,7 +116,7 @@ pub fn those_of(rows: &[Row], class: &Class) -> Set
 }
 
 /// The numbers that have a role with each register, by its index.
-pub fn users_of(rows: &[Row], role: Role) -> [Set; REGISTER_COUNT]
+pub(crate) fn users_of(rows: &[Row], role: Role) -> [Set; REGISTER_COUNT]
     requires { length rows.now ≤ BLOCK_LIMIT }
 {
     let mut users = [Set::empty(); REGISTER_COUNT];

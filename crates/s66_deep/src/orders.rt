@@ -7,10 +7,9 @@ ghost use Rattle.s66_line.specs.Block.{instrs_of};
 ghost use Rattle.s66_model.specs.Timing.{Problem, total_of};
 ghost use Rattle.s66_deep.specs.Orders.{IsGood};
 
-use s66_dep::Order;
 use s66_isa::Profile;
 use s66_line::Block;
-use s66_time::{Timed, time_of};
+use s66_time::{Order, Timed, time_of};
 
 /// The source order.
 pub(crate) fn source_order(block: &Block, profile: &Profile) -> Timed

@@ -2,7 +2,7 @@
 //! Searches seek orders below the best time, with wider beams between them; then what they show is raised a minor cycle at a time, each
 //! time by the lines and the tree of a search for orders that take less.
 
-ghost use Rattle.std.specs.Prelude.{◌≡◌, ◌≤◌, ◌+◌, ◌/◌, IfOk};
+ghost use Rattle.std.specs.Prelude.{◌≤◌, ◌+◌, ◌/◌, IfOk};
 ghost use Rattle.s66_deep.specs.Orders.{IsGood};
 
 use crate::best_first::{Branched, Limits, branch, root_leaf};

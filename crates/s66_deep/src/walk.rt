@@ -3,11 +3,10 @@
 ghost use Rattle.std.specs.Prelude.{◌≡◌};
 
 use crate::floors::{Left, PathBounds, Tails};
-use s66_dep::Set;
 use s66_isa::{BLOCK_LIMIT, KINDS, Kind, Profile};
 use s66_line::Block;
 use s66_node::Walk;
-use s66_time::Timed;
+use s66_time::{Set, Timed};
 use s66_tree::TreeLine;
 use std::marker::Model;
 

@@ -3,7 +3,7 @@
 
 /// How long some instructions have units of one kind, in minor cycles.
 #[derive(Clone, Copy, Default)]
-pub struct Work {
+pub(crate) struct Work {
     count: u32,
     sum: u32,
     least: u32,
@@ -27,7 +27,7 @@ fn are_far(sum: i64, last: u32, copies: u32, than: i64) -> bool {
 
 impl Work {
     /// The same with one more.
-    pub fn with(&self, amount: u32) -> Work {
+    pub(crate) fn with(&self, amount: u32) -> Work {
         Work {
             count: self.count.saturating_add(1),
             sum: self.sum.saturating_add(amount),
@@ -40,22 +40,22 @@ impl Work {
     }
 
     /// How long so many units have work by all of them at least, if each is one unit's.
-    pub fn time(&self, copies: u32) -> u32 {
+    pub(crate) fn time(&self, copies: u32) -> u32 {
         over(self.sum, copies).max(over(self.count, copies).saturating_mul(self.least))
     }
 
     /// No less than they have by any of them.
-    pub fn longest_time(&self, copies: u32) -> u32 {
+    pub(crate) fn longest_time(&self, copies: u32) -> u32 {
         over(self.sum, copies).max(over(self.count, copies).saturating_mul(self.greatest))
     }
 
     /// Whether `time` is more than this. Mostly it is far from that, which shows without a division.
-    pub fn takes_longer(&self, copies: u32, than: i64) -> bool {
+    pub(crate) fn takes_longer(&self, copies: u32, than: i64) -> bool {
         !are_far(self.sum as i64, self.least, copies, than) && self.time(copies) as i64 > than
     }
 
     /// Whether `longest_time` is more than this. Mostly it is far from that, which shows without a division.
-    pub fn may_take_longer(&self, copies: u32, than: i64) -> bool {
+    pub(crate) fn may_take_longer(&self, copies: u32, than: i64) -> bool {
         let most = (self.count as i64).saturating_mul(self.greatest as i64);
         !are_far(most, self.greatest, copies, than) && self.longest_time(copies) as i64 > than
     }

@@ -1,4 +1,4 @@
-//! A set of a block's instruction numbers, as one word of 128 bits. `Set` of `s66_dep` is another, for those that search.
+//! A set of a block's instruction numbers, as one word of 128 bits. `Set` of `s66_time` is another, for those that search.
 
 ghost use Rattle.std.specs.Prelude.{ℕ, ◌-◌, ◌≡◌, ◌≤◌, ◌<◌, ◌==◌, ◌||◌, ◌&&◌, not, ◌↔◌, IsTrue, IfSome, IfNone, true, false, length, get_or};
 ghost use Rattle.s66_isa.specs.declared.limits.TheConstants.{BLOCK_LIMIT};

@@ -1,5 +1,5 @@
 -- The lowest bit of a word, the word without it, and the first of the rising numbers that pass a test.
-use Rattle.std.proofs.Common.{ℕ, zero, suc, ◌+◌, ◌-◌, ◌/◌, ◌%◌, ◌^◌, ◌≤◌, ◌<◌, ◌≡◌, Bool, true, false, [], ◌∷◌, filter, bit_and, sym, ap, ◌∙◌, inl, inr, arith}
+use Rattle.std.proofs.Common.{ℕ, zero, suc, ◌+◌, ◌-◌, ◌/◌, ◌%◌, ◌^◌, ◌≤◌, ◌<◌, ◌≡◌, Bool, true, false, ◌∷◌, filter, bit_and, sym, ap, ◌∙◌, inl, inr, arith}
 use mir.Val.{bits}
 use Rattle.std.specs.Int.{Width, bit_at, trailing_zeros}
 use Rattle.std.proofs.lemmas.Bool.{cases_eq}

@@ -1,5 +1,5 @@
 -- The registers in a set, the bits of its word, and a word for each register.
-use Rattle.std.proofs.Common.{ℕ, zero, suc, ◌*◌, ◌/◌, ◌%◌, ◌^◌, ◌≤◌, ◌<◌, ◌≡◌, ◌≢◌, Bool, true, false, not, ◌&&◌, ◌||◌, ◌==◌, List, [], ◌∷◌, filter, bit_and, bit_or, w32, eqb-true, eq-eqb, ne_eqb, true≢false, leb, cond, max, length, set, refl, sym, ap, ◌∙◌, inl, inr, arith}
+use Rattle.std.proofs.Common.{ℕ, ◌*◌, ◌%◌, ◌^◌, ◌≤◌, ◌<◌, ◌≡◌, ◌≢◌, Bool, true, false, not, ◌&&◌, ◌||◌, ◌==◌, List, [], ◌∷◌, filter, bit_and, bit_or, w32, eqb-true, eq-eqb, ne_eqb, true≢false, leb, cond, max, length, set, refl, sym, ap, ◌∙◌, inl, inr, arith}
 use Rattle.std.specs.Int.{bit_at, trailing_zeros}
 use Rattle.std.proofs.lemmas.Nat.{or_lt, pow_below, and_le_l}
 use Rattle.std.proofs.lemmas.Bool.{cases_eq, cases_lt, cases_Bool, false_from_ne_true, or_from, or_cases, or_left, or_right, and_from, and_left, and_right, le-leb, lt-leb}

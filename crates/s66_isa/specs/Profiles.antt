@@ -1,5 +1,5 @@
 -- To be believed: which numbers are a profile's, and the profile that has them.
-use Rattle.std.specs.Prelude.{◌≡◌, ◌≤◌, ℕ, List, [], ◌∷◌, All, get_or, length, max, min}
+use Rattle.std.specs.Prelude.{◌≡◌, ◌≤◌, ℕ, List, All, get_or, length, max, min}
 use Rattle.std.proofs.Math.Nat.{le-max_left, max-le, min-le_left}
 use Rattle.std.proofs.Common.{lit≤}
 use Rattle.s66_isa.specs.declared.limits.TheConstants.{PROFILE_LENGTH, PROFILE_LIMIT}

@@ -4,7 +4,7 @@
 //! The table is that of the CDC 6400/6500/6600 Computer Systems Reference Manual, publication 60100000. What timing reads of it in one
 //! piece is `row.rt`; how an instruction is spelled is `s66_line`.
 
-ghost use Rattle.std.specs.Prelude.{◌≡◌, ◌+◌, ◌<◌, ◌≤◌, ◌++◌, [], ◌∷◌, ℕ, map};
+ghost use Rattle.std.specs.Prelude.{◌≡◌, ◌+◌, ◌<◌, ◌≤◌};
 ghost use Rattle.arrayvec.specs.ArrayVec.{array_vec_len};
 ghost use Rattle.s66_isa.specs.declared.instr.TheConstants.{KIND_COUNT};
 ghost use Rattle.s66_isa.specs.KindNames.{kind_name};
@@ -153,7 +153,7 @@ impl Default for Instr {
 impl Instr {
     ghost use Rattle.std.specs.Option.{option_to_list};
     ghost use Rattle.s66_isa.specs.Lists.{greatest};
-    ghost use Rattle.s66_isa.specs.Table.{kind_of, parcels_of, memory_of, shape_of, operand_registers, stored_registers, reads_of, hold_of, held_registers, loaded_registers, results_of, writes_of};
+    ghost use Rattle.s66_isa.specs.Table.{kind_of, parcels_of, memory_of, shape_of, reads_of, hold_of, held_registers, loaded_registers, results_of, writes_of};
 
     /// The instruction of an operation and its octal digits.
     pub fn new(op: Op, i: u8, j: u8, k: u8) -> Instr

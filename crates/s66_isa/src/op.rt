@@ -1,6 +1,6 @@
 //! An operation: one of the 55 octal codes of the instruction table.
 
-ghost use Rattle.std.specs.Prelude.{◌≡◌, ◌≤◌, ◌≢◌};
+ghost use Rattle.std.specs.Prelude.{◌≡◌};
 ghost use Rattle.s66_isa.specs.Table.{IsCode};
 
 use std::marker::Model;

@@ -1,7 +1,6 @@
 //! The members of a block: number, label, lines, size, profile, instructions and the source order.
 
 ghost use Rattle.std.specs.Prelude.{◌≡◌, ◌++◌, OnOk};
-ghost use Rattle.s66_line.specs.Block.{instrs_of};
 ghost use Rattle.s66_json.specs.Pieces.{head_text, lines_text, name_of_block, size_text, start_text};
 
 use crate::instruction::push_instructions;
@@ -65,19 +64,18 @@ fn push_head(
 
 /// A block, whose number is from 1, as it is written, to where it is said what is found.
 #[tactic(auto, unfolding(crate::specs::Pieces::start_text))]
-pub fn push_start(
+pub(crate) fn push_start(
     out: &mut Vec<u8>,
     number: usize,
     entry: &[u8],
     block: &Block,
     written: &Timed,
 ) -> Result<(), AllocError>
-    requires { written.now.problem.block ≡ instrs_of block.now }
     ensures { OnOk result (out.new.items ≡ out.old.items ++ start_text number entry.now block.now written.now) }
 {
     push_head(out, number, entry, written.profile(), block)?;
     push_instructions(out, written.profile(), block)?;
     push_text(out, b",\"written\":")?;
-    push_timed(out, block, written)?;
+    push_timed(out, written)?;
     push_text(out, b"},\"found\":")
 }

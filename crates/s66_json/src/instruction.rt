@@ -1,19 +1,19 @@
 //! The object of an instruction: its text, what the table has of it, and on which it depends.
 
-ghost use Rattle.std.specs.Prelude.{ℕ, List, ◌≡◌, ◌≤◌, ◌++◌, OnOk, length};
+ghost use Rattle.std.specs.Prelude.{◌≡◌, ◌≤◌, ◌++◌, OnOk, length};
 ghost use Rattle.s66_line.specs.Block.{instrs_of};
 ghost use Rattle.s66_model.specs.Dependence.{all_needs, needs};
-ghost use Rattle.s66_dep.specs.Members.{numbers_in};
+ghost use Rattle.s66_time.specs.Members.{numbers_in};
 ghost use Rattle.s66_json.specs.Pieces.{instruction_text, instructions_text, needs_text, operands_text, source_text, work_text};
 
 use crate::list::{push_numbers, push_registers, push_writes};
 use crate::string::push_string;
 use crate::text::{push_comma, push_text};
 use crate::words::{memory, unit};
-use s66_dep::{Dependences, Set};
 use s66_device::push_field;
 use s66_isa::{Profile, Row};
 use s66_line::Block;
+use s66_time::{Dependences, Set};
 use std::alloc::AllocError;
 
 /// Where an instruction is in the source.
@@ -104,7 +104,7 @@ fn push_list(
 }
 
 /// The instructions of a block under a profile.
-pub fn push_instructions(
+pub(crate) fn push_instructions(
     out: &mut Vec<u8>,
     profile: &Profile,
     block: &Block,

@@ -21,7 +21,7 @@ fn without_blank(label: &[u8]) -> &[u8]
 
 /// The label of a block, if it has one.
 #[tactic(auto, unfolding(crate::specs::Pieces::label_text, crate::specs::Pieces::string_text))]
-pub fn push_label(out: &mut Vec<u8>, label: &[u8]) -> Result<(), AllocError>
+pub(crate) fn push_label(out: &mut Vec<u8>, label: &[u8]) -> Result<(), AllocError>
     ensures { OnOk result (out.new.items ≡ out.old.items ++ label_text label.now) }
 {
     if label.is_empty() {

@@ -2,7 +2,6 @@
 
 ghost use Rattle.std.specs.Prelude.{◌≡◌, ◌++◌, OnOk};
 ghost use Rattle.serde_json.specs.Data.{null};
-ghost use Rattle.s66_line.specs.Block.{instrs_of};
 ghost use Rattle.s66_json.specs.Json.{found_data, json_line};
 
 use crate::block::push_start;
@@ -24,7 +23,6 @@ pub fn push_written_line(
     block: &Block,
     written: &Timed,
 ) -> Result<(), AllocError>
-    requires { written.now.problem.block ≡ instrs_of block.now }
     ensures { OnOk result (out.new.items ≡ out.old.items ++ json_line number entry.now block.now written.now null) }
 {
     push_start(out, number, entry, block, written)?;
@@ -43,13 +41,11 @@ pub fn push_found_line(
     bound: u32,
     splits: u32,
 ) -> Result<(), AllocError>
-    requires written { written.now.problem.block ≡ instrs_of block.now }
-    requires found { found.now.problem.block ≡ instrs_of block.now }
     ensures { OnOk result (out.new.items ≡ out.old.items ++
         json_line number entry.now block.now written.now (found_data found.now bound splits)) }
 {
     push_start(out, number, entry, block, written)?;
-    push_timed(out, block, found)?;
+    push_timed(out, found)?;
     push_bound(out, bound, splits, bound == found.total())?;
     push_text(out, b"}}\n")
 }

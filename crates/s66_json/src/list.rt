@@ -13,7 +13,7 @@ use std::alloc::AllocError;
 
 /// A list of numbers.
 #[tactic(auto, unfolding(crate::specs::Pieces::numbers_text))]
-pub fn push_numbers(out: &mut Vec<u8>, numbers: &[u8]) -> Result<(), AllocError>
+pub(crate) fn push_numbers(out: &mut Vec<u8>, numbers: &[u8]) -> Result<(), AllocError>
     ensures { OnOk result (out.new.items ≡ out.old.items ++ numbers_text numbers.now) }
 {
     push_text(out, b"[")?;
@@ -26,7 +26,7 @@ pub fn push_numbers(out: &mut Vec<u8>, numbers: &[u8]) -> Result<(), AllocError>
 
 /// A list of what steps add.
 #[tactic(auto, unfolding(crate::specs::Pieces::numbers_text))]
-pub fn push_added(out: &mut Vec<u8>, steps: &[Step]) -> Result<(), AllocError>
+pub(crate) fn push_added(out: &mut Vec<u8>, steps: &[Step]) -> Result<(), AllocError>
     ensures { OnOk result (out.new.items ≡ out.old.items ++ numbers_text (map (λ (x : StepOf). x.adds) steps.now)) }
 {
     push_text(out, b"[")?;
@@ -39,7 +39,7 @@ pub fn push_added(out: &mut Vec<u8>, steps: &[Step]) -> Result<(), AllocError>
 
 /// A list of registers.
 #[tactic(auto, unfolding(crate::specs::Pieces::registers_text))]
-pub fn push_registers(out: &mut Vec<u8>, registers: &[Reg]) -> Result<(), AllocError>
+pub(crate) fn push_registers(out: &mut Vec<u8>, registers: &[Reg]) -> Result<(), AllocError>
     ensures { OnOk result (out.new.items ≡ out.old.items ++ registers_text registers.now) }
 {
     push_text(out, b"[")?;
@@ -52,7 +52,7 @@ pub fn push_registers(out: &mut Vec<u8>, registers: &[Reg]) -> Result<(), AllocE
 
 /// A list of the registers that are written.
 #[tactic(auto, unfolding(crate::specs::Pieces::writes_text))]
-pub fn push_writes(out: &mut Vec<u8>, writes: &[Write]) -> Result<(), AllocError>
+pub(crate) fn push_writes(out: &mut Vec<u8>, writes: &[Write]) -> Result<(), AllocError>
     ensures { OnOk result (out.new.items ≡ out.old.items ++ writes_text writes.now) }
 {
     push_text(out, b"[")?;

@@ -1,13 +1,11 @@
 //! The members of a timed order: time, instructions, path, steps and sums; with a found order, bound and splits.
 
-ghost use Rattle.std.specs.Prelude.{ℕ, ◌≡◌, ◌≤◌, ◌++◌, OnOk, IfOk, length, map, reverse};
+ghost use Rattle.std.specs.Prelude.{◌≡◌, ◌≤◌, ◌++◌, OnOk, IfOk, length, map, reverse};
 ghost use Rattle.s66_isa.specs.declared.limits.TheConstants.{BLOCK_LIMIT};
-ghost use Rattle.s66_line.specs.Block.{instrs_of};
 ghost use Rattle.s66_why.specs.Sums.{sum_of};
 ghost use Rattle.s66_why.specs.Why.{lost, stretches};
 ghost use Rattle.s66_why.specs.declared.path.Step.{Step as StepOf};
 ghost use Rattle.s66_why.specs.declared.stretch.Conflict.{Conflict as ConflictOf};
-ghost use Rattle.s66_json.specs.Json.{fillers_in};
 ghost use Rattle.s66_json.specs.Pieces.{bound_text, lost_text, order_text, path_text, points_text, steps_text, timed_text};
 
 use crate::list::{push_added, push_numbers};
@@ -15,8 +13,7 @@ use crate::point::push_point;
 use crate::text::{push_comma, push_text};
 use crate::words::truth;
 use s66_device::push_field;
-use s66_line::Block;
-use s66_time::{Timed, pack};
+use s66_time::Timed;
 use s66_why::{Lost, PlacedInstr, Step, path_of, points_of, steps_of, waits_of};
 use std::alloc::AllocError;
 
@@ -25,13 +22,13 @@ use std::alloc::AllocError;
 fn push_order_numbers(
     out: &mut Vec<u8>,
     time: u32,
-    fillers: usize,
+    fillers: u32,
     numbers: &[u8],
 ) -> Result<(), AllocError>
     ensures { OnOk result (out.new.items ≡ out.old.items ++ order_text time fillers numbers.now) }
 {
     push_field(out, b"{\"time\":", time as usize)?;
-    push_field(out, b",\"no\":", fillers)?;
+    push_field(out, b",\"no\":", fillers as usize)?;
     push_text(out, b",\"order\":")?;
     push_numbers(out, numbers)?;
     push_text(out, b",\"at\":[")
@@ -84,22 +81,13 @@ fn push_lost(out: &mut Vec<u8>, sums: &Lost) -> Result<(), AllocError>
     push_text(out, b"}")
 }
 
-/// How many NOs fill up the words of an order.
-fn fillers(block: &Block, timed: &Timed) -> usize
-    requires { timed.now.problem.block ≡ instrs_of block.now }
-    ensures { result ≡ fillers_in timed.now }
-{
-    pack(block, timed.order()).fillers.len()
-}
-
 /// A timed order, without the brace that closes it.
-pub fn push_timed(out: &mut Vec<u8>, block: &Block, timed: &Timed) -> Result<(), AllocError>
-    requires { timed.now.problem.block ≡ instrs_of block.now }
+pub(crate) fn push_timed(out: &mut Vec<u8>, timed: &Timed) -> Result<(), AllocError>
     ensures { OnOk result (out.new.items ≡ out.old.items ++ timed_text timed.now) }
 {
     let points = points_of(timed);
     let points = points.as_slice();
-    let fillers = fillers(block, timed);
+    let fillers = timed.fillers();
     push_order_numbers(out, timed.total(), fillers, timed.order().numbers())?;
     let sums = push_points(out, points)?;
     let steps = steps_of(points, timed.total());
@@ -111,7 +99,12 @@ pub fn push_timed(out: &mut Vec<u8>, block: &Block, timed: &Timed) -> Result<(),
 
 /// What every order takes at least, and how many splits there were.
 #[tactic(auto, unfolding(crate::specs::Pieces::bound_text))]
-pub fn push_bound(out: &mut Vec<u8>, bound: u32, splits: u32, best: bool) -> Result<(), AllocError>
+pub(crate) fn push_bound(
+    out: &mut Vec<u8>,
+    bound: u32,
+    splits: u32,
+    best: bool,
+) -> Result<(), AllocError>
     ensures { OnOk result (out.new.items ≡ out.old.items ++ bound_text bound splits best) }
 {
     push_field(out, b",\"bound\":", bound as usize)?;

@@ -81,7 +81,7 @@ fn push_lists(out: &mut Vec<u8>, point: &PlacedInstr, waits: &[Stretch]) -> Resu
 
 /// An instruction of a timed order, which waits so.
 #[tactic(auto, unfolding(crate::specs::Pieces::point_text))]
-pub fn push_point(
+pub(crate) fn push_point(
     out: &mut Vec<u8>,
     point: &PlacedInstr,
     waits: &[Stretch],

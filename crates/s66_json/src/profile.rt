@@ -37,7 +37,7 @@ fn push_changes(out: &mut Vec<u8>, changes: &[Change]) -> Result<(), AllocError>
 }
 
 /// The numbers of a profile that aren't the standard profile's, if there are any.
-pub fn push_profile(out: &mut Vec<u8>, profile: &Profile) -> Result<(), AllocError>
+pub(crate) fn push_profile(out: &mut Vec<u8>, profile: &Profile) -> Result<(), AllocError>
     ensures { OnOk result (out.new.items ≡ out.old.items ++ profile_text (changes profile.now)) }
 {
     push_changes(out, changes_of(profile).as_slice())

@@ -54,7 +54,7 @@ fn push_character(out: &mut Vec<u8>, byte: u8) -> Result<(), AllocError>
 
 /// A text of a source as a JSON string, each byte as the character of its number.
 #[tactic(auto, unfolding(crate::specs::Pieces::string_text))]
-pub fn push_string(out: &mut Vec<u8>, text: &[u8]) -> Result<(), AllocError>
+pub(crate) fn push_string(out: &mut Vec<u8>, text: &[u8]) -> Result<(), AllocError>
     ensures { OnOk result (out.new.items ≡ out.old.items ++ string_text text.now) }
 {
     out.extend_from_slice(b"\"")?;

@@ -64,7 +64,7 @@ fn push_wait(out: &mut Vec<u8>, stretch: &Stretch) -> Result<(), AllocError>
 
 /// All that an instruction waits for.
 #[tactic(auto, unfolding(crate::specs::Pieces::waits_text))]
-pub fn push_waits(out: &mut Vec<u8>, waits: &[Stretch]) -> Result<(), AllocError>
+pub(crate) fn push_waits(out: &mut Vec<u8>, waits: &[Stretch]) -> Result<(), AllocError>
     ensures { OnOk result (out.new.items ≡ out.old.items ++ waits_text waits.now) }
 {
     push_text(out, b"[")?;

@@ -11,7 +11,7 @@ use s66_why::Conflict;
 use std::alloc::AllocError;
 
 /// A truth value.
-pub fn truth(value: bool) -> &'static [u8]
+pub(crate) fn truth(value: bool) -> &'static [u8]
     ensures { result.now ≡ truth_text value }
 {
     if value { b"true" } else { b"false" }
@@ -19,7 +19,7 @@ pub fn truth(value: bool) -> &'static [u8]
 
 /// The unit of a kind.
 #[tactic(auto, unfolding(crate::specs::Pieces::unit_text, serde_json::proofs::OnLiterals::serde_json_on_literals))]
-pub fn unit(kind: Kind) -> &'static [u8]
+pub(crate) fn unit(kind: Kind) -> &'static [u8]
     ensures { result.now ≡ unit_text kind }
 {
     match kind {
@@ -35,7 +35,7 @@ pub fn unit(kind: Kind) -> &'static [u8]
 
 /// Whether an instruction loads or stores.
 #[tactic(auto, unfolding(crate::specs::Pieces::memory_text, serde_json::proofs::OnLiterals::serde_json_on_literals))]
-pub fn memory(memory: Memory) -> &'static [u8]
+pub(crate) fn memory(memory: Memory) -> &'static [u8]
     ensures { result.now ≡ memory_text memory }
 {
     match memory {
@@ -47,7 +47,7 @@ pub fn memory(memory: Memory) -> &'static [u8]
 
 /// The order of a conflict.
 #[tactic(auto, unfolding(crate::specs::Pieces::conflict_text, serde_json::proofs::OnLiterals::serde_json_on_literals))]
-pub fn conflict(conflict: Conflict) -> &'static [u8]
+pub(crate) fn conflict(conflict: Conflict) -> &'static [u8]
     ensures { result.now ≡ conflict_text conflict }
 {
     match conflict {
@@ -71,7 +71,7 @@ fn quoted_bank(bank: Bank) -> &'static [u8]
 
 /// A register.
 #[tactic(auto, unfolding(crate::specs::Pieces::register_text, json::specs::Print::escape_byte))]
-pub fn push_register(out: &mut Vec<u8>, register: Reg) -> Result<(), AllocError>
+pub(crate) fn push_register(out: &mut Vec<u8>, register: Reg) -> Result<(), AllocError>
     ensures { OnOk result (out.new.items ≡ out.old.items ++ register_text register) }
 {
     push_text(out, quoted_bank(register.bank()))?;

@@ -9,15 +9,15 @@ use Rattle.s66_model.specs.LegalOrder.{is_ready, ready, IsBeginning, IsIncomplet
 use Rattle.s66_model.specs.Leaves.{floor}
 use Rattle.s66_model.specs.Tree.{AtTerminal, AtSplit, flat}
 use Rattle.s66_model.specs.Later.{children, later}
-use Rattle.s66_machine.proofs.TreeLines.{lines-unsplit, lines-split, lines-tree, lines-both}
+use Rattle.s66_model.proofs.TreeLines.{lines-unsplit, lines-split, lines-tree, lines-both}
 use Rattle.s66_model.specs.DominatedLeaves.{Bounding, Dominated}
-use Rattle.s66_machine.specs.Ledger as model
-use Rattle.s66_machine.specs.NodeTable.{stands_at, is_cut_at, IsTable}
-use Rattle.s66_machine.specs.NodeTree.{is_split_at, state_ending, ending_at, node_tree}
+use Rattle.s66_model.specs.Ledger as model
+use Rattle.s66_model.specs.NodeTable.{stands_at, is_cut_at, IsTable}
+use Rattle.s66_model.specs.NodeTree.{is_split_at, state_ending, ending_at, node_tree}
 use Rattle.s66_model.proofs.Beginnings.{beginning-front}
 use Rattle.s66_model.proofs.LegalOrders.{GoesOn-append}
-use Rattle.s66_machine.proofs.NodeTrees.{some-passes, passes-some, is-same, uncut-stands, cut-counts, split-part, one-node, ending-is}
-use Rattle.s66_machine.proofs.OneTree.{same-is}
+use Rattle.s66_model.proofs.NodeTrees.{some-passes, passes-some, is-same, uncut-stands, cut-counts, split-part, one-node, ending-is}
+use Rattle.s66_model.proofs.OneTree.{same-is}
 use Rattle.s66_node.specs.Walked.{front}
 use Rattle.s66_node.proofs.Growing.{front-push}
 use Rattle.s66_node.specs.declared.node.Node.{Node}

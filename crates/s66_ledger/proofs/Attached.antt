@@ -8,9 +8,9 @@ use Rattle.s66_model.specs.Leaves.{floor}
 use Rattle.s66_model.specs.Tree.{Tree, Alone, Parted, Vertex, AtTerminal, AtSplit, flat}
 use Rattle.s66_model.specs.DominatedLeaves.{Bounding}
 use Rattle.s66_model.specs.Piece.{Terminal, Carries, Frontier, Passed, TerminalHolds}
-use Rattle.s66_machine.specs.Recorded.{TerminalOpens, TreeOpens}
-use Rattle.s66_machine.specs.Ledger as model
-use Rattle.s66_machine.specs.Ledger.{root_state, new_nodes}
+use Rattle.s66_model.specs.Recorded.{TerminalOpens, TreeOpens}
+use Rattle.s66_model.specs.Ledger as model
+use Rattle.s66_model.specs.Ledger.{root_state, new_nodes}
 use Rattle.s66_node.specs.declared.node.Node.{Node}
 use Rattle.s66_node.specs.declared.node.State.{State}
 use Rattle.s66_node.specs.declared.node.State.TheVariants as state

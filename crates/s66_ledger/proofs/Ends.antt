@@ -5,13 +5,13 @@ use Rattle.s66_isa.specs.Lists.{Among}
 use Rattle.s66_model.specs.declared.rule.Rule.{Rule}
 use Rattle.s66_model.specs.Timing.{Problem}
 use Rattle.s66_model.specs.LegalOrder.{IsBeginning}
-use Rattle.s66_machine.specs.Ledger.{Node, Open, Out, Cut, Closed, State, is_open_state, is_live_state, best_time}
-use Rattle.s66_machine.specs.Coverage.{Covers, NodesHold, IsFinished, bound_of}
-use Rattle.s66_machine.specs.Reached.{IsReached}
-use Rattle.s66_machine.specs.Ended.{IsEnded, ended_answer}
-use Rattle.s66_dep.proofs.LongestBeginning.{beginning-few}
-use Rattle.s66_machine.proofs.Histories.{run-join, reached-covers, reached-table}
-use Rattle.s66_machine.proofs.EndedLedgers.{ended-finishes}
+use Rattle.s66_model.specs.Ledger.{Node, Open, Out, Cut, Closed, State, is_open_state, is_live_state, best_time}
+use Rattle.s66_model.specs.Coverage.{Covers, NodesHold, IsFinished, bound_of}
+use Rattle.s66_model.specs.Reached.{IsReached}
+use Rattle.s66_model.specs.Ended.{IsEnded, ended_answer}
+use Rattle.s66_time.proofs.LongestBeginning.{beginning-few}
+use Rattle.s66_model.proofs.Histories.{run-join, reached-covers, reached-table}
+use Rattle.s66_model.proofs.EndedLedgers.{ended-finishes}
 use Rattle.s66_ledger.specs.Ledgers.{LedgerOf}
 use Rattle.s66_ledger.specs.LedgerMachine.{MachineOf, Stored, IsKeptMachine, ledger_of, machine_of}
 use Rattle.s66_ledger.specs.Answers.{IsKeptAnswer, ended_of}

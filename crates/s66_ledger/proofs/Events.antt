@@ -8,13 +8,13 @@ use Rattle.s66_model.specs.declared.rule.Rule.{Rule}
 use Rattle.s66_model.specs.Timing.{Problem, total_of}
 use Rattle.s66_model.specs.LegalOrder.{IsLegal, IsBeginning}
 use Rattle.s66_model.specs.Leaves.{floor_value}
-use Rattle.s66_machine.specs.Ledger as model
-use Rattle.s66_machine.specs.Ledger.{best_time, Event, Grant, Claim, Offer, Back, Retire, Reply, Granted, Claimed, NotOut, Lower, NotLower, OtherBlock, Returned, Retired, Moves, Step}
-use Rattle.s66_machine.specs.Coverage.{Covers, NodesHold}
+use Rattle.s66_model.specs.Ledger as model
+use Rattle.s66_model.specs.Ledger.{best_time, Event, Grant, Claim, Offer, Back, Retire, Reply, Granted, Claimed, NotOut, Lower, NotLower, OtherBlock, Returned, Retired, Moves, Step}
+use Rattle.s66_model.specs.Coverage.{Covers, NodesHold}
 use Rattle.s66_model.specs.Answer.{source_time}
-use Rattle.s66_machine.specs.Reached.{IsReached}
-use Rattle.s66_machine.specs.Recorded.{IsOfferOf}
-use Rattle.s66_machine.proofs.Histories.{reached-step, reached-covers}
+use Rattle.s66_model.specs.Reached.{IsReached}
+use Rattle.s66_model.specs.Recorded.{IsOfferOf}
+use Rattle.s66_model.proofs.Histories.{reached-step, reached-covers}
 use Rattle.s66_model.proofs.Beginnings.{beginning-front}
 use Rattle.s66_model.proofs.FloorParts.{leaf-fits}
 use Rattle.s66_model.proofs.Floors.{floor-stands}

@@ -2,9 +2,9 @@
 use Rattle.std.proofs.Common.{ℕ, zero, suc, ◌≡◌, ◌≤◌, ◌<◌, List, [], ◌∷◌, ◌++◌, length, get_or, set, refl, sym, ap, arith, inl, inr, subst, ◌∙◌}
 use Rattle.s66_isa.specs.Lists.{Among}
 use Rattle.s66_model.specs.Timing.{Problem}
-use Rattle.s66_machine.specs.Ledger.{best_time, Event, Reply, Run}
-use Rattle.s66_machine.proofs.Histories.{run-join}
-use Rattle.s66_machine.proofs.LedgerRuns.{run-falls}
+use Rattle.s66_model.specs.Ledger.{best_time, Event, Reply, Run}
+use Rattle.s66_model.proofs.Histories.{run-join}
+use Rattle.s66_model.proofs.LedgerRuns.{run-falls}
 use Rattle.s66_ledger.specs.Finishing.{Leads}
 use Rattle.s66_ledger.specs.Ledgers.{LedgerOf, IsEvent}
 

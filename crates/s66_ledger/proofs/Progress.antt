@@ -7,17 +7,17 @@ use Rattle.s66_model.specs.Timing.{Problem, total_of}
 use Rattle.s66_model.specs.Leaves.{Whole, value, floor_value}
 use Rattle.s66_model.specs.Tree.{Tree, Alone, Parted, splits}
 use Rattle.s66_model.specs.Piece.{Terminal, Carries, Frontier, Passed}
-use Rattle.s66_machine.specs.Expansion.{IsExpansion}
-use Rattle.s66_machine.specs.Ledger.{Ledger, Node, Claim, Back, Claimed, Returned, best_time, allowance, is_open, node_at}
-use Rattle.s66_machine.specs.Coverage.{Covers}
+use Rattle.s66_model.specs.Expansion.{IsExpansion}
+use Rattle.s66_model.specs.Ledger.{Ledger, Node, Claim, Back, Claimed, Returned, best_time, allowance, is_open, node_at}
+use Rattle.s66_model.specs.Coverage.{Covers}
 use Rattle.s66_model.proofs.Floors.{floor-whole}
-use Rattle.s66_machine.proofs.LedgerRuns.{run-falls}
+use Rattle.s66_model.proofs.LedgerRuns.{run-falls}
 use Rattle.s66_time.specs.TimedOrder.{TimedOrder}
 use Rattle.s66_node.specs.Pieces.{PieceOf, tree_of, IsBestTimed}
-use Rattle.s66_machine.specs.Tickets.{TicketOf}
+use Rattle.s66_model.specs.Tickets.{TicketOf}
 use Rattle.s66_ledger.specs.ClaimedNodes.{IsLeastOpen}
 use Rattle.s66_ledger.specs.Ledgers.{LedgerOf, IsEvent}
-use Rattle.s66_machine.proofs.LedgerSteps.{root-stands}
+use Rattle.s66_model.proofs.LedgerSteps.{root-stands}
 use Rattle.s66_ledger.proofs.Taken.{same-splits}
 use Rattle.s66_ledger.specs.PieceSplits.{piece_splits}
 use Rattle.s66_ledger.specs.Finishing.{IsSearched, IsBetweenRounds, IsOffering, IsTaken, still_to_go}

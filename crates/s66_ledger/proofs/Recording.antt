@@ -8,10 +8,10 @@ use Rattle.s66_model.specs.declared.rule.Rule.{Rule}
 use Rattle.s66_model.specs.Timing.{Problem, total_of}
 use Rattle.s66_model.specs.Tree.{Tree, Vertex, flat, splits}
 use Rattle.s66_model.specs.Piece.{Terminal, Frontier}
-use Rattle.s66_machine.specs.Ledger.{Ledger, Event, Graft, Offer, Reply, Taken, Moves, Run, opening}
-use Rattle.s66_machine.specs.Recorded.{IsOwn, IsOwnPiece, IsOfferOf, graft_event}
-use Rattle.s66_machine.specs.Accounts.{Account, account_of}
-use Rattle.s66_machine.proofs.Histories.{run-next, history-spent}
+use Rattle.s66_model.specs.Ledger.{Ledger, Event, Graft, Offer, Reply, Taken, Moves, Run, opening}
+use Rattle.s66_model.specs.Recorded.{IsOwn, IsOwnPiece, IsOfferOf, graft_event}
+use Rattle.s66_model.specs.Accounts.{Account, account_of}
+use Rattle.s66_model.proofs.Histories.{run-next, history-spent}
 use Rattle.s66_model.specs.Preorder.{read_tree}
 use Rattle.s66_model.proofs.Forests.{read-flat}
 use Rattle.s66_node.specs.declared.node.Node.{Node}

@@ -12,9 +12,9 @@ use Rattle.s66_model.specs.Answer.{ending_values, source_time}
 use Rattle.s66_model.proofs.AnswerBound.{answer-bound}
 use Rattle.s66_model.proofs.Floors.{floor-stands}
 use Rattle.s66_model.proofs.TreesHold.{tree-weaken}
-use Rattle.s66_machine.specs.Coverage.{live_floors}
-use Rattle.s66_machine.specs.Ended.{ended_answer}
-use Rattle.s66_machine.specs.NodeTree.{node_tree}
+use Rattle.s66_model.specs.Coverage.{live_floors}
+use Rattle.s66_model.specs.Ended.{ended_answer}
+use Rattle.s66_model.specs.NodeTree.{node_tree}
 use Rattle.s66_node.specs.declared.node.Node.{Node}
 use Rattle.s66_ledger.specs.Answers.{IsKeptAnswer, ended_of}
 use Rattle.s66_ledger.specs.LedgerMachine.{ledger_from}

@@ -6,7 +6,7 @@ use Rattle.s66_isa.specs.Lists.{tally, weigh, Among}
 use Rattle.s66_isa.proofs.Lists.{tally-append, tally-set, weigh-set}
 use Rattle.s66_model.specs.declared.rule.Rule.{Rule}
 use Rattle.s66_model.specs.Timing.{Problem, total_of}
-use Rattle.s66_machine.specs.Recorded.{IsOfferOf}
+use Rattle.s66_model.specs.Recorded.{IsOfferOf}
 use Rattle.s66_time.specs.TimedOrder.{TimedOrder}
 use Rattle.s66_ledger.specs.declared.reply.Offered.{Offered}
 use Rattle.s66_ledger.specs.declared.reply.Offered.TheVariants as offered
@@ -14,12 +14,12 @@ use Rattle.s66_ledger.specs.Replies.{offered_reply}
 use Rattle.s66_model.specs.Leaves.{value}
 use Rattle.s66_model.specs.Tree.{Tree, Alone, Parted, Siblings, NoMore, Unsplit, Split, splits}
 use Rattle.s66_model.specs.Piece.{Terminal, Carries, Frontier, Passed, IsPiece}
-use Rattle.s66_machine.specs.Expansion.{whole_orders}
+use Rattle.s66_model.specs.Expansion.{whole_orders}
 use Rattle.s66_model.specs.DominatedLeaves.{Bounding}
-use Rattle.s66_machine.specs.Ledger.{Ledger, Node, State, Open, Out, Cut, Closed, Grant, Claim, Back, Granted, Claimed, Taken, Returned, OverAllowance, no_node, node_at, with_state, is_out_state, is_out, is_live_state, best_time, allowance, share_of, state_of, root_state, sibling_nodes, new_nodes, after_offer, after_graft, Offer, Graft, Moves, Event}
-use Rattle.s66_machine.specs.Coverage.{Covers}
+use Rattle.s66_model.specs.Ledger.{Ledger, Node, State, Open, Out, Cut, Closed, Grant, Claim, Back, Granted, Claimed, Taken, Returned, OverAllowance, no_node, node_at, with_state, is_out_state, is_out, is_live_state, best_time, allowance, share_of, state_of, root_state, sibling_nodes, new_nodes, after_offer, after_graft, Offer, Graft, Moves, Event}
+use Rattle.s66_model.specs.Coverage.{Covers}
 use Rattle.s66_node.specs.Pieces.{PieceOf, tree_of}
-use Rattle.s66_machine.specs.Tickets.{TicketOf}
+use Rattle.s66_model.specs.Tickets.{TicketOf}
 use Rattle.s66_ledger.specs.Ledgers.{LedgerOf, IsEvent}
 use Rattle.s66_ledger.specs.Grafts.{IsGraft}
 use Rattle.s66_ledger.proofs.Taken.{same-splits, same-wholes}

@@ -12,10 +12,10 @@ use Rattle.s66_model.specs.NodeNames as names
 use Rattle.s66_model.specs.NodeNames.{terminal_at, sibling_at, is_node}
 use Rattle.s66_model.specs.Piece.{Terminal, Carries, Frontier, Passed, IsNamedIn, TerminalHolds, IsPiece}
 use Rattle.s66_model.specs.Preorder.{SiblingsMatch, TreeMatches}
-use Rattle.s66_machine.specs.Expansion.{whole_at, whole_orders}
-use Rattle.s66_machine.specs.Recorded.{TerminalOpens, SiblingsOpen, TreeOpens}
-use Rattle.s66_machine.specs.Ledger as model
-use Rattle.s66_machine.specs.Ledger.{sibling_nodes, root_state, new_nodes, may_name, TerminalIsNamed, AreNamed}
+use Rattle.s66_model.specs.Expansion.{whole_at, whole_orders}
+use Rattle.s66_model.specs.Recorded.{TerminalOpens, SiblingsOpen, TreeOpens}
+use Rattle.s66_model.specs.Ledger as model
+use Rattle.s66_model.specs.Ledger.{sibling_nodes, root_state, new_nodes, may_name, TerminalIsNamed, AreNamed}
 use Rattle.s66_model.proofs.Forests.{tree-match}
 use Rattle.s66_node.specs.Growing.{sibling_prefixes, tree_prefixes}
 use Rattle.s66_node.specs.declared.node.Node.{Node}

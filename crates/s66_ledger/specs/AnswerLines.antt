@@ -6,11 +6,11 @@ use Rattle.s66_model.specs.Timing.{Problem}
 use Rattle.s66_model.specs.LegalOrder.{IsBeginning}
 use Rattle.s66_model.specs.DominatedLeaves.{Ending}
 use Rattle.s66_model.specs.Tree.{Vertex}
-use Rattle.s66_machine.specs.Ledger as model
+use Rattle.s66_model.specs.Ledger as model
 use Rattle.s66_model.specs.Later.{later}
-use Rattle.s66_machine.specs.NodeTable.{IsTable}
-use Rattle.s66_machine.specs.NodeTree.{is_split_at, ending_at}
-use Rattle.s66_machine.specs.TreeLines.{lines_of}
+use Rattle.s66_model.specs.NodeTable.{IsTable}
+use Rattle.s66_model.specs.NodeTree.{is_split_at, ending_at}
+use Rattle.s66_model.specs.TreeLines.{lines_of}
 use Rattle.s66_node.specs.declared.node.Node.{Node}
 use Rattle.s66_ledger.specs.LedgerMachine.{ledger_from}
 use Rattle.s66_ledger.specs.Nodes.{nodes_of, prefixes}

@@ -5,9 +5,9 @@ use Rattle.s66_model.specs.declared.rule.Rule.{Rule}
 use Rattle.s66_model.specs.Timing.{Problem}
 use Rattle.s66_model.specs.Answer.{Answer, IsAnswer, source_time}
 use Rattle.s66_model.specs.LegalOrder.{IsBeginning}
-use Rattle.s66_machine.specs.Ledger.{Ledger, Node}
-use Rattle.s66_machine.specs.NodeTable.{IsTable}
-use Rattle.s66_machine.specs.Ended.{ended_answer}
+use Rattle.s66_model.specs.Ledger.{Ledger, Node}
+use Rattle.s66_model.specs.NodeTable.{IsTable}
+use Rattle.s66_model.specs.Ended.{ended_answer}
 use Rattle.s66_model.specs.declared.limits.TheConstants.{BUDGET_LIMIT}
 use Rattle.s66_node.specs.declared.node.Node as declared
 use Rattle.s66_ledger.specs.LedgerMachine.{ledger_from}

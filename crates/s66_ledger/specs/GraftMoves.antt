@@ -2,9 +2,9 @@
 use Rattle.std.specs.Prelude.{ℕ, ◌≡◌, ◌++◌, true, drop, Some}
 use Rattle.s66_model.specs.Tree.{Tree, flat, splits}
 use Rattle.s66_model.specs.Piece.{Terminal}
-use Rattle.s66_machine.specs.Ledger as model
-use Rattle.s66_machine.specs.Ledger.{Event, Reply}
-use Rattle.s66_machine.specs.Recorded.{IsGraftOf}
+use Rattle.s66_model.specs.Ledger as model
+use Rattle.s66_model.specs.Ledger.{Event, Reply}
+use Rattle.s66_model.specs.Recorded.{IsGraftOf}
 use Rattle.s66_node.specs.Pieces.{PieceOf, tree_of}
 use Rattle.s66_ledger.specs.declared.reply.GraftError.{GraftError}
 use Rattle.s66_ledger.specs.declared.reply.GraftError.TheVariants as refused

@@ -3,9 +3,9 @@ use Rattle.std.specs.Prelude.{ℕ, zero, suc, ◌+◌, ◌-◌, ◌^◌, ◌≡�
 use Rattle.s66_model.specs.Tree.{Tree, Vertex, flat}
 use Rattle.s66_model.specs.Piece.{Terminal, IsPiece}
 use Rattle.s66_model.specs.Preorder.{TreeMatches}
-use Rattle.s66_machine.specs.Recorded.{TreeOpens}
-use Rattle.s66_machine.specs.Ledger as model
-use Rattle.s66_machine.specs.Ledger.{root_state, new_nodes, AreNamed}
+use Rattle.s66_model.specs.Recorded.{TreeOpens}
+use Rattle.s66_model.specs.Ledger as model
+use Rattle.s66_model.specs.Ledger.{root_state, new_nodes, AreNamed}
 use Rattle.s66_node.specs.declared.node.Node.{Node}
 use Rattle.s66_node.specs.declared.node.State.{State}
 use Rattle.s66_node.specs.declared.node.State.TheVariants as state

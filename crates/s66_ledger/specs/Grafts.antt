@@ -1,8 +1,8 @@
 -- Used by contracts: what a graft is in the machine, also if it is refused.
 use Rattle.std.specs.Prelude.{ℕ, ◌≡◌}
-use Rattle.s66_machine.specs.Ledger as model
-use Rattle.s66_machine.specs.Ledger.{Event, Reply}
-use Rattle.s66_machine.specs.Recorded.{IsGraftOf}
+use Rattle.s66_model.specs.Ledger as model
+use Rattle.s66_model.specs.Ledger.{Event, Reply}
+use Rattle.s66_model.specs.Recorded.{IsGraftOf}
 use Rattle.s66_node.specs.Pieces.{PieceOf, tree_of}
 use Rattle.s66_ledger.specs.declared.reply.GraftError.{GraftError}
 use Rattle.s66_ledger.specs.declared.reply.GraftError.TheVariants as refused

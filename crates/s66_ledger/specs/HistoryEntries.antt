@@ -4,8 +4,8 @@ use Rattle.s66_model.specs.Timing.{Problem}
 use Rattle.s66_model.specs.Tree.{Vertex}
 use Rattle.s66_model.specs.Preorder.{read_tree}
 use Rattle.s66_model.specs.Piece.{Terminal, Frontier}
-use Rattle.s66_machine.specs.Ledger as model
-use Rattle.s66_machine.specs.Ledger.{Event, Reply, Granted, Claimed, Returned, NotOut, Retired, Taken}
+use Rattle.s66_model.specs.Ledger as model
+use Rattle.s66_model.specs.Ledger.{Event, Reply, Granted, Claimed, Returned, NotOut, Retired, Taken}
 use Rattle.s66_node.specs.Nodes.{node_line}
 use Rattle.s66_ledger.specs.declared.event_record.EventRecord.{EventRecord}
 use Rattle.s66_ledger.specs.declared.event_record.EventRecord.TheVariants as entry

@@ -5,8 +5,8 @@ use Rattle.s66_model.specs.declared.rule.Rule.{Rule}
 use Rattle.s66_model.specs.Timing.{Problem}
 use Rattle.s66_model.specs.Tree.{Vertex}
 use Rattle.s66_model.specs.Piece.{Terminal}
-use Rattle.s66_machine.specs.Ledger.{Ledger, Event, Reply, Step}
-use Rattle.s66_machine.specs.Reached.{IsReached}
+use Rattle.s66_model.specs.Ledger.{Ledger, Event, Reply, Step}
+use Rattle.s66_model.specs.Reached.{IsReached}
 use Rattle.s66_model.specs.Answer.{source_time}
 use Rattle.s66_time.specs.TimedOrder.{TimedOrder}
 use Rattle.s66_node.specs.declared.node.Node as code

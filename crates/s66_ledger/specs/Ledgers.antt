@@ -5,8 +5,8 @@ use Rattle.s66_model.specs.declared.rule.Rule.{Rule}
 use Rattle.s66_model.specs.Timing.{Problem}
 use Rattle.s66_model.specs.Tree.{Vertex}
 use Rattle.s66_model.specs.Piece.{Terminal}
-use Rattle.s66_machine.specs.Ledger.{Ledger, Event, Reply, Step, Run, opening}
-use Rattle.s66_machine.specs.Accounts.{Summary, summary_of}
+use Rattle.s66_model.specs.Ledger.{Ledger, Event, Reply, Step, Run, opening}
+use Rattle.s66_model.specs.Accounts.{Summary, summary_of}
 use Rattle.s66_ledger.specs.declared.event_record.EventRecord.{EventRecord}
 use Rattle.s66_ledger.specs.HistoryEntries.{byte_count, line_count, entries_of}
 use Rattle.s66_ledger.specs.LedgerMachine.{MachineOf}

@@ -6,7 +6,7 @@ use Rattle.s66_model.specs.Leaves.{floor, floor_value}
 use Rattle.s66_model.specs.Tree.{Vertex}
 use Rattle.s66_model.specs.DominatedLeaves.{Bounding, Dominated}
 use Rattle.s66_model.specs.Piece.{Terminal}
-use Rattle.s66_machine.specs.Ledger as model
+use Rattle.s66_model.specs.Ledger as model
 use Rattle.s66_node.specs.declared.node.Node.{Node}
 use Rattle.s66_node.specs.declared.node.State.{State}
 use Rattle.s66_node.specs.declared.node.State.TheVariants as state

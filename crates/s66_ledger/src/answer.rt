@@ -2,11 +2,10 @@
 
 use crate::lines::push_line;
 use crate::links::Links;
-use s66_dep::Order;
 use s66_line::Block;
 use s66_model::Rule;
 use s66_node::{Node, Walk};
-use s66_time::Timed;
+use s66_time::{Order, Timed};
 use s66_tree::Tree;
 use std::alloc::{AllocError, Global};
 use std::marker::Model;

@@ -7,7 +7,7 @@ ghost use Rattle.s66_node.specs.Nodes.{named};
 ghost use Rattle.s66_ledger.specs.LiveNodes.{AreCounted};
 ghost use Rattle.s66_ledger.specs.Nodes.{put_state};
 ghost use Rattle.s66_ledger.specs.OpenNodes.{AreOpenNodes, compare_ranked};
-ghost use Rattle.s66_ledger.specs.Grafting.{placed_parent, placed, settled_state, opened_state, IsNamed, Grafts, IsGrafting, HaveNames};
+ghost use Rattle.s66_ledger.specs.Grafting.{placed, settled_state, opened_state, IsNamed, Grafts, IsGrafting, HaveNames};
 
 use crate::path;
 use crate::rank::rank_of;
@@ -16,7 +16,7 @@ use std::alloc::AllocError;
 use std::collections::BinaryHeap;
 
 /// Gives the node of this number another state.
-pub fn set_state(nodes: &mut Vec<Node>, i: usize, state: State)
+pub(crate) fn set_state(nodes: &mut Vec<Node>, i: usize, state: State)
     requires { i < length nodes.old.items }
     ensures { nodes.new.items ≡ put_state nodes.old.items i state }
 {
@@ -24,7 +24,7 @@ pub fn set_state(nodes: &mut Vec<Node>, i: usize, state: State)
 }
 
 /// What a node of a piece is for this best time: a leaf below it is open, and none is handed out.
-pub fn settled_state(state: State, value: u32, best: u32) -> State
+pub(crate) fn settled_state(state: State, value: u32, best: u32) -> State
     ensures { result ≡ settled_state best value state }
 {
     match state {
@@ -41,7 +41,7 @@ pub fn settled_state(state: State, value: u32, best: u32) -> State
 }
 
 /// What is made of a node of a piece if its name isn't found.
-pub fn opened_state(state: State) -> State
+pub(crate) fn opened_state(state: State) -> State
     ensures { result ≡ opened_state state }
 {
     match state {
@@ -110,7 +110,7 @@ fn grafted(
 /// their names are found, and those that are open go into the heap. Returns how deep those that are open or out are then. It takes
 /// time linear in their number and in the length of each name, with a logarithm of the number of open nodes for each that is open.
 /// `Err` leaves all as it was.
-pub fn append(
+pub(crate) fn append(
     nodes: &mut Vec<Node>,
     heap: &mut BinaryHeap<(u32, u32)>,
     deepest: u8,

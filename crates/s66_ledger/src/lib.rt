@@ -29,5 +29,5 @@ pub use history::History;
 pub use ledger::Ledger;
 pub use limits::{DOMINATED_PIECE_LIMIT, GRANT_LIMIT, SCHEDULE_SPLITS};
 pub use reply::{BackError, GraftError, Offered};
-pub use s66_machine::{Ticket, coverage_law};
+pub use s66_model::{Ticket, coverage_law};
 pub use search::{is_schedule_due, piece_splits};

@@ -4,10 +4,10 @@
 pub const GRANT_LIMIT: u32 = 64;
 
 /// The greatest floor that is distinguished from all others when an open node is chosen; the floors of a block are far below.
-pub const RANKED_LIMIT: u32 = 0xff_ffff;
+pub(crate) const RANKED_LIMIT: u32 = 0xff_ffff;
 
 /// How many depths are distinguished among open nodes of one floor; a block's prefixes are far shorter.
-pub const DEPTH_RANKS: u32 = 256;
+pub(crate) const DEPTH_RANKS: u32 = 256;
 
 /// After how many splits of a search, and of each of its workers, a list schedule is offered again.
 pub const SCHEDULE_SPLITS: u32 = 256;

@@ -2,10 +2,10 @@
 
 ghost use Rattle.std.specs.Prelude.{◌≡◌, ◌≢◌, ◌<◌, ◌+◌, ◌++◌, [], ◌∷◌, true, length, IfOk, OnOk};
 ghost use Rattle.s66_bound.specs.LeafValues.{leaf_of};
-ghost use Rattle.s66_dep.specs.Members.{numbers_in};
+ghost use Rattle.s66_time.specs.Members.{numbers_in};
 ghost use Rattle.s66_model.specs.Later.{children, later};
 ghost use Rattle.s66_model.specs.LegalOrder.{is_ready, ready};
-ghost use Rattle.s66_machine.specs.NodeTree.{is_split_at, ending_at};
+ghost use Rattle.s66_model.specs.NodeTree.{is_split_at, ending_at};
 ghost use Rattle.s66_model.specs.DominatedLeaves.{Bounding};
 ghost use Rattle.s66_model.specs.Tree.{AtTerminal};
 ghost use Rattle.s66_ledger.specs.AnswerLines.{AreOneTree, StandsAt, lines_left, to_come};
@@ -16,8 +16,8 @@ ghost use Rattle.s66_node.specs.declared.node.State.TheVariants as state;
 use crate::links::Links;
 use crate::path::{name_of, up};
 use s66_bound::Leaf;
-use s66_dep::Set;
 use s66_node::{Node, State, Walk};
+use s66_time::Set;
 use s66_tree::{Tree, TreeLine};
 use std::alloc::AllocError;
 
@@ -58,7 +58,7 @@ fn push_terminal(
 
 /// Appends the line of the prefix at which the walk stands, and goes on to the next prefix. Returns whether there is one. The
 /// time is that of a floor, and that of a look at each earlier sibling of the next prefix.
-pub fn push_line(
+pub(crate) fn push_line(
     nodes: &[Node],
     links: &Links,
     walk: &mut Walk<'_>,

@@ -1,6 +1,6 @@
 //! The children of each node of a table, since nodes know only their parents; for writing the tree.
 
-ghost use Rattle.std.specs.Prelude.{◌≡◌, ◌<◌, ◌^◌, length, IfOk};
+ghost use Rattle.std.specs.Prelude.{◌<◌, ◌^◌, length, IfOk};
 ghost use Rattle.s66_ledger.specs.Links.{AreLinks, IsChild, HasChild};
 
 use crate::path::up;
@@ -9,7 +9,7 @@ use std::alloc::{AllocError, Global};
 
 /// The way from a node of a table down to its children, the last made first.
 #[derive(Drop)]
-pub struct Links {
+pub(crate) struct Links {
     /// The last child of each node; 0 if it has none.
     last: Vec<u32>,
     /// The child of the same parent that was made before each node; 0 if there is none.
@@ -18,7 +18,7 @@ pub struct Links {
 
 impl Links {
     /// Of these nodes, in one pass over them; 8 bytes a node.
-    pub fn of(alloc: Global, nodes: &[Node]) -> Result<Links, AllocError>
+    pub(crate) fn of(alloc: Global, nodes: &[Node]) -> Result<Links, AllocError>
         requires { length nodes.now < 2 ^ 32 }
         ensures { IfOk result (λ l. AreLinks nodes.now l.last.items l.before.items (length nodes.now)) }
     {
@@ -33,7 +33,7 @@ impl Links {
     }
 
     /// The child of a node whose last number this is: one look at each of its children after that one.
-    pub fn child(&self, nodes: &[Node], parent: usize, number: u8) -> usize
+    pub(crate) fn child(&self, nodes: &[Node], parent: usize, number: u8) -> usize
         requires links { AreLinks nodes.now self.now.last.items self.now.before.items (length nodes.now) }
         requires parent { parent < length nodes.now }
         requires some { HasChild nodes.now parent number }

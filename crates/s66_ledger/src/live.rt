@@ -7,7 +7,7 @@ ghost use Rattle.s66_ledger.specs.LiveNodes.{live_values};
 use s66_node::Node;
 
 /// The least of a value and the floors of the nodes that are open or out.
-pub fn least_floor(nodes: &[Node], value: u32) -> u32
+pub(crate) fn least_floor(nodes: &[Node], value: u32) -> u32
     ensures { result ≡ least (λ v. v) (value ∷ live_values nodes.now) }
 {
     let mut least = value;

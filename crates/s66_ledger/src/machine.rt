@@ -1,18 +1,16 @@
 //! The machine (`Machine`): the state of a ledger without its history, and what each event does to it. What the events mean is
-//! `s66_machine/specs/Ledger.antt`.
+//! `s66_model/specs/Ledger.antt`.
 
 use crate::answer::Answer;
 use crate::limits::GRANT_LIMIT;
 use crate::node_table::NodeTable;
 use crate::reply::{BackError, GraftError, Offered};
 use arrayvec::ArrayVec;
-use s66_dep::Order;
 use s66_isa::{BLOCK_LIMIT, Profile};
 use s66_line::Block;
-use s66_machine::Ticket;
-use s66_model::{BUDGET_LIMIT, Rule};
+use s66_model::{BUDGET_LIMIT, Rule, Ticket};
 use s66_node::{Piece, Walk};
-use s66_time::{Timed, time_of};
+use s66_time::{Order, Timed, time_of};
 use std::alloc::{AllocError, Global};
 use std::marker::Model;
 
@@ -52,12 +50,12 @@ impl<'a> Machine<'a> {
     ghost use Rattle.s66_model.specs.LegalOrder.{IsBeginning};
     ghost use Rattle.s66_model.specs.Leaves.{floor_value};
     ghost use Rattle.s66_model.specs.Tree.{splits};
-    ghost use Rattle.s66_machine.specs.Ledger.{Event, opening, best_time, allowance, is_live, node_at, IsOut, Grant, Granted, Claim, Claimed, Back, Returned, NotOut, Retire, Retired};
-    ghost use Rattle.s66_machine.specs.Recorded.{IsOfferOf, IsOwnPiece};
-    ghost use Rattle.s66_machine.specs.Coverage.{bound_of};
+    ghost use Rattle.s66_model.specs.Ledger.{Event, opening, best_time, allowance, is_live, node_at, IsOut, Grant, Granted, Claim, Claimed, Back, Returned, NotOut, Retire, Retired};
+    ghost use Rattle.s66_model.specs.Recorded.{IsOfferOf, IsOwnPiece};
+    ghost use Rattle.s66_model.specs.Coverage.{bound_of};
     ghost use Rattle.s66_node.specs.Pieces.{tree_of};
     ghost use Rattle.s66_ledger.specs.LedgerMachine.{IsMove};
-    ghost use Rattle.s66_machine.specs.Ended.{IsEnded, ended_answer};
+    ghost use Rattle.s66_model.specs.Ended.{IsEnded, ended_answer};
     ghost use Rattle.s66_ledger.specs.Answers.{answer_of};
     ghost use Rattle.s66_ledger.specs.Finishing.{NoneOut, WholesAreTimed};
     ghost use Rattle.s66_ledger.specs.GraftMoves.{IsTakenMove, IsRefusedMove};
@@ -68,7 +66,7 @@ impl<'a> Machine<'a> {
 
     /// A machine of a walk's block and profile: of one open node, the empty prefix, at which the walk is, and whose best order is the
     /// source order; the workers count from 1, and the rule is that of dominated leaves.
-    pub fn new(
+    pub(crate) fn new(
         alloc: Global,
         walk: &Walk<'a>,
         rule: Rule,
@@ -106,13 +104,13 @@ impl<'a> Machine<'a> {
         })
     }
 
-    pub fn bound(&self) -> u32
+    pub(crate) fn bound(&self) -> u32
         ensures { result ≡ bound_of self.now.problem self.now.state }
     {
         self.table.least_floor(self.best.total())
     }
 
-    pub fn grant(&mut self, w: u8) -> u32
+    pub(crate) fn grant(&mut self, w: u8) -> u32
         requires { (1 ≤ w) × (w ≤ self.old.workers) }
         ensures granted { IsMove self.old (Grant w) (Granted result) self.new }
         ensures lines { self.new.lines ≡ self.old.lines }
@@ -123,7 +121,7 @@ impl<'a> Machine<'a> {
         share
     }
 
-    pub fn retire(&mut self, w: u8)
+    pub(crate) fn retire(&mut self, w: u8)
         requires { (1 ≤ w) × (w ≤ self.old.workers) }
         ensures retired { IsMove self.old (Retire w) Retired self.new }
         ensures lines { self.new.lines ≡ self.old.lines }
@@ -157,7 +155,7 @@ impl<'a> Machine<'a> {
         self.table.value_of(node)
     }
 
-    pub fn claim(&mut self, w: u8) -> Option<Ticket>
+    pub(crate) fn claim(&mut self, w: u8) -> Option<Ticket>
         requires { (1 ≤ w) × (w ≤ self.old.workers) }
         ensures ok { IsMove self.old (Claim w) (Claimed (claimed_node result)) self.new }
         ensures lines { self.new.lines ≡ self.old.lines }
@@ -172,7 +170,7 @@ impl<'a> Machine<'a> {
         Some(Ticket::new(node, prefix))
     }
 
-    pub fn back(&mut self, w: u8, node: u32) -> Result<(), BackError>
+    pub(crate) fn back(&mut self, w: u8, node: u32) -> Result<(), BackError>
         requires { (1 ≤ w) × (w ≤ self.old.workers) }
         ensures ok { OnOk result (IsMove self.old (Back w node) Returned self.new) }
         ensures lines { self.new.lines ≡ self.old.lines }
@@ -211,7 +209,7 @@ impl<'a> Machine<'a> {
         !self.table.may_reach(self.block.count())
     }
 
-    pub fn workers(&self) -> u8
+    pub(crate) fn workers(&self) -> u8
         ensures value { result ≡ self.now.workers }
         ensures allowances { result ≡ length self.now.state.allowances }
     {
@@ -247,7 +245,7 @@ impl<'a> Machine<'a> {
         }
     }
 
-    pub fn offer(&mut self, w: u8, timed: Timed) -> Offered
+    pub(crate) fn offer(&mut self, w: u8, timed: Timed) -> Offered
         requires { (1 ≤ w) × (w ≤ self.old.workers) }
         ensures offered { (event : Event) × IsOfferOf self.old.problem w timed.problem timed.numbers event ×
             IsMove self.old event (offered_reply result) self.new }
@@ -268,14 +266,20 @@ impl<'a> Machine<'a> {
     }
 
     /// Whether a piece is of the block and the profile, and by the rule, in time linear in the block's length.
-    pub fn is_own(&self, piece: &Piece) -> bool
+    pub(crate) fn is_own(&self, piece: &Piece) -> bool
         ensures { IsTrue result ↔ ((piece.now.rule ≡ self.now.rule) × (piece.now.problem ≡ self.now.problem)) }
     {
         piece.rule() == self.rule && piece.is_of(self.block, &self.profile)
     }
 
     /// Puts a piece in the place of a node; `own` says whether it is of the block and the profile, and by the rule.
-    pub fn graft(&mut self, w: u8, node: u32, piece: &Piece, own: bool) -> Result<(), GraftError>
+    pub(crate) fn graft(
+        &mut self,
+        w: u8,
+        node: u32,
+        piece: &Piece,
+        own: bool,
+    ) -> Result<(), GraftError>
         requires worker { (1 ≤ w) × (w ≤ self.old.workers) }
         requires own { IsOwnPiece self.old.rule self.old.problem piece.now.rule piece.now.problem own }
         ensures ok { OnOk result (IsTakenMove self.old w node piece.now self.new) }

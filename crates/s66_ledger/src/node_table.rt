@@ -13,7 +13,7 @@ use std::marker::Model;
 
 /// The nodes of a ledger, by number from 0, and which of them are open.
 #[derive(Drop)]
-pub struct NodeTable {
+pub(crate) struct NodeTable {
     nodes: Vec<Node>,
     /// The rank and the number of each open node.
     open: BinaryHeap<(u32, u32)>,
@@ -41,7 +41,7 @@ impl Model for NodeTable {
 }
 
 impl NodeTable {
-    ghost use Rattle.std.specs.Prelude.{ℕ, List, [], ◌∷◌, ◌++◌, ◌+◌, ◌^◌, ◌≡◌, ◌<◌, ◌≤◌, ◌↔◌, true, false, IsTrue, IfOk, OnOk, OnErr, IfSome, IfNone, length, map, option_map, get_or, slice_get};
+    ghost use Rattle.std.specs.Prelude.{ℕ, List, [], ◌∷◌, ◌+◌, ◌^◌, ◌≡◌, ◌<◌, ◌≤◌, ◌↔◌, true, false, IsTrue, IfOk, OnOk, OnErr, IfSome, IfNone, length, map, get_or};
     ghost use Rattle.s66_isa.specs.Lists.{tally, least};
     ghost use Rattle.s66_ledger.specs.LiveNodes.{live_values};
     ghost use Rattle.s66_isa.specs.declared.limits.TheConstants.{BLOCK_LIMIT};
@@ -54,7 +54,7 @@ impl NodeTable {
     ghost use Rattle.s66_ledger.specs.OpenNodes.{StoresOut, ranked};
 
     /// One node, the empty prefix with its floor, open.
-    pub fn new(alloc: Global, floor: u32) -> Result<NodeTable, AllocError>
+    pub(crate) fn new(alloc: Global, floor: u32) -> Result<NodeTable, AllocError>
         ensures { IfOk result (λ t. t ≡
             (record { parent = 0; value = floor; number = 0; depth = 0; made = State.Open; state = State.Open }) ∷ []) }
     {
@@ -71,35 +71,35 @@ impl NodeTable {
     }
 
     /// How many nodes there are.
-    pub fn count(&self) -> usize
+    pub(crate) fn count(&self) -> usize
         ensures { result ≡ length self.now }
     {
         self.nodes.len()
     }
 
     /// The nodes by number.
-    pub fn into_nodes(self) -> Vec<Node>
+    pub(crate) fn into_nodes(self) -> Vec<Node>
         ensures { result.items ≡ self }
     {
         self.nodes
     }
 
     /// The least of this value and the floors of the nodes that are open or out, in time linear in the number of nodes.
-    pub fn least_floor(&self, value: u32) -> u32
+    pub(crate) fn least_floor(&self, value: u32) -> u32
         ensures { result ≡ least (λ v. v) (value ∷ live_values self.now) }
     {
         live::least_floor(self.nodes.as_slice(), value)
     }
 
     /// Whether any node is handed out.
-    pub fn has_out(&self) -> bool
+    pub(crate) fn has_out(&self) -> bool
         ensures { result ≡ false → (i : ℕ) → ¬ StoresOut self.now i }
     {
         self.out != 0
     }
 
     /// Whether some prefix of `count` numbers may be open or out.
-    pub fn may_reach(&self, count: usize) -> bool
+    pub(crate) fn may_reach(&self, count: usize) -> bool
         requires { count ≤ BLOCK_LIMIT }
         ensures { result ≡ false → (i : ℕ) → i < length self.now → is_stored_live (stored_at self.now i).state ≡ true →
             length (get_or (prefixes self.now) i []) < count }
@@ -108,7 +108,7 @@ impl NodeTable {
     }
 
     /// Whether this node is handed out.
-    pub fn is_out(&self, node: u32) -> bool
+    pub(crate) fn is_out(&self, node: u32) -> bool
         ensures { IsTrue result ↔ StoresOut self.now node }
     {
         let i = node as usize;
@@ -116,7 +116,7 @@ impl NodeTable {
     }
 
     /// Whether a node is open or out, with a floor below this value.
-    pub fn is_live_below(&self, node: u32, value: u32) -> bool
+    pub(crate) fn is_live_below(&self, node: u32, value: u32) -> bool
         requires { node < length self.now }
         ensures { IsTrue result ↔ (IsTrue (is_stored_live (stored_at self.now node).state) ×
             ((stored_at self.now node).value < value)) }
@@ -126,7 +126,7 @@ impl NodeTable {
     }
 
     /// Whether this is the prefix of a node.
-    pub fn is_over(&self, node: u32, prefix: &[u8]) -> bool
+    pub(crate) fn is_over(&self, node: u32, prefix: &[u8]) -> bool
         requires { node < length self.now }
         ensures { IsTrue result ↔ (get_or (prefixes self.now) node [] ≡ prefix.now) }
     {
@@ -134,7 +134,7 @@ impl NodeTable {
     }
 
     /// The prefix of a node.
-    pub fn prefix_of(&self, node: u32) -> ArrayVec<u8, BLOCK_LIMIT>
+    pub(crate) fn prefix_of(&self, node: u32) -> ArrayVec<u8, BLOCK_LIMIT>
         requires within { node < length self.now }
         requires few { length (get_or (prefixes self.now) node []) ≤ BLOCK_LIMIT }
         ensures { result.items ≡ get_or (prefixes self.now) node [] }
@@ -143,7 +143,7 @@ impl NodeTable {
     }
 
     /// Whether the prefix of a node has this length.
-    pub fn has_length(&self, node: u32, count: usize) -> bool
+    pub(crate) fn has_length(&self, node: u32, count: usize) -> bool
         requires within { node < length self.now }
         requires few { count ≤ BLOCK_LIMIT }
         ensures { IsTrue result ↔ (length (get_or (prefixes self.now) node []) ≡ count) }
@@ -152,7 +152,7 @@ impl NodeTable {
     }
 
     /// The value that a node has: its floor's, if it isn't split.
-    pub fn value_of(&self, node: u32) -> u32
+    pub(crate) fn value_of(&self, node: u32) -> u32
         requires { node < length self.now }
         ensures { result ≡ (stored_at self.now node).value }
     {
@@ -161,7 +161,7 @@ impl NodeTable {
 
     /// Hands out the open node of the least floor, of equal ones the deepest, and of these the newest; None only if no node is
     /// open. In time logarithmic in the number of open nodes.
-    pub fn claim(&mut self) -> Option<u32>
+    pub(crate) fn claim(&mut self) -> Option<u32>
         ensures within { IfSome result (λ i. i < length self.old) }
         ensures was { IfSome result (λ i. (stored_at self.old i).state ≡ State.Open) }
         ensures moved { IfSome result (λ i. self.new ≡ put_state self.old i State.Out) }
@@ -179,7 +179,7 @@ impl NodeTable {
     }
 
     /// Opens a node that is handed out, in time logarithmic in the number of open nodes.
-    pub fn give_back(&mut self, node: u32) -> Result<(), AllocError>
+    pub(crate) fn give_back(&mut self, node: u32) -> Result<(), AllocError>
         requires { StoresOut self.old node }
         ensures ok { OnOk result (self.new ≡ put_state self.old node State.Open) }
         ensures err { OnErr result (self.new ≡ self.old) }
@@ -196,7 +196,7 @@ impl NodeTable {
     /// nodes come after those that there are; dominated ones are closed if the nodes of their names are found, and else open. It
     /// takes time linear in the piece's nodes and their names, with a logarithm of the number of open nodes for each that is open.
     /// `Err` leaves all as it was.
-    pub fn attach(&mut self, root: u32, best: u32, piece: &Piece) -> Result<(), AllocError>
+    pub(crate) fn attach(&mut self, root: u32, best: u32, piece: &Piece) -> Result<(), AllocError>
         requires out { StoresOut self.old root }
         requires over { get_or (prefixes self.old) root [] ≡ piece.now.prefix }
         requires floors { HaveFloors piece.now.problem self.old }

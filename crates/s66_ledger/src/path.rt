@@ -10,7 +10,7 @@ use s66_isa::BLOCK_LIMIT;
 use s66_node::Node;
 
 /// Whether this is the prefix of a node: up its parents, in time linear in the prefix's length.
-pub fn is_over(nodes: &[Node], node: u32, prefix: &[u8]) -> bool
+pub(crate) fn is_over(nodes: &[Node], node: u32, prefix: &[u8]) -> bool
     requires { node < length nodes.now }
     ensures { IsTrue result ↔ (get_or (prefixes nodes.now) node [] ≡ prefix.now) }
 {
@@ -30,7 +30,7 @@ pub fn is_over(nodes: &[Node], node: u32, prefix: &[u8]) -> bool
 }
 
 /// The prefix of a node: up its parents, and then turned around, in time linear in its length.
-pub fn prefix_of(nodes: &[Node], node: u32) -> ArrayVec<u8, BLOCK_LIMIT>
+pub(crate) fn prefix_of(nodes: &[Node], node: u32) -> ArrayVec<u8, BLOCK_LIMIT>
     requires within { node < length nodes.now }
     requires few { length (get_or (prefixes nodes.now) node []) ≤ BLOCK_LIMIT }
     ensures { result.items ≡ get_or (prefixes nodes.now) node [] }
@@ -47,7 +47,7 @@ pub fn prefix_of(nodes: &[Node], node: u32) -> ArrayVec<u8, BLOCK_LIMIT>
 
 /// The name of a node that is dominated, in time linear in its length: the prefix of the node whose number is its value, which
 /// comes before it.
-pub fn name_of(nodes: &[Node], node: usize) -> ArrayVec<u8, BLOCK_LIMIT>
+pub(crate) fn name_of(nodes: &[Node], node: usize) -> ArrayVec<u8, BLOCK_LIMIT>
     requires within { node < length nodes.now }
     requires few { length (name_at nodes.now node) ≤ BLOCK_LIMIT }
     ensures { result.items ≡ name_at nodes.now node }
@@ -58,7 +58,7 @@ pub fn name_of(nodes: &[Node], node: usize) -> ArrayVec<u8, BLOCK_LIMIT>
 }
 
 /// The parent of a node, which comes before it.
-pub fn up(nodes: &[Node], i: usize) -> usize
+pub(crate) fn up(nodes: &[Node], i: usize) -> usize
     requires some { 0 < i }
     requires within { i < length nodes.now }
     ensures before { result < i }

@@ -8,7 +8,7 @@ use crate::limits::{DEPTH_RANKS, RANKED_LIMIT};
 
 /// The rank of an open node by its floor and the length of its prefix: the less its floor, and then the deeper it is, the
 /// greater.
-pub fn rank_of(floor: u32, depth: u8) -> u32
+pub(crate) fn rank_of(floor: u32, depth: u8) -> u32
     ensures value { result ≡ rank_of floor depth }
     ensures few { depth < DEPTH_RANKS }
 {

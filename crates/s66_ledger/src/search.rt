@@ -11,8 +11,7 @@ ghost use Rattle.s66_ledger.specs.declared.limits.TheConstants.{SCHEDULE_SPLITS}
 use crate::ledger::Ledger;
 use crate::limits::{DOMINATED_PIECE_LIMIT, SCHEDULE_SPLITS};
 use crate::reply::{BackError, GraftError};
-use s66_machine::Ticket;
-use s66_model::Rule;
+use s66_model::{Rule, Ticket};
 use s66_node::{Constant, MarkTable, Piece, Priority, Walk, schedule_below};
 use s66_time::Timed;
 use std::alloc::{AllocError, Global};
@@ -52,8 +51,8 @@ impl Ledger<'_> {
     ghost use Rattle.s66_model.specs.Timing.{total_of};
     ghost use Rattle.s66_model.specs.LegalOrder.{IsBeginning};
     ghost use Rattle.s66_time.specs.TimedOrder.{TimedOrder};
-    ghost use Rattle.s66_machine.specs.Ledger.{best_time, allowance, node_at, IsOut, Back, Returned};
-    ghost use Rattle.s66_machine.specs.Coverage.{Covers};
+    ghost use Rattle.s66_model.specs.Ledger.{best_time, allowance, node_at, IsOut, Back, Returned};
+    ghost use Rattle.s66_model.specs.Coverage.{Covers};
     ghost use Rattle.s66_node.specs.Pieces.{tree_of};
     ghost use Rattle.s66_ledger.specs.Ledgers.{IsEvent};
     ghost use Rattle.s66_ledger.specs.Finishing.{Leads, IsIdle, WholesAreTimed, IsSearched, IsBetweenRounds, IsWithinRound, IsRoundPiece, IsOffering, IsTaken, still_to_go};

@@ -1,15 +1,14 @@
 //! What is taken back before a search goes on alone: allowances, nodes that are out, and whole orders among the nodes.
 
 use crate::ledger::Ledger;
-use s66_dep::Order;
-use s66_time::time_of;
+use s66_time::{Order, time_of};
 use std::alloc::AllocError;
 
 impl Ledger<'_> {
-    ghost use Rattle.std.specs.Prelude.{◌≡◌, ◌<◌, ◌≤◌, length, OnOk};
+    ghost use Rattle.std.specs.Prelude.{◌<◌, ◌≤◌, length, OnOk};
     ghost use Rattle.s66_model.specs.Timing.{total_of};
     ghost use Rattle.s66_model.specs.LegalOrder.{IsLegal};
-    ghost use Rattle.s66_machine.specs.Ledger.{best_time};
+    ghost use Rattle.s66_model.specs.Ledger.{best_time};
     ghost use Rattle.s66_ledger.specs.Finishing.{Leads, IsIdle, WholesAreTimed, IsOffering, IsReopening, IsTiming};
 
     /// Takes back every allowance and every node that is out. If some node is out, this takes time linear in the number of nodes,

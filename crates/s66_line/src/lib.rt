@@ -16,7 +16,7 @@ mod limits;
 mod operand;
 
 pub use block::Block;
-pub use characters::is_decimal_digit;
+pub use characters::{Place, is_decimal_digit};
 pub use class::{Class, Classified, classify};
 pub use entry::Entry;
 pub use fields::{

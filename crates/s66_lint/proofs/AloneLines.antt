@@ -1,10 +1,8 @@
 -- Whether `--cut` leaves each line of a text alone, one line after the other.
-use Rattle.std.proofs.Common.{◌≡◌, ◌||◌, ◌<◌, ◌≤◌, ◌+◌, ◌-◌, ℕ, zero, suc, Bool, true, false, List, [], ◌∷◌, ◌++◌, length, map, take, nat_lt, refl, ap, ap₂, ◌∙◌, arith, append_assoc, length-append, sym, if◌then◌else◌}
-use Rattle.std.proofs.lemmas.List.{append-nil, length-take}
-use Rattle.s66_line.specs.Class.{class_of}
-use Rattle.s66_line.specs.Fields.{body, continues, lines_from}
+use Rattle.std.proofs.Common.{◌≡◌, ◌<◌, ◌≤◌, ◌+◌, ◌-◌, ℕ, zero, suc, Bool, true, false, List, [], ◌∷◌, ◌++◌, length, take, nat_lt, refl, ap, ◌∙◌, arith, append_assoc, length-append, sym, if◌then◌else◌}
+use Rattle.std.proofs.lemmas.List.{append-nil}
+use Rattle.s66_line.specs.Fields.{lines_from}
 use Rattle.s66_line.specs.declared.limits.TheConstants.{LINE_BYTES_LIMIT}
-use Rattle.s66_source.specs.Counts.{is_covering}
 use Rattle.s66_source.specs.LeftAlone.{after_line, is_alone, is_continued}
 use Rattle.s66_source.specs.LeftAlone.{Standing}
 use Rattle.s66_lint.specs.Marks.{alone_from, as_read}

@@ -3,7 +3,7 @@ use Rattle.std.proofs.Common.{◌≡◌, ◌≤◌, ◌||◌, ◌&&◌, ◌++◌
 use Rattle.std.proofs.lemmas.List.{append-nil, length-map}
 use Rattle.s66_isa.specs.Lists.{tally}
 use Rattle.s66_isa.proofs.Lists.{tally-append}
-use Rattle.s66_line.specs.Fields.{body, continues, lines_from, lines_of}
+use Rattle.s66_line.specs.Fields.{body, lines_from, lines_of}
 use Rattle.s66_source.specs.LeftAlone.{Flagged, flagged_from, is_alone, is_off_switch, is_on_switch, off_after}
 use Rattle.s66_source.proofs.FlaggedLines.{flagged-found}
 use Rattle.s66_lint.specs.Guarded.{Begins, IsGuard, Kept, Mark, GuardedLine, beginnings, between, guarded_bytes, guarded_lines, is_end, is_guarded, marked_line, marked_lines, guarded_text, written_from}

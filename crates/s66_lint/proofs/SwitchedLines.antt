@@ -5,7 +5,7 @@ use Rattle.std.proofs.lemmas.Bool.{and_parts, and_from, or_parts}
 use Rattle.s66_isa.specs.Lists.{every}
 use Rattle.s66_line.specs.Block.{Entry, Block}
 use Rattle.s66_line.specs.Class.{by_operation, class_of, is_code, is_instruction, is_located}
-use Rattle.s66_line.specs.Fields.{body, continues, is_comment, is_newline, lines_of, operand, operation, upper, with_newlines, from_operation}
+use Rattle.s66_line.specs.Fields.{body, continues, is_comment, is_newline, lines_of, with_newlines, from_operation}
 use Rattle.s66_line.specs.declared.class.Class.{Class}
 use Rattle.s66_line.specs.declared.class.Class.TheVariants.{Comment, Other, Refused, Pad, Instruction}
 use Rattle.s66_line.proofs.Wholes.{AreLines-lines_of}

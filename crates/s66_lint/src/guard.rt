@@ -15,7 +15,7 @@ use s66_source::{cut_line, is_switch};
 use std::alloc::{AllocError, Global};
 
 /// How many bytes of a reason are shown, so that its line has up to 72.
-pub const REASON_LIMIT: usize = 57;
+pub(crate) const REASON_LIMIT: usize = 57;
 
 /// A source with switches around lines that `order` could harm.
 #[derive(Drop)]

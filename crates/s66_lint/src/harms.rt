@@ -34,7 +34,7 @@ struct LineHarm {
 
 /// What the findings of a source harm that concern the order of code, by the reading with `--cut`. Lines are named by their index.
 #[derive(Drop)]
-pub struct Harms {
+pub(crate) struct Harms {
     changing: Changing,
     lines: Vec<LineHarm>,
     findings: Vec<HarmingFinding>,
@@ -89,7 +89,7 @@ fn harmed_runs(alloc: Global, count: usize, ranges: &[RunRange]) -> Result<Vec<b
 
 /// What the findings of a source harm, which may be any text, by the reading with `--cut`; of the first `SOURCE_LINES_LIMIT` lines
 /// alone. `Err` is out of memory.
-pub fn harms_in(alloc: Global, text: &[u8]) -> Result<Harms, AllocError> {
+pub(crate) fn harms_in(alloc: Global, text: &[u8]) -> Result<Harms, AllocError> {
     let letters = text.to_ascii_uppercase(alloc)?;
     let lines = Lines::of(alloc, text, letters.as_slice())?;
     let alone = alone_lines(alloc, text)?;
@@ -176,20 +176,20 @@ impl Harms {
     }
 
     /// Whether a line is in the harm of some finding.
-    pub fn is_harmed(&self, line: usize) -> bool {
+    pub(crate) fn is_harmed(&self, line: usize) -> bool {
         self.line(line).is_harmed
     }
 
     /// Whether a line may stand between two harmed ones without an end of the switches: it is harmed too, or it can't change, is not
     /// between switches, and is a comment that is neither a directive nor a switch, has words of code, or makes no word.
-    pub fn may_stand_between(&self, line: usize) -> bool {
+    pub(crate) fn may_stand_between(&self, line: usize) -> bool {
         let line = self.line(line);
         line.is_harmed || !line.may_change && line.is_passed
     }
 
     /// The texts of the findings that harm a line from the first to the last, in the order of the lines in which they are, each text
     /// once: the words of the rule, and up to two words of the line. It looks once at each finding, and at each answer that they share.
-    pub fn texts_in(
+    pub(crate) fn texts_in(
         &self,
         alloc: Global,
         first: usize,

@@ -1,6 +1,6 @@
 //! The text of a finding as `lint` lists it, and which findings are listed with `--cut`.
 
-ghost use Rattle.std.specs.Prelude.{◌≡◌, ◌++◌, codes, if◌then◌else◌, true, OnOk};
+ghost use Rattle.std.specs.Prelude.{◌≡◌, ◌++◌, codes, if◌then◌else◌, OnOk};
 ghost use Rattle.s66_lint.specs.Listing.{after_blank, finding_line, is_listed, listing, rule_words};
 ghost use Rattle.s66_lint.specs.Marks.{is_alone_at, is_marked};
 

@@ -1,3 +1,14 @@
+pub mod AccountLaws
+pub mod OnceCovered
+pub mod LedgerSteps
+pub mod LedgerRuns
+pub mod OneTree
+pub mod Histories
+pub mod GrownTrees
+pub mod NodeTrees
+pub mod NamedNodes
+pub mod EndedLedgers
+pub mod TreeLines
 pub mod Issue
 pub mod Packed
 pub mod LegalOrders

@@ -1,3 +1,15 @@
+pub mod Accounts
+pub mod Expansion
+pub mod Ledger
+pub mod Coverage
+pub mod NodeTable
+pub mod NodeTree
+pub mod Ended
+pub mod Tickets
+pub mod Reached
+pub mod Recorded
+pub mod TreeLines
+pub mod LedgerExamples
 pub mod Packing
 pub mod Timing
 pub mod WrittenOrder

@@ -1,7 +1,7 @@
 //! Worked examples of arcs, paths, lines and trees.
 //! The functions do nothing.
 
-ghost use Rattle.std.specs.Prelude.{ℕ, List, [], ◌∷◌, ◌++◌, ◌+◌, ◌≡◌, ◌≤◌, ◌≢◌, true, false, Some, None};
+ghost use Rattle.std.specs.Prelude.{ℕ, [], ◌∷◌, ◌++◌, ◌+◌, ◌≡◌, ◌≤◌, true, false, Some, None};
 ghost use Rattle.s66_isa.specs.declared.instr.Kind.TheVariants.{Boolean};
 ghost use Rattle.s66_isa.specs.Table.{a_reg, x_reg};
 ghost use Rattle.s66_model.specs.declared.rule.Rule.TheVariants.{NoneNamed, WrittenEarlier, ClampedStanding};

@@ -1,10 +1,10 @@
 //! Facts that all legal orders have that take less than a time, and how one follows from others.
 //! A fact is an arc, a pair or a prefix.
 
-ghost use Rattle.std.specs.Prelude.{ℕ, List, ◌∷◌, ◌+◌, ◌≡◌, ◌≢◌, ◌≤◌, ◌<◌, true, false, map, length};
+ghost use Rattle.std.specs.Prelude.{ℕ, List, ◌∷◌, ◌+◌, ◌≡◌, ◌≢◌, ◌≤◌, ◌<◌, true, map, length};
 ghost use Rattle.s66_isa.specs.declared.instr.Kind.{Kind};
 ghost use Rattle.s66_isa.specs.Lists.{Among, has};
-ghost use Rattle.s66_model.specs.Timing.{Problem, row_at, copies, total_of};
+ghost use Rattle.s66_model.specs.Timing.{Problem, row_at, total_of};
 ghost use Rattle.s66_model.specs.LegalOrder.{is_remaining};
 ghost use Rattle.s66_moments.specs.declared.moment.Stage.{Stage};
 ghost use Rattle.s66_moments.specs.declared.moment.Stage.TheVariants.{Issue, Free};

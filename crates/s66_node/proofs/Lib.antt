@@ -1,4 +1,5 @@
 pub mod Earlier
+pub mod Exchanged
 pub mod Growing
 pub mod GrowTurns
 pub mod Leasts

@@ -7,7 +7,7 @@ use Rattle.s66_model.specs.Timing.{Problem}
 use Rattle.s66_model.specs.Tree.{Tree, Alone, AtTerminal, TreeHolds, flat, splits, split_at}
 use Rattle.s66_model.specs.DominatedLeaves.{DominatesByRule}
 use Rattle.s66_model.specs.Piece.{Terminal, Carries, Frontier, Passed, TerminalHolds, IsNamedIn, IsPiece}
-use Rattle.s66_machine.specs.Expansion.{TerminalHoldsWhile, IsExpansion}
+use Rattle.s66_model.specs.Expansion.{TerminalHoldsWhile, IsExpansion}
 use Rattle.s66_model.specs.NodeNames.{node_named, is_node}
 use Rattle.s66_model.specs.Preorder.{read_tree, TreeMatches}
 use Rattle.s66_model.proofs.Forests.{read-flat, tree-match}

@@ -10,7 +10,7 @@ use Rattle.s66_model.specs.LegalOrder.{is_ready, ready, GoesOn, IsBeginning, IsC
 use Rattle.s66_model.proofs.Beginnings.{beginning-front}
 use Rattle.s66_model.proofs.PointTimes.{points_after-append, point_of-row}
 use Rattle.s66_model.proofs.Remaining.{among-ready, ready-among, legal-parts, rest-first, step-begins}
-use Rattle.s66_dep.proofs.LongestBeginning.{beginning-few}
+use Rattle.s66_time.proofs.LongestBeginning.{beginning-few}
 use Rattle.s66_node.specs.Walked.{Walked}
 
 -- the next slot after a push is its issue and its parcels

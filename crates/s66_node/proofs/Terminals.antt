@@ -9,7 +9,7 @@ use Rattle.s66_model.specs.Timing.{Problem, total_of}
 use Rattle.s66_model.specs.LegalOrder.{IsBeginning, IsComplete, IsLegal}
 use Rattle.s66_model.specs.Leaves.{Leaf, Whole, Chain, Load, Parcels, value, longest_chain, first_greatest, after_chain, floor, floor_value}
 use Rattle.s66_model.specs.Piece.{Terminal, Carries, Frontier, Passed, TerminalHolds, IsNamedIn}
-use Rattle.s66_machine.specs.Expansion.{TerminalHoldsWhile, whole_at}
+use Rattle.s66_model.specs.Expansion.{TerminalHoldsWhile, whole_at}
 use Rattle.s66_model.specs.Tree.{Tree}
 use Rattle.s66_model.proofs.LegalOrders.{order-legal}
 use Rattle.s66_model.proofs.Floors.{floor-part}

@@ -10,14 +10,14 @@ use Rattle.s66_model.specs.Timing.{Problem}
 use Rattle.s66_model.specs.LegalOrder.{IsBeginning, is_ready, ready}
 use Rattle.s66_model.specs.Tree.{Tree, Alone, Parted, Vertex, AtTerminal, AtSplit, TreeHolds, flat, splits, split_at, tree_values}
 use Rattle.s66_model.proofs.Remaining.{step-begins, ready-among}
-use Rattle.s66_dep.specs.Members.{numbers_in}
-use Rattle.s66_dep.proofs.Sets.{numbers_in-few}
-use Rattle.s66_dep.proofs.LongestBeginning.{beginning-few}
+use Rattle.s66_time.specs.Members.{numbers_in}
+use Rattle.s66_time.proofs.Sets.{numbers_in-few}
+use Rattle.s66_time.proofs.LongestBeginning.{beginning-few}
 use Rattle.s66_node.specs.declared.whole_order.WholeOrder.{WholeOrder}
 use Rattle.s66_node.specs.Walked.{front}
 use Rattle.s66_node.specs.Growing.{TreeGrows, tree_prefixes}
 use Rattle.s66_model.specs.Piece.{Terminal, Frontier, Passed}
-use Rattle.s66_machine.specs.Expansion.{whole_at}
+use Rattle.s66_model.specs.Expansion.{whole_at}
 use Rattle.s66_node.specs.declared.grow.OpenSplit.{OpenSplit}
 use Rattle.s66_node.specs.Walking.{Span, AreOpen, FramesStand, IsDue, IsLeft, IsKnown, IsLeast, IsBeingMade, GrowsFor, AreOfSplits, NameSplits, lefts}
 use Rattle.s66_node.proofs.Nodes.{get_or-front, get_or-last}

@@ -4,3 +4,4 @@ pub mod Walked
 pub mod Growing
 pub mod Walking
 pub mod MarkTables
+pub mod Reversed

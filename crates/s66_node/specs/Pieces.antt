@@ -5,7 +5,7 @@ use Rattle.s66_model.specs.Timing.{Problem}
 use Rattle.s66_model.specs.Tree.{Tree, Vertex, flat, splits}
 use Rattle.s66_model.specs.Preorder.{read_tree}
 use Rattle.s66_model.specs.Piece.{Terminal, Frontier, IsPiece}
-use Rattle.s66_machine.specs.Expansion.{IsBestWhole, IsExpansion}
+use Rattle.s66_model.specs.Expansion.{IsBestWhole, IsExpansion}
 use Rattle.s66_time.specs.TimedOrder.{TimedOrder}
 use Rattle.s66_node.specs.declared.node.Node.{Node}
 use Rattle.s66_node.specs.Nodes.{Named, prefixes_over, node_lines, AreNodes}

@@ -3,7 +3,7 @@
 use std::alloc::{AllocError, Global};
 
 /// In place of a place: there is none.
-pub const NONE: u32 = u32::MAX;
+pub(crate) const NONE: u32 = u32::MAX;
 
 /// How many lists there are at first.
 const FIRST_LISTS: usize = 64;
@@ -12,7 +12,7 @@ const FIRST_LISTS: usize = 64;
 ///
 /// Nothing is promised of what is in which list: who looks for something in one looks at what each place has.
 #[derive(Drop)]
-pub struct Chains {
+pub(crate) struct Chains {
     /// The first place of each list.
     firsts: Vec<u32>,
     /// The place after each place in its list.
@@ -23,7 +23,7 @@ pub struct Chains {
 
 impl Chains {
     /// No list.
-    pub fn new(alloc: Global) -> Chains {
+    pub(crate) fn new(alloc: Global) -> Chains {
         Chains {
             firsts: Vec::new(alloc),
             nexts: Vec::new(alloc),
@@ -38,7 +38,7 @@ impl Chains {
     }
 
     /// The first place of the list of a hash.
-    pub fn first(&self, hash: u64) -> u32 {
+    pub(crate) fn first(&self, hash: u64) -> u32 {
         let list = self.list_of(hash);
         if list < self.firsts.len() {
             self.firsts[list]
@@ -48,7 +48,7 @@ impl Chains {
     }
 
     /// The place after a place in its list.
-    pub fn next(&self, place: u32) -> u32 {
+    pub(crate) fn next(&self, place: u32) -> u32 {
         let index = place as usize;
         if index < self.nexts.len() {
             self.nexts[index]
@@ -72,14 +72,14 @@ impl Chains {
     }
 
     /// Puts a place first in the list of a hash.
-    pub fn put(&mut self, hash: u64, place: u32) {
+    pub(crate) fn put(&mut self, hash: u64, place: u32) {
         let next = self.first(hash);
         self.set_next(place, next);
         self.set_first(hash, place);
     }
 
     /// Takes a place out of the list of a hash if it is in it, among at most `places`.
-    pub fn remove_place(&mut self, hash: u64, place: u32, places: usize) {
+    pub(crate) fn remove_place(&mut self, hash: u64, place: u32, places: usize) {
         let mut before = NONE;
         let mut other = self.first(hash);
         for _ in 0..places {
@@ -93,7 +93,7 @@ impl Chains {
     }
 
     /// Takes a place out of the list of a hash; `before` is the place before it there, or `NONE`.
-    pub fn remove(&mut self, hash: u64, before: u32, place: u32) {
+    pub(crate) fn remove(&mut self, hash: u64, before: u32, place: u32) {
         let next = self.next(place);
         if before == NONE {
             self.set_first(hash, next);
@@ -105,7 +105,7 @@ impl Chains {
     }
 
     /// A place to be used again, if there is one.
-    pub fn reuse(&mut self) -> Option<u32> {
+    pub(crate) fn reuse(&mut self) -> Option<u32> {
         let place = self.free;
         if place == NONE {
             return None;
@@ -119,13 +119,13 @@ impl Chains {
     /// # Errors
     ///
     /// `AllocError` if memory runs out; nothing is changed then.
-    pub fn add_place(&mut self) -> Result<(), AllocError> {
+    pub(crate) fn add_place(&mut self) -> Result<(), AllocError> {
         self.nexts.push(NONE)?;
         Ok(())
     }
 
     /// Takes all places away. It keeps its memory.
-    pub fn clear(&mut self) {
+    pub(crate) fn clear(&mut self) {
         for list in 0..self.firsts.len() {
             self.firsts[list] = NONE;
         }
@@ -134,7 +134,7 @@ impl Chains {
     }
 
     /// Whether `places` places are more than the lists are made for.
-    pub fn is_crowded(&self, places: usize) -> bool {
+    pub(crate) fn is_crowded(&self, places: usize) -> bool {
         places >= self.firsts.len()
     }
 
@@ -143,7 +143,7 @@ impl Chains {
     /// # Errors
     ///
     /// `AllocError` if memory runs out; nothing is changed then.
-    pub fn double(&mut self) -> Result<(), AllocError> {
+    pub(crate) fn double(&mut self) -> Result<(), AllocError> {
         let more = self.firsts.len().max(FIRST_LISTS);
         self.firsts.try_reserve(more)?;
         for list in 0..self.firsts.len() {

@@ -7,7 +7,7 @@ ghost use Rattle.s66_line.specs.Block.{instrs_of};
 ghost use Rattle.s66_model.specs.Timing.{Problem};
 ghost use Rattle.s66_model.specs.Tree.{Tree};
 ghost use Rattle.s66_model.specs.Piece.{Terminal};
-ghost use Rattle.s66_machine.specs.Expansion.{whole_orders};
+ghost use Rattle.s66_model.specs.Expansion.{whole_orders};
 ghost use Rattle.s66_node.specs.Pieces.{IsBestTimed};
 ghost use Rattle.s66_node.specs.Walking.{IsLeast};
 
@@ -18,11 +18,10 @@ use crate::naming::{Naming, NoNames};
 use crate::piece::{Origin, Piece};
 use crate::walk::Walk;
 use crate::whole_order::{WholeOrder, copy_of};
-use s66_dep::Order;
 use s66_isa::Profile;
 use s66_line::Block;
 use s66_model::Rule;
-use s66_time::{Timed, time_of};
+use s66_time::{Order, Timed, time_of};
 use std::alloc::{AllocError, Global};
 use std::boxed::Box;
 

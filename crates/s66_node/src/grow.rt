@@ -10,7 +10,7 @@ ghost use Rattle.s66_model.specs.declared.rule.Rule.TheVariants.{NoneNamed, Writ
 ghost use Rattle.s66_model.specs.Leaves.{floor_value};
 ghost use Rattle.s66_model.specs.Tree.{Tree};
 ghost use Rattle.s66_model.specs.Piece.{Terminal};
-ghost use Rattle.s66_machine.specs.Expansion.{whole_at};
+ghost use Rattle.s66_model.specs.Expansion.{whole_at};
 ghost use Rattle.s66_node.specs.Walking.{Span, span, IsDue, IsFound, IsOpen, IsLeast, IsGrown, IsEmpty, IsValued, terminal_by};
 
 use crate::least::Least;
@@ -20,9 +20,9 @@ use crate::node::{Node, State};
 use crate::walk::Walk;
 use crate::whole_order::{WholeOrder, keep_lesser};
 use arrayvec::ArrayVec;
-use s66_dep::Set;
 use s66_isa::BLOCK_LIMIT;
 use s66_model::Rule;
+use s66_time::Set;
 use std::alloc::{AllocError, Global};
 use std::boxed::Box;
 
@@ -33,10 +33,10 @@ const FIRST_NODES: usize = 64;
 /// least of its whole orders.
 #[derive(Drop)]
 pub(crate) struct Grown {
-    pub nodes: Vec<Node>,
-    pub dominances: Vec<Dominance>,
-    pub splits: u32,
-    pub least: Option<WholeOrder>,
+    pub(crate) nodes: Vec<Node>,
+    pub(crate) dominances: Vec<Dominance>,
+    pub(crate) splits: u32,
+    pub(crate) least: Option<WholeOrder>,
 }
 
 /// What a prefix has that isn't split. A value is that of its floor, in minor cycles.
@@ -69,8 +69,8 @@ impl Unsplit {
 /// A node that is split, by its place, and the last numbers of its children that are still to come.
 #[derive(Clone, Copy, Default)]
 pub(crate) struct OpenSplit {
-    pub node: u32,
-    pub left: Set,
+    pub(crate) node: u32,
+    pub(crate) left: Set,
 }
 
 /// A count of nodes or names as the place of the next one. `Err` if no place is so great: there is no memory for so many.

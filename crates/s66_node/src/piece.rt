@@ -3,20 +3,19 @@
 use crate::name::Dominance;
 use crate::node::Node;
 use arrayvec::ArrayVec;
-use s66_dep::Order;
 use s66_isa::{BLOCK_LIMIT, Profile, is_same_profile};
 use s66_line::Block;
 use s66_model::Rule;
-use s66_time::Timed;
+use s66_time::{Order, Timed};
 use std::boxed::Box;
 use std::marker::Model;
 
 /// What a piece is a tree over: a prefix of the legal orders of a block, timed under a profile.
 #[derive(Drop)]
 pub(crate) struct Origin {
-    pub source: Order,
-    pub profile: Profile,
-    pub prefix: ArrayVec<u8, BLOCK_LIMIT>,
+    pub(crate) source: Order,
+    pub(crate) profile: Profile,
+    pub(crate) prefix: ArrayVec<u8, BLOCK_LIMIT>,
 }
 
 /// A tree over a prefix of a block's legal orders: splits with exactly the ready numbers, leaves that are floors, dominated leaves

@@ -6,9 +6,8 @@ ghost use Rattle.s66_model.specs.LegalOrder.{is_ready, ready, IsComplete};
 ghost use Rattle.s66_model.specs.Timing.{total_of};
 
 use crate::walk::Walk;
-use s66_dep::Order;
 use s66_isa::{BLOCK_LIMIT, Reg};
-use s66_time::{Timed, time_of};
+use s66_time::{Order, Timed, time_of};
 
 /// What comes first in a list schedule.
 #[derive(Clone, Copy)]

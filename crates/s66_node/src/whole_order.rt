@@ -12,12 +12,12 @@ use s66_isa::BLOCK_LIMIT;
 /// A whole order and its total in minor cycles.
 #[derive(Drop)]
 pub(crate) struct WholeOrder {
-    pub numbers: ArrayVec<u8, BLOCK_LIMIT>,
-    pub total: u32,
+    pub(crate) numbers: ArrayVec<u8, BLOCK_LIMIT>,
+    pub(crate) total: u32,
 }
 
 /// The same numbers, copied all at once.
-pub fn copy_of(numbers: &[u8]) -> ArrayVec<u8, BLOCK_LIMIT>
+pub(crate) fn copy_of(numbers: &[u8]) -> ArrayVec<u8, BLOCK_LIMIT>
     requires { length numbers.now ≤ BLOCK_LIMIT }
     ensures { result.items ≡ numbers.now }
 {

@@ -1,7 +1,7 @@
 -- To be believed: the page that shows the blocks of two sources in pairs, as `compare` pairs them, each in the orders of both.
 --
 -- `PAGE_PAIRS` is a constant: what stands between the profile and the list.
-use Rattle.std.specs.Prelude.{ℕ, ◌≡◌, ◌+◌, Bool, true, List, [], ◌∷◌, ◌++◌, Ok, Option, None, Some, codes, decimal, slice_get}
+use Rattle.std.specs.Prelude.{ℕ, ◌≡◌, ◌+◌, Bool, true, List, [], ◌∷◌, ◌++◌, Ok, Option, Some, codes, decimal, slice_get}
 use Rattle.s66_isa.specs.declared.profile.Profile.{Profile}
 use Rattle.s66_line.specs.Block.{Block, instrs_of}
 use Rattle.s66_source.specs.Frame.{frame_of}

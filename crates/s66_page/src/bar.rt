@@ -95,7 +95,7 @@ fn push_stretch_title(out: &mut Vec<u8>, stretch: &Stretch) -> Result<(), AllocE
 
 /// The bar of a stretch.
 #[tactic(auto, unfolding(crate::specs::Page::stretch_bar))]
-pub fn push_stretch_bar(out: &mut Vec<u8>, stretch: &Stretch) -> Result<(), AllocError>
+pub(crate) fn push_stretch_bar(out: &mut Vec<u8>, stretch: &Stretch) -> Result<(), AllocError>
     ensures { OnOk result (out.new.items ≡ out.old.items ++ stretch_bar stretch.now) }
 {
     let cycles = stretch.to.saturating_sub(stretch.from);
@@ -106,7 +106,7 @@ pub fn push_stretch_bar(out: &mut Vec<u8>, stretch: &Stretch) -> Result<(), Allo
 
 /// The words of a stretch.
 #[tactic(auto, unfolding(crate::specs::Page::stretch_words))]
-pub fn push_stretch_words(out: &mut Vec<u8>, stretch: &Stretch) -> Result<(), AllocError>
+pub(crate) fn push_stretch_words(out: &mut Vec<u8>, stretch: &Stretch) -> Result<(), AllocError>
     ensures { OnOk result (out.new.items ≡ out.old.items ++ stretch_words stretch.now) }
 {
     push_text(out, b" <tspan class='")?;
@@ -139,7 +139,7 @@ fn push_worked(out: &mut Vec<u8>, class: &[u8], work: &Work) -> Result<(), Alloc
 
 /// The bar of an instruction while its unit works.
 #[tactic(auto, unfolding(crate::specs::Page::work_bar))]
-pub fn push_work_bar(out: &mut Vec<u8>, work: &Work) -> Result<(), AllocError>
+pub(crate) fn push_work_bar(out: &mut Vec<u8>, work: &Work) -> Result<(), AllocError>
     ensures { OnOk result (out.new.items ≡ out.old.items ++ work_bar work.now) }
 {
     push_worked(out, kind_name(work.kind), work)
@@ -147,7 +147,7 @@ pub fn push_work_bar(out: &mut Vec<u8>, work: &Work) -> Result<(), AllocError>
 
 /// A bar whose title is the number of an instruction.
 #[tactic(auto, unfolding(crate::specs::Page::numbered_bar))]
-pub fn push_numbered_bar(
+pub(crate) fn push_numbered_bar(
     out: &mut Vec<u8>,
     class: &[u8],
     from: u32,

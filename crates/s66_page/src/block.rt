@@ -14,7 +14,13 @@ use s66_time::Timed;
 use std::alloc::AllocError;
 
 /// The summary of a block, whose number is from 1.
-pub fn summary_of(number: usize, block: &Block, source: &Timed, best: &Timed, bound: u32) -> Summary
+pub(crate) fn summary_of(
+    number: usize,
+    block: &Block,
+    source: &Timed,
+    best: &Timed,
+    bound: u32,
+) -> Summary
     ensures value { result ≡ summary number block.now source.now best.now bound }
     ensures few { result.count < 2 ^ 32 }
 {
@@ -44,7 +50,7 @@ fn push_bound(out: &mut Vec<u8>, time: u32, bound: u32) -> Result<(), AllocError
 
 /// The beginning of a block, to which its number links.
 #[tactic(auto, unfolding(crate::specs::Page::block_anchor))]
-pub fn push_block_anchor(out: &mut Vec<u8>, number: usize) -> Result<(), AllocError>
+pub(crate) fn push_block_anchor(out: &mut Vec<u8>, number: usize) -> Result<(), AllocError>
     ensures { OnOk result (out.new.items ≡ out.old.items ++ block_anchor number) }
 {
     push_between(out, b"<h2 id='b", number, b"'>")
@@ -241,7 +247,7 @@ fn push_best_cell(out: &mut Vec<u8>, best: usize) -> Result<(), AllocError>
 
 /// Appends the row of all blocks, below theirs. `Err` is out of memory.
 #[tactic(auto, unfolding(crate::specs::Page::total_row))]
-pub fn push_total_row(out: &mut Vec<u8>, total: &Total) -> Result<(), AllocError>
+pub(crate) fn push_total_row(out: &mut Vec<u8>, total: &Total) -> Result<(), AllocError>
     ensures { OnOk result (out.new.items ≡ out.old.items ++
         total_row total.now.count total.now.source total.now.time total.now.best) }
 {

@@ -71,7 +71,7 @@ fn push_byte_or_newline(out: &mut Vec<u8>, byte: u8) -> Result<(), AllocError>
 }
 
 /// Appends a text of several lines in the same way; each ends as it did. `Err` is out of memory.
-pub fn push_escaped_lines(out: &mut Vec<u8>, text: &[u8]) -> Result<(), AllocError>
+pub(crate) fn push_escaped_lines(out: &mut Vec<u8>, text: &[u8]) -> Result<(), AllocError>
     ensures { OnOk result (out.new.items ≡ out.old.items ++ escaped_lines text.now) }
 {
     for byte in text {

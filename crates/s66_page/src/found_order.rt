@@ -1,6 +1,6 @@
 //! What the page shows of a block beside its source order: the order that was found, its bound and the reasons.
 
-use s66_dep::Order;
+use s66_time::Order;
 use std::marker::Model;
 
 /// What is shown of a block beside its source order: the name by which it is entered, empty if there is none; an order, what every order takes at least, in minor cycles of 100 ns, and sentences that say why no

@@ -14,16 +14,15 @@ use crate::start::{PAGE_HEAD, PAGE_LIST, PAGE_START};
 use crate::summary::{Summary, Total};
 use crate::text::push_text;
 use s66_command::{Change, changes_of, push_changes};
-use s66_dep::Order;
 use s66_device::push_field;
 use s66_isa::Profile;
 use s66_line::Block;
-use s66_time::Timer;
+use s66_time::{Order, Timer};
 use std::alloc::AllocError;
 
 /// What a page has of each block: its row in the list of blocks, or its orders.
 #[derive(Clone, Copy)]
-pub enum Part {
+pub(crate) enum Part {
     Row,
     Orders,
 }
@@ -165,7 +164,7 @@ fn push_title(out: &mut Vec<u8>, before: usize, found: &[FoundOrder]) -> Result<
 }
 
 /// The numbers of a profile that aren't the standard profile's, if there are any.
-pub fn push_profile_line(out: &mut Vec<u8>, changes: &[Change]) -> Result<(), AllocError>
+pub(crate) fn push_profile_line(out: &mut Vec<u8>, changes: &[Change]) -> Result<(), AllocError>
     ensures { OnOk result (out.new.items ≡ out.old.items ++ profile_line changes.now) }
 {
     match changes {

@@ -19,11 +19,10 @@ use s66_compare::{
     Compared, Difference, Judged, Row, Verdict, aligned_rows, difference_of, is_accepted,
     push_ending, push_row,
 };
-use s66_dep::Order;
 use s66_isa::Profile;
 use s66_line::Block;
 use s66_source::Source;
-use s66_time::Timer;
+use s66_time::{Order, Timer};
 use std::alloc::{AllocError, Global};
 
 /// How many rows come before a row, and how many blocks of each source.

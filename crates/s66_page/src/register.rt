@@ -69,7 +69,10 @@ fn push_register_row_of(
 }
 
 /// The rows of all registers that these instructions write.
-pub fn push_register_rows(out: &mut Vec<u8>, points: &[PlacedInstr]) -> Result<(), AllocError>
+pub(crate) fn push_register_rows(
+    out: &mut Vec<u8>,
+    points: &[PlacedInstr],
+) -> Result<(), AllocError>
     requires { length points.now ≤ BLOCK_LIMIT }
     ensures { OnOk result (out.new.items ≡ out.old.items ++ register_rows points.now) }
 {

@@ -1,6 +1,6 @@
 //! The row of an instruction: its number, its text, an arrow if it moved, and its bars.
 
-ghost use Rattle.std.specs.Prelude.{◌≡◌, ◌+◌, ◌<◌, ◌≤◌, ◌++◌, OnOk, flat_map, length, map, reverse};
+ghost use Rattle.std.specs.Prelude.{◌≡◌, ◌+◌, ◌<◌, ◌++◌, OnOk, flat_map, length, map, reverse};
 ghost use Rattle.s66_line.specs.Block.{bytes_of, instrs_of};
 ghost use Rattle.s66_model.specs.Timing.{points_of};
 ghost use Rattle.s66_time.specs.TimedOrder.{point_at};
@@ -136,7 +136,7 @@ fn text_at<'a>(block: &Block<'a>, timed: &Timed, position: usize) -> &'a [u8]
 }
 
 /// The rows of the instructions of a timed order.
-pub fn push_rows(
+pub(crate) fn push_rows(
     out: &mut Vec<u8>,
     block: &Block,
     timed: &Timed,

@@ -1,7 +1,7 @@
 //! The constant parts of a page: style sheet, legend, and the heads of its lists.
 
 /// The beginning of a page, up to its title.
-pub const PAGE_START: &[u8] = b"<!DOCTYPE html>
+pub(crate) const PAGE_START: &[u8] = b"<!DOCTYPE html>
 <html lang='en'>
 <meta charset='utf-8'>
 <meta name='viewport' content='width=device-width'>
@@ -12,7 +12,7 @@ pub const PAGE_START: &[u8] = b"<!DOCTYPE html>
 /// an order takes, `--one` how wide each is, and `--room` what stands right of the last for words. On paper, and on a screen whose
 /// reader wants it, a minor cycle is no wider than what lets all stand side by side; words stay as they are, and of the ruler each
 /// fifth or twentieth number stands where all would run together.
-pub const PAGE_HEAD: &[u8] = b"</title>
+pub(crate) const PAGE_HEAD: &[u8] = b"</title>
 <style>
 :root{color-scheme:light dark;--em:10px;--first:#b3001b;--second:#f3a7b0;--third:#a3128c;--word:#7d1f2e}
 @media(prefers-color-scheme:dark){:root{--first:#ff5a5f;--second:#a8606a;--third:#e05fd0;--word:#f0a3ad}}
@@ -93,12 +93,13 @@ tspan{font-family:sans-serif}
 ";
 
 /// What follows the profile on a page of two sources, up to the list of their blocks in pairs.
-pub const PAGE_PAIRS: &[u8] =
+pub(crate) const PAGE_PAIRS: &[u8] =
     b"<input type='checkbox' id='fit'><label for='fit'>fit to width</label>
 <pre style='columns:auto'>";
 
 /// What follows the profile, up to the rows of the list of blocks.
-pub const PAGE_LIST: &[u8] = b"<input type='checkbox' id='fit'><label for='fit'>fit to width</label>
+pub(crate) const PAGE_LIST: &[u8] =
+    b"<input type='checkbox' id='fit'><label for='fit'>fit to width</label>
 <table class='index'>
 <tr><th>BLOCK<th>ENTRY<th>LINE<th>COUNT<th>SOURCE<th>TIME<th>SAVED<th>BOUND
 ";

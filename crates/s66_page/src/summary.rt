@@ -2,19 +2,19 @@
 
 /// What the list of blocks shows of a block; times are in minor cycles of 100 ns.
 #[derive(Clone, Copy)]
-pub struct Summary {
+pub(crate) struct Summary {
     /// The number of the block, from 1.
-    pub number: usize,
+    pub(crate) number: usize,
     /// The line of its first instruction.
-    pub line: u32,
+    pub(crate) line: u32,
     /// How many instructions it has.
-    pub count: usize,
+    pub(crate) count: usize,
     /// The time of the source order.
-    pub source: u32,
+    pub(crate) source: u32,
     /// The time of the best order found.
-    pub time: u32,
+    pub(crate) time: u32,
     /// What every order takes at least.
-    pub bound: u32,
+    pub(crate) bound: u32,
 }
 
 impl Summary {
@@ -22,7 +22,7 @@ impl Summary {
     ghost use Rattle.s66_page.specs.Page.{is_best};
 
     /// Whether the order is proved best.
-    pub fn is_best(&self) -> bool
+    pub(crate) fn is_best(&self) -> bool
         ensures { result ≡ is_best self.now }
     {
         self.bound == self.time
@@ -31,13 +31,13 @@ impl Summary {
 
 /// The sums of all rows of the list.
 #[derive(Clone, Copy)]
-pub struct Total {
+pub(crate) struct Total {
     /// How many instructions there are.
-    pub count: usize,
+    pub(crate) count: usize,
     /// The times of the source orders.
-    pub source: usize,
+    pub(crate) source: usize,
     /// The times of the best orders found.
-    pub time: usize,
+    pub(crate) time: usize,
     /// How many of these orders are proved best.
-    pub best: usize,
+    pub(crate) best: usize,
 }

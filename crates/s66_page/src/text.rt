@@ -7,21 +7,21 @@ use s66_device::push_field;
 use std::alloc::AllocError;
 
 /// Appends a text. `Err` is out of memory, here and in all that appends to the page.
-pub fn push_text(out: &mut Vec<u8>, text: &[u8]) -> Result<(), AllocError>
+pub(crate) fn push_text(out: &mut Vec<u8>, text: &[u8]) -> Result<(), AllocError>
     ensures { OnOk result (out.new.items ≡ out.old.items ++ text.now) }
 {
     out.extend_from_slice(text)
 }
 
 /// Appends a number in decimal.
-pub fn push_number(out: &mut Vec<u8>, number: u8) -> Result<(), AllocError>
+pub(crate) fn push_number(out: &mut Vec<u8>, number: u8) -> Result<(), AllocError>
     ensures { OnOk result (out.new.items ≡ out.old.items ++ decimal number) }
 {
     push_field(out, b"", number as usize)
 }
 
 /// Appends a number between two texts.
-pub fn push_between(
+pub(crate) fn push_between(
     out: &mut Vec<u8>,
     before: &[u8],
     number: usize,
@@ -34,7 +34,7 @@ pub fn push_between(
 }
 
 /// Appends two numbers before, between and after texts.
-pub fn push_two(
+pub(crate) fn push_two(
     out: &mut Vec<u8>,
     before: &[u8],
     first: usize,
@@ -52,7 +52,11 @@ pub fn push_two(
 
 /// Appends a number that is drawn from a minor cycle on.
 #[tactic(auto, unfolding(crate::specs::Page::number_at))]
-pub fn push_number_at(out: &mut Vec<u8>, cycle: usize, number: usize) -> Result<(), AllocError>
+pub(crate) fn push_number_at(
+    out: &mut Vec<u8>,
+    cycle: usize,
+    number: usize,
+) -> Result<(), AllocError>
     ensures { OnOk result (out.new.items ≡ out.old.items ++ number_at cycle number) }
 {
     push_two(

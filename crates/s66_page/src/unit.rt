@@ -174,7 +174,11 @@ fn push_kind_rows(
 
 /// The rows of all units that these instructions of an order take.
 #[tactic(auto, unfolding(crate::specs::Page::all_kind_rows))]
-pub fn push_all_kind_rows(out: &mut Vec<u8>, total: u32, works: &[Work]) -> Result<(), AllocError>
+pub(crate) fn push_all_kind_rows(
+    out: &mut Vec<u8>,
+    total: u32,
+    works: &[Work],
+) -> Result<(), AllocError>
     requires { length works.now ≤ BLOCK_LIMIT }
     ensures { OnOk result (out.new.items ≡ out.old.items ++ all_kind_rows total works.now) }
 {

@@ -3,7 +3,7 @@ use Rattle.std.proofs.Common.{◌≡◌, ℕ, ◌+◌, ◌≤◌, ◌||◌, cond
 use Rattle.std.proofs.lemmas.List.{map-append}
 use Rattle.std.proofs.lemmas.List.Elements.{All-nil, All-cons, All-head, All-tail}
 use Rattle.s66_isa.specs.Lists.{weigh, some_of}
-use Rattle.s66_machine.specs.Accounts.{Summary, SeatRecord, Agrees}
+use Rattle.s66_model.specs.Accounts.{Summary, SeatRecord, Agrees}
 use Rattle.s66_pool.specs.Hubs.{SeatOf, HaveSeats}
 use Rattle.s66_share.specs.SeatViews.{books_of}
 use Rattle.s66_share.specs.LockTokens.{HaveEvery}

@@ -3,8 +3,8 @@ use Rattle.std.proofs.Common.{◌≡◌, ℕ, suc, ◌+◌, ◌-◌, ◌<◌, �
 use Rattle.std.proofs.lemmas.List.Elements.{All-push}
 use Rattle.atomic_table.specs.Seated.{TableId}
 use Rattle.s66_isa.specs.Lists.{rising}
-use Rattle.s66_machine.specs.Accounts.{Summary, SeatRecord, opened}
-use Rattle.s66_machine.proofs.AccountLaws.{accounts-count}
+use Rattle.s66_model.specs.Accounts.{Summary, SeatRecord, opened}
+use Rattle.s66_model.proofs.AccountLaws.{accounts-count}
 use Rattle.s66_ledger.specs.Ledgers.{LedgerOf, events_of, account_summary}
 use Rattle.s66_share.specs.SeatViews.{rest_of, first_book}
 use Rattle.s66_pool.specs.Hubs.{SeatOf}

@@ -2,10 +2,10 @@
 use Rattle.std.proofs.Common.{◌≡◌, ℕ, ◌≤◌, Bool, List, [], ◌∷◌, ◌++◌, Option, None, sym, refl, ap, ◌∙◌, subst, arith}
 use Rattle.atomic_table.specs.Table.{Me}
 use Rattle.s66_model.specs.Timing.{Problem}
-use Rattle.s66_machine.specs.Ledger.{Event, Reply, Offer, Lower, NotLower, worker, best_time}
-use Rattle.s66_machine.specs.Accounts.{Summary, SeatRecord, Agrees, summary_of, opened, after_event, least_after}
-use Rattle.s66_machine.proofs.AccountLaws.{agrees-own, agrees-other, accounts-count}
-use Rattle.s66_machine.proofs.LedgerRuns.{step-falls}
+use Rattle.s66_model.specs.Ledger.{Event, Reply, Offer, Lower, NotLower, worker, best_time}
+use Rattle.s66_model.specs.Accounts.{Summary, SeatRecord, Agrees, summary_of, opened, after_event, least_after}
+use Rattle.s66_model.proofs.AccountLaws.{agrees-own, agrees-other, accounts-count}
+use Rattle.s66_model.proofs.LedgerRuns.{step-falls}
 use Rattle.s66_ledger.specs.Ledgers.{LedgerOf, IsEvent, events_of, account_summary}
 use Rattle.s66_share.specs.SeatViews.{View, MayBecome, renewed, idle, holding, first_book, found_at}
 

@@ -3,10 +3,10 @@ use Rattle.std.proofs.Common.{◌≡◌, ℕ, suc, ◌+◌, ◌<◌, ◌≤◌, 
 use Rattle.std.proofs.Math.Seq.{drop-cons}
 use Rattle.s66_isa.specs.Lists.{weigh}
 use Rattle.s66_model.specs.Timing.{Problem}
-use Rattle.s66_machine.specs.Ledger.{worker}
-use Rattle.s66_machine.specs.Recorded.{spends, spent_by}
-use Rattle.s66_machine.specs.Accounts.{Account, account_at}
-use Rattle.s66_machine.proofs.AccountLaws.{account-at, accounts-count}
+use Rattle.s66_model.specs.Ledger.{worker}
+use Rattle.s66_model.specs.Recorded.{spends, spent_by}
+use Rattle.s66_model.specs.Accounts.{Account, account_at}
+use Rattle.s66_model.proofs.AccountLaws.{account-at, accounts-count}
 use Rattle.s66_ledger.specs.declared.event_record.EventRecord.{EventRecord}
 use Rattle.s66_ledger.specs.declared.event_record.EventRecord.TheVariants as entry
 use Rattle.s66_ledger.specs.declared.event_record.Refusal.TheVariants as refusal

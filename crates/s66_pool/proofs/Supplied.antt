@@ -1,12 +1,12 @@
 -- What the events of a turn at the lock make of the ledger's summary, and of the seat record of the worker whose turn it is.
 use Rattle.std.proofs.Common.{◌≡◌, ℕ, ◌+◌, Bool, true, false, List, [], ◌∷◌, ◌++◌, Option, Some, None, sym, refl, ap, ◌∙◌, subst, arith}
-use Rattle.s66_machine.specs.Ledger as model
-use Rattle.s66_machine.specs.Ledger.{Event, Reply, Claim, Claimed, worker}
-use Rattle.s66_machine.specs.Recorded.{spends}
+use Rattle.s66_model.specs.Ledger as model
+use Rattle.s66_model.specs.Ledger.{Event, Reply, Claim, Claimed, worker}
+use Rattle.s66_model.specs.Recorded.{spends}
 use Rattle.s66_model.specs.Tree.{splits}
-use Rattle.s66_machine.specs.Accounts.{SeatRecord, Agrees, after_event, least_after}
+use Rattle.s66_model.specs.Accounts.{SeatRecord, Agrees, after_event, least_after}
 use Rattle.s66_node.specs.Pieces.{PieceOf, tree_of}
-use Rattle.s66_machine.specs.Tickets.{TicketOf}
+use Rattle.s66_model.specs.Tickets.{TicketOf}
 use Rattle.s66_ledger.specs.Ledgers.{LedgerOf, IsEvent, account_summary}
 use Rattle.s66_ledger.specs.Grafts.{IsGraft}
 use Rattle.s66_pool.specs.declared.supply.Supply.{Supply}

@@ -2,15 +2,15 @@
 use Rattle.std.specs.Prelude.{ℕ, ⊤, ◌≡◌, ◌≤◌, ◌==◌, true, List}
 use Rattle.atomic_table.specs.Seated.{TableId}
 use Rattle.s66_isa.specs.Lists.{some_of}
-use Rattle.s66_machine.specs.Ledger as model
-use Rattle.s66_machine.specs.Ledger.{Event, Reply}
-use Rattle.s66_machine.specs.Recorded.{IsGraftOf, IsOfferOf}
-use Rattle.s66_machine.specs.Accounts.{Summary, SeatRecord, after_event}
+use Rattle.s66_model.specs.Ledger as model
+use Rattle.s66_model.specs.Ledger.{Event, Reply}
+use Rattle.s66_model.specs.Recorded.{IsGraftOf, IsOfferOf}
+use Rattle.s66_model.specs.Accounts.{Summary, SeatRecord, after_event}
 use Rattle.s66_node.specs.Pieces.{PieceOf, tree_of}
 use Rattle.s66_time.specs.TimedOrder.{TimedOrder}
 use Rattle.s66_ledger.specs.declared.reply.GraftError.{GraftError}
 use Rattle.s66_ledger.specs.declared.reply.GraftError.TheVariants as refused
-use Rattle.s66_machine.specs.Tickets.{TicketOf}
+use Rattle.s66_model.specs.Tickets.{TicketOf}
 use Rattle.s66_pool.specs.declared.supply.Supply.{Supply}
 use Rattle.s66_pool.specs.Supplies.{after_events, supplied}
 

@@ -35,7 +35,7 @@ impl<'s, 'b, R: Wait> Expander<'s, 'b, R> {
     ghost use Rattle.s66_node.specs.Pieces.{tree_of};
 
     /// One that has expanded nothing yet, and knows the nodes that all workers have grafted.
-    pub fn new(
+    pub(crate) fn new(
         alloc: Global,
         rt: &'s R,
         marks: &'s SharedMarks<'b>,
@@ -50,7 +50,7 @@ impl<'s, 'b, R: Wait> Expander<'s, 'b, R> {
 
     /// Expands a prefix by the rule of dominated leaves, within an allowance of splits, while the best time may fall. None if it
     /// is no beginning of the block's orders, or if out of memory; it may be called again then.
-    pub fn expand<L: Least>(
+    pub(crate) fn expand<L: Least>(
         &mut self,
         alloc: Global,
         prefix: &[u8],
@@ -77,14 +77,14 @@ impl<'s, 'b, R: Wait> Expander<'s, 'b, R> {
 
     /// Lets all workers know the nodes of the ledger that its last piece has become: the node of this number, and those from `first`
     /// on. A piece of which that isn't said is forgotten by the next.
-    pub fn settle(&mut self, root: u32, first: u32) {
+    pub(crate) fn settle(&mut self, root: u32, first: u32) {
         if self.rule == Rule::ClampedStanding {
             self.known.settle(self.rule, root, first);
         }
     }
 
     /// A list schedule from its prefix on, if its time is below the best.
-    pub fn schedule_below(&mut self, best: u32) -> Option<Timed> {
+    pub(crate) fn schedule_below(&mut self, best: u32) -> Option<Timed> {
         schedule_below(&mut self.walk, Priority::Start, best)
     }
 }

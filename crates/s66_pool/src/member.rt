@@ -3,22 +3,22 @@
 use crate::incumbent::Incumbent;
 use crate::seat::Seat;
 use crate::victim::Victim;
-use s66_machine::Ticket;
+use s66_model::Ticket;
 use s66_share::Lane;
 
 /// What a worker needs beside its seat at the hub: its view of the best time, a lane of nodes, and the lanes from which it may steal.
 #[derive(Drop)]
 pub(crate) struct Local<'t> {
-    pub incumbent: Incumbent<'t>,
-    pub lane: Lane,
-    pub victims: Vec<Victim<'t>>,
+    pub(crate) incumbent: Incumbent<'t>,
+    pub(crate) lane: Lane,
+    pub(crate) victims: Vec<Victim<'t>>,
 }
 
 /// A worker's seat at the hub, with what it needs beside it.
 #[derive(Drop)]
 pub(crate) struct Member<'t, 'a> {
-    pub seat: Seat<'a>,
-    pub local: Local<'t>,
+    pub(crate) seat: Seat<'a>,
+    pub(crate) local: Local<'t>,
 }
 
 impl<'t> Local<'t> {

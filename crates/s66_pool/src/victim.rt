@@ -1,6 +1,6 @@
 //! Another worker's lane with a pass at it, from which a worker steals.
 
-use s66_machine::Ticket;
+use s66_model::Ticket;
 use s66_share::{Lane, Pass, Thief};
 use std::marker::Model;
 

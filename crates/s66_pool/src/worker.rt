@@ -28,15 +28,15 @@ use std::thread::yield_now;
 /// Where workers search.
 #[derive(Drop)]
 pub(crate) struct Site<'s, 'a, 'b, R, G> {
-    pub rt: &'s R,
-    pub hub: &'s Hub<'a>,
+    pub(crate) rt: &'s R,
+    pub(crate) hub: &'s Hub<'a>,
     /// Of the search's block and profile.
-    pub marks: &'s SharedMarks<'b>,
-    pub gate: &'s G,
+    pub(crate) marks: &'s SharedMarks<'b>,
+    pub(crate) gate: &'s G,
     /// Of the hub's dominated leaves.
-    pub rule: Rule,
+    pub(crate) rule: Rule,
     /// The number of workers that have nodes, or may have left some open since they last found none.
-    pub searching: AtomicUsize,
+    pub(crate) searching: AtomicUsize,
 }
 
 /// A worker of a search, with what it keeps from step to step.

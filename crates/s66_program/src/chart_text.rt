@@ -1,21 +1,17 @@
 //! What `chart` writes: the chart of each block, with texts and with units if asked for.
 
 ghost use Rattle.std.specs.Prelude.{◌≡◌, ◌++◌, IfOk, OnOk};
-ghost use Rattle.s66_why.specs.Chart.{chart_text};
 ghost use Rattle.s66_program.specs.ChartText.{IsChartOutput, chart_lines};
 
 use crate::block_head::push_timed_line;
 use crate::listing::{Listing, listing_output};
 use s66_answer::Output;
-use s66_dep::Order;
-use s66_device::OverWrite;
 use s66_isa::Profile;
 use s66_line::Block;
 use s66_source::Source;
-use s66_time::{Timed, Timer};
-use s66_why::{chart, push_text_chart, push_units_chart};
+use s66_time::{Order, Timer};
+use s66_why::{push_chart, push_text_chart, push_units_chart};
 use std::alloc::{AllocError, Global};
-use std::mem;
 
 /// The charts of blocks as they were written.
 #[derive(Drop)]
@@ -26,22 +22,8 @@ struct Charts {
     units: bool,
 }
 
-/// The chart of a timed order.
-fn push_chart(alloc: Global, out: &mut Vec<u8>, timed: &Timed) -> Result<(), AllocError>
-    ensures { OnOk result (out.new.items ≡ out.old.items ++ chart_text timed.now) }
-{
-    let mut page = OverWrite::new(mem::replace(out, Vec::new(alloc)));
-    let drawn = chart(timed, &mut page);
-    *out = page.into_inner();
-    match drawn {
-        Ok(()) => Ok(()),
-        Err(_) => Err(AllocError),
-    }
-}
-
 /// The lines of a block, whose number is from 1, under the timer's profile.
 fn push_chart_lines(
-    alloc: Global,
     out: &mut Vec<u8>,
     timer: &mut Timer,
     charts: &Charts,
@@ -58,7 +40,7 @@ fn push_chart_lines(
     } else if charts.text {
         push_text_chart(out, block, &timed)
     } else {
-        push_chart(alloc, out, &timed)
+        push_chart(out, block, &timed)
     }
 }
 
@@ -67,13 +49,13 @@ impl Listing for Charts {
 
     fn push_lines(
         &self,
-        alloc: Global,
+        _alloc: Global,
         out: &mut Vec<u8>,
         timer: &mut Timer,
         number: usize,
         block: &Block,
     ) -> Result<(), AllocError> {
-        push_chart_lines(alloc, out, timer, self, number, block)
+        push_chart_lines(out, timer, self, number, block)
     }
 }
 

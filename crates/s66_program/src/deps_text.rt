@@ -6,7 +6,7 @@ ghost use Rattle.s66_isa.specs.Lists.{after_blanks, weigh};
 ghost use Rattle.s66_isa.specs.Table.{instr_at, numbers};
 ghost use Rattle.s66_line.specs.Block.{instrs_of};
 ghost use Rattle.s66_model.specs.Dependence.{all_needs, needs};
-ghost use Rattle.s66_dep.specs.Members.{numbers_in};
+ghost use Rattle.s66_time.specs.Members.{numbers_in};
 ghost use Rattle.s66_why.specs.Hazards.{hazards, hazards_text};
 ghost use Rattle.s66_why.specs.Numbers.{IsOf};
 ghost use Rattle.s66_program.specs.DepsText.{IsDepsOutput, dependences_in, deps_line, named, needs_line, needs_lines, deps_lines, pair_line, pair_lines};
@@ -14,12 +14,11 @@ ghost use Rattle.s66_program.specs.DepsText.{IsDepsOutput, dependences_in, deps_
 use crate::block_head::push_block_head;
 use crate::listing::{Listing, listing_output};
 use s66_answer::Output;
-use s66_dep::{Dependences, Set};
 use s66_device::push_field;
 use s66_isa::Profile;
 use s66_line::Block;
 use s66_source::Source;
-use s66_time::Timer;
+use s66_time::{Dependences, Set, Timer};
 use s66_why::{push_hazards, push_hazards_text};
 use std::alloc::{AllocError, Global};
 

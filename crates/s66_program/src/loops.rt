@@ -9,9 +9,9 @@ ghost use Rattle.s66_program.specs.declared.limits.TheConstants.{LOOP_LIMIT};
 use crate::limits::LOOP_LIMIT;
 use crate::statement::{Step, begins_word, is_same, name_of, passes, step_of, target_of};
 use crate::words::{WORD, parcel_after, words_for};
-use s66_dep::Order;
 use s66_line::Block;
 use s66_source::{FramePart, Placed, Source, frame_of};
+use s66_time::Order;
 use std::alloc::{AllocError, Global};
 use std::marker::Model;
 
@@ -156,7 +156,7 @@ fn or_else(closed: Option<Loop>, other: Option<Loop>) -> Option<Loop>
 impl<'s, 'a> Orders<'s, 'a> {
     ghost use Rattle.std.specs.Prelude.{◌≡◌, ◌≤◌, ◌<◌, ◌+◌, ◌*◌, ◌^◌, IfOk, None, drop, length, slice_get};
     ghost use Rattle.s66_source.specs.Printed.{ArePlaced};
-    ghost use Rattle.s66_program.specs.Loops.{block_after, loop_behind, loop_closed, loop_from, loop_through, loops_from, parcels_through, part_after};
+    ghost use Rattle.s66_program.specs.Loops.{block_after, loop_behind, loop_closed, loop_through, loops_from, parcels_through, part_after};
     ghost use Rattle.s66_program.specs.declared.statement.Step.TheVariants.{Branch};
     ghost use Rattle.s66_program.specs.declared.limits.TheConstants.{LOOP_LIMIT};
 

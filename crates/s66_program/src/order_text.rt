@@ -39,7 +39,7 @@ fn placing(answer: &Found, trace: bool) -> Placed
 /// How blocks are to be printed.
 #[derive(Drop)]
 pub(crate) struct Placings {
-    pub trace: bool,
+    pub(crate) trace: bool,
 }
 
 impl Keep<Placed> for Placings {

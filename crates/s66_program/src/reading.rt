@@ -69,7 +69,7 @@ fn read_through<F: Feed>(
 /// Reads to the end, and keeps the input, or a front of it that has `most` bytes at least.
 ///
 /// Errors: `Memory` if memory ran out; `Read` if the reader failed or none of `FEED_CALLS` calls gave the end.
-pub fn read_all<F: Feed>(
+pub(crate) fn read_all<F: Feed>(
     alloc: Global,
     reader: &mut F,
     most: Option<usize>,

@@ -56,7 +56,7 @@ fn hint_line(alloc: Global, text: &str) -> Result<String, AllocError>
 }
 
 /// Writes why a command, which asks for a profile of this text, failed, and returns the status.
-pub fn tell_failure<S: Sink>(
+pub(crate) fn tell_failure<S: Sink>(
     alloc: Global,
     errors: &mut S,
     profile: Option<&str>,
@@ -87,7 +87,7 @@ fn tell_any<S: Sink>(errors: &mut S, text: &[u8])
 }
 
 /// Writes what is told of a command that wrote all its text, and returns the status.
-pub fn tell_end<S: Sink>(errors: &mut S, command: Command, ended: &Ended) -> u8
+pub(crate) fn tell_end<S: Sink>(errors: &mut S, command: Command, ended: &Ended) -> u8
     requires { (S.seen errors.old).failures < 2 ^ 64 - 1 }
     ensures told { IsTold (told_text command.entry ended.now) (S.seen errors.old) (S.seen errors.new) }
     ensures status { result ≡ status_code ended.now.status }
@@ -108,7 +108,7 @@ fn tell_fault<S: Sink>(errors: &mut S, fault: Fault) -> u8
 }
 
 /// Shows why words are no command, and returns the status.
-pub fn show_usage<S: Sink, E: Sink>(usage: &Usage, writer: &mut S, errors: &mut E) -> u8
+pub(crate) fn show_usage<S: Sink, E: Sink>(usage: &Usage, writer: &mut S, errors: &mut E) -> u8
     requires writes { (S.seen writer.old).failures < 2 ^ 64 - 1 }
     requires tells { (E.seen errors.old).failures < 2 ^ 64 - 1 }
     ensures { ShowsUsage usage.now (S.seen writer.old) (S.seen writer.new) (E.seen errors.old)

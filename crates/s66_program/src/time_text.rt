@@ -3,17 +3,16 @@
 ghost use Rattle.std.specs.Prelude.{◌≡◌, ◌<◌, ◌++◌, length, IfOk, OnOk};
 ghost use Rattle.s66_line.specs.Block.{instrs_of};
 ghost use Rattle.s66_program.specs.AsWritten.{as_written};
-ghost use Rattle.s66_program.specs.TimeText.{IsTimeOutput, fillers_as_written, time_line, trace_line, trace_lines, time_lines};
+ghost use Rattle.s66_program.specs.TimeText.{IsTimeOutput, time_line, trace_line, trace_lines, time_lines};
 
 use crate::block_head::push_block_head;
 use crate::listing::{Listing, listing_output};
 use s66_answer::Output;
-use s66_dep::Order;
 use s66_device::push_field;
 use s66_isa::Profile;
 use s66_line::Block;
 use s66_source::Source;
-use s66_time::{Timed, Timer, pack};
+use s66_time::{Order, Timed, Timer};
 use std::alloc::{AllocError, Global};
 
 /// The line of a block, whose number is from 1, and which is timed as it was written.
@@ -21,18 +20,16 @@ fn push_time_line(
     out: &mut Vec<u8>,
     number: usize,
     block: &Block,
-    fillers: usize,
     timed: &Timed,
 ) -> Result<(), AllocError>
-    requires fillers { fillers ≡ fillers_as_written (instrs_of block.now) }
-    requires timed { timed.now ≡ as_written timed.now.problem.profile (instrs_of block.now) }
+    requires { timed.now ≡ as_written timed.now.problem.profile (instrs_of block.now) }
     ensures { OnOk result (out.new.items ≡ out.old.items ++ time_line timed.now.problem.profile number block.now) }
 {
     let count = block.count();
     push_block_head(out, number, block)?;
     push_field(out, b" COUNT ", count)?;
     push_field(out, b" PARCELS ", block.parcels() as usize)?;
-    push_field(out, b" NO ", fillers)?;
+    push_field(out, b" NO ", timed.fillers() as usize)?;
     push_field(out, b" TIME ", timed.total() as usize)?;
     out.extend_from_slice(b"\n")
 }
@@ -78,10 +75,8 @@ fn push_time_lines(
     ensures profile { timer.new ≡ timer.old }
     ensures lines { OnOk result (out.new.items ≡ out.old.items ++ time_lines timer.old trace number block.now) }
 {
-    let order = Order::source(block);
-    let fillers = pack(block, &order).fillers.len();
-    let timed = timer.time(block, &order);
-    push_time_line(out, number, block, fillers, &timed)?;
+    let timed = timer.time(block, &Order::source(block));
+    push_time_line(out, number, block, &timed)?;
     if trace {
         push_trace(out, &timed)?;
     }

@@ -19,9 +19,9 @@ use Rattle.s66_moments.specs.FactLines.{use_time}
 use Rattle.s66_moments.specs.Known.{Known, are_rising, is_left, is_loaded, is_number, is_turned, kind_of_load, next_value, use_of}
 use Rattle.s66_cert.specs.Document.{Document, IsDocument, tree_placed}
 use Rattle.s66_cert.specs.declared.limits.TheConstants.{SPLIT_LIMIT}
-use Rattle.s66_replay.specs.Dominating.{is_beginning}
-use Rattle.s66_replay.proofs.GoingTo.{goes_on-Decides}
-use Rattle.s66_replay.proofs.ReadyByNeeds.{beginning-few}
+use Rattle.s66_checker.specs.Dominating.{is_beginning}
+use Rattle.s66_checker.proofs.GoingTo.{goes_on-Decides}
+use Rattle.s66_checker.proofs.ReadyByNeeds.{beginning-few}
 use Rattle.s66_checker.specs.declared.verdict.Verdict.TheVariants.{Yes}
 use Rattle.s66_checker.specs.declared.verdict.Reason.{Reason as FaultOf}
 use Rattle.s66_checker.specs.declared.verdict.Reason.TheVariants as fault

@@ -17,7 +17,7 @@ use Rattle.s66_moments.specs.Suppositions.{standing_first}
 use Rattle.s66_facts.specs.Ground.{Ground, known_of as known_in}
 use Rattle.s66_facts.specs.Supposing.{Grounds, standing_in}
 use Rattle.s66_cert.specs.Document.{Document, IsDocument}
-use Rattle.s66_replay.specs.Checked.{Checked}
+use Rattle.s66_checker.specs.Checked.{Checked}
 use Rattle.s66_checker.specs.KeptKnown.{AreTaken, KnowsAll}
 use Rattle.s66_checker.specs.Verdict.{line_fault, problem_of}
 use Rattle.s66_reasons.specs.Reasons.{leaf_text}

@@ -10,10 +10,10 @@ ghost use Rattle.s66_reasons.specs.LongestPaths.{each_left, load_left};
 ghost use Rattle.s66_reasons.specs.Within.{IsNumberOf, with_loads};
 
 use crate::left::{to_show_after, with_left};
+use s66_checker::Prefix;
 use s66_facts::{Facts, fetches, latency_to, writes};
 use s66_isa::{Row, has_register, is_memory_conflict, is_same_kind};
 use s66_moments::{FactStep, Moment, Stage};
-use s66_replay::Prefix;
 
 /// Whether an instruction has a stage.
 fn has_stage(row: &Row, stage: &Stage) -> bool

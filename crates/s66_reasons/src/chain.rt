@@ -4,7 +4,6 @@ ghost use Rattle.std.specs.Prelude.{◌≡◌, ◌+◌, ◌≤◌, ◌<◌, ◌^
 ghost use Rattle.s66_isa.specs.declared.limits.TheConstants.{BLOCK_LIMIT};
 ghost use Rattle.s66_model.specs.Timing.{points_of, row_at};
 ghost use Rattle.s66_model.specs.Leaves.{head, link};
-ghost use Rattle.s66_replay.specs.KeptPrefix.{TOTAL_LIMIT};
 ghost use Rattle.s66_cert.specs.DocumentParts.{document_of};
 ghost use Rattle.s66_checker.specs.Verdict.{problem_of};
 ghost use Rattle.s66_reasons.specs.ChainWords.{awaited, chain_rows, end_row, end_words, last_result, lasting, link_row, link_words, start_rows, walk_rows};
@@ -13,9 +12,8 @@ ghost use Rattle.s66_reasons.specs.Within.{AreWithin};
 
 use crate::words::{push_around, push_instruction, push_number, push_register};
 use s66_cert::Document;
-use s66_checker::{head, link, tail, uses};
+use s66_checker::{Prefix, head, link, tail, uses};
 use s66_isa::{Reg, Row, Write, has_register};
-use s66_replay::Prefix;
 use std::alloc::AllocError;
 
 /// The first of these results for which a later instruction waits so long; none if it waits for a reference to memory.

@@ -19,11 +19,11 @@ use crate::units::{kind_of, push_each};
 use crate::words::{push_around, push_between, push_instruction, separator, unit_name};
 use crate::work::Work;
 use s66_cert::Document;
+use s66_checker::Prefix;
 use s66_device::push_field;
 use s66_facts::Facts;
 use s66_isa::Kind;
 use s66_moments::{FactLine, LoadLine, Moment, Stage};
-use s66_replay::Prefix;
 use std::alloc::AllocError;
 
 /// Where a load begins.

@@ -4,7 +4,7 @@ use s66_moments::Moment;
 
 /// An arc from a moment: how many minor cycles it takes at least, and where it leads.
 #[derive(Clone, Copy)]
-pub struct Hop {
-    pub wait: u32,
-    pub to: Moment,
+pub(crate) struct Hop {
+    pub(crate) wait: u32,
+    pub(crate) to: Moment,
 }

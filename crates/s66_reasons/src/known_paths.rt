@@ -7,15 +7,14 @@ use crate::arcs::{arc_by_lines, table_arc};
 use crate::hop::Hop;
 use crate::left::{leaves_apart, to_show_after};
 use s66_cert::Document;
-use s66_checker::fact_lines;
+use s66_checker::{Prefix, fact_lines};
 use s66_facts::Facts;
 use s66_moments::{Moment, Stage};
-use s66_replay::Prefix;
 use std::marker::Model;
 
 /// What is known of a document's block, by dependence alone and after all fact lines. Contracts see the document.
 #[derive(Drop)]
-pub struct KnownPaths<'a> {
+pub(crate) struct KnownPaths<'a> {
     pub(crate) document: &'a Document,
     /// The empty one.
     pub(crate) prefix: &'a Prefix,
@@ -52,9 +51,9 @@ impl<'a> KnownPaths<'a> {
     ghost use Rattle.s66_moments.specs.declared.moment.Stage.TheVariants.{Done};
     ghost use Rattle.s66_moments.specs.Facts.{IsNumber};
     ghost use Rattle.s66_moments.specs.Known.{reaches};
-    ghost use Rattle.s66_moments.specs.Networks.{moments_among, moments_of, network, precedes};
+    ghost use Rattle.s66_moments.specs.Networks.{moments_among, moments_of, network};
     ghost use Rattle.s66_cert.specs.DocumentParts.{document_of};
-    ghost use Rattle.s66_checker.specs.Verdict.{facts_of, known_of, problem_of};
+    ghost use Rattle.s66_checker.specs.Verdict.{known_of, problem_of};
     ghost use Rattle.s66_reasons.specs.LongestPaths.{arcs, first_hop, hop_to, line_of_load, next_hop, to_end};
     ghost use Rattle.s66_reasons.specs.Within.{AreKnown, IsNumberOf};
 

@@ -21,8 +21,8 @@ use crate::units::push_load;
 use crate::words::{push_around, push_number};
 use crate::work::Work;
 use s66_cert::{Document, TreeLine};
+use s66_checker::Prefix;
 use s66_moments::Moment;
-use s66_replay::Prefix;
 use std::alloc::AllocError;
 
 /// The row of a whole order.

@@ -6,7 +6,7 @@ ghost use Rattle.s66_tree.specs.Lines.{vertex_of};
 ghost use Rattle.s66_cert.specs.Document.{has_factual, is_factual, tree_placed};
 ghost use Rattle.s66_cert.specs.DocumentParts.{document_of};
 ghost use Rattle.s66_checker.specs.Verdict.{problem_of};
-ghost use Rattle.s66_replay.specs.Dominating.{is_beginning};
+ghost use Rattle.s66_checker.specs.Dominating.{is_beginning};
 ghost use Rattle.s66_reasons.specs.Reasons.{if_words, line_text, lines_text, then_words};
 ghost use Rattle.s66_reasons.specs.Within.{IsGranted, IsRight, vertex_text};
 
@@ -16,8 +16,8 @@ use crate::tree::is_split;
 use crate::words::push_between;
 use arrayvec::ArrayVec;
 use s66_cert::{Document, TreeLine};
+use s66_checker::Prefix;
 use s66_device::push_field;
-use s66_replay::Prefix;
 use std::alloc::AllocError;
 
 /// The numbers after the first, one after the other, and the end of the line.

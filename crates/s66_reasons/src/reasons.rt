@@ -1,7 +1,7 @@
 //! All that is said of a document (`push_reasons`): the opening, then fact lines and leaves or how many there are, and whether the
 //! order is best.
 
-ghost use Rattle.std.specs.Prelude.{◌≡◌, ◌≤◌, ◌++◌, [], true, OnOk, length};
+ghost use Rattle.std.specs.Prelude.{◌≡◌, ◌≤◌, ◌++◌, [], OnOk, length};
 ghost use Rattle.s66_isa.specs.declared.limits.TheConstants.{BLOCK_LIMIT};
 ghost use Rattle.s66_model.specs.Tree.{splits};
 ghost use Rattle.s66_moments.specs.Suppositions.{standing_first};
@@ -19,11 +19,10 @@ use crate::steps::push_facts;
 use crate::tree::{has_factual, is_said, splits};
 use crate::words::{push_between, push_counted};
 use s66_cert::Document;
-use s66_checker::{fact_lines, instructions_of, profile_of};
+use s66_checker::{Prefix, fact_lines, instructions_of, profile_of};
 use s66_device::push_field;
 use s66_facts::Supposing;
 use s66_isa::{Instr, Profile};
-use s66_replay::Prefix;
 use std::alloc::AllocError;
 
 /// Up to the bound.

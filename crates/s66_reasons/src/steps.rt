@@ -17,10 +17,9 @@ use crate::facts::{push_fact, push_pair_words, push_rest};
 use crate::left::to_show_after;
 use crate::words::{push_around, push_between};
 use s66_cert::Document;
-use s66_checker::fact_lines;
+use s66_checker::{Prefix, fact_lines};
 use s66_facts::{Facts, Supposing};
 use s66_moments::FactStep;
-use s66_replay::Prefix;
 use std::alloc::AllocError;
 
 /// What is supposed: that n stands before m.

@@ -13,7 +13,7 @@ ghost use Rattle.s66_reasons.specs.Within.{is_split};
 use s66_cert::{Document, TreeLine, TreeLines};
 
 /// The most splits of a tree that is said leaf by leaf.
-pub const SAID_SPLITS: usize = 3;
+pub(crate) const SAID_SPLITS: usize = 3;
 
 /// Whether a line is a split.
 pub(crate) fn is_split(line: &TreeLine<'_>) -> bool

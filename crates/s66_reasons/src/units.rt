@@ -14,10 +14,9 @@ ghost use Rattle.s66_reasons.specs.Within.{AreWithin};
 use crate::words::{push_between, push_instructions, push_number, unit_name};
 use arrayvec::ArrayVec;
 use s66_cert::Document;
-use s66_checker::{load, remaining_work};
+use s66_checker::{Prefix, load, next, remaining_work, rest_busy};
 use s66_device::push_field;
 use s66_isa::{BLOCK_LIMIT, Kind, is_same_kind};
-use s66_replay::{Prefix, next, rest_busy};
 use std::alloc::AllocError;
 
 /// The kind of unit that an instruction needs.

@@ -1,6 +1,6 @@
 //! Words, numbers, registers and lists of instructions, of which the sentences are made.
 
-ghost use Rattle.std.specs.Prelude.{ℕ, List, ◌≡◌, ◌++◌, OnOk, codes, decimal};
+ghost use Rattle.std.specs.Prelude.{◌≡◌, ◌++◌, OnOk, codes, decimal};
 ghost use Rattle.s66_cert.specs.DocumentParts.{document_of};
 ghost use Rattle.s66_reasons.specs.Words.{counted, in_four, instruction, listed, register, separator, unit_name};
 

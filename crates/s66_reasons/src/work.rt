@@ -1,9 +1,8 @@
 //! What units of a kind have to do for some instructions.
 
 use crate::units::longest_use;
-use s66_checker::{amounts, use_time};
+use s66_checker::{Prefix, amounts, use_time};
 use s66_isa::Kind;
-use s66_replay::Prefix;
 
 /// What units of a kind have to do for some instructions, in minor cycles.
 #[derive(Clone, Copy)]

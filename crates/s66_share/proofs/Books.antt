@@ -5,7 +5,7 @@ use native.Mathlib.Decide.{ℕ_discrete}
 use Rattle.std.proofs.lemmas.Bool.{eq-eqb, ne_eqb}
 use Rattle.std.proofs.lemmas.List.Elements.{All-nil, All-cons, All-head, All-tail}
 use Rattle.s66_isa.specs.Lists.{rising}
-use Rattle.s66_machine.specs.Accounts.{Summary, SeatRecord, Agrees, opened}
+use Rattle.s66_model.specs.Accounts.{Summary, SeatRecord, Agrees, opened}
 use Rattle.s66_share.specs.SeatViews.{books_of, all_opened, first_of, rest_of, MayBecome}
 
 counted : (n : ℕ) (p : SeatRecord) (ps : List SeatRecord) → p.who ≡ n → books_of n (p ∷ ps) ≡ 1 + books_of n ps

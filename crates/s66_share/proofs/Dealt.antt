@@ -2,7 +2,7 @@
 use Rattle.std.proofs.Common.{◌≡◌, ℕ, ◌<◌, List, [], ◌∷◌, length, Option, sym, refl, ap, ◌∙◌, arith}
 use Rattle.atomic_table.specs.Table.{Me}
 use Rattle.atomic_table.specs.declared.shared.Seat.{Seat}
-use Rattle.s66_machine.specs.Accounts.{SeatRecord}
+use Rattle.s66_model.specs.Accounts.{SeatRecord}
 use Rattle.s66_share.specs.SeatViews.{View, idle, first_of, rest_of, first_book}
 use Rattle.s66_share.specs.LockTokens.{book, IsResting}
 

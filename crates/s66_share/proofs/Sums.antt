@@ -6,7 +6,7 @@ use Rattle.std.proofs.lemmas.Bool.{eq-eqb, ne_eqb, cond-true, cond-false}
 use Rattle.std.proofs.lemmas.List.Elements.{All-head, All-tail}
 use Rattle.s66_isa.specs.Lists.{weigh, rising}
 use Rattle.s66_isa.proofs.Lists.{weigh-same, among-rising}
-use Rattle.s66_machine.specs.Accounts.{Summary, SeatRecord, Account, Agrees, account_at, no_account}
+use Rattle.s66_model.specs.Accounts.{Summary, SeatRecord, Account, Agrees, account_at, no_account}
 use Rattle.s66_share.specs.SeatViews.{books_of}
 
 none-of : (f : ℕ → ℕ) (k count low : ℕ) → k < low → weigh (λ w. cond (eqb k w) (f w) 0) (rising count low) ≡ 0

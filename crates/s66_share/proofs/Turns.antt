@@ -10,7 +10,7 @@ use Rattle.std.proofs.lemmas.List.Elements.{All-nil, All-cons, All-append}
 use Rattle.atomic_table.specs.Table.{State, Me, keeps, takes, gives, Allows, Splits, Joins, Final, Seen, opening, rest}
 use Rattle.atomic_table.proofs.Lists.{at_set, set_here, set_else, set_again, at_longer}
 use Rattle.s66_isa.proofs.Lists.{weigh-append, tally-append}
-use Rattle.s66_machine.specs.Accounts.{Summary, SeatRecord, Agrees, opened}
+use Rattle.s66_model.specs.Accounts.{Summary, SeatRecord, Agrees, opened}
 use Rattle.s66_share.specs.SeatViews.{View, Stage, Idle, Founding, Holding, idle, holding, founding, first_of, rest_of, books_of, found_at, first_book, renewed, GoesOn, MayBecome}
 use Rattle.s66_share.specs.LockTokens.{HaveEvery}
 use Rattle.s66_share.specs.Locked.{AllAgree, IsOnce, Has, IsFree, IsTaken, Locked, keep_least, read_best, keep_books, GaveFirst, FoundedAt}

@@ -3,7 +3,7 @@ use Rattle.std.specs.Prelude.{ℕ, ◌≡◌, ◌+◌, ◌-◌, ◌≤◌, List,
 use mathlib.Core.Option.{some}
 use lib.ListN.{get_elem?}
 use Rattle.s66_isa.specs.Lists.{weigh}
-use Rattle.s66_machine.specs.Tickets.{TicketOf}
+use Rattle.s66_model.specs.Tickets.{TicketOf}
 
 -- what the owner or a pass has put and taken, and how many parts it has of the right to know the whole
 pub record Hand : Type 0 where

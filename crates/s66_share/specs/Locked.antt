@@ -6,7 +6,7 @@ use mathlib.Core.Option as maybe
 use lib.ListN.{get_elem?}
 use Rattle.atomic_table.specs.Table.{State, Me, Step}
 use Rattle.s66_isa.specs.Lists.{weigh}
-use Rattle.s66_machine.specs.Accounts.{Summary, SeatRecord, Agrees, opened}
+use Rattle.s66_model.specs.Accounts.{Summary, SeatRecord, Agrees, opened}
 use Rattle.s66_share.specs.SeatViews.{View, Stage, Idle, Founding, Holding, books_of, idle, holding, renewed, GoesOn}
 
 abbrev pub AllAgree : Summary → List View → Type 0

@@ -3,7 +3,7 @@ use Rattle.std.specs.Prelude.{ℕ, ◌≡◌, ◌≢◌, ◌≤◌, ◌==◌, Li
 use Rattle.s66_isa.specs.Lists.{tally, rising}
 use Rattle.s66_isa.specs.Table.{standard}
 use Rattle.s66_model.specs.declared.rule.Rule.TheVariants.{NoneNamed}
-use Rattle.s66_machine.specs.Accounts.{Summary, SeatRecord, Agrees, opened}
+use Rattle.s66_model.specs.Accounts.{Summary, SeatRecord, Agrees, opened}
 
 -- whether the seat has the lock
 pub data Stage : Type 0 where

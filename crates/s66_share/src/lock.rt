@@ -6,7 +6,7 @@ ghost use Rattle.std.specs.Prelude.{◌≡◌};
 use crate::limits::SPINS;
 use crate::view::View;
 use atomic_table::{Join, Play, Seat, Split, Table, TableRule};
-use s66_machine::Summed;
+use s66_model::Summed;
 use std::alloc::{AllocError, Global};
 use std::hint::spin_loop;
 use std::sync::Wait;
@@ -104,7 +104,7 @@ impl Join<View> for Collects {
 
 impl<S: Summed + Drop> Lock<S> {
     ghost use Rattle.std.specs.Prelude.{◌≡◌, ℕ, ◌<◌, ◌≤◌, [], ◌∷◌, ◌++◌, length, All, IfOk, None};
-    ghost use Rattle.s66_machine.specs.Accounts.{Agrees, opened};
+    ghost use Rattle.s66_model.specs.Accounts.{Agrees, opened};
     ghost use Rattle.s66_share.specs.SeatViews.{GoesOn, MayBecome, all_opened, books_of, renewed, idle, holding, first_of, rest_of, first_book};
     ghost use Rattle.s66_share.specs.LockTokens.{book, found, IsResting, IsHolding, IsIdle, HaveEvery};
 

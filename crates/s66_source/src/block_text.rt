@@ -1,8 +1,8 @@
 //! The text of a block that is printed in another order: its report, and the line of each instruction.
 
-ghost use Rattle.std.specs.Prelude.{ℕ, ◌≡◌, ◌≤◌, ◌++◌, codes, decimal, length, OnOk};
+ghost use Rattle.std.specs.Prelude.{ℕ, ◌≡◌, ◌≤◌, ◌++◌, codes, length, OnOk};
 ghost use Rattle.s66_isa.specs.Lists.{Among};
-ghost use Rattle.s66_line.specs.Fields.{body, trim, is_trailing};
+ghost use Rattle.s66_line.specs.Fields.{body};
 ghost use Rattle.s66_source.specs.Columns.{indented_line, indented_lines, line_start};
 ghost use Rattle.s66_source.specs.Printed.{bound_text, splits_line, times_text, report, label_field};
 ghost use Rattle.s66_isa.specs.declared.limits.TheConstants.{BLOCK_LIMIT};

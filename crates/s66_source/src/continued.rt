@@ -1,6 +1,6 @@
 //! Lines that are continued: a comma stands in column 1 of the next line that is no comment.
 
-ghost use Rattle.std.specs.Prelude.{◌≡◌, ◌&&◌, ◌∷◌, [], true};
+ghost use Rattle.std.specs.Prelude.{◌≡◌, ◌&&◌, ◌∷◌, []};
 ghost use Rattle.s66_line.specs.Fields.{lines_from};
 ghost use Rattle.s66_source.specs.LeftAlone.{is_continued};
 

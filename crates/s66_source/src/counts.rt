@@ -5,7 +5,7 @@ ghost use Rattle.std.specs.Borrow.{Bor};
 ghost use Rattle.s66_isa.specs.Lists.{every};
 ghost use Rattle.s66_line.specs.Characters.{is_decimal};
 ghost use Rattle.s66_line.specs.Fields.{is_blank};
-ghost use Rattle.s66_source.specs.Counts.{after_byte, after_comma, before_byte, counting_text, cover_after_string, cover_after_strings, cover_after_third, cover_by_count, cover_by_numeral, cover_by_strings, cover_of, is_numeral, is_one_of, spelled_after, strings_in};
+ghost use Rattle.s66_source.specs.Counts.{after_byte, after_comma, before_byte, counting_text, cover_after_strings, cover_after_third, cover_by_count, cover_by_numeral, cover_by_strings, cover_of, is_numeral, is_one_of, spelled_after, strings_in};
 ghost use Rattle.s66_source.specs.declared.limits.TheConstants.{SOURCE_LINES_LIMIT};
 
 use crate::cover::Cover;
@@ -14,7 +14,7 @@ use memchr::memchr;
 use s66_line::{from_operand, is_decimal_digit, split_word};
 
 /// The operations that end a part which an `IF`, a `SKIP`, an `ELSE`, a `DUP` or an `ECHO` covers.
-pub const RANGE_ENDS: [&[u8]; 4] = [b"ENDD", b"ENDIF", b"END", b"IDENT"];
+pub(crate) const RANGE_ENDS: [&[u8]; 4] = [b"ENDD", b"ENDIF", b"END", b"IDENT"];
 
 /// The operations whose operand is a count.
 const COUNTED_ALONE: [&[u8]; 8] = [

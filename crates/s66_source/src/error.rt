@@ -1,6 +1,6 @@
 //! The errors of reading a source, and the line that reports each.
 
-ghost use Rattle.std.specs.Prelude.{◌≡◌, ◌++◌, ◌<◌, ◌≤◌, codes, decimal, length};
+ghost use Rattle.std.specs.Prelude.{◌≡◌, ◌<◌, length};
 ghost use Rattle.s66_source.specs.declared.error.SourceError.TheVariants.{OutOfMemory};
 ghost use Rattle.s66_device.specs.declared.limits.TheConstants.{FAULT_ROOM};
 

@@ -282,7 +282,7 @@ pub fn printed_examples()
 
 /// A source of which some blocks stand, and one without a block. The `NO`s of a block that stands are as they were read.
 #[tactic(auto, unfolding(crate::specs::Replaced::digits))]
-pub fn printed_in_examples()
+pub(crate) fn printed_in_examples()
     ensures some { printed_in false Usual (plain mixed_source) (None ∷ Some (record { order = 1 ∷ []; source = 4; time = 4; bound = 4; splits = None }) ∷ []) ≡
         codes "* TEST\n" ++
         codes "LOOP      SA1 A1+1     LOAD\n" ++

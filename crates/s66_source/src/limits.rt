@@ -4,4 +4,4 @@
 pub const SOURCE_LINES_LIMIT: u32 = 20_000;
 
 /// The most bytes of a line behind its star in which a directive is looked for.
-pub const DIRECTIVE_LIMIT: usize = 71;
+pub(crate) const DIRECTIVE_LIMIT: usize = 71;

@@ -26,7 +26,7 @@ fn is_upper_case_byte(byte: u8) -> bool
 }
 
 /// Whether none of these bytes is a letter in lower case.
-pub fn is_upper_case(bytes: &[u8]) -> bool
+pub(crate) fn is_upper_case(bytes: &[u8]) -> bool
     ensures { result ≡ every (λ byte. upper_byte byte == byte) bytes.now }
 {
     for byte in bytes {
@@ -61,7 +61,7 @@ fn begins_name(first: u8, second: u8, third: u8) -> bool
 }
 
 /// Whether the operation in front of these bytes shows by its first letters that it covers, begins and ends nothing, as most do.
-pub fn is_ordinary(bytes: &[u8]) -> bool
+pub(crate) fn is_ordinary(bytes: &[u8]) -> bool
     ensures { result ≡ true → (s : Standing) (operand : List ℕ) →
         after_operation s (upper (word bytes.now)) operand ≡ record s { cover = count_down s.cover false } }
 {
@@ -72,7 +72,7 @@ pub fn is_ordinary(bytes: &[u8]) -> bool
 }
 
 /// Whether a body is neither a comment nor a continuation.
-pub fn has_operation(body: &[u8]) -> bool
+pub(crate) fn has_operation(body: &[u8]) -> bool
     ensures { result ≡ has_operation body.now }
 {
     !is_comment_line(body) && !is_continuation(body)

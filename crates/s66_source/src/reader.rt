@@ -27,20 +27,20 @@ use std::mem;
 
 /// What was made of the lines of a source so far.
 #[derive(Drop)]
-pub struct Reader<'r, 'a> {
-    pub blocks: Vec<Block<'a>>,
+pub(crate) struct Reader<'r, 'a> {
+    pub(crate) blocks: Vec<Block<'a>>,
     /// The label of the run until its first block is ended, empty from then on.
-    pub label: &'a [u8],
+    pub(crate) label: &'a [u8],
     /// The instructions of the open block, fewer than `BLOCK_LIMIT`.
-    pub entries: Vec<Entry<'a>>,
-    pub pads: Pads,
+    pub(crate) entries: Vec<Entry<'a>>,
+    pub(crate) pads: Pads,
     /// How many lines were read.
-    pub lines: u32,
+    pub(crate) lines: u32,
     /// Whether the last of them is an Instruction or a Pad.
-    pub after_code: bool,
+    pub(crate) after_code: bool,
     /// Whether lines that are refused, or covered by a count, a definition or a directive, are left alone.
-    pub cut: bool,
-    pub standing: Standing<'r>,
+    pub(crate) cut: bool,
+    pub(crate) standing: Standing<'r>,
 }
 
 impl<'r, 'a> Reader<'r, 'a> {

@@ -8,7 +8,7 @@ ghost use Rattle.s66_line.specs.Fields.{body, continues, from_operation, is_comm
 ghost use Rattle.s66_line.specs.Operand.{is_sign};
 ghost use Rattle.s66_source.specs.Counts.{is_one_of};
 ghost use Rattle.s66_source.specs.LeftAlone.{has_operation};
-ghost use Rattle.s66_source.specs.Redefined.{defined_by, defined_name, ends_name, form_in, form_of, forming, is_bank, is_in_name, is_redefined, is_short, letters_of, nothing_redefined, own_operation, redefined_in, renaming};
+ghost use Rattle.s66_source.specs.Redefined.{defined_name, ends_name, form_in, form_of, forming, is_bank, is_in_name, is_redefined, is_short, letters_of, nothing_redefined, own_operation, redefined_in, renaming};
 ghost use Rattle.s66_source.specs.Redefining.{names_in, one_begins_so};
 ghost use Rattle.s66_line.specs.declared.limits.TheConstants.{TEXT_LIMIT};
 

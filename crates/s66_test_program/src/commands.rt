@@ -12,7 +12,7 @@ use std::sync::Wait;
 use std::thread::Threads;
 
 /// `deps`, of all blocks. Each other command is this one with fields changed.
-pub const PLAIN: Command<'static> = Command {
+pub(crate) const PLAIN: Command<'static> = Command {
     cut: false,
     block: None,
     profile: None,
@@ -22,13 +22,13 @@ pub const PLAIN: Command<'static> = Command {
 };
 
 /// `check` without sentences.
-pub const PLAIN_CHECK: Command<'static> = Command {
+pub(crate) const PLAIN_CHECK: Command<'static> = Command {
     asked: Asked::Check { text: false },
     ..PLAIN
 };
 
 /// How `order` prints if no flag is given.
-pub const STYLE: OrderStyle = OrderStyle {
+pub(crate) const STYLE: OrderStyle = OrderStyle {
     trace: false,
     keep: false,
     columns: false,
@@ -36,13 +36,13 @@ pub const STYLE: OrderStyle = OrderStyle {
 };
 
 /// How it prints by `--trace`.
-pub const TRACED: OrderStyle = OrderStyle {
+pub(crate) const TRACED: OrderStyle = OrderStyle {
     trace: true,
     ..STYLE
 };
 
 /// What is asked for, of all blocks, under the standard profile.
-pub fn plain(asked: Asked) -> Command<'static>
+pub(crate) fn plain(asked: Asked) -> Command<'static>
     ensures block { result.block ≡ None }
     ensures asked { result.asked ≡ asked }
 {
@@ -65,7 +65,7 @@ fn search_by(workers: u8, nodes: u32, rule: Rule) -> Strategy
 }
 
 /// `order --trace` by such a search.
-pub fn order_by(workers: u8, nodes: u32, rule: Rule) -> Command<'static>
+pub(crate) fn order_by(workers: u8, nodes: u32, rule: Rule) -> Command<'static>
     requires { IsSearchWithin (record { workers = workers; nodes = nodes; rule = rule }) }
     ensures { IsWithinLimits result }
 {
@@ -75,7 +75,7 @@ pub fn order_by(workers: u8, nodes: u32, rule: Rule) -> Command<'static>
 }
 
 /// `prove` by such a search.
-pub fn prove_by(workers: u8, nodes: u32, rule: Rule) -> Command<'static>
+pub(crate) fn prove_by(workers: u8, nodes: u32, rule: Rule) -> Command<'static>
     requires { IsSearchWithin (record { workers = workers; nodes = nodes; rule = rule }) }
     ensures { IsWithinLimits result }
 {
@@ -84,7 +84,7 @@ pub fn prove_by(workers: u8, nodes: u32, rule: Rule) -> Command<'static>
 }
 
 /// The result of a command at a text, and what it wrote.
-pub fn run<R: AllocGlobal + Threads + Wait + Sync>(
+pub(crate) fn run<R: AllocGlobal + Threads + Wait + Sync>(
     rt: &R,
     command: Command,
     text: &[u8],
@@ -101,7 +101,7 @@ pub fn run<R: AllocGlobal + Threads + Wait + Sync>(
 }
 
 /// Checks how a command ends at a text, and what it writes.
-pub fn check_output<R: AllocGlobal + Abort + Threads + Wait + Sync>(
+pub(crate) fn check_output<R: AllocGlobal + Abort + Threads + Wait + Sync>(
     rt: &R,
     command: Command,
     text: &str,

@@ -1,6 +1,6 @@
 //! Tests of readers and writers that fail at any call, and of those of `std`.
 
-ghost use Rattle.std.specs.Prelude.{◌≡◌, ◌≤◌, ◌-◌, ◌^◌, ◌<◌, None, Some, IfOk};
+ghost use Rattle.std.specs.Prelude.{◌≡◌, ◌≤◌, ◌-◌, ◌<◌, None, Some, IfOk};
 
 use crate::running::{CHART, CHECK, DEPS, LINT, ORDER, SUM, TIME, run, run_observed};
 use arrayvec::ArrayVec;

@@ -6,11 +6,11 @@ ghost use Rattle.s66_line.specs.Block.{instrs_of};
 
 use crate::blocks::{LATE_READER, THREE_ALIKE};
 use crate::reading::{block_of, source_of};
-use s66_dep::is_beginning;
 use s66_isa::Profile;
 use s66_line::Block;
 use s66_model::Rule;
 use s66_node::{Constant, MarkTable, NodePlace, Piece, State, Walk};
+use s66_time::is_beginning;
 use std::process::Abort;
 
 /// Checks how many splits a piece has, and how many of its nodes are dominated. Each other one is a leaf with this value.
@@ -44,7 +44,7 @@ fn check_piece<R: Abort>(
 }
 
 /// A piece over a prefix by the nodes before each in the piece.
-pub fn dominated_piece<R: AllocGlobal + Abort>(
+pub(crate) fn dominated_piece<R: AllocGlobal + Abort>(
     rt: &R,
     block: &Block,
     prefix: &[u8],

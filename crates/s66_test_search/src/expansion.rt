@@ -1,13 +1,11 @@
 //! Tests of expansions: the nodes of a piece and its best order, also by a best time that falls meanwhile.
 
-ghost use Rattle.std.specs.Prelude.{ℕ, ◌≡◌, ◌≤◌};
-
 use crate::blocks::{MULTIPLIES, ONE_LOAD, SEVEN_MULTIPLIES};
 use crate::reading::{block_of, source_of};
-use s66_dep::is_beginning;
 use s66_isa::Profile;
 use s66_line::Block;
 use s66_node::{Constant, Least, Node, Piece, State, Walk};
+use s66_time::is_beginning;
 use std::process::Abort;
 
 /// A best time that is read once, and falls when it is read again.
@@ -31,7 +29,7 @@ impl Least for Falling {
 }
 
 /// What a prefix of a block gives, for a best time and a number of splits that are allowed.
-pub fn piece_of<R: AllocGlobal + Abort>(
+pub(crate) fn piece_of<R: AllocGlobal + Abort>(
     rt: &R,
     block: &Block,
     prefix: &[u8],

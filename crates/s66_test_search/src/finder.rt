@@ -11,19 +11,19 @@ use s66_moments::{FactLine, FactStep};
 use std::process::Abort;
 
 /// What a finder knows of a block by dependences alone.
-pub fn found_at_first<R: AllocGlobal + Abort>(rt: &R, block: &Block) -> Finder {
+pub(crate) fn found_at_first<R: AllocGlobal + Abort>(rt: &R, block: &Block) -> Finder {
     Finder::new(rt.alloc(), block, &Profile::standard()).expect(rt, "memory")
 }
 
 /// What a finder knows of a block that has found its loads.
-pub fn found_by_loads<R: AllocGlobal + Abort>(rt: &R, block: &Block) -> Finder {
+pub(crate) fn found_by_loads<R: AllocGlobal + Abort>(rt: &R, block: &Block) -> Finder {
     let mut finder = found_at_first(rt, block);
     finder.find_loads().expect(rt, "memory");
     finder
 }
 
 /// What it knows that has found loads, and then what is so in all orders that take less than a time.
-pub fn found_below<R: AllocGlobal + Abort>(rt: &R, block: &Block, below: u32) -> Finder {
+pub(crate) fn found_below<R: AllocGlobal + Abort>(rt: &R, block: &Block, below: u32) -> Finder {
     let mut finder = found_by_loads(rt, block);
     finder.find_below(below).expect(rt, "memory");
     finder

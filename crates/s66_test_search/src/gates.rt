@@ -62,7 +62,7 @@ enum GatePoint {
 
 /// What the workers of a gate wait for.
 #[derive(Clone, Copy)]
-pub enum Meeting {
+pub(crate) enum Meeting {
     /// None waits.
     Free,
     /// This one of two workers doesn't graft its first piece before the other has claimed.
@@ -97,7 +97,7 @@ impl Meeting {
 
 /// A gate of up to three workers that counts what they do, and at which two may wait for one another, at most so long as its limit.
 #[derive(Drop)]
-pub struct Watch<'a, R> {
+pub(crate) struct Watch<'a, R> {
     rt: &'a R,
     meeting: Meeting,
     first: Counts,
@@ -107,7 +107,7 @@ pub struct Watch<'a, R> {
 }
 
 impl<'a, R: Clock> Watch<'a, R> {
-    pub fn new(rt: &'a R, meeting: Meeting) -> Watch<'a, R> {
+    pub(crate) fn new(rt: &'a R, meeting: Meeting) -> Watch<'a, R> {
         Watch {
             rt,
             meeting,
@@ -119,19 +119,19 @@ impl<'a, R: Clock> Watch<'a, R> {
     }
 
     /// Whether a worker was let on by the limit.
-    pub fn is_over(&self) -> bool {
+    pub(crate) fn is_over(&self) -> bool {
         self.is_over.load(Ordering::SeqCst)
     }
 
     /// Checks that two workers claimed, that one came to graft, and that none was let on by the limit.
-    pub fn check_met<A: Abort>(&self, rt: &A) {
+    pub(crate) fn check_met<A: Abort>(&self, rt: &A) {
         assert!(rt; self.claimants() == [true, true, false]);
         assert!(rt; 0 < self.pieces());
         assert!(rt; !self.is_over());
     }
 
     /// Whether each worker has claimed.
-    pub fn claimants(&self) -> [bool; 3] {
+    pub(crate) fn claimants(&self) -> [bool; 3] {
         [
             0 < count_of(&self.first.claims),
             0 < count_of(&self.second.claims),
@@ -140,13 +140,13 @@ impl<'a, R: Clock> Watch<'a, R> {
     }
 
     /// How many pieces workers have come to graft.
-    pub fn pieces(&self) -> u32 {
+    pub(crate) fn pieces(&self) -> u32 {
         let pieces = count_of(&self.first.pieces).saturating_add(count_of(&self.second.pieces));
         pieces.saturating_add(count_of(&self.third.pieces))
     }
 
     /// How many nodes the first worker claimed between its first piece and its second.
-    pub fn nodes_between(&self) -> u32 {
+    pub(crate) fn nodes_between(&self) -> u32 {
         count_of(&self.first.nodes_between)
     }
 

@@ -7,13 +7,12 @@ use crate::blocks::{MULTIPLIES, ONE_LOAD};
 use crate::expansion::piece_of;
 use crate::ledger::open_ledger;
 use crate::reading::{block_of, source_of};
-use s66_dep::Order;
 use s66_isa::Profile;
 use s66_ledger::{GraftError, Offered, Ticket};
 use s66_line::Block;
 use s66_node::Piece;
 use s66_pool::{Hub, Needs, Seat, SeatsMissing, Supply};
-use s66_time::{Timed, time_of};
+use s66_time::{Order, Timed, time_of};
 use std::process::Abort;
 use std::sync::Wait;
 
@@ -33,7 +32,7 @@ const BOTH: Needs = Needs {
 };
 
 /// A hub on a ledger of a block, and a seat for each worker.
-pub fn open_hub<'a, R: AllocGlobal + Abort>(
+pub(crate) fn open_hub<'a, R: AllocGlobal + Abort>(
     rt: &R,
     block: &'a Block<'a>,
     budget: u32,
@@ -48,7 +47,7 @@ pub fn open_hub<'a, R: AllocGlobal + Abort>(
 }
 
 /// Takes the last seat out, and checks its number.
-pub fn take_seat<'a, R: Abort>(
+pub(crate) fn take_seat<'a, R: Abort>(
     rt: &R,
     hub: &Hub<'a>,
     seats: &mut Vec<Seat<'a>>,
@@ -64,7 +63,12 @@ pub fn take_seat<'a, R: Abort>(
 }
 
 /// Puts a seat after the others.
-pub fn put_seat<'a, R: Abort>(rt: &R, _hub: &Hub<'a>, seats: &mut Vec<Seat<'a>>, seat: Seat<'a>)
+pub(crate) fn put_seat<'a, R: Abort>(
+    rt: &R,
+    _hub: &Hub<'a>,
+    seats: &mut Vec<Seat<'a>>,
+    seat: Seat<'a>,
+)
     requires here { seat.hub ≡ _hub.now.id }
     requires rest { All (λ s. s.hub ≡ _hub.now.id) seats.old.items }
     ensures { All (λ s. s.hub ≡ _hub.now.id) seats.new.items }
@@ -73,7 +77,7 @@ pub fn put_seat<'a, R: Abort>(rt: &R, _hub: &Hub<'a>, seats: &mut Vec<Seat<'a>>,
 }
 
 /// Moves splits of the budget to a seat, and returns how many.
-pub fn grant<'a, R: Abort + Wait>(rt: &R, hub: &Hub<'a>, seat: &mut Seat<'a>) -> u32
+pub(crate) fn grant<'a, R: Abort + Wait>(rt: &R, hub: &Hub<'a>, seat: &mut Seat<'a>) -> u32
     requires { seat.old.hub ≡ hub.now.id }
     ensures { seat.new.hub ≡ seat.old.hub }
 {
@@ -81,7 +85,7 @@ pub fn grant<'a, R: Abort + Wait>(rt: &R, hub: &Hub<'a>, seat: &mut Seat<'a>) ->
 }
 
 /// Claims the root of a hub's tree, of which no other node is there.
-pub fn claim_root<'a, R: AllocGlobal + Abort + Wait>(
+pub(crate) fn claim_root<'a, R: AllocGlobal + Abort + Wait>(
     rt: &R,
     hub: &Hub<'a>,
     seat: &mut Seat<'a>,
@@ -288,7 +292,7 @@ fn pieces_are_grafted(rt: HostRuntime) {
 }
 
 /// An order of the block with its times.
-pub fn timed_of<R: Abort>(rt: &R, block: &Block, numbers: &[u8]) -> Timed {
+pub(crate) fn timed_of<R: Abort>(rt: &R, block: &Block, numbers: &[u8]) -> Timed {
     let order = Order::new(block, numbers).expect(rt, "a legal order");
     time_of(block, &Profile::standard(), &order)
 }

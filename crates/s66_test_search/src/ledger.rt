@@ -67,7 +67,7 @@ const HISTORY: &[EventRecord] = &[
 const BYTES: &[u8] = &[1, 2, 3];
 
 /// A ledger of so many workers, of which no leaf is dominated.
-pub fn open_ledger<'a, R: AllocGlobal + Abort>(
+pub(crate) fn open_ledger<'a, R: AllocGlobal + Abort>(
     rt: &R,
     block: &'a Block<'a>,
     budget: u32,
@@ -82,7 +82,7 @@ pub fn open_ledger<'a, R: AllocGlobal + Abort>(
 }
 
 /// A ledger of two workers.
-pub fn new_ledger<'a, R: AllocGlobal + Abort>(rt: &R, block: &'a Block<'a>) -> Ledger<'a>
+pub(crate) fn new_ledger<'a, R: AllocGlobal + Abort>(rt: &R, block: &'a Block<'a>) -> Ledger<'a>
     ensures { result.workers ≡ 2 }
 {
     open_ledger(rt, block, BUDGET, 2)
@@ -103,7 +103,7 @@ fn check_readings<R: Abort>(rt: &R, ledger: &Ledger, splits: u32, nodes: u32) {
 }
 
 /// Checks how many splits a worker is granted.
-pub fn check_grant<R: Abort>(rt: &R, ledger: &mut Ledger, w: u8, splits: u32)
+pub(crate) fn check_grant<R: Abort>(rt: &R, ledger: &mut Ledger, w: u8, splits: u32)
     requires { (1 ≤ w) × (w ≤ ledger.old.workers) }
     ensures { ledger.new.workers ≡ ledger.old.workers }
 {
@@ -111,7 +111,7 @@ pub fn check_grant<R: Abort>(rt: &R, ledger: &mut Ledger, w: u8, splits: u32)
 }
 
 /// Claims a node for a worker, and checks its prefix.
-pub fn claim_node<R: Abort>(rt: &R, ledger: &mut Ledger, w: u8, prefix: &[u8]) -> Ticket
+pub(crate) fn claim_node<R: Abort>(rt: &R, ledger: &mut Ledger, w: u8, prefix: &[u8]) -> Ticket
     requires { (1 ≤ w) × (w ≤ ledger.old.workers) }
     ensures { ledger.new.workers ≡ ledger.old.workers }
 {
@@ -132,7 +132,7 @@ fn graft_root<R: AllocGlobal + Abort>(rt: &R, ledger: &mut Ledger)
 }
 
 /// The first three steps.
-pub fn split_root<R: AllocGlobal + Abort>(rt: &R, ledger: &mut Ledger)
+pub(crate) fn split_root<R: AllocGlobal + Abort>(rt: &R, ledger: &mut Ledger)
     requires { 1 ≤ ledger.old.workers }
     ensures { ledger.new.workers ≡ ledger.old.workers }
 {
@@ -193,7 +193,7 @@ fn stopped<'a, R: AllocGlobal + Abort>(rt: &R, block: &'a Block<'a>, count: usiz
 }
 
 /// The time, the bound and the splits of a search once list schedules are offered and it is finished.
-pub fn finished<R: AllocGlobal + Abort>(rt: &R, mut ledger: Ledger) -> (u32, u32, u32)
+pub(crate) fn finished<R: AllocGlobal + Abort>(rt: &R, mut ledger: Ledger) -> (u32, u32, u32)
     requires { 1 ≤ ledger.workers }
 {
     let (alloc, profile) = (rt.alloc(), *ledger.profile());
@@ -207,7 +207,11 @@ pub fn finished<R: AllocGlobal + Abort>(rt: &R, mut ledger: Ledger) -> (u32, u32
 }
 
 /// Finishes a search, and checks its time, its bound and its splits.
-pub fn check_finished<R: AllocGlobal + Abort>(rt: &R, ledger: Ledger, wanted: (u32, u32, u32))
+pub(crate) fn check_finished<R: AllocGlobal + Abort>(
+    rt: &R,
+    ledger: Ledger,
+    wanted: (u32, u32, u32),
+)
     requires { 1 ≤ ledger.workers }
 {
     let (time, bound, splits) = finished(rt, ledger);

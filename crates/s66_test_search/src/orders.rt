@@ -2,8 +2,8 @@
 
 use crate::blocks::ONE_LOAD;
 use crate::reading::{block_of, source_of};
-use s66_dep::{NotLegal, Order};
 use s66_line::Block;
+use s66_time::{NotLegal, Order};
 
 /// Numbers, and the place that is returned if they are no legal order of one load.
 const PLACES: &[(&[u8], Option<usize>)] = &[

@@ -8,10 +8,9 @@ use crate::plain_paths::{plain_bound, plain_tails};
 use crate::reading::{block_of, source_of};
 use crate::walk::{push_ready, undo_last};
 use s66_deep::{Left, PathBounds, Tails};
-use s66_dep::Set;
 use s66_isa::{BLOCK_LIMIT, Profile};
 use s66_line::Block;
-use s66_time::Clock;
+use s66_time::{Clock, Set};
 use std::process::Abort;
 
 /// How many numbers are tried, most of them in vain.

@@ -34,7 +34,7 @@ struct PlainPoint {
 
 /// The points of a beginning, the first instruction's first.
 #[derive(Drop)]
-pub struct PlainClock {
+pub(crate) struct PlainClock {
     profile: Profile,
     points: Vec<PlainPoint>,
 }
@@ -86,7 +86,7 @@ fn free_after(start: u32, hold: u32, results: &[PlainResult]) -> u32 {
 
 impl PlainClock {
     /// Before the first push.
-    pub fn new<R: AllocGlobal>(rt: &R, profile: &Profile) -> PlainClock {
+    pub(crate) fn new<R: AllocGlobal>(rt: &R, profile: &Profile) -> PlainClock {
         PlainClock {
             profile: *profile,
             points: Vec::new(rt.alloc()),
@@ -190,7 +190,7 @@ impl PlainClock {
     }
 
     /// Pushes an instruction, under its number.
-    pub fn push<R: Abort>(&mut self, rt: &R, number: u8, instr: Instr) {
+    pub(crate) fn push<R: Abort>(&mut self, rt: &R, number: u8, instr: Instr) {
         let (parcel, slot) = self.slot(&instr);
         let issue = self.issue(&instr, slot);
         let start = self.start(&instr, issue);
@@ -209,13 +209,13 @@ impl PlainClock {
     }
 
     /// Takes back the last push, and gives its number if there was one.
-    pub fn undo(&mut self) -> Option<u8> {
+    pub(crate) fn undo(&mut self) -> Option<u8> {
         let point = self.points.pop()?;
         Some(point.number)
     }
 
     /// Whether an instruction of this number is pushed.
-    pub fn has(&self, number: u8) -> bool {
+    pub(crate) fn has(&self, number: u8) -> bool {
         for point in &self.points {
             if point.number == number {
                 return true;
@@ -225,7 +225,7 @@ impl PlainClock {
     }
 
     /// The first minor cycle after the last issue in which an instruction can issue.
-    pub fn next(&self) -> u32 {
+    pub(crate) fn next(&self) -> u32 {
         match self.points.last() {
             Some(point) => point.issue.saturating_add(point.instr.parcels()),
             None => 0,
@@ -233,7 +233,7 @@ impl PlainClock {
     }
 
     /// When all units are free and all results done.
-    pub fn total(&self) -> u32 {
+    pub(crate) fn total(&self) -> u32 {
         let mut total = 0u32;
         for point in &self.points {
             total = total.max(point.end());
@@ -242,7 +242,7 @@ impl PlainClock {
     }
 
     /// When the last result in a register is done.
-    pub fn done_of(&self, register: Reg) -> u32 {
+    pub(crate) fn done_of(&self, register: Reg) -> u32 {
         let mut last = 0u32;
         for point in &self.points {
             last = last.max(point.done_at(register));
@@ -251,7 +251,7 @@ impl PlainClock {
     }
 
     /// How long the units of a kind work on from `next`, summed.
-    pub fn busy(&self, kind: Kind) -> u32 {
+    pub(crate) fn busy(&self, kind: Kind) -> u32 {
         let next = self.next();
         let mut sum = 0u32;
         for point in &self.points {

@@ -2,13 +2,12 @@
 //! number that remains. All times are in minor cycles.
 
 use s66_deep::Tails;
-use s66_dep::depends;
 use s66_isa::{
     BLOCK_LIMIT, Profile, Reg, Row, Write, has_register, is_memory_conflict, is_same_kind,
     is_same_register,
 };
 use s66_line::Block;
-use s66_time::Clock;
+use s66_time::{Clock, depends};
 
 /// What follows the result in a register, 0 if there is none.
 fn after_result(row: &Row, tails: &Tails, register: Reg) -> u32 {
@@ -113,7 +112,7 @@ fn with_own(row: &Row, known: &Tails) -> Tails {
 }
 
 /// What follows the stages of each number, of n at place n - 1.
-pub fn plain_tails(block: &Block<'_>, profile: &Profile) -> [Tails; BLOCK_LIMIT] {
+pub(crate) fn plain_tails(block: &Block<'_>, profile: &Profile) -> [Tails; BLOCK_LIMIT] {
     prove!(block.count() <= BLOCK_LIMIT);
     let mut tails = [Tails::default(); BLOCK_LIMIT];
     let count = block.count();
@@ -152,7 +151,7 @@ fn plain_value(clock: &Clock<'_>, row: &Row, tails: &Tails) -> u32 {
 }
 
 /// The greatest of these values of what remains, and the least number that has it; 0 if nothing remains.
-pub fn plain_bound(clock: &Clock<'_>, tails: &[Tails; BLOCK_LIMIT]) -> (u32, u8) {
+pub(crate) fn plain_bound(clock: &Clock<'_>, tails: &[Tails; BLOCK_LIMIT]) -> (u32, u8) {
     let block = clock.block();
     prove!(block.count() <= BLOCK_LIMIT);
     let pushed = clock.pushed();

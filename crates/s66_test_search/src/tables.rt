@@ -6,12 +6,12 @@ ghost use Rattle.s66_line.specs.Block.{instrs_of};
 use crate::blocks::THREE_ALIKE;
 use crate::ledger::{check_finished, check_grant, finished};
 use crate::reading::{block_of, source_of};
-use s66_dep::is_beginning;
 use s66_isa::Profile;
 use s66_ledger::{Ledger, Ticket};
 use s66_line::Block;
 use s66_model::Rule;
 use s66_node::{Constant, MarkTable, Piece, Walk};
+use s66_time::is_beginning;
 use std::process::Abort;
 
 /// More splits than the whole tree of three alike has.

@@ -9,14 +9,14 @@ use std::process::Abort;
 use std::str;
 
 /// In place of a fact line's place: none is left out.
-pub const NONE: usize = usize::MAX;
+pub(crate) const NONE: usize = usize::MAX;
 
 /// What a document of a block under the standard profile claims of an order and of all orders.
 #[derive(Clone, Copy)]
-pub struct Claimed<'a> {
-    pub code: &'a str,
-    pub timed: &'a Timed,
-    pub bound: u32,
+pub(crate) struct Claimed<'a> {
+    pub(crate) code: &'a str,
+    pub(crate) timed: &'a Timed,
+    pub(crate) bound: u32,
 }
 
 /// Appends a line: a word, and numbers, each after a blank.
@@ -97,7 +97,7 @@ fn push_tree_line<R: Abort>(rt: &R, text: &mut String, line: TreeLine) {
 }
 
 /// The lines of a tree.
-pub fn tree_text<R: AllocGlobal + Abort>(rt: &R, tree: &Tree) -> String {
+pub(crate) fn tree_text<R: AllocGlobal + Abort>(rt: &R, tree: &Tree) -> String {
     let mut text = String::new(rt.alloc());
     let mut lines = tree.lines();
     while let Some(line) = lines.next() {
@@ -124,7 +124,7 @@ fn push_claim<R: Abort>(rt: &R, text: &mut String, claimed: Claimed<'_>, version
 }
 
 /// The verdict on a document that claims this, with these steps, but for the one at a place if there is one, and with a tree.
-pub fn verdict_on<R: AllocGlobal + Abort>(
+pub(crate) fn verdict_on<R: AllocGlobal + Abort>(
     rt: &R,
     claimed: Claimed<'_>,
     steps: &[FactStep],

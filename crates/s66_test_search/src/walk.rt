@@ -4,26 +4,25 @@ ghost use Rattle.std.specs.Prelude.{◌≡◌, ◌++◌, [], ◌∷◌, IsTrue};
 ghost use Rattle.s66_time.specs.Ticking.{problem_of};
 
 use crate::plain_clock::PlainClock;
-use s66_dep::ready;
 use s66_isa::{Bank, KINDS, Profile, Reg};
 use s66_line::Block;
-use s66_time::Clock;
+use s66_time::{Clock, ready};
 use std::process::Abort;
 
 /// A walk through the legal orders of a block, depth first, the children of a beginning in rising number. At each step it checks
 /// that the clock returns what the plain form returns.
 #[derive(Drop)]
-pub struct Walk<'a> {
+pub(crate) struct Walk<'a> {
     clock: Clock<'a>,
     plain: PlainClock,
     /// The number by which it goes on if that is ready.
     tried: u8,
     /// The totals of the whole orders that it came to.
-    pub totals: Vec<u32>,
+    pub(crate) totals: Vec<u32>,
 }
 
 /// Pushes a number if it is ready, and returns whether it was.
-pub fn push_ready(clock: &mut Clock, n: u8) -> bool
+pub(crate) fn push_ready(clock: &mut Clock, n: u8) -> bool
     ensures same { problem_of clock.new ≡ problem_of clock.old }
     ensures pushed { IsTrue result → clock.new.numbers ≡ clock.old.numbers ++ n ∷ [] }
 {
@@ -35,7 +34,7 @@ pub fn push_ready(clock: &mut Clock, n: u8) -> bool
 }
 
 /// Takes back the last push, and returns whether there was one.
-pub fn undo_last(clock: &mut Clock) -> bool
+pub(crate) fn undo_last(clock: &mut Clock) -> bool
     ensures { problem_of clock.new ≡ problem_of clock.old }
 {
     let is_pushed = clock.pushed().count() > 0;
@@ -46,7 +45,7 @@ pub fn undo_last(clock: &mut Clock) -> bool
 }
 
 impl<'a> Walk<'a> {
-    pub fn new<R: AllocGlobal>(rt: &R, block: &'a Block<'a>, profile: &Profile) -> Walk<'a> {
+    pub(crate) fn new<R: AllocGlobal>(rt: &R, block: &'a Block<'a>, profile: &Profile) -> Walk<'a> {
         Walk {
             clock: Clock::new(block, profile),
             plain: PlainClock::new(rt, profile),
@@ -56,7 +55,7 @@ impl<'a> Walk<'a> {
     }
 
     /// Goes on, or tries the next number, or goes back; false once all orders are walked through.
-    pub fn step<R: AllocGlobal + Abort>(&mut self, rt: &R) -> bool {
+    pub(crate) fn step<R: AllocGlobal + Abort>(&mut self, rt: &R) -> bool {
         if self.enter(rt) {
             self.tried = 1;
         } else if (self.tried as usize) < self.clock.block().count() {

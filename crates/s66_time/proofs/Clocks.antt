@@ -13,7 +13,7 @@ use Rattle.s66_model.proofs.Growth.{total-le, fits_at-ge}
 use Rattle.s66_model.proofs.ChainBound.{last-is_greatest}
 use Rattle.s66_model.proofs.PointTimes.{good-at, point_of-row, point_of-number, points_after-length, issue-le-start, hold-le-free}
 use Rattle.s66_model.proofs.Issue.{issue-late}
-use Rattle.s66_dep.proofs.LongestBeginning.{beginning-few}
+use Rattle.s66_time.proofs.LongestBeginning.{beginning-few}
 use Rattle.s66_isa.specs.declared.limits.TheConstants.{BLOCK_LIMIT}
 use Rattle.s66_time.specs.ClockWords.{under, IsWords, InTurn, points_of_steps, AreKept, after_undo}
 use Rattle.s66_time.specs.Ticking.{numbers_of, IsClock}

@@ -1,6 +1,17 @@
+pub mod Bits
+pub mod Conflicts
+pub mod LongestBeginning
+pub mod Lowest
+pub mod Opened
+pub mod OrderNumbers
+pub mod Readiness
+pub mod Sets
+pub mod RankOrder
+pub mod RemainingSets
 pub mod Loops
 pub mod Back
 pub mod WorkOfKinds
+pub mod Fillers
 pub mod FreeUnits
 pub mod ClockPoints
 pub mod Clocks

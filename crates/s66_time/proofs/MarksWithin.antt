@@ -9,7 +9,7 @@ use Rattle.s66_isa.proofs.Lists.{cases_le}
 use Rattle.s66_isa.proofs.RegisterBits.{index-few, register_at-digit}
 use Rattle.s66_model.specs.Timing.{Problem, copies, points_of, next}
 use Rattle.s66_model.specs.Dominance.{Clamp, clamp_at, free_times, IsNoLater, IsSameSet, DominatesBy}
-use Rattle.s66_dep.proofs.LongestBeginning.{beginning-few}
+use Rattle.s66_time.proofs.LongestBeginning.{beginning-few}
 use Rattle.s66_time.specs.KeptUnits.{kept_of, first_kept}
 use Rattle.s66_time.specs.Marks.{IsMarkOf}
 use Rattle.s66_time.specs.declared.limits.TheConstants.{TOTAL_LIMIT}

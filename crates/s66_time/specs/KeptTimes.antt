@@ -3,6 +3,7 @@ use Rattle.std.specs.Prelude.{ℕ, ◌≡◌, ◌≤◌, List, length, map, reve
 use Rattle.s66_model.specs.Timing.{Problem, Point, latest_result, points_of, total_of}
 use Rattle.s66_isa.specs.declared.limits.TheConstants.{BLOCK_LIMIT}
 use Rattle.s66_model.specs.LegalOrder.{IsLegal}
+use Rattle.s66_model.specs.Packing.{fillers, len_at}
 use Rattle.s66_time.specs.declared.timed.Times.{Times}
 
 abbrev pub times_of : Point → Times
@@ -13,8 +14,9 @@ abbrev pub times_in : List Point → List Times
 times_in s = map times_of (reverse s)
 
 -- what is true of every timed order
-pub record IsKeptTimed (b : Problem) (numbers : List ℕ) (times : List Times) (end : ℕ) : Type 0 where
+pub record IsKeptTimed (b : Problem) (numbers : List ℕ) (times : List Times) (end filled : ℕ) : Type 0 where
   pub legal : IsLegal b.block numbers
   pub few : length numbers ≤ BLOCK_LIMIT
   pub kept : times ≡ times_in (points_of b numbers)
   pub total : end ≡ total_of b numbers
+  pub packed : filled ≡ length (fillers 0 (map (len_at b.block) numbers))

@@ -10,12 +10,12 @@ ghost use Rattle.s66_line.specs.Block.{instrs_of};
 ghost use Rattle.s66_model.specs.Digits.{HaveDigits};
 
 use crate::copies::Copies;
+use crate::graph::Set;
 use crate::mark::Mark;
 use crate::mark_shape::MarkShape;
 use crate::steps::Steps;
 use crate::words::Words;
 use arrayvec::ArrayVec;
-use s66_dep::Set;
 use s66_isa::{BLOCK_LIMIT, Kind, Memory, Profile, Reg, Registers, Row, kind_number};
 use s66_line::Block;
 use std::marker::Model;
@@ -74,7 +74,7 @@ impl<'a> Clock<'a> {
     ghost use Rattle.s66_isa.specs.Lists.{weigh, has, tally, greatest};
     ghost use Rattle.s66_isa.specs.Table.{Reg as RegOf, copies_of, kind_of, instr_at, has_reg, memory_pair};
     ghost use Rattle.s66_isa.specs.Registers.{registers_in};
-    ghost use Rattle.s66_dep.specs.Members.{numbers_in};
+    ghost use Rattle.s66_time.specs.Members.{numbers_in};
     ghost use Rattle.s66_line.specs.Block.{instrs_of};
     ghost use Rattle.s66_isa.specs.declared.limits.TheConstants.{BLOCK_LIMIT};
     ghost use Rattle.s66_model.specs.LegalOrder.{is_ready, IsBeginning};

@@ -10,7 +10,7 @@ use s66_isa::{KIND_COUNT, Kind, Profile, kind_number};
 
 /// How many units a profile has of each kind, by the kind's number.
 #[derive(Drop)]
-pub struct Copies {
+pub(crate) struct Copies {
     counts: [u32; KIND_COUNT],
     ghost some: { (i : ℕ) → i < KIND_COUNT → 1 ≤ get_or counts i 0 },
     ghost few: { (i : ℕ) → i < KIND_COUNT → get_or counts i 0 ≤ COPIES_LIMIT },
@@ -18,7 +18,7 @@ pub struct Copies {
 
 impl Copies {
     /// Those of a profile.
-    pub fn of(profile: &Profile) -> Copies
+    pub(crate) fn of(profile: &Profile) -> Copies
         ensures { (kind : KindOf) → get_or result.counts (kind_number kind) 0 ≡ copies_of profile.now kind }
     {
         Copies {
@@ -35,7 +35,7 @@ impl Copies {
     }
 
     /// How many units there are of a kind.
-    pub fn at(&self, kind: Kind) -> u32
+    pub(crate) fn at(&self, kind: Kind) -> u32
         ensures value { result ≡ get_or self.now.counts (kind_number kind) 0 }
         ensures at_least { 1 ≤ result }
         ensures at_most { result ≤ COPIES_LIMIT }

@@ -1,17 +1,19 @@
-//! How an order of a block is packed, and when each of its instructions issues, starts and is done. Begin at `timed.rt`, which times a
-//! whole order, and `clock.rt`, which times a beginning that grows and shrinks.
+//! Legal orders of a block, by the dependences between its instructions (`graph/`); how an order is packed, and when each of its
+//! instructions issues, starts and is done. Begin at `timed.rt`, which times a whole order, and `clock.rt`, which times a beginning that
+//! grows and shrinks.
 //!
-//! It promises that its times are those of the definition (`s66_model`), whatever was timed or pushed before.
+//! It promises that an `Order` is legal, and that its times are those of the definition (`s66_model`), whatever was timed or pushed
+//! before.
 #![tactic(auto)]
 
 mod clock;
 mod copies;
 mod dominance;
+mod graph;
 mod limits;
 mod mark;
 mod mark_shape;
 mod mark_words;
-mod packing;
 mod progress;
 mod registers;
 mod result;
@@ -24,8 +26,10 @@ mod words;
 
 pub use clock::{Clock, rows_of};
 pub use dominance::{dominates, dominates_clamped};
-pub use limits::{LOOK_LIMIT, TOTAL_LIMIT};
+pub use graph::{
+    Dependences, NotLegal, Openings, Order, Ranking, Set, depends, is_beginning, ready,
+};
+pub use limits::{COPIES_LIMIT, LOOK_LIMIT, TOTAL_LIMIT};
 pub use mark::Mark;
-pub use packing::{Packing, pack};
 pub use result::{ResultAt, last_time};
 pub use timed::{Timed, Timer, Times, time_of};

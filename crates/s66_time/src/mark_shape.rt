@@ -1,6 +1,6 @@
 //! How many free times of each kind of unit a mark keeps: no more than there are instructions of the kind.
 
-ghost use Rattle.std.specs.Prelude.{◌≡◌, ◌+◌, ◌≤◌, List, length, min, take};
+ghost use Rattle.std.specs.Prelude.{◌≡◌, ◌+◌, ◌≤◌, length, min};
 ghost use Rattle.s66_isa.specs.Lists.{tally, weigh};
 ghost use Rattle.s66_isa.specs.Table.{Row as RowOf, all_kinds, same_kind};
 ghost use Rattle.s66_isa.specs.declared.instr.Kind.{Kind as KindOf};
@@ -12,14 +12,14 @@ use s66_isa::{KIND_COUNT, Kind, Row, kind_number};
 
 /// How many free times of each kind a mark keeps, by the kind's number.
 #[derive(Drop)]
-pub struct MarkShape {
+pub(crate) struct MarkShape {
     kept: [u8; KIND_COUNT],
     ghost few: { weigh (kept_in kept) all_kinds ≤ BLOCK_LIMIT },
 }
 
 impl MarkShape {
     /// Of each kind as many as it has copies, but no more than there are rows of the kind.
-    pub fn of(rows: &[Row], copies: &Copies) -> MarkShape
+    pub(crate) fn of(rows: &[Row], copies: &Copies) -> MarkShape
         requires { length rows.now ≤ BLOCK_LIMIT }
         ensures { (kind : KindOf) → kept_in result.kept kind ≡
             min (kept_in copies.now.counts kind) (tally (λ (r : RowOf). same_kind r.kind kind) rows.now) }
@@ -35,7 +35,7 @@ impl MarkShape {
     }
 
     /// How many are of a kind.
-    pub fn at(&self, kind: Kind) -> usize
+    pub(crate) fn at(&self, kind: Kind) -> usize
         ensures value { result ≡ kept_in self.now.kept kind }
         ensures few { weigh (kept_in self.now.kept) all_kinds ≤ BLOCK_LIMIT }
     {

@@ -4,35 +4,35 @@
 ghost use Rattle.std.specs.Prelude.{ℕ, [], ◌==◌, ◌||◌, ◌≡◌, ◌+◌, ◌≤◌, if◌then◌else◌, max};
 ghost use Rattle.s66_isa.specs.Lists.{greatest, has};
 ghost use Rattle.s66_isa.specs.Table.{touches, stores};
-ghost use Rattle.s66_dep.specs.Members.{numbers_in};
+ghost use Rattle.s66_time.specs.Members.{numbers_in};
 ghost use Rattle.s66_isa.specs.declared.limits.TheConstants.{BLOCK_LIMIT};
 ghost use Rattle.s66_model.specs.Timing.{ResultAt as ResultOf};
 ghost use Rattle.s66_time.specs.declared.limits.TheConstants.{TOTAL_LIMIT};
 
+use crate::graph::Set;
 use crate::tick::Tick;
-use s66_dep::Set;
 use s66_isa::{Memory, Row};
 
 /// What a clock stores in one word each.
 #[derive(Clone, Copy, Default, Drop)]
-pub struct Progress {
+pub(crate) struct Progress {
     /// One minor cycle after the last start of a reference to memory; 0 if there is none.
-    pub refs: u32,
+    pub(crate) refs: u32,
     /// One minor cycle after the last start of a store; 0 if there is none.
-    pub stores: u32,
+    pub(crate) stores: u32,
     /// The parcel after those of the last instruction.
-    pub parcel: u32,
+    pub(crate) parcel: u32,
     /// The first slot after the last issue.
-    pub next: u32,
+    pub(crate) next: u32,
     /// When all units are free and all results done.
-    pub total: u32,
+    pub(crate) total: u32,
     /// The numbers that are pushed.
-    pub pushed: Set,
+    pub(crate) pushed: Set,
 }
 
 impl Progress {
     /// Before the first push.
-    pub fn new() -> Progress
+    pub(crate) fn new() -> Progress
         ensures words { (result.refs ≡ 0) × (result.stores ≡ 0) × (result.parcel ≡ 0) × (result.next ≡ 0) ×
             (result.total ≡ 0) }
         ensures pushed { numbers_in result.pushed ≡ [] }
@@ -48,7 +48,7 @@ impl Progress {
     }
 
     /// The progress after one more instruction, with its times.
-    pub fn after(&self, number: u8, row: &Row, tick: &Tick) -> Progress
+    pub(crate) fn after(&self, number: u8, row: &Row, tick: &Tick) -> Progress
         requires number { (1 ≤ number) × (number ≤ BLOCK_LIMIT) }
         requires early { (tick.now.issue ≤ TOTAL_LIMIT + 3) × (tick.now.parcel ≤ TOTAL_LIMIT + 3) ×
             (tick.now.start ≤ TOTAL_LIMIT + 3) }

@@ -19,13 +19,13 @@ use s66_isa::{REGISTER_COUNT, Reg, Registers, Write};
 /// An instruction has two results at most: they are taken one by one and not in a loop, so that the compiler keeps them out of
 /// memory.
 #[derive(Drop)]
-pub struct RegisterWords {
-    pub words: [u32; REGISTER_COUNT],
+pub(crate) struct RegisterWords {
+    pub(crate) words: [u32; REGISTER_COUNT],
 }
 
 impl RegisterWords {
     /// All words are 0.
-    pub fn new() -> RegisterWords
+    pub(crate) fn new() -> RegisterWords
         ensures { (r : RegOf) → word_of result.words r ≡ 0 }
     {
         RegisterWords {
@@ -34,14 +34,14 @@ impl RegisterWords {
     }
 
     /// The word of a register.
-    pub fn at(&self, register: Reg) -> u32
+    pub(crate) fn at(&self, register: Reg) -> u32
         ensures { (f : RegOf → ℕ) → Tells self.now.words f → result ≡ f register }
     {
         self.words[register.index() as usize]
     }
 
     /// The registers whose words are after a time.
-    pub fn after(&self, time: u32) -> Registers
+    pub(crate) fn after(&self, time: u32) -> Registers
         ensures { (f : RegOf → ℕ) → Tells self.now.words f → (r : RegOf) → r.digit ≤ 7 →
             has_reg r (registers_in result) ≡ nat_lt time (f r) }
     {
@@ -55,7 +55,7 @@ impl RegisterWords {
     }
 
     /// The greatest word of these registers.
-    pub fn greatest(&self, registers: &[Reg]) -> u32
+    pub(crate) fn greatest(&self, registers: &[Reg]) -> u32
         ensures { (f : RegOf → ℕ) → Tells self.now.words f → result ≡ greatest f registers.now }
     {
         let mut last = 0u32;
@@ -66,7 +66,7 @@ impl RegisterWords {
     }
 
     /// The greatest word of the registers that are written, two at most.
-    pub fn greatest_written(&self, writes: &[Write]) -> u32
+    pub(crate) fn greatest_written(&self, writes: &[Write]) -> u32
         requires { length writes.now ≤ 2 }
         ensures { (f : RegOf → ℕ) → Tells self.now.words f → result ≡ greatest (λ (w : WriteOf). f w.reg) writes.now }
     {
@@ -98,7 +98,7 @@ impl RegisterWords {
     }
 
     /// When each result is done, two at most, if the unit starts then and these are the words of the readers.
-    pub fn results(&self, writes: &[Write], start: u32) -> ArrayVec<ResultAt, 2>
+    pub(crate) fn results(&self, writes: &[Write], start: u32) -> ArrayVec<ResultAt, 2>
         requires few { length writes.now ≤ 2 }
         requires latencies { greatest (λ (w : WriteOf). w.latency) writes.now ≤ 100 }
         requires start { start ≤ TOTAL_LIMIT + 3 }
@@ -134,7 +134,7 @@ impl RegisterWords {
 
     /// Raises the words of the registers of results to the times at which they are done, and saves what they were, from the first
     /// place on.
-    pub fn raise_results(&mut self, results: &[ResultAt], saved: &mut [Saved; 2])
+    pub(crate) fn raise_results(&mut self, results: &[ResultAt], saved: &mut [Saved; 2])
         requires { length results.now ≤ 2 }
         ensures words { (r : RegOf) → r.digit ≤ 7 → word_of self.new.words r ≡
             max (word_of self.old.words r)
@@ -154,7 +154,7 @@ impl RegisterWords {
     }
 
     /// Raises the words of registers to a time, and saves what they were, from the first place on.
-    pub fn raise_all(&mut self, registers: &[Reg], time: u32, saved: &mut [Saved; 4])
+    pub(crate) fn raise_all(&mut self, registers: &[Reg], time: u32, saved: &mut [Saved; 4])
         requires { length registers.now ≤ 4 }
         ensures words { (r : RegOf) → r.digit ≤ 7 → word_of self.new.words r ≡
             max (word_of self.old.words r) (if has_reg r registers.now then time else 0) }
@@ -166,7 +166,7 @@ impl RegisterWords {
     }
 
     /// Puts back what was saved at the first `count` places, the last word first.
-    pub fn put_back(&mut self, saved: &[Saved], count: usize)
+    pub(crate) fn put_back(&mut self, saved: &[Saved], count: usize)
         requires { count ≤ length saved.now }
         ensures { self.new.words ≡ put_back (take count saved.now) self.old.words }
     {

@@ -9,11 +9,11 @@ use crate::progress::Progress;
 
 /// A word of a register before it was written.
 #[derive(Clone, Copy)]
-pub struct Saved {
+pub(crate) struct Saved {
     /// The register's index.
-    pub place: u8,
+    pub(crate) place: u8,
     /// What it was, in minor cycles.
-    pub word: u32,
+    pub(crate) word: u32,
     ghost within: { place < REGISTER_COUNT },
 }
 
@@ -25,26 +25,26 @@ impl Default for Saved {
 
 /// What a push wrote over, which its undo puts back.
 #[derive(Drop)]
-pub struct Step {
+pub(crate) struct Step {
     /// The number that was pushed.
-    pub number: u8,
+    pub(crate) number: u8,
     /// The unit that it took, by its place among the words.
-    pub unit: u16,
+    pub(crate) unit: u16,
     /// When that unit was free before.
-    pub free: u32,
+    pub(crate) free: u32,
     /// The number of its kind.
-    pub kind: u8,
+    pub(crate) kind: u8,
     /// The word `Words::worked` of its kind.
-    pub worked: u32,
+    pub(crate) worked: u32,
     /// How many registers it writes.
-    pub done_count: u8,
+    pub(crate) done_count: u8,
     /// From the first place on, the words `Words::done` of the registers that it writes.
-    pub done: [Saved; 2],
+    pub(crate) done: [Saved; 2],
     /// How many registers it reads.
-    pub read_count: u8,
+    pub(crate) read_count: u8,
     /// From the first place on, the words `Words::read` of the registers that it reads.
-    pub read: [Saved; 4],
-    pub progress: Progress,
+    pub(crate) read: [Saved; 4],
+    pub(crate) progress: Progress,
     ghost within: { (unit < UNIT_LIMIT) × (kind < KIND_COUNT) },
     ghost few: { (done_count ≤ 2) × (read_count ≤ 4) },
 }
@@ -68,7 +68,7 @@ impl Default for Step {
 
 impl Step {
     /// How many words of registers are in it.
-    pub fn words(&self) -> u32
+    pub(crate) fn words(&self) -> u32
         ensures { result ≤ 6 }
     {
         self.done_count as u32 + self.read_count as u32

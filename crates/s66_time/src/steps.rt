@@ -12,7 +12,7 @@ use std::marker::Model;
 /// What the pushes of a clock wrote over, the oldest first. A step that is taken back stays in its place until another is written
 /// over it, so that nothing has to be blanked.
 #[derive(Drop)]
-pub struct Steps {
+pub(crate) struct Steps {
     places: ArrayVec<Step, BLOCK_LIMIT>,
     /// How many of the places are of steps that aren't taken back.
     count: usize,
@@ -37,7 +37,7 @@ impl Steps {
     ghost use Rattle.s66_time.specs.ClockWords.{under, IsWords, InTurn, AreWordsInTurn, after_undo};
 
     /// No step.
-    pub fn new() -> Steps
+    pub(crate) fn new() -> Steps
         ensures { result ≡ [] }
     {
         Steps {
@@ -49,7 +49,14 @@ impl Steps {
     /// Places the next instruction on the words, and writes after the last step what was written over; `copies` units are of its
     /// kind.
     #[inline(always)]
-    pub fn push(&mut self, words: &mut Words, profile: &Profile, copies: u32, number: u8, row: &Row)
+    pub(crate) fn push(
+        &mut self,
+        words: &mut Words,
+        profile: &Profile,
+        copies: u32,
+        number: u8,
+        row: &Row,
+    )
         requires room { length self.old < BLOCK_LIMIT }
         requires copies { copies ≡ copies_of profile.now row.now.kind }
         requires some { (1 ≤ copies) × (copies ≤ COPIES_LIMIT) }
@@ -66,7 +73,7 @@ impl Steps {
     }
 
     /// The last step.
-    pub fn last(&self) -> &Step
+    pub(crate) fn last(&self) -> &Step
         requires { 0 < length self.now }
         ensures { result.now ≡ get_or self.now (length self.now - 1) result.now }
     {
@@ -74,7 +81,7 @@ impl Steps {
     }
 
     /// Takes the last step back, in constant time.
-    pub fn remove_last(&mut self)
+    pub(crate) fn remove_last(&mut self)
         requires { 0 < length self.old }
         ensures { self.new ≡ take (length self.old - 1) self.old }
     {

@@ -1,6 +1,6 @@
 //! A word for each functional unit, when it is free; and the unit of a kind that is free soonest.
 
-ghost use Rattle.std.specs.Prelude.{ℕ, ◌≡◌, ◌+◌, ◌-◌, ◌*◌, ◌<◌, ◌≤◌, ◌^◌, length, set, get_or, replicate};
+ghost use Rattle.std.specs.Prelude.{ℕ, ◌≡◌, ◌+◌, ◌-◌, ◌*◌, ◌<◌, ◌≤◌, length, get_or, replicate};
 ghost use Rattle.s66_isa.specs.Lists.{greatest, weigh};
 ghost use Rattle.s66_isa.specs.Table.{copies_of};
 ghost use Rattle.s66_isa.specs.declared.instr.Kind.{Kind as KindOf};
@@ -12,12 +12,12 @@ use s66_isa::{KINDS, Kind, Profile, kind_number};
 
 /// A word for each unit: when it is free. Those of a kind are together, from a multiple of `COPIES_LIMIT` on.
 #[derive(Drop)]
-pub struct UnitWords {
-    pub words: [u32; UNIT_LIMIT],
+pub(crate) struct UnitWords {
+    pub(crate) words: [u32; UNIT_LIMIT],
 }
 
 /// The place of the first unit of a kind.
-pub fn first_unit(kind: Kind) -> usize
+pub(crate) fn first_unit(kind: Kind) -> usize
     ensures value { result ≡ first_unit kind }
     ensures within { result + COPIES_LIMIT ≤ UNIT_LIMIT }
 {
@@ -26,7 +26,7 @@ pub fn first_unit(kind: Kind) -> usize
 
 impl UnitWords {
     /// All words are 0.
-    pub fn new() -> UnitWords
+    pub(crate) fn new() -> UnitWords
         ensures { result.words ≡ replicate UNIT_LIMIT 0 }
     {
         UnitWords {
@@ -48,7 +48,7 @@ impl UnitWords {
     }
 
     /// The words of all units that a profile has are 0 from now on.
-    pub fn clear_all(&mut self, profile: &Profile)
+    pub(crate) fn clear_all(&mut self, profile: &Profile)
         ensures zeros { (kind : KindOf) (i : ℕ) → i < copies_of profile.now kind →
             get_or self.new.words (first_unit kind + i) 0 ≡ 0 }
         ensures size { length self.new.words ≡ length self.old.words }
@@ -59,7 +59,7 @@ impl UnitWords {
     }
 
     /// The place of a unit of the kind that no other is free before, if there are `copies` of them.
-    pub fn soonest(&self, copies: u32, kind: Kind) -> usize
+    pub(crate) fn soonest(&self, copies: u32, kind: Kind) -> usize
         requires { (1 ≤ copies) × (copies ≤ COPIES_LIMIT) }
         ensures within { result < UNIT_LIMIT }
         ensures own { first_unit kind ≤ result }
@@ -79,14 +79,14 @@ impl UnitWords {
     }
 
     /// When the first unit of a kind is free.
-    pub fn first(&self, kind: Kind) -> u32
+    pub(crate) fn first(&self, kind: Kind) -> u32
         ensures { result ≡ get_or self.now.words (first_unit kind) 0 }
     {
         self.words[first_unit(kind)]
     }
 
     /// How long the units of a kind are still to work after a time, all together.
-    pub fn rest(&self, profile: &Profile, kind: Kind, time: u32) -> u32
+    pub(crate) fn rest(&self, profile: &Profile, kind: Kind, time: u32) -> u32
         requires { greatest (λ (w : ℕ). w) (units_of profile.now kind self.now.words) ≤ TOTAL_LIMIT }
         ensures value { result ≡ weigh (λ w. w - time) (units_of profile.now kind self.now.words) }
         ensures at_most { result ≤ COPIES_LIMIT * TOTAL_LIMIT }

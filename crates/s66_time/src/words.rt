@@ -2,7 +2,7 @@
 //! registers are free), starts (its operands are done) and has its results (earlier readers have started). These are the three orders
 //! of conflict of the 6600's scoreboard (J. E. Thornton, Design of a Computer: The Control Data 6600).
 
-ghost use Rattle.std.specs.Prelude.{ℕ, ◌≡◌, ◌+◌, ◌-◌, ◌<◌, ◌≤◌, List, [], ◌∷◌, length, get_or};
+ghost use Rattle.std.specs.Prelude.{ℕ, ◌≡◌, ◌+◌, ◌-◌, ◌^◌, ◌<◌, ◌≤◌, List, [], ◌∷◌, length, get_or};
 ghost use Rattle.s66_isa.specs.Table.{copies_of, kind_number};
 ghost use Rattle.s66_isa.specs.declared.profile.Profile.{Profile as ProfileOf};
 ghost use Rattle.s66_isa.specs.declared.limits.TheConstants.{BLOCK_LIMIT};
@@ -12,7 +12,6 @@ ghost use Rattle.s66_model.specs.Timing.{Point, issue_of, start_of, point};
 ghost use Rattle.s66_time.specs.declared.limits.TheConstants.{COPIES_LIMIT, TOTAL_LIMIT, UNIT_LIMIT, WORK_LIMIT};
 ghost use Rattle.s66_time.specs.ClockWords.{under, IsWords, InTurn, IsSoonest, AreWordsInTurn, wait_of, point_of_tick, after_undo, Takes};
 
-use crate::packing::fits_at;
 use crate::progress::Progress;
 use crate::registers::RegisterWords;
 use crate::step::Step;
@@ -20,23 +19,36 @@ use crate::tick::{Tick, free_after};
 use crate::units::UnitWords;
 use s66_isa::{KIND_COUNT, Memory, Profile, Row, kind_number};
 
+/// Where an instruction of `parcels` parcels begins, when the parcels from this one on are empty: one of two parcels doesn't
+/// begin in the last parcel of a word.
+fn fits_at(empty: u32, parcels: u32) -> u32
+    requires { empty + 1 < 2 ^ 32 }
+    ensures { result ≡ fits_at empty parcels }
+{
+    if parcels == 2 && empty % 4 == 3 {
+        empty + 1
+    } else {
+        empty
+    }
+}
+
 /// The words of a clock.
 #[derive(Drop)]
-pub struct Words {
+pub(crate) struct Words {
     /// When the last of a register's writers is done.
-    pub done: RegisterWords,
+    pub(crate) done: RegisterWords,
     /// One minor cycle after the last start of a register's readers.
-    pub read: RegisterWords,
+    pub(crate) read: RegisterWords,
     /// When each unit is free.
-    pub units: UnitWords,
+    pub(crate) units: UnitWords,
     /// Of each kind, by its number, for how long the instructions so far take a unit, summed: each for its hold and one.
-    pub worked: [u32; KIND_COUNT],
-    pub progress: Progress,
+    pub(crate) worked: [u32; KIND_COUNT],
+    pub(crate) progress: Progress,
 }
 
 impl Words {
     /// Before the first push.
-    pub fn new() -> Words
+    pub(crate) fn new() -> Words
         ensures { (p : ProfileOf) → IsWords p [] result }
     {
         Words {
@@ -49,7 +61,7 @@ impl Words {
     }
 
     /// Before the first push again, under a profile; the time is that of its units.
-    pub fn clear(&mut self, profile: &Profile)
+    pub(crate) fn clear(&mut self, profile: &Profile)
         requires { length self.old.units.words ≡ UNIT_LIMIT }
         ensures { IsWords profile.now [] self.new }
     {
@@ -61,7 +73,7 @@ impl Words {
     }
 
     /// The first slot of an instruction of `parcels` parcels.
-    pub fn slot(&self, parcels: u32) -> u32
+    pub(crate) fn slot(&self, parcels: u32) -> u32
         requires parcel { self.now.progress.parcel ≤ TOTAL_LIMIT + 2 }
         requires next { self.now.progress.next ≤ TOTAL_LIMIT + 2 }
         ensures { result ≡
@@ -71,7 +83,7 @@ impl Words {
     }
 
     /// From when on a reference to memory of this kind may start.
-    pub fn memory_wait(&self, memory: Memory) -> u32
+    pub(crate) fn memory_wait(&self, memory: Memory) -> u32
         ensures { result ≡ wait_of memory self.now.progress.refs self.now.progress.stores }
     {
         match memory {
@@ -103,7 +115,7 @@ impl Words {
     }
 
     /// Where and when the instruction is placed next.
-    pub fn tick(&self, profile: &Profile, row: &Row) -> Tick
+    pub(crate) fn tick(&self, profile: &Profile, row: &Row) -> Tick
         requires follows { AreWordsInTurn profile.now self.now }
         ensures soonest { IsSoonest profile.now row.now.kind self.now.units.words result.unit }
         ensures value { (s : List Point) (n : ℕ) → IsWords profile.now s self.now → InTurn s →
@@ -145,7 +157,7 @@ impl Words {
 
     /// Places the next instruction there, and writes into the step what was written over.
     #[inline(always)]
-    pub fn take(&mut self, number: u8, row: &Row, tick: &Tick, step: &mut Step)
+    pub(crate) fn take(&mut self, number: u8, row: &Row, tick: &Tick, step: &mut Step)
         requires number { (1 ≤ number) × (number ≤ BLOCK_LIMIT) }
         requires early { (tick.now.issue ≤ TOTAL_LIMIT + 3) × (tick.now.parcel ≤ TOTAL_LIMIT + 3) ×
             (tick.now.start ≤ TOTAL_LIMIT + 3) }
@@ -175,7 +187,14 @@ impl Words {
 
     /// Places the next instruction, and writes into the step what was written over; `copies` units are of its kind.
     #[inline(always)]
-    pub fn push(&mut self, profile: &Profile, copies: u32, number: u8, row: &Row, step: &mut Step)
+    pub(crate) fn push(
+        &mut self,
+        profile: &Profile,
+        copies: u32,
+        number: u8,
+        row: &Row,
+        step: &mut Step,
+    )
         requires copies { copies ≡ copies_of profile.now row.now.kind }
         requires some { (1 ≤ copies) × (copies ≤ COPIES_LIMIT) }
         requires number { (1 ≤ number) × (number ≤ BLOCK_LIMIT) }
@@ -191,7 +210,7 @@ impl Words {
 
     /// Puts back what a push wrote over.
     #[inline(always)]
-    pub fn undo(&mut self, step: &Step)
+    pub(crate) fn undo(&mut self, step: &Step)
         ensures { self.new ≡ after_undo self.old step.now }
     {
         self.done.put_back(&step.done, step.done_count as usize);

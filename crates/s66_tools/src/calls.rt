@@ -9,11 +9,11 @@ use std::sync::Wait;
 use std::thread::Threads;
 
 /// What a call returns.
-pub type Answered = [usize; 4];
+pub(crate) type Answered = [usize; 4];
 
 /// A call of the libraries.
 #[derive(Clone, Copy)]
-pub enum Call {
+pub(crate) enum Call {
     ReadSource,
     PrintSource,
     FindingsIn,
@@ -53,7 +53,7 @@ fn call_of(name: &str) -> Option<Call> {
 }
 
 /// Makes a call.
-pub fn make<R: AllocGlobal + Threads + Wait + Sync>(
+pub(crate) fn make<R: AllocGlobal + Threads + Wait + Sync>(
     rt: &R,
     call: Call,
 ) -> Result<Answered, AllocError> {
@@ -74,13 +74,16 @@ pub fn make<R: AllocGlobal + Threads + Wait + Sync>(
 }
 
 /// Prints that memory ran out.
-pub fn tell_refusal(rt: &HostRuntime) -> io::Result<ExitCode> {
+pub(crate) fn tell_refusal(rt: &HostRuntime) -> io::Result<ExitCode> {
     eprintln!(rt; "OUT OF MEMORY")?;
     Ok(ExitCode::from(4))
 }
 
 /// Prints what a call returns.
-pub fn tell_answer(rt: &HostRuntime, made: Result<Answered, AllocError>) -> io::Result<ExitCode> {
+pub(crate) fn tell_answer(
+    rt: &HostRuntime,
+    made: Result<Answered, AllocError>,
+) -> io::Result<ExitCode> {
     let Ok(answered) = made else {
         return tell_refusal(rt);
     };
@@ -92,12 +95,12 @@ pub fn tell_answer(rt: &HostRuntime, made: Result<Answered, AllocError>) -> io::
 }
 
 /// The call that the first word names; None if it names none.
-pub fn call_in(words: &[String]) -> Option<Call> {
+pub(crate) fn call_in(words: &[String]) -> Option<Call> {
     call_of(words.first()?.as_str())
 }
 
 /// Prints the names of all calls.
-pub fn tell_names(rt: &HostRuntime) -> io::Result<ExitCode> {
+pub(crate) fn tell_names(rt: &HostRuntime) -> io::Result<ExitCode> {
     for &(name, _) in CALLS {
         println!(rt; "{name}")?;
     }

@@ -1,5 +1,5 @@
 //! Calls for `tools/refused.py` that search by workers, make the document of an answer, read documents, and run `sum`.
-ghost use Rattle.std.specs.Prelude.{◌+◌, ◌^◌, ◌<◌};
+ghost use Rattle.std.specs.Prelude.{◌+◌, ◌<◌};
 
 use crate::calls::Answered;
 use crate::sources::{block_of, source_of};
@@ -26,7 +26,9 @@ const DOCUMENTS: &str =
     "S66 CERTIFICATE 1\nPROFILE 3 3 4 4 3 10 29 8 3 8 1 1 1 1 2 1 2\nBLOCK 3\nI SA1 A1+B1\nI BX6 X1\nI BX7 X2\nTIME 12\nBOUND 12\nORDER 1 3 2\nC 1 2\nEND\nS66 CERTIFICATE 1\nPROFILE 3 3 4 4 3 10 29 8 3 8 1 1 1 1 2 1 2\nBLOCK 3\nI SA1 A1+B1\nI BX6 X1\nI BX7 X2\nTIME 12\nBOUND 12\nORDER 1 3 2\nC 1 2\nEND\n";
 
 /// The time, the bound and the splits of the answer of two workers.
-pub fn searched<R: AllocGlobal + Threads + Wait + Sync>(rt: &R) -> Result<Answered, AllocError> {
+pub(crate) fn searched<R: AllocGlobal + Threads + Wait + Sync>(
+    rt: &R,
+) -> Result<Answered, AllocError> {
     let source = source_of(rt.alloc(), SEVEN_MULTIPLIES)?;
     let block = block_of(&source)?;
     let answer = run(rt, block, &Profile::standard(), OPTIONS, &Free)?;
@@ -39,7 +41,9 @@ pub fn searched<R: AllocGlobal + Threads + Wait + Sync>(rt: &R) -> Result<Answer
 }
 
 /// The time and the bound of their answer's document, and how many numbers its order and its block have.
-pub fn documented<R: AllocGlobal + Threads + Wait + Sync>(rt: &R) -> Result<Answered, AllocError> {
+pub(crate) fn documented<R: AllocGlobal + Threads + Wait + Sync>(
+    rt: &R,
+) -> Result<Answered, AllocError> {
     let alloc = rt.alloc();
     let source = source_of(alloc, SEVEN_MULTIPLIES)?;
     let block = block_of(&source)?;
@@ -55,7 +59,7 @@ pub fn documented<R: AllocGlobal + Threads + Wait + Sync>(rt: &R) -> Result<Answ
 }
 
 /// How many documents a text has; none if it is refused.
-pub fn read_again(alloc: Global) -> Result<Answered, AllocError> {
+pub(crate) fn read_again(alloc: Global) -> Result<Answered, AllocError> {
     match read(alloc, DOCUMENTS.as_bytes()) {
         Ok(documents) => Ok([documents.len(), 0, 0, 0]),
         Err(CertError::OutOfMemory) => Err(AllocError),
@@ -81,7 +85,9 @@ impl Sink for Counts {
 }
 
 /// How many bytes `sum` writes of three multiplies; a refusal has written none.
-pub fn summed<R: AllocGlobal + Threads + Wait + Sync>(rt: &R) -> Result<Answered, AllocError> {
+pub(crate) fn summed<R: AllocGlobal + Threads + Wait + Sync>(
+    rt: &R,
+) -> Result<Answered, AllocError> {
     let strategy = Strategy {
         search: OPTIONS,
         deep: false,

@@ -4,13 +4,13 @@ ghost use Rattle.std.specs.Prelude.{◌≡◌, ◌≤◌, IfOk};
 use crate::calls::Answered;
 use crate::searches::finish;
 use crate::sources::{block_of, source_of};
-use s66_dep::is_beginning;
 use s66_isa::Profile;
 use s66_ledger::{Ledger, Offered, Ticket};
 use s66_line::Block;
 use s66_model::Rule;
 use s66_node::{Constant, Piece, Walk};
 use s66_test_search::{MULTIPLIES, as_written};
+use s66_time::is_beginning;
 use std::alloc::{AllocError, Global};
 
 /// As many splits as the whole tree has.
@@ -148,14 +148,14 @@ fn answer(alloc: Global, block: &Block) -> Result<Answered, AllocError> {
 }
 
 /// What the ledger returns after the events.
-pub fn searched(alloc: Global) -> Result<Answered, AllocError> {
+pub(crate) fn searched(alloc: Global) -> Result<Answered, AllocError> {
     let source = source_of(alloc, MULTIPLIES)?;
     let block = block_of(&source)?;
     readings(alloc, block)
 }
 
 /// What its answer is when it is finished.
-pub fn finished(alloc: Global) -> Result<Answered, AllocError> {
+pub(crate) fn finished(alloc: Global) -> Result<Answered, AllocError> {
     let source = source_of(alloc, MULTIPLIES)?;
     let block = block_of(&source)?;
     answer(alloc, block)

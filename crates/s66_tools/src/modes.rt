@@ -16,7 +16,7 @@ use std::thread::Threads;
 
 /// What is run, and how often.
 #[derive(Clone, Copy)]
-pub enum Mode {
+pub(crate) enum Mode {
     /// A new clock, onto which the block is pushed in source order, or its first number alone, as often as the count says.
     Push { is_whole: bool, rounds: u32 },
     /// One clock, onto which the block is pushed in source order and from which it is taken back, as often as the count says.
@@ -43,7 +43,7 @@ fn options_of(words: &[String], nodes: u32) -> Option<Options> {
 }
 
 /// The mode that the words of the command line ask for.
-pub fn mode_of(words: &[String]) -> Option<Mode> {
+pub(crate) fn mode_of(words: &[String]) -> Option<Mode> {
     let name = words.get(1)?;
     let count = words.get(2)?.parse::<u32>().ok()?;
     match name.as_str() {
@@ -117,7 +117,7 @@ fn run_blocks<R: AllocGlobal + Threads + Wait + Sync>(
 }
 
 /// Runs a mode over the blocks of a source; None if the source is refused.
-pub fn run<R: AllocGlobal + Threads + Wait + Sync>(
+pub(crate) fn run<R: AllocGlobal + Threads + Wait + Sync>(
     rt: &R,
     text: &[u8],
     mode: Mode,
@@ -129,7 +129,10 @@ pub fn run<R: AllocGlobal + Threads + Wait + Sync>(
 }
 
 /// Prints the totals, added up, and the counts of what was run.
-pub fn tell_counts(rt: &HostRuntime, counted: Option<(u64, Counts)>) -> io::Result<ExitCode> {
+pub(crate) fn tell_counts(
+    rt: &HostRuntime,
+    counted: Option<(u64, Counts)>,
+) -> io::Result<ExitCode> {
     let Some((sum, counts)) = counted else {
         eprintln!(rt; "the source is refused")?;
         return Ok(ExitCode::FAILURE);

@@ -31,7 +31,7 @@ fn piece_of(alloc: Global, block: &Block) -> Result<Piece, AllocError> {
 }
 
 /// A piece for a best time.
-pub fn expanded(alloc: Global) -> Result<Answered, AllocError> {
+pub(crate) fn expanded(alloc: Global) -> Result<Answered, AllocError> {
     let source = source_of(alloc, MULTIPLIES)?;
     let piece = piece_of(alloc, block_of(&source)?)?;
     Ok(answered(&piece))
@@ -46,7 +46,7 @@ fn dominated_of(alloc: Global, block: &Block) -> Result<Piece, AllocError> {
 }
 
 /// A piece with dominated leaves.
-pub fn expanded_dominated(alloc: Global) -> Result<Answered, AllocError> {
+pub(crate) fn expanded_dominated(alloc: Global) -> Result<Answered, AllocError> {
     let source = source_of(alloc, THREE_ALIKE)?;
     let piece = dominated_of(alloc, block_of(&source)?)?;
     Ok(answered(&piece))

@@ -32,7 +32,7 @@ fn undo_all(clock: &mut Clock<'_>, count: usize)
 }
 
 /// The totals of new clocks onto which the first numbers are pushed, added up.
-pub fn sum_of_pushes(block: &Block<'_>, profile: &Profile, count: usize, rounds: u32) -> u64
+pub(crate) fn sum_of_pushes(block: &Block<'_>, profile: &Profile, count: usize, rounds: u32) -> u64
     requires { count ≤ length (instrs_of block.now) }
 {
     let mut sum = 0u64;
@@ -45,7 +45,7 @@ pub fn sum_of_pushes(block: &Block<'_>, profile: &Profile, count: usize, rounds:
 }
 
 /// The totals of a clock onto which the block is pushed and from which it is taken back, added up.
-pub fn sum_of_rounds(block: &Block<'_>, profile: &Profile, rounds: u32) -> u64 {
+pub(crate) fn sum_of_rounds(block: &Block<'_>, profile: &Profile, rounds: u32) -> u64 {
     let count = block.count();
     let mut sum = 0u64;
     let mut clock = Clock::new(&*block, profile);

@@ -24,7 +24,7 @@ fn counts_of(answer: &Answer) -> Counts {
 }
 
 /// Offers two list schedules, and brings a search to its end. `Err` is out of memory.
-pub fn finish(alloc: Global, mut ledger: Ledger<'_>) -> Result<Answer, AllocError>
+pub(crate) fn finish(alloc: Global, mut ledger: Ledger<'_>) -> Result<Answer, AllocError>
     requires { 1 ≤ ledger.workers }
 {
     let profile = *ledger.profile();
@@ -35,7 +35,7 @@ pub fn finish(alloc: Global, mut ledger: Ledger<'_>) -> Result<Answer, AllocErro
 }
 
 /// A search of at most `budget` splits without workers. `Err` is out of memory.
-pub fn search_alone(
+pub(crate) fn search_alone(
     alloc: Global,
     block: &Block,
     profile: &Profile,
@@ -55,7 +55,7 @@ pub fn search_alone(
 }
 
 /// A search by workers from the first split on, each in a thread of its own. `Err` is out of memory.
-pub fn search_by_workers<R: AllocGlobal + Threads + Wait + Sync>(
+pub(crate) fn search_by_workers<R: AllocGlobal + Threads + Wait + Sync>(
     rt: &R,
     block: &Block,
     profile: &Profile,

@@ -18,7 +18,7 @@ const SLIPS: &str =
     "L SA1 A1+B1\n  BX6 X2\n  IX1 X2*X3\n  BX8 X1\n  DUP 3,2\n  SA6 L+1\n  BX6 X1\n  BX7 X2\nRXX*X OPDEF I\n  ENDM\n  RX1 X2*X3\n";
 
 /// A source that isn't refused.
-pub fn source_of<'t>(alloc: Global, code: &'t str) -> Result<Source<'t>, AllocError> {
+pub(crate) fn source_of<'t>(alloc: Global, code: &'t str) -> Result<Source<'t>, AllocError> {
     match read_source(alloc, code.as_bytes()) {
         Ok(source) => Ok(source),
         Err(_) => Err(AllocError),
@@ -26,7 +26,7 @@ pub fn source_of<'t>(alloc: Global, code: &'t str) -> Result<Source<'t>, AllocEr
 }
 
 /// The only block of a source.
-pub fn block_of<'s, 't>(source: &'s Source<'t>) -> Result<&'s Block<'t>, AllocError> {
+pub(crate) fn block_of<'s, 't>(source: &'s Source<'t>) -> Result<&'s Block<'t>, AllocError> {
     match only_block(source) {
         Some(block) => Ok(block),
         None => Err(AllocError),
@@ -34,7 +34,7 @@ pub fn block_of<'s, 't>(source: &'s Source<'t>) -> Result<&'s Block<'t>, AllocEr
 }
 
 /// How many blocks a source has; none if it is refused.
-pub fn read(alloc: Global) -> Result<Answered, AllocError> {
+pub(crate) fn read(alloc: Global) -> Result<Answered, AllocError> {
     match read_source(alloc, SOURCE.as_bytes()) {
         Ok(source) => Ok([source.blocks().len(), 0, 0, 0]),
         Err(SourceError::OutOfMemory) => Err(AllocError),
@@ -43,7 +43,7 @@ pub fn read(alloc: Global) -> Result<Answered, AllocError> {
 }
 
 /// How many bytes one load is printed in, in its best order.
-pub fn printed(alloc: Global) -> Result<Answered, AllocError> {
+pub(crate) fn printed(alloc: Global) -> Result<Answered, AllocError> {
     let source = source_of(alloc, ONE_LOAD)?;
     let [block] = source.blocks() else {
         return Err(AllocError);
@@ -66,7 +66,7 @@ pub fn printed(alloc: Global) -> Result<Answered, AllocError> {
 }
 
 /// How many bytes and lines the findings of a source are.
-pub fn found(alloc: Global) -> Result<Answered, AllocError> {
+pub(crate) fn found(alloc: Global) -> Result<Answered, AllocError> {
     let found = findings_in(alloc, SLIPS.as_bytes(), false)?;
     Ok([found.text.len(), found.lines, 0, 0])
 }

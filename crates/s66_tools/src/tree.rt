@@ -7,15 +7,15 @@ use std::alloc::{AllocError, Global};
 
 /// How many beginnings a tree splits, how many pushes that takes, and the least total that it finds.
 #[derive(Clone, Copy, Default)]
-pub struct Counts {
-    pub splits: u32,
-    pub pushes: usize,
-    pub best: u32,
+pub(crate) struct Counts {
+    pub(crate) splits: u32,
+    pub(crate) pushes: usize,
+    pub(crate) best: u32,
 }
 
 /// The tree of a block's beginnings, grown depth first, as a worker of a search grows a piece. A beginning is split if its floor
 /// is below the total of a list schedule, until the budget of splits is spent. `Err` is out of memory.
-pub fn grow(
+pub(crate) fn grow(
     alloc: Global,
     block: &Block<'_>,
     profile: &Profile,

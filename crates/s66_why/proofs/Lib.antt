@@ -13,4 +13,3 @@ pub mod PointCount
 pub mod Runs
 pub mod UnitRows
 pub mod Writes
-pub mod WrittenRows

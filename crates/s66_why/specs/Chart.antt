@@ -52,9 +52,13 @@ abbrev pub has_filler : TimedOrder → ℕ → Bool
 has_filler t position =
     nat_lt (position + 1) (length t.numbers) && not ((point_at t (position + 1)).parcel == (point_at t position).parcel + (point_at t position).row.parcels)
 
--- the row of that NO, if there is one
+-- the row of a NO after the instruction at a position
+abbrev pub no_row : TimedOrder → ℕ → List ℕ
+no_row t position = row_text (codes "NO") (filler_activity (point_at t position)) (cycles_of t)
+
+-- that row, if there is one
 abbrev pub filler_row : TimedOrder → ℕ → List ℕ
-filler_row t position = if has_filler t position then row_text (codes "NO") (filler_activity (point_at t position)) (cycles_of t) else []
+filler_row t position = if has_filler t position then no_row t position else []
 
 abbrev pub chart_text : TimedOrder → List ℕ
 chart_text t = flat_map (λ position. instruction_row t position ++ filler_row t position) (range_with_len 0 (length t.numbers))

@@ -6,6 +6,7 @@ pub mod KeptPoints
 pub mod Numbers
 pub mod Paths
 pub mod Reservations
+pub mod Rows
 pub mod Runs
 pub mod Sums
 pub mod TextChart

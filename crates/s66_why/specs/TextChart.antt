@@ -6,7 +6,7 @@ use Rattle.s66_isa.specs.Table.{numbers}
 use Rattle.s66_line.specs.Block.{Block, instrs_of, text_of}
 use Rattle.s66_time.specs.TimedOrder.{TimedOrder, point_at}
 use Rattle.s66_why.specs.declared.row.TheConstants.{NAME_ROOM}
-use Rattle.s66_why.specs.Chart.{cycles_of, filler_row, has_filler, instruction_row}
+use Rattle.s66_why.specs.Chart.{cycles_of, has_filler, instruction_row, no_row}
 
 -- TEXTS
 
@@ -37,7 +37,7 @@ text_row width block t position = in_places width (text_of block (point_at t pos
 
 -- a NO has no text
 abbrev pub blank_row : (width : ℕ) → TimedOrder → ℕ → List ℕ
-blank_row width t position = if has_filler t position then in_places width [] ++ filler_row t position else []
+blank_row width t position = if has_filler t position then in_places width [] ++ no_row t position else []
 
 abbrev pub chart_in_places : (width : ℕ) → Block → TimedOrder → List ℕ
 chart_in_places width block t =

@@ -8,33 +8,33 @@ ghost use Rattle.s66_why.specs.Runs.{IsInOrder};
 use s66_time::Timed;
 
 /// The letter of the minor cycle in which an instruction issues.
-pub const ISSUES: u8 = b'I';
+pub(crate) const ISSUES: u8 = b'I';
 
 /// The letter of a unit that waits for operands or for memory.
-pub const WAITS: u8 = b'W';
+pub(crate) const WAITS: u8 = b'W';
 
 /// The letter of a unit that works.
-pub const WORKS: u8 = b'=';
+pub(crate) const WORKS: u8 = b'=';
 
 /// The letter of a result that waits until the earlier readers of its register have started.
-pub const WAITS_FOR_READERS: u8 = b'H';
+pub(crate) const WAITS_FOR_READERS: u8 = b'H';
 
 /// The letter of anything else.
-pub const IDLE: u8 = b'.';
+pub(crate) const IDLE: u8 = b'.';
 
 /// What a row shows, in minor cycles: when an instruction issues, when its unit starts and has worked, and when its last result is
 /// done.
 #[derive(Clone, Copy)]
-pub struct Activity {
-    pub issue: usize,
-    pub start: usize,
-    pub finish: usize,
-    pub done: usize,
+pub(crate) struct Activity {
+    pub(crate) issue: usize,
+    pub(crate) start: usize,
+    pub(crate) finish: usize,
+    pub(crate) done: usize,
 }
 
 impl Activity {
     /// Of the instruction at a position.
-    pub fn of_instruction(timed: &Timed, position: usize) -> Activity
+    pub(crate) fn of_instruction(timed: &Timed, position: usize) -> Activity
         requires { position < length timed.now.numbers }
         ensures value { result ≡ activity (point_at timed.now position) }
         ensures in_order { IsInOrder result }
@@ -49,7 +49,7 @@ impl Activity {
     }
 
     /// Of the `NO` after the instruction at a position: it is done as it issues.
-    pub fn of_filler(timed: &Timed, position: usize) -> Activity
+    pub(crate) fn of_filler(timed: &Timed, position: usize) -> Activity
         requires { position < length timed.now.numbers }
         ensures value { result ≡ filler_activity (point_at timed.now position) }
         ensures in_order { IsInOrder result }

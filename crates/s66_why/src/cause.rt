@@ -28,7 +28,7 @@ pub struct Holder {
 }
 
 /// The lower of two numbers, of which 0 is none.
-pub fn lower(number: u8, other: u8) -> u8
+pub(crate) fn lower(number: u8, other: u8) -> u8
     ensures { result ≡ lower number other }
 {
     if other == 0 {

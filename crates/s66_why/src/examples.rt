@@ -1,7 +1,7 @@
 //! Worked examples: what the definitions draw and write of small orders under the standard profile. Each clause is a chart or a text,
 //! and the functions do nothing.
 
-ghost use Rattle.std.specs.Prelude.{ℕ, List, [], ◌∷◌, ◌≡◌, ◌++◌, false, true, codes};
+ghost use Rattle.std.specs.Prelude.{[], ◌∷◌, ◌≡◌, ◌++◌, false, true, codes};
 ghost use Rattle.s66_isa.specs.Table.{instr};
 ghost use Rattle.s66_model.specs.Examples.{standard_problem, first_order, one_load, latest_writer, loads_then_store, third_order, two_readers, held_load, packing_gap, three_multiplies};
 ghost use Rattle.s66_line.specs.Block.{Block as BlockOf};

@@ -1,9 +1,9 @@
 //! Why an instruction must stay after another, in the words of textbooks: RAW, WAR and WAW hazards by register or by memory (J. L.
 //! Hennessy and D. A. Patterson, Computer Architecture: A Quantitative Approach); for `deps --text`.
 
-ghost use Rattle.std.specs.Prelude.{◌≡◌, ◌++◌, OnOk, codes, filter, flat_map, map, option_to_list};
-ghost use Rattle.s66_isa.specs.Table.{Reg as RegOf, has_reg};
-ghost use Rattle.s66_why.specs.Hazards.{access_name, accesses_of_memory, common, hazard_text, hazards, hazards_text, memory_hazards, place_name, register_hazards, register_name};
+ghost use Rattle.std.specs.Prelude.{◌≡◌, ◌++◌, OnOk, codes, flat_map, map, option_to_list};
+ghost use Rattle.s66_isa.specs.Table.{Reg as RegOf};
+ghost use Rattle.s66_why.specs.Hazards.{access_name, accesses_of_memory, common, hazard_text, hazards, hazards_text, memory_hazards, place_name, register_name};
 ghost use Rattle.s66_why.specs.declared.hazard.Hazard.{Hazard as HazardOf};
 ghost use Rattle.s66_why.specs.declared.hazard.Place.TheVariants.{Register};
 

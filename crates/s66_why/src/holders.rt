@@ -22,7 +22,7 @@ fn lowest(earlier: &[PlacedInstr], cause: &Cause, time: u32) -> u8
 }
 
 /// The earlier instruction that lets go at a time, if one does.
-pub fn holder(earlier: &[PlacedInstr], cause: Cause, time: u32) -> Holder
+pub(crate) fn holder(earlier: &[PlacedInstr], cause: Cause, time: u32) -> Holder
     ensures { result ≡ holder cause time (reverse earlier.now) }
 {
     let number = lowest(earlier, &cause, time);
@@ -52,7 +52,7 @@ fn soonest_of_writes(earlier: &[PlacedInstr], writes: &[Write], time: u32) -> Ho
 }
 
 /// What an instruction waits for until it issues.
-pub fn first_holder(earlier: &[PlacedInstr], point: &PlacedInstr) -> Holder
+pub(crate) fn first_holder(earlier: &[PlacedInstr], point: &PlacedInstr) -> Holder
     ensures { result ≡ first_holder (reverse earlier.now) point.now }
 {
     let result = soonest_of_writes(earlier, point.row.writes.as_slice(), point.issue);
@@ -60,7 +60,7 @@ pub fn first_holder(earlier: &[PlacedInstr], point: &PlacedInstr) -> Holder
 }
 
 /// What an instruction waits for until it starts.
-pub fn second_holder(earlier: &[PlacedInstr], point: &PlacedInstr) -> Holder
+pub(crate) fn second_holder(earlier: &[PlacedInstr], point: &PlacedInstr) -> Holder
     ensures { result ≡ second_holder (reverse earlier.now) point.now }
 {
     let result = soonest_of_registers(earlier, point.row.reads.as_slice(), point.start);
@@ -68,7 +68,7 @@ pub fn second_holder(earlier: &[PlacedInstr], point: &PlacedInstr) -> Holder
 }
 
 /// What a result waits for until it is done.
-pub fn third_holder(earlier: &[PlacedInstr], write: &Write) -> Holder
+pub(crate) fn third_holder(earlier: &[PlacedInstr], write: &Write) -> Holder
     ensures { result ≡ third_holder (reverse earlier.now) write.now }
 {
     holder(

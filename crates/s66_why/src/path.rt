@@ -16,7 +16,7 @@ use s66_isa::{BLOCK_LIMIT, Write, is_same_register};
 
 /// With which instruction the path goes on, from the latest back.
 #[derive(Clone, Copy)]
-pub enum Link {
+pub(crate) enum Link {
     /// This one.
     Held(Holder),
     /// The nearest one that did not issue in its slot.
@@ -25,16 +25,16 @@ pub enum Link {
 
 /// What an instruction waited for last, and the minor cycle in which that was over; or that it stood in line until it issued then.
 #[derive(Clone, Copy)]
-pub struct Wait {
-    pub link: Link,
-    pub until: u32,
+pub(crate) struct Wait {
+    pub(crate) link: Link,
+    pub(crate) until: u32,
 }
 
 /// An instruction of the path, and the minor cycle in which it lets the next one go on.
 #[derive(Clone, Copy, Default, Drop)]
-pub struct Milestone {
-    pub number: u8,
-    pub time: u32,
+pub(crate) struct Milestone {
+    pub(crate) number: u8,
+    pub(crate) time: u32,
 }
 
 /// An instruction of the path, and the minor cycles that it adds to the time of the order.

@@ -125,7 +125,7 @@ impl PlacedInstr {
 }
 
 /// One minor cycle after the last start of a register's readers; 0 if there is none.
-pub fn readers_wait(earlier: &[PlacedInstr], register: Reg) -> u32
+pub(crate) fn readers_wait(earlier: &[PlacedInstr], register: Reg) -> u32
     ensures value { result ≡ readers_wait (reverse earlier.now) register }
     ensures at_most { result ≤ TOTAL_LIMIT + 1 }
 {

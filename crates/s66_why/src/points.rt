@@ -1,8 +1,6 @@
 //! The instructions of a timed order with all their times, each by a look back over those before it.
 
 ghost use Rattle.std.specs.Prelude.{◌≡◌, ◌+◌, ◌<◌, ◌≤◌, length, map, reverse, take};
-ghost use Rattle.s66_isa.specs.Lists.{greatest};
-ghost use Rattle.s66_isa.specs.Table.{Write as WriteOf};
 ghost use Rattle.s66_model.specs.LegalOrder.{IsLegal};
 ghost use Rattle.s66_model.specs.Timing.{points_of, result_at};
 ghost use Rattle.s66_time.specs.TimedOrder.{point_at};

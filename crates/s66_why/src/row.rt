@@ -1,31 +1,16 @@
 //! Draws one row of a chart over the front of a page.
 
-ghost use Rattle.std.specs.Prelude.{ℕ, ◌≡◌, ◌+◌, ◌<◌, ◌≤◌, ◌++◌, length, map, take};
+ghost use Rattle.std.specs.Prelude.{ℕ, ◌≡◌, ◌++◌, OnOk, length, map};
 ghost use Rattle.std.specs.List.{range_with_len};
-ghost use Rattle.s66_why.specs.declared.row.TheConstants.{NAME_ROOM, ROW_FRAME};
 ghost use Rattle.s66_why.specs.Chart.{letter, row_text};
 ghost use Rattle.s66_why.specs.Runs.{until, IsInOrder};
 
 use crate::activity::{Activity, IDLE, ISSUES, WAITS, WAITS_FOR_READERS, WORKS};
-use s66_time::TOTAL_LIMIT;
+use crate::places::push_blanks;
+use std::alloc::AllocError;
 
 /// The places of a name.
-pub const NAME_ROOM: usize = 3;
-
-/// The bytes of a row beside its letters: a name, one blank and a newline.
-pub const ROW_FRAME: usize = NAME_ROOM + 2;
-
-/// The most bytes of a row.
-pub const ROW_LIMIT: usize = TOTAL_LIMIT as usize + ROW_FRAME;
-
-/// Writes a text over the bytes from a place on.
-fn put(page: &mut [u8], place: usize, text: &[u8])
-    requires { place + length text.now ≤ length page.old }
-    ensures front { take (place + length text.now) page.new ≡ take place page.old ++ text.now }
-    ensures len { length page.new ≡ length page.old }
-{
-    page[place..place + text.len()].copy_from_slice(text);
-}
+pub(crate) const NAME_ROOM: usize = 3;
 
 /// Writes a letter over those of the minor cycles before the end.
 fn fill_until(letters: &mut [u8], end: usize, letter: u8)
@@ -51,19 +36,30 @@ fn draw(letters: &mut [u8], activity: &Activity)
     fill_until(letters, activity.issue, IDLE);
 }
 
-/// Writes a row over the front of a page: a name, right in three places, one blank, the letters of `cycles` minor cycles, and a
-/// newline.
-pub fn draw_row(page: &mut [u8], name: &[u8], activity: &Activity, cycles: usize)
-    requires name { length name.now ≤ NAME_ROOM }
-    requires in_order { IsInOrder activity.now }
-    requires page { cycles + ROW_FRAME ≤ length page.old }
-    ensures page { length page.new ≡ length page.old }
-    ensures row { take (cycles + ROW_FRAME) page.new ≡ row_text name.now activity.now cycles }
+/// Appends the letters of as many minor cycles.
+fn push_letters(out: &mut Vec<u8>, activity: &Activity, cycles: u32) -> Result<(), AllocError>
+    requires { IsInOrder activity.now }
+    ensures { OnOk result (out.new.items ≡ out.old.items ++ map (letter activity.now) (range_with_len 0 cycles)) }
 {
-    put(page, 0, b"   ");
-    put(page, NAME_ROOM - name.len(), name);
-    put(page, NAME_ROOM, b" ");
-    let letters = NAME_ROOM + 1;
-    draw(&mut page[letters..letters + cycles], activity);
-    put(page, letters + cycles, b"\n");
+    let from = out.len();
+    out.resize(from + cycles as usize, IDLE)?;
+    draw(&mut out.as_mut_slice()[from..], activity);
+    Ok(())
+}
+
+/// Appends a row: a name, right in three places, one blank, the letters of `cycles` minor cycles, and a newline.
+pub(crate) fn push_row(
+    out: &mut Vec<u8>,
+    name: &[u8],
+    activity: &Activity,
+    cycles: u32,
+) -> Result<(), AllocError>
+    requires { IsInOrder activity.now }
+    ensures { OnOk result (out.new.items ≡ out.old.items ++ row_text name.now activity.now cycles) }
+{
+    push_blanks(out, NAME_ROOM.saturating_sub(name.len()))?;
+    out.extend_from_slice(name)?;
+    out.extend_from_slice(b" ")?;
+    push_letters(out, activity, cycles)?;
+    out.extend_from_slice(b"\n")
 }

@@ -44,7 +44,7 @@ impl Default for Stretch {
 }
 
 /// The minor cycle in which an instruction issues if it waits only for the parcels before it.
-pub fn slot(earlier: &[PlacedInstr], point: &PlacedInstr) -> u32
+pub(crate) fn slot(earlier: &[PlacedInstr], point: &PlacedInstr) -> u32
     ensures { result ≡ slot (reverse earlier.now) point.now }
 {
     match earlier.last() {
@@ -54,7 +54,7 @@ pub fn slot(earlier: &[PlacedInstr], point: &PlacedInstr) -> u32
 }
 
 /// For how long an instruction can't issue, if its slot is past.
-pub fn first_stretch(earlier: &[PlacedInstr], point: &PlacedInstr) -> Option<Stretch>
+pub(crate) fn first_stretch(earlier: &[PlacedInstr], point: &PlacedInstr) -> Option<Stretch>
     ensures { option_to_list result ≡ first_stretch (reverse earlier.now) point.now }
 {
     let from = slot(earlier, point);
@@ -73,7 +73,7 @@ pub fn first_stretch(earlier: &[PlacedInstr], point: &PlacedInstr) -> Option<Str
 }
 
 /// For how long an instruction that has issued can't start, if it waits.
-pub fn second_stretch(earlier: &[PlacedInstr], point: &PlacedInstr) -> Option<Stretch>
+pub(crate) fn second_stretch(earlier: &[PlacedInstr], point: &PlacedInstr) -> Option<Stretch>
     ensures { option_to_list result ≡ second_stretch (reverse earlier.now) point.now }
 {
     let from = point.issue;
@@ -92,7 +92,11 @@ pub fn second_stretch(earlier: &[PlacedInstr], point: &PlacedInstr) -> Option<St
 }
 
 /// For how long this result of an instruction is held, if it is.
-pub fn third_stretch(earlier: &[PlacedInstr], point: &PlacedInstr, write: &Write) -> Option<Stretch>
+pub(crate) fn third_stretch(
+    earlier: &[PlacedInstr],
+    point: &PlacedInstr,
+    write: &Write,
+) -> Option<Stretch>
     requires { write.now.latency ≤ 100 }
     ensures { option_to_list result ≡ third_stretch (reverse earlier.now) point.now write.now }
 {

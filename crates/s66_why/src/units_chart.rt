@@ -1,20 +1,21 @@
 //! The rows of units and registers below a chart, for `chart --units` (`push_units_chart`).
 
-ghost use Rattle.std.specs.Prelude.{◌≡◌, ◌≤◌, ◌+◌, ◌++◌, OnOk, flat_map, length, map, reverse};
+ghost use Rattle.std.specs.Prelude.{◌≡◌, ◌≤◌, ◌+◌, ◌++◌, OnOk, flat_map, length, map};
 ghost use Rattle.std.specs.List.{range_with_len};
 ghost use Rattle.s66_isa.specs.declared.limits.TheConstants.{BLOCK_LIMIT};
 ghost use Rattle.s66_isa.specs.Table.{all_kinds};
 ghost use Rattle.s66_line.specs.Block.{instrs_of};
 ghost use Rattle.s66_line.specs.declared.limits.TheConstants.{TEXT_LIMIT};
 ghost use Rattle.s66_model.specs.Timing.{points_of};
-ghost use Rattle.s66_why.specs.Reservations.{cell, cells, copy_rows, kind_rows, register_head, register_row, register_rows, reservation_rows, row_if_reserved, unit_head, unit_row, units_chart, units_width};
+ghost use Rattle.s66_why.specs.Reservations.{cell, cells, copy_rows, kind_rows, register_head, register_row, register_rows, reservation_rows, unit_head, unit_row, units_chart, units_width};
 
+use crate::chart::push_chart_in_places;
 use crate::hazard::push_register_name;
 use crate::placed::PlacedInstr;
+use crate::places::{push_blanks, push_in_places, text_width};
 use crate::points::points_of;
 use crate::reservation::{Reservation, cell, register_reservations, unit_reservations};
 use crate::row::NAME_ROOM;
-use crate::text_chart::{push_blanks, push_chart_in_places, push_in_places, text_width};
 use crate::units::{left, taken, works_of_kind};
 use crate::work::{Work, works_of};
 use arrayvec::ArrayVec;

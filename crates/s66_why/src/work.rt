@@ -1,6 +1,6 @@
 //! What each instruction of a timed order does with its unit, as rows of units and a page draw it.
 
-ghost use Rattle.std.specs.Prelude.{◌≡◌, ◌<◌, length, map, reverse};
+ghost use Rattle.std.specs.Prelude.{◌≡◌, ◌<◌, length, reverse};
 ghost use Rattle.s66_model.specs.Timing.{points_of};
 ghost use Rattle.s66_time.specs.TimedOrder.{point_at};
 ghost use Rattle.s66_why.specs.Units.{work, works};

@@ -7,15 +7,14 @@ use crate::beam::merit::Merit;
 use crate::facts::copy_of;
 use crate::walk::Prefix;
 use arrayvec::ArrayVec;
-use s66_dep::Set;
 use s66_isa::BLOCK_LIMIT;
-use s66_time::{Mark, dominates_clamped};
+use s66_time::{Mark, Set, dominates_clamped};
 use std::alloc::{AllocError, Global};
 
 /// A beginning that is kept.
 #[derive(Drop)]
-pub struct Beginning {
-    pub numbers: ArrayVec<u8, BLOCK_LIMIT>,
+pub(crate) struct Beginning {
+    pub(crate) numbers: ArrayVec<u8, BLOCK_LIMIT>,
     placed: Set,
     merit: Merit,
 }
@@ -29,7 +28,7 @@ struct Seen {
 
 impl Beginning {
     /// The empty one.
-    pub fn empty() -> Beginning {
+    pub(crate) fn empty() -> Beginning {
         Beginning {
             numbers: ArrayVec::new(),
             placed: Set::empty(),
@@ -169,7 +168,7 @@ fn best_of(
 
 /// The most promising beginnings that are one number longer than these and whose floors are below the best, the best first. Of
 /// these the first `width` go on that aren't dominated; twice as many are kept, as some will be.
-pub fn next_depth(
+pub(crate) fn next_depth(
     alloc: Global,
     prefix: &mut Prefix<'_>,
     kept: &[Beginning],

@@ -9,11 +9,11 @@ const LATE_SHARE: u32 = 32;
 
 /// How promising a beginning is: less is better, and what comes first decides first.
 #[derive(Clone, Copy, PartialEq, Eq, PartialOrd, Ord)]
-pub struct Merit {
+pub(crate) struct Merit {
     /// In minor cycles; by tails that are right, no completion takes less.
-    pub floor: u32,
+    pub(crate) floor: u32,
     /// The next slot, with a share for how late units and results are.
-    pub reach: u32,
+    pub(crate) reach: u32,
 }
 
 /// By how much units and results are later than the next slot, summed, in minor cycles.
@@ -33,7 +33,7 @@ fn lateness(clock: &Clock<'_>) -> u32 {
 
 impl Merit {
     /// How promising a prefix is: its floor, no less than this one, and how far its instructions reach.
-    pub fn of(prefix: &Prefix<'_>, floor: u32) -> Merit {
+    pub(crate) fn of(prefix: &Prefix<'_>, floor: u32) -> Merit {
         let clock = prefix.walk().clock();
         let least = if prefix.walk().is_complete() {
             clock.total()

@@ -26,7 +26,7 @@ const _: () = prove!(WORD_COUNT == u64::BITS as usize);
 /// prefix, or as the soonest moment at which an instruction that remains looks at it. That moment is worked out once a later word comes;
 /// until then the next slot stands for it, which is no later.
 #[derive(Clone, Copy)]
-pub struct Allowed {
+pub(crate) struct Allowed {
     words: [u16; WORD_COUNT],
     /// The bit of a place is set if the soonest look at its word is worked out.
     settled: u64,
@@ -62,7 +62,7 @@ impl Allowed {
     ghost use Rattle.s66_deep.specs.declared.best_first.waits.TheConstants.{WORD_COUNT};
 
     /// By the words of a prefix, which has this clock.
-    pub fn of(waits: &Waits, clock: &Clock<'_>) -> Allowed {
+    pub(crate) fn of(waits: &Waits, clock: &Clock<'_>) -> Allowed {
         let mut words = least_words(waits, clock.profile());
         let slot = word(clock.next());
         for place in 0..WORD_COUNT {
@@ -102,7 +102,7 @@ impl Allowed {
     }
 
     /// Whether no word of another prefix is too late for what remains.
-    pub fn allow(&mut self, remaining: &Remaining<'_, '_>, waits: &Waits) -> bool {
+    pub(crate) fn allow(&mut self, remaining: &Remaining<'_, '_>, waits: &Waits) -> bool {
         for group in 0..GROUPS {
             if !self.allow_group(remaining, waits, group * LANES) {
                 return false;

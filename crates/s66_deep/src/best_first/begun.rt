@@ -7,20 +7,20 @@ use s66_isa::BLOCK_LIMIT;
 
 /// A use of a unit by an instruction that remains, in minor cycles.
 #[derive(Clone, Copy, Default)]
-pub struct Begun {
-    pub number: u8,
+pub(crate) struct Begun {
+    pub(crate) number: u8,
     /// When it begins if the instruction comes next.
-    pub soonest: u32,
+    pub(crate) soonest: u32,
     /// For how long the instruction has the unit.
-    pub amount: u32,
+    pub(crate) amount: u32,
     /// What is left at least after that.
-    pub left: u32,
+    pub(crate) left: u32,
 }
 
 /// Some of the uses that begin: among so many first ones those that begin at a minor cycle or later.
 #[derive(Clone, Copy)]
-pub struct Chosen {
-    pub after: u32,
+pub(crate) struct Chosen {
+    pub(crate) after: u32,
     count: usize,
 }
 
@@ -66,7 +66,7 @@ fn soonest_from(begun: &[Begun], least: u32) -> Option<u32> {
 
 /// Some of these uses, after the first of which most is left, that show that an order takes `low` at least, where so many units share the
 /// work: a look at each for each minor cycle at which one begins.
-pub fn choose(begun: &[Begun], copies: u32, low: u32) -> Option<Chosen> {
+pub(crate) fn choose(begun: &[Begun], copies: u32, low: u32) -> Option<Chosen> {
     let mut least = 0;
     for _ in 0..begun.len() {
         let after = soonest_from(begun, least)?;
@@ -79,7 +79,7 @@ pub fn choose(begun: &[Begun], copies: u32, low: u32) -> Option<Chosen> {
 }
 
 /// Their numbers, rising.
-pub fn numbers_of(begun: &[Begun], chosen: &Chosen) -> ArrayVec<u8, BLOCK_LIMIT> {
+pub(crate) fn numbers_of(begun: &[Begun], chosen: &Chosen) -> ArrayVec<u8, BLOCK_LIMIT> {
     let mut numbers = ArrayVec::new();
     for place in 0..begun.len().min(chosen.count) {
         let one = &begun[place];

@@ -3,27 +3,27 @@
 
 use crate::classes::{Class, Role, those_of, users_of};
 use crate::facts::{Finder, Ground, Precedence};
-use s66_dep::Set;
 use s66_isa::{Kind, REGISTER_COUNT, Row};
+use s66_time::Set;
 
 /// The instructions of a block, by which word of a clock they look at, and which is known to stand before which.
 #[derive(Drop)]
-pub struct Instructions<'a> {
+pub(crate) struct Instructions<'a> {
     ground: &'a Ground,
     precedence: Precedence,
     /// The numbers that write each register, by its index.
-    pub writers: [Set; REGISTER_COUNT],
+    pub(crate) writers: [Set; REGISTER_COUNT],
     /// Those that read each register.
-    pub readers: [Set; REGISTER_COUNT],
-    pub loads: Set,
-    pub stores: Set,
+    pub(crate) readers: [Set; REGISTER_COUNT],
+    pub(crate) loads: Set,
+    pub(crate) stores: Set,
     /// Those of two parcels.
-    pub long: Set,
+    pub(crate) long: Set,
 }
 
 impl<'a> Instructions<'a> {
     /// By what a finder knows.
-    pub fn new(finder: &'a Finder) -> Instructions<'a> {
+    pub(crate) fn new(finder: &'a Finder) -> Instructions<'a> {
         let ground = finder.ground();
         let rows = ground.rows();
         Instructions {
@@ -38,37 +38,37 @@ impl<'a> Instructions<'a> {
     }
 
     /// The row of n; None if the block has no such number.
-    pub fn row(&self, n: u8) -> Option<&Row> {
+    pub(crate) fn row(&self, n: u8) -> Option<&Row> {
         self.ground.row(n)
     }
 
     /// How long n has its unit, in minor cycles.
-    pub fn amount(&self, n: u8) -> u32 {
+    pub(crate) fn amount(&self, n: u8) -> u32 {
         self.ground.amount(n)
     }
 
     /// How many units there are of a kind.
-    pub fn copies(&self, kind: Kind) -> u32 {
+    pub(crate) fn copies(&self, kind: Kind) -> u32 {
         self.ground.copies(kind)
     }
 
     /// The numbers that are known to stand before n; none if the block has no such number.
-    pub fn before(&self, n: u8) -> Set {
+    pub(crate) fn before(&self, n: u8) -> Set {
         self.precedence.before(n)
     }
 
     /// The numbers that take a unit of a kind.
-    pub fn takers(&self, kind: Kind) -> Set {
+    pub(crate) fn takers(&self, kind: Kind) -> Set {
         self.ground.users(kind)
     }
 
     /// The numbers of the block that aren't in a set.
-    pub fn without(&self, pushed: &Set) -> Set {
+    pub(crate) fn without(&self, pushed: &Set) -> Set {
         self.precedence.all().without(pushed)
     }
 
     /// The place in its word of the next parcel after n, if that of the next one before n is this.
-    pub fn place_after(&self, place: u8, n: u8) -> u8 {
+    pub(crate) fn place_after(&self, place: u8, n: u8) -> u8 {
         let Some(row) = self.row(n) else {
             return place;
         };

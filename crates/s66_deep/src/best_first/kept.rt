@@ -9,9 +9,8 @@ use crate::best_first::nodes::Nodes;
 use crate::best_first::remaining::Remaining;
 use crate::best_first::waits::Waits;
 use crate::limits::{KEPT_LIMIT, LOOK_LIMIT};
-use s66_dep::Set;
 use s66_isa::{KINDS, Profile};
-use s66_time::{Clock, Mark, dominates_clamped};
+use s66_time::{Clock, Mark, Set, dominates_clamped};
 use std::alloc::{AllocError, Global};
 
 /// In place of a place: there is none.
@@ -22,17 +21,17 @@ const FIRST_LISTS: usize = 64;
 
 /// What is compared of two prefixes before their words.
 #[derive(Clone, Copy)]
-pub struct Key {
+pub(crate) struct Key {
     /// The set of its numbers.
-    pub pushed: Set,
+    pub(crate) pushed: Set,
     /// The index of its node.
-    pub node: u32,
+    pub(crate) node: u32,
     /// The next slot, in minor cycles.
-    pub slot: u32,
+    pub(crate) slot: u32,
     /// The place in its word of the next parcel.
-    pub place: u8,
+    pub(crate) place: u8,
     /// When all units are free and all results done, in minor cycles.
-    pub total: u32,
+    pub(crate) total: u32,
 }
 
 /// A prefix that is kept: its key, and the place of the next one in its list.
@@ -44,18 +43,18 @@ struct KeptPrefix {
 
 /// A prefix as it is looked for.
 #[derive(Clone, Copy)]
-pub struct Sought {
-    pub key: Key,
+pub(crate) struct Sought {
+    pub(crate) key: Key,
     /// What each completion of it takes at least, in minor cycles.
-    pub floor: u32,
-    pub waits: Waits,
+    pub(crate) floor: u32,
+    pub(crate) waits: Waits,
 }
 
 /// A transposition table: prefixes, each in the list of the hash of its set, some 170 bytes each, and some 380 more with its mark. At most 262,144 are kept.
 ///
 /// Nothing is promised of what is in which list: who looks for a set compares it with that of each entry.
 #[derive(Drop)]
-pub struct Kept {
+pub(crate) struct Kept {
     entries: Vec<KeptPrefix>,
     waits: Vec<Waits>,
     /// Whether a kind has more than two units, of which the words don't tell all: then marks are kept too.
@@ -116,7 +115,7 @@ impl Kept {
     ghost use Rattle.s66_deep.specs.declared.limits.TheConstants.{KEPT_LIMIT};
 
     /// No prefix under a profile.
-    pub fn new(alloc: Global, profile: &Profile) -> Kept {
+    pub(crate) fn new(alloc: Global, profile: &Profile) -> Kept {
         Kept {
             entries: Vec::new(alloc),
             waits: Vec::new(alloc),
@@ -159,7 +158,7 @@ impl Kept {
 
     /// The node of another prefix with the same numbers that dominates this one and is dominated by none, if one of the first 64 of its
     /// list does.
-    pub fn find(
+    pub(crate) fn find(
         &self,
         nodes: &Nodes,
         remaining: &Remaining<'_, '_>,
@@ -201,7 +200,7 @@ impl Kept {
     /// # Errors
     ///
     /// `AllocError` if memory runs out.
-    pub fn keep(&mut self, one: &Sought, clock: &Clock<'_>) -> Result<(), AllocError> {
+    pub(crate) fn keep(&mut self, one: &Sought, clock: &Clock<'_>) -> Result<(), AllocError> {
         let place = self.entries.len();
         if place >= KEPT_LIMIT {
             return Ok(());

@@ -6,9 +6,8 @@ use crate::best_first::instructions::Instructions;
 use crate::best_first::remaining::{next_issue, operands};
 use crate::floors::Tails;
 use arrayvec::ArrayVec;
-use s66_dep::Set;
 use s66_isa::{BLOCK_LIMIT, KIND_COUNT, KINDS, Kind};
-use s66_time::Clock;
+use s66_time::{Clock, Set};
 use std::alloc::{AllocError, Global};
 
 /// With what an instruction begins to use its unit.
@@ -46,15 +45,15 @@ struct Uses {
 
 /// A load that closes a prefix: these numbers of one kind remain and rise, and none of them uses its unit sooner if it comes next.
 #[derive(Drop)]
-pub struct ClosingLoad {
+pub(crate) struct ClosingLoad {
     /// In minor cycles.
-    pub after: u32,
-    pub numbers: ArrayVec<u8, BLOCK_LIMIT>,
+    pub(crate) after: u32,
+    pub(crate) numbers: ArrayVec<u8, BLOCK_LIMIT>,
 }
 
 /// What the instructions of a block need of units of each kind.
 #[derive(Drop)]
-pub struct Loads {
+pub(crate) struct Loads {
     uses: Vec<Uses>,
     /// Room for the heads of what remains of a kind, that of n at place n - 1.
     heads: [Head; BLOCK_LIMIT],
@@ -133,7 +132,7 @@ impl Loads {
     /// # Errors
     ///
     /// `AllocError` if memory runs out.
-    pub fn of(
+    pub(crate) fn of(
         alloc: Global,
         instructions: &Instructions<'_>,
         tails: &[Tails; BLOCK_LIMIT],
@@ -228,12 +227,17 @@ impl Loads {
 
     /// Whether a load shows that an order takes `low` at least if it begins with the prefix of a clock: for each kind a few looks at each
     /// instruction that remains, and one more for each minor cycle at which another one begins.
-    pub fn close(&mut self, instructions: &Instructions<'_>, clock: &Clock<'_>, low: u32) -> bool {
+    pub(crate) fn close(
+        &mut self,
+        instructions: &Instructions<'_>,
+        clock: &Clock<'_>,
+        low: u32,
+    ) -> bool {
         self.choose(instructions, clock, low).is_some()
     }
 
     /// The load that shows it, if one does, in the same time.
-    pub fn closing(
+    pub(crate) fn closing(
         &mut self,
         instructions: &Instructions<'_>,
         clock: &Clock<'_>,

@@ -16,5 +16,5 @@ mod trail;
 mod waits;
 mod writer;
 
-pub use root::root_leaf;
+pub(crate) use root::root_leaf;
 pub use search::{Branched, Limits, branch};

@@ -6,11 +6,11 @@ use s66_isa::BLOCK_LIMIT;
 use std::alloc::{AllocError, Global};
 
 /// The index of the root, which is the empty prefix.
-pub const ROOT: u32 = 0;
+pub(crate) const ROOT: u32 = 0;
 
 /// What became of a prefix.
 #[derive(Clone, Copy)]
-pub enum Fate {
+pub(crate) enum Fate {
     /// It is to be split, unless its floor turns out too great.
     Open,
     /// It goes on with each number that is ready after it: its children, which are this many nodes from an index on.
@@ -25,26 +25,26 @@ pub enum Fate {
 
 /// A prefix that a search has met: that of its parent, and one number more.
 #[derive(Clone, Copy)]
-pub struct Node {
+pub(crate) struct Node {
     /// The index of the parent; the root is its own.
-    pub parent: u32,
-    pub number: u8,
+    pub(crate) parent: u32,
+    pub(crate) number: u8,
     /// How many numbers it has.
-    pub depth: u8,
+    pub(crate) depth: u8,
     /// The place in its word of the next parcel.
-    pub place: u8,
-    pub fate: Fate,
+    pub(crate) place: u8,
+    pub(crate) fate: Fate,
 }
 
 /// The nodes, in sixteen bytes each. A parent stands before its children, and these stand side by side.
 #[derive(Drop)]
-pub struct Nodes {
+pub(crate) struct Nodes {
     nodes: Vec<Node>,
 }
 
 impl Nodes {
     /// The root alone.
-    pub fn new(alloc: Global) -> Result<Nodes, AllocError> {
+    pub(crate) fn new(alloc: Global) -> Result<Nodes, AllocError> {
         let mut nodes = Vec::new(alloc);
         nodes.push(Node {
             parent: ROOT,
@@ -57,30 +57,30 @@ impl Nodes {
     }
 
     /// How many there are.
-    pub fn len(&self) -> u32 {
+    pub(crate) fn len(&self) -> u32 {
         u32::try_from(self.nodes.len()).unwrap_or(u32::MAX)
     }
 
     /// The node at an index.
-    pub fn at(&self, index: u32) -> Option<Node> {
+    pub(crate) fn at(&self, index: u32) -> Option<Node> {
         self.nodes.get(index as usize).copied()
     }
 
     /// Appends a node.
-    pub fn push(&mut self, node: Node) -> Result<(), AllocError> {
+    pub(crate) fn push(&mut self, node: Node) -> Result<(), AllocError> {
         self.nodes.push(node)?;
         Ok(())
     }
 
     /// A node has this fate from now on.
-    pub fn set_fate(&mut self, index: u32, fate: Fate) {
+    pub(crate) fn set_fate(&mut self, index: u32, fate: Fate) {
         if let Some(node) = self.nodes.get_mut(index as usize) {
             node.fate = fate;
         }
     }
 
     /// Whether another node dominates one.
-    pub fn is_dominated(&self, index: u32) -> bool {
+    pub(crate) fn is_dominated(&self, index: u32) -> bool {
         match self.at(index) {
             Some(node) => matches!(node.fate, Fate::Dominated { .. }),
             None => false,
@@ -99,7 +99,7 @@ impl Nodes {
     ///
     /// It dominates each of them. For after a prefix that dominates another, what remains looks no later, so that what is no later than the
     /// words and the looks of the former is no later than those of the latter. And a total up to a floor below `low` makes no difference.
-    pub fn dominator(&self, index: u32, low: u32) -> u32 {
+    pub(crate) fn dominator(&self, index: u32, low: u32) -> u32 {
         let mut last = index;
         for _ in 0..self.nodes.len() {
             match self.leans_on(last, low) {
@@ -111,7 +111,7 @@ impl Nodes {
     }
 
     /// The numbers of the children from an index on.
-    pub fn numbers(&self, first: u32, count: u8) -> ArrayVec<u8, BLOCK_LIMIT> {
+    pub(crate) fn numbers(&self, first: u32, count: u8) -> ArrayVec<u8, BLOCK_LIMIT> {
         let mut numbers = ArrayVec::new();
         for place in 0..count {
             if let Some(child) = self.at(first.saturating_add(u32::from(place)))

@@ -18,27 +18,27 @@ struct Turn {
 
 /// The open prefixes, by their turns, in eight bytes each.
 #[derive(Drop)]
-pub struct Open {
+pub(crate) struct Open {
     turns: BinaryHeap<Turn>,
 }
 
 /// A prefix that is to be split next, and its floor, in minor cycles.
 #[derive(Clone, Copy)]
-pub struct Next {
-    pub node: u32,
-    pub floor: u32,
+pub(crate) struct Next {
+    pub(crate) node: u32,
+    pub(crate) floor: u32,
 }
 
 impl Open {
     /// None is open.
-    pub fn new(alloc: Global) -> Open {
+    pub(crate) fn new(alloc: Global) -> Open {
         Open {
             turns: BinaryHeap::new(alloc),
         }
     }
 
     /// A prefix is open: one of so many numbers, with this floor; one above the greatest word counts as that.
-    pub fn push(&mut self, node: u32, depth: u8, floor: u32) -> Result<(), AllocError> {
+    pub(crate) fn push(&mut self, node: u32, depth: u8, floor: u32) -> Result<(), AllocError> {
         self.turns.push(Turn {
             earliness: u16::MAX - word(floor),
             depth,
@@ -48,7 +48,7 @@ impl Open {
     }
 
     /// The one that is split next, which is open no more.
-    pub fn pop(&mut self) -> Option<Next> {
+    pub(crate) fn pop(&mut self) -> Option<Next> {
         let turn = self.turns.pop()?;
         Some(Next {
             node: turn.node,

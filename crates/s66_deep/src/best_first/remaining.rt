@@ -3,9 +3,8 @@
 
 use crate::best_first::instructions::Instructions;
 use crate::best_first::waits::{READERS_AT, REFERENCES_AT, STORES_AT, UNITS_AT};
-use s66_dep::Set;
 use s66_isa::{KINDS, Row};
-use s66_time::Clock;
+use s66_time::{Clock, Set};
 
 /// When an instruction looks at a word.
 #[derive(Clone, Copy)]
@@ -19,7 +18,7 @@ enum Look {
 }
 
 /// When an instruction with this row issues after the prefix of a clock if it comes next, where a unit of its kind is free from then on.
-pub fn next_issue(clock: &Clock<'_>, row: &Row, free: u32) -> u32 {
+pub(crate) fn next_issue(clock: &Clock<'_>, row: &Row, free: u32) -> u32 {
     let mut issue = clock.slot(row.parcels).max(free);
     for write in row.writes.as_slice() {
         issue = issue.max(clock.done_of(write.reg));
@@ -28,7 +27,7 @@ pub fn next_issue(clock: &Clock<'_>, row: &Row, free: u32) -> u32 {
 }
 
 /// From when on its operands are there, and memory for its reference.
-pub fn operands(clock: &Clock<'_>, row: &Row) -> u32 {
+pub(crate) fn operands(clock: &Clock<'_>, row: &Row) -> u32 {
     let mut time = clock.memory_wait(row.memory);
     for register in row.reads.as_slice() {
         time = time.max(clock.done_of(*register));
@@ -38,9 +37,9 @@ pub fn operands(clock: &Clock<'_>, row: &Row) -> u32 {
 
 /// The numbers that remain after a prefix, which has this clock.
 #[derive(Clone, Copy)]
-pub struct Remaining<'s, 'a> {
+pub(crate) struct Remaining<'s, 'a> {
     instructions: &'s Instructions<'a>,
-    pub clock: &'s Clock<'a>,
+    pub(crate) clock: &'s Clock<'a>,
     numbers: Set,
 }
 
@@ -50,7 +49,10 @@ impl<'s, 'a> Remaining<'s, 'a> {
     ghost use Rattle.s66_deep.specs.declared.best_first.waits.TheConstants.{WORD_COUNT};
 
     /// After the prefix of a clock.
-    pub fn new(instructions: &'s Instructions<'a>, clock: &'s Clock<'a>) -> Remaining<'s, 'a> {
+    pub(crate) fn new(
+        instructions: &'s Instructions<'a>,
+        clock: &'s Clock<'a>,
+    ) -> Remaining<'s, 'a> {
         Remaining {
             instructions,
             clock,
@@ -126,7 +128,7 @@ impl<'s, 'a> Remaining<'s, 'a> {
     }
 
     /// The soonest moment at which a number that remains looks at the word at a place; the greatest number if none does.
-    pub fn soonest_look(&self, place: usize) -> u32
+    pub(crate) fn soonest_look(&self, place: usize) -> u32
         requires { place < WORD_COUNT }
     {
         let instructions = self.instructions;

@@ -14,7 +14,7 @@ use std::alloc::{AllocError, Global};
 /// parcels, or a load. What the finder knows of the block is so in orders that take less.
 ///
 /// `Err` is out of memory.
-pub fn root_leaf(
+pub(crate) fn root_leaf(
     alloc: Global,
     block: &Block<'_>,
     profile: &Profile,

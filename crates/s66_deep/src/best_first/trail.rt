@@ -15,8 +15,8 @@ const TRAIL_LIMIT: usize = BLOCK_LIMIT + 1;
 
 /// A prefix, and the nodes below the root of those that it begins with, the last of which is its own.
 #[derive(Drop)]
-pub struct Trail<'a> {
-    pub prefix: Prefix<'a>,
+pub(crate) struct Trail<'a> {
+    pub(crate) prefix: Prefix<'a>,
     nodes: ArrayVec<u32, TRAIL_LIMIT>,
 }
 
@@ -32,7 +32,7 @@ impl<'a> Trail<'a> {
     ghost use Rattle.std.specs.Prelude.{◌≡◌};
 
     /// At the root.
-    pub fn new(prefix: Prefix<'a>) -> Trail<'a>
+    pub(crate) fn new(prefix: Prefix<'a>) -> Trail<'a>
         ensures { result ≡ prefix.entry.problem }
     {
         Trail {
@@ -93,7 +93,7 @@ impl<'a> Trail<'a> {
 
     /// Goes to the prefix of a node: back to the last that both begin with, and on from there, an undo or a push for each number in
     /// which they differ. Whether it got there: it does if nodes are those of a tree of the block's prefixes.
-    pub fn go_to(&mut self, nodes: &Nodes, node: u32) -> bool
+    pub(crate) fn go_to(&mut self, nodes: &Nodes, node: u32) -> bool
         ensures { self.new ≡ self.old }
     {
         let Some(own) = nodes.at(node) else {

@@ -8,41 +8,41 @@ use s66_isa::{KIND_COUNT, KINDS, Kind, Memory, REGISTER_COUNT, Reg, kind_number}
 use s66_time::Clock;
 
 /// The place of the word for which loads wait; before it is one of results for each register.
-pub const STORES_AT: usize = REGISTER_COUNT;
+pub(crate) const STORES_AT: usize = REGISTER_COUNT;
 
 /// The place of the word for which stores wait.
-pub const REFERENCES_AT: usize = STORES_AT + 1;
+pub(crate) const REFERENCES_AT: usize = STORES_AT + 1;
 
 /// Where the words of units begin, two for each kind.
-pub const UNITS_AT: usize = REFERENCES_AT + 1;
+pub(crate) const UNITS_AT: usize = REFERENCES_AT + 1;
 
 /// Where the words of readers begin, one for each register. They seldom decide, so they come last.
-pub const READERS_AT: usize = UNITS_AT + 2 * KIND_COUNT;
+pub(crate) const READERS_AT: usize = UNITS_AT + 2 * KIND_COUNT;
 
 /// How many words there are.
-pub const WORD_COUNT: usize = READERS_AT + REGISTER_COUNT;
+pub(crate) const WORD_COUNT: usize = READERS_AT + REGISTER_COUNT;
 
 /// Minor cycles for which instructions wait: for each register when its last result is done, and one after the last start of its readers;
 /// one after the last start of a store and of any reference to memory; and of each kind from when on all units are free, and one is.
 #[derive(Clone, Copy)]
-pub struct Waits {
-    pub words: [u16; WORD_COUNT],
+pub(crate) struct Waits {
+    pub(crate) words: [u16; WORD_COUNT],
 }
 
 /// A minor cycle as a word.
-pub fn word(time: u32) -> u16 {
+pub(crate) fn word(time: u32) -> u16 {
     u16::try_from(time).unwrap_or(u16::MAX)
 }
 
 /// The place of the word from when on all units of a kind are free.
-pub fn all_free_at(kind: Kind) -> usize
+pub(crate) fn all_free_at(kind: Kind) -> usize
     ensures { result + 1 < WORD_COUNT }
 {
     UNITS_AT + 2 * kind_number(kind)
 }
 
 /// The place of the word from when on one is.
-pub fn one_free_at(kind: Kind) -> usize
+pub(crate) fn one_free_at(kind: Kind) -> usize
     ensures { result < WORD_COUNT }
 {
     all_free_at(kind) + 1
@@ -63,7 +63,7 @@ fn all_free(clock: &Clock<'_>, kind: Kind, soonest: u32) -> u32 {
 
 impl Waits {
     /// Of a clock.
-    pub fn of(clock: &Clock<'_>) -> Waits {
+    pub(crate) fn of(clock: &Clock<'_>) -> Waits {
         let mut waits = Waits {
             words: [0; WORD_COUNT],
         };

@@ -91,16 +91,20 @@ fn next_of(nodes: &Nodes, index: u32, fate: Fate) -> Option<u32> {
 
 /// By what leaves close their prefixes.
 #[derive(Drop)]
-pub struct Leaves<'s> {
-    pub instructions: &'s Instructions<'s>,
-    pub loads: Loads,
+pub(crate) struct Leaves<'s> {
+    pub(crate) instructions: &'s Instructions<'s>,
+    pub(crate) loads: Loads,
     /// What each has to show at least, in minor cycles.
-    pub low: u32,
+    pub(crate) low: u32,
 }
 
 impl Leaves<'_> {
     /// Writes the leaf of a prefix, if it has one: it is a whole order, a bound is so great at least, or a load closes it.
-    pub fn write(&mut self, prefix: &Prefix<'_>, tree: &mut Tree) -> Result<bool, AllocError> {
+    pub(crate) fn write(
+        &mut self,
+        prefix: &Prefix<'_>,
+        tree: &mut Tree,
+    ) -> Result<bool, AllocError> {
         if prefix.walk().is_complete() {
             tree.push(TreeLine::Whole)?;
             return Ok(true);
@@ -168,7 +172,7 @@ impl Writer<'_, '_> {
 /// document.
 ///
 /// `Err` is out of memory.
-pub fn written(
+pub(crate) fn written(
     alloc: Global,
     trail: &mut Trail<'_>,
     nodes: &Nodes,

@@ -2,7 +2,7 @@
 
 use crate::facts::network::{Arc, Network};
 use crate::facts::nodes::{NODE_COUNT, Times, lift, number_at, time_at};
-use s66_dep::Set;
+use s66_time::Set;
 use std::alloc::{AllocError, Global};
 
 /// The place of no arc.
@@ -17,7 +17,7 @@ struct Link {
 
 /// Arcs in lists, one for each node that they lead from.
 #[derive(Drop)]
-pub struct Fan {
+pub(crate) struct Fan {
     links: Vec<Link>,
     /// The place of the last arc that was added of each.
     firsts: [usize; NODE_COUNT],
@@ -62,7 +62,7 @@ impl Fan {
     }
 
     /// Makes times as long as the arcs from a node ask for, and returns the numbers of which some grew.
-    pub fn lift_from(&self, times: &mut Times, node: usize) -> Set {
+    pub(crate) fn lift_from(&self, times: &mut Times, node: usize) -> Set {
         let mut grown = Set::empty();
         let Some(time) = time_at(times, node) else {
             return grown;
@@ -86,15 +86,15 @@ impl Fan {
 
 /// The arcs of a block.
 #[derive(Drop)]
-pub struct Arcs {
-    pub onward: Fan,
+pub(crate) struct Arcs {
+    pub(crate) onward: Fan,
     /// The same, turned round.
-    pub back: Fan,
+    pub(crate) back: Fan,
 }
 
 impl Arcs {
     /// Those of a network. `Err` is out of memory.
-    pub fn of(alloc: Global, network: &Network) -> Result<Arcs, AllocError> {
+    pub(crate) fn of(alloc: Global, network: &Network) -> Result<Arcs, AllocError> {
         let mut arcs = Arcs {
             onward: Fan::new(alloc),
             back: Fan::new(alloc),
@@ -106,13 +106,13 @@ impl Arcs {
     }
 
     /// Adds an arc. `Err` is out of memory.
-    pub fn add(&mut self, arc: Arc) -> Result<(), AllocError> {
+    pub(crate) fn add(&mut self, arc: Arc) -> Result<(), AllocError> {
         self.onward.add(arc)?;
         self.back.add(turned(arc))
     }
 
     /// The same. `Err` is out of memory.
-    pub fn duplicate(&self, alloc: Global) -> Result<Arcs, AllocError> {
+    pub(crate) fn duplicate(&self, alloc: Global) -> Result<Arcs, AllocError> {
         Ok(Arcs {
             onward: self.onward.duplicate(alloc)?,
             back: self.back.duplicate(alloc)?,

@@ -7,7 +7,7 @@ use s66_moments::{FactLine, LoadLine};
 use std::alloc::{AllocError, Global};
 
 /// The same items, of which there are no more than a block's instructions.
-pub fn copy_of<T: Copy + Default>(items: &[T]) -> ArrayVec<T, BLOCK_LIMIT> {
+pub(crate) fn copy_of<T: Copy + Default>(items: &[T]) -> ArrayVec<T, BLOCK_LIMIT> {
     let mut copy = ArrayVec::new();
     let _ = copy.try_extend_from_slice(items);
     copy
@@ -25,7 +25,7 @@ fn copy_of_load(load: &LoadLine) -> LoadLine {
 }
 
 /// The same line.
-pub fn copy_of_line(line: &FactLine) -> FactLine {
+pub(crate) fn copy_of_line(line: &FactLine) -> FactLine {
     match line {
         FactLine::Pair(m, n) => FactLine::Pair(*m, *n),
         FactLine::Load(load) => FactLine::Load(copy_of_load(load)),
@@ -33,7 +33,7 @@ pub fn copy_of_line(line: &FactLine) -> FactLine {
 }
 
 /// The same lines.
-pub fn copies_of(alloc: Global, lines: &[FactLine]) -> Result<Vec<FactLine>, AllocError> {
+pub(crate) fn copies_of(alloc: Global, lines: &[FactLine]) -> Result<Vec<FactLine>, AllocError> {
     let mut copies = Vec::new(alloc);
     for line in lines {
         copies.push(copy_of_line(line))?;

@@ -7,22 +7,22 @@ use std::alloc::{AllocError, Global};
 /// The first number stands before the second: if the second stands before the first, the lines follow, and by them no order takes less
 /// than the bound.
 #[derive(Drop)]
-pub struct Supposition {
-    pub first: u8,
-    pub second: u8,
-    pub lines: Vec<FactLine>,
+pub(crate) struct Supposition {
+    pub(crate) first: u8,
+    pub(crate) second: u8,
+    pub(crate) lines: Vec<FactLine>,
 }
 
 /// What is found.
 #[derive(Drop)]
-pub enum Found {
+pub(crate) enum Found {
     ByLine(FactLine),
     BySupposition(Supposition),
 }
 
 impl Found {
     /// The same. `Err` is out of memory.
-    pub fn duplicate(&self, alloc: Global) -> Result<Found, AllocError> {
+    pub(crate) fn duplicate(&self, alloc: Global) -> Result<Found, AllocError> {
         match self {
             Found::ByLine(line) => Ok(Found::ByLine(copy_of_line(line))),
             Found::BySupposition(supposition) => Ok(Found::BySupposition(Supposition {
@@ -34,7 +34,7 @@ impl Found {
     }
 
     /// How many lines a document has for it.
-    pub fn line_count(&self) -> usize {
+    pub(crate) fn line_count(&self) -> usize {
         match self {
             Found::ByLine(_) => 1,
             Found::BySupposition(supposition) => supposition.lines.len().saturating_add(2),
@@ -43,7 +43,7 @@ impl Found {
 }
 
 /// How many lines a document has for all of these.
-pub fn line_count(all: &[Found]) -> usize {
+pub(crate) fn line_count(all: &[Found]) -> usize {
     let mut count = 0usize;
     for one in all {
         count = count.saturating_add(one.line_count());
@@ -52,7 +52,7 @@ pub fn line_count(all: &[Found]) -> usize {
 }
 
 /// The same, all of them. `Err` is out of memory.
-pub fn duplicates_of(alloc: Global, all: &[Found]) -> Result<Vec<Found>, AllocError> {
+pub(crate) fn duplicates_of(alloc: Global, all: &[Found]) -> Result<Vec<Found>, AllocError> {
     let mut copies = Vec::new(alloc);
     for one in all {
         copies.push(one.duplicate(alloc)?)?;
@@ -74,7 +74,7 @@ fn push_supposition(
 }
 
 /// These as the steps of a document. `Err` is out of memory.
-pub fn steps_of(alloc: Global, all: &[Found]) -> Result<Vec<FactStep>, AllocError> {
+pub(crate) fn steps_of(alloc: Global, all: &[Found]) -> Result<Vec<FactStep>, AllocError> {
     let mut steps = Vec::new(alloc);
     for one in all {
         match one {

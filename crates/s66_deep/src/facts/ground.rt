@@ -6,14 +6,13 @@ ghost use Rattle.s66_isa.specs.declared.limits.TheConstants.{BLOCK_LIMIT};
 
 use crate::facts::copies::copy_of;
 use arrayvec::ArrayVec;
-use s66_dep::Set;
 use s66_isa::{BLOCK_LIMIT, Instr, KIND_COUNT, KINDS, Kind, Profile, Row, kind_number};
 use s66_line::Block;
-use s66_time::rows_of;
+use s66_time::{Set, rows_of};
 
 /// A block under a profile, its rows, and its units.
 #[derive(Drop)]
-pub struct Ground {
+pub(crate) struct Ground {
     block: ArrayVec<Instr, BLOCK_LIMIT>,
     profile: Profile,
     rows: ArrayVec<Row, BLOCK_LIMIT>,
@@ -56,7 +55,7 @@ fn copies_of(profile: &Profile) -> [u32; KIND_COUNT] {
 
 impl Ground {
     /// Of a block under a profile.
-    pub fn of(block: &Block<'_>, profile: &Profile) -> Ground {
+    pub(crate) fn of(block: &Block<'_>, profile: &Profile) -> Ground {
         let rows = rows_of(block, profile);
         Ground {
             block: instrs_of(block),
@@ -68,7 +67,7 @@ impl Ground {
     }
 
     /// The same.
-    pub fn duplicate(&self) -> Ground {
+    pub(crate) fn duplicate(&self) -> Ground {
         let mut rows: ArrayVec<Row, BLOCK_LIMIT> = ArrayVec::new();
         for row in self.rows.as_slice() {
             if !rows.is_full() {
@@ -85,26 +84,26 @@ impl Ground {
     }
 
     /// The block's instructions.
-    pub fn block(&self) -> &[Instr]
+    pub(crate) fn block(&self) -> &[Instr]
         ensures { length result.now ≤ BLOCK_LIMIT }
     {
         self.block.as_slice()
     }
 
     /// The profile.
-    pub fn profile(&self) -> &Profile {
+    pub(crate) fn profile(&self) -> &Profile {
         &self.profile
     }
 
     /// The rows; that of number n is at n - 1.
-    pub fn rows(&self) -> &[Row]
+    pub(crate) fn rows(&self) -> &[Row]
         ensures { length result.now ≤ BLOCK_LIMIT }
     {
         self.rows.as_slice()
     }
 
     /// The row of a number.
-    pub fn row(&self, n: u8) -> Option<&Row> {
+    pub(crate) fn row(&self, n: u8) -> Option<&Row> {
         if n == 0 {
             return None;
         }
@@ -112,7 +111,7 @@ impl Ground {
     }
 
     /// How long an instruction has its unit, in minor cycles; 0 if the block has no such number.
-    pub fn amount(&self, n: u8) -> u32 {
+    pub(crate) fn amount(&self, n: u8) -> u32 {
         match self.row(n) {
             None => 0,
             Some(row) => row.hold.saturating_add(1),
@@ -120,12 +119,12 @@ impl Ground {
     }
 
     /// How many units there are of a kind.
-    pub fn copies(&self, kind: Kind) -> u32 {
+    pub(crate) fn copies(&self, kind: Kind) -> u32 {
         self.copies[kind_number(kind)]
     }
 
     /// The numbers that need one.
-    pub fn users(&self, kind: Kind) -> Set {
+    pub(crate) fn users(&self, kind: Kind) -> Set {
         self.users[kind_number(kind)]
     }
 }

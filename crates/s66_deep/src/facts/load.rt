@@ -5,31 +5,31 @@ use crate::facts::network::Paths;
 use crate::facts::nodes::time_at;
 use crate::facts::spans::{Spans, at_issue, at_start, node_at};
 use arrayvec::ArrayVec;
-use s66_dep::Set;
 use s66_isa::BLOCK_LIMIT;
+use s66_time::Set;
 
 /// What may be said of a load: its instructions begin so late, and so much is left after them; the wait follows.
 #[derive(Clone, Copy)]
-pub struct Best {
-    pub after: u32,
-    pub left: i64,
-    pub wait: i64,
+pub(crate) struct Best {
+    pub(crate) after: u32,
+    pub(crate) left: i64,
+    pub(crate) wait: i64,
 }
 
 /// How an instruction may use its unit between two places.
 #[derive(Clone, Copy)]
-pub struct Way {
-    pub number: u8,
+pub(crate) struct Way {
+    pub(crate) number: u8,
     /// How long it has its unit.
-    pub amount: u32,
+    pub(crate) amount: u32,
     /// How much later than the first place this begins at least.
-    pub head: u32,
+    pub(crate) head: u32,
     /// How much earlier than the last place this is over at least; it may be over later.
-    pub left: i64,
+    pub(crate) left: i64,
 }
 
 /// The longest paths between two places and those that lie between them.
-pub trait Reach {
+pub(crate) trait Reach {
     /// From the first one.
     fn head(&self, place: usize) -> Option<u32>;
 
@@ -39,10 +39,10 @@ pub trait Reach {
 
 /// Between two places of a block.
 #[derive(Clone, Copy)]
-pub struct Between<'a> {
-    pub spans: &'a Spans,
-    pub from: usize,
-    pub to: usize,
+pub(crate) struct Between<'a> {
+    pub(crate) spans: &'a Spans,
+    pub(crate) from: usize,
+    pub(crate) to: usize,
 }
 
 impl Reach for Between<'_> {
@@ -57,8 +57,8 @@ impl Reach for Between<'_> {
 
 /// Between the origin and the end.
 #[derive(Clone, Copy)]
-pub struct Whole<'a> {
-    pub paths: &'a Paths,
+pub(crate) struct Whole<'a> {
+    pub(crate) paths: &'a Paths,
 }
 
 impl Reach for Whole<'_> {
@@ -73,17 +73,17 @@ impl Reach for Whole<'_> {
 
 /// Instructions that need units of a kind between two places.
 #[derive(Clone, Copy)]
-pub struct Load<'a, R> {
-    pub ground: &'a Ground,
-    pub reach: R,
-    pub numbers: Set,
+pub(crate) struct Load<'a, R> {
+    pub(crate) ground: &'a Ground,
+    pub(crate) reach: R,
+    pub(crate) numbers: Set,
     /// How many units there are.
-    pub copies: u32,
+    pub(crate) copies: u32,
 }
 
 impl<R: Reach> Load<'_, R> {
     /// The way of an instruction whose use begins at a place, if there are paths to there and from there.
-    pub fn way(&self, n: u8, place: usize) -> Option<Way> {
+    pub(crate) fn way(&self, n: u8, place: usize) -> Option<Way> {
         let head = self.reach.head(place)?;
         let tail = self.reach.tail(place)?;
         let amount = self.ground.amount(n);
@@ -104,7 +104,7 @@ impl<R: Reach> Load<'_, R> {
     }
 
     /// The numbers whose use begins so late, and after which so much is left.
-    pub fn users(&self, best: &Best) -> ArrayVec<u8, BLOCK_LIMIT> {
+    pub(crate) fn users(&self, best: &Best) -> ArrayVec<u8, BLOCK_LIMIT> {
         let mut users = ArrayVec::new();
         let mut rest = self.numbers;
         while let Some(n) = rest.pop_first() {

@@ -24,7 +24,7 @@ mod tried;
 mod uses;
 mod ways;
 
-pub use copies::copy_of;
+pub(crate) use copies::copy_of;
 pub use finder::Finder;
-pub use ground::Ground;
-pub use precedence::Precedence;
+pub(crate) use ground::Ground;
+pub(crate) use precedence::Precedence;

@@ -179,7 +179,7 @@ impl<'a> Dropping<'a> {
 /// is what is known without them. No more of these can be dropped one by one, unless `TAKES_LIMIT` lines were taken to find out.
 ///
 /// `Err` is out of memory.
-pub fn needed_of<'a>(
+pub(crate) fn needed_of<'a>(
     alloc: Global,
     before: Sketch<'a>,
     lines: &'a [Found],

@@ -8,30 +8,30 @@ use crate::facts::nodes::{
     END, NODE_COUNT, ORIGIN, Times, first, free, issue, raise, second, start, time_at,
 };
 use crate::facts::precedence::Precedence;
-use s66_dep::Set;
 use s66_isa::{Memory, Reg, Row, has_register, is_same_register};
 use s66_moments::{FactLine, Moment, Stage};
+use s66_time::Set;
 use std::alloc::{AllocError, Global};
 
 /// How much later one node comes at least than another, in minor cycles.
 #[derive(Clone, Copy)]
-pub struct Arc {
-    pub from: usize,
-    pub wait: u32,
-    pub to: usize,
+pub(crate) struct Arc {
+    pub(crate) from: usize,
+    pub(crate) wait: u32,
+    pub(crate) to: usize,
 }
 
 /// The arcs of a block by what is known: all that lead to a node stand before all that lead from there.
 #[derive(Drop)]
-pub struct Network {
+pub(crate) struct Network {
     arcs: Vec<Arc>,
 }
 
 /// The longest paths from the origin to each node, and from each to the end, in minor cycles.
 #[derive(Clone, Copy)]
-pub struct Paths {
-    pub heads: Times,
-    pub tails: Times,
+pub(crate) struct Paths {
+    pub(crate) heads: Times,
+    pub(crate) tails: Times,
 }
 
 /// The last number before n that writes a register, in the block's own order; 0 if none does.
@@ -61,7 +61,7 @@ fn done(row: &Row, n: u8, register: Reg) -> usize {
 }
 
 /// The node of a moment of which a load line may speak.
-pub fn node_of(moment: &Moment) -> usize {
+pub(crate) fn node_of(moment: &Moment) -> usize {
     match moment {
         Moment::Origin => ORIGIN,
         Moment::At(n, Stage::Issue) => issue(*n),
@@ -82,7 +82,7 @@ fn belongs_to(from: &Moment, to: &Moment, n: u8) -> bool {
 
 impl Network {
     /// Of a block by what is known of it, with the arcs of the load lines among what was found. `Err` is out of memory.
-    pub fn of(
+    pub(crate) fn of(
         alloc: Global,
         ground: &Ground,
         known: &Precedence,
@@ -252,12 +252,12 @@ impl Network {
     }
 
     /// The arcs.
-    pub fn arcs(&self) -> &[Arc] {
+    pub(crate) fn arcs(&self) -> &[Arc] {
         self.arcs.as_slice()
     }
 
     /// The longest paths from the origin and to the end.
-    pub fn paths(&self) -> Paths {
+    pub(crate) fn paths(&self) -> Paths {
         Paths {
             heads: self.heads(ORIGIN),
             tails: self.tails(END),
@@ -265,7 +265,7 @@ impl Network {
     }
 
     /// The longest paths from a node.
-    pub fn heads(&self, from: usize) -> Times {
+    pub(crate) fn heads(&self, from: usize) -> Times {
         let mut times = [None; NODE_COUNT];
         raise(&mut times, from, 0);
         for arc in self.arcs.as_slice() {
@@ -277,7 +277,7 @@ impl Network {
     }
 
     /// The longest paths to a node.
-    pub fn tails(&self, to: usize) -> Times {
+    pub(crate) fn tails(&self, to: usize) -> Times {
         let mut times = [None; NODE_COUNT];
         raise(&mut times, to, 0);
         let arcs = self.arcs.as_slice();

@@ -1,47 +1,47 @@
 //! What longest paths go through: the origin, the stages of each instruction, and the end.
 
-use s66_dep::Set;
 use s66_isa::BLOCK_LIMIT;
+use s66_time::Set;
 
 /// How many there are: five of each number, and two in the places of number 0.
-pub const NODE_COUNT: usize = 5 * (BLOCK_LIMIT + 1);
+pub(crate) const NODE_COUNT: usize = 5 * (BLOCK_LIMIT + 1);
 
 /// The origin.
-pub const ORIGIN: usize = 0;
+pub(crate) const ORIGIN: usize = 0;
 
 /// The end.
-pub const END: usize = 1;
+pub(crate) const END: usize = 1;
 
 /// How long the longest path is to each of them or from it, in minor cycles; `None` if there is none.
-pub type Times = [Option<u32>; NODE_COUNT];
+pub(crate) type Times = [Option<u32>; NODE_COUNT];
 
 /// The issue of a number.
-pub fn issue(n: u8) -> usize {
+pub(crate) fn issue(n: u8) -> usize {
     5 * n as usize
 }
 
 /// Its start.
-pub fn start(n: u8) -> usize {
+pub(crate) fn start(n: u8) -> usize {
     5 * n as usize + 1
 }
 
 /// Its first result, in the order of its row.
-pub fn first(n: u8) -> usize {
+pub(crate) fn first(n: u8) -> usize {
     5 * n as usize + 2
 }
 
 /// Its second.
-pub fn second(n: u8) -> usize {
+pub(crate) fn second(n: u8) -> usize {
     5 * n as usize + 3
 }
 
 /// The free of its unit.
-pub fn free(n: u8) -> usize {
+pub(crate) fn free(n: u8) -> usize {
     5 * n as usize + 4
 }
 
 /// How long the path is at a place.
-pub fn time_at(times: &[Option<u32>], place: usize) -> Option<u32> {
+pub(crate) fn time_at(times: &[Option<u32>], place: usize) -> Option<u32> {
     match times.get(place) {
         None => None,
         Some(time) => *time,
@@ -49,7 +49,7 @@ pub fn time_at(times: &[Option<u32>], place: usize) -> Option<u32> {
 }
 
 /// There is a path so long at a place.
-pub fn raise(times: &mut [Option<u32>], place: usize, time: u32) {
+pub(crate) fn raise(times: &mut [Option<u32>], place: usize, time: u32) {
     if place < times.len() {
         times[place] = match times[place] {
             None => Some(time),
@@ -59,7 +59,7 @@ pub fn raise(times: &mut [Option<u32>], place: usize, time: u32) {
 }
 
 /// Makes the path at a place so long at least, and returns whether it grew.
-pub fn lift(times: &mut Times, place: usize, time: u32) -> bool {
+pub(crate) fn lift(times: &mut Times, place: usize, time: u32) -> bool {
     if place >= NODE_COUNT {
         return false;
     }
@@ -73,7 +73,7 @@ pub fn lift(times: &mut Times, place: usize, time: u32) -> bool {
 }
 
 /// These numbers, and that of a node, if it has one.
-pub fn number_at(numbers: Set, node: usize) -> Set {
+pub(crate) fn number_at(numbers: Set, node: usize) -> Set {
     let number = node / 5;
     if number == 0 || number > BLOCK_LIMIT {
         return numbers;

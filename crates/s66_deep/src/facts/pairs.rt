@@ -8,12 +8,12 @@ use crate::facts::ground::Ground;
 use crate::facts::network::{Network, Paths};
 use crate::facts::nodes::{free, issue, time_at};
 use crate::facts::precedence::{Precedence, set_of, turned};
-use s66_dep::Set;
 use s66_isa::{BLOCK_LIMIT, is_same_kind};
+use s66_time::Set;
 
 /// The numbers that have to stand after each, and before each; what is of n is at n - 1.
 #[derive(Drop)]
-pub struct Forced {
+pub(crate) struct Forced {
     after: [Set; BLOCK_LIMIT],
     before: [Set; BLOCK_LIMIT],
 }
@@ -36,7 +36,7 @@ fn along(head: Option<u32>, wait: u32, tail: Option<u32>) -> u32 {
 }
 
 /// How long the longest path from n to m is if n stands before m: by parcels, or by the only unit of their kind.
-pub fn longest_with(ground: &Ground, paths: &Paths, n: u8, m: u8) -> u32 {
+pub(crate) fn longest_with(ground: &Ground, paths: &Paths, n: u8, m: u8) -> u32 {
     let (Some(row), Some(other)) = (ground.row(n), ground.row(m)) else {
         return 0;
     };
@@ -50,7 +50,7 @@ pub fn longest_with(ground: &Ground, paths: &Paths, n: u8, m: u8) -> u32 {
 }
 
 /// Whether m would come too late for a bound if n stood before it: by parcels, or by the only unit of their kind.
-pub fn is_late(ground: &Ground, paths: &Paths, bound: u32, m: u8, n: u8) -> bool {
+pub(crate) fn is_late(ground: &Ground, paths: &Paths, bound: u32, m: u8, n: u8) -> bool {
     bound <= longest_with(ground, paths, n, m)
 }
 
@@ -86,7 +86,7 @@ impl<'a> Looks<'a> {
 
 impl Forced {
     /// By what is known, for a bound.
-    pub fn of(ground: &Ground, known: &Precedence, network: &Network, bound: u32) -> Forced {
+    pub(crate) fn of(ground: &Ground, known: &Precedence, network: &Network, bound: u32) -> Forced {
         let looks = Looks {
             ground,
             known,
@@ -101,7 +101,7 @@ impl Forced {
     }
 
     /// Two numbers of which each has to stand before the other, if there are such.
-    pub fn ring(&self) -> Option<(u8, u8)> {
+    pub(crate) fn ring(&self) -> Option<(u8, u8)> {
         for position in 0..BLOCK_LIMIT {
             let mut both = self.after[position].both(&self.before[position]);
             if let Some(n) = both.pop_first() {
@@ -112,12 +112,12 @@ impl Forced {
     }
 
     /// The numbers that have to stand after m, which isn't known.
-    pub fn after(&self, known: &Precedence, m: u8) -> Set {
+    pub(crate) fn after(&self, known: &Precedence, m: u8) -> Set {
         set_of(&self.after, m).without(&known.after(m))
     }
 
     /// Those of them that don't follow from what others have to.
-    pub fn right_after(&self, known: &Precedence, m: u8) -> Set {
+    pub(crate) fn right_after(&self, known: &Precedence, m: u8) -> Set {
         let mut those = Set::empty();
         let all = set_of(&self.after, m);
         let mut new = self.after(known, m);

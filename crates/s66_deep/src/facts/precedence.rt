@@ -6,13 +6,13 @@ ghost use Rattle.s66_isa.specs.declared.limits.TheConstants.{BLOCK_LIMIT};
 ghost use Rattle.s66_moments.specs.Facts.{IsNumber};
 
 use arrayvec::ArrayVec;
-use s66_dep::Set;
 use s66_facts::Facts;
 use s66_isa::BLOCK_LIMIT;
+use s66_time::Set;
 
 /// Which number is known to stand before which, as words. What is of number n is at n - 1.
 #[derive(Drop)]
-pub struct Precedence {
+pub(crate) struct Precedence {
     /// All numbers of the block.
     all: Set,
     before: [Set; BLOCK_LIMIT],
@@ -22,7 +22,7 @@ pub struct Precedence {
 }
 
 /// The set of a number; none if there is none.
-pub fn set_of(sets: &[Set; BLOCK_LIMIT], n: u8) -> Set {
+pub(crate) fn set_of(sets: &[Set; BLOCK_LIMIT], n: u8) -> Set {
     if n == 0 || n as usize > BLOCK_LIMIT {
         return Set::empty();
     }
@@ -63,7 +63,7 @@ fn add_to_each(sets: &mut [Set; BLOCK_LIMIT], those: Set, n: u8)
 }
 
 /// The numbers after each, by those before each, or the other way round.
-pub fn turned(sets: &[Set; BLOCK_LIMIT]) -> [Set; BLOCK_LIMIT] {
+pub(crate) fn turned(sets: &[Set; BLOCK_LIMIT]) -> [Set; BLOCK_LIMIT] {
     let mut others = [Set::empty(); BLOCK_LIMIT];
     for position in 0..BLOCK_LIMIT {
         add_to_each(&mut others, sets[position], (position + 1) as u8);
@@ -110,13 +110,13 @@ fn order_of(before: &[Set; BLOCK_LIMIT], count: u8) -> ArrayVec<u8, BLOCK_LIMIT>
 }
 
 /// The numbers that are in either set, of all numbers of a block.
-pub fn joined(all: Set, one: Set, other: Set) -> Set {
+pub(crate) fn joined(all: Set, one: Set, other: Set) -> Set {
     all.without(&all.without(&one).without(&other))
 }
 
 impl Precedence {
     /// By what is known of a block.
-    pub fn of(facts: &Facts) -> Precedence {
+    pub(crate) fn of(facts: &Facts) -> Precedence {
         let before = before_each(facts);
         Precedence {
             all: Set::up_to(facts.count() as usize),
@@ -127,32 +127,32 @@ impl Precedence {
     }
 
     /// All numbers of the block.
-    pub fn all(&self) -> Set {
+    pub(crate) fn all(&self) -> Set {
         self.all
     }
 
     /// The numbers before n.
-    pub fn before(&self, n: u8) -> Set {
+    pub(crate) fn before(&self, n: u8) -> Set {
         set_of(&self.before, n)
     }
 
     /// The numbers after n.
-    pub fn after(&self, n: u8) -> Set {
+    pub(crate) fn after(&self, n: u8) -> Set {
         set_of(&self.after, n)
     }
 
     /// The numbers before each; those of n are at n - 1.
-    pub fn all_before(&self) -> &[Set; BLOCK_LIMIT] {
+    pub(crate) fn all_before(&self) -> &[Set; BLOCK_LIMIT] {
         &self.before
     }
 
     /// The numbers after each.
-    pub fn all_after(&self) -> &[Set; BLOCK_LIMIT] {
+    pub(crate) fn all_after(&self) -> &[Set; BLOCK_LIMIT] {
         &self.after
     }
 
     /// The numbers that stand after one and before another; from 0 they are after the origin, and to 0 before the end.
-    pub fn between(&self, from: u8, to: u8) -> Set {
+    pub(crate) fn between(&self, from: u8, to: u8) -> Set {
         let after = if from == 0 {
             self.all
         } else {
@@ -163,7 +163,7 @@ impl Precedence {
     }
 
     /// The numbers, each after all that stand before it.
-    pub fn order(&self) -> &[u8] {
+    pub(crate) fn order(&self) -> &[u8] {
         self.order.as_slice()
     }
 }

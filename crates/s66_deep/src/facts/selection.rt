@@ -7,12 +7,12 @@ use crate::facts::network::Paths;
 use crate::facts::nodes::{Times, first, free, issue, lift, number_at, second, start, time_at};
 use crate::facts::pairs::is_late;
 use crate::facts::precedence::{Precedence, joined, set_of};
-use s66_dep::Set;
 use s66_isa::BLOCK_LIMIT;
+use s66_time::Set;
 
 /// Which number stands before which, and the longest paths by that and by arcs. What is of n is at n - 1.
 #[derive(Clone, Copy)]
-pub struct Selection {
+pub(crate) struct Selection {
     /// All numbers of the block.
     all: Set,
     before: [Set; BLOCK_LIMIT],
@@ -138,7 +138,7 @@ fn join_each(sets: &mut [Set; BLOCK_LIMIT], all: Set, at: Set, more: Set) {
 
 impl Selection {
     /// Of what is known, with the paths by arcs that stand for it.
-    pub fn of(known: &Precedence, paths: Paths) -> Selection {
+    pub(crate) fn of(known: &Precedence, paths: Paths) -> Selection {
         let none = Sides {
             heads: Set::empty(),
             tails: Set::empty(),
@@ -157,28 +157,28 @@ impl Selection {
     }
 
     /// The longest paths.
-    pub fn paths(&self) -> &Paths {
+    pub(crate) fn paths(&self) -> &Paths {
         &self.paths
     }
 
     /// All numbers of the block.
-    pub fn all(&self) -> Set {
+    pub(crate) fn all(&self) -> Set {
         self.all
     }
 
     /// Whether m stands before n.
-    pub fn is_before(&self, m: u8, n: u8) -> bool {
+    pub(crate) fn is_before(&self, m: u8, n: u8) -> bool {
         set_of(&self.after, m).has(n)
     }
 
     /// The numbers that may stand before n or after it.
-    pub fn open_to(&self, n: u8) -> Set {
+    pub(crate) fn open_to(&self, n: u8) -> Set {
         let known = joined(self.all, set_of(&self.before, n), set_of(&self.after, n));
         self.all.without(&known).without(&one(n))
     }
 
     /// Selects a pair: m stands before n, and so do those before m and after n. What paths follow is found by `settle`.
-    pub fn select(&mut self, m: u8, n: u8) {
+    pub(crate) fn select(&mut self, m: u8, n: u8) {
         let front = joined(self.all, set_of(&self.before, m), one(m));
         let back = joined(self.all, set_of(&self.after, n), one(n));
         join_each(&mut self.before, self.all, back, front);
@@ -188,7 +188,7 @@ impl Selection {
     }
 
     /// Adds the wait of an arc, which is among the arcs.
-    pub fn wait(&mut self, from: usize, wait: u32, to: usize) {
+    pub(crate) fn wait(&mut self, from: usize, wait: u32, to: usize) {
         if let Some(time) = time_at(&self.paths.heads, from)
             && lift(&mut self.paths.heads, to, time.saturating_add(wait))
         {
@@ -204,7 +204,7 @@ impl Selection {
     }
 
     /// Follows longer paths from these numbers onward, and returns the numbers of which some grew.
-    pub fn follow(&self, ground: &Ground, arcs: &Arcs, heads: &mut Times, from: Set) -> Set {
+    pub(crate) fn follow(&self, ground: &Ground, arcs: &Arcs, heads: &mut Times, from: Set) -> Set {
         let (mut rest, mut grown) = (from, Set::empty());
         // each number is followed after all that stand before it, so once
         for _number in 0..BLOCK_LIMIT {
@@ -223,7 +223,13 @@ impl Selection {
     }
 
     /// The same back to the numbers before these.
-    pub fn follow_back(&self, ground: &Ground, arcs: &Arcs, tails: &mut Times, from: Set) -> Set {
+    pub(crate) fn follow_back(
+        &self,
+        ground: &Ground,
+        arcs: &Arcs,
+        tails: &mut Times,
+        from: Set,
+    ) -> Set {
         let (mut rest, mut grown) = (from, Set::empty());
         for _number in 0..BLOCK_LIMIT {
             let Some(n) = first_of(&self.after, rest) else {
@@ -241,7 +247,7 @@ impl Selection {
     }
 
     /// Finds the paths that follow from the pairs that were selected since the last time.
-    pub fn settle(&mut self, ground: &Ground, arcs: &Arcs) {
+    pub(crate) fn settle(&mut self, ground: &Ground, arcs: &Arcs) {
         let Sides { heads, tails } = self.open;
         let mut times = self.paths.heads;
         let grown = self.follow(ground, arcs, &mut times, heads);
@@ -274,7 +280,7 @@ impl Selection {
     }
 
     /// Whether a path through some number whose paths grew takes the bound.
-    pub fn is_late(&self, bound: u32) -> bool {
+    pub(crate) fn is_late(&self, bound: u32) -> bool {
         let mut rest = joined(self.all, self.grown.heads, self.grown.tails);
         while let Some(n) = rest.pop_first() {
             if self.is_late_through(bound, n) {
@@ -286,7 +292,7 @@ impl Selection {
 
     /// The next pair that paths force which grew, if there is one: the first number would come too late behind the second. Of several with
     /// a number, one that the others don't follow from.
-    pub fn next_forced(&mut self, ground: &Ground, bound: u32) -> Option<(u8, u8)> {
+    pub(crate) fn next_forced(&mut self, ground: &Ground, bound: u32) -> Option<(u8, u8)> {
         for _number in 0..BLOCK_LIMIT {
             let Some(n) = first_of(&self.before, self.grown.heads) else {
                 break;

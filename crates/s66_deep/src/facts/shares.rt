@@ -63,20 +63,20 @@ fn pass_after(shares: &[Share], copies: u32, after: u32, wait: u32) -> bool {
 
 /// What the instructions of a load may add. The room is kept from one load to the next.
 #[derive(Drop)]
-pub struct Shares {
+pub(crate) struct Shares {
     shares: Vec<Share>,
 }
 
 impl Shares {
     /// With no room.
-    pub fn new(alloc: Global) -> Shares {
+    pub(crate) fn new(alloc: Global) -> Shares {
         Shares {
             shares: Vec::new(alloc),
         }
     }
 
     /// Finds those of a load.
-    pub fn find<R: Reach>(&mut self, load: &Load<R>) -> Result<(), AllocError> {
+    pub(crate) fn find<R: Reach>(&mut self, load: &Load<R>) -> Result<(), AllocError> {
         self.shares.clear();
         let mut rest = load.numbers;
         while let Some(n) = rest.pop_first() {
@@ -90,7 +90,7 @@ impl Shares {
     }
 
     /// How long so many units have work by any of them at most.
-    pub fn longest_time(&self, copies: u32) -> u32 {
+    pub(crate) fn longest_time(&self, copies: u32) -> u32 {
         longest_after(self.shares.as_slice(), copies, 0)
     }
 
@@ -109,7 +109,7 @@ impl Shares {
     }
 
     /// Whether some of them may say more than a wait; those are left out that can't. It takes time quadratic in how many there are.
-    pub fn may_pass(&mut self, copies: u32, wait: u32) -> bool {
+    pub(crate) fn may_pass(&mut self, copies: u32, wait: u32) -> bool {
         self.leave_out(copies, wait);
         // as many as there are units say no more than a path
         if self.shares.len() <= copies as usize {

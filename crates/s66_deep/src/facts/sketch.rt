@@ -12,14 +12,14 @@ use crate::facts::selection::Selection;
 use crate::facts::trial::Trial;
 use crate::facts::uses::are_used;
 use crate::limits::TRIALS_LIMIT;
-use s66_dep::Set;
 use s66_isa::BLOCK_LIMIT;
 use s66_moments::{FactLine, LoadLine, Moment};
+use s66_time::Set;
 use std::alloc::{AllocError, Global};
 
 /// What is known of a block after some lines, as `Facts` knows it but by few arcs. Nothing is promised of it.
 #[derive(Drop)]
-pub struct Sketch<'a> {
+pub(crate) struct Sketch<'a> {
     alloc: Global,
     ground: &'a Ground,
     arcs: Arcs,
@@ -28,7 +28,7 @@ pub struct Sketch<'a> {
 
 impl<'a> Sketch<'a> {
     /// By what is known of a block by dependence alone.
-    pub fn of(
+    pub(crate) fn of(
         alloc: Global,
         ground: &'a Ground,
         known: &Precedence,
@@ -43,7 +43,7 @@ impl<'a> Sketch<'a> {
     }
 
     /// The same. `Err` is out of memory.
-    pub fn duplicate(&self) -> Result<Sketch<'a>, AllocError> {
+    pub(crate) fn duplicate(&self) -> Result<Sketch<'a>, AllocError> {
         Ok(Sketch {
             alloc: self.alloc,
             ground: self.ground,
@@ -53,7 +53,7 @@ impl<'a> Sketch<'a> {
     }
 
     /// How long the longest path from an issue to the end is.
-    pub fn longest(&self) -> u32 {
+    pub(crate) fn longest(&self) -> u32 {
         let mut longest = 0;
         for position in 0..BLOCK_LIMIT {
             let node = issue((position + 1) as u8);
@@ -64,7 +64,7 @@ impl<'a> Sketch<'a> {
     }
 
     /// Takes in what was right when more was known, if it still is and wasn't known, and returns whether it did.
-    pub fn take(&mut self, bound: u32, found: &Found) -> Result<bool, AllocError> {
+    pub(crate) fn take(&mut self, bound: u32, found: &Found) -> Result<bool, AllocError> {
         match found {
             Found::ByLine(line) => self.take_line(bound, line),
             Found::BySupposition(supposition) => self.take_supposition(bound, supposition),
@@ -125,7 +125,7 @@ impl<'a> Sketch<'a> {
     }
 
     /// The same, of a supposition with those of its lines that are needed, as far as is found. `Err` is out of memory.
-    pub fn shortened(&self, bound: u32, found: &Found) -> Result<Found, AllocError> {
+    pub(crate) fn shortened(&self, bound: u32, found: &Found) -> Result<Found, AllocError> {
         match found {
             Found::ByLine(_) => found.duplicate(self.alloc),
             Found::BySupposition(supposition) => {

@@ -7,35 +7,35 @@ use s66_isa::BLOCK_LIMIT;
 use std::alloc::{AllocError, Global};
 
 /// How many places there are: the issue and the start of each number, and the origin and the end in those of number 0.
-pub const PLACE_COUNT: usize = 2 * (BLOCK_LIMIT + 1);
+pub(crate) const PLACE_COUNT: usize = 2 * (BLOCK_LIMIT + 1);
 
 /// The place of the origin.
-pub const FROM_ORIGIN: usize = 0;
+pub(crate) const FROM_ORIGIN: usize = 0;
 
 /// The place of the end.
-pub const TO_END: usize = 1;
+pub(crate) const TO_END: usize = 1;
 
 /// The longest paths from one place to each.
 type Row = [Option<u32>; PLACE_COUNT];
 
 /// The longest paths from each place to each, in minor cycles.
 #[derive(Drop)]
-pub struct Spans {
+pub(crate) struct Spans {
     rows: Vec<[Option<u32>; PLACE_COUNT]>,
 }
 
 /// The place of an issue.
-pub fn at_issue(n: u8) -> usize {
+pub(crate) fn at_issue(n: u8) -> usize {
     2 * n as usize
 }
 
 /// The place of a start.
-pub fn at_start(n: u8) -> usize {
+pub(crate) fn at_start(n: u8) -> usize {
     2 * n as usize + 1
 }
 
 /// The node at a place.
-pub fn node_at(place: usize) -> usize {
+pub(crate) fn node_at(place: usize) -> usize {
     (place / 2).saturating_mul(5).saturating_add(place % 2)
 }
 
@@ -63,7 +63,7 @@ fn extend(row: &mut Row, from: usize, wait: u32, after: &Row) {
 
 impl Spans {
     /// Of a network of numbers up to a count. `Err` is out of memory.
-    pub fn of(alloc: Global, network: &Network, count: u8) -> Result<Spans, AllocError> {
+    pub(crate) fn of(alloc: Global, network: &Network, count: u8) -> Result<Spans, AllocError> {
         let mut rows = Vec::new(alloc);
         for place in 0..2 * (count as usize + 1) {
             rows.push(row_from(network, place))?;
@@ -72,7 +72,7 @@ impl Spans {
     }
 
     /// The longest path from a place to another.
-    pub fn between(&self, from: usize, to: usize) -> Option<u32> {
+    pub(crate) fn between(&self, from: usize, to: usize) -> Option<u32> {
         match self.rows.get(from) {
             None => None,
             Some(row) => time_at(row, to),
@@ -80,7 +80,7 @@ impl Spans {
     }
 
     /// A place comes later than another by so many minor cycles.
-    pub fn add(&mut self, from: usize, wait: u32, to: usize) {
+    pub(crate) fn add(&mut self, from: usize, wait: u32, to: usize) {
         let Some(row) = self.rows.get(to) else {
             return;
         };

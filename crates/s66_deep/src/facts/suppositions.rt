@@ -35,7 +35,7 @@ struct Followed {
 
 /// Suppositions of a block for a bound.
 #[derive(Drop)]
-pub struct Shaving<'a> {
+pub(crate) struct Shaving<'a> {
     alloc: Global,
     ground: &'a Ground,
     arcs: Arcs,
@@ -50,7 +50,7 @@ pub struct Shaving<'a> {
 
 impl<'a> Shaving<'a> {
     /// By what is known, and the arcs that stand for it.
-    pub fn new(
+    pub(crate) fn new(
         alloc: Global,
         ground: &'a Ground,
         arcs: Arcs,
@@ -72,17 +72,17 @@ impl<'a> Shaving<'a> {
     }
 
     /// How many more pairs may be supposed.
-    pub fn left(&self) -> u32 {
+    pub(crate) fn left(&self) -> u32 {
         self.left
     }
 
     /// What was found.
-    pub fn into_found(self) -> Vec<Found> {
+    pub(crate) fn into_found(self) -> Vec<Found> {
         self.found
     }
 
     /// Supposes pairs, those first that come nearest to the bound, until no more follow.
-    pub fn shave(&mut self) -> Result<(), AllocError> {
+    pub(crate) fn shave(&mut self) -> Result<(), AllocError> {
         for _round in 0..FOLLOWED_LIMIT {
             let count = self.found.len();
             let candidates = self.candidates()?;

@@ -12,14 +12,14 @@ use s66_moments::FactLine;
 
 /// What is known, and how many lines were taken, of which some are load lines.
 #[derive(Drop)]
-pub struct Taken {
+pub(crate) struct Taken {
     facts: Facts,
     lines: usize,
     ghost room: { length (known_of facts).loads ≤ lines },
 }
 
 /// How long a path is, at most 2^32 - 1; 0 if there is none.
-pub fn word(time: Option<u64>) -> u32 {
+pub(crate) fn word(time: Option<u64>) -> u32 {
     match time {
         None => 0,
         Some(time) => time.min(u32::MAX as u64) as u32,
@@ -40,7 +40,7 @@ fn take(facts: &mut Facts, bound: u32, line: &FactLine) -> bool
 
 impl Taken {
     /// Of a block by dependence alone.
-    pub fn new(ground: &Ground) -> Taken {
+    pub(crate) fn new(ground: &Ground) -> Taken {
         Taken {
             facts: Facts::new(ground.block(), ground.profile()),
             lines: 0,
@@ -48,12 +48,12 @@ impl Taken {
     }
 
     /// What is known.
-    pub fn facts(&self) -> &Facts {
+    pub(crate) fn facts(&self) -> &Facts {
         &self.facts
     }
 
     /// The number whose issue is followed by the longest path to the end, and how long that is; 0 and 0 if there is no path.
-    pub fn root(&self) -> (u8, u32) {
+    pub(crate) fn root(&self) -> (u8, u32) {
         let tails = self.facts.tails();
         let mut longest = (0, 0);
         for position in 0..BLOCK_LIMIT {
@@ -66,13 +66,13 @@ impl Taken {
     }
 
     /// Whether the block has both numbers, and m is known to stand before n.
-    pub fn is_before(&self, m: u8, n: u8) -> bool {
+    pub(crate) fn is_before(&self, m: u8, n: u8) -> bool {
         let count = self.facts.count();
         1 <= m && m <= count && 1 <= n && n <= count && self.facts.is_before(m, n)
     }
 
     /// Takes a line in if it is right and there is room for it, and returns whether it did.
-    pub fn take(&mut self, bound: u32, line: &FactLine) -> bool {
+    pub(crate) fn take(&mut self, bound: u32, line: &FactLine) -> bool {
         if self.lines >= FACT_LIMIT {
             return false;
         }
@@ -85,7 +85,7 @@ impl Taken {
 
     /// Takes in what a supposition with so many lines within shows, m before n, if it wasn't known how they stand and there is room for its
     /// lines, and returns whether it did.
-    pub fn take_shown(&mut self, m: u8, n: u8, within: usize) -> bool {
+    pub(crate) fn take_shown(&mut self, m: u8, n: u8, within: usize) -> bool {
         let is_full = self.lines >= FACT_LIMIT || within >= FACT_LIMIT;
         if is_full || self.lines + within + 2 > FACT_LIMIT {
             return false;
@@ -102,7 +102,7 @@ impl Taken {
     }
 
     /// The same.
-    pub fn duplicate(&self) -> Taken {
+    pub(crate) fn duplicate(&self) -> Taken {
         Taken {
             facts: self.facts.duplicate(),
             lines: self.lines,

@@ -12,10 +12,10 @@ use std::alloc::{AllocError, Global};
 
 /// What is known before a supposition.
 #[derive(Clone, Copy)]
-pub struct Trial<'a> {
-    pub ground: &'a Ground,
-    pub arcs: &'a Arcs,
-    pub selection: Selection,
+pub(crate) struct Trial<'a> {
+    pub(crate) ground: &'a Ground,
+    pub(crate) arcs: &'a Arcs,
+    pub(crate) selection: Selection,
 }
 
 /// What is known within a supposition.
@@ -124,14 +124,14 @@ impl<'a> Trial<'a> {
     }
 
     /// Whether the lines of a supposition, those that are right, show that no order takes less than the bound.
-    pub fn is_refuted(&self, bound: u32, supposition: &Supposition) -> bool {
+    pub(crate) fn is_refuted(&self, bound: u32, supposition: &Supposition) -> bool {
         let mut within = self.within(bound, supposition.second, supposition.first);
         within.takes_all(supposition.lines.as_slice(), 0, 0)
     }
 
     /// A supposition with those of its lines that are needed, as far as is found: parts that aren't are dropped from the last one on, first
     /// of half the lines, then of fewer. How many more trials may be made is counted down. `Err` is out of memory.
-    pub fn shortened(
+    pub(crate) fn shortened(
         &self,
         alloc: Global,
         bound: u32,

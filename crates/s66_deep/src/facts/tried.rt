@@ -11,13 +11,13 @@ const UNKNOWN: [u32; NUMBER_COUNT] = [u32::MAX; NUMBER_COUNT];
 
 /// From each number, and at 0 from the origin, to each: a wait than which no load line says more.
 #[derive(Drop)]
-pub struct Tried {
+pub(crate) struct Tried {
     waits: Vec<[u32; NUMBER_COUNT]>,
 }
 
 impl Tried {
     /// Knows nothing. `Err` is out of memory.
-    pub fn new(alloc: Global) -> Result<Tried, AllocError> {
+    pub(crate) fn new(alloc: Global) -> Result<Tried, AllocError> {
         let mut waits = Vec::new(alloc);
         for _ in 0..NUMBER_COUNT {
             waits.push(UNKNOWN)?;
@@ -26,7 +26,7 @@ impl Tried {
     }
 
     /// The same. `Err` is out of memory.
-    pub fn duplicate(&self, alloc: Global) -> Result<Tried, AllocError> {
+    pub(crate) fn duplicate(&self, alloc: Global) -> Result<Tried, AllocError> {
         let mut waits = Vec::new(alloc);
         for row in self.waits.as_slice() {
             waits.push(*row)?;
@@ -35,7 +35,7 @@ impl Tried {
     }
 
     /// Whether no load line from one number to another says more than this wait.
-    pub fn has(&self, from: u8, to: u8, wait: u32) -> bool {
+    pub(crate) fn has(&self, from: u8, to: u8, wait: u32) -> bool {
         match self.waits.get(from as usize) {
             Some(row) => (to as usize) < NUMBER_COUNT && row[to as usize] <= wait,
             None => false,
@@ -43,7 +43,7 @@ impl Tried {
     }
 
     /// None says more than this wait.
-    pub fn add(&mut self, from: u8, to: u8, wait: u32) {
+    pub(crate) fn add(&mut self, from: u8, to: u8, wait: u32) {
         let place = from as usize;
         if place < self.waits.len() && (to as usize) < NUMBER_COUNT {
             self.waits[place][to as usize] = wait;
@@ -51,7 +51,7 @@ impl Tried {
     }
 
     /// Paths from a number grew.
-    pub fn forget(&mut self, from: u8) {
+    pub(crate) fn forget(&mut self, from: u8) {
         let place = from as usize;
         if place < self.waits.len() {
             self.waits[place] = UNKNOWN;

@@ -45,7 +45,7 @@ fn time_of(ground: &Ground, numbers: &[u8]) -> u32 {
 
 /// Whether each instruction of a load line is used late enough, and shows its wait, by the longest paths from its first moment and to its
 /// last one.
-pub fn are_used(ground: &Ground, load: &LoadLine, heads: &Times, tails: &Times) -> bool {
+pub(crate) fn are_used(ground: &Ground, load: &LoadLine, heads: &Times, tails: &Times) -> bool {
     let numbers = load.numbers.as_slice();
     let uses = Uses {
         load,

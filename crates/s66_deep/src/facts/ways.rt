@@ -12,8 +12,8 @@ use crate::facts::sort::sort;
 use crate::facts::spans::{at_issue, at_start};
 use crate::limits::WAIT_LIMIT;
 use crate::work::Work;
-use s66_dep::Set;
 use s66_isa::BLOCK_LIMIT;
+use s66_time::Set;
 use std::alloc::{AllocError, Global};
 
 /// When an instruction begins its use at the latest, as far as paths show, and how long it has its unit.
@@ -77,7 +77,7 @@ fn best_after(ways: &[Way], copies: u32, longest: u32, after: u32, best: Best) -
 
 /// The ways of a load. The room is kept from one load to the next.
 #[derive(Drop)]
-pub struct Ways {
+pub(crate) struct Ways {
     shares: Shares,
     ways: Vec<Way>,
     /// The last way of each number.
@@ -88,7 +88,7 @@ pub struct Ways {
 
 impl Ways {
     /// With no room.
-    pub fn new(alloc: Global) -> Ways {
+    pub(crate) fn new(alloc: Global) -> Ways {
         Ways {
             shares: Shares::new(alloc),
             ways: Vec::new(alloc),
@@ -133,7 +133,7 @@ impl Ways {
     /// What says most of a load, and more than a wait, if something does. It takes time quadratic in how many numbers there are.
     ///
     /// `Err` is out of memory.
-    pub fn best<R: Reach>(
+    pub(crate) fn best<R: Reach>(
         &mut self,
         load: &Load<R>,
         wait: u32,

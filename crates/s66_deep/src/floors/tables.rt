@@ -3,51 +3,51 @@
 
 ghost use Rattle.std.specs.Prelude.{ℕ, ◌≤◌, length};
 ghost use Rattle.s66_isa.specs.declared.limits.TheConstants.{BLOCK_LIMIT};
-ghost use Rattle.s66_dep.specs.Ranks.{IsRanking, AreAtMost};
+ghost use Rattle.s66_time.specs.Ranks.{IsRanking, AreAtMost};
 ghost use Rattle.s66_deep.specs.declared.limits.TheConstants.{TAIL_LIMIT};
 ghost use Rattle.s66_deep.specs.FollowingWords.{AreSmall, AreSmallWords, HasSmallWords, HasRanks};
 
 use crate::classes::{Class, Role, those_of, users_of};
 use crate::floors::tails::{Part, Tails};
-use s66_dep::{Ranking, Set};
 use s66_isa::{BLOCK_LIMIT, KIND_COUNT, KINDS, REGISTER_COUNT, Reg, Row};
+use s66_time::{Ranking, Set};
 
 /// What the greatest paths of a block look up. Words are in minor cycles; that of n is at place n - 1.
 #[derive(Drop)]
-pub struct PathTables {
+pub(crate) struct PathTables {
     /// All numbers of the block.
-    pub all: Set,
+    pub(crate) all: Set,
     /// What follows the stages of each number.
-    pub tails: [Tails; BLOCK_LIMIT],
+    pub(crate) tails: [Tails; BLOCK_LIMIT],
     /// What follows the first result of each.
-    pub first: [u32; BLOCK_LIMIT],
+    pub(crate) first: [u32; BLOCK_LIMIT],
     /// What follows the second.
-    pub second: [u32; BLOCK_LIMIT],
+    pub(crate) second: [u32; BLOCK_LIMIT],
     /// The numbers by what follows the issue.
-    pub by_issue: Ranking,
+    pub(crate) by_issue: Ranking,
     /// The numbers by what follows the start.
-    pub by_start: Ranking,
+    pub(crate) by_start: Ranking,
     /// The ranks by issue of the numbers of two parcels.
-    pub long: Set,
+    pub(crate) long: Set,
     /// The ranks by issue of those that take a unit of each kind, by its number.
-    pub takers: [Set; KIND_COUNT],
+    pub(crate) takers: [Set; KIND_COUNT],
     /// The ranks by issue of those that write each register, by its index.
-    pub writers: [Set; REGISTER_COUNT],
+    pub(crate) writers: [Set; REGISTER_COUNT],
     /// The ranks by start of those that read each register.
-    pub readers: [Set; REGISTER_COUNT],
+    pub(crate) readers: [Set; REGISTER_COUNT],
     /// The ranks by start of the loads.
-    pub loads: Set,
+    pub(crate) loads: Set,
     /// The ranks by start of the stores.
-    pub stores: Set,
+    pub(crate) stores: Set,
     /// The numbers whose first result is in each register.
-    pub firsts: [Set; REGISTER_COUNT],
+    pub(crate) firsts: [Set; REGISTER_COUNT],
     /// The numbers whose second result is in each register.
-    pub seconds: [Set; REGISTER_COUNT],
+    pub(crate) seconds: [Set; REGISTER_COUNT],
 }
 
 impl PathTables {
     /// Of the rows of a block, and what follows.
-    pub fn of(rows: &[Row], tails: &[Tails; BLOCK_LIMIT]) -> PathTables
+    pub(crate) fn of(rows: &[Row], tails: &[Tails; BLOCK_LIMIT]) -> PathTables
         requires few { length rows.now ≤ BLOCK_LIMIT }
         requires small { AreSmall tails.now }
         ensures words { HasSmallWords result }

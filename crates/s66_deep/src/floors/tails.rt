@@ -24,7 +24,7 @@ pub struct Tails {
 
 /// What the words of a clock are waited for with: an issue, a start, and the two results.
 #[derive(Clone, Copy)]
-pub enum Part {
+pub(crate) enum Part {
     Issue,
     Start,
     First,
@@ -33,7 +33,7 @@ pub enum Part {
 
 impl Tails {
     /// What follows a part.
-    pub fn after(&self, part: Part) -> u32
+    pub(crate) fn after(&self, part: Part) -> u32
         requires { IsSmall self.now }
         ensures { result ≤ TAIL_LIMIT }
     {
@@ -61,7 +61,7 @@ impl Tails {
 }
 
 /// What follows the stages of all numbers, each cut.
-pub fn cut_all(tails: &[Tails; BLOCK_LIMIT]) -> [Tails; BLOCK_LIMIT]
+pub(crate) fn cut_all(tails: &[Tails; BLOCK_LIMIT]) -> [Tails; BLOCK_LIMIT]
     ensures { AreSmall result }
 {
     let mut those = [Tails::default(); BLOCK_LIMIT];

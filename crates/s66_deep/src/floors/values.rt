@@ -2,7 +2,7 @@
 //! values are in minor cycles.
 
 ghost use Rattle.std.specs.Prelude.{◌+◌, ◌≤◌};
-ghost use Rattle.s66_dep.specs.Ranks.{AreAtMost};
+ghost use Rattle.s66_time.specs.Ranks.{AreAtMost};
 ghost use Rattle.s66_time.specs.declared.limits.TheConstants.{TOTAL_LIMIT};
 ghost use Rattle.s66_deep.specs.declared.limits.TheConstants.{TAIL_LIMIT};
 ghost use Rattle.s66_deep.specs.FollowingWords.{AreSmallWords, HasSmallWords};
@@ -10,9 +10,8 @@ ghost use Rattle.s66_deep.specs.FollowingWords.{AreSmallWords, HasSmallWords};
 use crate::floors::left::Left;
 use crate::floors::tables::PathTables;
 use crate::floors::words::done_of;
-use s66_dep::{Ranking, Set};
 use s66_isa::{BLOCK_LIMIT, Kind, Memory, Reg, kind_number};
-use s66_time::Clock;
+use s66_time::{Clock, Ranking, Set};
 
 /// A value, or a word and what follows if that is greater, at one of those that remain of a class.
 fn raised(ranking: &Ranking, left: &Set, those: &Set, word: u32, top: u32, most: u32) -> u32
@@ -186,7 +185,7 @@ fn slot_value(tables: &PathTables, clock: &Clock<'_>, left: &Left, top: u32) -> 
 }
 
 /// The greatest path of what remains, 0 if nothing does: a few looks for each word of the clock that is late, and none at a number.
-pub fn greatest_value(tables: &PathTables, clock: &Clock<'_>, left: &Left) -> u32
+pub(crate) fn greatest_value(tables: &PathTables, clock: &Clock<'_>, left: &Left) -> u32
     requires { HasSmallWords tables.now }
 {
     let Some(top) = tables.by_issue.greatest(&left.by_issue) else {

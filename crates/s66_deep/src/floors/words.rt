@@ -9,7 +9,7 @@ use s66_isa::{Reg, Row, Write};
 use s66_time::{Clock, TOTAL_LIMIT};
 
 /// When the last results in a register are done.
-pub fn done_of(clock: &Clock<'_>, register: Reg) -> u32
+pub(crate) fn done_of(clock: &Clock<'_>, register: Reg) -> u32
     ensures { result ≤ TOTAL_LIMIT }
 {
     prove!(clock.total() <= TOTAL_LIMIT);
@@ -71,7 +71,7 @@ fn result_words(clock: &Clock<'_>, writes: &[Write], tails: &Tails) -> u32
 }
 
 /// The greatest of all these words of an instruction, each with what follows.
-pub fn value_by(clock: &Clock<'_>, row: &Row, tails: &Tails) -> u32
+pub(crate) fn value_by(clock: &Clock<'_>, row: &Row, tails: &Tails) -> u32
     requires { IsSmall tails.now }
 {
     let issue = issue_words(clock, row) + tails.issue;

@@ -7,7 +7,7 @@ use crate::lanes::owner::Lane;
 use crate::lanes::protocol::{Hand, Rule};
 use crate::lanes::thief::Thief;
 use crossbeam_deque::Worker;
-use s66_machine::Ticket;
+use s66_model::Ticket;
 use std::alloc::{AllocError, Global};
 
 /// An empty lane whose first `capacity` puts need no memory, and the thief that its passes steal with.

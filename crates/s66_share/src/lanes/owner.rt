@@ -3,7 +3,7 @@
 use crate::lanes::pass::Pass;
 use crate::lanes::protocol::{Collects, Counts, Deals, Hand, Puts, Rule, Settles, Takes};
 use crossbeam_deque::Worker;
-use s66_machine::Ticket;
+use s66_model::Ticket;
 use std::alloc::{AllocError, Global};
 use std::marker::Model;
 
@@ -36,7 +36,7 @@ impl Lane {
     ghost use Rattle.std.specs.Prelude.{◌≡◌, ◌+◌, ◌≤◌, List, [], ◌∷◌, ◌++◌, length, map, All, IfOk, OnErr, IfErr, OnOk, IfSome, IfNone};
     ghost use Rattle.crossbeam_deque.specs.Handles.{worker_deque, worker_flavor, worker_view, worker_index, worker_capacity};
     ghost use Rattle.s66_isa.specs.Lists.{rising};
-    ghost use Rattle.s66_machine.specs.Tickets.{TicketOf};
+    ghost use Rattle.s66_model.specs.Tickets.{TicketOf};
     ghost use Rattle.s66_share.specs.declared.limits.TheConstants.{PASS_LIMIT};
     ghost use Rattle.s66_share.specs.Hands.{opening_hand};
     ghost use Rattle.s66_share.specs.Lanes.{AreLeft};

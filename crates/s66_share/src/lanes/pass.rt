@@ -1,7 +1,7 @@
 //! A thief's place at a lane (`Pass`), which says what was stolen with it.
 
 use crate::lanes::protocol::Hand;
-use s66_machine::Ticket;
+use s66_model::Ticket;
 use std::marker::Model;
 
 /// A thief's place at a lane, with which it steals. If it is dropped, it stays out.

@@ -2,7 +2,7 @@
 //! call.
 
 use crossbeam_deque::protocol::{Join, Lesson, Outcome, Protocol, Split};
-use s66_machine::Ticket;
+use s66_model::Ticket;
 use std::marker::Model;
 
 /// What the owner of a lane or a pass at it has put and taken. No value of it is made.

@@ -3,7 +3,7 @@
 use crate::lanes::pass::Pass;
 use crate::lanes::protocol::{Hand, Rule, Takes};
 use crossbeam_deque::{Steal, Stealer};
-use s66_machine::Ticket;
+use s66_model::Ticket;
 use std::alloc::Global;
 use std::marker::Model;
 

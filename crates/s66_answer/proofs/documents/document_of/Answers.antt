@@ -1,5 +1,5 @@
 use Rattle.std.proofs.Common.{None, refl, ◌≡◌, ◌∙◌, if◌then◌else◌, ap, ap₂, sym, subst, arith, rules}
-use Rattle.s66_dep.specs.Ordered.{Ordered}
+use Rattle.s66_time.specs.Ordered.{Ordered}
 use Rattle.s66_line.specs.Block.{instrs_of}
 use Rattle.s66_model.specs.declared.rule.Rule.TheVariants.{NoneNamed}
 use Rattle.s66_model.specs.Timing.{Problem}

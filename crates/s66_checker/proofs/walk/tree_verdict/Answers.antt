@@ -4,7 +4,7 @@ use Rattle.s66_model.specs.DominatedLeaves.{Ending}
 use Rattle.s66_moments.specs.declared.fact_line.FactStep.{FactStep}
 use Rattle.s66_tree.specs.Lines.{vertex_of}
 use Rattle.s66_cert.specs.DocumentParts.{document_of}
-use Rattle.s66_replay.specs.Checked.{Checked}
+use Rattle.s66_checker.specs.Checked.{Checked}
 use Rattle.s66_checker.specs.Verdict.{problem_of}
 use Rattle.s66_checker.specs.Walk.{coming}
 use Rattle.s66_checker.proofs.TreeWalk.{line-refused, split-ready, line-passed, none-left, walk-begins, walk-ends}

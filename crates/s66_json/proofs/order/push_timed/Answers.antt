@@ -1,7 +1,7 @@
 use Rattle.std.proofs.Common.{◌≡◌, ◌++◌, ◌∙◌, List, ap, ap₂, map, reverse}
 use Rattle.std.proofs.lemmas.List.{reverse-reverse}
 use Rattle.std.proofs.lemmas.Result.{IfOk-equal}
-use Rattle.s66_dep.specs.Ordered.{Ordered}
+use Rattle.s66_time.specs.Ordered.{Ordered}
 use Rattle.s66_model.specs.Timing.{Point, points_of, total_of}
 use Rattle.s66_why.specs.declared.path.Step.{Step}
 use Rattle.s66_why.specs.Why.{added, lost, path, steps, stretches}

@@ -1,6 +1,6 @@
 use Rattle.std.proofs.Common.{◌≡◌, ◌++◌, ◌∷◌, [], true≢false, sym, ap, subst, ◌∙◌}
 use Rattle.s66_model.specs.LegalOrder.{IsComplete}
-use Rattle.s66_machine.specs.Expansion.{whole_at}
+use Rattle.s66_model.specs.Expansion.{whole_at}
 use Rattle.s66_node.specs.Walking.{IsLeast, terminal_by, value_by}
 use Rattle.s66_node.proofs.Terminals.{found-none, whole-order, whole-total, whole-legal, least-same}
 use Rattle.s66_node.proofs.grow.keep_whole.Goals as goal

@@ -1,5 +1,5 @@
-use Rattle.s66_page.specs.declared.page.Part.TheVariants.{Orders, Row}
-use Rattle.std.proofs.Common.{OnOk, ◌≡◌, ◌++◌, ◌∙◌, ap, codes, subst}
+use Rattle.s66_page.specs.declared.page.Part.TheVariants.{Orders}
+use Rattle.std.proofs.Common.{OnOk, ◌≡◌, ◌++◌, ◌∙◌, ap, subst}
 use Rattle.s66_isa.specs.declared.profile.Profile.{Profile}
 use Rattle.s66_page.specs.Page.{entries, entry, index, page_head}
 use Rattle.s66_page.proofs.Pieces.{more, last}

@@ -1,6 +1,6 @@
 use Rattle.std.proofs.Common.{ℕ, ◌≡◌, ◌<◌, ◌++◌, ◌∙◌, List, ap, arith, get_or, length, length-take, map, refl, reverse, sym, take}
 use Rattle.std.proofs.lemmas.List.{get_or_default, get_or-map, length-map, reverse-reverse, take_all}
-use Rattle.s66_dep.specs.Ordered.{Ordered}
+use Rattle.s66_time.specs.Ordered.{Ordered}
 use Rattle.s66_isa.specs.declared.instr.Kind.TheVariants.{Boolean}
 use Rattle.s66_line.specs.Block.{bytes_of}
 use Rattle.s66_model.specs.Timing.{Point, points_of}

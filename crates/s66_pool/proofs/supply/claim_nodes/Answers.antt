@@ -1,6 +1,6 @@
 use Rattle.std.proofs.Common.{◌++◌, ◌∷◌, [], true, ap, arith, ◌∙◌, subst, sym, List, Option, length, length-append}
-use Rattle.s66_machine.specs.Ledger.{Claim, Claimed}
-use Rattle.s66_machine.specs.Tickets.{TicketOf}
+use Rattle.s66_model.specs.Ledger.{Claim, Claimed}
+use Rattle.s66_model.specs.Tickets.{TicketOf}
 use Rattle.s66_ledger.specs.Ledgers.{IsEvent}
 use Rattle.s66_ledger.specs.ClaimedNodes.{claimed_node}
 use Rattle.s66_pool.specs.Supplies.{AreEvents, claims, last_claim}

@@ -2,8 +2,8 @@ use Rattle.std.proofs.Common.{ℕ, List, ◌≡◌, ◌+◌, ◌-◌, ◌++◌, 
 use Rattle.s66_isa.specs.Lists.{rising}
 use Rattle.s66_line.specs.Block.{instrs_of}
 use Rattle.s66_model.specs.Dependence.{needs}
-use Rattle.s66_dep.specs.Members.{numbers_in}
-use Rattle.s66_dep.proofs.Readiness.{needs-at}
+use Rattle.s66_time.specs.Members.{numbers_in}
+use Rattle.s66_time.proofs.Readiness.{needs-at}
 use Rattle.s66_answer.proofs.BlockTexts.{rising-next}
 use Rattle.s66_program.specs.DepsText.{needs_line, needs_lines}
 use Rattle.s66_program.proofs.Dependences.{length-all_needs}

@@ -5,7 +5,7 @@ use Rattle.s66_isa.proofs.Lists.{among-rising}
 use Rattle.s66_line.specs.Block.{Block, instrs_of}
 use Rattle.s66_model.specs.Dependence.{depends, needs}
 use Rattle.s66_model.proofs.Remaining.{filter-among}
-use Rattle.s66_dep.specs.Members.{numbers_in}
+use Rattle.s66_time.specs.Members.{numbers_in}
 use Rattle.s66_why.specs.Numbers.{IsOf}
 use Rattle.s66_program.specs.DepsText.{pair_line}
 use Rattle.s66_program.proofs.deps_text.push_pairs_of.Goals as goal

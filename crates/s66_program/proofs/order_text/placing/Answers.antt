@@ -1,5 +1,5 @@
 use Rattle.std.proofs.Common.{◌≡◌, ◌∙◌, if◌then◌else◌, None, Some, ap, sym}
-use Rattle.s66_dep.specs.Ordered.{Ordered}
+use Rattle.s66_time.specs.Ordered.{Ordered}
 use Rattle.s66_source.specs.Printed.{Placed}
 use Rattle.s66_answer.specs.Stored.{answer_in}
 use Rattle.s66_program.specs.OrderText.{placed_by}

@@ -1,8 +1,8 @@
 use Rattle.std.proofs.Common.{◌∙◌, sym, ap}
 use Rattle.s66_line.specs.Block.{Block, instrs_of}
 use Rattle.s66_model.specs.LegalOrder.{is_ready}
-use Rattle.s66_dep.specs.Members.{numbers_in}
-use Rattle.s66_dep.proofs.Readiness.{has-ready_same}
+use Rattle.s66_time.specs.Members.{numbers_in}
+use Rattle.s66_time.proofs.Readiness.{has-ready_same}
 use Rattle.s66_test_search.proofs.walk.push_ready.Goals as goal
 
 pub push-requires : goal.push-requires

@@ -2,7 +2,7 @@ use Rattle.std.proofs.Common.{ℕ, ◌+◌, ◌++◌, ◌∷◌, [], List, ◌�
 use Rattle.s66_line.specs.Block.{instrs_of, Block}
 use Rattle.s66_model.specs.LegalOrder.{is_ready}
 use Rattle.s66_model.proofs.Beginnings.{length-rising}
-use Rattle.s66_dep.proofs.OrderNumbers.{rising-more}
+use Rattle.s66_time.proofs.OrderNumbers.{rising-more}
 use Rattle.s66_time.specs.Ticking.{Ticking}
 use Rattle.s66_tools.proofs.SourceOrder.{source-ready}
 use Rattle.s66_tools.proofs.rounds.push_first.Goals as goal

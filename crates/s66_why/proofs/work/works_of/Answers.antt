@@ -1,6 +1,6 @@
 use Rattle.std.proofs.Common.{ℕ, ◌≡◌, ◌<◌, ◌∙◌, ◌++◌, [], ◌∷◌, List, ap, arith, length, length-take, map, reverse, sym, take}
 use Rattle.std.proofs.lemmas.List.{length-map, map_more, take_all}
-use Rattle.s66_dep.specs.Ordered.{Ordered}
+use Rattle.s66_time.specs.Ordered.{Ordered}
 use Rattle.s66_model.specs.Timing.{Point, points_of}
 use Rattle.s66_time.specs.TimedOrder.{no_point}
 use Rattle.s66_why.specs.declared.work.Work.{Work}

@@ -1,6 +1,5 @@
-use Rattle.std.proofs.Common.{rules, ◌≡◌, ◌≤◌, ◌↔◌, IfNone, IfSome, IsTrue, ℕ, ◌+◌, ◌-◌, ◌*◌, ◌<◌, length, ◌/◌, ◌%◌, Bool, true, false, nat_eq, nat_lt, List, [], ◌∷◌, ◌++◌, slice_index_or, slice_set, bit_and, bit_or, Fits, w8, w32, w64, Bor, MutBor}
-use Rattle.s66_isa.specs.Table.{copies_of, entries, standard}
-use Rattle.s66_isa.specs.Profiles.{IsProfile, profile_of}
+use Rattle.std.proofs.Common.{◌-◌}
+use Rattle.s66_isa.specs.Table.{entries}
 use Rattle.s66_isa.proofs.Profiles.{entries-in-range}
 use Rattle.s66_isa.proofs.profile.Profile.entries.Goals as goal
 

@@ -1,6 +1,4 @@
-use Rattle.std.proofs.Common.{rules, arith, ◌≡◌, ◌≤◌, ◌↔◌, IfNone, IfSome, IsTrue, ℕ, ◌+◌, ◌-◌, ◌*◌, ◌<◌, length, ◌/◌, ◌%◌, Bool, true, false, nat_eq, nat_lt, List, [], ◌∷◌, ◌++◌, slice_index_or, slice_set, bit_and, bit_or, Fits, w8, w32, w64, Bor, MutBor}
-use Rattle.s66_isa.specs.Table.{copies_of, entries, standard}
-use Rattle.s66_isa.specs.Profiles.{IsProfile, profile_of}
+use Rattle.std.proofs.Common.{arith, ◌-◌}
 use Rattle.s66_isa.proofs.Profiles.{profile-of-its-numbers}
 use Rattle.s66_isa.proofs.profile.Profile.of.Goals as goal
 

@@ -5,7 +5,7 @@ use Rattle.s66_model.specs.Timing.{Problem}
 use Rattle.s66_model.specs.DominatedLeaves.{Ending}
 use Rattle.s66_model.specs.Tree.{Vertex, flat}
 use Rattle.s66_model.specs.Later.{later}
-use Rattle.s66_machine.specs.NodeTree.{node_tree}
+use Rattle.s66_model.specs.NodeTree.{node_tree}
 use Rattle.s66_line.specs.Block.{instrs_of}
 use Rattle.s66_node.specs.Walked.{Walked}
 use Rattle.s66_ledger.specs.Answers.{AnswerOf, answer_of}

@@ -2,7 +2,7 @@ use Rattle.std.proofs.Common.{[], ◌≡◌, ◌≤◌, ◌<◌, ◌∙◌, ap, 
 use Rattle.s66_model.specs.LegalOrder.{IsLegal}
 use Rattle.s66_model.specs.Timing.{Problem, total_of}
 use Rattle.s66_model.specs.Answer.{source_time}
-use Rattle.s66_machine.specs.Ended.{ended_answer}
+use Rattle.s66_model.specs.Ended.{ended_answer}
 use Rattle.s66_ledger.specs.Answers.{AnswerOf, IsKeptAnswer, answer_of, ended_of}
 use Rattle.s66_ledger.specs.LedgerMachine.{ledger_from}
 use Rattle.s66_ledger.proofs.Reordered.{reordered, reordered-answer}

@@ -1,7 +1,7 @@
 use Rattle.std.proofs.Common.{◌≡◌, subst, ap, arith}
-use Rattle.s66_machine.specs.Coverage.{Covers}
-use Rattle.s66_machine.specs.Ledger.{Grant, Granted, allowance}
-use Rattle.s66_machine.proofs.Histories.{reached-covers}
+use Rattle.s66_model.specs.Coverage.{Covers}
+use Rattle.s66_model.specs.Ledger.{Grant, Granted, allowance}
+use Rattle.s66_model.proofs.Histories.{reached-covers}
 use Rattle.s66_ledger.specs.Ledgers.{LedgerOf}
 use Rattle.s66_ledger.proofs.Leading.{event-leads}
 use Rattle.s66_ledger.proofs.Rounds.{grant-between, grant-spent}

@@ -1,7 +1,7 @@
 use Rattle.std.proofs.Common.{◌∙◌, ◌∷◌, ap, sym}
 use Rattle.s66_isa.specs.Lists.{least}
 use Rattle.s66_model.specs.Timing.{total_of}
-use Rattle.s66_machine.specs.Coverage.{bound_of}
+use Rattle.s66_model.specs.Coverage.{bound_of}
 use Rattle.s66_ledger.specs.LiveNodes.{live_values}
 use Rattle.s66_ledger.specs.LedgerMachine.{MachineOf}
 use Rattle.s66_ledger.proofs.Stored.{stored_of}

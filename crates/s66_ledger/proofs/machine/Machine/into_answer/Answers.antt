@@ -1,6 +1,6 @@
 use Rattle.std.proofs.Common.{◌∙◌, [], ap, sym, subst}
 use Rattle.s66_model.specs.Timing.{Problem}
-use Rattle.s66_machine.specs.Ended.{ended_answer}
+use Rattle.s66_model.specs.Ended.{ended_answer}
 use Rattle.s66_ledger.specs.LedgerMachine.{MachineOf, ledger_from}
 use Rattle.s66_ledger.proofs.Stored.{stored_of}
 use Rattle.s66_ledger.specs.Answers.{IsKeptAnswer, ended_of}

@@ -1,5 +1,5 @@
 use Rattle.std.proofs.Common.{arith, ap, length}
-use Rattle.s66_dep.proofs.LongestBeginning.{beginning-few}
+use Rattle.s66_time.proofs.LongestBeginning.{beginning-few}
 use Rattle.s66_node.proofs.mark_table.MarkEntry.of.Goals as goal
 
 pub copy_of-requires : goal.copy_of-requires

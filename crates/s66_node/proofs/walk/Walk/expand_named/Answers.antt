@@ -5,8 +5,8 @@ use Rattle.s66_line.specs.Block.{instrs_of}
 use Rattle.s66_model.specs.Timing.{Problem}
 use Rattle.s66_model.specs.Tree.{Tree}
 use Rattle.s66_model.specs.Piece.{Terminal}
-use Rattle.s66_machine.specs.Expansion.{whole_orders}
-use Rattle.s66_dep.proofs.LongestBeginning.{beginning-few}
+use Rattle.s66_model.specs.Expansion.{whole_orders}
+use Rattle.s66_time.proofs.LongestBeginning.{beginning-few}
 use Rattle.s66_time.specs.Ticking.{problem_of}
 use Rattle.s66_time.specs.TimedOrder.{TimedOrder}
 use Rattle.s66_node.specs.Pieces.{PieceOf, IsBestTimed}

@@ -1,8 +1,8 @@
 use Rattle.std.proofs.Common.{◌≡◌, ℕ, ◌≤◌, All, length, List, [], ◌∷◌, ◌++◌, Some, sym, ap, ◌∙◌, subst, arith, append-nil}
 use Rattle.std.proofs.lemmas.List.Elements.{All-pop}
 use Rattle.atomic_table.specs.Table.{Me}
-use Rattle.s66_machine.specs.Accounts.{SeatRecord, Agrees}
-use Rattle.s66_machine.proofs.AccountLaws.{accounts-count}
+use Rattle.s66_model.specs.Accounts.{SeatRecord, Agrees}
+use Rattle.s66_model.proofs.AccountLaws.{accounts-count}
 use Rattle.s66_ledger.specs.Ledgers.{LedgerOf, events_of, account_summary}
 use Rattle.s66_pool.specs.Hubs.{SeatOf, HaveSeats}
 use Rattle.s66_share.specs.SeatViews.{books_of}

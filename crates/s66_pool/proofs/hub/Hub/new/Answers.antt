@@ -3,7 +3,7 @@ use Rattle.std.proofs.lemmas.Grind.{get_or_default_zero}
 use Rattle.std.proofs.lemmas.List.Elements.{All-nil}
 use Rattle.atomic_table.specs.Seated.{TableId}
 use Rattle.s66_isa.specs.Lists.{rising}
-use Rattle.s66_machine.specs.Accounts.{Summary, SeatRecord, opened, account_at}
+use Rattle.s66_model.specs.Accounts.{Summary, SeatRecord, opened, account_at}
 use Rattle.s66_ledger.specs.Ledgers.{LedgerOf, account_summary}
 use Rattle.s66_share.specs.SeatViews.{all_opened}
 use Rattle.s66_pool.specs.Hubs.{SeatOf}

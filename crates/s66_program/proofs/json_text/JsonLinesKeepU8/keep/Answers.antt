@@ -1,6 +1,6 @@
 use Rattle.std.proofs.Common.{ℕ, ◌∙◌, ◌++◌, List, ap, ap₂}
 use Rattle.s66_isa.specs.declared.profile.Profile.{Profile}
-use Rattle.s66_dep.specs.Ordered.{Ordered}
+use Rattle.s66_time.specs.Ordered.{Ordered}
 use Rattle.s66_line.specs.Block.{instrs_of}
 use Rattle.s66_program.specs.Entries.{entry_at}
 use Rattle.s66_json.specs.Json.{found_data, json_line}

@@ -1,5 +1,5 @@
 use Rattle.std.proofs.Common.{ℕ, ◌≡◌, ◌∙◌, ◌++◌, List, [], ◌∷◌, ap, ap₂}
-use Rattle.s66_dep.specs.Ordered.{Ordered}
+use Rattle.s66_time.specs.Ordered.{Ordered}
 use Rattle.s66_line.specs.Block.{instrs_of}
 use Rattle.s66_page.specs.FoundOrders.{FoundOrder}
 use Rattle.s66_answer.specs.Stored.{answer_in}

@@ -1,6 +1,6 @@
 use Rattle.std.proofs.Common.{ℕ, ◌∙◌, ◌≡◌, ◌++◌, List, ap, ap₂, append_assoc}
 use Rattle.s66_isa.specs.declared.profile.Profile.{Profile}
-use Rattle.s66_dep.specs.Ordered.{Ordered}
+use Rattle.s66_time.specs.Ordered.{Ordered}
 use Rattle.s66_time.specs.TimedOrder.{TimedOrder}
 use Rattle.s66_line.specs.Block.{instrs_of}
 use Rattle.s66_answer.specs.Stored.{answer_in}

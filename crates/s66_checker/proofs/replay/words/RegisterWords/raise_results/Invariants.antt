@@ -1,0 +1,10 @@
+use Rattle.std.proofs.Common.{◌≡◌, ◌≤◌, if◌then◌else◌, max, drop}
+use Rattle.s66_isa.specs.Lists.{greatest}
+use Rattle.s66_isa.specs.Table.{Reg, same_reg}
+use Rattle.s66_model.specs.Timing.{ResultAt}
+use Rattle.s66_isa.specs.Registers.{word_of}
+use Rattle.s66_checker.proofs.replay.words.RegisterWords.raise_results.Given as goal
+
+abbrev pub invariant-loop-done : goal.invariant-loop-done
+invariant-loop-done l =
+    (r : Reg) → r.digit ≤ 7 → max (word_of l.self.words r) (greatest (λ (d : ResultAt). if same_reg d.reg r then d.time else 0) (drop l.done-index l.results)) ≡ max (word_of l.fn.self.words r) (greatest (λ (d : ResultAt). if same_reg d.reg r then d.time else 0) l.results)

@@ -1,8 +1,0 @@
-use Rattle.std.proofs.Common.{◌≡◌, ◌≤◌}
-use Rattle.s66_near.proofs.draft.Draft.settle_all.Given as goal
-
-abbrev pub invariant-loop-index : goal.invariant-loop-index
-invariant-loop-index l = record {
-  problem : l.walk.problem ≡ l.fn.walk.problem;
-  nearer : l.self.pairs ≤ l.fn.self.pairs;
-}

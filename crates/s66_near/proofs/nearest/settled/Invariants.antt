@@ -1,9 +1,0 @@
-use Rattle.std.proofs.Common.{◌≡◌, ◌≤◌}
-use Rattle.s66_near.specs.Reversed.{reversed}
-use Rattle.s66_near.proofs.nearest.settled.Given as goal
-
-abbrev pub invariant-loop : goal.invariant-loop
-invariant-loop l = record {
-  problem : l.walk.problem ≡ l.fn.walk.problem;
-  nearer : l.draft.pairs ≤ reversed l.timed.numbers;
-}

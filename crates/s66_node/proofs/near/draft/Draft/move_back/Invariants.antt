@@ -1,0 +1,13 @@
+use Rattle.std.proofs.Common.{◌≡◌, ◌≤◌, length}
+use Rattle.s66_node.specs.Reversed.{reversed}
+use Rattle.s66_node.proofs.near.draft.Draft.move_back.Given as goal
+
+abbrev pub invariant-loop-place : goal.invariant-loop-place
+invariant-loop-place l =
+    record {
+      problem : l.walk.problem ≡ l.fn.walk.problem;
+      as_many : length l.self.numbers.items ≡ length l.fn.self.numbers.items;
+      as_long : length l.numbers.items ≡ length l.fn.self.numbers.items;
+      counted : l.pairs ≡ reversed l.numbers.items;
+      nearer : l.self.pairs ≤ l.fn.self.pairs;
+    }

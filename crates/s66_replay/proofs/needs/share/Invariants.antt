@@ -1,6 +1,0 @@
-use Rattle.std.proofs.Common.{◌≡◌, drop}
-use Rattle.s66_model.specs.Dependence.{share}
-use Rattle.s66_replay.proofs.needs.share.Given as goal
-
-abbrev pub invariant-loop-register : goal.invariant-loop-register
-invariant-loop-register l = share (drop l.register-index l.registers) l.others ≡ share l.registers l.others

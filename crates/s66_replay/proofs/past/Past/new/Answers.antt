@@ -1,5 +1,0 @@
-use Rattle.s66_replay.proofs.WordsOfPoints.{past-start}
-use Rattle.s66_replay.proofs.past.Past.new.Goals as goal
-
-pub invariant_of-result : goal.invariant_of-result
-invariant_of-result c = past-start _ _ _ c.new.ensures c.new-2.ensures c.new-3.ensures

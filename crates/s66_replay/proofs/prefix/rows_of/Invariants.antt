@@ -1,9 +1,0 @@
-use Rattle.std.proofs.Common.{◌≡◌, map, take, length}
-use Rattle.s66_isa.specs.Table.{row}
-use Rattle.s66_replay.proofs.prefix.rows_of.Given as goal
-
-abbrev pub invariant-loop-instr : goal.invariant-loop-instr
-invariant-loop-instr l = record {
-  rows : l.rows.items ≡ map (row l.profile) (take l.instr-index l.block);
-  count : length l.rows.items ≡ l.instr-index;
-}

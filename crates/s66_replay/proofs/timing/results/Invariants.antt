@@ -1,6 +1,0 @@
-use Rattle.std.proofs.Common.{◌≡◌, map, take}
-use Rattle.s66_model.specs.Timing.{result_at}
-use Rattle.s66_replay.proofs.timing.results.Given as goal
-
-abbrev pub invariant-loop-write : goal.invariant-loop-write
-invariant-loop-write l = l.results.items ≡ map (result_at l.past l.start) (take l.write-index l.writes)

@@ -1,6 +1,0 @@
-use Rattle.std.proofs.Common.{arith}
-use Rattle.s66_replay.proofs.WordsOfPoints.{free-with}
-use Rattle.s66_replay.proofs.words.FreeTimes.with.Goals as goal
-
-pub returns : goal.returns
-returns c = λ busy are. free-with busy c.args.self.now _ c.args.free are c.max.ensures (omega (arith, c.max-2.ensures, c.min.ensures))

@@ -1,4 +1,0 @@
-pub mod Dominating
-pub mod Checked
-pub mod KeptPrefix
-pub mod PastWords

@@ -1,0 +1,12 @@
+use Rattle.std.proofs.Common.{ℕ, ◌≡◌, take}
+use Rattle.s66_isa.specs.Lists.{has}
+use Rattle.s66_model.specs.LegalOrder.{IsBeginning}
+use Rattle.s66_line.specs.Block.{instrs_of}
+use Rattle.s66_time.specs.Members.{numbers_in}
+use Rattle.s66_time.proofs.graph.beginning.beginning_length.Given as goal
+
+abbrev pub invariant-loop-position : goal.invariant-loop-position
+invariant-loop-position l = record {
+  placed : (m : ℕ) → has m (numbers_in l.placed) ≡ has m (take l.position l.numbers);
+  beginning : IsBeginning (instrs_of l.block) (take l.position l.numbers);
+}
