@@ -43,7 +43,7 @@ const SHORTER_SHARE: usize = 2;
 
 /// An answer that facts show, by a document which the checker accepts.
 #[derive(Drop)]
-pub(crate) struct ByFacts {
+pub struct ByFacts {
     order: Order,
     document: Document,
     /// The total of the source order, in minor cycles.
@@ -54,7 +54,7 @@ pub(crate) struct ByFacts {
 
 /// An answer of a search.
 #[derive(Drop)]
-pub(crate) struct BySearch {
+pub struct BySearch {
     answer: Answer,
     /// How often orders were split, in this search and those beside it.
     splits: u32,

@@ -17,7 +17,7 @@ mod share;
 mod turns;
 
 pub use answered::{Answered, keep_answers, text_of_answers};
-pub use answers::Found;
+pub use answers::{ByFacts, BySearch, Found};
 pub use documents::document_of;
 pub use kept::{BlockAnswer, Keep};
 pub use observer::{Observer, Silent};
