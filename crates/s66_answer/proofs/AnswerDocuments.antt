@@ -31,7 +31,7 @@ use Rattle.s66_model.proofs.Growth.{total-le}
 use Rattle.s66_model.proofs.LegalOrders.{legal-order, ready-parts}
 use Rattle.s66_model.proofs.Remaining.{among-ready, legal-parts, ready-among, remaining-parts, rest-first, step-begins}
 use Rattle.s66_cert.specs.declared.limits.TheConstants.{SPLIT_LIMIT, TIME_LIMIT}
-use Rattle.s66_tree.specs.Lines.{has_dominated_line}
+use Rattle.s66_model.specs.Lines.{has_dominated_line}
 use Rattle.s66_cert.specs.Document.{AreIn, AreInstructions, AreNumbers, IsDocument, IsLeafLine, SiblingsFit, TreeFits, is_factual, has_dominated, has_factual, names_nodes}
 use Rattle.s66_cert.specs.DocumentParts.{Parts, AreWhole, document_of, tree_of_lines}
 use Rattle.s66_answer.specs.ProvedAnswers.{IsSpelled}

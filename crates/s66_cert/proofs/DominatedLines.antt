@@ -8,7 +8,7 @@ use Rattle.s66_model.specs.declared.rule.Rule.TheVariants.{NoneNamed, ClampedSta
 use Rattle.s66_model.specs.Tree.{Tree, Vertex, AtTerminal, AtSplit, flat}
 use Rattle.s66_model.specs.DominatedLeaves.{Ending, Bounding, Dominated, Next, Turned, AtLine, LoadFrom}
 use Rattle.s66_moments.specs.declared.fact_line.FactStep.{FactStep}
-use Rattle.s66_tree.specs.Lines.{has_dominated_line}
+use Rattle.s66_model.specs.Lines.{has_dominated_line}
 use Rattle.s66_cert.specs.Document.{names_nodes, is_factual, has_dominated, AreFacts, HasItsLeaves}
 use Rattle.s66_cert.specs.Reading.{is_allowed, first_facts}
 

@@ -18,7 +18,7 @@ use Rattle.s66_cert.specs.DocumentParts.{Parts, tree_of_lines}
 use Rattle.s66_cert.specs.declared.version.Version.{Version}
 use Rattle.s66_cert.specs.declared.version.Version.TheVariants.{BoundsAlone}
 use Rattle.s66_cert.specs.Versions.{has_suppositions, version, version_rule, has_facts, may_suppose}
-use Rattle.s66_tree.specs.Lines.{has_dominated_line}
+use Rattle.s66_model.specs.Lines.{has_dominated_line}
 use Rattle.s66_cert.specs.Reading.{end_step, nothing, headed, first_facts, DocumentState, place_of_instruction, place_of_tree, is_leaf_of, is_step_of, step_at, step_if, and_then, steps}
 use Rattle.s66_cert.specs.declared.limits.TheConstants.{FACT_LIMIT}
 use Rattle.s66_cert.specs.declared.error.CertError.{CertError}

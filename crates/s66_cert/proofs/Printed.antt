@@ -11,7 +11,7 @@ use Rattle.s66_cert.specs.Document.{IsLeafLine, SiblingsFit, TreeFits, document_
 use Rattle.s66_cert.specs.Versions.{version, version_number}
 use Rattle.s66_cert.specs.Pages.{AreShort, IsPrinted, opening_lines, claim_lines}
 use Rattle.s66_cert.proofs.Pages.{IsUnderway, printed-here, underway-more}
-use Rattle.s66_tree.specs.Lines.{IsShort}
+use Rattle.s66_model.specs.Lines.{IsShort}
 use Rattle.s66_cert.specs.DocumentParts.{Parts, AreWhole, document_of, tree_of_lines}
 
 -- THE LINES OF A TREE HAVE FEW NUMBERS

@@ -17,7 +17,7 @@ use Rattle.s66_moments.specs.Known.{IsAnchored}
 use Rattle.s66_isa.specs.KindNames.{kind_name}
 use Rattle.s66_line.specs.InstructionText.{IsInstruction}
 use Rattle.s66_isa.specs.declared.limits.TheConstants.{PROFILE_LENGTH, PROFILE_LIMIT}
-use Rattle.s66_tree.specs.Lines.{has_dominated_line}
+use Rattle.s66_model.specs.Lines.{has_dominated_line}
 use Rattle.s66_cert.specs.declared.version.Version.{Version}
 use Rattle.s66_cert.specs.Versions.{version, version_number}
 use Rattle.s66_cert.specs.declared.limits.TheConstants.{TIME_LIMIT, SPLIT_LIMIT, FACT_LIMIT, LINE_LIMIT}

@@ -6,7 +6,7 @@ use Rattle.s66_device.specs.Devices.{Writer, WriteFails}
 use Rattle.s66_model.specs.Tree.{Vertex}
 use Rattle.s66_model.specs.DominatedLeaves.{Ending}
 use Rattle.s66_cert.specs.Versions.{version, version_number}
-use Rattle.s66_tree.specs.Lines.{IsShort}
+use Rattle.s66_model.specs.Lines.{IsShort}
 use Rattle.s66_cert.specs.DocumentParts.{Parts}
 
 -- of what was on the page and of this text after it a front was written, and the rest is on the page

@@ -5,9 +5,8 @@ use crate::indexed_tree::IndexedTree;
 use crate::instruction::InstructionText;
 use arrayvec::ArrayVec;
 use s66_isa::{BLOCK_LIMIT, PROFILE_LENGTH};
-use s66_model::Rule;
+use s66_model::{Rule, Tree, TreeLine, TreeLines};
 use s66_moments::FactStep;
-use s66_tree::{Tree, TreeLine, TreeLines};
 use std::marker::Model;
 
 /// What a document says.
@@ -71,7 +70,7 @@ impl Document {
     ghost use Rattle.std.specs.Prelude.{◌≡◌, []};
     ghost use Rattle.std.specs.Option.{option_map};
     ghost use Rattle.s66_model.specs.NodeNames.{node_named};
-    ghost use Rattle.s66_tree.specs.Lines.{vertex_of};
+    ghost use Rattle.s66_model.specs.Lines.{vertex_of};
     ghost use Rattle.s66_cert.specs.DocumentParts.{AreWhole, document_of};
     ghost use Rattle.s66_cert.specs.NodePlaces.{IsLineAt};
 

@@ -10,7 +10,7 @@ use crate::indexed_tree::sibling_count;
 use crate::limits::{FACT_LIMIT, SPLIT_LIMIT, TIME_LIMIT};
 use crate::ranges::{are_fact_steps, is_vertex};
 use s66_moments::FactStep;
-use s66_tree::Tree;
+use s66_model::Tree;
 use std::marker::Model;
 
 /// Whether lines are those of one whole tree that a document may have, of at most this many splits.

@@ -2,12 +2,12 @@
 //! whole subtrees.
 
 ghost use Rattle.std.specs.Prelude.{◌≡◌, get_or};
-ghost use Rattle.s66_tree.specs.Lines.{vertex_of};
+ghost use Rattle.s66_model.specs.Lines.{vertex_of};
 ghost use Rattle.s66_cert.specs.NodePlaces.{end_behind, sibling_count};
 
 use arrayvec::ArrayVec;
 use s66_isa::BLOCK_LIMIT;
-use s66_tree::{KeptLines, Tree, TreeLine, TreeLines};
+use s66_model::{KeptLines, Tree, TreeLine, TreeLines};
 use std::marker::Model;
 
 /// How many trees follow a line as its children.
@@ -68,7 +68,7 @@ impl IndexedTree {
     ghost use Rattle.std.specs.Prelude.{◌≡◌, ◌<◌, ◌≤◌, ◌^◌, [], length};
     ghost use Rattle.std.specs.Option.{option_map};
     ghost use Rattle.s66_model.specs.NodeNames.{node_named};
-    ghost use Rattle.s66_tree.specs.Lines.{vertex_of};
+    ghost use Rattle.s66_model.specs.Lines.{vertex_of};
     ghost use Rattle.s66_cert.specs.DocumentParts.{tree_of_lines};
     ghost use Rattle.s66_cert.specs.NodePlaces.{IsChildAt, IsBelow, IsLineAt};
 

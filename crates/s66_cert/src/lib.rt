@@ -38,5 +38,5 @@ pub use printing::print;
 pub use reading::read;
 pub use readings::{fault_examples, reading_examples};
 pub use s66_moments::{FactLine, FactStep, LoadLine};
-pub use s66_tree::{Tree, TreeLine, TreeLines};
+pub use s66_model::{Tree, TreeLine, TreeLines};
 pub use text::text_examples;

@@ -5,7 +5,7 @@ use crate::version::Version;
 use arrayvec::ArrayVec;
 use s66_isa::PROFILE_LENGTH;
 use s66_moments::FactStep;
-use s66_tree::TreeLine;
+use s66_model::TreeLine;
 
 /// What a line of a document says.
 #[derive(Drop)]

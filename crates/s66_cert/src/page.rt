@@ -11,14 +11,14 @@ ghost use Rattle.s66_moments.specs.declared.fact_line.FactLine.TheVariants as fa
 ghost use Rattle.s66_moments.specs.declared.fact_line.FactStep.TheVariants as step;
 ghost use Rattle.s66_cert.specs.Document.{moment_text, instructions_text, step_lines, tree_lines};
 ghost use Rattle.s66_cert.specs.Pages.{Printed};
-ghost use Rattle.s66_tree.specs.Lines.{vertex_of, IsShort};
+ghost use Rattle.s66_model.specs.Lines.{vertex_of, IsShort};
 
 use arrayvec::ArrayVec;
 use itoa::Buffer;
 use s66_device::{Sink, WriteError, write_all};
 use s66_isa::{BLOCK_LIMIT, kind_name};
 use s66_moments::{FactLine, FactStep, LoadLine, Moment, Stage};
-use s66_tree::TreeLine;
+use s66_model::TreeLine;
 use std::marker::Model;
 
 /// The bytes of a page.

@@ -13,7 +13,7 @@ use crate::page::Page;
 use crate::version::Version;
 use s66_device::{Sink, WriteError};
 use s66_moments::FactStep;
-use s66_tree::TreeLines;
+use s66_model::TreeLines;
 
 /// Prints what a document has before its instructions.
 fn print_opening(document: &Document, page: &mut Page)

@@ -4,14 +4,14 @@ ghost use Rattle.std.specs.Prelude.{◌≡◌, ◌↔◌, [], ◌∷◌, IsTrue}
 ghost use Rattle.s66_isa.specs.declared.limits.TheConstants.{BLOCK_LIMIT};
 ghost use Rattle.s66_moments.specs.declared.fact_line.FactLine.TheVariants as fact;
 ghost use Rattle.s66_moments.specs.Known.{IsMomentWithin, is_front, is_back};
-ghost use Rattle.s66_tree.specs.Lines.{vertex_of};
+ghost use Rattle.s66_model.specs.Lines.{vertex_of};
 ghost use Rattle.s66_cert.specs.Document.{AreIn, AreNumbers, AreFactSteps, IsFactLine, IsFactStep};
 ghost use Rattle.s66_cert.specs.Lines.{IsVertex};
 
 use crate::limits::{LINE_LIMIT, TIME_LIMIT};
 use s66_isa::BLOCK_LIMIT;
 use s66_moments::{FactLine, FactStep, LoadLine, Moment, Stage};
-use s66_tree::TreeLine;
+use s66_model::TreeLine;
 
 /// Whether a block may have an instruction of this number.
 fn is_number(n: u8) -> bool

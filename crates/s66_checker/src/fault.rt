@@ -7,7 +7,7 @@ ghost use Rattle.s66_isa.specs.declared.limits.TheConstants.{BLOCK_LIMIT};
 ghost use Rattle.s66_model.specs.LegalOrder.{ready};
 ghost use Rattle.s66_model.specs.Leaves.{Whole, Chain, Load, Parcels};
 ghost use Rattle.s66_checker.specs.declared.verdict.Reason.TheVariants as fault;
-ghost use Rattle.s66_tree.specs.Lines.{vertex_of};
+ghost use Rattle.s66_model.specs.Lines.{vertex_of};
 ghost use Rattle.s66_cert.specs.DocumentParts.{document_of};
 ghost use Rattle.s66_checker.specs.KeptKnown.{KnowsAll};
 ghost use Rattle.s66_checker.specs.Verdict.{problem_of, is_complete, line_fault, leaf_fault, dominated_fault, at_line_fault, next_fault, turned_fault, load_from_fault};

@@ -4,7 +4,7 @@
 ghost use Rattle.std.specs.Prelude.{◌≡◌, IsTrue, Some};
 ghost use Rattle.std.specs.Option.{option_map};
 ghost use Rattle.s66_model.specs.DominatedLeaves.{is_standing, may_be_named};
-ghost use Rattle.s66_tree.specs.Lines.{vertex_of};
+ghost use Rattle.s66_model.specs.Lines.{vertex_of};
 ghost use Rattle.s66_cert.specs.DocumentParts.{document_of};
 ghost use Rattle.s66_checker.specs.Verdict.{problem_of, is_early_enough, is_name, is_name_at, name_of, node_on};
 ghost use Rattle.s66_checker.specs.NamedNodes.{IsNodeOn};

@@ -7,7 +7,7 @@ use s66_isa::{BLOCK_LIMIT, KINDS, Kind, Profile};
 use s66_line::Block;
 use s66_node::Walk;
 use s66_time::{Set, Timed};
-use s66_tree::TreeLine;
+use s66_model::TreeLine;
 use std::marker::Model;
 
 /// A walk over the beginnings of a block's legal orders, with the greatest paths of what remains after its prefix.
@@ -35,7 +35,7 @@ impl<'a> Prefix<'a> {
     ghost use Rattle.s66_line.specs.Block.{instrs_of};
     ghost use Rattle.s66_model.specs.LegalOrder.{is_ready, IsIncomplete};
     ghost use Rattle.s66_model.specs.Timing.{total_of};
-    ghost use Rattle.s66_tree.specs.Lines.{vertex_of, IsShort};
+    ghost use Rattle.s66_model.specs.Lines.{vertex_of, IsShort};
 
     /// The empty one, with what follows the stages of each number, n at place n - 1: in time quadratic in the block's length.
     pub fn new(block: &'a Block<'a>, profile: &Profile, tails: &[Tails; BLOCK_LIMIT]) -> Prefix<'a>

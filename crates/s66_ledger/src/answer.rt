@@ -3,10 +3,9 @@
 use crate::lines::push_line;
 use crate::links::Links;
 use s66_line::Block;
-use s66_model::Rule;
+use s66_model::{Rule, Tree};
 use s66_node::{Node, Walk};
 use s66_time::{Order, Timed};
-use s66_tree::Tree;
 use std::alloc::{AllocError, Global};
 use std::marker::Model;
 

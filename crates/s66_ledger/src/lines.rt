@@ -1,4 +1,4 @@
-//! Writes the tree of an answer as lines, in preorder, for a certificate. What a line is stands in `s66_tree`.
+//! Writes the tree of an answer as lines, in preorder, for a certificate. What a line is stands in `s66_model`.
 
 ghost use Rattle.std.specs.Prelude.{◌≡◌, ◌≢◌, ◌<◌, ◌+◌, ◌++◌, [], ◌∷◌, true, length, IfOk, OnOk};
 ghost use Rattle.s66_bound.specs.LeafValues.{leaf_of};
@@ -18,7 +18,7 @@ use crate::path::{name_of, up};
 use s66_bound::Leaf;
 use s66_node::{Node, State, Walk};
 use s66_time::Set;
-use s66_tree::{Tree, TreeLine};
+use s66_model::{Tree, TreeLine};
 use std::alloc::AllocError;
 
 /// Appends the line of a leaf, which leaves out its value.

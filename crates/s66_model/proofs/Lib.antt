@@ -1,3 +1,4 @@
+pub mod Marks
 pub mod AccountLaws
 pub mod OnceCovered
 pub mod LedgerSteps

@@ -1,3 +1,5 @@
+pub mod Lines
+pub mod Marks
 pub mod Accounts
 pub mod Expansion
 pub mod Ledger

@@ -1,7 +1,8 @@
 //! What a reader must believe: packing, dependence, legal orders, their meaning and their timing; lower bounds, dominance, trees and
-//! answers; and the machine of a search (`machine/`). Each law is a function that does nothing, whose contract says it. Examples are such functions too: each clause is one,
-//! under the standard profile if no other is named. Numbers count from 1, parcels from 0; times are minor cycles of 100 ns. There is no
-//! code that schedules here. Each file has the laws about a file of `specs/`. Begin at `specs/Timing.antt` and `timing.rt`.
+//! answers; and the machine of a search (`machine/`). Each law is a function that does nothing, whose contract says it. Examples are such
+//! functions too: each clause is one, under the standard profile if no other is named. Numbers count from 1, parcels from 0; times are
+//! minor cycles of 100 ns. There is no code that schedules here: the lines of a tree (`lines.rt`) are only kept. Each other file has the
+//! laws about a file of `specs/`. Begin at `specs/Timing.antt` and `timing.rt`.
 #![tactic(auto, unfolding(s66_isa::specs::Table::row, crate::specs::Timing::issue_of, crate::specs::Timing::start_of, crate::specs::Timing::point, crate::specs::Dependence::conflict))]
 
 mod answer;
@@ -12,6 +13,7 @@ mod dominated_leaves;
 mod leaves;
 mod legal_order;
 mod limits;
+mod lines;
 mod machine;
 mod meaning;
 mod node_names;
@@ -34,6 +36,7 @@ pub use dominated_leaves::{dominated_examples, dominated_law};
 pub use leaves::{floor_examples, floor_law, leaf_examples, leaf_law};
 pub use legal_order::{beginning_law, order_examples, order_law, same_set_law, source_law};
 pub use limits::{BUDGET_LIMIT, WORKERS_LIMIT};
+pub use lines::{KeptLines, Tree, TreeLine, TreeLines};
 pub use machine::{
     Summed, Ticket, account_examples, account_law, best_whole_examples, claim_examples,
     coverage_examples, coverage_law, ended_examples, ended_law, expansion_examples, expansion_law,

@@ -3,7 +3,7 @@
 
 ghost use Rattle.std.specs.Prelude.{◌≡◌, ◌++◌, true, false, IfNone, IfSome, OnOk};
 ghost use Rattle.s66_moments.specs.Facts.{IsNumber};
-ghost use Rattle.s66_tree.specs.Lines.{vertex_of};
+ghost use Rattle.s66_model.specs.Lines.{vertex_of};
 ghost use Rattle.s66_cert.specs.Document.{is_factual};
 ghost use Rattle.s66_cert.specs.DocumentParts.{document_of};
 ghost use Rattle.s66_checker.specs.Verdict.{problem_of};

@@ -3,7 +3,7 @@
 ghost use Rattle.std.specs.Prelude.{◌≡◌, ◌≤◌};
 ghost use Rattle.s66_isa.specs.Lists.{every, some_of, tally};
 ghost use Rattle.s66_model.specs.Tree.{splits};
-ghost use Rattle.s66_tree.specs.Lines.{vertex_of};
+ghost use Rattle.s66_model.specs.Lines.{vertex_of};
 ghost use Rattle.s66_cert.specs.declared.limits.TheConstants.{SPLIT_LIMIT};
 ghost use Rattle.s66_cert.specs.Document.{has_factual, is_factual};
 ghost use Rattle.s66_cert.specs.DocumentParts.{document_of};

@@ -6,7 +6,7 @@ use crate::reading::{block_of, source_of};
 use s66_deep::{Prefix, Tails};
 use s66_isa::{BLOCK_LIMIT, Profile};
 use s66_line::Block;
-use s66_tree::TreeLine;
+use s66_model::TreeLine;
 use std::process::Abort;
 
 /// Checks the floor of an empty beginning, as paths alone have it too. A leaf says that the first instruction comes too late for this

@@ -7,7 +7,7 @@ use crate::facts::Finder;
 use crate::walk::Prefix;
 use s66_isa::Profile;
 use s66_line::Block;
-use s66_tree::Tree;
+use s66_model::Tree;
 use std::alloc::{AllocError, Global};
 
 /// The tree of one leaf by which no order takes less than this, in minor cycles, if there is one: a path, the work of a kind of unit, the

@@ -24,7 +24,7 @@ use crate::walk::Prefix;
 use s66_isa::{BLOCK_LIMIT, Profile};
 use s66_line::Block;
 use s66_time::Timed;
-use s66_tree::Tree;
+use s66_model::Tree;
 use std::alloc::{AllocError, Global};
 use std::marker::Model;
 

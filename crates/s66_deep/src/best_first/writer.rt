@@ -9,7 +9,7 @@ use crate::best_first::nodes::{Fate, Node, Nodes, ROOT};
 use crate::best_first::trail::Trail;
 use crate::walk::Prefix;
 use s66_isa::BLOCK_LIMIT;
-use s66_tree::{Tree, TreeLine};
+use s66_model::{Tree, TreeLine};
 use std::alloc::{AllocError, Global};
 
 /// How many lines the tree of each node has.

@@ -2,7 +2,7 @@ use Rattle.std.proofs.Common.{◌≡◌, ◌++◌, ◌∷◌, ◌+◌, [], rules
 use Rattle.std.proofs.lemmas.Result.{MatchResult-from_err}
 use Rattle.s66_cert.specs.Document.{tree_lines}
 use Rattle.s66_cert.specs.Pages.{AreShort}
-use Rattle.s66_tree.specs.Lines.{vertex_of}
+use Rattle.s66_model.specs.Lines.{vertex_of}
 use Rattle.s66_cert.proofs.Pages.{IsUnderway, underway-more, underway-begun, printed-behind}
 use Rattle.s66_cert.proofs.Printed.{first-tree-line}
 use Rattle.s66_cert.proofs.printing.print_tree.Goals as goal

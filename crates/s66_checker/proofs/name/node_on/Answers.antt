@@ -3,7 +3,7 @@ use Rattle.std.proofs.lemmas.List.{length-map}
 use Rattle.std.specs.Option.{option_map}
 use Rattle.s66_line.specs.InstructionText.{instr_in_text}
 use Rattle.s66_moments.specs.declared.fact_line.FactStep.{FactStep}
-use Rattle.s66_tree.specs.Lines.{vertex_of}
+use Rattle.s66_model.specs.Lines.{vertex_of}
 use Rattle.s66_cert.specs.DocumentParts.{document_of}
 use Rattle.s66_checker.proofs.LineNodes.{line-before, node-is}
 use Rattle.s66_checker.proofs.name.node_on.Goals as goal

@@ -2,7 +2,7 @@ use Rattle.std.proofs.Common.{◌∙◌, ◌+◌, [], length, refl, sym, ap, ari
 use Rattle.s66_model.specs.Tree.{Vertex}
 use Rattle.s66_model.specs.DominatedLeaves.{Ending}
 use Rattle.s66_moments.specs.declared.fact_line.FactStep.{FactStep}
-use Rattle.s66_tree.specs.Lines.{vertex_of}
+use Rattle.s66_model.specs.Lines.{vertex_of}
 use Rattle.s66_cert.specs.DocumentParts.{document_of}
 use Rattle.s66_checker.specs.Checked.{Checked}
 use Rattle.s66_checker.specs.Verdict.{problem_of}

@@ -1,8 +1,8 @@
 use Rattle.std.proofs.Common.{◌++◌, ◌∙◌, ap, sym}
 use Rattle.std.proofs.lemmas.List.{append-nil}
 use Rattle.std.proofs.lemmas.Result.{IfOk-equal}
-use Rattle.s66_tree.specs.declared.tree.TreeLine.{TreeLine}
-use Rattle.s66_tree.specs.Lines.{vertex_of}
+use Rattle.s66_model.specs.declared.lines.TreeLine.{TreeLine}
+use Rattle.s66_model.specs.Lines.{vertex_of}
 use Rattle.s66_cert.specs.DocumentParts.{Parts, document_of}
 use Rattle.s66_reasons.specs.Reasons.{left_row}
 use Rattle.s66_reasons.specs.Words.{row_text}

@@ -4,7 +4,7 @@ use Rattle.std.proofs.lemmas.Option.{slice_get_within}
 use Rattle.s66_isa.specs.Lists.{Among}
 use Rattle.s66_model.specs.Tree.{Vertex}
 use Rattle.s66_model.specs.DominatedLeaves.{Ending}
-use Rattle.s66_tree.specs.Lines.{vertex_of}
+use Rattle.s66_model.specs.Lines.{vertex_of}
 use Rattle.s66_cert.specs.Document.{tree_placed}
 use Rattle.s66_cert.specs.DocumentParts.{document_of}
 use Rattle.s66_reasons.specs.Reasons.{line_text, lines_text}

@@ -1,7 +1,7 @@
 -- Appending to the lists appends the line.
 use Rattle.std.proofs.Common.{sym, rules}
-use Rattle.s66_tree.proofs.Marks.{kept-append, vertices-append}
-use Rattle.s66_tree.proofs.tree.KeptLines.append.Goals as goal
+use Rattle.s66_model.proofs.Marks.{kept-append, vertices-append}
+use Rattle.s66_model.proofs.lines.KeptLines.append.Goals as goal
 
 pub invariant_of-self-2 : goal.invariant_of-self-2
 invariant_of-self-2 c =

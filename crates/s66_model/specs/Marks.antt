@@ -4,8 +4,8 @@ use Rattle.s66_isa.specs.Lists.{weigh}
 use Rattle.s66_model.specs.Leaves.{Whole, Chain, Load, Parcels}
 use Rattle.s66_model.specs.Tree.{Vertex, AtTerminal, AtSplit}
 use Rattle.s66_model.specs.DominatedLeaves.{Ending, Bounding, Dominated, Next, Turned, AtLine, LoadFrom}
-use Rattle.s66_tree.specs.declared.tree.Mark.{Mark}
-use Rattle.s66_tree.specs.declared.tree.Mark.TheVariants as mark
+use Rattle.s66_model.specs.declared.lines.Mark.{Mark}
+use Rattle.s66_model.specs.declared.lines.Mark.TheVariants as mark
 
 -- how many numbers its line has
 abbrev pub number_count : Mark → ℕ

@@ -1,7 +1,7 @@
 use Rattle.std.proofs.Common.{◌≡◌, drop}
 use Rattle.s66_isa.specs.Lists.{some_of}
-use Rattle.s66_tree.specs.Marks.{is_dominated}
-use Rattle.s66_tree.proofs.tree.some_dominated.Given as goal
+use Rattle.s66_model.specs.Marks.{is_dominated}
+use Rattle.s66_model.proofs.lines.some_dominated.Given as goal
 
 -- none so far
 abbrev pub invariant-loop-mark : goal.invariant-loop-mark

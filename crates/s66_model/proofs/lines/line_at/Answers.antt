@@ -1,8 +1,8 @@
 use Rattle.std.proofs.Common.{refl, ap, sym, ◌∙◌, ◌+◌, ◌∷◌, drop, length, arith}
-use Rattle.s66_tree.specs.Marks.{vertices_of}
-use Rattle.s66_tree.specs.declared.tree.Mark.TheVariants.{Split}
-use Rattle.s66_tree.proofs.Marks.{begin-within, count-within, line-is}
-use Rattle.s66_tree.proofs.tree.line_at.Goals as goal
+use Rattle.s66_model.specs.Marks.{vertices_of}
+use Rattle.s66_model.specs.declared.lines.Mark.TheVariants.{Split}
+use Rattle.s66_model.proofs.Marks.{begin-within, count-within, line-is}
+use Rattle.s66_model.proofs.lines.line_at.Goals as goal
 
 pub split_at-requires : goal.split_at-requires
 split_at-requires c = begin-within c.args.marks.now c.args.numbers.now c.args.begins.now c.args.place (Split 0) c.requires.kept c.requires.within

@@ -4,8 +4,8 @@ use Rattle.s66_isa.specs.declared.limits.TheConstants.{BLOCK_LIMIT}
 use Rattle.s66_model.specs.Leaves.{Whole, Chain, Load, Parcels}
 use Rattle.s66_model.specs.Tree.{Vertex, AtTerminal, AtSplit}
 use Rattle.s66_model.specs.DominatedLeaves.{Ending, Bounding, Dominated, Next, Turned, AtLine, LoadFrom}
-use Rattle.s66_tree.specs.declared.tree.TreeLine.{TreeLine}
-use Rattle.s66_tree.specs.declared.tree.TreeLine.TheVariants as line
+use Rattle.s66_model.specs.declared.lines.TreeLine.{TreeLine}
+use Rattle.s66_model.specs.declared.lines.TreeLine.TheVariants as line
 
 abbrev pub vertex_of : TreeLine → Vertex Ending
 vertex_of (line.Split numbers) = AtSplit numbers.now

@@ -3,10 +3,10 @@ use Rattle.std.proofs.Common.{◌≡◌, ℕ, zero, suc, ◌+◌, ◌≤◌, ◌
 use Rattle.std.proofs.lemmas.List.{take-append-le, drop-append-le, drop-drop, length-drop}
 use Rattle.s66_isa.proofs.Lists.{weigh-append}
 use Rattle.s66_isa.specs.Lists.{some_of, weigh}
-use Rattle.s66_tree.specs.Lines.{has_dominated_line}
-use Rattle.s66_tree.specs.Marks.{number_count, is_dominated, marked, vertices_of, begins_from, HaveTheirNumbers, AreKeptLines}
-use Rattle.s66_tree.specs.declared.tree.Mark.{Mark}
-use Rattle.s66_tree.specs.declared.tree.Mark.TheVariants as mark
+use Rattle.s66_model.specs.Lines.{has_dominated_line}
+use Rattle.s66_model.specs.Marks.{number_count, is_dominated, marked, vertices_of, begins_from, HaveTheirNumbers, AreKeptLines}
+use Rattle.s66_model.specs.declared.lines.Mark.{Mark}
+use Rattle.s66_model.specs.declared.lines.Mark.TheVariants as mark
 
 -- a line has no numbers but its own
 marked-more : (m : Mark) (numbers more : List ℕ) → number_count m ≤ length numbers → marked m (numbers ++ more) ≡ marked m numbers

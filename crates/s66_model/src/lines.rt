@@ -3,8 +3,8 @@
 
 ghost use Rattle.std.specs.Prelude.{◌≡◌, ◌<◌, ◌+◌, ◌∷◌, drop, length};
 ghost use Rattle.s66_isa.specs.Lists.{some_of};
-ghost use Rattle.s66_tree.specs.Lines.{vertex_of};
-ghost use Rattle.s66_tree.specs.Marks.{is_dominated, vertices_of, AreKeptLines};
+ghost use Rattle.s66_model.specs.Lines.{vertex_of};
+ghost use Rattle.s66_model.specs.Marks.{is_dominated, vertices_of, AreKeptLines};
 
 use s66_isa::Kind;
 use std::alloc::{AllocError, Global};
@@ -53,8 +53,8 @@ pub(crate) enum Mark {
 
 impl Mark {
     ghost use Rattle.std.specs.Prelude.{◌≡◌, length};
-    ghost use Rattle.s66_tree.specs.Lines.{vertex_of};
-    ghost use Rattle.s66_tree.specs.Marks.{number_count, is_dominated, marked};
+    ghost use Rattle.s66_model.specs.Lines.{vertex_of};
+    ghost use Rattle.s66_model.specs.Marks.{number_count, is_dominated, marked};
 
     /// How many numbers its line has.
     fn number_count(self) -> usize
@@ -135,7 +135,7 @@ impl Model for KeptLines {
     ghost use Rattle.std.specs.Prelude.{List};
     ghost use Rattle.s66_model.specs.Tree.{Vertex};
     ghost use Rattle.s66_model.specs.DominatedLeaves.{Ending};
-    ghost use Rattle.s66_tree.specs.Marks.{vertices_of, AreKeptLines};
+    ghost use Rattle.s66_model.specs.Marks.{vertices_of, AreKeptLines};
 
     ghost Value = { List (Vertex Ending) };
 
@@ -146,8 +146,8 @@ impl Model for KeptLines {
 
 impl KeptLines {
     ghost use Rattle.std.specs.Prelude.{◌≡◌, ◌<◌, ◌+◌, ◌++◌, [], ◌∷◌, drop, length, OnOk, OnErr};
-    ghost use Rattle.s66_tree.specs.Lines.{vertex_of, IsShort, has_dominated_line};
-    ghost use Rattle.s66_tree.specs.Marks.{number_count, marked};
+    ghost use Rattle.s66_model.specs.Lines.{vertex_of, IsShort, has_dominated_line};
+    ghost use Rattle.s66_model.specs.Marks.{number_count, marked};
 
     /// No lines.
     fn new(alloc: Global) -> KeptLines
@@ -262,7 +262,7 @@ impl Model for Tree {
 
 impl Tree {
     ghost use Rattle.std.specs.Prelude.{◌==◌, ◌≡◌, ◌++◌, [], ◌∷◌, length, OnOk, OnErr};
-    ghost use Rattle.s66_tree.specs.Lines.{vertex_of, IsShort, has_dominated_line};
+    ghost use Rattle.s66_model.specs.Lines.{vertex_of, IsShort, has_dominated_line};
 
     /// No lines.
     pub fn new(alloc: Global) -> Tree
@@ -327,7 +327,7 @@ impl<'a> Model for TreeLines<'a> {
     ghost use Rattle.std.specs.Prelude.{List};
     ghost use Rattle.s66_model.specs.Tree.{Vertex};
     ghost use Rattle.s66_model.specs.DominatedLeaves.{Ending};
-    ghost use Rattle.s66_tree.specs.Marks.{vertices_of, HaveTheirNumbers};
+    ghost use Rattle.s66_model.specs.Marks.{vertices_of, HaveTheirNumbers};
 
     ghost Value = { List (Vertex Ending) };
 
@@ -337,7 +337,7 @@ impl<'a> Model for TreeLines<'a> {
 }
 
 impl<'a> TreeLines<'a> {
-    ghost use Rattle.s66_tree.specs.Lines.{IsNextLine};
+    ghost use Rattle.s66_model.specs.Lines.{IsNextLine};
 
     /// The next line, if there is one.
     pub fn next(&mut self) -> Option<TreeLine<'a>>
