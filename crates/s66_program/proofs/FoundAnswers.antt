@@ -4,7 +4,7 @@ use Rattle.s66_isa.specs.declared.profile.Profile.{Profile}
 use Rattle.s66_line.specs.Block.{Block}
 use Rattle.s66_model.specs.declared.rule.Rule.{Rule}
 use Rattle.s66_command.specs.declared.strategy.Strategy.{Strategy}
-use Rattle.s66_page.specs.FoundOrders.{AreOf}
+use Rattle.s66_views.specs.FoundOrders.{AreOf}
 use Rattle.s66_answer.specs.Answers.{Answer, AreAnswers}
 use Rattle.s66_program.specs.PageText.{all_found}
 

@@ -4,7 +4,7 @@ use Rattle.s66_isa.specs.declared.profile.Profile.{Profile}
 use Rattle.s66_source.specs.Halves.{Halves, halves_of}
 use Rattle.s66_source.specs.LeftAlone.{Reading}
 use Rattle.s66_compare.specs.Compared.{IsCompared}
-use Rattle.s66_page.specs.Pairs.{IsPairsPage}
+use Rattle.s66_views.specs.Pairs.{IsPairsPage}
 use Rattle.s66_answer.specs.declared.outcome.Status.{Status}
 use Rattle.s66_answer.specs.declared.outcome.Status.TheVariants.{Done, Denied}
 use Rattle.s66_program.specs.declared.compare_text.View.{View}

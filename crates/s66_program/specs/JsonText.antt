@@ -6,7 +6,7 @@ use Rattle.s66_line.specs.Block.{instrs_of, Block}
 use Rattle.s66_source.specs.LeftAlone.{Reading}
 use Rattle.s66_command.specs.declared.strategy.Strategy.{Strategy}
 use Rattle.s66_program.specs.Entries.{entries_of, entry_at}
-use Rattle.s66_json.specs.Json.{found_data, json_line}
+use Rattle.s66_views.specs.Json.{found_data, json_line}
 use Rattle.s66_answer.specs.Answers.{Answer, problem_of}
 use Rattle.s66_answer.specs.declared.outcome.Status.{Status}
 use Rattle.s66_answer.specs.OfAnswers.{IsOfAnswers, all_parts}

@@ -6,8 +6,8 @@ use Rattle.s66_source.specs.LeftAlone.{Reading}
 use Rattle.s66_model.specs.declared.rule.Rule.{Rule}
 use Rattle.s66_command.specs.declared.strategy.Strategy.{Strategy}
 use Rattle.s66_program.specs.Entries.{entries_of, entry_at}
-use Rattle.s66_page.specs.FoundOrders.{FoundOrder}
-use Rattle.s66_page.specs.Page.{page_text}
+use Rattle.s66_views.specs.FoundOrders.{FoundOrder}
+use Rattle.s66_views.specs.Page.{page_text}
 use Rattle.s66_answer.specs.Answers.{Answer}
 use Rattle.s66_answer.specs.declared.outcome.Status.{Status}
 use Rattle.s66_answer.specs.OfAnswers.{IsOfAnswers}

@@ -2,7 +2,7 @@
 
 ghost use Rattle.std.specs.Prelude.{◌≡◌, ◌++◌, IfOk, IfSome, OnOk};
 ghost use Rattle.s66_line.specs.Block.{instrs_of};
-ghost use Rattle.s66_json.specs.Json.{found_data, json_line};
+ghost use Rattle.s66_views.specs.Json.{found_data, json_line};
 ghost use Rattle.s66_answer.specs.SearchWithin.{IsSearchWithin};
 ghost use Rattle.s66_program.specs.AsWritten.{as_written};
 ghost use Rattle.s66_program.specs.JsonText.{IsJsonOutput, answer_line, written_line};
@@ -12,7 +12,7 @@ use crate::listing::{Listing, listing_output};
 use s66_answer::{BlockAnswer, Keep, Observer, Output, text_of_answers};
 use s66_command::Strategy;
 use s66_isa::Profile;
-use s66_json::{push_found_line, push_written_line};
+use s66_views::{push_found_line, push_written_line};
 use s66_line::Block;
 use s66_source::Source;
 use s66_time::{Order, Timer};

@@ -9,7 +9,7 @@ use crate::entries::{Entry, entries_of, entry_at};
 use s66_answer::{BlockAnswer, Keep, Observer, Output, blocks_before, keep_answers, shown};
 use s66_command::Strategy;
 use s66_isa::Profile;
-use s66_page::{FoundOrder, push_page};
+use s66_views::{FoundOrder, push_page};
 use s66_source::Source;
 use std::alloc::AllocError;
 use std::sync::Wait;

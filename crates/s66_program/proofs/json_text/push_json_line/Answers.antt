@@ -3,7 +3,7 @@ use Rattle.serde_json.specs.Data.{null}
 use Rattle.s66_line.specs.Block.{instrs_of}
 use Rattle.s66_time.specs.TimedOrder.{TimedOrder}
 use Rattle.s66_program.specs.Entries.{entry_at}
-use Rattle.s66_json.specs.Json.{json_line}
+use Rattle.s66_views.specs.Json.{json_line}
 use Rattle.s66_program.specs.AsWritten.{as_written}
 use Rattle.s66_program.proofs.json_text.push_json_line.Goals as goal
 

@@ -2,8 +2,8 @@ use Rattle.std.proofs.Common.{ℕ, List, [], ◌∷◌, Option, None, Some, Ok, 
 use Rattle.s66_isa.specs.declared.profile.Profile.{Profile}
 use Rattle.s66_line.specs.Block.{Block}
 use Rattle.s66_program.specs.Entries.{entries_of}
-use Rattle.s66_page.specs.FoundOrders.{AreOf, FoundOrder}
-use Rattle.s66_page.specs.Page.{page_text}
+use Rattle.s66_views.specs.FoundOrders.{AreOf, FoundOrder}
+use Rattle.s66_views.specs.Page.{page_text}
 use Rattle.s66_source.specs.LeftAlone.{Reading}
 use Rattle.s66_source.specs.declared.limits.TheConstants.{SOURCE_LINES_LIMIT}
 use Rattle.s66_source.specs.Source.{source_of}

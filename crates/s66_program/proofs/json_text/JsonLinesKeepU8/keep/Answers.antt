@@ -3,7 +3,7 @@ use Rattle.s66_isa.specs.declared.profile.Profile.{Profile}
 use Rattle.s66_time.specs.Ordered.{Ordered}
 use Rattle.s66_line.specs.Block.{instrs_of}
 use Rattle.s66_program.specs.Entries.{entry_at}
-use Rattle.s66_json.specs.Json.{found_data, json_line}
+use Rattle.s66_views.specs.Json.{found_data, json_line}
 use Rattle.s66_answer.specs.Stored.{answer_in}
 use Rattle.s66_program.specs.AsWritten.{as_written}
 use Rattle.s66_program.proofs.json_text.JsonLinesKeepU8.keep.Goals as goal

@@ -1,4 +1,0 @@
-pub mod Examples
-pub mod Json
-pub mod Labels
-pub mod Pieces

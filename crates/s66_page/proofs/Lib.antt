@@ -1,5 +1,0 @@
-pub mod Escaping
-pub mod Pieces
-pub mod Points
-pub mod Rows
-mod Totals

@@ -1,7 +1,0 @@
-use Rattle.std.proofs.Common.{◌≡◌, ◌-◌, ◌++◌, flat_map}
-use Rattle.std.specs.List.{range_with_len}
-use Rattle.s66_page.specs.Page.{tick}
-use Rattle.s66_page.proofs.order.push_ticks.Given as goal
-
-abbrev pub invariant-loop-ten : goal.invariant-loop-ten
-invariant-loop-ten l = l.out.items ++ flat_map tick (range_with_len l.ten (l.count - l.ten)) ≡ l.fn.out.items ++ flat_map tick (range_with_len 0 l.count)

@@ -1,6 +1,0 @@
-use Rattle.std.proofs.Common.{◌≡◌, ◌++◌, drop, flat_map}
-use Rattle.s66_page.specs.Page.{shown_as}
-use Rattle.s66_page.proofs.row.push_stretches.Given as goal
-
-abbrev pub invariant-loop-stretch : goal.invariant-loop-stretch
-invariant-loop-stretch l = l.out.items ++ flat_map (shown_as l.fn.shown) (drop l.stretch-index l.waits) ≡ l.fn.out.items ++ flat_map (shown_as l.fn.shown) l.waits

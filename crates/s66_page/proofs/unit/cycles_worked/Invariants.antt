@@ -1,9 +1,0 @@
-use Rattle.std.proofs.Common.{◌≡◌, ◌≤◌, ◌*◌, ◌^◌, take}
-use Rattle.s66_page.specs.Page.{worked}
-use Rattle.s66_page.proofs.unit.cycles_worked.Given as goal
-
-abbrev pub invariant-loop-work : goal.invariant-loop-work
-invariant-loop-work l = record {
-  value : l.cycles ≡ worked (take l.work-index l.works);
-  few : l.cycles ≤ 2 ^ 32 * l.work-index;
-}

@@ -1,0 +1,10 @@
+pub mod Appended
+pub mod Labels
+pub mod Numbered
+pub mod PointTexts
+pub mod Values
+pub mod Escaping
+pub mod Pieces
+pub mod Points
+pub mod Rows
+mod Totals

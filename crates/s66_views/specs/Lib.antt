@@ -1,0 +1,11 @@
+pub mod JsonExamples
+pub mod Json
+pub mod Labels
+pub mod Pieces
+pub mod Escape
+pub mod PageExamples
+pub mod FoundOrders
+pub mod Page
+pub mod Pairs
+pub mod Rows
+pub mod Still
