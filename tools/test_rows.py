@@ -3,8 +3,9 @@
 
     tools/test_rows.py PROGRAM
 
-The rows are the tables of s66_test/src/program: ROWS of each file of rows/, BAD of rows/profile.rt, ENDS of rows/page.rt,
-REPEATED and ORDERED of src/rows.rt. TOLD of src/rows/remarks.rt is what standard error gets of some of them after a success. Blocks that other tests have too are in src/blocks.rt of s66_test_search. Each row that ends otherwise than it says is printed. The status is 1 if there is one.
+The rows are the tables of s66_test/src/program: ROWS of each file of rows/, BAD of rows/profile.rt, ENDS of rows/page.rt, REPEATED
+and ORDERED of rows.rt. TOLD of rows/remarks.rt is what standard error gets of some of them after a success. Blocks that other tests
+have too are in src/blocks.rt. Each row that ends otherwise than it says is printed. The status is 1 if there is one.
 """
 import glob
 import os
