@@ -9,7 +9,7 @@ use Rattle.s66_model.specs.LegalOrder.{is_ready, ready, IsBeginning, IsIncomplet
 use Rattle.s66_model.specs.Leaves.{floor}
 use Rattle.s66_model.specs.Tree.{AtTerminal, AtSplit, flat}
 use Rattle.s66_model.specs.Later.{children, later}
-use Rattle.s66_model.proofs.TreeLines.{lines-unsplit, lines-split, lines-tree, lines-both}
+use Rattle.s66_model.proofs.VertexLines.{lines-unsplit, lines-split, lines-tree, lines-both}
 use Rattle.s66_model.specs.DominatedLeaves.{Bounding, Dominated}
 use Rattle.s66_model.specs.Ledger as model
 use Rattle.s66_model.specs.NodeTable.{stands_at, is_cut_at, IsTable}

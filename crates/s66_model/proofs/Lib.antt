@@ -9,7 +9,7 @@ pub mod GrownTrees
 pub mod NodeTrees
 pub mod NamedNodes
 pub mod EndedLedgers
-pub mod TreeLines
+pub mod VertexLines
 pub mod Issue
 pub mod Packed
 pub mod LegalOrders

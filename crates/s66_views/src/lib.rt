@@ -1,11 +1,11 @@
-//! Orders of blocks as others read them: a page for a browser (`page/`), and lines of JSON for a program (`json/`). Begin at
-//! `specs/Page.antt`, then `page/page.rt`; or at `specs/Json.antt`, then `json/line.rt`.
+//! Orders of blocks as others read them: a page for a browser (`page/`), and lines of JSON for a program (`json_lines/`). Begin at
+//! `specs/Page.antt`, then `page/page.rt`; or at `specs/Json.antt`, then `json_lines/line.rt`.
 #![tactic(auto)]
 
-mod json;
+mod json_lines;
 mod page;
 
-pub use json::{
+pub use json_lines::{
     bytes_law, found_example, instruction_example, label_example, order_law, profile_example,
     push_found_line, push_written_line, written_example,
 };

@@ -1,5 +1,0 @@
-use Rattle.s66_views.proofs.Labels.{bytes-characters}
-use Rattle.s66_views.proofs.json.laws.bytes_law.Goals as goal
-
-pub returns : goal.returns
-returns c = bytes-characters

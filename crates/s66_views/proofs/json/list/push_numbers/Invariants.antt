@@ -1,7 +1,0 @@
-use Rattle.std.proofs.Common.{◌≡◌, ◌++◌, drop}
-use Rattle.std.specs.Prelude.{nat_lt, decimal}
-use Rattle.s66_views.specs.Pieces.{listed, list_text}
-use Rattle.s66_views.proofs.json.list.push_numbers.Given as goal
-
-abbrev pub invariant-loop-i : goal.invariant-loop-i
-invariant-loop-i l = l.out.items ++ listed decimal (nat_lt 0 l.i) (drop l.i l.numbers) ≡ l.fn.out.items ++ list_text decimal l.numbers

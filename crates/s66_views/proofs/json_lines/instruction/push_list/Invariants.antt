@@ -1,0 +1,12 @@
+use Rattle.std.proofs.Common.{◌≡◌, ◌+◌, ◌-◌, ◌++◌, codes, false, length}
+use Rattle.std.specs.Prelude.{nat_lt}
+use Rattle.s66_isa.specs.Lists.{rising}
+use Rattle.s66_isa.specs.Table.{numbers}
+use Rattle.s66_line.specs.Block.{instrs_of}
+use Rattle.s66_views.specs.Pieces.{instruction_text, listed}
+use Rattle.s66_views.proofs.json_lines.instruction.push_list.Given as goal
+
+abbrev pub invariant-loop-position : goal.invariant-loop-position
+invariant-loop-position l =
+    l.out.items ++ listed (instruction_text l.profile l.block) (nat_lt 0 l.position) (rising (length (instrs_of l.block) - l.position) (l.position + 1))
+    ≡ l.fn.out.items ++ (codes ",\"instructions\":[" ++ listed (instruction_text l.profile l.block) false (numbers (instrs_of l.block)))

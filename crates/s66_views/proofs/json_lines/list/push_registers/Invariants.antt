@@ -1,0 +1,7 @@
+use Rattle.std.proofs.Common.{◌≡◌, ◌++◌, drop}
+use Rattle.std.specs.Prelude.{nat_lt}
+use Rattle.s66_views.specs.Pieces.{listed, list_text, register_text}
+use Rattle.s66_views.proofs.json_lines.list.push_registers.Given as goal
+
+abbrev pub invariant-loop-i : goal.invariant-loop-i
+invariant-loop-i l = l.out.items ++ listed register_text (nat_lt 0 l.i) (drop l.i l.registers) ≡ l.fn.out.items ++ list_text register_text l.registers
