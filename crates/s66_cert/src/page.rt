@@ -17,8 +17,8 @@ use arrayvec::ArrayVec;
 use itoa::Buffer;
 use s66_device::{Sink, WriteError, write_all};
 use s66_isa::{BLOCK_LIMIT, kind_name};
-use s66_moments::{FactLine, FactStep, LoadLine, Moment, Stage};
 use s66_model::TreeLine;
+use s66_moments::{FactLine, FactStep, LoadLine, Moment, Stage};
 use std::marker::Model;
 
 /// The bytes of a page.

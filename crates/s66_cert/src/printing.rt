@@ -12,8 +12,8 @@ use crate::instruction::InstructionText;
 use crate::page::Page;
 use crate::version::Version;
 use s66_device::{Sink, WriteError};
-use s66_moments::FactStep;
 use s66_model::TreeLines;
+use s66_moments::FactStep;
 
 /// Prints what a document has before its instructions.
 fn print_opening(document: &Document, page: &mut Page)

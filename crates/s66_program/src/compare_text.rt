@@ -9,8 +9,8 @@ use crate::fault::Fault;
 use s66_answer::{Output, Status};
 use s66_compare::{Compared, compare};
 use s66_isa::Profile;
-use s66_views::pairs_page;
 use s66_source::{Source, halves_of, read_source_with};
+use s66_views::pairs_page;
 use std::alloc::{AllocError, Global};
 
 /// How two sources are shown.

@@ -23,8 +23,8 @@ use crate::facts::Finder;
 use crate::walk::Prefix;
 use s66_isa::{BLOCK_LIMIT, Profile};
 use s66_line::Block;
-use s66_time::Timed;
 use s66_model::Tree;
+use s66_time::Timed;
 use std::alloc::{AllocError, Global};
 use std::marker::Model;
 

@@ -3,13 +3,13 @@
 ghost use Rattle.std.specs.Prelude.{◌≤◌};
 ghost use Rattle.s66_model.specs.declared.limits.TheConstants.{WORKERS_LIMIT};
 
+use crate::THREE_ALIKE;
 use crate::program::commands::{PLAIN_CHECK, check_output, order_by, prove_by};
 use crate::program::documents::{ONE_DOMINATED, THREE_DOMINATED, THREE_MULTIPLIES};
 use crate::program::verdicts::{Denial, altered, check_denied, check_refused};
 use s66_cert::CertError;
 use s66_model::Rule;
 use s66_program::Status;
-use crate::THREE_ALIKE;
 use std::process::Abort;
 use std::sync::Wait;
 use std::thread::Threads;

@@ -3,9 +3,9 @@
 use crate::program::commands::{PLAIN_CHECK, check_output, prove_by, run};
 use crate::program::documents::{ONE_LOAD, THREE_MULTIPLIES};
 use crate::program::rows::STORE_THEN_LOAD;
+use crate::{MULTIPLIES, SEVEN_MULTIPLIES};
 use s66_model::Rule;
 use s66_program::Status;
-use crate::{MULTIPLIES, SEVEN_MULTIPLIES};
 
 /// A source, and its documents.
 const PROOFS: &[(&str, &str)] = &[

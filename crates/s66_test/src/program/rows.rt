@@ -1,6 +1,8 @@
 //! Runs the rows of `rows/`: words, an input, a status, and what is written. A test of a subcommand is a row there.
 
-use crate::program::running::{GUARD, LINT, ORDER, ORDER_TRACE, PAGE, TIME, check, check_told, run};
+use crate::program::running::{
+    GUARD, LINT, ORDER, ORDER_TRACE, PAGE, TIME, check, check_told, run,
+};
 use crate::program::verdicts::altered;
 use crate::{MULTIPLIES, ONE_LOAD, PACKING_GAP};
 use std::process::Abort;

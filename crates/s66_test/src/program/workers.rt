@@ -3,11 +3,11 @@
 ghost use Rattle.std.specs.Prelude.{◌≤◌};
 ghost use Rattle.s66_model.specs.declared.limits.TheConstants.{WORKERS_LIMIT};
 
+use crate::MULTIPLIES;
 use crate::program::commands::{PLAIN_CHECK, check_output, order_by, prove_by, run};
 use crate::program::documents::THREE_MULTIPLIES;
 use s66_model::Rule;
 use s66_program::Status;
-use crate::MULTIPLIES;
 use std::process::Abort;
 use std::sync::Wait;
 use std::thread::Threads;

@@ -1,8 +1,8 @@
 //! Rows of `deps` and `deps --text`: sources with each sort of dependence.
 
+use crate::ONE_LOAD;
 use crate::program::rows::{B0, Row, STORE_THEN_LOAD, UNPACK_THEN_SHIFT};
 use crate::program::running::DEPS;
-use crate::ONE_LOAD;
 
 const DEPS_TEXT: &[&str] = &["s66", "deps", "--text"];
 

@@ -1,8 +1,8 @@
 //! Rows of `guard`: sources, and these with switches around what is in danger.
 
+use crate::ONE_LOAD;
 use crate::program::rows::Row;
 use crate::program::running::GUARD;
-use crate::ONE_LOAD;
 
 pub(crate) const ROWS: &[Row] = &[
     ("empty input", GUARD, "", 0, ""),

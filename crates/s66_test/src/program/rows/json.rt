@@ -1,8 +1,8 @@
 //! Rows of `json`: a block's line as written and as found, to the byte.
 
+use crate::ONE_LOAD;
 use crate::program::rows::Row;
 use crate::program::running::JSON;
-use crate::ONE_LOAD;
 
 /// Looks for the best order with facts.
 const JSON_DEEP: &[&str] = &["s66", "json", "--order", "--deep"];

@@ -1,8 +1,8 @@
 //! Rows of `lint`: a source for each rule, and the lines that are listed.
 
+use crate::ONE_LOAD;
 use crate::program::rows::{MIXED_SOURCE, Row};
 use crate::program::running::LINT;
-use crate::ONE_LOAD;
 
 pub(crate) const ROWS: &[Row] = &[
     ("empty input", LINT, "", 0, ""),

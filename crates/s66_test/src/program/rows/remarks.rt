@@ -1,8 +1,8 @@
 //! Rows of what standard error gets after a success, of any subcommand.
 
+use crate::ONE_LOAD;
 use crate::program::rows::Row;
 use crate::program::running::{CHECK, COMPARE, COMPARE_CUT, DEPS, ORDER, SUM, TIME, WHY};
-use crate::ONE_LOAD;
 
 const NO_LINE: &str = "no block: the source is empty\n";
 
