@@ -518,7 +518,7 @@ def laws_and_calls(house):
     yield "\n## The public calls that have a contract\n\nThe words say what a type or a call is for; what is proved of it, its contract says. "
     yield f"Not named are those of {listed(sorted(ONLY_SAFE))}.\n\n| For | Contract |\n|---|---|\n"
     for crate in crates():
-        if not crate.startswith(("s66_test_", "s66_tools", "s66_main")) and crate not in ONLY_SAFE:
+        if not crate.startswith(("s66_test", "s66_tools", "s66_main")) and crate not in ONLY_SAFE:
             for public in publics_of(crate, {function.name for function in empty[crate]}):
                 calls = [public.name] if public.calls == [public.name] else [public.name, *public.calls]
                 yield f"| {cell(public.words)} | {listed(calls)} (`{crate}`) |\n"
