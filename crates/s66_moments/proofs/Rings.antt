@@ -8,23 +8,16 @@ use Rattle.s66_model.specs.Timing.{Problem}
 use Rattle.s66_moments.specs.Facts.{IsNumber}
 use Rattle.s66_moments.specs.Networks.{IsPlaced, with_pair, IsTransitive, HasNoRing, place_by}
 use Rattle.s66_model.proofs.Beginnings.{length-rising}
+use Rattle.s66_model.proofs.LegalOrders.{tally-le}
 
 -- COUNTS
-
-tally-length : (test : ℕ → Bool) (ns : List ℕ) → tally test ns ≤ length ns
-tally-length test [] = omega arith
-tally-length test (n ∷ ns) =
-    elim (cases_Bool (test n)) [
-      | inl is ↦ omega (arith, tally-length test ns, cond-true {A = ℕ} (test n) 1 0 is)
-      | inr off ↦ omega (arith, tally-length test ns, cond-false {A = ℕ} (test n) 1 0 off)
-    ]
 
 -- one doesn't pass
 tally-but_one : (test : ℕ → Bool) (k : ℕ) (ns : List ℕ) → Among k ns → test k ≡ false → tally test ns + 1 ≤ length ns
 tally-but_one test k [] among off = absurd among
 tally-but_one test k (n ∷ ns) among off =
     elim among [
-      | inl here ↦ omega (arith, tally-length test ns, cond-false {A = ℕ} (test n) 1 0 (subst (λ x. test x ≡ false) here off))
+      | inl here ↦ omega (arith, tally-le test ns, cond-false {A = ℕ} (test n) 1 0 (subst (λ x. test x ≡ false) here off))
       | inr past ↦
           elim (cases_Bool (test n)) [
             | inl is ↦ omega (arith, tally-but_one test k ns past off, cond-true {A = ℕ} (test n) 1 0 is)

@@ -96,7 +96,7 @@ depends-opens block n m last dep lone =
 
 -- BEFORE AND AFTER A NUMBER
 
-push-cases : (m n : ℕ) (ns : List ℕ) → has m (ns ++ n ∷ []) ≡ true → (m ≡ n) ⊎ (has m ns ≡ true)
+pub push-cases : (m n : ℕ) (ns : List ℕ) → has m (ns ++ n ∷ []) ≡ true → (m ≡ n) ⊎ (has m ns ≡ true)
 push-cases m n ns h =
     elim (or_cases (eqb m n) (has m ns) (sym (has-push m n ns) ∙ h)) [ inl here ↦ inl (eqb-true m n here) | inr before ↦ inr before ]
 
@@ -105,7 +105,7 @@ push-parts m n ns h =
     let (past, new) = or_parts (eqb m n) (has m ns) (sym (has-push m n ns) ∙ h) in
     (λ here. true≢false (sym (eq-eqb m n here) ∙ past), new)
 
-push-more : (m n : ℕ) (ns : List ℕ) → has m ns ≡ true → has m (ns ++ n ∷ []) ≡ true
+pub push-more : (m n : ℕ) (ns : List ℕ) → has m ns ≡ true → has m (ns ++ n ∷ []) ≡ true
 push-more m n ns h = has-push m n ns ∙ or_right (eqb m n) (has m ns) h
 
 -- all that a ready number depends on is placed
