@@ -11,7 +11,7 @@ A part is what stands between `<!-- made by docs/definitions.py -->` and the nex
   them; and the laws and the examples of the crate;
 - ARCHITECTURE.md: the crates, by the heads (`//!`) of their lib.rt: what each is for, and where to begin;
 - FILES.md: the files of each crate's src/, by the first paragraphs of their heads, those of its specs/ and its lemma files, by their
-  first lines. A file without a head or a first line is told;
+  first lines, each with the names that other files may use. A file without a head or a first line is told;
 - PROMISES.md: the laws, and the types and functions that the crates offer, with their calls that have a contract.
 
 A definition without a comment is given by its own text if that is one short line, and else named alone.
@@ -36,6 +36,8 @@ GHOST = re.compile(r"^ *ghost use Rattle\.(s66_\w+)\.specs\.(\w+)\.\{([^}]*)\}",
 EMPTY = re.compile(r"((?:^///.*\n)+)(?:^#\[.*\n)*^pub fn (\w+)\(\)\n((?:^ .*\n)+)^\{\}$", re.MULTILINE)
 TYPE = r"((?:^///.*\n)+)(?:^#\[.*\n)*^pub(?:\(\w+\))? (struct|enum) %s\b(?:.*\{\n((?:(?!\}).*\n)*))?"
 CASE = re.compile(r"((?:^    ///.*\n)*)(?:^    #\[.*\n)*^    (\w+)", re.MULTILINE)
+NAMED = re.compile(r"^(?: {4})?(?:pub(?:\(crate\))? )(?:const )?(?:fn|struct|enum|trait|const) (\w+)|^(?:struct|enum|trait) (\w+)", re.MULTILINE)
+LEMMA = re.compile(r"^ *(?:abbrev |unfoldable )*pub (?:abbrev |record )?([^\s:(){}.]+) :", re.MULTILINE)
 OFFERED = re.compile(r"pub (?:const )?(fn|struct|enum|trait) (\w+)")
 IMPL = re.compile(r"impl(?:<.*?>)? (?:.* for )?([A-Za-z]\w*)")
 EXPORTED = re.compile(r"^pub use (?:\w+::)+(?:\{([^}]*)\}|(\w+));", re.MULTILINE)
@@ -243,6 +245,9 @@ class Specs:
     def definitions(self):
         return [item for item in self.items if isinstance(item, Definition)]
 
+    def names(self):
+        return [item.name for item in self.definitions()]
+
     def source_of(self, word):
         """The crate, the file and the name of the definition that a word of this file means, if it is one of specs/."""
         first, _, second = word.partition(".")
@@ -435,31 +440,34 @@ def crates_of():
 
 
 def source_rows(crate):
-    """The files of a crate's src/, but for that of its head."""
+    """The files of a crate's src/, but for that of its head, each with the names of its types and of what other files may call."""
     for path in sources_of(crate):
         if path != root_of(crate):
-            yield path.removeprefix(f"crates/{crate}/"), Head(path).text
+            names = dict.fromkeys(public or own for public, own in NAMED.findall(read(path)))
+            yield path.removeprefix(f"crates/{crate}/"), Head(path).text, names
 
 
 def lemma_rows(crate):
-    """The lemma files of a crate."""
+    """The lemma files of a crate, each with the names of the lemmas that other files cite."""
     for name in files_in(crate, "proofs"):
-        said = first_comment(read(f"crates/{crate}/proofs/{name}.antt").splitlines())[0]
+        text = read(f"crates/{crate}/proofs/{name}.antt")
+        said = first_comment(text.splitlines())[0]
         if not said:
             raise Wrong(f"crates/{crate}/proofs/{name}.antt: its first line doesn't say what it shows")
-        yield f"proofs/{name}.antt", said
+        yield f"proofs/{name}.antt", said, LEMMA.findall(text)
 
 
 def files_of(house):
     """What FILES.md has after its head: the files of each crate."""
     for crate in crates():
         specs = [house.specs[crate, name] for name in files_in(crate, "specs")]
-        rows = [(f"`{path}`", words) for path, words in source_rows(crate)]
-        rows += [("★ " * file.is_believed() + f"`specs/{file.name}.antt`", file.subject()) for file in specs]
-        rows += [(f"`{path}`", words) for path, words in lemma_rows(crate)]
+        rows = [(f"`{path}`", words, names) for path, words, names in source_rows(crate)]
+        rows += [("★ " * file.is_believed() + f"`specs/{file.name}.antt`", file.subject(), file.names()) for file in specs]
+        rows += [(f"`{path}`", words, names) for path, words, names in lemma_rows(crate)]
         yield f"\n## `{crate}`\n\n{Head(root_of(crate)).text}\n"
         if rows:
-            yield "\n| File | What is in it |\n|---|---|\n" + "".join(f"| {file} | {cell(words)} |\n" for file, words in rows)
+            yield "\n| File | What is in it | Names |\n|---|---|---|\n"
+            yield from (f"| {file} | {cell(words)} | {' '.join(f'`{name}`' for name in names)} |\n" for file, words, names in rows)
 
 
 def first_sentence(comment):

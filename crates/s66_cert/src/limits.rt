@@ -1,4 +1,4 @@
-//! Limits of documents.
+//! Limits of documents: the greatest time and bound, the most splits and fact lines, and the greatest line that a leaf names.
 
 /// The greatest time, and the greatest bound, that a document claims.
 pub const TIME_LIMIT: u32 = 100_000;

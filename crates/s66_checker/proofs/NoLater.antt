@@ -1,4 +1,4 @@
--- The tests of `src/dominance.rt` decide what they state: registers, places in a word, and units, each by itself.
+-- The tests of `src/replay/dominance.rt` decide what they state: registers, places in a word, and units, each by itself.
 use Rattle.std.proofs.Common.{ℕ, ◌≤◌, ◌<◌, ◌≡◌, ◌&&◌, Bool, true, false, max, List, ◌++◌, map, get_or, refl, sym, arith, inl, inr, leb, Decides}
 use Rattle.std.proofs.lemmas.Bool.{and_left, and_right, le-leb, leb-true}
 use Rattle.s66_isa.specs.declared.instr.Kind.{Kind}

@@ -1,5 +1,5 @@
-//! Values of leaves, in minor cycles, and the numbers that are ready.
-//! The leaves are the four bounds without facts: a whole order, a chain, a load, and parcels.
+//! Values of leaves, in minor cycles, and the numbers that are ready. The leaves are the four bounds without facts: a whole order, a
+//! chain, a load, which is the work that remains for a kind of unit, shared by its copies and rounded up, and parcels.
 
 ghost use Rattle.std.specs.Prelude.{◌≡◌, ◌+◌, ◌-◌, ◌*◌, ◌≤◌, ◌<◌, ◌^◌, ◌&&◌, nat_lt, true, length, IfSome};
 ghost use Rattle.s66_isa.specs.declared.limits.TheConstants.{BLOCK_LIMIT};

@@ -1,4 +1,4 @@
--- Times are the same if each of them is.
+-- The longest paths to or from an instruction's moments (`Times`) are the same if each of the five is.
 use Rattle.std.proofs.Common.{ℕ, ◌≡◌, ◌&&◌, Bool, true, true≢false, refl, sym, ap, eqb, ◌∙◌, Option, Some, None}
 use Rattle.std.specs.Option.{option_eq}
 use Rattle.std.proofs.lemmas.Bool.{and_parts, eqb-true, eq-eqb}

@@ -1,4 +1,4 @@
--- A source is printed with switches line by line.
+-- A source is printed with switches around the lines that `guard` marks, line by line, with the reasons of each switch.
 use Rattle.std.proofs.Common.{◌≡◌, ◌≤◌, ◌||◌, ◌&&◌, ◌++◌, ◌∷◌, ℕ, Bool, true, false, not, List, [], length, map, refl, sym, ap, ◌∙◌, arith, append_assoc}
 use Rattle.std.proofs.lemmas.List.{append-nil, length-map}
 use Rattle.s66_isa.specs.Lists.{tally}

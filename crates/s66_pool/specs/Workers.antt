@@ -1,4 +1,4 @@
--- To be believed: what comes back from the workers.
+-- To be believed: what comes back from the workers of a search: each seat that was given out, and a ledger in which the search went on.
 use Rattle.std.specs.Prelude.{ℕ, ◌≡◌, ◌<◌, ◌≤◌, All, List, Vec, length, map, slice_index_or}
 use Rattle.std.specs.declared.alloc.Global.{Global}
 use Rattle.s66_model.specs.Timing.{Problem, total_of}

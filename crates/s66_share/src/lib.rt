@@ -1,6 +1,6 @@
 //! What threads share: a lock whose tokens know what is under it, by its summary; a hint that only falls; and lanes of tickets, from
 //! which others steal. Only the lock waits for another thread. Begin at `lock.rt`, and for lanes at `lanes/owner.rt`; what is promised
-//! is in `specs/Locked.antt` and `specs/Hands.antt`.
+//! is in `specs/Hints.antt` and `specs/Lanes.antt`, and why it holds in `specs/Locked.antt` and `specs/Hands.antt`.
 #![tactic(auto)]
 
 mod hint;

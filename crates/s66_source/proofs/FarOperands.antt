@@ -1,4 +1,4 @@
--- Operands that aren't seen, and what is in doubt, in lines that are printed.
+-- Operands that aren't seen, since they begin in column 30 or later, and lines in doubt, in lines that are printed.
 use Rattle.std.proofs.Common.{◌≡◌, ◌≤◌, ◌<◌, ◌+◌, ◌-◌, ◌&&◌, ◌||◌, ◌++◌, ◌∙◌, ℕ, suc, Bool, true, false, true≢false, if◌then◌else◌, List, [], ◌∷◌, length, max, min, replicate, nat_le, nat_lt, refl, sym, ap, subst, arith, lt-ltb}
 use Rattle.std.proofs.lemmas.Bool.{and_right, leb-false, ltb-false, or_from, or_parts, lt-ltb, ltb-true, lt-leb}
 use Rattle.std.proofs.lemmas.List.{append_assoc, length-append, length-replicate}

@@ -1,4 +1,4 @@
-//! A trial of a supposition with its lines.
+//! A trial of a supposition with some of its lines: whether, with what is known before it, these still show that no order is left.
 
 use crate::facts::arcs::Arcs;
 use crate::facts::copies::copy_of_line;

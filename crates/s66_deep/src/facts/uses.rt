@@ -1,4 +1,4 @@
-//! Whether a load line is right.
+//! Whether a load line is right by the paths that a search knows: the same test as in `s66_facts/src/loads.rt`, unproved.
 
 use crate::facts::ground::Ground;
 use crate::facts::nodes::{Times, issue, start, time_at};
