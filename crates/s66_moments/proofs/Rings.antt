@@ -32,10 +32,10 @@ tally-one test other n h =
       | inr off ↦ omega (arith, cond-false {A = ℕ} (test n) 1 0 off)
     ]
 
-tally-le : (test other : ℕ → Bool) (ns : List ℕ) → ((n : ℕ) → Among n ns → test n ≡ true → other n ≡ true) → tally test ns ≤ tally other ns
-tally-le test other [] each = omega arith
-tally-le test other (n ∷ ns) each =
-    omega (arith, tally-one test other n (each n (inl refl)), tally-le test other ns (λ m among. each m (inr among)))
+tally-within : (test other : ℕ → Bool) (ns : List ℕ) → ((n : ℕ) → Among n ns → test n ≡ true → other n ≡ true) → tally test ns ≤ tally other ns
+tally-within test other [] each = omega arith
+tally-within test other (n ∷ ns) each =
+    omega (arith, tally-one test other n (each n (inl refl)), tally-within test other ns (λ m among. each m (inr among)))
 
 -- one passes the other alone
 tally-less : (test other : ℕ → Bool) (k : ℕ) (ns : List ℕ) → ((n : ℕ) → Among n ns → test n ≡ true → other n ≡ true) → Among k ns → test k ≡ false → other k ≡ true → tally test ns + 1 ≤ tally other ns
@@ -45,7 +45,7 @@ tally-less test other k (n ∷ ns) each among off is =
       | inl here ↦
           omega (
             arith,
-            tally-le test other ns (λ m in_ns. each m (inr in_ns)),
+            tally-within test other ns (λ m in_ns. each m (inr in_ns)),
             cond-false {A = ℕ} (test n) 1 0 (subst (λ x. test x ≡ false) here off),
             cond-true {A = ℕ} (other n) 1 0 (subst (λ x. other x ≡ true) here is),
           )

@@ -17,7 +17,6 @@ use Rattle.s66_node.specs.declared.whole_order.WholeOrder.{WholeOrder}
 use Rattle.s66_node.specs.Walking.{Span, span, IsLeft, IsFound, IsLeast, terminal_by}
 use Rattle.s66_node.specs.declared.grow.Unsplit.{Unsplit}
 use Rattle.s66_node.specs.declared.grow.Unsplit.TheVariants as unsplit
-use Rattle.s66_bound.proofs.ValueBounds.{floor-whole}
 
 -- THE FLOOR OF AN INCOMPLETE PREFIX is no whole order
 

@@ -12,10 +12,10 @@ use Rattle.s66_model.specs.Dependence.{depends, needs, all_needs}
 use Rattle.s66_model.specs.LegalOrder.{is_ready, ready, GoesOn, IsBeginning}
 use Rattle.s66_model.proofs.Beginnings.{length-rising}
 use Rattle.s66_model.proofs.LegalOrders.{has-push, has_push-other, ready-parts, ready-from, needs-each, each-needs, depends-lt, depends-from}
-use Rattle.s66_time.specs.declared.graph.set.Set.{Set}
-use Rattle.s66_time.specs.Members.{numbers_in, no_set}
+use Rattle.s66_isa.specs.declared.set.Set.{Set}
+use Rattle.s66_isa.specs.Members.{numbers_in, no_set}
 use Rattle.s66_time.specs.Opens.{needs_of, is_direct, opens, all_opens}
-use Rattle.s66_time.proofs.Sets.{within-parts, within-from, filter-within, filter-same, numbers_in-filter}
+use Rattle.s66_isa.proofs.Sets.{within-parts, within-from, filter-within, filter-same, numbers_in-filter}
 use Rattle.s66_time.proofs.Readiness.{needs-depends, depends-needs, get_or-needs, needs-at, has-ready}
 
 -- WHAT A NUMBER OPENS

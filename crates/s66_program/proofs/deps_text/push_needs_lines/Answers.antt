@@ -2,7 +2,7 @@ use Rattle.std.proofs.Common.{ℕ, List, ◌≡◌, ◌+◌, ◌-◌, ◌++◌, 
 use Rattle.s66_isa.specs.Lists.{rising}
 use Rattle.s66_line.specs.Block.{instrs_of}
 use Rattle.s66_model.specs.Dependence.{needs}
-use Rattle.s66_time.specs.Members.{numbers_in}
+use Rattle.s66_isa.specs.Members.{numbers_in}
 use Rattle.s66_time.proofs.Readiness.{needs-at}
 use Rattle.s66_program.specs.DepsText.{needs_line, needs_lines}
 use Rattle.s66_program.proofs.deps_text.push_needs_lines.Goals as goal

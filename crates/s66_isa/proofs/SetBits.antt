@@ -8,8 +8,8 @@ use Rattle.std.proofs.lemmas.Nat.{ones_le_self, and_le_l}
 use Rattle.std.proofs.lemmas.Nat.Bits.{bit_at-lt, bit_at_lowest, bit_at-suc, bit_at_and, bit_at_not, bit_at_set_same, bit_at_set_other, same_from_bits_below}
 use Rattle.s66_isa.specs.declared.limits.TheConstants.{BLOCK_LIMIT}
 use Rattle.s66_isa.specs.Lists.{has, rising}
-use Rattle.s66_time.specs.declared.graph.set.Set.{Set}
-use Rattle.s66_time.specs.Members.{bit_of, is_member, numbers_in}
+use Rattle.s66_isa.specs.declared.set.Set.{Set}
+use Rattle.s66_isa.specs.Members.{bit_of, is_member, numbers_in}
 
 -- RISING NUMBERS THAT PASS A TEST
 

@@ -1,6 +1,6 @@
 use Rattle.std.proofs.Common.{bit_and, eqb-true, eq-eqb, arith}
-use Rattle.s66_time.proofs.Bits.{from-shared, shared-low, shared-high}
-use Rattle.s66_time.proofs.graph.set.Set.is_within.Goals as goal
+use Rattle.s66_isa.proofs.SetBits.{from-shared, shared-low, shared-high}
+use Rattle.s66_isa.proofs.set.Set.is_within.Goals as goal
 
 pub returns-then-self-other : goal.returns-then-self-other
 returns-then-self-other c =

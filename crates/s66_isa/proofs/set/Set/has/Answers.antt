@@ -1,7 +1,7 @@
 use Rattle.std.proofs.Common.{◌-◌, ◌==◌, sym, ap, ◌∙◌, arith}
 use Rattle.std.proofs.lemmas.Nat.Bits.{shr_and_one}
-use Rattle.s66_time.proofs.Bits.{has-inside, has-outside, in-low, in-high}
-use Rattle.s66_time.proofs.graph.set.Set.has.Goals as goal
+use Rattle.s66_isa.proofs.SetBits.{has-inside, has-outside, in-low, in-high}
+use Rattle.s66_isa.proofs.set.Set.has.Goals as goal
 
 pub returns-then-n-ge1 : goal.returns-then-n-ge1
 returns-then-n-ge1 c =

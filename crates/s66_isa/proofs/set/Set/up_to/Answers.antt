@@ -1,7 +1,7 @@
 use Rattle.std.proofs.Common.{◌∙◌, ◌≡◌, ◌+◌, ◌||◌, true, refl, eqb, ap, sym, arith}
 use Rattle.s66_isa.specs.Lists.{has}
-use Rattle.s66_time.proofs.Sets.{within, within-none, within-push, filter-every, numbers_in-filter}
-use Rattle.s66_time.proofs.graph.set.Set.up_to.Goals as goal
+use Rattle.s66_isa.proofs.Sets.{within, within-none, within-push, filter-every, numbers_in-filter}
+use Rattle.s66_isa.proofs.set.Set.up_to.Goals as goal
 
 pub loop-position-init : goal.loop-position-init
 loop-position-init c = λ m. ap (has m) c.empty-set.ensures ∙ sym (within-none (λ n. true) m)

@@ -6,11 +6,10 @@ use Rattle.std.proofs.lemmas.Bool.{cases_eq, cases_lt, cond_both, and_parts, and
 use Rattle.std.proofs.lemmas.List.Filters.{length-filter_both}
 use Rattle.s66_isa.specs.declared.limits.TheConstants.{BLOCK_LIMIT}
 use Rattle.s66_isa.specs.Lists.{has, Among, rising}
-use Rattle.s66_isa.proofs.Lists.{rising-among, among-rising, among-has}
-use Rattle.s66_model.proofs.Remaining.{filter-among}
-use Rattle.s66_time.specs.declared.graph.set.Set.{Set}
-use Rattle.s66_time.specs.Members.{numbers_in, is_member}
-use Rattle.s66_time.proofs.Bits.{has-inside_rising, has-outside_rising}
+use Rattle.s66_isa.proofs.Lists.{rising-among, among-rising, among-has, filter-among}
+use Rattle.s66_isa.specs.declared.set.Set.{Set}
+use Rattle.s66_isa.specs.Members.{numbers_in, is_member}
+use Rattle.s66_isa.proofs.SetBits.{has-inside_rising, has-outside_rising}
 
 -- WHEN TWO FILTERED RANGES ARE ONE
 

@@ -3,10 +3,10 @@
 ghost use Rattle.std.specs.Prelude.{ℕ, ◌≡◌, ◌≤◌, ◌==◌, ◌||◌, ◌&&◌, not, ◌↔◌, IsTrue, true, [], ◌∷◌, IfSome, IfNone, length};
 ghost use Rattle.s66_isa.specs.declared.limits.TheConstants.{BLOCK_LIMIT};
 ghost use Rattle.s66_isa.specs.Lists.{has, rising};
-ghost use Rattle.s66_time.specs.Members.{numbers_in};
+ghost use Rattle.s66_isa.specs.Members.{numbers_in};
 
 use arrayvec::ArrayVec;
-use s66_isa::BLOCK_LIMIT;
+use crate::limits::BLOCK_LIMIT;
 
 // two words have a bit for each number of a block
 const _: () = prove!(BLOCK_LIMIT == 2 * u64::BITS as usize);

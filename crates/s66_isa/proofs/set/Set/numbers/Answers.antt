@@ -1,7 +1,7 @@
 use Rattle.std.proofs.Common.{ℕ, suc, ◌≡◌, List, ◌++◌, length, ap, arith, length-append}
-use Rattle.s66_time.specs.Members.{numbers_in}
-use Rattle.s66_time.proofs.Sets.{numbers_in-few}
-use Rattle.s66_time.proofs.graph.set.Set.numbers.Goals as goal
+use Rattle.s66_isa.specs.Members.{numbers_in}
+use Rattle.s66_isa.proofs.Sets.{numbers_in-few}
+use Rattle.s66_isa.proofs.set.Set.numbers.Goals as goal
 
 pub push-requires : goal.push-requires
 push-requires c =

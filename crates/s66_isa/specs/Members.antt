@@ -5,7 +5,7 @@ use Rattle.std.specs.Int.{bit_at}
 use Rattle.std.specs.List.{filter}
 use Rattle.s66_isa.specs.declared.limits.TheConstants.{BLOCK_LIMIT}
 use Rattle.s66_isa.specs.Lists.{rising}
-use Rattle.s66_time.specs.declared.graph.set.Set.{Set}
+use Rattle.s66_isa.specs.declared.set.Set.{Set}
 
 abbrev pub bit_of : Set → ℕ → ℕ
 bit_of set n = if nat_le n 64 then bit_at set.low (n - 1) else bit_at set.high (n - 65)

@@ -4,11 +4,11 @@ use Rattle.std.specs.Int.{w64, bit_at, trailing_zeros}
 use Rattle.std.proofs.lemmas.Bool.{cases_lt, eq-eqb, ne_eqb}
 use Rattle.std.proofs.lemmas.Nat.Bits.{bit_at-zero}
 use Rattle.s66_isa.specs.declared.limits.TheConstants.{BLOCK_LIMIT}
-use Rattle.s66_time.specs.declared.graph.set.Set.{Set}
-use Rattle.s66_time.specs.Members.{bit_of, is_member, numbers_in}
-use Rattle.s66_time.proofs.Bits.{in-low, in-high}
+use Rattle.s66_isa.specs.declared.set.Set.{Set}
+use Rattle.s66_isa.specs.Members.{bit_of, is_member, numbers_in}
+use Rattle.s66_isa.proofs.SetBits.{in-low, in-high}
 use Rattle.s66_isa.proofs.Lowest.{filter-first, lowest-bit}
-use Rattle.s66_time.proofs.Sets.{filter-none}
+use Rattle.s66_isa.proofs.Sets.{filter-none}
 
 -- THE LOWEST NUMBER IS TAKEN OUT
 

@@ -1,6 +1,6 @@
 use Rattle.std.proofs.Common.{arith}
-use Rattle.s66_time.proofs.Lowest.{low-out, high-out, none-left}
-use Rattle.s66_time.proofs.graph.set.Set.pop_first.Goals as goal
+use Rattle.s66_isa.proofs.SetLowest.{low-out, high-out, none-left}
+use Rattle.s66_isa.proofs.set.Set.pop_first.Goals as goal
 
 pub returns-then-self-ne0-clause-some : goal.returns-then-self-ne0-clause-some
 returns-then-self-ne0-clause-some c = low-out c.args.self.now (omega arith) (omega arith)
