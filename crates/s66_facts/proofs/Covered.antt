@@ -12,7 +12,7 @@ use Rattle.s66_moments.specs.Moments.{writes, only_if}
 use Rattle.s66_moments.specs.Facts.{IsNumber}
 use Rattle.s66_facts.specs.declared.direction.Direction.{Direction}
 use Rattle.s66_facts.specs.declared.direction.Direction.TheVariants.{Forward, Backward}
-use Rattle.s66_facts.specs.declared.marked_numbers.MarkedNumbers.{MarkedNumbers}
+use Rattle.s66_isa.specs.declared.set.Set.{Set}
 use Rattle.s66_facts.specs.Marked.{is_marked, is_in, no_marks, before_in}
 use Rattle.s66_facts.specs.Ground.{Ground, IsOrdered}
 use Rattle.s66_facts.specs.Directions.{sooner}
@@ -31,12 +31,12 @@ pub all-near : (b : Problem) (before : ℕ → ℕ → Bool) (n : ℕ) → IsNea
 all-near b before n = record { within = λ m is first. first; enough = λ m is first. inl first }
 
 -- those that are marked
-pub near-by : (b : Problem) (before : ℕ → ℕ → Bool) (near : MarkedNumbers) (n : ℕ) → length b.block ≤ BLOCK_LIMIT → IsNear b before near n → IsNearBy b before (is_marked near) n
+pub near-by : (b : Problem) (before : ℕ → ℕ → Bool) (near : Set) (n : ℕ) → length b.block ≤ BLOCK_LIMIT → IsNear b before near n → IsNearBy b before (is_marked near) n
 near-by b before near n few is =
     record { within = λ m is_m marked. is.within m is_m.0 (omega (arith, is_m.1, few)) marked; enough = is.enough }
 
 -- what stands before another is a number
-pub before-range : (marks : List MarkedNumbers) (m n : ℕ) → before_in marks m n ≡ true → (1 ≤ m) × (m ≤ length marks) × (1 ≤ n) × (n ≤ length marks)
+pub before-range : (marks : List Set) (m n : ℕ) → before_in marks m n ≡ true → (1 ≤ m) × (m ≤ length marks) × (1 ≤ n) × (n ≤ length marks)
 before-range marks m n first =
     let (both, bit) = and_parts (is_in marks m && is_in marks n) (is_marked (get_or marks (n - 1) no_marks) m) first in
     let (in_m, in_n) = and_parts (is_in marks m) (is_in marks n) both in

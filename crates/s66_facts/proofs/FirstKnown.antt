@@ -14,7 +14,7 @@ use Rattle.s66_model.specs.Dependence.{conflict, depends, share}
 use Rattle.s66_moments.specs.Networks.{precedes, precedes_over, IsTransitive, HasNoRing}
 use Rattle.s66_moments.specs.Known.{Known, known_first}
 use Rattle.s66_moments.proofs.Preceders.{precedes-transitive, precedes-no_ring}
-use Rattle.s66_facts.specs.declared.marked_numbers.MarkedNumbers.{MarkedNumbers}
+use Rattle.s66_isa.specs.declared.set.Set.{Set}
 use Rattle.s66_facts.specs.Marked.{is_marked, no_marks, is_in, before_in, IsClosedUpTo}
 use Rattle.s66_facts.specs.Ground.{known_of, IsOrdered}
 use Rattle.s66_model.proofs.PushedBoth.{pair-none}
@@ -71,7 +71,7 @@ module _ (block : List Instr) (o : ℕ) (off : leb 1 o && leb o (length block) �
 
 -- WHAT IS KEPT IS DEPENDENCE
 
-module _ (block : List Instr) (marks : List MarkedNumbers) (count : length marks ≡ length block) (closed : IsClosedUpTo block marks (length block)) where
+module _ (block : List Instr) (marks : List Set) (count : length marks ≡ length block) (closed : IsClosedUpTo block marks (length block)) where
   in-block : (n : ℕ) → is_in marks n ≡ leb 1 n && leb n (length block)
   in-block n = ap (λ k. leb 1 n && leb n k) count
 
@@ -92,10 +92,10 @@ module _ (block : List Instr) (marks : List MarkedNumbers) (count : length marks
   pub before-is : before_in marks ≡ precedes block
   before-is = fun_ext (λ m. fun_ext (λ n. before-at m n))
 
-pub first-known : (b : Problem) (marks : List MarkedNumbers) → length marks ≡ length b.block → IsClosedUpTo b.block marks (length b.block) → known_of (record { problem = b; marks = marks; loads = [] }) ≡ known_first b
+pub first-known : (b : Problem) (marks : List Set) → length marks ≡ length b.block → IsClosedUpTo b.block marks (length b.block) → known_of (record { problem = b; marks = marks; loads = [] }) ≡ known_first b
 first-known b marks count closed = ap {B = Known} (λ f. record { before = f; loads = [] }) (before-is b.block marks count closed)
 
-pub first-ordered : (b : Problem) (marks : List MarkedNumbers) → length b.block ≤ BLOCK_LIMIT → length marks ≡ length b.block → IsClosedUpTo b.block marks (length b.block) → IsOrdered (record { problem = b; marks = marks; loads = [] })
+pub first-ordered : (b : Problem) (marks : List Set) → length b.block ≤ BLOCK_LIMIT → length marks ≡ length b.block → IsClosedUpTo b.block marks (length b.block) → IsOrdered (record { problem = b; marks = marks; loads = [] })
 first-ordered b marks few count closed =
     record {
       few = few;

@@ -5,7 +5,7 @@ use Rattle.std.specs.Int.Count.{ones_step}
 use Rattle.std.proofs.lemmas.Bool.{cases_eq, cases_lt, cond_both, or_from, eqb-false, and_parts, le-leb, lt-leb}
 use Rattle.std.proofs.lemmas.List.Elements.{filter-append}
 use Rattle.std.proofs.lemmas.Nat.{ones_le_self, and_le_l}
-use Rattle.std.proofs.lemmas.Nat.Bits.{bit_at-lt, bit_at_lowest, bit_at-suc, bit_at_and, bit_at_not, bit_at_set_same, bit_at_set_other, same_from_bits_below}
+use Rattle.std.proofs.lemmas.Nat.Bits.{bit_at-lt, bit_at_lowest, bit_at-suc, bit_at_and, bit_at_or, bit_at_not, bit_at_set_same, bit_at_set_other, same_from_bits_below}
 use Rattle.s66_isa.specs.declared.limits.TheConstants.{BLOCK_LIMIT}
 use Rattle.s66_isa.specs.Lists.{has, rising}
 use Rattle.s66_isa.specs.declared.set.Set.{Set}
@@ -108,7 +108,7 @@ with-high set n low high =
       | inr le ↦ rw (le-leb m 64 le, ne_eqb m n (λ e. omega (arith, e, le, low))) refl
     ])
 
--- IN BOTH, WITHOUT ANOTHER, AND WITHIN ANOTHER
+-- IN BOTH, IN EITHER, WITHOUT ANOTHER, AND WITHIN ANOTHER
 
 abbrev And : Set → Set → Set
 And set other = record { low = bit_and set.low other.low; high = bit_and set.high other.high }
@@ -127,6 +127,17 @@ pub both-numbers : (set other : Set) (m : ℕ) → has m (numbers_in (record { l
 both-numbers set other =
     from-members (And set other) set other (λ m b c. b && c) (λ m out. refl)
     (λ m low high. tells-and (bit_of set m) (bit_of other m) (bit_of (And set other) m) (bit-lt set m) (bit-lt other m) (and-bit set other m))
+
+or-member : (set other : Set) (m : ℕ) → is_member (record { low = bit_or set.low other.low; high = bit_or set.high other.high }) m ≡ (is_member set m || is_member other m)
+or-member set other m =
+    elim (cases_lt 64 m) [
+      | inl lt ↦ rw (lt-leb m 64 lt) (grind (arith, bit_at_or set.high other.high (m - 65), bit_at-lt set.high (m - 65), bit_at-lt other.high (m - 65)))
+      | inr le ↦ rw (le-leb m 64 le) (grind (arith, bit_at_or set.low other.low (m - 1), bit_at-lt set.low (m - 1), bit_at-lt other.low (m - 1)))
+    ]
+
+pub either-numbers : (set other : Set) (m : ℕ) → has m (numbers_in (record { low = bit_or set.low other.low; high = bit_or set.high other.high })) ≡ (has m (numbers_in set) || has m (numbers_in other))
+either-numbers set other =
+    from-members (record { low = bit_or set.low other.low; high = bit_or set.high other.high }) set other (λ m b c. b || c) (λ m out. refl) (λ m low high. or-member set other m)
 
 abbrev Not : Set → Set
 Not set = record { low = bit_not w64 set.low; high = bit_not w64 set.high }

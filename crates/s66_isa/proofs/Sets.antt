@@ -1,12 +1,12 @@
 -- The numbers of a set, by a test and as a rising list, for loops that make a set number by number.
-use Rattle.std.proofs.Common.{ℕ, zero, suc, ◌+◌, ◌≤◌, ◌<◌, ◌≡◌, ◌≢◌, Bool, true, false, cond, not, ◌&&◌, ◌||◌, List, [], ◌∷◌, length, refl, sym, subst, ap, arith, inl, inr, ltb, leb, eqb, ◌∙◌}
+use Rattle.std.proofs.Common.{ℕ, zero, suc, ◌+◌, ◌≤◌, ◌<◌, ◌≡◌, ◌≢◌, Bool, true, false, cond, not, ◌&&◌, ◌==◌, ◌||◌, List, [], ◌∷◌, length, refl, sym, subst, ap, arith, inl, inr, ltb, leb, eqb, ◌∙◌}
 use Rattle.std.specs.Cmp.{both_ways}
 use Rattle.std.specs.List.{filter}
 use Rattle.std.proofs.lemmas.Bool.{cases_eq, cases_lt, cond_both, and_parts, and_from, and_left, and_right, or_left, leb-true, ltb-true, le-leb, lt-leb, lt-ltb, le-ltb, eq-eqb, ne_eqb, true≢false}
 use Rattle.std.proofs.lemmas.List.Filters.{length-filter_both}
 use Rattle.s66_isa.specs.declared.limits.TheConstants.{BLOCK_LIMIT}
 use Rattle.s66_isa.specs.Lists.{has, Among, rising}
-use Rattle.s66_isa.proofs.Lists.{rising-among, among-rising, among-has, filter-among}
+use Rattle.s66_isa.proofs.Lists.{rising-among, among-rising, among-has, has-among, filter-among}
 use Rattle.s66_isa.specs.declared.set.Set.{Set}
 use Rattle.s66_isa.specs.Members.{numbers_in, is_member}
 use Rattle.s66_isa.proofs.SetBits.{has-inside_rising, has-outside_rising}
@@ -159,3 +159,16 @@ filter-rises test (suc k) low n m ns is among =
 pub taken-lower : (set rest : Set) (n m : ℕ) → numbers_in set ≡ n ∷ numbers_in rest → Among m (numbers_in rest) → n < m
 unfolding numbers_in
 taken-lower set rest n m is among = filter-rises (is_member set) BLOCK_LIMIT 1 n m (numbers_in rest) is among
+
+-- the others are what is left
+pub taken-out : (set rest : Set) (n : ℕ) → numbers_in set ≡ n ∷ numbers_in rest → (m : ℕ) → has m (numbers_in rest) ≡ (not (m == n) && has m (numbers_in set))
+taken-out set rest n is m =
+    elim (cases_eq m n) [
+      | inl here ↦
+          rw (eq-eqb m n here)
+          (both_ways (has m (numbers_in rest)) false (λ h. absurd (omega (arith, here, taken-lower set rest n m is (has-among m (numbers_in rest) h)))) (λ h. absurd (true≢false (sym h))))
+      | inr apart ↦ rw (ne_eqb m n apart) (sym (ap (has m) is ∙ rw (ne_eqb m n apart) refl))
+    ]
+
+pub taken-there : (set rest : Set) (n : ℕ) → numbers_in set ≡ n ∷ numbers_in rest → has n (numbers_in set) ≡ true
+taken-there set rest n is = ap (has n) is ∙ rw (eq-eqb n n refl) refl

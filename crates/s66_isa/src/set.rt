@@ -88,6 +88,16 @@ impl Set {
         }
     }
 
+    /// The numbers that are in either set.
+    pub fn with_all(&self, other: &Set) -> Set
+        ensures { (m : ℕ) → has m (numbers_in result) ≡ (has m (numbers_in self.now) || has m (numbers_in other.now)) }
+    {
+        Set {
+            low: self.low | other.low,
+            high: self.high | other.high,
+        }
+    }
+
     /// The numbers that are in both sets.
     pub fn both(&self, other: &Set) -> Set
         ensures { (m : ℕ) → has m (numbers_in result) ≡ (has m (numbers_in self.now) && has m (numbers_in other.now)) }

@@ -1,6 +1,6 @@
 use Rattle.std.proofs.Common.{ℕ, ◌-◌, ◌≡◌, ◌≤◌, false, length, get_or}
 use Rattle.s66_facts.specs.Marked.{is_marked, no_marks}
-use Rattle.s66_facts.proofs.marked_numbers.none_each.Given as goal
+use Rattle.s66_facts.proofs.marks.none_each.Given as goal
 
 abbrev pub invariant-loop-position : goal.invariant-loop-position
 invariant-loop-position l = record {
