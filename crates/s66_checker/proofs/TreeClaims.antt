@@ -1,23 +1,16 @@
 -- The lines of a tree are without fault exactly when each split has the ready numbers and each ending shows what it has to.
-use Rattle.std.proofs.Common.{ℕ, ◌≡◌, ◌↔◌, true, List, [], ◌∷◌, ◌++◌, None, refl, inl, inr, subst}
+use Rattle.std.proofs.Common.{ℕ, ◌≡◌, ◌↔◌, List, [], ◌∷◌, ◌++◌, None, refl, inl, inr}
 use Rattle.s66_isa.specs.Lists.{Among}
 use Rattle.s66_model.specs.Timing.{Problem}
-use Rattle.s66_model.specs.LegalOrder.{is_ready, ready, IsBeginning}
+use Rattle.s66_model.specs.LegalOrder.{ready, IsBeginning}
 use Rattle.s66_model.specs.Tree.{Tree, Alone, Parted, Siblings, NoMore, Unsplit, Split, Vertex, AtTerminal, flat_siblings, flat, SiblingsHold, TreeHolds}
 use Rattle.s66_model.specs.DominatedLeaves.{Ending}
-use Rattle.s66_model.proofs.Remaining.{ready-among, step-begins}
+use Rattle.s66_model.proofs.Remaining.{step-begins}
 use Rattle.s66_cert.specs.Document.{Document, SiblingsFit, TreeFits, siblings_placed, tree_placed}
 use Rattle.s66_checker.specs.Verdict.{problem_of, line_fault}
 use Rattle.s66_checker.proofs.Faultless.{split-shows, ready-short}
-use Rattle.s66_model.proofs.AnswerBound.{split-ready}
-use Rattle.s66_isa.proofs.Lists.{among-front}
-use Rattle.s66_isa.proofs.Lists.{among-rest}
-
-AreReady : Problem → List ℕ → List ℕ → Type 0
-AreReady b prefix ns = (n : ℕ) → Among n ns → is_ready b.block prefix n ≡ true
-
-unfolding AreReady
-split-ready b prefix ns e n among = ready-among b.block prefix n (subst (λ ms. Among n ms) e among)
+use Rattle.s66_model.proofs.AnswerBound.{AreReady, split-ready}
+use Rattle.s66_isa.proofs.Lists.{among-front, among-rest}
 
 module _ (d : Document) where
   abbrev b : Problem
@@ -38,7 +31,6 @@ module _ (d : Document) where
   module _ (May : Ending → Type 0) (Shown : List ℕ → Ending → Type 0) (shows : (at : List ℕ) (ending : Ending) → May ending → IsBeginning b.block at → (line_fault d at (AtTerminal ending) ≡ None) ↔ Shown at ending) where
     siblings-show : (limit : ℕ) (siblings : Siblings Ending) (prefix ns : List ℕ) → SiblingsFit limit ns siblings → ((ending : Ending) → Among (AtTerminal ending) (flat_siblings siblings) → May ending) → IsBeginning b.block prefix → AreReady b prefix ns →
         Pass (siblings_placed prefix ns siblings) ↔ SiblingsHold b.block Shown prefix ns siblings
-    unfolding AreReady
     siblings-show limit NoMore prefix [] fit may begins are = ((λ h. tt), λ h. tt)
     siblings-show limit NoMore prefix (n ∷ ns) fit may begins are = absurd fit
     siblings-show limit (Unsplit ending siblings) prefix [] fit may begins are = absurd fit

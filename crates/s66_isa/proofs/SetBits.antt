@@ -5,6 +5,7 @@ use Rattle.std.specs.Int.Count.{ones_step}
 use Rattle.std.proofs.lemmas.Bool.{cases_eq, cases_lt, cond_both, or_from, eqb-false, and_parts, le-leb, lt-leb}
 use Rattle.std.proofs.lemmas.List.Elements.{filter-append}
 use Rattle.std.proofs.lemmas.Nat.{ones_le_self, and_le_l}
+use lib.Bits.{and_comm}
 use Rattle.std.proofs.lemmas.Nat.Bits.{bit_at-lt, bit_at_lowest, bit_at-suc, bit_at_and, bit_at_or, bit_at_not, bit_at_set_same, bit_at_set_other, same_from_bits_below}
 use Rattle.s66_isa.specs.declared.limits.TheConstants.{BLOCK_LIMIT}
 use Rattle.s66_isa.specs.Lists.{has, rising}
@@ -186,6 +187,31 @@ pub shared-high : (set other : Set) → set.high < 2 ^ 64 → IsWithin set other
 shared-high set other fits each =
     same_from_bits_below 64 (bit_and set.high other.high) set.high (omega (arith, fits, and_le_l set.high other.high)) fits
     (λ i lt. at-high (And set other) i ∙ (shared-bit set other each (65 + i) (omega arith) (omega (arith, lt)) ∙ sym (at-high set i)))
+
+-- THE SAME NUMBERS
+
+alike-within : (set other : Set) → ((m : ℕ) → has m (numbers_in set) ≡ has m (numbers_in other)) → IsWithin set other
+alike-within set other same m is = sym (same m) ∙ is
+
+pub alike-low : (set other : Set) → set.low < 2 ^ 64 → other.low < 2 ^ 64 → ((m : ℕ) → has m (numbers_in set) ≡ has m (numbers_in other)) → set.low ≡ other.low
+alike-low set other fits fits2 same =
+    sym (shared-low set other fits (alike-within set other same)) ∙ (and_comm set.low other.low ∙ shared-low other set fits2 (alike-within other set (λ m. sym (same m))))
+
+pub alike-high : (set other : Set) → set.high < 2 ^ 64 → other.high < 2 ^ 64 → ((m : ℕ) → has m (numbers_in set) ≡ has m (numbers_in other)) → set.high ≡ other.high
+alike-high set other fits fits2 same =
+    sym (shared-high set other fits (alike-within set other same)) ∙ (and_comm set.high other.high ∙ shared-high other set fits2 (alike-within other set (λ m. sym (same m))))
+
+-- what is the same of all numbers of a block is the same of all
+pub same-inside : (set other : Set) → ((m : ℕ) → 1 ≤ m → m ≤ BLOCK_LIMIT → has m (numbers_in set) ≡ has m (numbers_in other)) → (m : ℕ) → has m (numbers_in set) ≡ has m (numbers_in other)
+same-inside set other each m =
+    elim (cases_lt m 1) [
+      | inl below ↦ has-outside set m (inl below) ∙ sym (has-outside other m (inl below))
+      | inr low ↦
+          elim (cases_lt BLOCK_LIMIT m) [
+            | inl above ↦ has-outside set m (inr above) ∙ sym (has-outside other m (inr above))
+            | inr high ↦ each m low high
+          ]
+    ]
 
 -- HOW MANY ARE THERE
 

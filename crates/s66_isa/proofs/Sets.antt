@@ -172,3 +172,14 @@ taken-out set rest n is m =
 
 pub taken-there : (set rest : Set) (n : ℕ) → numbers_in set ≡ n ∷ numbers_in rest → has n (numbers_in set) ≡ true
 taken-there set rest n is = ap (has n) is ∙ rw (eq-eqb n n refl) refl
+
+-- without the numbers of a set that has one
+pub without-one : (set one none : Set) (m n : ℕ) → has m (numbers_in one) ≡ (m == n || has m (numbers_in none)) → numbers_in none ≡ [] →
+    (has m (numbers_in set) && not (has m (numbers_in one))) ≡ (not (m == n) && has m (numbers_in set))
+without-one set one none m n with is = rw (with, ap (has m) is) (turned (m == n) (has m (numbers_in set)))
+  where
+    turned : (a b : Bool) → (b && not (a || false)) ≡ (not a && b)
+    turned true true = refl
+    turned true false = refl
+    turned false true = refl
+    turned false false = refl

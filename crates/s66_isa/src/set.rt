@@ -77,6 +77,13 @@ impl Set {
         self.low & other.low == self.low && self.high & other.high == self.high
     }
 
+    /// Whether both sets have the same numbers.
+    pub fn is_same(&self, other: &Set) -> bool
+        ensures { IsTrue result ↔ ((m : ℕ) → has m (numbers_in self.now) ≡ has m (numbers_in other.now)) }
+    {
+        self.low == other.low && self.high == other.high
+    }
+
     /// The numbers of this set that aren't in the other.
     pub fn without(&self, other: &Set) -> Set
         ensures { (m : ℕ) → has m (numbers_in result) ≡

@@ -293,7 +293,7 @@ impl Prefix {
         requires { self.now.problem ≡ other.now.problem }
         ensures { result ≡ is_same_set self.now.numbers other.now.numbers }
     {
-        self.placed.is_within(&other.placed) && other.placed.is_within(&self.placed)
+        self.placed.is_same(&other.placed)
     }
 
     /// Whether it dominates another beginning of the same block under the same profile, by a rule.
