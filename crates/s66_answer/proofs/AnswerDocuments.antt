@@ -22,7 +22,7 @@ use Rattle.s66_model.specs.declared.rule.Rule.{Rule}
 use Rattle.s66_model.specs.declared.rule.Rule.TheVariants.{NoneNamed, WrittenEarlier, ClampedStanding}
 use Rattle.s66_model.specs.Tree.{Tree, Alone, Parted, Siblings, NoMore, Unsplit, Split, SiblingsHold, TreeHolds, Vertex, AtTerminal, AtSplit, flat, flat_siblings, splits, tree_values}
 use Rattle.s66_model.specs.DominatedLeaves.{Ending, Bounding, Dominated, Next, Turned, AtLine, LoadFrom, DominatesByRule, EndingShows, MayBeDominated, ShowsBy}
-use Rattle.s66_model.proofs.AnswerBound.{answer-shown}
+use Rattle.s66_model.proofs.AnswerBound.{AreReady, answer-shown, split-ready}
 use Rattle.s66_model.proofs.Beginnings.{beginning-front, length-rising}
 use Rattle.s66_model.proofs.Dominating.{length-same}
 use Rattle.s66_model.proofs.Floors.{floor-stands}
@@ -105,12 +105,6 @@ leaf-line b prefix (Chain (n ∷ ns)) few h =
     let walk = walk-in b prefix n ns few h.1 in (omega arith, omega (arith, walk.0, walk.1.0, few), walk.1)
 leaf-line b prefix (Load kind) few h = tt
 leaf-line b prefix Parcels few h = tt
-
-abbrev AreReady : Problem → List ℕ → List ℕ → Type 0
-AreReady b prefix ns = (n : ℕ) → Among n ns → is_ready b.block prefix n ≡ true
-
-split-ready : (b : Problem) (prefix ns : List ℕ) → ns ≡ ready b.block prefix → AreReady b prefix ns
-split-ready b prefix ns e n among = ready-among b.block prefix n (subst (λ ms. Among n ms) e among)
 
 module _ (b : Problem) (few : length b.block ≤ BLOCK_LIMIT) where
   floor-line : (prefix : List ℕ) (leaf : Leaf) → IsBeginning b.block prefix → leaf ≡ floor b prefix → IsLeafLine BLOCK_LIMIT (Bounding leaf)

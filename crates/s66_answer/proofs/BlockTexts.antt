@@ -1,5 +1,5 @@
 -- The texts of a block's instructions, made or appended one after the other.
-use Rattle.std.proofs.Common.{ℕ, suc, ◌+◌, ◌-◌, ◌≡◌, ◌<◌, ◌∙◌, List, [], ◌∷◌, ◌++◌, inl, inr, length, map, ap, sym, subst, arith, append_assoc}
+use Rattle.std.proofs.Common.{ℕ, ◌+◌, ◌-◌, ◌≡◌, ◌<◌, ◌∙◌, List, [], ◌∷◌, ◌++◌, inl, inr, length, map, ap, sym, subst, arith, append_assoc}
 use Rattle.std.proofs.lemmas.Bool.{cases_lt}
 use Rattle.s66_isa.specs.Lists.{rising}
 use Rattle.s66_isa.specs.Table.{instr_at}
@@ -7,13 +7,7 @@ use Rattle.s66_line.specs.Block.{instrs_of, text_of, Block}
 use Rattle.s66_line.specs.InstructionText.{IsTextOf}
 use Rattle.s66_answer.specs.ProvedAnswers.{IsSpelledTo}
 use Rattle.s66_answer.specs.Answers.{texts_of}
-
--- the numbers from a place on, the first of them taken out
-pub rising-next : (n i : ℕ) → i < n → rising (n - i) (i + 1) ≡ (i + 1) ∷ rising (n - (i + 1)) (i + 1 + 1)
-rising-next n i lt =
-    let more : n - i ≡ suc (n - (i + 1)) = omega arith in
-    let next : suc (i + 1) ≡ i + 1 + 1 = omega arith in
-    ap (λ k. rising k (i + 1)) more ∙ ap (λ m. (i + 1) ∷ rising (n - (i + 1)) m) next
+use Rattle.s66_isa.proofs.Lists.{rising-next}
 
 pub spelled-more : (block : Block) (k : ℕ) → IsSpelledTo block k → IsTextOf (text_of block (k + 1)) (instr_at (instrs_of block) (k + 1)) → IsSpelledTo block (k + 1)
 spelled-more block k spelled is n least most =

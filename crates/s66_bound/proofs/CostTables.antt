@@ -6,9 +6,9 @@ use Rattle.std.proofs.Math.Seq.{get_or-append_seam}
 use Rattle.s66_isa.specs.declared.limits.TheConstants.{BLOCK_LIMIT}
 use Rattle.s66_isa.specs.Lists.{has}
 use Rattle.s66_model.specs.Timing.{Problem, row_at}
-use Rattle.s66_time.specs.declared.graph.set.Set.{Set}
-use Rattle.s66_time.specs.Members.{numbers_in}
-use Rattle.s66_time.proofs.Sets.{within, numbers_in-filter}
+use Rattle.s66_isa.specs.declared.set.Set.{Set}
+use Rattle.s66_isa.specs.Members.{numbers_in}
+use Rattle.s66_isa.proofs.Sets.{within, numbers_in-filter}
 use Rattle.s66_bound.specs.declared.cost.Cost.{Cost}
 use Rattle.s66_bound.specs.InstructionCosts.{IsCostOf, AreCosts}
 use Rattle.s66_bound.specs.TableWords.{AreThose}

@@ -3,8 +3,8 @@ use Rattle.std.proofs.Common.{ℕ, ◌+◌, ◌-◌, ◌≤◌, ◌<◌, ◌≡�
 use Rattle.std.proofs.lemmas.Bool.{cases_eq, and_parts, or_left}
 use Rattle.s66_isa.specs.Lists.{least, has, Among}
 use Rattle.s66_isa.proofs.Lists.{least-le, has-among}
-use Rattle.s66_time.specs.declared.graph.set.Set.{Set}
-use Rattle.s66_time.specs.Members.{numbers_in}
+use Rattle.s66_isa.specs.declared.set.Set.{Set}
+use Rattle.s66_isa.specs.Members.{numbers_in}
 use Rattle.s66_bound.specs.LeastWords.{AreEnds}
 
 abbrev pub word : List ℕ → ℕ → ℕ

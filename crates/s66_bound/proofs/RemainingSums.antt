@@ -13,8 +13,8 @@ use Rattle.s66_model.specs.Tails.{longest_tail, tail_remaining, chain_by, spare,
 use Rattle.s66_model.proofs.FloorParts.{sum_remaining-weigh, words-remaining, parcels-static}
 use Rattle.s66_model.proofs.PointTimes.{good-at}
 use Rattle.s66_model.proofs.Remaining.{remaining-parts, remaining-among, among-remaining}
-use Rattle.s66_time.specs.declared.graph.set.Set.{Set}
-use Rattle.s66_time.specs.Members.{numbers_in}
+use Rattle.s66_isa.specs.declared.set.Set.{Set}
+use Rattle.s66_isa.specs.Members.{numbers_in}
 use Rattle.s66_time.specs.Ranks.{IsGreatestWord}
 use Rattle.s66_bound.specs.Ranks.{rank, AreRanks}
 

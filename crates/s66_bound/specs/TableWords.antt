@@ -12,8 +12,8 @@ use Rattle.s66_model.specs.Timing.{Problem, row_at}
 use Rattle.s66_model.specs.LegalOrder.{remaining, IsBeginning}
 use Rattle.s66_model.specs.Leaves.{uses, work_of}
 use Rattle.s66_model.specs.Tails.{longest_tail, spare, HasWritten, HasWords}
-use Rattle.s66_time.specs.declared.graph.set.Set.{Set}
-use Rattle.s66_time.specs.Members.{numbers_in, no_set}
+use Rattle.s66_isa.specs.declared.set.Set.{Set}
+use Rattle.s66_isa.specs.Members.{numbers_in, no_set}
 use Rattle.s66_time.specs.Ticking.{Ticking}
 use Rattle.s66_bound.specs.declared.tables.Tables.{Tables}
 use Rattle.s66_bound.specs.LeastWords.{AreEnds}

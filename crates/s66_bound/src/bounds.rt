@@ -9,9 +9,9 @@ use crate::leaf::Leaf;
 use crate::tables::Tables;
 use crate::values::{floor_value_of, load_of, parcels_of, remaining_numbers};
 use arrayvec::ArrayVec;
-use s66_isa::{BLOCK_LIMIT, Kind, Profile};
+use s66_isa::{BLOCK_LIMIT, Kind, Profile, Set};
 use s66_line::Block;
-use s66_time::{Clock, Set};
+use s66_time::Clock;
 use std::marker::Model;
 
 /// What the lower bounds of all beginnings of a block have in common, worked out once.

@@ -14,8 +14,8 @@ use crate::leaf::Leaf;
 use crate::printed::chain_numbers;
 use crate::tables::Tables;
 use crate::values::{chain_of, load_of};
-use s66_isa::KINDS;
-use s66_time::{Clock, Set};
+use s66_isa::{KINDS, Set};
+use s66_time::Clock;
 
 /// The floor, if something remains and the floor's value is known: the first of the bounds that has it.
 pub(crate) fn floor_of_value(

@@ -3,11 +3,10 @@
 ghost use Rattle.std.specs.Prelude.{◌≡◌, ◌-◌, ◌<◌, ◌≤◌, get_or, length};
 ghost use Rattle.s66_isa.specs.Lists.{least};
 ghost use Rattle.s66_isa.specs.declared.limits.TheConstants.{BLOCK_LIMIT};
-ghost use Rattle.s66_time.specs.Members.{numbers_in};
+ghost use Rattle.s66_isa.specs.Members.{numbers_in};
 ghost use Rattle.s66_bound.specs.LeastWords.{AreEnds};
 
-use s66_isa::BLOCK_LIMIT;
-use s66_time::Set;
+use s66_isa::{BLOCK_LIMIT, Set};
 
 /// The least word of these numbers.
 pub(crate) fn least_of(words: &[u32; BLOCK_LIMIT], numbers: &Set) -> u32

@@ -8,7 +8,7 @@ ghost use Rattle.s66_model.specs.Timing.{Problem, row_at};
 ghost use Rattle.s66_model.specs.LegalOrder.{IsBeginning, is_remaining, remaining};
 ghost use Rattle.s66_model.specs.Leaves.{tail, link, is_linked, head, chain, longest_chain};
 ghost use Rattle.s66_model.specs.Tails.{longest_tail, chain_front, walk_after};
-ghost use Rattle.s66_time.specs.Members.{numbers_in};
+ghost use Rattle.s66_isa.specs.Members.{numbers_in};
 ghost use Rattle.s66_time.specs.Ticking.{problem_of, points};
 ghost use Rattle.s66_bound.specs.InstructionCosts.{AreCosts};
 ghost use Rattle.s66_bound.specs.TableWords.{AreRemaining, IsTables};
@@ -16,8 +16,8 @@ ghost use Rattle.s66_bound.specs.TableWords.{AreRemaining, IsTables};
 use crate::cost::{Cost, link};
 use crate::tables::Tables;
 use arrayvec::ArrayVec;
-use s66_isa::BLOCK_LIMIT;
-use s66_time::{Clock, Set};
+use s66_isa::{BLOCK_LIMIT, Set};
+use s66_time::Clock;
 
 /// When an instruction can start at the soonest: in the next slot, or when the last register is done that it reads or writes.
 fn head_of(tables: &Tables, clock: &Clock<'_>, number: u8) -> u32

@@ -9,7 +9,7 @@ ghost use Rattle.s66_model.specs.Timing.{row_at};
 ghost use Rattle.s66_model.specs.LegalOrder.{IsBeginning, sum_remaining};
 ghost use Rattle.s66_model.specs.Leaves.{work_of, over, chain, load, parcels, floor_value};
 ghost use Rattle.s66_model.specs.Tails.{tail_remaining, chain_by};
-ghost use Rattle.s66_time.specs.Members.{numbers_in};
+ghost use Rattle.s66_isa.specs.Members.{numbers_in};
 ghost use Rattle.s66_time.specs.declared.limits.TheConstants.{COPIES_LIMIT, TOTAL_LIMIT};
 ghost use Rattle.s66_time.specs.Ticking.{problem_of};
 ghost use Rattle.s66_bound.specs.Ranks.{AreRanksLeft};
@@ -17,8 +17,8 @@ ghost use Rattle.s66_bound.specs.TableWords.{AreRemaining, HasSingles, IsTables}
 
 use crate::numbers::least_of;
 use crate::tables::Tables;
-use s66_isa::{Kind, Reg, kind_number};
-use s66_time::{Clock, Set};
+use s66_isa::{Kind, Reg, Set, kind_number};
+use s66_time::Clock;
 
 /// The numbers that aren't pushed.
 pub(crate) fn remaining_numbers(tables: &Tables, clock: &Clock<'_>) -> Set

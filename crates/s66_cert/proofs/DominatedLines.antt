@@ -11,14 +11,10 @@ use Rattle.s66_moments.specs.declared.fact_line.FactStep.{FactStep}
 use Rattle.s66_model.specs.Lines.{has_dominated_line}
 use Rattle.s66_cert.specs.Document.{names_nodes, is_factual, has_dominated, AreFacts, HasItsLeaves}
 use Rattle.s66_cert.specs.Reading.{is_allowed, first_facts}
+use Rattle.s66_model.proofs.OnceCovered.{and_true}
+use Rattle.s66_model.proofs.PushedBoth.{and_false}
 
 -- LISTS
-
-pub every-append : {X : Type 0} (test : X → Bool) (xs ys : List X) → every test xs ≡ true → every test ys ≡ true → every test (xs ++ ys) ≡ true
-every-append test [] ys h k = k
-every-append test (x ∷ xs) ys h k =
-    let both = and_parts (test x) (every test xs) h in
-    and_from (test x) (every test (xs ++ ys)) both.0 (every-append test xs ys both.1 k)
 
 pub every-parts : {X : Type 0} (test : X → Bool) (xs ys : List X) → every test (xs ++ ys) ≡ true → (every test xs ≡ true) × (every test ys ≡ true)
 every-parts test [] ys h = (refl, h)
@@ -72,14 +68,6 @@ names-exactly true true allowed none = refl
 names-exactly true false allowed none = absurd (cc)
 names-exactly false true allowed none = allowed refl
 names-exactly false false allowed none = refl
-
-and_true : (b : Bool) → (b && true) ≡ b
-and_true true = refl
-and_true false = refl
-
-and_false : (b : Bool) → (b && false) ≡ false
-and_false true = refl
-and_false false = refl
 
 none-true : (b : Bool) → (b ≡ true → false ≡ true) → b ≡ false
 none-true true h = sym (h refl)

@@ -1,7 +1,6 @@
 -- What a reader read stays in range, and its lines are those of the text.
-use Rattle.std.proofs.Common.{◌≡◌, ◌≤◌, ◌<◌, ◌+◌, ◌-◌, ℕ, suc, false, List, [], ◌∷◌, ◌++◌, length, take, drop, get_or, refl, sym, ap, ◌∙◌, arith, eqb, drop-cons}
+use Rattle.std.proofs.Common.{◌≡◌, ◌≤◌, ◌<◌, ◌+◌, ◌-◌, ℕ, suc, false, List, [], ◌∷◌, length, take, drop, get_or, refl, sym, ap, ◌∙◌, arith, eqb, drop-cons}
 use Rattle.std.proofs.lemmas.Bool.{ne_eqb}
-use Rattle.std.proofs.lemmas.List.Edits.{between_more}
 use Rattle.std.specs.Prelude.{Result, Ok, Err, OnOk}
 use Rattle.s66_isa.specs.declared.limits.TheConstants.{BLOCK_LIMIT}
 use Rattle.s66_cert.specs.Fine.{IsFine}
@@ -12,6 +11,7 @@ use Rattle.s66_cert.specs.declared.limits.TheConstants.{SPLIT_LIMIT}
 use Rattle.s66_cert.specs.declared.error.CertError.{CertError}
 use Rattle.s66_cert.proofs.FirstFault.{outcome-at, ok-count}
 use Rattle.s66_cert.proofs.Sound.{step-fine}
+use Rattle.s66_line.proofs.SignCuts.{one_more}
 
 pub fine-kept : (s new : DocumentState) (result : Result (Unit {0}) CertError) (l : DocumentLine) → IsLineInRange BLOCK_LIMIT l → IsFine SPLIT_LIMIT s → Steps new result (step_at SPLIT_LIMIT s s.place l) → OnOk result (IsFine SPLIT_LIMIT new)
 fine-kept s new (Ok u) l is fine made = step-fine SPLIT_LIMIT s new l is fine made
@@ -30,16 +30,13 @@ cut-newline line text i within newline =
     let next : i + 1 ≡ suc i = omega arith in
     rw (next, rest) (refl, refl)
 
-longer-line : (text : List ℕ) (begin i : ℕ) → begin ≤ i → i < length text → take (i + 1 - begin) (drop begin text) ≡ take (i - begin) (drop begin text) ++ get_or text i 0 ∷ []
-longer-line text begin i begun within = between_more text begin i 0 begun within
-
 pub cut-more : (text : List ℕ) (begin i : ℕ) → begin ≤ i → i < length text → (get_or text i 0 ≡ 10 → ⊥) →
     (whole_lines (take (i - begin) (drop begin text)) (drop i text) ≡ whole_lines (take (i + 1 - begin) (drop begin text)) (drop (i + 1) text))
     × (last_bytes (take (i - begin) (drop begin text)) (drop i text) ≡ last_bytes (take (i + 1 - begin) (drop begin text)) (drop (i + 1) text))
 cut-more text begin i begun within other =
     let next : i + 1 ≡ suc i = omega arith in
     let differs : eqb (get_or text i 0) 10 ≡ false = ne_eqb (get_or text i 0) 10 other in
-    let longer = longer-line text begin i begun within in
+    let longer = one_more text begin i begun within in
     let rest : drop i text ≡ get_or text i 0 ∷ drop (suc i) text = drop-cons text i 0 within in
     rw (longer, next, rest, differs) (refl, refl)
 

@@ -31,11 +31,12 @@ use Rattle.s66_cert.specs.declared.error.CertError.TheVariants.{BadLine, Truncat
 use Rattle.s66_cert.specs.declared.document_place.DocumentPlace.{DocumentPlace}
 use Rattle.s66_cert.specs.declared.document_place.DocumentPlace.TheVariants.{AtHeader, AtProfile, AtBlock, AtInstruction, AtTime, AtBound, AtOrder, AtTree, AtEnd}
 use Rattle.s66_cert.proofs.LineTexts.{line-is}
-use Rattle.s66_cert.proofs.DominatedLines.{AreAllowed, every-append, leaves-whole, leaves-open}
+use Rattle.s66_cert.proofs.DominatedLines.{AreAllowed, leaves-whole, leaves-open}
 use Rattle.s66_cert.proofs.Heads.{version-is, head-own, head-plain, headed-fit, anew-fit, supposed-more}
 use Rattle.s66_model.proofs.Forests.{flat-forest}
 use Rattle.s66_cert.proofs.TextLines.{cut, documents-text}
 use Rattle.s66_cert.proofs.States.{at, place-instruction, place-tree}
+use Rattle.s66_isa.proofs.Lists.{every-append}
 
 -- TREES TO COME
 

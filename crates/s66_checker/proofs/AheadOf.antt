@@ -13,7 +13,7 @@ use Rattle.s66_model.specs.LegalOrder.{GoesOn, IsBeginning}
 use Rattle.s66_model.specs.Dominance.{Clamp, no_clamp, IsSameSet}
 use Rattle.s66_model.proofs.LegalOrders.{ready-parts}
 use Rattle.s66_facts.specs.Marked.{is_marked}
-use Rattle.s66_facts.specs.declared.marked_numbers.MarkedNumbers.{MarkedNumbers}
+use Rattle.s66_isa.specs.declared.set.Set.{Set}
 use Rattle.s66_checker.specs.Dominating.{is_no_later, is_same_set, is_beginning, is_ahead, dominates_by}
 use Rattle.s66_checker.proofs.GoingTo.{goes_on-Decides}
 
@@ -48,7 +48,7 @@ run-within block prefix (m ∷ ns) n goes is =
     ]
 
 -- marks decide whether two beginnings are of one set
-pub set-stated : (block : List Instr) (own other : MarkedNumbers) (ns ms : List ℕ) (stated : Bool) → length block ≤ BLOCK_LIMIT → IsBeginning block ns → IsBeginning block ms →
+pub set-stated : (block : List Instr) (own other : Set) (ns ms : List ℕ) (stated : Bool) → length block ≤ BLOCK_LIMIT → IsBeginning block ns → IsBeginning block ms →
     ((m : ℕ) → 1 ≤ m → m ≤ BLOCK_LIMIT → is_marked own m ≡ has m ns) → ((m : ℕ) → 1 ≤ m → m ≤ BLOCK_LIMIT → is_marked other m ≡ has m ms) →
     IsTrue stated ↔ ((m : ℕ) → 1 ≤ m → m ≤ BLOCK_LIMIT → is_marked own m ≡ is_marked other m) → stated ≡ is_same_set ns ms
 set-stated block own other ns ms stated few begins_ns begins_ms marked_ns marked_ms is =

@@ -1,5 +1,5 @@
 -- What is stated of an instruction that comes after two pasts: that it finds nothing later after one of them.
-use Rattle.std.proofs.Common.{ℕ, ◌+◌, ◌≤◌, ◌<◌, ◌≡◌, ◌∙◌, ◌&&◌, Bool, true, false, cond, max, List, [], ◌∷◌, reverse, refl, sym, ap, leb}
+use Rattle.std.proofs.Common.{ℕ, ◌+◌, ◌≤◌, ◌<◌, ◌≡◌, ◌∙◌, ◌&&◌, Bool, true, false, cond, max, List, reverse, refl, sym, ap, leb}
 use Rattle.std.proofs.lemmas.Bool.{le-leb, lt-leb}
 use Rattle.s66_isa.specs.declared.instr.Kind.{Kind}
 use Rattle.s66_isa.specs.declared.instr.Memory.{Memory}
@@ -10,12 +10,9 @@ use Rattle.s66_model.specs.Timing.{Point, done_at, done_of, memory_wait}
 use Rattle.s66_model.specs.Dominance.{free_times}
 use Rattle.s66_checker.specs.Dominating.{are_results_no_later, are_places_no_later, are_operands_no_later, is_reader_no_later, are_readers_no_later, finds_no_later}
 use Rattle.s66_checker.proofs.Reversed.{greatest-reverse}
+use Rattle.s66_model.proofs.WrittenOrders.{every-same}
 
 -- THE OLDEST FIRST, or the newest
-
-every-same : {X : Type 0} (test other : X → Bool) → ((x : X) → test x ≡ other x) → (xs : List X) → every test xs ≡ every other xs
-every-same test other same [] = refl
-every-same test other same (x ∷ xs) = rw (same x, every-same test other same xs) refl
 
 module _ (xs ys : List Point) where
   done-same : (time : ℕ) (r : Reg) → leb (done_of xs r) (max (done_of ys r) time) ≡ leb (done_of (reverse xs) r) (max (done_of (reverse ys) r) time)

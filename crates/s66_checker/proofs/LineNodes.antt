@@ -2,7 +2,7 @@
 use Rattle.std.proofs.Common.{ℕ, zero, suc, ◌<◌, ◌+◌, ◌-◌, ◌≤◌, ◌≡◌, ◌≢◌, Bool, true, false, ◌&&◌, eqb, ltb, ne_eqb, eq-eqb, length, List, [], ◌∷◌, ◌++◌, Option, None, Some, slice_get, filter, refl, sym, ap, ◌∙◌, subst, inl, inr, arith, append_assoc}
 use Rattle.std.proofs.lemmas.Bool.{cases_Bool, lt-ltb, le-ltb}
 use Rattle.s66_isa.specs.Lists.{Among, rising}
-use Rattle.s66_isa.proofs.Lists.{among-rising}
+use Rattle.s66_isa.proofs.Lists.{among-rising, got-among, split-among, filter-among}
 use Rattle.s66_isa.specs.declared.instr.Instr.{Instr}
 use Rattle.s66_isa.specs.Table.{numbers}
 use Rattle.s66_model.specs.LegalOrder.{is_ready, ready}
@@ -10,8 +10,6 @@ use Rattle.s66_model.specs.Tree.{Tree, Alone, Parted, Siblings, NoMore, Unsplit,
 use Rattle.s66_model.specs.NodeNames.{terminal_at, sibling_at, node_named}
 use Rattle.s66_model.specs.DominatedLeaves.{Ending, Bounding, Dominated, Next, Turned, AtLine, LoadFrom, is_standing}
 use Rattle.s66_model.specs.Stated.{siblings_seen, tree_seen}
-use Rattle.s66_model.proofs.Remaining.{filter-among}
-use Rattle.s66_moments.proofs.Tails.{split-among}
 use Rattle.s66_moments.specs.LineTrees.{LineEnding, is_closed}
 use Rattle.s66_cert.specs.Document.{Document, siblings_placed, tree_placed}
 use Rattle.s66_checker.specs.Dominating.{is_beginning, is_same_set}
@@ -61,11 +59,6 @@ module _ (d : Document) where
       by (Parted numbers siblings) = closed-siblings siblings [] numbers name
 
 -- THE NODE OF A LINE
-
-got-among : {X : Type 0} (xs : List X) (i : ℕ) (x : X) → slice_get xs i ≡ Some x → Among x xs
-got-among [] i x is = absurd cc
-got-among (y ∷ xs) zero x is = inl (sym (cc))
-got-among (y ∷ xs) (suc i) x is = inr (got-among xs i x is)
 
 none-some : {X : Type 0} (x : X) → None ≡ Some x → ⊥
 none-some x is = absurd cc

@@ -1,5 +1,5 @@
 -- The tests of `src/replay/dominance.rt` decide what they state: registers, places in a word, and units, each by itself.
-use Rattle.std.proofs.Common.{ℕ, ◌≤◌, ◌<◌, ◌≡◌, ◌&&◌, Bool, true, false, max, List, [], ◌∷◌, ◌++◌, map, get_or, refl, sym, ap, arith, inl, inr, leb, Decides}
+use Rattle.std.proofs.Common.{ℕ, ◌≤◌, ◌<◌, ◌≡◌, ◌&&◌, Bool, true, false, max, List, ◌++◌, map, get_or, refl, sym, arith, inl, inr, leb, Decides}
 use Rattle.std.proofs.lemmas.Bool.{and_left, and_right, le-leb, leb-true}
 use Rattle.s66_isa.specs.declared.instr.Kind.{Kind}
 use Rattle.s66_isa.specs.declared.instr.Kind.TheVariants.{Boolean, Shift, Add, LongAdd, Multiply, Divide, Increment}
@@ -10,7 +10,7 @@ use Rattle.s66_isa.specs.declared.reg.Reg.{Reg}
 use Rattle.s66_isa.specs.Lists.{Among, rising}
 use Rattle.s66_isa.specs.Registers.{all_registers}
 use Rattle.s66_isa.specs.Table.{a_reg, b_reg, x_reg, copies_of, all_kinds}
-use Rattle.s66_isa.proofs.Lists.{every-each, each-every, among-front, among-rest, rising-among, among-rising}
+use Rattle.s66_isa.proofs.Lists.{every-each, each-every, among-front, among-rest, rising-among, among-rising, among-map}
 use Rattle.s66_model.specs.Timing.{Point}
 use Rattle.s66_model.specs.Dominance.{free_times}
 use Rattle.s66_checker.specs.Dominating.{are_registers_no_later, are_places_no_later, are_units_no_later}
@@ -19,10 +19,6 @@ pub le-Decides : (a b : ℕ) → Decides (leb a b) (a ≤ b)
 le-Decides a b = (leb-true a b, le-leb a b)
 
 -- REGISTERS
-
-among-map : {S T : Type 0} (f : S → T) (x : S) (xs : List S) → Among x xs → Among (f x) (map f xs)
-among-map f x [] among = absurd among
-among-map f x (y ∷ ys) among = elim among [ inl here ↦ inl (ap f here) | inr past ↦ inr (among-map f x ys past) ]
 
 among-all : (bank : Bank) (digit : ℕ) → digit ≤ 7 → Among (record { bank = bank; digit = digit }) all_registers
 among-all A digit low =

@@ -13,23 +13,23 @@ use Rattle.s66_model.proofs.LegalOrders.{ready-parts, has_push-same, has_push-ot
 use Rattle.s66_model.proofs.PointTimes.{points_after-append, points_after-length}
 use Rattle.s66_model.proofs.Remaining.{step-begins}
 use Rattle.s66_facts.specs.Marked.{is_marked}
-use Rattle.s66_facts.specs.declared.marked_numbers.MarkedNumbers.{MarkedNumbers}
+use Rattle.s66_isa.specs.declared.set.Set.{Set}
 use Rattle.s66_checker.specs.KeptPrefix.{with_profile, AreNeeds, AreTimed, IsPrefix}
 use Rattle.s66_checker.proofs.Reversed.{reverse-last}
 use Rattle.s66_checker.proofs.ReadyByNeeds.{beginning-few}
 
-pub prefix-timed : (block : List Instr) (profile : Profile) (rows : List Row) (all : List MarkedNumbers) (placed : MarkedNumbers) (ns : List ℕ) (xs : List Point) → IsPrefix block profile rows all placed ns xs → AreTimed xs
+pub prefix-timed : (block : List Instr) (profile : Profile) (rows : List Row) (all : List Set) (placed : Set) (ns : List ℕ) (xs : List Point) → IsPrefix block profile rows all placed ns xs → AreTimed xs
 prefix-timed block profile rows all placed ns xs is =
     record { problem = record { block = block; profile = profile }; numbers = ns; few = omega (arith, beginning-few block ns is.begins, is.few); timed = is.timed }
 
 -- as many points as numbers
-prefix-length : (block : List Instr) (profile : Profile) (rows : List Row) (all : List MarkedNumbers) (placed : MarkedNumbers) (ns : List ℕ) (xs : List Point) → IsPrefix block profile rows all placed ns xs → length xs ≡ length ns
+prefix-length : (block : List Instr) (profile : Profile) (rows : List Row) (all : List Set) (placed : Set) (ns : List ℕ) (xs : List Point) → IsPrefix block profile rows all placed ns xs → length xs ≡ length ns
 prefix-length block profile rows all placed ns xs is =
     omega (arith, length-reverse xs, ap length is.timed, points_after-length (record { block = block; profile = profile }) [] ns)
 
 -- AT FIRST
 
-pub prefix-start : (block instrs : List Instr) (profile : Profile) (rows : List Row) (all : List MarkedNumbers) (placed : MarkedNumbers) (ns : List ℕ) (xs : List Point) → 1 ≤ length block → length block ≤ BLOCK_LIMIT →
+pub prefix-start : (block instrs : List Instr) (profile : Profile) (rows : List Row) (all : List Set) (placed : Set) (ns : List ℕ) (xs : List Point) → 1 ≤ length block → length block ≤ BLOCK_LIMIT →
     instrs ≡ block → rows ≡ map (row profile) block → AreNeeds block all → ((m : ℕ) → is_marked placed m ≡ false) → ns ≡ [] → xs ≡ [] → IsPrefix instrs profile rows all placed ns xs
 prefix-start block instrs profile rows all placed ns xs some few same known needed unmarked no_number no_point =
     subst (λ is. IsPrefix is profile rows all placed ns xs) (sym same)
@@ -50,7 +50,7 @@ point-under : (block : List Instr) (profile : Profile) (s : List Point) (n : ℕ
 unfolding point Rattle.s66_model.specs.Timing.start_of Rattle.s66_model.specs.Timing.issue_of
 point-under block profile s n r = refl
 
-pub point-next : (block : List Instr) (profile : Profile) (rows : List Row) (all : List MarkedNumbers) (placed : MarkedNumbers) (ns : List ℕ) (xs : List Point) (n : ℕ) (r : Row) (p : Point) → IsPrefix block profile rows all placed ns xs →
+pub point-next : (block : List Instr) (profile : Profile) (rows : List Row) (all : List Set) (placed : Set) (ns : List ℕ) (xs : List Point) (n : ℕ) (r : Row) (p : Point) → IsPrefix block profile rows all placed ns xs →
     r ≡ row_at (record { block = block; profile = profile }) n → p ≡ point (with_profile profile) (reverse xs) n r →
     p ≡ point_of (record { block = block; profile = profile }) (points_of (record { block = block; profile = profile }) ns) n
 point-next block profile rows all placed ns xs n r p is e2 e3 =
@@ -59,13 +59,13 @@ point-next block profile rows all placed ns xs n r p is e2 e3 =
 
 -- A PUSH
 
-pub room-left : (block : List Instr) (profile : Profile) (rows : List Row) (all : List MarkedNumbers) (placed : MarkedNumbers) (ns : List ℕ) (xs : List Point) (n : ℕ) → IsPrefix block profile rows all placed ns xs → is_ready block ns n ≡ true →
+pub room-left : (block : List Instr) (profile : Profile) (rows : List Row) (all : List Set) (placed : Set) (ns : List ℕ) (xs : List Point) (n : ℕ) → IsPrefix block profile rows all placed ns xs → is_ready block ns n ≡ true →
     (length xs < BLOCK_LIMIT) × (length ns < BLOCK_LIMIT)
 room-left block profile rows all placed ns xs n is ready =
     let more : length ns < BLOCK_LIMIT = omega (arith, beginning-few block (ns ++ n ∷ []) (step-begins block ns n is.begins ready), length-append ns (n ∷ []), is.few) in
     (omega (arith, more, prefix-length block profile rows all placed ns xs is), more)
 
-marked-push : (placed more : MarkedNumbers) (ns : List ℕ) (n : ℕ) → ((m : ℕ) → 1 ≤ m → is_marked more m ≡ (m == n || is_marked placed m)) → ((m : ℕ) → 1 ≤ m → m ≤ BLOCK_LIMIT → is_marked placed m ≡ has m ns) →
+marked-push : (placed more : Set) (ns : List ℕ) (n : ℕ) → ((m : ℕ) → 1 ≤ m → is_marked more m ≡ (m == n || is_marked placed m)) → ((m : ℕ) → 1 ≤ m → m ≤ BLOCK_LIMIT → is_marked placed m ≡ has m ns) →
     (m : ℕ) → 1 ≤ m → m ≤ BLOCK_LIMIT → is_marked more m ≡ has m (ns ++ n ∷ [])
 marked-push placed more ns n with marked m low high =
     elim (cases_eq m n) [
@@ -73,7 +73,7 @@ marked-push placed more ns n with marked m low high =
       | inr apart ↦ with m low ∙ rw (ne_eqb m n apart) (marked m low high) ∙ sym (has_push-other m n ns apart)
     ]
 
-pub prefix-push : (block : List Instr) (profile : Profile) (rows : List Row) (all : List MarkedNumbers) (placed : MarkedNumbers) (ns : List ℕ) (xs : List Point) (n : ℕ) (more : MarkedNumbers) (p : Point) (ms : List ℕ) (ys : List Point) →
+pub prefix-push : (block : List Instr) (profile : Profile) (rows : List Row) (all : List Set) (placed : Set) (ns : List ℕ) (xs : List Point) (n : ℕ) (more : Set) (p : Point) (ms : List ℕ) (ys : List Point) →
     IsPrefix block profile rows all placed ns xs → ((m : ℕ) → 1 ≤ m → is_marked more m ≡ (m == n || is_marked placed m)) → is_ready block ns n ≡ true → p ≡ point_of (record { block = block; profile = profile }) (points_of (record { block = block; profile = profile }) ns) n →
     ms ≡ ns ++ n ∷ [] → ys ≡ xs ++ p ∷ [] → IsPrefix block profile rows all more ms ys
 prefix-push block profile rows all placed ns xs n more p ms ys is with ready made e4 e5 =
@@ -101,7 +101,7 @@ last-ready block ns ms n begins e =
     let both = GoesOn-append block [] ms (n ∷ []) (subst (IsBeginning block) e begins) in
     (both.0, both.1.0)
 
-marked-pop : (placed less : MarkedNumbers) (ns : List ℕ) (n : ℕ) → has n ns ≡ false → ((m : ℕ) → 1 ≤ m → m ≤ BLOCK_LIMIT → is_marked less m ≡ (not (m == n) && is_marked placed m)) → ((m : ℕ) → 1 ≤ m → m ≤ BLOCK_LIMIT → is_marked placed m ≡ has m (ns ++ n ∷ [])) →
+marked-pop : (placed less : Set) (ns : List ℕ) (n : ℕ) → has n ns ≡ false → ((m : ℕ) → 1 ≤ m → m ≤ BLOCK_LIMIT → is_marked less m ≡ (not (m == n) && is_marked placed m)) → ((m : ℕ) → 1 ≤ m → m ≤ BLOCK_LIMIT → is_marked placed m ≡ has m (ns ++ n ∷ [])) →
     (m : ℕ) → 1 ≤ m → m ≤ BLOCK_LIMIT → is_marked less m ≡ has m ns
 marked-pop placed less ns n new without marked m low high =
     elim (cases_eq m n) [
@@ -109,7 +109,7 @@ marked-pop placed less ns n new without marked m low high =
       | inr apart ↦ without m low high ∙ rw (ne_eqb m n apart) (marked m low high ∙ has_push-other m n ns apart)
     ]
 
-pub prefix-pop : (block : List Instr) (profile : Profile) (rows : List Row) (all : List MarkedNumbers) (placed : MarkedNumbers) (ns : List ℕ) (xs : List Point) (n : ℕ) (less : MarkedNumbers) (ms : List ℕ) (ys : List Point) →
+pub prefix-pop : (block : List Instr) (profile : Profile) (rows : List Row) (all : List Set) (placed : Set) (ns : List ℕ) (xs : List Point) (n : ℕ) (less : Set) (ms : List ℕ) (ys : List Point) →
     IsPrefix block profile rows all placed ns xs → ((m : ℕ) → 1 ≤ m → m ≤ BLOCK_LIMIT → is_marked less m ≡ (not (m == n) && is_marked placed m)) → ns ≡ ms ++ n ∷ [] → ys ≡ take (length xs - 1) xs → IsPrefix block profile rows all less ms ys
 prefix-pop block profile rows all placed ns xs n less ms ys is without e1 e2 =
     let (begins, ready) = last-ready block ns ms n is.begins e1 in

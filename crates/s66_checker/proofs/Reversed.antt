@@ -2,8 +2,8 @@
 -- first.
 use Rattle.std.proofs.Common.{ℕ, ◌+◌, ◌-◌, ◌<◌, ◌≡◌, Bool, List, [], ◌∷◌, length, take, get_or, reverse, refl, sym, ap, arith, ◌∙◌}
 use Rattle.std.proofs.lemmas.List.{reverse-append, take_more, take_all}
-use Rattle.s66_isa.specs.Lists.{greatest, tally, weigh}
-use Rattle.s66_isa.proofs.Lists.{greatest-append, tally-append, weigh-append}
+use Rattle.s66_isa.specs.Lists.{greatest, tally}
+use Rattle.s66_isa.proofs.Lists.{greatest-append, tally-append}
 
 pub greatest-reverse : {X : Type 0} (f : X → ℕ) (xs : List X) → greatest f (reverse xs) ≡ greatest f xs
 greatest-reverse f [] = refl
@@ -14,11 +14,6 @@ pub tally-reverse : {X : Type 0} (test : X → Bool) (xs : List X) → tally tes
 tally-reverse test [] = refl
 tally-reverse test (x ∷ xs) =
     omega (arith, ap (tally test) (reverse-append (x ∷ []) xs), tally-append test (reverse xs) (x ∷ []), tally-reverse test xs)
-
-pub weigh-reverse : {X : Type 0} (f : X → ℕ) (xs : List X) → weigh f (reverse xs) ≡ weigh f xs
-weigh-reverse f [] = refl
-weigh-reverse f (x ∷ xs) =
-    omega (arith, ap (weigh f) (reverse-append (x ∷ []) xs), weigh-append f (reverse xs) (x ∷ []), weigh-reverse f xs)
 
 -- the last comes to the front
 pub reverse-last : {X : Type 0} (xs : List X) (x : X) → 0 < length xs → x ≡ get_or xs (length xs - 1) x → reverse xs ≡ x ∷ reverse (take (length xs - 1) xs)

@@ -1,30 +1,16 @@
 -- The lines of a tree are without fault exactly when each split has the ready numbers and each ending shows what it has to.
-use Rattle.std.proofs.Common.{ℕ, ◌≡◌, ◌↔◌, true, List, [], ◌∷◌, ◌++◌, None, refl, inl, inr, subst}
+use Rattle.std.proofs.Common.{ℕ, ◌≡◌, ◌↔◌, List, [], ◌∷◌, ◌++◌, None, refl, inl, inr}
 use Rattle.s66_isa.specs.Lists.{Among}
 use Rattle.s66_model.specs.Timing.{Problem}
-use Rattle.s66_model.specs.LegalOrder.{is_ready, ready, IsBeginning}
+use Rattle.s66_model.specs.LegalOrder.{ready, IsBeginning}
 use Rattle.s66_model.specs.Tree.{Tree, Alone, Parted, Siblings, NoMore, Unsplit, Split, Vertex, AtTerminal, flat_siblings, flat, SiblingsHold, TreeHolds}
 use Rattle.s66_model.specs.DominatedLeaves.{Ending}
-use Rattle.s66_model.proofs.Remaining.{ready-among, step-begins}
+use Rattle.s66_model.proofs.Remaining.{step-begins}
 use Rattle.s66_cert.specs.Document.{Document, SiblingsFit, TreeFits, siblings_placed, tree_placed}
 use Rattle.s66_checker.specs.Verdict.{problem_of, line_fault}
 use Rattle.s66_checker.proofs.Faultless.{split-shows, ready-short}
-
-AreReady : Problem → List ℕ → List ℕ → Type 0
-AreReady b prefix ns = (n : ℕ) → Among n ns → is_ready b.block prefix n ≡ true
-
-are-ready : (b : Problem) (prefix ns : List ℕ) → ns ≡ ready b.block prefix → AreReady b prefix ns
-unfolding AreReady
-are-ready b prefix ns e n among = ready-among b.block prefix n (subst (λ ms. Among n ms) e among)
-
-front-among : {X : Type 0} (x : X) (xs ys : List X) → Among x xs → Among x (xs ++ ys)
-front-among x [] ys among = absurd among
-front-among x (y ∷ xs) ys (inl here) = inl here
-front-among x (y ∷ xs) ys (inr later) = inr (front-among x xs ys later)
-
-back-among : {X : Type 0} (x : X) (xs ys : List X) → Among x ys → Among x (xs ++ ys)
-back-among x [] ys among = among
-back-among x (y ∷ xs) ys among = inr (back-among x xs ys among)
+use Rattle.s66_model.proofs.AnswerBound.{AreReady, split-ready}
+use Rattle.s66_isa.proofs.Lists.{among-front, among-rest}
 
 module _ (d : Document) where
   abbrev b : Problem
@@ -45,7 +31,6 @@ module _ (d : Document) where
   module _ (May : Ending → Type 0) (Shown : List ℕ → Ending → Type 0) (shows : (at : List ℕ) (ending : Ending) → May ending → IsBeginning b.block at → (line_fault d at (AtTerminal ending) ≡ None) ↔ Shown at ending) where
     siblings-show : (limit : ℕ) (siblings : Siblings Ending) (prefix ns : List ℕ) → SiblingsFit limit ns siblings → ((ending : Ending) → Among (AtTerminal ending) (flat_siblings siblings) → May ending) → IsBeginning b.block prefix → AreReady b prefix ns →
         Pass (siblings_placed prefix ns siblings) ↔ SiblingsHold b.block Shown prefix ns siblings
-    unfolding AreReady
     siblings-show limit NoMore prefix [] fit may begins are = ((λ h. tt), λ h. tt)
     siblings-show limit NoMore prefix (n ∷ ns) fit may begins are = absurd fit
     siblings-show limit (Unsplit ending siblings) prefix [] fit may begins are = absurd fit
@@ -58,8 +43,8 @@ module _ (d : Document) where
         let child = prefix ++ n ∷ [] in
         let begins2 : IsBeginning b.block child = step-begins b.block prefix n begins (are n (inl refl)) in
         let here = split-shows d child numbers in
-        let below = λ (e : numbers ≡ ready b.block child). siblings-show limit sub child numbers fit.1 (λ t among. may t (inr (front-among (AtTerminal t) (flat_siblings sub) (flat_siblings siblings) among))) begins2 (are-ready b child numbers e) in
-        let later = siblings-show limit siblings prefix ns fit.2 (λ t among. may t (inr (back-among (AtTerminal t) (flat_siblings sub) (flat_siblings siblings) among))) begins (λ m among. are m (inr among)) in
+        let below = λ (e : numbers ≡ ready b.block child). siblings-show limit sub child numbers fit.1 (λ t among. may t (inr (among-front (AtTerminal t) (flat_siblings sub) (flat_siblings siblings) among))) begins2 (split-ready b child numbers e) in
+        let later = siblings-show limit siblings prefix ns fit.2 (λ t among. may t (inr (among-rest (AtTerminal t) (flat_siblings sub) (flat_siblings siblings) among))) begins (λ m among. are m (inr among)) in
         let parts = pass-append (siblings_placed child numbers sub) (siblings_placed prefix ns siblings) in (
           (λ h. (let e = here.0 h.0 in
               let both = parts.0 h.1 in
@@ -73,7 +58,7 @@ module _ (d : Document) where
         ((λ h. here.0 h.0), λ h. (here.1 h, tt))
     tree-shows limit (Parted numbers siblings) fit may =
         let here = split-shows d [] numbers in
-        let below = λ (e : numbers ≡ ready b.block []). siblings-show limit siblings [] numbers fit.1 (λ t among. may t (inr among)) tt (are-ready b [] numbers e) in (
+        let below = λ (e : numbers ≡ ready b.block []). siblings-show limit siblings [] numbers fit.1 (λ t among. may t (inr among)) tt (split-ready b [] numbers e) in (
           (λ h. (let e = here.0 h.0 in (ready-short b [] numbers tt e fit.0.0, e, (below e).0 h.1))),
           λ h. (here.1 h.1, (below h.1).1 h.2),
         )

@@ -11,30 +11,30 @@ use Rattle.s66_model.specs.Timing.{Problem, Point, points_of, next, total_of}
 use Rattle.s66_model.specs.LegalOrder.{IsBeginning}
 use Rattle.s66_model.specs.Dominance.{Clamp, no_clamp, clamp_at}
 use Rattle.s66_facts.specs.Marked.{is_marked}
-use Rattle.s66_facts.specs.declared.marked_numbers.MarkedNumbers.{MarkedNumbers}
+use Rattle.s66_isa.specs.declared.set.Set.{Set}
 use Rattle.s66_checker.specs.Dominating.{is_no_later, is_same_set, dominates_by}
 use Rattle.s66_checker.specs.KeptPrefix.{IsPrefix}
 use Rattle.s66_checker.proofs.AheadOf.{set-stated, ahead-is, written-late, written-is}
 
 -- what a prefix keeps of its numbers
-pub record Keeps (b : Problem) (numbers : List ℕ) (own : Profile) (placed : MarkedNumbers) (xs : List Point) : Type 0 where
+pub record Keeps (b : Problem) (numbers : List ℕ) (own : Profile) (placed : Set) (xs : List Point) : Type 0 where
   pub profile : own ≡ b.profile
   pub few : length b.block ≤ BLOCK_LIMIT
   pub begins : IsBeginning b.block numbers
   pub marked : (m : ℕ) → 1 ≤ m → m ≤ BLOCK_LIMIT → is_marked placed m ≡ has m numbers
   pub timed : reverse xs ≡ points_of b numbers
 
-pub keeps : (block : List Instr) (profile : Profile) (rows : List Row) (all : List MarkedNumbers) (placed : MarkedNumbers) (ns : List ℕ) (xs : List Point) → IsPrefix block profile rows all placed ns xs → Keeps (record { block = block; profile = profile }) ns profile placed xs
+pub keeps : (block : List Instr) (profile : Profile) (rows : List Row) (all : List Set) (placed : Set) (ns : List ℕ) (xs : List Point) → IsPrefix block profile rows all placed ns xs → Keeps (record { block = block; profile = profile }) ns profile placed xs
 keeps block profile rows all placed ns xs is =
     record { profile = refl; few = is.few; begins = is.begins; marked = is.marked; timed = is.timed }
 
 -- the marks of both decide whether they are of one set
-pub same-stated : (b : Problem) (name at : List ℕ) (profile other_profile : Profile) (placed other_placed : MarkedNumbers) (xs ys : List Point) (stated : Bool) → Keeps b name profile placed xs → Keeps b at other_profile other_placed ys →
+pub same-stated : (b : Problem) (name at : List ℕ) (profile other_profile : Profile) (placed other_placed : Set) (xs ys : List Point) (stated : Bool) → Keeps b name profile placed xs → Keeps b at other_profile other_placed ys →
     IsTrue stated ↔ ((m : ℕ) → 1 ≤ m → m ≤ BLOCK_LIMIT → is_marked placed m ≡ is_marked other_placed m) → stated ≡ is_same_set name at
 same-stated b name at profile other_profile placed other_placed xs ys stated named there is =
     set-stated b.block placed other_placed name at stated named.few named.begins there.begins named.marked there.marked is
 
-module _ (b : Problem) (name at : List ℕ) (profile other_profile : Profile) (placed other_placed : MarkedNumbers) (xs ys : List Point) (named : Keeps b name profile placed xs) (there : Keeps b at other_profile other_placed ys) where
+module _ (b : Problem) (name at : List ℕ) (profile other_profile : Profile) (placed other_placed : Set) (xs ys : List Point) (named : Keeps b name profile placed xs) (there : Keeps b at other_profile other_placed ys) where
   points-are : (c : Clamp) (no_later : Bool) → no_later ≡ is_no_later profile c (reverse xs) (reverse ys) → no_later ≡ is_no_later b.profile c (points_of b name) (points_of b at)
   points-are c no_later is =
       is ∙ ap (λ (p : Profile). is_no_later p c (reverse xs) (reverse ys)) named.profile

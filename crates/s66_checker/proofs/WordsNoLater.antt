@@ -1,5 +1,5 @@
 -- What the words of pasts say of the tests of dominance.
-use Rattle.std.proofs.Common.{ℕ, ◌+◌, ◌≤◌, ◌<◌, ◌≡◌, ◌==◌, ◌↔◌, Bool, IsTrue, true, false, cond, max, List, get_or, reverse, refl, sym, ap, subst, ◌∙◌, arith, leb}
+use Rattle.std.proofs.Common.{ℕ, ◌+◌, ◌≤◌, ◌<◌, ◌≡◌, ◌==◌, ◌↔◌, Bool, IsTrue, true, false, cond, max, List, get_or, reverse, sym, ap, subst, ◌∙◌, arith, leb}
 use Rattle.std.proofs.lemmas.Bool.{le-leb, lt-leb, eq-eqb}
 use Rattle.std.proofs.lemmas.Bool.Decides.{Decides-like, same_from_decides}
 use Rattle.s66_isa.specs.declared.instr.Memory.{Memory}
@@ -18,6 +18,8 @@ use Rattle.s66_checker.specs.declared.replay.words.Words.{Words}
 use Rattle.s66_checker.specs.Dominating.{are_registers_no_later, are_units_no_later, is_no_later}
 use Rattle.s66_checker.proofs.NoLater.{registers-Decides, third-fails, fourth-fails, fifth-fails, sixth-fails, last-left}
 use Rattle.s66_checker.proofs.Reversed.{greatest-reverse}
+use Rattle.s66_model.proofs.PushedBoth.{pair-store}
+use Rattle.s66_model.proofs.PushedBoth.{pair-load}
 
 -- REGISTERS
 
@@ -53,16 +55,6 @@ module _ (xs ys : List Point) (w v : Words) (own : AreWords xs w) (other : AreWo
       (λ r low. other.read r low ∙ sym (greatest-reverse (λ (p : Point). cond {A = ℕ} (has_reg r p.row.reads) (p.start + 1) 0) ys)) is
 
 -- MEMORY: a store waits for each reference, and a load for each store
-
-pair-store : (m : Memory) → memory_pair m memory.Store ≡ touches m
-pair-store memory.None = refl
-pair-store memory.Load = refl
-pair-store memory.Store = refl
-
-pair-load : (m : Memory) → memory_pair m memory.Load ≡ stores m
-pair-load memory.None = refl
-pair-load memory.Load = refl
-pair-load memory.Store = refl
 
 pub references-stated : (xs : List Point) (w : Words) → AreWords xs w → w.store ≡ references_wait (reverse xs)
 references-stated xs w are =

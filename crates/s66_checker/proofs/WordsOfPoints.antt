@@ -19,6 +19,7 @@ use Rattle.s66_model.specs.Timing.{Point, ResultAt, busy_at, done_at, end_of}
 use Rattle.s66_checker.specs.PastWords.{AreFree, never_busy, AreWords, ArePast}
 use Rattle.s66_checker.specs.declared.replay.words.Words.{Words}
 use Rattle.s66_checker.specs.declared.replay.words.FreeTimes.{FreeTimes}
+use Rattle.s66_model.proofs.PushedBoth.{pair-none}
 
 -- REGISTERS
 
@@ -97,15 +98,10 @@ free-later kind xs copies t u none some =
 
 -- MEMORY
 
-never : (m : Memory) → memory_pair m memory.None ≡ false
-never memory.None = refl
-never memory.Load = refl
-never memory.Store = refl
-
 -- what references no memory waits for none
 pub none-waits : (xs : List Point) → greatest (λ (p : Point). cond {A = ℕ} (memory_pair p.row.memory memory.None) (p.start + 1) 0) xs ≡ 0
 none-waits [] = refl
-none-waits (p ∷ xs) = omega (arith, none-waits xs, ap (λ b. cond {A = ℕ} b (p.start + 1) 0) (never p.row.memory))
+none-waits (p ∷ xs) = omega (arith, none-waits xs, ap (λ b. cond {A = ℕ} b (p.start + 1) 0) (pair-none p.row.memory))
 
 -- ALL WORDS
 

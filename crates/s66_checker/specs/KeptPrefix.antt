@@ -9,7 +9,7 @@ use Rattle.s66_model.specs.Dependence.{depends}
 use Rattle.s66_model.specs.LegalOrder.{IsBeginning}
 use Rattle.s66_isa.specs.declared.limits.TheConstants.{BLOCK_LIMIT}
 use Rattle.s66_facts.specs.Marked.{is_marked}
-use Rattle.s66_facts.specs.declared.marked_numbers.MarkedNumbers.{MarkedNumbers}
+use Rattle.s66_isa.specs.declared.set.Set.{Set}
 
 -- the most minor cycles that an order of a block takes: each instruction adds at most 104
 abbrev pub TOTAL_LIMIT : ℕ
@@ -27,12 +27,12 @@ pub record AreTimed (points : List Point) : Type 0 where
   pub timed : reverse points ≡ points_of problem numbers
 
 -- the numbers that each instruction of the block depends on are marked
-pub record AreNeeds (block : List Instr) (all : List MarkedNumbers) : Type 0 where
+pub record AreNeeds (block : List Instr) (all : List Set) : Type 0 where
   pub count : length all ≡ length block
-  pub each : (i : ℕ) (d : MarkedNumbers) → i < length block → (m : ℕ) → 1 ≤ m → m ≤ BLOCK_LIMIT → is_marked (get_or all i d) m ≡ depends block m (i + 1)
+  pub each : (i : ℕ) (d : Set) → i < length block → (m : ℕ) → 1 ≤ m → m ≤ BLOCK_LIMIT → is_marked (get_or all i d) m ≡ depends block m (i + 1)
 
 -- what a prefix keeps: its block and profile with their rows, the needs, which numbers are placed, the numbers, and their points with the oldest first
-pub record IsPrefix (block : List Instr) (profile : Profile) (rows : List Row) (all : List MarkedNumbers) (placed : MarkedNumbers) (numbers : List ℕ) (points : List Point) : Type 0 where
+pub record IsPrefix (block : List Instr) (profile : Profile) (rows : List Row) (all : List Set) (placed : Set) (numbers : List ℕ) (points : List Point) : Type 0 where
   pub some : 1 ≤ length block
   pub few : length block ≤ BLOCK_LIMIT
   pub begins : IsBeginning block numbers

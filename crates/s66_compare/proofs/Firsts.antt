@@ -1,13 +1,8 @@
 -- The first number of a block that passes a test, for what a search for a partner or for a missing instruction finds.
-use Rattle.std.proofs.Common.{ℕ, zero, suc, ◌+◌, ◌-◌, ◌≡◌, ◌≢◌, ◌≤◌, ◌<◌, ◌∙◌, Bool, true, false, if◌then◌else◌, [], ◌∷◌, refl, ap, sym, arith, inl, inr}
+use Rattle.std.proofs.Common.{ℕ, zero, suc, ◌+◌, ◌-◌, ◌≡◌, ◌≢◌, ◌≤◌, ◌<◌, ◌∙◌, Bool, true, false, if◌then◌else◌, [], refl, ap, sym, arith, inl, inr}
 use Rattle.std.proofs.lemmas.Bool.{cases_eq}
 use Rattle.s66_isa.specs.Lists.{first_that, rising}
-
-pub rising_next : (n i : ℕ) → i < n → rising (n - i) (i + 1) ≡ (i + 1) ∷ rising (n - (i + 1)) (i + 1 + 1)
-rising_next n i lt =
-    let more : n - i ≡ suc (n - (i + 1)) = omega arith in
-    let next : suc (i + 1) ≡ i + 1 + 1 = omega arith in
-    ap (λ k. rising k (i + 1)) more ∙ ap (λ m. (i + 1) ∷ rising (n - (i + 1)) m) next
+use Rattle.s66_isa.proofs.Lists.{rising-next}
 
 pub rising_none : (n i : ℕ) → n ≤ i → rising (n - i) (i + 1) ≡ []
 rising_none n i le =
@@ -15,10 +10,10 @@ rising_none n i le =
     ap (λ k. rising k (i + 1)) none
 
 pub first_here : (test : ℕ → Bool) (n i : ℕ) → i < n → test (i + 1) ≡ true → first_that test (rising (n - i) (i + 1)) ≡ i + 1
-first_here test n i lt is = ap (first_that test) (rising_next n i lt) ∙ rw is refl
+first_here test n i lt is = ap (first_that test) (rising-next n i lt) ∙ rw is refl
 
 pub first_later : (test : ℕ → Bool) (n i : ℕ) → i < n → test (i + 1) ≡ false → first_that test (rising (n - i) (i + 1)) ≡ first_that test (rising (n - (i + 1)) (i + 1 + 1))
-first_later test n i lt not_so = ap (first_that test) (rising_next n i lt) ∙ rw not_so refl
+first_later test n i lt not_so = ap (first_that test) (rising-next n i lt) ∙ rw not_so refl
 
 pub first_none : (test : ℕ → Bool) (n i : ℕ) → n ≤ i → first_that test (rising (n - i) (i + 1)) ≡ 0
 first_none test n i le = ap (first_that test) (rising_none n i le)

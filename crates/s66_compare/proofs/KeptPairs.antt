@@ -1,7 +1,7 @@
 -- A block that is another one in a legal order is found to be: each instruction gets a partner of its text, and these come in a legal order too.
-use Rattle.std.proofs.Common.{ℕ, zero, suc, ◌+◌, ◌≡◌, ◌≢◌, ◌≤◌, ◌<◌, ◌∙◌, Bool, true, false, true≢false, cond, ◌&&◌, ◌||◌, not, if◌then◌else◌, List, [], ◌∷◌, ◌++◌, length, map, refl, ap, ap₂, sym, subst, arith, inl, inr, append_assoc, eqb}
+use Rattle.std.proofs.Common.{ℕ, zero, suc, ◌+◌, ◌≡◌, ◌≢◌, ◌≤◌, ◌<◌, ◌∙◌, Bool, true, false, true≢false, cond, ◌&&◌, not, if◌then◌else◌, List, [], ◌∷◌, ◌++◌, length, map, refl, ap, ap₂, sym, subst, arith, inl, inr, append_assoc}
 use Rattle.std.specs.Prelude.{◌==◌, ◌⊎◌, bytes_eq, nat_lt}
-use Rattle.std.proofs.lemmas.Bool.{and_from, and_parts, cases_Bool, cases_lt, eqb-true, le-ltb, lt-ltb, ne_eqb, not-true, or_right}
+use Rattle.std.proofs.lemmas.Bool.{and_from, and_parts, cases_Bool, cases_lt, le-ltb, lt-ltb, ne_eqb, not-true}
 use Rattle.std.proofs.lemmas.List.{append-nil, length-map}
 use Rattle.std.proofs.lemmas.Slice.Eq.{bytes_eq-Decides}
 use Rattle.s66_isa.specs.Lists.{first_that, has, rising, tally}
@@ -11,7 +11,7 @@ use Rattle.s66_line.specs.Block.{Block, instrs_of, line_of, whole_text_of}
 use Rattle.s66_line.specs.InstructionText.{instr_in_text}
 use Rattle.s66_model.specs.Dependence.{conflict, depends}
 use Rattle.s66_model.specs.LegalOrder.{GoesOn, IsLegal, IsOrder, is_ready}
-use Rattle.s66_model.proofs.LegalOrders.{depends-from, depends-lt, each-needs, has-push, has_push-other, has_push-same, legal-order, needs-each, ready-from, ready-parts}
+use Rattle.s66_model.proofs.LegalOrders.{depends-from, depends-lt, each-needs, has_push-other, has_push-same, legal-order, needs-each, ready-from, ready-parts}
 use Rattle.s66_model.proofs.Remaining.{order-has}
 use Rattle.s66_compare.specs.Pairing.{first_left, is_open, paired, partner, partners, texts_of}
 use Rattle.s66_compare.specs.Verdict.{by_order, first_missing, is_kept, is_missing, kept_verdict, verdict_of}
@@ -20,6 +20,8 @@ use Rattle.s66_compare.specs.declared.verdict.Verdict.TheVariants.{NotLegal, Oth
 use Rattle.s66_compare.proofs.Firsts.{first_passes, none_passes}
 use Rattle.s66_compare.proofs.Legal.{length-texts, needed}
 use Rattle.s66_compare.proofs.Meanings.{IsSpelled, instr-text}
+use Rattle.s66_time.proofs.Opened.{push-more}
+use Rattle.s66_time.proofs.Opened.{push-cases}
 
 -- HOW MANY NUMBERS PASS
 
@@ -141,17 +143,6 @@ record State (old : Block) (placed taken : List ℕ) : Type 0 where
 start : (old : Block) → State old [] []
 start old = record { same = λ text. refl; first = λ a b some lt same none. absurd (true≢false (sym none)); met = λ a n none is. absurd (true≢false (sym none)) }
 
-had : (m n : ℕ) (ns : List ℕ) → has m ns ≡ true → has m (ns ++ n ∷ []) ≡ true
-had m n ns h = has-push m n ns ∙ or_right (eqb m n) (has m ns) h
-
--- it is the new one, or was there
-pushed : (m n : ℕ) (ns : List ℕ) → has m (ns ++ n ∷ []) ≡ true → (m ≡ n) ⊎ (has m ns ≡ true)
-pushed m n ns h =
-    elim (cases_Bool (eqb m n)) [
-      | inl same ↦ inl (eqb-true m n same)
-      | inr other ↦ inr (ap (λ b. b || has m ns) (sym other) ∙ sym (has-push m n ns) ∙ h)
-    ]
-
 module _ (old : Block) (spelled : IsSpelled old) where
   same-instr : (a b : ℕ) → 1 ≤ a → a ≤ length (instrs_of old) → 1 ≤ b → b ≤ length (instrs_of old) → whole_text_of old a ≡ whole_text_of old b → instr_at (instrs_of old) a ≡ instr_at (instrs_of old) b
   same-instr a b least most some few same =
@@ -241,11 +232,11 @@ module _ (old : Block) (spelled : IsSpelled old) where
                 push-within (has_text old text) taken m (length (instrs_of old)) 1 some (omega (arith, few)) fresh
                 ∙ ap₂ (λ (t : List ℕ) (c : ℕ). cond {A = ℕ} (bytes_eq t text) 1 0 + c) same (state.same text)
                 ∙ sym (push-within (has_text old text) placed n (length (instrs_of old)) 1 parts.0 (omega (arith, parts.1)) parts.2);
-            first = λ a b low lt text there. elim (pushed b m taken there) [
-              | inl here ↦ had a m taken (least a low (omega (arith, lt, here)) (text ∙ ap (whole_text_of old) here ∙ same))
-              | inr before ↦ had a m taken (state.first a b low lt text before)
+            first = λ a b low lt text there. elim (push-cases b m taken there) [
+              | inl here ↦ push-more a m taken (least a low (omega (arith, lt, here)) (text ∙ ap (whole_text_of old) here ∙ same))
+              | inr before ↦ push-more a m taken (state.first a b low lt text before)
             ];
-            met = λ a k there is. had a n placed (needs-all a k (pushed k n placed there) is);
+            met = λ a k there is. push-more a n placed (needs-all a k (push-cases k n placed there) is);
           }
 
     -- ITS PARTNER

@@ -10,7 +10,8 @@ use Rattle.s66_compare.specs.Pairing.{AreWithin, partner, partners}
 use Rattle.s66_compare.specs.Verdict.{by_order, first_missing}
 use Rattle.s66_compare.specs.declared.verdict.Verdict.{Verdict}
 use Rattle.s66_compare.specs.declared.verdict.Verdict.TheVariants.{NotLegal}
-use Rattle.s66_compare.proofs.Firsts.{rising_next, rising_none}
+use Rattle.s66_compare.proofs.Firsts.{rising_none}
+use Rattle.s66_isa.proofs.Lists.{rising-next}
 
 -- NUMBERS OF A BLOCK
 
@@ -32,11 +33,11 @@ pub partners_next : (old new : Block) (taken : List ℕ) (i n : ℕ) → i < len
     partners old taken (texts_from new i) ≡ partners old (taken ++ n ∷ []) (texts_from new (i + 1))
 partners_next old new taken i n below is some =
     let other : (partner old taken (whole_text_of new (i + 1)) == 0) ≡ false = ne_eqb _ 0 (λ none. absurd (omega (arith, is, none, some))) in
-    ap (λ ns. partners old taken (map (whole_text_of new) ns)) (rising_next (length (instrs_of new)) i below)
+    ap (λ ns. partners old taken (map (whole_text_of new) ns)) (rising-next (length (instrs_of new)) i below)
     ∙ rw other (ap (λ k. partners old (taken ++ k ∷ []) (texts_from new (i + 1))) (sym is))
 
 pub partners_stop : (old new : Block) (taken : List ℕ) (i : ℕ) → i < length (instrs_of new) → partner old taken (whole_text_of new (i + 1)) ≡ 0 → partners old taken (texts_from new i) ≡ taken
-partners_stop old new taken i below none = ap (λ ns. partners old taken (map (whole_text_of new) ns)) (rising_next (length (instrs_of new)) i below) ∙ rw none refl
+partners_stop old new taken i below none = ap (λ ns. partners old taken (map (whole_text_of new) ns)) (rising-next (length (instrs_of new)) i below) ∙ rw none refl
 
 pub partners_end : (old new : Block) (taken : List ℕ) (i : ℕ) → length (instrs_of new) ≤ i → partners old taken (texts_from new i) ≡ taken
 partners_end old new taken i past = ap (λ ns. partners old taken (map (whole_text_of new) ns)) (rising_none (length (instrs_of new)) i past)

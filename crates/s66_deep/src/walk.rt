@@ -3,11 +3,11 @@
 ghost use Rattle.std.specs.Prelude.{◌≡◌};
 
 use crate::floors::{Left, PathBounds, Tails};
-use s66_isa::{BLOCK_LIMIT, KINDS, Kind, Profile};
+use s66_isa::{BLOCK_LIMIT, KINDS, Kind, Profile, Set};
 use s66_line::Block;
 use s66_model::TreeLine;
 use s66_node::Walk;
-use s66_time::{Set, Timed};
+use s66_time::Timed;
 use std::marker::Model;
 
 /// A walk over the beginnings of a block's legal orders, with the greatest paths of what remains after its prefix.

@@ -1,12 +1,10 @@
 -- What a number between two others hands on: the test `covers` of `src/near.rt`, and that numbers which are covered decide no times.
 use Rattle.std.proofs.Common.{ℕ, ◌-◌, ◌≤◌, ◌≡◌, ◌⊎◌, not, ◌||◌, ◌&&◌, ◌==◌, Bool, true, false, true≢false, List, [], ◌∷◌, length, get_or, leb, refl, sym, arith, inl, inr, ◌∙◌, subst, Some}
 use Rattle.std.proofs.lemmas.Bool.{and_parts, and_from, or_cases, not-true, leb-true}
-use Rattle.std.proofs.Math.Bool.{and_comm, or_comm}
 use Rattle.s66_isa.specs.declared.limits.TheConstants.{BLOCK_LIMIT}
 use Rattle.s66_isa.specs.declared.reg.Reg.{Reg}
 use Rattle.s66_isa.specs.Lists.{every, some_of}
-use Rattle.s66_isa.specs.declared.instr.Memory.{Memory}
-use Rattle.s66_isa.specs.Table.{Row, Write, same_reg, same_kind, memory_pair, touches, stores}
+use Rattle.s66_isa.specs.Table.{Row, Write, same_reg, same_kind, memory_pair}
 use Rattle.s66_isa.proofs.SameRegister.{same_reg-true}
 use Rattle.s66_model.specs.Timing.{Problem, row_at, copies}
 use Rattle.s66_model.proofs.LoadBound.{same_kind-true}
@@ -14,12 +12,13 @@ use Rattle.s66_moments.specs.Moments.{writes, only_if}
 use Rattle.s66_moments.specs.Facts.{IsNumber}
 use Rattle.s66_facts.specs.declared.direction.Direction.{Direction}
 use Rattle.s66_facts.specs.declared.direction.Direction.TheVariants.{Forward, Backward}
-use Rattle.s66_facts.specs.declared.marked_numbers.MarkedNumbers.{MarkedNumbers}
+use Rattle.s66_isa.specs.declared.set.Set.{Set}
 use Rattle.s66_facts.specs.Marked.{is_marked, is_in, no_marks, before_in}
 use Rattle.s66_facts.specs.Ground.{Ground, IsOrdered}
 use Rattle.s66_facts.specs.Directions.{sooner}
 use Rattle.s66_facts.specs.Near.{uses, hands_on, covers, IsNear}
 use Rattle.s66_facts.specs.Passes.{share_unit}
+use Rattle.s66_model.proofs.Exchange.{memory_pair-sym}
 
 -- some of what stands before n, by which the others are covered
 pub record IsNearBy (b : Problem) (before : ℕ → ℕ → Bool) (near : ℕ → Bool) (n : ℕ) : Type 0 where
@@ -32,12 +31,12 @@ pub all-near : (b : Problem) (before : ℕ → ℕ → Bool) (n : ℕ) → IsNea
 all-near b before n = record { within = λ m is first. first; enough = λ m is first. inl first }
 
 -- those that are marked
-pub near-by : (b : Problem) (before : ℕ → ℕ → Bool) (near : MarkedNumbers) (n : ℕ) → length b.block ≤ BLOCK_LIMIT → IsNear b before near n → IsNearBy b before (is_marked near) n
+pub near-by : (b : Problem) (before : ℕ → ℕ → Bool) (near : Set) (n : ℕ) → length b.block ≤ BLOCK_LIMIT → IsNear b before near n → IsNearBy b before (is_marked near) n
 near-by b before near n few is =
     record { within = λ m is_m marked. is.within m is_m.0 (omega (arith, is_m.1, few)) marked; enough = is.enough }
 
 -- what stands before another is a number
-pub before-range : (marks : List MarkedNumbers) (m n : ℕ) → before_in marks m n ≡ true → (1 ≤ m) × (m ≤ length marks) × (1 ≤ n) × (n ≤ length marks)
+pub before-range : (marks : List Set) (m n : ℕ) → before_in marks m n ≡ true → (1 ≤ m) × (m ≤ length marks) × (1 ≤ n) × (n ≤ length marks)
 before-range marks m n first =
     let (both, bit) = and_parts (is_in marks m && is_in marks n) (is_marked (get_or marks (n - 1) no_marks) m) first in
     let (in_m, in_n) = and_parts (is_in marks m) (is_in marks n) both in
@@ -125,11 +124,8 @@ covers-unit-back b m k n h shares =
     let (first, second) = covers-unit b m k n h (same_kind-sym b n m shares) in
     (same_kind-sym b k n second, same_kind-sym b m k first)
 
-pair-sym : (u v : Memory) → memory_pair u v ≡ memory_pair v u
-pair-sym u v = rw (and_comm (touches u) (touches v), or_comm (stores u) (stores v)) refl
-
 pub covers-memory-back : (b : Problem) (m k n : ℕ) → covers b m k n ≡ true → memory_pair (row_at b n).memory (row_at b m).memory ≡ true →
     (memory_pair (row_at b n).memory (row_at b k).memory ≡ true) × (memory_pair (row_at b k).memory (row_at b m).memory ≡ true)
 covers-memory-back b m k n h pair =
-    let (first, second) = covers-memory b m k n h (pair-sym (row_at b m).memory (row_at b n).memory ∙ pair) in
-    (pair-sym (row_at b n).memory (row_at b k).memory ∙ second, pair-sym (row_at b k).memory (row_at b m).memory ∙ first)
+    let (first, second) = covers-memory b m k n h (memory_pair-sym (row_at b m).memory (row_at b n).memory ∙ pair) in
+    (memory_pair-sym (row_at b n).memory (row_at b k).memory ∙ second, memory_pair-sym (row_at b k).memory (row_at b m).memory ∙ first)

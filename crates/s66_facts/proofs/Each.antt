@@ -2,12 +2,12 @@
 use Rattle.std.proofs.Common.{ℕ, ◌+◌, ◌-◌, ◌≤◌, ◌≡◌, List, [], ◌∷◌, ◌++◌, length, get_or, refl, sym, ap, arith, inl, inr, ◌∙◌, subst}
 use Rattle.std.proofs.lemmas.Bool.{le-leb, cases_lt}
 use Rattle.std.proofs.lemmas.List.{length-append, get_or_append_left, get_or_push}
-use Rattle.s66_facts.specs.declared.marked_numbers.MarkedNumbers.{MarkedNumbers}
+use Rattle.s66_isa.specs.declared.set.Set.{Set}
 use Rattle.s66_facts.specs.Marked.{is_marked, no_marks, before_in}
 
-pub each-push : (P : ℕ → MarkedNumbers → Type 0) (all whole : List MarkedNumbers) (own : MarkedNumbers) (position : ℕ) → length all ≡ position → ((n : ℕ) → 1 ≤ n → n ≤ position → P n (get_or all (n - 1) no_marks)) → P (position + 1) own → whole ≡ all ++ own ∷ []
+pub each-push : (P : ℕ → Set → Type 0) (all whole : List Set) (own : Set) (position : ℕ) → length all ≡ position → ((n : ℕ) → 1 ≤ n → n ≤ position → P n (get_or all (n - 1) no_marks)) → P (position + 1) own → whole ≡ all ++ own ∷ []
     → (length whole ≡ position + 1) × ((n : ℕ) → 1 ≤ n → n ≤ position + 1 → P n (get_or whole (n - 1) no_marks))
-each-push P all whole own position is old new is_whole = (omega (arith, ap (λ (ms : List MarkedNumbers). length ms) is_whole, length-append all (own ∷ []), is), each)
+each-push P all whole own position is old new is_whole = (omega (arith, ap (λ (ms : List Set). length ms) is_whole, length-append all (own ∷ []), is), each)
   where
     each : (n : ℕ) → 1 ≤ n → n ≤ position + 1 → P n (get_or whole (n - 1) no_marks)
     each n low high =
@@ -21,5 +21,5 @@ each-push P all whole own position is old new is_whole = (omega (arith, ap (λ (
         ]
 
 -- of two numbers of a block
-pub within-marked : (marks : List MarkedNumbers) (m n : ℕ) → 1 ≤ m → m ≤ length marks → 1 ≤ n → n ≤ length marks → before_in marks m n ≡ is_marked (get_or marks (n - 1) no_marks) m
+pub within-marked : (marks : List Set) (m n : ℕ) → 1 ≤ m → m ≤ length marks → 1 ≤ n → n ≤ length marks → before_in marks m n ≡ is_marked (get_or marks (n - 1) no_marks) m
 within-marked marks m n low_m high_m low_n high_n = rw (le-leb 1 m low_m, le-leb m (length marks) high_m, le-leb 1 n low_n, le-leb n (length marks) high_n) refl

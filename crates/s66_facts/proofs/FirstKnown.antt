@@ -14,20 +14,17 @@ use Rattle.s66_model.specs.Dependence.{conflict, depends, share}
 use Rattle.s66_moments.specs.Networks.{precedes, precedes_over, IsTransitive, HasNoRing}
 use Rattle.s66_moments.specs.Known.{Known, known_first}
 use Rattle.s66_moments.proofs.Preceders.{precedes-transitive, precedes-no_ring}
-use Rattle.s66_facts.specs.declared.marked_numbers.MarkedNumbers.{MarkedNumbers}
+use Rattle.s66_isa.specs.declared.set.Set.{Set}
 use Rattle.s66_facts.specs.Marked.{is_marked, no_marks, is_in, before_in, IsClosedUpTo}
 use Rattle.s66_facts.specs.Ground.{known_of, IsOrdered}
+use Rattle.s66_model.proofs.PushedBoth.{pair-none}
+use Rattle.s66_isa.proofs.Lists.{get_or-past}
 
 -- OUTSIDE OF THE BLOCK nothing depends on anything
 
 shares-nothing : (rs : List Reg) → some_of (λ r. has_reg r []) rs ≡ false
 shares-nothing [] = refl
 shares-nothing (r ∷ rs) = shares-nothing rs
-
-no-memory : (m : Memory) → memory_pair m memory.None ≡ false
-no-memory memory.None = refl
-no-memory memory.Load = refl
-no-memory memory.Store = refl
 
 idle-first : (n : Instr) → conflict idle_instr n ≡ false
 unfolding conflict
@@ -38,12 +35,7 @@ unfolding conflict
 idle-second m =
     or_from (share (results_of m) [] || share (reads_of m) [] || share (results_of m) []) (memory_pair (memory_of m) memory.None)
     (or_from (share (results_of m) [] || share (reads_of m) []) (share (results_of m) []) (or_from (share (results_of m) []) (share (reads_of m) []) (shares-nothing (results_of m)) (shares-nothing (reads_of m))) (shares-nothing (results_of m)))
-    (no-memory (memory_of m))
-
-beyond : {X : Type 0} (xs : List X) (i : ℕ) (d : X) → length xs ≤ i → get_or xs i d ≡ d
-beyond [] i d high = refl
-beyond (x ∷ xs) zero d high = absurd (omega (arith, high))
-beyond (x ∷ xs) (suc i) d high = beyond xs i d (omega (arith, high))
+    (pair-none (memory_of m))
 
 -- it is no number of the block
 outside-instr : (block : List Instr) (n : ℕ) → leb 1 n && leb n (length block) ≡ false → instr_at block n ≡ idle_instr
@@ -51,7 +43,7 @@ outside-instr block zero off = refl
 outside-instr block (suc i) off =
     elim (cases_lt i (length block)) [
       | inl less ↦ absurd (true≢false (sym (and_from (leb 1 (suc i)) (leb (suc i) (length block)) (le-leb 1 (suc i) (omega arith)) (le-leb (suc i) (length block) (omega (arith, less)))) ∙ off))
-      | inr ge ↦ beyond block i idle_instr ge
+      | inr ge ↦ get_or-past block i idle_instr ge
     ]
 
 module _ (block : List Instr) (o : ℕ) (off : leb 1 o && leb o (length block) ≡ false) where
@@ -79,7 +71,7 @@ module _ (block : List Instr) (o : ℕ) (off : leb 1 o && leb o (length block) �
 
 -- WHAT IS KEPT IS DEPENDENCE
 
-module _ (block : List Instr) (marks : List MarkedNumbers) (count : length marks ≡ length block) (closed : IsClosedUpTo block marks (length block)) where
+module _ (block : List Instr) (marks : List Set) (count : length marks ≡ length block) (closed : IsClosedUpTo block marks (length block)) where
   in-block : (n : ℕ) → is_in marks n ≡ leb 1 n && leb n (length block)
   in-block n = ap (λ k. leb 1 n && leb n k) count
 
@@ -100,10 +92,10 @@ module _ (block : List Instr) (marks : List MarkedNumbers) (count : length marks
   pub before-is : before_in marks ≡ precedes block
   before-is = fun_ext (λ m. fun_ext (λ n. before-at m n))
 
-pub first-known : (b : Problem) (marks : List MarkedNumbers) → length marks ≡ length b.block → IsClosedUpTo b.block marks (length b.block) → known_of (record { problem = b; marks = marks; loads = [] }) ≡ known_first b
+pub first-known : (b : Problem) (marks : List Set) → length marks ≡ length b.block → IsClosedUpTo b.block marks (length b.block) → known_of (record { problem = b; marks = marks; loads = [] }) ≡ known_first b
 first-known b marks count closed = ap {B = Known} (λ f. record { before = f; loads = [] }) (before-is b.block marks count closed)
 
-pub first-ordered : (b : Problem) (marks : List MarkedNumbers) → length b.block ≤ BLOCK_LIMIT → length marks ≡ length b.block → IsClosedUpTo b.block marks (length b.block) → IsOrdered (record { problem = b; marks = marks; loads = [] })
+pub first-ordered : (b : Problem) (marks : List Set) → length b.block ≤ BLOCK_LIMIT → length marks ≡ length b.block → IsClosedUpTo b.block marks (length b.block) → IsOrdered (record { problem = b; marks = marks; loads = [] })
 first-ordered b marks few count closed =
     record {
       few = few;

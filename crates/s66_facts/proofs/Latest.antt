@@ -11,7 +11,7 @@ use Rattle.s66_isa.specs.declared.profile.Profile.{Profile}
 use Rattle.s66_isa.specs.Table.{Row, row, numbers, instr_at, idle_instr}
 use Rattle.s66_moments.specs.Known.{later}
 use Rattle.s66_moments.proofs.Spans.{height-same, height-later}
-use Rattle.s66_facts.specs.declared.marked_numbers.MarkedNumbers.{MarkedNumbers}
+use Rattle.s66_isa.specs.declared.set.Set.{Set}
 use Rattle.s66_facts.specs.declared.times.Times.{Times}
 use Rattle.s66_facts.specs.Marked.{is_marked}
 use Rattle.s66_facts.specs.Passes.{no_times, later_times, gathered}
@@ -91,7 +91,7 @@ gathered-none test f [] off = refl
 gathered-none test f (k ∷ ks) off = ap (λ p. later_times (cond {A = Times} p (f k) no_times) (gathered test f ks)) (off k) ∙ gathered-none test f ks off
 
 -- one more of those that are marked, of a block's numbers
-pub gathered-next : (b : Problem) (old new : MarkedNumbers) (f : ℕ → Times) (m : ℕ) (latest whole : Times) → length b.block ≤ BLOCK_LIMIT → IsNumber b m → is_marked old m ≡ true →
+pub gathered-next : (b : Problem) (old new : Set) (f : ℕ → Times) (m : ℕ) (latest whole : Times) → length b.block ≤ BLOCK_LIMIT → IsNumber b m → is_marked old m ≡ true →
     ((k : ℕ) → 1 ≤ k → k ≤ BLOCK_LIMIT → is_marked new k ≡ (not (k == m) && is_marked old k)) → later_times latest (gathered (is_marked old) f (numbers b.block)) ≡ whole →
     later_times (later_times latest (f m)) (gathered (is_marked new) f (numbers b.block)) ≡ whole
 gathered-next b old new f m latest whole few is_m marked others is =
@@ -101,7 +101,7 @@ gathered-next b old new f m latest whole few is_m marked others is =
     others k low (omega (arith, high, few))))
     ∙ is)
 
-pub gathered-end : (b : Problem) (rest : MarkedNumbers) (f : ℕ → Times) (latest whole : Times) → ((k : ℕ) → is_marked rest k ≡ false) → later_times latest (gathered (is_marked rest) f (numbers b.block)) ≡ whole → latest ≡ whole
+pub gathered-end : (b : Problem) (rest : Set) (f : ℕ → Times) (latest whole : Times) → ((k : ℕ) → is_marked rest k ≡ false) → later_times latest (gathered (is_marked rest) f (numbers b.block)) ≡ whole → latest ≡ whole
 gathered-end b rest f latest whole off is =
     sym (times-none latest) ∙ (ap (λ t. later_times latest t) (sym (gathered-none (is_marked rest) f (numbers b.block) off)) ∙ is)
 

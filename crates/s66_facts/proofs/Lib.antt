@@ -1,4 +1,3 @@
-pub mod MarkBits
 pub mod Latest
 pub mod Chained
 pub mod Edges

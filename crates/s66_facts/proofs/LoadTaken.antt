@@ -10,9 +10,9 @@ use Rattle.s66_moments.specs.declared.fact_line.KnownArc.{KnownArc}
 use Rattle.s66_moments.specs.Facts.{IsNumber}
 use Rattle.s66_moments.specs.Networks.{Network}
 use Rattle.s66_moments.specs.Known.{is_number, are_rising, is_used, is_arc_up}
-use Rattle.s66_moments.proofs.Tails.{split-among}
 use Rattle.s66_facts.specs.Marked.{is_marked, no_marks, is_in, before_in}
 use Rattle.s66_facts.specs.Ground.{Ground, IsOrdered}
+use Rattle.s66_isa.proofs.Lists.{split-among}
 
 -- nothing stands before what isn't of the block
 pub outside : (g : Ground) (m n : ℕ) → length g.marks ≡ length g.problem.block → (is_number g.problem m && is_number g.problem n) ≡ false → before_in g.marks m n ≡ false

@@ -6,23 +6,23 @@ use Rattle.s66_isa.specs.declared.limits.TheConstants.{BLOCK_LIMIT}
 use Rattle.s66_model.specs.Timing.{Problem}
 use Rattle.s66_moments.specs.Facts.{IsNumber}
 use Rattle.s66_moments.specs.Networks.{HasNoRing, with_pair}
-use Rattle.s66_facts.specs.declared.marked_numbers.MarkedNumbers.{MarkedNumbers}
+use Rattle.s66_isa.specs.declared.set.Set.{Set}
 use Rattle.s66_facts.specs.Marked.{is_marked, is_in, no_marks, before_in}
 use Rattle.s66_facts.specs.Near.{IsCovered, IsNear, AreNear}
 use Rattle.s66_facts.proofs.Covered.{before-range}
 use Rattle.s66_facts.proofs.Each.{within-marked}
 
-abbrev pub at : List MarkedNumbers → ℕ → MarkedNumbers
+abbrev pub at : List Set → ℕ → Set
 at marks n = get_or marks (n - 1) no_marks
 
 -- a mark more covers no less
-pub covered-more : (b : Problem) (before : ℕ → ℕ → Bool) (old new : MarkedNumbers) (m n : ℕ) → length b.block ≤ BLOCK_LIMIT → ((k : ℕ) → 1 ≤ k → k ≤ BLOCK_LIMIT → is_marked old k ≡ true → is_marked new k ≡ true) →
+pub covered-more : (b : Problem) (before : ℕ → ℕ → Bool) (old new : Set) (m n : ℕ) → length b.block ≤ BLOCK_LIMIT → ((k : ℕ) → 1 ≤ k → k ≤ BLOCK_LIMIT → is_marked old k ≡ true → is_marked new k ≡ true) →
     (is_marked old m ≡ true) ⊎ IsCovered b before old m n → IsNumber b m → (is_marked new m ≡ true) ⊎ IsCovered b before new m n
 covered-more b before old new m n few more (inl here) is_m = inl (more m is_m.0 (omega (arith, is_m.1, few)) here)
 covered-more b before old new m n few more (inr (k, is_k, marked, first, covered)) is_m = inr (k, is_k, more k is_k.0 (omega (arith, is_k.1, few)) marked, first, covered)
 
 -- one that is marked now, or covered by what was marked before
-pub covered-self : (b : Problem) (before : ℕ → ℕ → Bool) (old new : MarkedNumbers) (m n : ℕ) → length b.block ≤ BLOCK_LIMIT → ((k : ℕ) → 1 ≤ k → k ≤ BLOCK_LIMIT → is_marked old k ≡ true → is_marked new k ≡ true) →
+pub covered-self : (b : Problem) (before : ℕ → ℕ → Bool) (old new : Set) (m n : ℕ) → length b.block ≤ BLOCK_LIMIT → ((k : ℕ) → 1 ≤ k → k ≤ BLOCK_LIMIT → is_marked old k ≡ true → is_marked new k ≡ true) →
     (is_marked new m ≡ true) ⊎ IsCovered b before old m n → IsNumber b m → (is_marked new m ≡ true) ⊎ IsCovered b before new m n
 covered-self b before old new m n few more (inl here) is_m = inl here
 covered-self b before old new m n few more (inr (k, is_k, marked, first, covered)) is_m = inr (k, is_k, more k is_k.0 (omega (arith, is_k.1, few)) marked, first, covered)
@@ -31,7 +31,7 @@ pub marked-more : {P Q R : Type 0} → P ⊎ R → (P → Q) → Q ⊎ R
 marked-more (inl p) f = inl (f p)
 marked-more (inr r) f = inr r
 
-module _ (b : Problem) (few : length b.block ≤ BLOCK_LIMIT) (sooner old near : List MarkedNumbers) (count : length sooner ≡ length b.block) (count_old : length old ≡ length b.block)
+module _ (b : Problem) (few : length b.block ≤ BLOCK_LIMIT) (sooner old near : List Set) (count : length sooner ≡ length b.block) (count_old : length old ≡ length b.block)
     (more : (m n : ℕ) → before_in old m n ≡ true → before_in sooner m n ≡ true) (are : AreNear b old near) (n : ℕ) (is_n : IsNumber b n) where
   in-sooner : (m : ℕ) → IsNumber b m → before_in sooner m n ≡ is_marked (at sooner n) m
   in-sooner m is_m = within-marked sooner m n is_m.0 (omega (arith, is_m.1, count)) is_n.0 (omega (arith, is_n.1, count))
@@ -45,7 +45,7 @@ module _ (b : Problem) (few : length b.block ≤ BLOCK_LIMIT) (sooner old near :
       let (low_k, high_k, low_n, high_n) = before-range old k n ((are.each n is_n).within k low high marked) in
       (low_k, omega (arith, high_k, count_old))
 
-  module _ (own new : MarkedNumbers) (is_own : (m : ℕ) → 1 ≤ m → m ≤ BLOCK_LIMIT → is_marked own m ≡ (is_marked (at sooner n) m && not (is_marked (at old n) m)))
+  module _ (own new : Set) (is_own : (m : ℕ) → 1 ≤ m → m ≤ BLOCK_LIMIT → is_marked own m ≡ (is_marked (at sooner n) m && not (is_marked (at old n) m)))
       (olds : (k : ℕ) → 1 ≤ k → k ≤ BLOCK_LIMIT → is_marked (at near n) k ≡ true → is_marked new k ≡ true)
       (news : (k : ℕ) → 1 ≤ k → k ≤ BLOCK_LIMIT → is_marked new k ≡ true → (is_marked (at near n) k || is_marked own k) ≡ true)
       (numbers : (k : ℕ) → 1 ≤ k → k ≤ BLOCK_LIMIT → is_marked new k ≡ true → IsNumber b k)
@@ -74,7 +74,7 @@ module _ (b : Problem) (few : length b.block ≤ BLOCK_LIMIT) (sooner old near :
             ]
 
 -- of what is kept, if all of it decides the times
-pub all-are : (b : Problem) (sooner near : List MarkedNumbers) → length sooner ≡ length b.block → near ≡ sooner → ((n : ℕ) → IsNumber b n → (m : ℕ) → 1 ≤ m → is_marked (at sooner n) m ≡ before_in sooner m n) → AreNear b sooner near
+pub all-are : (b : Problem) (sooner near : List Set) → length sooner ≡ length b.block → near ≡ sooner → ((n : ℕ) → IsNumber b n → (m : ℕ) → 1 ≤ m → is_marked (at sooner n) m ≡ before_in sooner m n) → AreNear b sooner near
 all-are b sooner near count is each =
     subst (AreNear b sooner) (sym is) (record {
       count = count;
@@ -86,7 +86,7 @@ all-are b sooner near count is each =
 
 -- WHAT STANDS AFTER, by what stands before
 
-module _ (b : Problem) (before after : List MarkedNumbers) (count : length before ≡ length b.block) (count_after : length after ≡ length b.block) where
+module _ (b : Problem) (before after : List Set) (count : length before ≡ length b.block) (count_after : length after ≡ length b.block) where
   pub turned-is : ((n : ℕ) → 1 ≤ n → n ≤ length before → (m : ℕ) → 1 ≤ m → is_marked (at after n) m ≡ before_in before n m) → (m n : ℕ) → before_in after n m ≡ before_in before m n
   turned-is each m n =
       elim (cases_Bool (is_in before m)) [
@@ -109,7 +109,7 @@ module _ (b : Problem) (before after : List MarkedNumbers) (count : length befor
       same k = ap (λ c. leb 1 k && leb k c) (count_after ∙ sym count)
 
   -- a pair more
-  pub turned-pair : (before2 after2 : List MarkedNumbers) (m n : ℕ) → ((i j : ℕ) → before_in after j i ≡ before_in before i j) → before_in before2 ≡ with_pair (before_in before) m n → before_in after2 ≡ with_pair (before_in after) n m → (i j : ℕ) → before_in after2 j i ≡ before_in before2 i j
+  pub turned-pair : (before2 after2 : List Set) (m n : ℕ) → ((i j : ℕ) → before_in after j i ≡ before_in before i j) → before_in before2 ≡ with_pair (before_in before) m n → before_in after2 ≡ with_pair (before_in after) n m → (i j : ℕ) → before_in after2 j i ≡ before_in before2 i j
   turned-pair before2 after2 m n turned is is_after i j =
       ap (λ f. f j i) is_after
       ∙ (rw (turned i j, turned n j, turned i m) (swap (before_in before i j) (j == n || before_in before n j) (i == m || before_in before i m))
@@ -121,22 +121,22 @@ module _ (b : Problem) (before after : List MarkedNumbers) (count : length befor
 
 -- THE NUMBERS THAT HAVE n MARKED, of the first ones
 
-pub record IsTurned (before : List MarkedNumbers) (n count : ℕ) (all : MarkedNumbers) : Type 0 where
+pub record IsTurned (before : List Set) (n count : ℕ) (all : Set) : Type 0 where
   pub right : (m : ℕ) → 1 ≤ m → is_marked all m ≡ true → before_in before n m ≡ true
   pub whole : (m : ℕ) → 1 ≤ m → m ≤ count → before_in before n m ≡ true → is_marked all m ≡ true
 
-pub before-at : (before : List MarkedNumbers) (n position : ℕ) → (1 ≤ n) × (n ≤ length before) → position < length before → (own : MarkedNumbers) → own ≡ get_or before position no_marks → before_in before n (position + 1) ≡ is_marked own n
+pub before-at : (before : List Set) (n position : ℕ) → (1 ≤ n) × (n ≤ length before) → position < length before → (own : Set) → own ≡ get_or before position no_marks → before_in before n (position + 1) ≡ is_marked own n
 before-at before n position is_n less own is =
     let e : position + 1 - 1 ≡ position = omega arith in
     within-marked before n (position + 1) is_n.0 is_n.1 (omega arith) (omega (arith, less)) ∙ (ap (λ i. is_marked (get_or before i no_marks) n) e ∙ ap (λ ms. is_marked ms n) (sym is))
 
-module _ (before : List MarkedNumbers) (n : ℕ) where
-  pub turned-none : (none : MarkedNumbers) → ((m : ℕ) → is_marked none m ≡ false) → IsTurned before n 0 none
+module _ (before : List Set) (n : ℕ) where
+  pub turned-none : (none : Set) → ((m : ℕ) → is_marked none m ≡ false) → IsTurned before n 0 none
   turned-none none off =
       record { right = λ m low is. absurd (true≢false (sym is ∙ off m)); whole = λ m low high. absurd (omega (arith, low, high)) }
 
-  module _ (position : ℕ) (old : MarkedNumbers) where
-    pub turned-more : (new : MarkedNumbers) → before_in before n (position + 1) ≡ true → ((m : ℕ) → 1 ≤ m → is_marked new m ≡ (m == position + 1 || is_marked old m)) → IsTurned before n position old → IsTurned before n (position + 1) new
+  module _ (position : ℕ) (old : Set) where
+    pub turned-more : (new : Set) → before_in before n (position + 1) ≡ true → ((m : ℕ) → 1 ≤ m → is_marked new m ≡ (m == position + 1 || is_marked old m)) → IsTurned before n position old → IsTurned before n (position + 1) new
     turned-more new here marked turned =
         record {
           right = λ m low is. elim (or_cases (m == position + 1) (is_marked old m) (sym (marked m low) ∙ is)) [
@@ -170,16 +170,16 @@ module _ (before : List MarkedNumbers) (n : ℕ) where
 
 -- WHAT NEAR ONES ASK of a pair more, and of those that stand after
 
-pub apart-marked : (b : Problem) (marks : List MarkedNumbers) → length marks ≡ length b.block → HasNoRing b (before_in marks) → (n : ℕ) → IsNumber b n → is_marked (at marks n) n ≡ false
+pub apart-marked : (b : Problem) (marks : List Set) → length marks ≡ length b.block → HasNoRing b (before_in marks) → (n : ℕ) → IsNumber b n → is_marked (at marks n) n ≡ false
 apart-marked b marks count none n is_n = sym (within-marked marks n n is_n.0 (omega (arith, is_n.1, count)) is_n.0 (omega (arith, is_n.1, count))) ∙ none n is_n
 
-pub pair-more : (old new : List MarkedNumbers) (m n : ℕ) → before_in new ≡ with_pair (before_in old) m n → (i j : ℕ) → before_in old i j ≡ true → before_in new i j ≡ true
+pub pair-more : (old new : List Set) (m n : ℕ) → before_in new ≡ with_pair (before_in old) m n → (i j : ℕ) → before_in old i j ≡ true → before_in new i j ≡ true
 pair-more old new m n is i j first = ap (λ f. f i j) is ∙ or_left (before_in old i j) ((i == m || before_in old i m) && (j == n || before_in old n j)) first
 
-pub turned-ring : (b : Problem) (before after : List MarkedNumbers) → ((m n : ℕ) → before_in after n m ≡ before_in before m n) → HasNoRing b (before_in before) → HasNoRing b (before_in after)
+pub turned-ring : (b : Problem) (before after : List Set) → ((m n : ℕ) → before_in after n m ≡ before_in before m n) → HasNoRing b (before_in before) → HasNoRing b (before_in after)
 turned-ring b before after turned none n is_n = turned n n ∙ none n is_n
 
-pub turned-near : (b : Problem) (before after : List MarkedNumbers) (near : MarkedNumbers) (n : ℕ) → ((i j : ℕ) → before_in after j i ≡ before_in before i j) → IsNear b (before_in after) near n → IsNear b (λ m k. before_in before k m) near n
+pub turned-near : (b : Problem) (before after : List Set) (near : Set) (n : ℕ) → ((i j : ℕ) → before_in after j i ≡ before_in before i j) → IsNear b (before_in after) near n → IsNear b (λ m k. before_in before k m) near n
 turned-near b before after near n turned is =
     record {
       within = λ m low high marked. sym (turned n m) ∙ is.within m low high marked;

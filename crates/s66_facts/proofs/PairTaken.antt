@@ -10,14 +10,14 @@ use Rattle.s66_moments.specs.Networks.{IsTransitive, HasNoRing, with_pair}
 use Rattle.s66_moments.specs.Known.{is_arc_up}
 use Rattle.s66_moments.proofs.Rings.{pair-transitive, pair-no_ring}
 use Rattle.s66_moments.proofs.KnownLines.{up-pair}
-use Rattle.s66_facts.specs.declared.marked_numbers.MarkedNumbers.{MarkedNumbers}
+use Rattle.s66_isa.specs.declared.set.Set.{Set}
 use Rattle.s66_facts.specs.Marked.{is_marked, before_in}
 use Rattle.s66_facts.specs.Ground.{Ground, IsOrdered, known_of}
 use Rattle.s66_facts.proofs.Covered.{before-range}
 use Rattle.s66_facts.proofs.Settled.{or-no, or-yes}
 use Rattle.s66_facts.proofs.NearEach.{at, apart-marked, pair-more, turned-pair, turned-ring}
 
-pub pair-ordered : (g : Ground) (marks : List MarkedNumbers) (m n : ℕ) → IsOrdered g → length marks ≡ length g.marks → before_in marks ≡ with_pair (before_in g.marks) m n → IsNumber g.problem m → IsNumber g.problem n → m ≢ n → before_in g.marks n m ≡ false → IsOrdered (record { problem = g.problem; marks = marks; loads = g.loads })
+pub pair-ordered : (g : Ground) (marks : List Set) (m n : ℕ) → IsOrdered g → length marks ≡ length g.marks → before_in marks ≡ with_pair (before_in g.marks) m n → IsNumber g.problem m → IsNumber g.problem n → m ≢ n → before_in g.marks n m ≡ false → IsOrdered (record { problem = g.problem; marks = marks; loads = g.loads })
 pair-ordered g marks m n ordered count is is_m is_n differ off =
     record {
       few = ordered.few;
@@ -31,7 +31,7 @@ pair-ordered g marks m n ordered count is is_m is_n differ off =
 -- AS IT IS KEPT, with a pair more
 
 module _ (g : Ground) (ordered : IsOrdered g) (m n : ℕ) (is_m : IsNumber g.problem m) (is_n : IsNumber g.problem n) (differ : m ≢ n) (off : before_in g.marks n m ≡ false)
-    (marks : List MarkedNumbers) (count : length marks ≡ length g.marks) (pairs : before_in marks ≡ with_pair (before_in g.marks) m n) where
+    (marks : List Set) (count : length marks ≡ length g.marks) (pairs : before_in marks ≡ with_pair (before_in g.marks) m n) where
   pub its-order : IsOrdered (record { problem = g.problem; marks = marks; loads = g.loads })
   its-order = pair-ordered g marks m n ordered count pairs is_m is_n differ off
 
@@ -41,7 +41,7 @@ module _ (g : Ground) (ordered : IsOrdered g) (m n : ℕ) (is_m : IsNumber g.pro
   pub its-more : (i j : ℕ) → before_in g.marks i j ≡ true → before_in marks i j ≡ true
   its-more = pair-more g.marks marks m n pairs
 
-  module _ (after after2 : List MarkedNumbers) (count_after : length after ≡ length g.problem.block) (count_after2 : length after2 ≡ length after) (turned : (i j : ℕ) → before_in after j i ≡ before_in g.marks i j) (pairs_after : before_in after2 ≡ with_pair (before_in after) n m) where
+  module _ (after after2 : List Set) (count_after : length after ≡ length g.problem.block) (count_after2 : length after2 ≡ length after) (turned : (i j : ℕ) → before_in after j i ≡ before_in g.marks i j) (pairs_after : before_in after2 ≡ with_pair (before_in after) n m) where
     pub after-turned : (i j : ℕ) → before_in after2 j i ≡ before_in marks i j
     after-turned = turned-pair g.problem g.marks after ordered.count count_after marks after2 m n turned pairs pairs_after
 

@@ -4,18 +4,18 @@ use Rattle.std.proofs.Math.Path.{fun_ext}
 use Rattle.std.proofs.lemmas.Bool.{and_parts, and_left, and_right, or_from, cases_Bool, ne_eqb, leb-true, cases_lt}
 use Rattle.std.proofs.lemmas.List.{length-append, get_or_append_left, get_or_push}
 use Rattle.s66_moments.specs.Networks.{with_pair}
-use Rattle.s66_facts.specs.declared.marked_numbers.MarkedNumbers.{MarkedNumbers}
+use Rattle.s66_isa.specs.declared.set.Set.{Set}
 use Rattle.s66_facts.specs.Marked.{is_marked, no_marks, is_in, before_in}
 
 -- those of one number with the pair
-abbrev pub IsPaired : List MarkedNumbers → ℕ → ℕ → ℕ → MarkedNumbers → Type 0
+abbrev pub IsPaired : List Set → ℕ → ℕ → ℕ → Set → Type 0
 IsPaired old j k n own =
     (m : ℕ) → 1 ≤ m → is_marked own m ≡ (is_marked (get_or old (n - 1) no_marks) m || (m == j || is_marked (get_or old (j - 1) no_marks) m) && (n == k || is_marked (get_or old (n - 1) no_marks) k))
 
-abbrev pub ArePaired : List MarkedNumbers → ℕ → ℕ → ℕ → List MarkedNumbers → Type 0
+abbrev pub ArePaired : List Set → ℕ → ℕ → ℕ → List Set → Type 0
 ArePaired old j k count new = (n : ℕ) → 1 ≤ n → n ≤ count → IsPaired old j k n (get_or new (n - 1) no_marks)
 
-module _ (old new : List MarkedNumbers) (j k : ℕ) (same : length new ≡ length old) (in_j : is_in old j ≡ true) (in_k : is_in old k ≡ true) (paired : ArePaired old j k (length old) new) where
+module _ (old new : List Set) (j k : ℕ) (same : length new ≡ length old) (in_j : is_in old j ≡ true) (in_k : is_in old k ≡ true) (paired : ArePaired old j k (length old) new) where
   in-new : (n : ℕ) → is_in new n ≡ is_in old n
   in-new n = ap (λ c. leb 1 n && leb n c) same
 
@@ -52,10 +52,10 @@ module _ (old new : List MarkedNumbers) (j k : ℕ) (same : length new ≡ lengt
   pair-is = fun_ext (λ m. fun_ext (λ n. pair-at m n))
 
 -- one number more
-pub paired-push : (old all whole : List MarkedNumbers) (own : MarkedNumbers) (j k position : ℕ) → length all ≡ position → ArePaired old j k position all
+pub paired-push : (old all whole : List Set) (own : Set) (j k position : ℕ) → length all ≡ position → ArePaired old j k position all
     → ((m : ℕ) → 1 ≤ m → is_marked own m ≡ (is_marked (get_or old position no_marks) m || (m == j || is_marked (get_or old (j - 1) no_marks) m) && (position + 1 == k || is_marked (get_or old position no_marks) k)))
     → whole ≡ all ++ own ∷ [] → (length whole ≡ position + 1) × ArePaired old j k (position + 1) whole
-paired-push old all whole own j k position is paired its is_whole = (omega (arith, ap (λ (ms : List MarkedNumbers). length ms) is_whole, length-append all (own ∷ []), is), each)
+paired-push old all whole own j k position is paired its is_whole = (omega (arith, ap (λ (ms : List Set). length ms) is_whole, length-append all (own ∷ []), is), each)
   where
     each : ArePaired old j k (position + 1) whole
     each n low high m one =

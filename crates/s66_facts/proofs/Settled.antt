@@ -17,7 +17,7 @@ use Rattle.s66_moments.specs.Networks.{IsTransitive, with_pair, same_moment}
 use Rattle.s66_moments.specs.Known.{Known, later, latest, with_line}
 use Rattle.s66_facts.specs.declared.direction.Direction.{Direction}
 use Rattle.s66_facts.specs.declared.direction.Direction.TheVariants.{Forward, Backward}
-use Rattle.s66_facts.specs.declared.marked_numbers.MarkedNumbers.{MarkedNumbers}
+use Rattle.s66_isa.specs.declared.set.Set.{Set}
 use Rattle.s66_facts.specs.declared.times.Times.{Times}
 use Rattle.s66_facts.specs.Marked.{is_marked, before_in}
 use Rattle.s66_facts.specs.Ground.{Ground, known_of, IsOrdered}
@@ -50,10 +50,10 @@ latest-more f (l ∷ ls) last none = ap (later (f l)) (latest-more f ls last non
 
 -- ONE STEP: all the times of k, by what comes sooner by these marks, and by loads
 
-abbrev step_of : Direction → Problem → List MarkedNumbers → List KnownArc → Moment → List Times → ℕ → Times
+abbrev step_of : Direction → Problem → List Set → List KnownArc → Moment → List Times → ℕ → Times
 step_of d b marks loads e times k = times_of d (record { problem = b; marks = marks; loads = loads }) (λ m. sooner d (before_in marks) m k) e times k
 
-step-by : (d : Direction) (b : Problem) (marks marks2 : List MarkedNumbers) (loads loads2 : List KnownArc) (e : Moment) (times : List Times) (k : ℕ) →
+step-by : (d : Direction) (b : Problem) (marks marks2 : List Set) (loads loads2 : List KnownArc) (e : Moment) (times : List Times) (k : ℕ) →
     by_all d b (λ m. sooner d (before_in marks) m k) times k ≡ by_all d b (λ m. sooner d (before_in marks2) m k) times k →
     ((s : Stage) → (s ≡ Issue) ⊎ (s ≡ Start) → by_loads d loads times e (At k s) ≡ by_loads d loads2 times e (At k s)) →
     step_of d b marks loads e times k ≡ step_of d b marks2 loads2 e times k
@@ -74,7 +74,7 @@ apart : (d : Direction) (g : Ground) → IsOrdered g → (n : ℕ) → IsNumber 
 apart Forward g ordered n is_n = ordered.no_ring n is_n
 apart Backward g ordered n is_n = ordered.no_ring n is_n
 
-module _ (d : Direction) (g : Ground) (ordered : IsOrdered g) (e : Moment) (times : List Times) (settled new : MarkedNumbers) (n : ℕ) (is_n : IsNumber g.problem n) (room : n ≤ length times) (time : Times) (right : IsStep d g e times n time) where
+module _ (d : Direction) (g : Ground) (ordered : IsOrdered g) (e : Moment) (times : List Times) (settled new : Set) (n : ℕ) (is_n : IsNumber g.problem n) (room : n ≤ length times) (time : Times) (right : IsStep d g e times n time) where
   abbrev sooner_in : ℕ → ℕ → Bool
   sooner_in = sooner d (before_in g.marks)
 
@@ -90,7 +90,7 @@ module _ (d : Direction) (g : Ground) (ordered : IsOrdered g) (e : Moment) (time
       ]
 
   -- they are others, and so is not settled what waits for them
-  module _ (touched rest : MarkedNumbers) (less : (m : ℕ) → 1 ≤ m → m ≤ BLOCK_LIMIT → is_marked rest m ≡ (is_marked settled m && not (is_marked touched m))) (marked : (m : ℕ) → 1 ≤ m → is_marked new m ≡ (m == n || is_marked rest m)) where
+  module _ (touched rest : Set) (less : (m : ℕ) → 1 ≤ m → m ≤ BLOCK_LIMIT → is_marked rest m ≡ (is_marked settled m && not (is_marked touched m))) (marked : (m : ℕ) → 1 ≤ m → is_marked new m ≡ (m == n || is_marked rest m)) where
     was-settled : (k : ℕ) → IsNumber g.problem k → is_marked rest k ≡ true → (is_marked settled k ≡ true) × (is_marked touched k ≡ false)
     was-settled k is_k now =
         let (old, off) = and_parts (is_marked settled k) (not (is_marked touched k)) (sym (less k is_k.0 (omega (arith, is_k.1, ordered.few))) ∙ now) in
@@ -131,7 +131,7 @@ module _ (d : Direction) (g : Ground) (ordered : IsOrdered g) (e : Moment) (time
 
 -- WHAT IS MARKED stays so, but for what waits for others
 
-pub still-marked : (settled touched rest new : MarkedNumbers) (n : ℕ) → ((m : ℕ) → 1 ≤ m → m ≤ BLOCK_LIMIT → is_marked rest m ≡ (is_marked settled m && not (is_marked touched m))) → ((m : ℕ) → 1 ≤ m → is_marked new m ≡ (m == n || is_marked rest m)) →
+pub still-marked : (settled touched rest new : Set) (n : ℕ) → ((m : ℕ) → 1 ≤ m → m ≤ BLOCK_LIMIT → is_marked rest m ≡ (is_marked settled m && not (is_marked touched m))) → ((m : ℕ) → 1 ≤ m → is_marked new m ≡ (m == n || is_marked rest m)) →
     (k : ℕ) → 1 ≤ k → k ≤ BLOCK_LIMIT → is_marked settled k ≡ true → is_marked touched k ≡ false → is_marked new k ≡ true
 still-marked settled touched rest new n less marked k low high now off =
     marked k low ∙ or_right (k == n) (is_marked rest k) (less k low high ∙ and_from (is_marked settled k) (not (is_marked touched k)) now (ap not off))
@@ -192,7 +192,7 @@ module _ (b : Problem) (before : ℕ → ℕ → Bool) (transitive : IsTransitiv
 
 -- MORE KNOWN, by a graph of the same block
 
-module _ (d : Direction) (g g2 : Ground) (ordered : IsOrdered g) (ordered2 : IsOrdered g2) (problem : g2.problem ≡ g.problem) (e : Moment) (begins : can_begin d e ≡ true) (times : List Times) (all : AreAll d g e times) (settled : MarkedNumbers) where
+module _ (d : Direction) (g g2 : Ground) (ordered : IsOrdered g) (ordered2 : IsOrdered g2) (problem : g2.problem ≡ g.problem) (e : Moment) (begins : can_begin d e ≡ true) (times : List Times) (all : AreAll d g e times) (settled : Set) where
   abbrev again : Ground
   again = record { problem = g.problem; marks = g2.marks; loads = g2.loads }
 

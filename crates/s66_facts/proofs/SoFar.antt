@@ -6,26 +6,26 @@ use Rattle.s66_isa.specs.Table.{instr_at}
 use Rattle.s66_model.specs.Dependence.{conflict, depends}
 use Rattle.s66_moments.specs.Networks.{precedes}
 use Rattle.s66_moments.proofs.Preceders.{precedes-near, precedes-far, precedes-cases}
-use Rattle.s66_facts.specs.declared.marked_numbers.MarkedNumbers.{MarkedNumbers}
+use Rattle.s66_isa.specs.declared.set.Set.{Set}
 use Rattle.s66_facts.specs.Marked.{is_marked, no_marks, IsClosedUpTo}
 
 -- what the numbers up to one give
-pub record IsSoFar (block : List Instr) (n count : ℕ) (sooner : MarkedNumbers) : Type 0 where
+pub record IsSoFar (block : List Instr) (n count : ℕ) (sooner : Set) : Type 0 where
   pub right : (m : ℕ) → 1 ≤ m → is_marked sooner m ≡ true → precedes block m n ≡ true
   pub whole : (k m : ℕ) → 1 ≤ k → k ≤ count → 1 ≤ m → depends block k n ≡ true → ((m ≡ k) ⊎ (precedes block m k ≡ true)) → is_marked sooner m ≡ true
 
-pub so_far-none : (block : List Instr) (n : ℕ) (none : MarkedNumbers) → ((m : ℕ) → is_marked none m ≡ false) → IsSoFar block n 0 none
+pub so_far-none : (block : List Instr) (n : ℕ) (none : Set) → ((m : ℕ) → is_marked none m ≡ false) → IsSoFar block n 0 none
 so_far-none block n none off =
     record {
       right = λ m one is. absurd (true≢false (sym is ∙ off m));
       whole = λ k m low high. absurd (omega (arith, low, high));
     }
 
-module _ (block : List Instr) (n count : ℕ) (old : MarkedNumbers) (high_n : n ≤ length block) where
+module _ (block : List Instr) (n count : ℕ) (old : Set) (high_n : n ≤ length block) where
   abbrev k : ℕ
   k = count + 1
 
-  pub so_far-more : (own both new : MarkedNumbers) → depends block k n ≡ true → IsSoFar block n count old → ((m : ℕ) → 1 ≤ m → is_marked own m ≡ precedes block m k) → ((m : ℕ) → is_marked both m ≡ (is_marked old m || is_marked own m)) → ((m : ℕ) → 1 ≤ m → is_marked new m ≡ (m == k || is_marked both m)) → IsSoFar block n (count + 1) new
+  pub so_far-more : (own both new : Set) → depends block k n ≡ true → IsSoFar block n count old → ((m : ℕ) → 1 ≤ m → is_marked own m ≡ precedes block m k) → ((m : ℕ) → is_marked both m ≡ (is_marked old m || is_marked own m)) → ((m : ℕ) → 1 ≤ m → is_marked new m ≡ (m == k || is_marked both m)) → IsSoFar block n (count + 1) new
   so_far-more own both new dep so own_is both_is new_is = record { right = right; whole = whole }
     where
       right : (m : ℕ) → 1 ≤ m → is_marked new m ≡ true → precedes block m n ≡ true
@@ -69,7 +69,7 @@ same-bool true y there back = sym (there refl)
 same-bool false true there back = absurd (true≢false (sym (back refl)))
 same-bool false false there back = refl
 
-pub so_far-all : (block : List Instr) (n count : ℕ) (sooner : MarkedNumbers) → 1 ≤ n → n ≤ length block → n ≤ count + 1 → IsSoFar block n count sooner → (m : ℕ) → 1 ≤ m → is_marked sooner m ≡ precedes block m n
+pub so_far-all : (block : List Instr) (n count : ℕ) (sooner : Set) → 1 ≤ n → n ≤ length block → n ≤ count + 1 → IsSoFar block n count sooner → (m : ℕ) → 1 ≤ m → is_marked sooner m ≡ precedes block m n
 so_far-all block n count sooner low high all so m one =
     same-bool (is_marked sooner m) (precedes block m n) (so.right m one) (λ first.
     elim (precedes-cases block m n low high first) [
@@ -80,7 +80,7 @@ so_far-all block n count sooner low high all so m one =
     ])
 
 -- those of one
-pub closed-at : (block : List Instr) (marks : List MarkedNumbers) (count i : ℕ) (own : MarkedNumbers) → IsClosedUpTo block marks count → i < count → own ≡ get_or marks i no_marks → (m : ℕ) → 1 ≤ m → is_marked own m ≡ precedes block m (i + 1)
+pub closed-at : (block : List Instr) (marks : List Set) (count i : ℕ) (own : Set) → IsClosedUpTo block marks count → i < count → own ≡ get_or marks i no_marks → (m : ℕ) → 1 ≤ m → is_marked own m ≡ precedes block m (i + 1)
 closed-at block marks count i own closed less there m one =
     let same : i ≡ i + 1 - 1 = omega arith in
     ap (λ ms. is_marked ms m) (there ∙ ap (λ j. get_or marks j no_marks) same) ∙ closed (i + 1) m (omega arith) (omega (arith, less)) one

@@ -1,12 +1,7 @@
 -- The numbers of a block that are left, and whether one of them passes a test.
-use Rattle.std.proofs.Common.{ℕ, suc, ◌+◌, ◌-◌, ◌≡◌, ◌≤◌, ◌<◌, ◌∙◌, Bool, true, false, ◌∷◌, refl, ap, arith}
+use Rattle.std.proofs.Common.{ℕ, ◌+◌, ◌-◌, ◌≡◌, ◌≤◌, ◌<◌, ◌∙◌, Bool, true, false, refl, ap, arith}
 use Rattle.s66_isa.specs.Lists.{some_of, rising}
-
-rising-next : (n i : ℕ) → i < n → rising (n - i) (i + 1) ≡ (i + 1) ∷ rising (n - (i + 1)) (i + 1 + 1)
-rising-next n i lt =
-    let more : n - i ≡ suc (n - (i + 1)) = omega arith in
-    let next : suc (i + 1) ≡ i + 1 + 1 = omega arith in
-    ap (λ k. rising k (i + 1)) more ∙ ap (λ m. (i + 1) ∷ rising (n - (i + 1)) m) next
+use Rattle.s66_isa.proofs.Lists.{rising-next}
 
 pub some-end : (test : ℕ → Bool) (n i : ℕ) → n ≤ i → some_of test (rising (n - i) (i + 1)) ≡ false
 some-end test n i le =

@@ -6,13 +6,13 @@ use Rattle.s66_model.specs.Timing.{Problem}
 use Rattle.s66_moments.specs.declared.fact_line.KnownArc.{KnownArc}
 use Rattle.s66_moments.specs.Networks.{Network, IsTransitive, HasNoRing}
 use Rattle.s66_moments.specs.Known.{Known, is_arc_up, arcs_of}
-use Rattle.s66_facts.specs.declared.marked_numbers.MarkedNumbers.{MarkedNumbers}
+use Rattle.s66_isa.specs.declared.set.Set.{Set}
 use Rattle.s66_facts.specs.Marked.{before_in}
 
 -- of each number those that are known to stand before it, and the arcs of loads
 pub record Ground : Type 0 where
   pub problem : Problem
-  pub marks : List MarkedNumbers
+  pub marks : List Set
   pub loads : List KnownArc
 
 abbrev pub known_of : Ground → Known

@@ -1,25 +1,26 @@
--- Used by contracts: which numbers are marked: bit n - 1 of the word is that of n.
-use Rattle.std.specs.Prelude.{ℕ, ◌-◌, ◌≡◌, ◌≤◌, ◌==◌, ◌&&◌, Bool, List, length, get_or, nat_le}
-use Rattle.std.specs.Int.{bit_at}
+-- Used by contracts: which numbers are marked: those of a set.
+use Rattle.std.specs.Prelude.{ℕ, ◌-◌, ◌≡◌, ◌≤◌, ◌&&◌, Bool, List, length, get_or, nat_le}
 use Rattle.s66_isa.specs.declared.instr.Instr.{Instr}
 use Rattle.s66_moments.specs.Networks.{precedes}
-use Rattle.s66_facts.specs.declared.marked_numbers.MarkedNumbers.{MarkedNumbers}
+use Rattle.s66_isa.specs.declared.set.Set.{Set}
+use Rattle.s66_isa.specs.Lists.{has}
+use Rattle.s66_isa.specs.Members.{numbers_in, no_set}
 
-abbrev pub is_marked : MarkedNumbers → ℕ → Bool
-is_marked marks n = bit_at marks.bits (n - 1) == 1
+abbrev pub is_marked : Set → ℕ → Bool
+is_marked marks n = has n (numbers_in marks)
 
-abbrev pub no_marks : MarkedNumbers
-no_marks = record { bits = 0 }
+abbrev pub no_marks : Set
+no_marks = no_set
 
 -- a number of the block
-abbrev pub is_in : List MarkedNumbers → ℕ → Bool
+abbrev pub is_in : List Set → ℕ → Bool
 is_in marks n = nat_le 1 n && nat_le n (length marks)
 
 -- those of each number are the numbers that stand before it
-abbrev pub before_in : List MarkedNumbers → ℕ → ℕ → Bool
+abbrev pub before_in : List Set → ℕ → ℕ → Bool
 before_in marks m n = is_in marks m && is_in marks n && is_marked (get_or marks (n - 1) no_marks) m
 
 -- the marks of the first numbers are those that stand before them by dependence
-abbrev pub IsClosedUpTo : List Instr → List MarkedNumbers → ℕ → Type 0
+abbrev pub IsClosedUpTo : List Instr → List Set → ℕ → Type 0
 IsClosedUpTo block marks count =
     (k m : ℕ) → 1 ≤ k → k ≤ count → 1 ≤ m → is_marked (get_or marks (k - 1) no_marks) m ≡ precedes block m k

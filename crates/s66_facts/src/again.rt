@@ -16,10 +16,9 @@ ghost use Rattle.s66_facts.specs.Settled.{AreAll, IsReady, IsMarkedUpTo, AreSett
 
 use crate::direction::Direction;
 use crate::graph::Graph;
-use crate::marked_numbers::MarkedNumbers;
+use s66_isa::{BLOCK_LIMIT, Set};
 use crate::paths::times_of;
 use crate::times::{Times, is_same_moment, times_at};
-use s66_isa::BLOCK_LIMIT;
 use s66_moments::{Moment, Stage};
 
 /// Whether the same numbers come sooner than k if m comes sooner than n too.
@@ -33,14 +32,14 @@ fn keeps(direction: Direction, graph: &Graph, m: u8, n: u8, k: u8) -> bool
 }
 
 /// The numbers than which the same ones come sooner if m comes sooner than n too.
-pub(crate) fn all_kept(direction: Direction, graph: &Graph, m: u8, n: u8) -> MarkedNumbers
+pub(crate) fn all_kept(direction: Direction, graph: &Graph, m: u8, n: u8) -> Set
     requires m { IsNumber graph.now.problem m }
     requires n { IsNumber graph.now.problem n }
     requires few { length graph.now.problem.block ≤ BLOCK_LIMIT }
     ensures { (k : ℕ) → IsNumber graph.now.problem k → is_marked result k ≡ true →
         keeps (sooner direction (before_in graph.now.marks)) m n k ≡ true }
 {
-    let mut same = MarkedNumbers::none();
+    let mut same = Set::empty();
     for position in 0..graph.count() {
         if keeps(direction, graph, m, n, position + 1) {
             same = same.with(position + 1);
@@ -58,12 +57,12 @@ fn is_its(moment: &Moment, n: u8) -> bool
 }
 
 /// All numbers but that of a moment, an issue or a start.
-pub(crate) fn all_but(graph: &Graph, moment: &Moment) -> MarkedNumbers
+pub(crate) fn all_but(graph: &Graph, moment: &Moment) -> Set
     requires { length graph.now.problem.block ≤ BLOCK_LIMIT }
     ensures { (k : ℕ) → IsNumber graph.now.problem k → is_marked result k ≡ true →
         (same_moment moment.now (At k Issue) || same_moment moment.now (At k Start)) ≡ false }
 {
-    let mut others = MarkedNumbers::none();
+    let mut others = Set::empty();
     for position in 0..graph.count() {
         if !is_its(moment, position + 1) {
             others = others.with(position + 1);
@@ -78,9 +77,9 @@ fn settle(
     graph: &Graph,
     from: &Moment,
     times: &mut [Times; BLOCK_LIMIT],
-    settled: MarkedNumbers,
+    settled: Set,
     n: u8,
-) -> MarkedNumbers
+) -> Set
     requires n { IsNumber graph.now.problem n }
     requires few { length graph.now.problem.block ≤ BLOCK_LIMIT }
     requires ordered { IsOrdered graph.now }
@@ -95,7 +94,7 @@ fn settle(
     if settled.has(n) {
         return settled;
     }
-    if !graph.near(direction, n).are_within(&settled) {
+    if !graph.near(direction, n).is_within(&settled) {
         return settled;
     }
     let time = times_of(direction, graph, from, times, n);
@@ -103,7 +102,7 @@ fn settle(
         return settled.with(n);
     }
     times[n as usize - 1] = time;
-    settled.without_all(graph.later(direction, n)).with(n)
+    settled.without(&graph.later(direction, n)).with(n)
 }
 
 /// The number that is looked at after so many others: what comes sooner is mostly looked at before.
@@ -124,8 +123,8 @@ fn settle_each(
     graph: &Graph,
     from: &Moment,
     times: &mut [Times; BLOCK_LIMIT],
-    settled: MarkedNumbers,
-) -> MarkedNumbers
+    settled: Set,
+) -> Set
     requires few { length graph.now.problem.block ≤ BLOCK_LIMIT }
     requires ordered { IsOrdered graph.now }
     requires from { can_begin direction from.now ≡ true }
@@ -143,7 +142,7 @@ fn settle_each(
 }
 
 /// Whether all numbers are marked.
-fn are_all(graph: &Graph, done: &MarkedNumbers) -> bool
+fn are_all(graph: &Graph, done: &Set) -> bool
     requires { length graph.now.problem.block ≤ BLOCK_LIMIT }
     ensures { IsTrue result → (n : ℕ) → IsNumber graph.now.problem n → is_marked done.now n ≡ true }
 {
@@ -162,7 +161,7 @@ pub(crate) fn find_again(
     graph: &Graph,
     from: &Moment,
     times: &mut [Times; BLOCK_LIMIT],
-    settled: MarkedNumbers,
+    settled: Set,
 )
     requires few { length graph.now.problem.block ≤ BLOCK_LIMIT }
     requires ordered { IsOrdered graph.now }
@@ -187,6 +186,6 @@ pub(crate) fn find_all(direction: Direction, graph: &Graph, from: &Moment) -> [T
     ensures { AreAll direction graph.now from.now result }
 {
     let mut times = [Times::none(); BLOCK_LIMIT];
-    find_again(direction, graph, from, &mut times, MarkedNumbers::none());
+    find_again(direction, graph, from, &mut times, Set::empty());
     times
 }

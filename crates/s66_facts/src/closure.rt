@@ -7,9 +7,8 @@ ghost use Rattle.s66_model.specs.Dependence.{share, conflict, depends};
 ghost use Rattle.s66_moments.specs.Networks.{precedes};
 ghost use Rattle.s66_facts.specs.Marked.{is_marked, no_marks, IsClosedUpTo};
 
-use crate::marked_numbers::MarkedNumbers;
+use s66_isa::{BLOCK_LIMIT, Instr, Reg, Set, has_register, is_memory_conflict};
 use arrayvec::ArrayVec;
-use s66_isa::{BLOCK_LIMIT, Instr, Reg, has_register, is_memory_conflict};
 
 /// Whether some register is in both.
 fn share(registers: &[Reg], others: &[Reg]) -> bool
@@ -47,7 +46,7 @@ fn depends(block: &[Instr], earlier: usize, position: usize) -> bool
 }
 
 /// Those at a position.
-pub(crate) fn marks_at(marks: &[MarkedNumbers], position: usize) -> MarkedNumbers
+pub(crate) fn marks_at(marks: &[Set], position: usize) -> Set
     requires { position < length marks.now }
     ensures { result ≡ get_or marks.now position no_marks }
 {
@@ -55,18 +54,18 @@ pub(crate) fn marks_at(marks: &[MarkedNumbers], position: usize) -> MarkedNumber
 }
 
 /// The numbers that stand before the one at a position: those on which it depends, and what stands before these.
-fn before_at(block: &[Instr], before: &[MarkedNumbers], position: usize) -> MarkedNumbers
+fn before_at(block: &[Instr], before: &[Set], position: usize) -> Set
     requires few { length block.now ≤ BLOCK_LIMIT }
     requires place { position < length block.now }
     requires count { length before.now ≡ position }
     requires closed { IsClosedUpTo block.now before.now position }
     ensures { (m : ℕ) → 1 ≤ m → is_marked result m ≡ precedes block.now m (position + 1) }
 {
-    let mut sooner = MarkedNumbers::none();
+    let mut sooner = Set::empty();
     for earlier in 0..position {
         if depends(block, earlier, position) {
             let own = marks_at(before, earlier);
-            let with_those = sooner.with_all(own);
+            let with_those = sooner.with_all(&own);
             sooner = with_those.with((earlier + 1) as u8);
         }
     }
@@ -74,12 +73,12 @@ fn before_at(block: &[Instr], before: &[MarkedNumbers], position: usize) -> Mark
 }
 
 /// The numbers that stand before each.
-pub(crate) fn before_each(block: &[Instr]) -> ArrayVec<MarkedNumbers, BLOCK_LIMIT>
+pub(crate) fn before_each(block: &[Instr]) -> ArrayVec<Set, BLOCK_LIMIT>
     requires { length block.now ≤ BLOCK_LIMIT }
     ensures count { length result.items ≡ length block.now }
     ensures closed { IsClosedUpTo block.now result.items (length block.now) }
 {
-    let mut before: ArrayVec<MarkedNumbers, BLOCK_LIMIT> = ArrayVec::new();
+    let mut before: ArrayVec<Set, BLOCK_LIMIT> = ArrayVec::new();
     for position in 0..block.len() {
         let sooner = before_at(block, before.as_slice(), position);
         before.push(sooner);

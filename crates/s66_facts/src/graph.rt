@@ -9,11 +9,11 @@ ghost use Rattle.s66_facts.specs.declared.limits.TheConstants.{FACT_LIMIT};
 use crate::arcs::Arcs;
 use crate::closure::{before_each, marks_at};
 use crate::direction::Direction;
-use crate::marked_numbers::{MarkedNumbers, copy_of, none_each};
+use crate::marks::{copy_of, none_each};
+use s66_isa::{BLOCK_LIMIT, Instr, Kind, Profile, Row, Set, is_same_kind};
 use crate::near::near_each;
 use crate::pairs::{turned, with_pair};
 use arrayvec::ArrayVec;
-use s66_isa::{BLOCK_LIMIT, Instr, Kind, Profile, Row, is_same_kind};
 use s66_moments::{KnownArc, Moment};
 use std::marker::Model;
 
@@ -24,13 +24,13 @@ pub(crate) struct Graph {
     profile: Profile,
     rows: ArrayVec<Row, BLOCK_LIMIT>,
     /// Of each number those that stand before it.
-    before: ArrayVec<MarkedNumbers, BLOCK_LIMIT>,
+    before: ArrayVec<Set, BLOCK_LIMIT>,
     /// After it.
-    after: ArrayVec<MarkedNumbers, BLOCK_LIMIT>,
+    after: ArrayVec<Set, BLOCK_LIMIT>,
     /// Those of the former that decide its times.
-    near_before: ArrayVec<MarkedNumbers, BLOCK_LIMIT>,
+    near_before: ArrayVec<Set, BLOCK_LIMIT>,
     /// Those of the latter.
-    near_after: ArrayVec<MarkedNumbers, BLOCK_LIMIT>,
+    near_after: ArrayVec<Set, BLOCK_LIMIT>,
     loads: Arcs,
 }
 
@@ -196,7 +196,7 @@ impl Graph {
     }
 
     /// The numbers that come later than n.
-    pub(crate) fn later(&self, direction: Direction, n: u8) -> MarkedNumbers
+    pub(crate) fn later(&self, direction: Direction, n: u8) -> Set
         requires { IsNumber self.now.problem n }
         ensures { (m : ℕ) → IsNumber self.now.problem m →
             is_marked result m ≡ sooner direction (before_in self.now.marks) n m }
@@ -208,7 +208,7 @@ impl Graph {
     }
 
     /// Those of the numbers that come sooner than n that decide its times.
-    pub(crate) fn near(&self, direction: Direction, n: u8) -> MarkedNumbers
+    pub(crate) fn near(&self, direction: Direction, n: u8) -> Set
         requires { IsNumber self.now.problem n }
         ensures { IsNear self.now.problem (sooner direction (before_in self.now.marks)) result n }
     {
@@ -219,7 +219,7 @@ impl Graph {
     }
 
     /// Those of the numbers that stand after n.
-    fn near_after(&self, n: u8) -> MarkedNumbers
+    fn near_after(&self, n: u8) -> Set
         requires { IsNumber self.now.problem n }
         ensures { IsNear self.now.problem (λ m k. before_in self.now.marks k m) result n }
     {

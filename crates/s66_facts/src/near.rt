@@ -12,10 +12,9 @@ ghost use Rattle.s66_facts.specs.Near.{uses, hands_on, covers, IsCovered, AreNea
 
 use crate::closure::marks_at;
 use crate::graph::Graph;
-use crate::marked_numbers::MarkedNumbers;
+use s66_isa::{BLOCK_LIMIT, Reg, Row, Set, has_register, is_memory_conflict, is_same_kind};
 use crate::times::writes;
 use arrayvec::ArrayVec;
-use s66_isa::{BLOCK_LIMIT, Reg, Row, has_register, is_memory_conflict, is_same_kind};
 
 /// Whether an instruction writes a register or reads it.
 fn uses(row: &Row, register: Reg) -> bool
@@ -53,7 +52,7 @@ fn covers(graph: &Graph, m: u8, k: u8, n: u8) -> bool
 }
 
 /// Whether one that is marked stands between m and n and does so. Of each number, `sooner` has those on m's side of it.
-fn is_covered(graph: &Graph, sooner: &[MarkedNumbers], near: MarkedNumbers, m: u8, n: u8) -> bool
+fn is_covered(graph: &Graph, sooner: &[Set], near: Set, m: u8, n: u8) -> bool
     requires m { IsNumber graph.now.problem m }
     requires n { IsNumber graph.now.problem n }
     requires few { length graph.now.problem.block ≤ BLOCK_LIMIT }
@@ -73,12 +72,12 @@ fn is_covered(graph: &Graph, sooner: &[MarkedNumbers], near: MarkedNumbers, m: u
 /// Marks m too, if it is one of these and none that is marked covers it.
 fn with_one(
     graph: &Graph,
-    sooner: &[MarkedNumbers],
-    own: MarkedNumbers,
-    near: MarkedNumbers,
+    sooner: &[Set],
+    own: Set,
+    near: Set,
     m: u8,
     n: u8,
-) -> MarkedNumbers
+) -> Set
     requires n { IsNumber graph.now.problem n }
     requires few { length graph.now.problem.block ≤ BLOCK_LIMIT }
     requires count { length sooner.now ≡ length graph.now.problem.block }
@@ -100,11 +99,11 @@ fn with_one(
 /// Marks more of these numbers, those next to n in the source first, until what is marked covers all of them.
 fn with_near(
     graph: &Graph,
-    sooner: &[MarkedNumbers],
-    own: MarkedNumbers,
-    near: MarkedNumbers,
+    sooner: &[Set],
+    own: Set,
+    near: Set,
     n: u8,
-) -> MarkedNumbers
+) -> Set
     requires n { IsNumber graph.now.problem n }
     requires few { length graph.now.problem.block ≤ BLOCK_LIMIT }
     requires count { length sooner.now ≡ length graph.now.problem.block }
@@ -119,7 +118,7 @@ fn with_near(
 {
     let count = graph.count();
     let mut all = near;
-    if own.are_within(&near) {
+    if own.is_within(&near) {
         return near;
     }
     for distance in 1..count {
@@ -133,10 +132,10 @@ fn with_near(
 /// that is new.
 pub(crate) fn near_each(
     graph: &Graph,
-    sooner: &[MarkedNumbers],
-    old: &[MarkedNumbers],
-    near: &[MarkedNumbers],
-) -> ArrayVec<MarkedNumbers, BLOCK_LIMIT>
+    sooner: &[Set],
+    old: &[Set],
+    near: &[Set],
+) -> ArrayVec<Set, BLOCK_LIMIT>
     requires few { length graph.now.problem.block ≤ BLOCK_LIMIT }
     requires count { length sooner.now ≡ length graph.now.problem.block }
     requires count_old { length old.now ≡ length graph.now.problem.block }
@@ -145,9 +144,9 @@ pub(crate) fn near_each(
     requires near { AreNear graph.now.problem old.now near.now }
     ensures { AreNear graph.now.problem sooner.now result.items }
 {
-    let mut all: ArrayVec<MarkedNumbers, BLOCK_LIMIT> = ArrayVec::new();
+    let mut all: ArrayVec<Set, BLOCK_LIMIT> = ArrayVec::new();
     for position in 0..sooner.len() {
-        let own = marks_at(sooner, position).without_all(marks_at(old, position));
+        let own = marks_at(sooner, position).without(&marks_at(old, position));
         let more = with_near(
             graph,
             sooner,

@@ -7,12 +7,11 @@ ghost use Rattle.s66_moments.specs.Networks.{with_pair};
 ghost use Rattle.s66_facts.specs.Marked.{is_marked, no_marks, before_in};
 
 use crate::closure::marks_at;
-use crate::marked_numbers::MarkedNumbers;
+use s66_isa::{BLOCK_LIMIT, Set};
 use arrayvec::ArrayVec;
-use s66_isa::BLOCK_LIMIT;
 
 /// The numbers that stand before the one at a position, if j stands before k too.
-fn marks_with_pair(before: &[MarkedNumbers], j: u8, k: u8, position: usize) -> MarkedNumbers
+fn marks_with_pair(before: &[Set], j: u8, k: u8, position: usize) -> Set
     requires few { length before.now ≤ BLOCK_LIMIT }
     requires j { (1 ≤ j) × (j ≤ length before.now) }
     requires k { (1 ≤ k) × (k ≤ length before.now) }
@@ -25,7 +24,7 @@ fn marks_with_pair(before: &[MarkedNumbers], j: u8, k: u8, position: usize) -> M
     let own = marks_at(before, position);
     if position + 1 == k as usize || own.has(k) {
         let earlier = marks_at(before, j as usize - 1).with(j);
-        own.with_all(earlier)
+        own.with_all(&earlier)
     } else {
         own
     }
@@ -33,17 +32,17 @@ fn marks_with_pair(before: &[MarkedNumbers], j: u8, k: u8, position: usize) -> M
 
 /// The numbers that stand before each, if j stands before k too.
 pub(crate) fn with_pair(
-    before: &[MarkedNumbers],
+    before: &[Set],
     j: u8,
     k: u8,
-) -> ArrayVec<MarkedNumbers, BLOCK_LIMIT>
+) -> ArrayVec<Set, BLOCK_LIMIT>
     requires few { length before.now ≤ BLOCK_LIMIT }
     requires j { (1 ≤ j) × (j ≤ length before.now) }
     requires k { (1 ≤ k) × (k ≤ length before.now) }
     ensures count { length result.items ≡ length before.now }
     ensures pairs { before_in result.items ≡ with_pair (before_in before.now) j k }
 {
-    let mut all: ArrayVec<MarkedNumbers, BLOCK_LIMIT> = ArrayVec::new();
+    let mut all: ArrayVec<Set, BLOCK_LIMIT> = ArrayVec::new();
     for position in 0..before.len() {
         let sooner = marks_with_pair(before, j, k, position);
         all.push(sooner);
@@ -52,12 +51,12 @@ pub(crate) fn with_pair(
 }
 
 /// The numbers that have n marked.
-fn turned_at(before: &[MarkedNumbers], n: u8) -> MarkedNumbers
+fn turned_at(before: &[Set], n: u8) -> Set
     requires few { length before.now ≤ BLOCK_LIMIT }
     requires n { (1 ≤ n) × (n ≤ length before.now) }
     ensures { (m : ℕ) → 1 ≤ m → is_marked result m ≡ before_in before.now n m }
 {
-    let mut all = MarkedNumbers::none();
+    let mut all = Set::empty();
     for position in 0..before.len() {
         if marks_at(before, position).has(n) {
             all = all.with(position as u8 + 1);
@@ -67,13 +66,13 @@ fn turned_at(before: &[MarkedNumbers], n: u8) -> MarkedNumbers
 }
 
 /// The numbers that stand after each. Each two are looked at.
-pub(crate) fn turned(before: &[MarkedNumbers]) -> ArrayVec<MarkedNumbers, BLOCK_LIMIT>
+pub(crate) fn turned(before: &[Set]) -> ArrayVec<Set, BLOCK_LIMIT>
     requires { length before.now ≤ BLOCK_LIMIT }
     ensures count { length result.items ≡ length before.now }
     ensures each { (n : ℕ) → 1 ≤ n → n ≤ length before.now → (m : ℕ) → 1 ≤ m →
         is_marked (get_or result.items (n - 1) no_marks) m ≡ before_in before.now n m }
 {
-    let mut all: ArrayVec<MarkedNumbers, BLOCK_LIMIT> = ArrayVec::new();
+    let mut all: ArrayVec<Set, BLOCK_LIMIT> = ArrayVec::new();
     for position in 0..before.len() {
         let later = turned_at(before, position as u8 + 1);
         all.push(later);

@@ -6,3 +6,6 @@ pub mod FirstRegister
 pub mod Writes
 pub mod GoodRows
 pub mod Profiles
+pub mod SetBits
+pub mod Sets
+pub mod SetLowest

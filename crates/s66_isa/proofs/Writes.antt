@@ -62,7 +62,7 @@ pub writes-most : (p : Profile) (n : Instr) → greatest (λ (w : Reg × ℕ). w
 writes-most p n = omega (arith, pairs-most (hold_of p n.op.code) p.load (held_registers n) (loaded_registers (memory_of n) n), hold_range p n.op.code, p.greatest.9)
 
 -- only a load references memory in this way, and it holds its address alone
-is-load : (set low : Bool) → cond set (cond low memory.Load memory.Store) memory.None ≡ memory.Load → set ≡ true
+pub is-load : (set low : Bool) → cond set (cond low memory.Load memory.Store) memory.None ≡ memory.Load → set ≡ true
 is-load true low h = refl
 is-load false low h = absurd (true≢false (sym (ap touches h)))
 

@@ -11,6 +11,7 @@ mod profile;
 mod reg;
 mod registers;
 mod row;
+mod set;
 mod write;
 
 pub use instr::{
@@ -23,4 +24,5 @@ pub use profile::{Profile, is_same_profile};
 pub use reg::{Bank, REGISTER_COUNT, Reg, has_register, is_same_register, is_zero_register};
 pub use registers::Registers;
 pub use row::Row;
+pub use set::Set;
 pub use write::{Write, longest_latency, writes_of};

@@ -2,7 +2,7 @@
 use Rattle.std.proofs.Common.{ℕ, zero, suc, ◌+◌, ◌≤◌, ◌<◌, ◌≡◌, Bool, true, false, cond, List, [], ◌∷◌, ◌++◌, length, get_or, set, refl, sym, ap, arith, inl, inr, ◌∙◌, length-append}
 use Rattle.std.proofs.lemmas.Bool.{cases_eq, cases_Bool}
 use Rattle.s66_isa.specs.Lists.{tally}
-use Rattle.s66_isa.proofs.Lists.{tally-set, tally-append, cases_le}
+use Rattle.s66_isa.proofs.Lists.{tally-set, tally-append, cases_le, get_or-past}
 use Rattle.s66_node.specs.declared.node.Node.{Node}
 use Rattle.s66_node.specs.declared.node.State.{State}
 use Rattle.s66_node.specs.declared.node.State.TheVariants as state
@@ -12,7 +12,6 @@ use Rattle.s66_ledger.specs.OpenNodes.{StoresOut}
 use Rattle.s66_ledger.specs.LiveNodes.{AreCounted}
 use Rattle.s66_ledger.proofs.OpenHeap.{set-here, set-other}
 use Rattle.s66_node.proofs.Nodes.{get_or-front, get_or-last}
-use Rattle.s66_ledger.proofs.NodePrefixes.{get_or-past}
 
 pub one : (b c : Bool) → b ≡ c → ◌≡◌ {A = ℕ} (cond b 1 0) (cond c 1 0)
 one b c e = ap (λ t. cond {A = ℕ} t 1 0) e

@@ -2,18 +2,13 @@
 use Rattle.std.proofs.Common.{ℕ, zero, suc, ◌+◌, ◌≤◌, ◌<◌, ◌≡◌, false, cond, List, [], ◌∷◌, ◌++◌, length, take, get_or, set, refl, sym, ap, arith, inl, inr, ◌∙◌, ltb, length-append}
 use Rattle.std.proofs.lemmas.Bool.{cases_Bool, lt-ltb, ltb-true}
 use Rattle.std.proofs.lemmas.List.{length-take}
-use Rattle.s66_isa.proofs.Lists.{cases_le}
+use Rattle.s66_isa.proofs.Lists.{cases_le, get_or-past}
 use Rattle.s66_node.specs.declared.node.Node.{Node}
 use Rattle.s66_node.specs.Nodes.{prefixes_from}
 use Rattle.s66_ledger.specs.Nodes.{prefixes, name_at, stored_at}
 use Rattle.s66_node.proofs.Nodes.{get_or-front, get_or-last, prefixes_from-push, length-prefixes_from}
 
 -- LISTS
-
-pub get_or-past : {X : Type 0} (xs : List X) (i : ℕ) (d : X) → length xs ≤ i → get_or xs i d ≡ d
-get_or-past [] i d le = refl
-get_or-past (x ∷ xs) zero d le = absurd (omega arith)
-get_or-past (x ∷ xs) (suc i) d le = get_or-past xs i d (omega arith)
 
 -- what is in a list has no need of another
 pub get_or-any : {X Y : Type 0} (xs : List X) (i : ℕ) (d e : X) (f : X → Y) → i < length xs → f (get_or xs i d) ≡ f (get_or xs i e)

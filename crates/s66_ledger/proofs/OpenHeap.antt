@@ -8,7 +8,7 @@ use Rattle.std.proofs.lemmas.List.Sorted.{All-permutation, sum_by-IsPermutation,
 use Rattle.std.specs.List.{All, sum_by}
 use Rattle.std.specs.List.Sorted.{IsPermutation}
 use Rattle.s66_isa.specs.Lists.{tally}
-use Rattle.s66_isa.proofs.Lists.{tally-set, tally-append, cases_le}
+use Rattle.s66_isa.proofs.Lists.{tally-set, tally-append, cases_le, get_or-past}
 use Rattle.s66_node.specs.declared.node.Node.{Node}
 use Rattle.s66_node.specs.declared.node.State.{State}
 use Rattle.s66_node.specs.declared.node.State.TheVariants as state
@@ -16,8 +16,8 @@ use Rattle.s66_ledger.specs.declared.limits.TheConstants.{DEPTH_RANKS}
 use Rattle.s66_node.specs.Nodes.{is_stored_open}
 use Rattle.s66_ledger.specs.Nodes.{no_stored, stored_at, stores_open}
 use Rattle.s66_node.proofs.Nodes.{get_or-front, get_or-last}
-use Rattle.s66_ledger.proofs.NodePrefixes.{get_or-past}
 use Rattle.s66_ledger.specs.OpenNodes.{ranked, rank_of, IsRanked, AreOpenNodes}
+use Rattle.s66_model.proofs.LegalOrders.{at-most-one}
 
 abbrev pub Entry : Type 0
 Entry = ℕ × ℕ
@@ -79,10 +79,6 @@ open-true : (b : Bool) (k : ℕ) → k + 1 ≡ cond b 1 0 → b ≡ true
 open-true true k h = refl
 open-true false k h = absurd (omega arith)
 
-at-most : (b : Bool) → cond b 1 0 ≤ 1
-at-most true = omega arith
-at-most false = omega arith
-
 one : (b : Bool) (c : Bool) → b ≡ c → ◌≡◌ {A = ℕ} (cond b 1 0) (cond c 1 0)
 one b c e = ap (λ t. cond {A = ℕ} t 1 0) e
 
@@ -111,7 +107,7 @@ module _ (nodes : List Node) (entries : List Entry) (are : AreOpenNodes nodes en
               elim (cases_eq i k) [
                 | inl e ↦
                     (let here = set-here nodes i k y taken-within e in
-                    omega (arith, counted k, at-most (stores_open (stored_at nodes k)), one (i == k) true (eq-eqb i k e), ap (λ (x : Node). cond {A = ℕ} (stores_open x) 1 0) here, one (is_stored_open y.state) false shut))
+                    omega (arith, counted k, at-most-one (stores_open (stored_at nodes k)), one (i == k) true (eq-eqb i k e), ap (λ (x : Node). cond {A = ℕ} (stores_open x) 1 0) here, one (is_stored_open y.state) false shut))
                 | inr ne ↦ omega (arith, counted k, one (i == k) false (ne_eqb i k ne), ap (λ (x : Node). cond {A = ℕ} (stores_open x) 1 0) (set-other nodes i k y ne))
               ];
           count = omega (arith, are.count, length_permutation entries ((r, i) ∷ rest) popped, tally-set stores_open nodes i y no_stored taken-within, one (stores_open (stored_at nodes i)) true open-there, one (is_stored_open y.state) false shut);

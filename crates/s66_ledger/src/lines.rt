@@ -2,7 +2,7 @@
 
 ghost use Rattle.std.specs.Prelude.{◌≡◌, ◌≢◌, ◌<◌, ◌+◌, ◌++◌, [], ◌∷◌, true, length, IfOk, OnOk};
 ghost use Rattle.s66_bound.specs.LeafValues.{leaf_of};
-ghost use Rattle.s66_time.specs.Members.{numbers_in};
+ghost use Rattle.s66_isa.specs.Members.{numbers_in};
 ghost use Rattle.s66_model.specs.Later.{children, later};
 ghost use Rattle.s66_model.specs.LegalOrder.{is_ready, ready};
 ghost use Rattle.s66_model.specs.NodeTree.{is_split_at, ending_at};
@@ -18,7 +18,7 @@ use crate::path::{name_of, up};
 use s66_bound::Leaf;
 use s66_model::{Tree, TreeLine};
 use s66_node::{Node, State, Walk};
-use s66_time::Set;
+use s66_isa::Set;
 use std::alloc::AllocError;
 
 /// Appends the line of a leaf, which leaves out its value.

@@ -13,6 +13,7 @@ use Rattle.s66_line.specs.declared.operand.operation.Syntax.{Syntax}
 use Rattle.s66_line.specs.declared.operand.operation.Syntax.TheVariants.{Boolean, Shift, Normalise, Arithmetic, Mask, Population, Set}
 use Rattle.s66_line.proofs.Digits.{either, made, octal-few, octal-written}
 use Rattle.s66_line.proofs.Choices.{Chosen, chosen}
+use Rattle.s66_isa.proofs.Lists.{every-each}
 
 -- A ROW OF THE TABLE
 
@@ -92,12 +93,6 @@ Chosen-decode syntax i text n few e = subst (λ o. IfSome o (Chosen (choices syn
 
 -- ITS CODES ARE OF THE TABLE
 
--- what a test has computed of a whole list holds of each of its members
-tested : {X : Type 0} (test : X → Bool) (x : X) (xs : List X) → every test xs ≡ true → Among x xs → test x ≡ true
-tested test x [] all none = elim none [ ]
-tested test x (y ∷ ys) all (inl here) = rw here (and_parts (test y) (every test ys) all).0
-tested test x (y ∷ ys) all (inr more) = tested test x ys (and_parts (test y) (every test ys) all).1 more
-
 abbrev is_code : ℕ → Bool
 is_code code = leb 0o10 code && (leb code 0o77 && not (code == 0o46))
 
@@ -109,8 +104,8 @@ IsCode-is_code code is =
 
 listed-codes : (p q : ℕ) (syntax : Syntax) → Listed p q syntax → IsOfTheTable syntax
 listed-codes p q syntax row = λ code among.
-    let all = tested (λ (row : List ℕ × List ℕ). every is_code row.1) (p ∷ q ∷ [], choices syntax) operations refl row in
-    IsCode-is_code code (tested is_code code (choices syntax) all among)
+    let all = every-each (λ (row : List ℕ × List ℕ). every is_code row.1) (p ∷ q ∷ [], choices syntax) operations refl row in
+    IsCode-is_code code (every-each is_code code (choices syntax) all among)
 
 pub IsOfTheTable-syntax_of : (p q : ℕ) (syntax : Syntax) → syntax_of p q ≡ Some syntax → IsOfTheTable syntax
 IsOfTheTable-syntax_of p q syntax e = listed-codes p q syntax (subst (λ o. IfSome o (Listed p q)) e (all-listed p q))

@@ -24,7 +24,7 @@ pub terms_from-sign : (minus : Bool) (term text : List ℕ) (end : ℕ) → end 
 terms_from-sign minus term text end h e =
     at_drop_more (terms_from minus term) text end 0 h ∙ ap (step minus term (get_or text end 0) (drop (end + 1) text)) e
 
-one_more : (text : List ℕ) (start end : ℕ) → start ≤ end → end < length text →
+pub one_more : (text : List ℕ) (start end : ℕ) → start ≤ end → end < length text →
     take (end + 1 - start) (drop start text) ≡ take (end - start) (drop start text) ++ get_or text end 0 ∷ []
 one_more text start end begin_run h =
     let count : end + 1 - start ≡ end - start + 1 = omega arith in

@@ -17,10 +17,10 @@ use Rattle.s66_model.proofs.DominatedTrees.{shown-below}
 abbrev IsBelow : ℕ → List ℕ → Type 0
 IsBelow low values = (v : ℕ) → Among v values → low ≤ v
 
-abbrev AreReady : Problem → List ℕ → List ℕ → Type 0
+abbrev pub AreReady : Problem → List ℕ → List ℕ → Type 0
 AreReady b prefix ns = (n : ℕ) → Among n ns → is_ready b.block prefix n ≡ true
 
-split-ready : (b : Problem) (prefix ns : List ℕ) → ns ≡ ready b.block prefix → AreReady b prefix ns
+pub split-ready : (b : Problem) (prefix ns : List ℕ) → ns ≡ ready b.block prefix → AreReady b prefix ns
 split-ready b prefix ns is n among = ready-among b.block prefix n (subst (λ x. Among n x) is among)
 
 -- if a floor may stand at every beginning

@@ -19,7 +19,7 @@ same_contents f g s t h e = λ i. record { registers = λ q. h q i; storage = e 
 
 -- MEMORY
 
-memory_pair-sym : (u v : Memory) → memory_pair u v ≡ memory_pair v u
+pub memory_pair-sym : (u v : Memory) → memory_pair u v ≡ memory_pair v u
 memory_pair-sym u v = rw (and_comm (touches u) (touches v), or_comm (stores u) (stores v)) refl
 
 -- with the value of each store as it is found in either order

@@ -6,7 +6,7 @@ use Rattle.s66_isa.specs.declared.instr.Instr.{Instr}
 use Rattle.s66_isa.specs.Lists.{rising, Among}
 use Rattle.s66_model.specs.LegalOrder.{is_ready, ready}
 use Rattle.s66_model.specs.Later.{ready_above, IsNextReady, children, later}
-use Rattle.s66_model.proofs.Remaining.{filter-among}
+use Rattle.s66_isa.proofs.Lists.{filter-among}
 
 -- THE NEXT READY NUMBER, looked for from n on
 

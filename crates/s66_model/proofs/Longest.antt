@@ -11,9 +11,9 @@ use Rattle.s66_model.specs.Timing.{Problem, row_at, points_of}
 use Rattle.s66_model.specs.LegalOrder.{is_remaining, remaining, is_ready, GoesOn, IsBeginning}
 use Rattle.s66_model.specs.Leaves.{tail, link, is_linked, links_from, longest, head, chain}
 use Rattle.s66_model.specs.Tails.{longest_tail}
-use Rattle.s66_isa.proofs.Lists.{greatest-same, filter-filter, filter-same}
+use Rattle.s66_isa.proofs.Lists.{greatest-same, filter-filter, filter-same, filter-among}
 use Rattle.s66_model.proofs.LegalOrders.{has-push, ready-parts, needs-each, depends-lt, depends-from}
-use Rattle.s66_model.proofs.Remaining.{remaining-parts, filter-among, remaining-among, all-remain}
+use Rattle.s66_model.proofs.Remaining.{remaining-parts, remaining-among, all-remain}
 use Rattle.s66_model.proofs.ChainBound.{link-conflict}
 
 -- WHAT DEPENDS ON A NUMBER THAT REMAINS, REMAINS

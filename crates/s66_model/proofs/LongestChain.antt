@@ -9,8 +9,8 @@ use Rattle.s66_model.specs.Timing.{Problem, row_at, points_of}
 use Rattle.s66_model.specs.LegalOrder.{is_remaining, remaining}
 use Rattle.s66_model.specs.Leaves.{tail, link, is_linked, head, walk, chain_value, IsWalk, IsChain, links_from, longest, chain, longest_walk, longest_chain}
 use Rattle.s66_model.specs.Floor.{InDictionaryOrder}
-use Rattle.s66_isa.proofs.Lists.{cases_le, le-greatest}
-use Rattle.s66_model.proofs.Remaining.{remaining-parts, among-filter, filter-among, among-remaining, remaining-among}
+use Rattle.s66_isa.proofs.Lists.{cases_le, le-greatest, filter-among}
+use Rattle.s66_model.proofs.Remaining.{remaining-parts, among-filter, among-remaining, remaining-among}
 
 -- WHAT PASSES, THE GREATEST, THE FIRST
 

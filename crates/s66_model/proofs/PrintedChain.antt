@@ -8,8 +8,8 @@ use Rattle.s66_model.specs.Timing.{Problem, row_at, points_of}
 use Rattle.s66_model.specs.LegalOrder.{is_remaining, remaining, IsBeginning}
 use Rattle.s66_model.specs.Leaves.{tail, link, is_linked, links_from, longest, head, chain, longest_walk, longest_chain}
 use Rattle.s66_model.specs.Tails.{longest_tail, walk_next, walk_after, chain_front}
-use Rattle.s66_isa.proofs.Lists.{first_that-same}
-use Rattle.s66_model.proofs.Remaining.{remaining-parts, remaining-among, filter-among}
+use Rattle.s66_isa.proofs.Lists.{first_that-same, filter-among}
+use Rattle.s66_model.proofs.Remaining.{remaining-parts, remaining-among}
 use Rattle.s66_model.proofs.LongestChain.{keeps, onward, onward-keeps, walk-ends, walk-goes, heads, front, front-heads}
 use Rattle.s66_model.proofs.Longest.{longest-same, links_from-static, links_from-same}
 use Rattle.s66_model.proofs.TailTable.{enough, links_from-parts}

@@ -45,7 +45,7 @@ fits-is q len =
       | inr is ↦ rw is (omega arith)
     ]
 
-and_false : (x : Bool) → (x && false) ≡ false
+pub and_false : (x : Bool) → (x && false) ≡ false
 and_false true = refl
 and_false false = refl
 
@@ -73,17 +73,17 @@ phase-push b q s n same = fits_place (next_parcel q) (next_parcel s) (row_at b n
 -- WHAT EACH WAITS FOR
 
 -- what a reference waits for: a load for stores, a store for all references
-pair-none : (m : Memory) → memory_pair m memory.None ≡ false
+pub pair-none : (m : Memory) → memory_pair m memory.None ≡ false
 pair-none memory.None = refl
 pair-none memory.Load = refl
 pair-none memory.Store = refl
 
-pair-load : (m : Memory) → memory_pair m memory.Load ≡ stores m
+pub pair-load : (m : Memory) → memory_pair m memory.Load ≡ stores m
 pair-load memory.None = refl
 pair-load memory.Load = refl
 pair-load memory.Store = refl
 
-pair-store : (m : Memory) → memory_pair m memory.Store ≡ touches m
+pub pair-store : (m : Memory) → memory_pair m memory.Store ≡ touches m
 pair-store memory.None = refl
 pair-store memory.Load = refl
 pair-store memory.Store = refl

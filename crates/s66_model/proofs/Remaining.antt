@@ -6,7 +6,7 @@ use Rattle.s66_isa.specs.declared.instr.Instr.{Instr}
 use Rattle.s66_isa.specs.Lists.{tally, has, Among}
 use Rattle.s66_isa.specs.Table.{numbers}
 use Rattle.s66_model.specs.LegalOrder.{IsLegal, is_ready, is_remaining, ready, remaining, IsBeginning, IsIncomplete, IsOrder, Completes}
-use Rattle.s66_isa.proofs.Lists.{rising-among, among-rising, filter-all}
+use Rattle.s66_isa.proofs.Lists.{rising-among, among-rising, filter-all, filter-among}
 use Rattle.s66_model.proofs.LegalOrders.{legal-order, order-legal, GoesOn-append, GoesOn-join, ready-parts}
 
 -- WHAT PASSES
@@ -23,17 +23,6 @@ among-filter test x (y ∷ ys) h is =
       | inl here ↦ absurd (true≢false (sym is ∙ (ap test here ∙ fails)))
       | inr past ↦ among-filter test x ys past is
     ])
-
-pub filter-among : {X : Type 0} (test : X → Bool) (x : X) (xs : List X) → Among x (filter test xs) → Among x xs × (test x ≡ true)
-filter-among test x [] h = absurd h
-filter-among test x (y ∷ ys) h =
-    cond_both (test y) (y ∷ filter test ys) (filter test ys) (λ zs. Among x zs → Among x (y ∷ ys) × (test x ≡ true))
-    (λ passes among. elim among [
-      | inl here ↦ (inl here, ap test here ∙ passes)
-      | inr past ↦ (let both = filter-among test x ys past in (inr both.0, both.1))
-    ])
-    (λ fails past. let both = filter-among test x ys past in (inr both.0, both.1))
-    h
 
 -- WHAT REMAINS
 

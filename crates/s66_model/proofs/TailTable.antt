@@ -9,9 +9,9 @@ use Rattle.s66_model.specs.Timing.{Problem, row_at}
 use Rattle.s66_model.specs.LegalOrder.{remaining}
 use Rattle.s66_model.specs.Leaves.{tail, uses, link, is_linked, links_from, longest}
 use Rattle.s66_model.specs.Tails.{longest_tail, walk_to}
-use Rattle.s66_isa.proofs.Lists.{greatest-le, greatest-same, greatest-filter}
+use Rattle.s66_isa.proofs.Lists.{greatest-le, greatest-same, greatest-filter, filter-among}
 use Rattle.s66_model.proofs.PointTimes.{good-at}
-use Rattle.s66_model.proofs.Remaining.{remaining-parts, filter-among, remaining-among, all-remain}
+use Rattle.s66_model.proofs.Remaining.{remaining-parts, remaining-among, all-remain}
 
 -- A TAIL BY LATER ONES
 

@@ -4,12 +4,12 @@ use Rattle.std.proofs.lemmas.Bool.{and_parts, and_from, ltb-true, eqb-true, eq-e
 use Rattle.std.proofs.lemmas.List.{append-nil}
 use Rattle.std.specs.List.{filter}
 use Rattle.s66_isa.specs.Lists.{first_that, Among}
-use Rattle.s66_isa.proofs.Lists.{among-rest, first_that-same}
+use Rattle.s66_isa.proofs.Lists.{among-rest, first_that-same, filter-among}
 use Rattle.s66_model.specs.Timing.{Problem, row_at}
 use Rattle.s66_model.specs.LegalOrder.{is_remaining, remaining, IsBeginning}
 use Rattle.s66_model.specs.Leaves.{tail, link, is_linked, longest, longest_walk}
 use Rattle.s66_model.specs.Tails.{longest_tail, walk_after, chain_front}
-use Rattle.s66_model.proofs.Remaining.{remaining-parts, remaining-among, filter-among}
+use Rattle.s66_model.proofs.Remaining.{remaining-parts, remaining-among}
 use Rattle.s66_model.proofs.PrintedChain.{longest-enough, walk-static, front-static}
 use Rattle.s66_model.proofs.LongestChain.{keeps, onward, onward-keeps, walk-ends, walk-goes, front-heads, Rises, Rises-among, remaining-rises}
 

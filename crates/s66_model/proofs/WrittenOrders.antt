@@ -14,7 +14,7 @@ use Rattle.s66_model.specs.WrittenOrder.{written_in}
 
 -- WORDS ON LISTS
 
-greatest-map : {X Y : Type 0} (f : Y → ℕ) (g : X → Y) (xs : List X) → greatest f (map g xs) ≡ greatest (λ x. f (g x)) xs
+pub greatest-map : {X Y : Type 0} (f : Y → ℕ) (g : X → Y) (xs : List X) → greatest f (map g xs) ≡ greatest (λ x. f (g x)) xs
 greatest-map f g [] = refl
 greatest-map f g (x ∷ xs) = ap (max (f (g x))) (greatest-map f g xs)
 
@@ -30,7 +30,7 @@ map-same : {X Y : Type 0} (f g : X → Y) → ((x : X) → f x ≡ g x) → (xs 
 map-same f g same [] = refl
 map-same f g same (x ∷ xs) = ap₂ (λ y ys. y ∷ ys) (same x) (map-same f g same xs)
 
-every-same : {X : Type 0} (test other : X → Bool) → ((x : X) → test x ≡ other x) → (xs : List X) → every test xs ≡ every other xs
+pub every-same : {X : Type 0} (test other : X → Bool) → ((x : X) → test x ≡ other x) → (xs : List X) → every test xs ≡ every other xs
 every-same test other same [] = refl
 every-same test other same (x ∷ xs) = ap₂ (λ a b. a && b) (same x) (every-same test other same xs)
 

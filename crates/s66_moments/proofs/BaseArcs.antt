@@ -1,10 +1,10 @@
 -- The arcs of the three orders of conflict between the moments of one instruction, and of two of which one stands first.
-use Rattle.std.proofs.Common.{ℕ, ◌+◌, ◌≤◌, ◌≡◌, Bool, true, false, true≢false, cond, not, ◌&&◌, max, List, [], ◌∷◌, ◌++◌, length, map, refl, sym, ap, arith, inl, inr, subst}
+use Rattle.std.proofs.Common.{ℕ, ◌+◌, ◌≤◌, ◌≡◌, Bool, true, false, true≢false, cond, not, ◌&&◌, max, List, [], ◌∷◌, ◌++◌, length, map, refl, sym, arith, inl, subst}
 use Rattle.std.proofs.lemmas.Bool.{cond-true, or_parts}
 use Rattle.s66_isa.specs.declared.reg.Reg.{Reg}
 use Rattle.s66_isa.specs.Lists.{greatest, some_of, Among}
 use Rattle.s66_isa.specs.Table.{Write, same_reg, has_reg, memory_pair}
-use Rattle.s66_isa.proofs.Lists.{le-greatest}
+use Rattle.s66_isa.proofs.Lists.{le-greatest, among-map}
 use Rattle.s66_isa.proofs.SameRegister.{same_reg-self, has_reg-le}
 use Rattle.s66_model.specs.Timing.{Problem, Point, ResultAt, row_at, done_at, last_done, readers_wait, result_at, free_after, start_of, point, point_of, points_after, points_of}
 use Rattle.s66_model.specs.LegalOrder.{IsLegal}
@@ -19,14 +19,6 @@ use Rattle.s66_moments.proofs.Placed.{among-stays, placed, time_at-placed}
 use Rattle.s66_moments.proofs.FactLaws.{before-split}
 
 -- ONE RESULT
-
-among-map : {X Y : Type 0} (f : X → Y) (x : X) (xs : List X) → Among x xs → Among (f x) (map f xs)
-among-map f x [] h = absurd h
-among-map f x (y ∷ ys) h =
-    elim h [
-      | inl here ↦ inl (ap f here)
-      | inr past ↦ inr (among-map f x ys past)
-    ]
 
 -- a result is done no sooner than it could be
 pub result-le : (b : Problem) (s : List Point) (n : ℕ) (w : Write) → Among w (row_at b n).writes → max ((point_of b s n).start + w.latency) (readers_wait s w.reg) ≤ done_at (point_of b s n) w.reg

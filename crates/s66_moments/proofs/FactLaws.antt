@@ -5,7 +5,7 @@ use Rattle.s66_isa.specs.declared.instr.Kind.{Kind}
 use Rattle.s66_isa.specs.declared.reg.Reg.{Reg}
 use Rattle.s66_isa.specs.Lists.{tally, has, Among}
 use Rattle.s66_isa.specs.Table.{Row, same_kind}
-use Rattle.s66_isa.proofs.Lists.{greatest-le-greatest, has-among, among-has, among-front}
+use Rattle.s66_isa.proofs.Lists.{greatest-le-greatest}
 use Rattle.s66_model.specs.Timing.{Problem, Point, row_at, copies, done_at, end_of, total, busy_at, point_of, points_after, points_of, next, total_of}
 use Rattle.s66_model.specs.Dependence.{depends}
 use Rattle.s66_model.specs.LegalOrder.{IsLegal}
@@ -17,6 +17,7 @@ use Rattle.s66_model.proofs.Issue.{done_at-le}
 use Rattle.s66_model.proofs.LoadBound.{at_issue-lt}
 use Rattle.s66_model.proofs.PointTimes.{points_after-append, next-le-issue, next-grows, issue-le-start, hold-le-free, point_of-row, point_of-number}
 use Rattle.s66_moments.proofs.Placed.{among-stays, has-split, has-joined, placed, placed-range, time_at-placed}
+use Rattle.s66_model.proofs.Beginnings.{has-more}
 
 -- WHAT IS KNOWN
 
@@ -66,9 +67,6 @@ has-parts n (x ∷ xs) ys h =
           ]
     ]
 
-has-front : (n : ℕ) (xs ys : List ℕ) → has n xs ≡ true → has n (xs ++ ys) ≡ true
-has-front n xs ys h = among-has n (xs ++ ys) (among-front n xs ys (has-among n xs h))
-
 -- where a number stands for the first time
 front-unique : (n : ℕ) (front other rest more : List ℕ) → front ++ n ∷ rest ≡ other ++ n ∷ more → has n front ≡ false → has n other ≡ false → front ≡ other
 front-unique n [] [] rest more e new new2 = refl
@@ -109,7 +107,7 @@ module _ (b : Problem) (order : List ℕ) (legal : IsLegal b.block order) where
   pub before-transitive : (x y z : ℕ) → IsSo b order (Before x y) → IsSo b order (Before y z) → IsSo b order (Before x z)
   before-transitive x y z first second =
       let (front, mid, rest, here, later) = before-split y z second in
-      (front ++ y ∷ mid, rest, later, has-front x front (y ∷ mid) (before-front x y front (mid ++ z ∷ rest) first here))
+      (front ++ y ∷ mid, rest, later, has-more x front (y ∷ mid) (before-front x y front (mid ++ z ∷ rest) first here))
 
   pub before-itself : (x : ℕ) → IsSo b order (Before x x) → ⊥
   before-itself x (front, rest, is, before) = true≢false (sym before ∙ (placed-range b order legal front rest x is).2)
@@ -214,7 +212,7 @@ module _ (b : Problem) (order : List ℕ) (legal : IsLegal b.block order) (prefi
         | inl again ↦
             let (mid, more, e) = has-split n rest again in
             let whole : order ≡ (prefix ++ mid) ++ n ∷ more = is ∙ ap (λ ns. prefix ++ ns) e ∙ sym (append_assoc prefix mid (n ∷ more)) in
-            absurd (true≢false (sym (has-front n prefix mid there) ∙ (placed-range b order legal (prefix ++ mid) more n whole).2))
+            absurd (true≢false (sym (has-more n prefix mid there) ∙ (placed-range b order legal (prefix ++ mid) more n whole).2))
         | inr none ↦ none
       ]
 
@@ -238,4 +236,4 @@ module _ (b : Problem) (order : List ℕ) (legal : IsLegal b.block order) (prefi
   pub prefix-before : (x y : ℕ) → has x prefix ≡ true → has y prefix ≡ false → 1 ≤ y → y ≤ length b.block → IsSo b order (Before x y)
   prefix-before x y there new low high =
       let (mid, more, here) = later-place y new low high in
-      (prefix ++ mid, more, here, has-front x prefix mid there)
+      (prefix ++ mid, more, here, has-more x prefix mid there)

@@ -24,12 +24,13 @@ use Rattle.s66_moments.specs.FactLines.{Use, LoadArc, fact_of, IsLateByParcels, 
 use Rattle.s66_moments.specs.Networks.{Network, network, IsKnown, AreSteps, IsRising, RisesBy, HasOwnArcs, IsTransitive, HasNoRing, IsNetworkPath, targets, most_arcs, rank_by, place_by, moments_of, with_arc, with_pair, soonest_path, tail}
 use Rattle.s66_moments.specs.Known.{Known, is_front, is_back, use_of, kind_of_load, line_of, plus, span, reaches, known_first, with_line, with_loads, arcs_of, is_number, is_late_by_parcels, is_late_by_unit, is_pair_taken, are_rising, leads_up, is_used_from, is_used, are_used, is_arc_up, is_load_taken, is_taken, are_taken, known_after, next_value, is_turned}
 use Rattle.s66_moments.proofs.TableArcs.{Some-same, moment-number}
-use Rattle.s66_moments.proofs.Tails.{moment-target, network-steps, network-rises_by, network-own, own-among, split-among, tail-reached, path-tail, some-arc, arc-some}
+use Rattle.s66_moments.proofs.Tails.{moment-target, network-steps, network-rises_by, network-own, own-among, tail-reached, path-tail, some-arc, arc-some}
 use Rattle.s66_moments.proofs.MoreArcs.{with-steps, with-rises, with-own, with-longer, pair-known}
 use Rattle.s66_moments.proofs.Rings.{places, pair-transitive, pair-no_ring}
 use Rattle.s66_moments.proofs.Preceders.{precedes-known, precedes-transitive, precedes-no_ring}
 use Rattle.s66_moments.proofs.NextLeaves.{precedes-more, next-late, turned-late, path-join, waits-join}
 use Rattle.s66_moments.proofs.Spans.{height, plus-some, some-height, span-path, span-high}
+use Rattle.s66_isa.proofs.Lists.{split-among}
 
 -- WHAT IS KNOWN by facts
 

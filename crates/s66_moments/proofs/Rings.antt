@@ -8,23 +8,16 @@ use Rattle.s66_model.specs.Timing.{Problem}
 use Rattle.s66_moments.specs.Facts.{IsNumber}
 use Rattle.s66_moments.specs.Networks.{IsPlaced, with_pair, IsTransitive, HasNoRing, place_by}
 use Rattle.s66_model.proofs.Beginnings.{length-rising}
+use Rattle.s66_model.proofs.LegalOrders.{tally-le}
 
 -- COUNTS
-
-tally-length : (test : ℕ → Bool) (ns : List ℕ) → tally test ns ≤ length ns
-tally-length test [] = omega arith
-tally-length test (n ∷ ns) =
-    elim (cases_Bool (test n)) [
-      | inl is ↦ omega (arith, tally-length test ns, cond-true {A = ℕ} (test n) 1 0 is)
-      | inr off ↦ omega (arith, tally-length test ns, cond-false {A = ℕ} (test n) 1 0 off)
-    ]
 
 -- one doesn't pass
 tally-but_one : (test : ℕ → Bool) (k : ℕ) (ns : List ℕ) → Among k ns → test k ≡ false → tally test ns + 1 ≤ length ns
 tally-but_one test k [] among off = absurd among
 tally-but_one test k (n ∷ ns) among off =
     elim among [
-      | inl here ↦ omega (arith, tally-length test ns, cond-false {A = ℕ} (test n) 1 0 (subst (λ x. test x ≡ false) here off))
+      | inl here ↦ omega (arith, tally-le test ns, cond-false {A = ℕ} (test n) 1 0 (subst (λ x. test x ≡ false) here off))
       | inr past ↦
           elim (cases_Bool (test n)) [
             | inl is ↦ omega (arith, tally-but_one test k ns past off, cond-true {A = ℕ} (test n) 1 0 is)
@@ -39,10 +32,10 @@ tally-one test other n h =
       | inr off ↦ omega (arith, cond-false {A = ℕ} (test n) 1 0 off)
     ]
 
-tally-le : (test other : ℕ → Bool) (ns : List ℕ) → ((n : ℕ) → Among n ns → test n ≡ true → other n ≡ true) → tally test ns ≤ tally other ns
-tally-le test other [] each = omega arith
-tally-le test other (n ∷ ns) each =
-    omega (arith, tally-one test other n (each n (inl refl)), tally-le test other ns (λ m among. each m (inr among)))
+tally-within : (test other : ℕ → Bool) (ns : List ℕ) → ((n : ℕ) → Among n ns → test n ≡ true → other n ≡ true) → tally test ns ≤ tally other ns
+tally-within test other [] each = omega arith
+tally-within test other (n ∷ ns) each =
+    omega (arith, tally-one test other n (each n (inl refl)), tally-within test other ns (λ m among. each m (inr among)))
 
 -- one passes the other alone
 tally-less : (test other : ℕ → Bool) (k : ℕ) (ns : List ℕ) → ((n : ℕ) → Among n ns → test n ≡ true → other n ≡ true) → Among k ns → test k ≡ false → other k ≡ true → tally test ns + 1 ≤ tally other ns
@@ -52,7 +45,7 @@ tally-less test other k (n ∷ ns) each among off is =
       | inl here ↦
           omega (
             arith,
-            tally-le test other ns (λ m in_ns. each m (inr in_ns)),
+            tally-within test other ns (λ m in_ns. each m (inr in_ns)),
             cond-false {A = ℕ} (test n) 1 0 (subst (λ x. test x ≡ false) here off),
             cond-true {A = ℕ} (other n) 1 0 (subst (λ x. other x ≡ true) here is),
           )

@@ -1,11 +1,11 @@
 -- Tails of a network: each is reached by a path, no path is greater, and each follows from what is known.
-use Rattle.std.proofs.Common.{ℕ, zero, suc, ◌+◌, ◌-◌, ◌≤◌, ◌<◌, ◌≡◌, Bool, true, false, true≢false, cond, ◌||◌, ◌&&◌, max, List, [], ◌∷◌, ◌++◌, length, map, refl, sym, ap, arith, inl, inr, ◌∙◌, ◌⊎◌, subst, Some, None, Option}
+use Rattle.std.proofs.Common.{ℕ, zero, suc, ◌+◌, ◌-◌, ◌≤◌, ◌<◌, ◌≡◌, Bool, true, false, true≢false, cond, ◌||◌, ◌&&◌, max, List, [], ◌∷◌, ◌++◌, length, map, refl, sym, ap, arith, inl, inr, ◌∙◌, subst, Some, None, Option}
 use Rattle.std.specs.Prelude.{unwrap_or, is_some}
 use Rattle.std.proofs.lemmas.Bool.{cond_both, cond-true, cond-false, or_cases, and_parts, and_from, eqb-true, eq-eqb, ne_eqb, cases_Bool, cases_eq}
 use Rattle.s66_isa.specs.declared.reg.Reg.{Reg}
 use Rattle.s66_isa.specs.Lists.{greatest, some_of, Among}
 use Rattle.s66_isa.specs.Table.{Row, Write, same_reg, numbers}
-use Rattle.s66_isa.proofs.Lists.{greatest-le, le-greatest, among-front, among-rest, rising-among}
+use Rattle.s66_isa.proofs.Lists.{greatest-le, le-greatest, among-front, among-rest, rising-among, split-among}
 use Rattle.s66_isa.proofs.SameRegister.{same_reg-true, same_reg-self}
 use Rattle.s66_model.specs.Timing.{Problem, row_at, total_of}
 use Rattle.s66_model.specs.LegalOrder.{IsLegal, is_remaining, remaining}
@@ -85,17 +85,6 @@ own-among b e n ns h =
                   | inr done ↦ (let (x, is, there) = done-among e n (row_at b n).writes (row_at b n).writes (λ w among. written w (row_at b n).writes among) done in (n, Done x, is, inl refl, there))
                 ]
           ]
-    ]
-
-pub split-among : {X : Type 0} (x : X) (xs ys : List X) → Among x (xs ++ ys) → Among x xs ⊎ Among x ys
-split-among x [] ys h = inr h
-split-among x (y ∷ xs) ys h =
-    elim h [
-      | inl here ↦ inl (inl here)
-      | inr past ↦ elim (split-among x xs ys past) [
-        | inl first ↦ inl (inr first)
-        | inr second ↦ inr second
-      ]
     ]
 
 pub all-among : (b : Problem) (e : Moment) (ns : List ℕ) → Among e (moments_among b ns) → IsOf b e ns

@@ -7,7 +7,7 @@ use Rattle.s66_model.specs.Timing.{Problem}
 use Rattle.s66_model.specs.LegalOrder.{IsBeginning, is_ready}
 use Rattle.s66_model.specs.Tree.{Tree, Alone, Vertex, AtTerminal}
 use Rattle.s66_model.specs.Piece.{Terminal, Frontier, Passed}
-use Rattle.s66_time.specs.Members.{numbers_in}
+use Rattle.s66_isa.specs.Members.{numbers_in}
 use Rattle.s66_node.specs.Walked.{front}
 use Rattle.s66_node.specs.declared.grow.Grown.{Grown}
 use Rattle.s66_node.specs.declared.grow.OpenSplit.{OpenSplit}

@@ -10,6 +10,7 @@ use Rattle.s66_model.specs.LegalOrder.{is_ready, ready}
 use Rattle.s66_model.specs.Tree.{Tree, Alone, Parted, Siblings, NoMore, Unsplit, Split, AtTerminal, SiblingsHold, TreeHolds, flat_siblings, flat, siblings_split_at, split_at}
 use Rattle.s66_model.specs.NodeNames.{sibling_at, node_named, is_node}
 use Rattle.s66_node.proofs.Leasts.{among-either}
+use Rattle.s66_model.proofs.LongestChain.{Rises-among}
 
 -- EACH NUMBER COMES ONCE among those that are ready
 
@@ -20,11 +21,6 @@ Rises low (n ∷ ns) = (low ≤ n) × Rises (suc n) ns
 rises-lower : (low lower : ℕ) (ns : List ℕ) → lower ≤ low → Rises low ns → Rises lower ns
 rises-lower low lower [] le h = tt
 rises-lower low lower (n ∷ ns) le h = (omega (arith, le, h.0), h.1)
-
-rises-above : (low n : ℕ) (ns : List ℕ) → Rises low ns → Among n ns → low ≤ n
-rises-above low n [] h among = absurd among
-rises-above low n (m ∷ ns) h (inl is) = omega (arith, is, h.0)
-rises-above low n (m ∷ ns) h (inr among) = omega (arith, h.0, rises-above (suc m) n ns h.1 among)
 
 filter-rises : (test : ℕ → Bool) (count low : ℕ) → Rises low (filter test (rising count low))
 filter-rises test zero low = tt
@@ -51,13 +47,13 @@ module _ {M : Type 0} (block : List Instr) (Q : List ℕ → M → Type 0) where
   -- past a child that isn't split
   past-terminal : (prefix ns : List ℕ) (m low : ℕ) (terminal : M) (siblings : Siblings M) (x : List ℕ) → Rises low (m ∷ ns) → Leads prefix ns siblings x → Leads prefix (m ∷ ns) (Unsplit terminal siblings) x
   past-terminal prefix ns m low terminal siblings x rises (n, path, is, among, leads) =
-      let above : suc m ≤ n = rises-above (suc m) n ns rises.1 among in
+      let above : suc m ≤ n = Rises-among (suc m) n ns rises.1 among in
       (n, path, is, inr among, rw (ne_eqb m n (omega (arith, above))) leads)
 
   -- and past one that is
   past-split : (prefix ns numbers : List ℕ) (m low : ℕ) (sub siblings : Siblings M) (x : List ℕ) → Rises low (m ∷ ns) → Leads prefix ns siblings x → Leads prefix (m ∷ ns) (Split numbers sub siblings) x
   past-split prefix ns numbers m low sub siblings x rises (n, path, is, among, leads) =
-      let above : suc m ≤ n = rises-above (suc m) n ns rises.1 among in
+      let above : suc m ≤ n = Rises-among (suc m) n ns rises.1 among in
       (n, path, is, inr among, rw (ne_eqb m n (omega (arith, above))) leads)
 
   -- to it, and to what is below it

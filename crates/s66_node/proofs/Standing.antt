@@ -15,8 +15,8 @@ use Rattle.s66_model.proofs.LegalOrders.{ready-parts, has-push, GoesOn-append}
 use Rattle.s66_model.proofs.Remaining.{step-begins}
 use Rattle.s66_model.proofs.Beginnings.{front-beginning, beginning-front}
 use Rattle.s66_time.proofs.LongestBeginning.{beginning-few, front-take, push-ready}
-use Rattle.s66_time.specs.declared.graph.set.Set.{Set}
-use Rattle.s66_time.specs.Members.{numbers_in}
+use Rattle.s66_isa.specs.declared.set.Set.{Set}
+use Rattle.s66_isa.specs.Members.{numbers_in}
 use Rattle.s66_time.proofs.Opened.{count-needs}
 use Rattle.s66_time.proofs.RankOrder.{ranks-same, ranks-with, ranks-without}
 use Rattle.s66_time.specs.Ticking.{Ticking, problem_of}

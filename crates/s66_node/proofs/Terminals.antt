@@ -1,25 +1,22 @@
 -- How a prefix is left that isn't split, by its floor.
 use Rattle.std.proofs.Common.{ℕ, ◌≤◌, ◌≡◌, ◌≢◌, Bool, true, false, nat_lt, ◌&&◌, List, [], ◌∷◌, ◌++◌, length, refl, sym, ap, arith, inl, inr, ◌∙◌, subst, Option}
-use Rattle.std.proofs.lemmas.Bool.{eq-eqb, cases_Bool}
+use Rattle.std.proofs.lemmas.Bool.{cases_Bool}
 use Rattle.std.proofs.lemmas.List.{append-nil}
 use Rattle.s66_isa.specs.Lists.{every}
 use Rattle.s66_model.specs.declared.rule.Rule.{Rule}
 use Rattle.s66_model.specs.declared.rule.Rule.TheVariants.{NoneNamed}
-use Rattle.s66_model.specs.Timing.{Problem, total_of}
+use Rattle.s66_model.specs.Timing.{Problem}
 use Rattle.s66_model.specs.LegalOrder.{IsBeginning, IsComplete, IsLegal}
-use Rattle.s66_model.specs.Leaves.{Leaf, Whole, Chain, Load, Parcels, value, longest_chain, first_greatest, after_chain, floor, floor_value}
+use Rattle.s66_model.specs.Leaves.{Leaf, Whole, Chain, Load, Parcels, value, longest_chain, first_greatest, after_chain, floor}
 use Rattle.s66_model.specs.Piece.{Terminal, Carries, Frontier, Passed, TerminalHolds, IsNamedIn}
 use Rattle.s66_model.specs.Expansion.{TerminalHoldsWhile, whole_at}
 use Rattle.s66_model.specs.Tree.{Tree}
 use Rattle.s66_model.proofs.LegalOrders.{order-legal}
-use Rattle.s66_model.proofs.Floors.{floor-part}
+use Rattle.s66_model.proofs.Floors.{floor-part, floor-whole}
 use Rattle.s66_node.specs.declared.whole_order.WholeOrder.{WholeOrder}
 use Rattle.s66_node.specs.Walking.{Span, span, IsLeft, IsFound, IsLeast, terminal_by}
 use Rattle.s66_node.specs.declared.grow.Unsplit.{Unsplit}
 use Rattle.s66_node.specs.declared.grow.Unsplit.TheVariants as unsplit
-
-pub complete-whole : (b : Problem) (at : List ℕ) → IsComplete b.block at → floor b at ≡ Whole
-complete-whole b at h = rw (eq-eqb (length at) (length b.block) h, floor) refl
 
 -- THE FLOOR OF AN INCOMPLETE PREFIX is no whole order
 
@@ -61,10 +58,7 @@ found-none rule b best at known (unsplit.Open v) h part = refl
 found-none rule b best at known (unsplit.Dominated v name) h part = refl
 
 pub whole-order : (b : Problem) (at : List ℕ) → IsComplete b.block at → whole_at at (Carries (floor b at)) ≡ at ∷ []
-whole-order b at h = ap (λ leaf. whole_at at (Carries leaf)) (complete-whole b at h)
-
-pub whole-total : (b : Problem) (at : List ℕ) → IsComplete b.block at → floor_value b at ≡ total_of b at
-whole-total b at h = ap (value b at) (complete-whole b at h)
+whole-order b at h = ap (λ leaf. whole_at at (Carries leaf)) (floor-whole b at h)
 
 pub whole-legal : (b : Problem) (at : List ℕ) → IsBeginning b.block at → IsComplete b.block at → IsLegal b.block at
 whole-legal b at begins h = order-legal b.block at (begins, h)

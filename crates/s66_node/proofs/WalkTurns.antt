@@ -10,8 +10,8 @@ use Rattle.s66_model.specs.Timing.{Problem}
 use Rattle.s66_model.specs.LegalOrder.{IsBeginning, is_ready, ready}
 use Rattle.s66_model.specs.Tree.{Tree, Alone, Parted, Vertex, AtTerminal, AtSplit, TreeHolds, flat, splits, split_at, tree_values}
 use Rattle.s66_model.proofs.Remaining.{step-begins, ready-among}
-use Rattle.s66_time.specs.Members.{numbers_in}
-use Rattle.s66_time.proofs.Sets.{numbers_in-few}
+use Rattle.s66_isa.specs.Members.{numbers_in}
+use Rattle.s66_isa.proofs.Sets.{numbers_in-few}
 use Rattle.s66_time.proofs.LongestBeginning.{beginning-few}
 use Rattle.s66_node.specs.declared.whole_order.WholeOrder.{WholeOrder}
 use Rattle.s66_node.specs.Walked.{front}

@@ -7,8 +7,8 @@ use Rattle.s66_line.specs.Block.{instrs_of}
 use Rattle.s66_model.specs.Dependence.{all_needs}
 use Rattle.s66_model.specs.LegalOrder.{IsBeginning, ready}
 use Rattle.s66_model.specs.Timing.{Problem}
-use Rattle.s66_time.specs.declared.graph.set.Set.{Set}
-use Rattle.s66_time.specs.Members.{numbers_in}
+use Rattle.s66_isa.specs.declared.set.Set.{Set}
+use Rattle.s66_isa.specs.Members.{numbers_in}
 use Rattle.s66_time.specs.Ticking.{Ticking, problem_of}
 use Rattle.s66_bound.specs.Ranks.{AreRanksLeft}
 use Rattle.s66_node.specs.declared.walk.ReadyFront.{ReadyFront}

@@ -11,7 +11,7 @@ use Rattle.s66_model.specs.Tree.{Tree, Alone, Vertex, AtTerminal, flat, splits, 
 use Rattle.s66_model.specs.DominatedLeaves.{DominatesByRule}
 use Rattle.s66_model.specs.Piece.{Terminal, Carries, Frontier, Passed}
 use Rattle.s66_model.specs.Expansion.{whole_at}
-use Rattle.s66_time.specs.Members.{numbers_in}
+use Rattle.s66_isa.specs.Members.{numbers_in}
 use Rattle.s66_node.specs.Walked.{front}
 use Rattle.s66_node.specs.Growing.{TreeGrows, Grows, tree_prefixes}
 use Rattle.s66_node.specs.Nodes.{Named, named, named_at, prefixes_over, node_lines, AreNodes}

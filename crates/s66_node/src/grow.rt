@@ -20,9 +20,8 @@ use crate::node::{Node, State};
 use crate::walk::Walk;
 use crate::whole_order::{WholeOrder, keep_lesser};
 use arrayvec::ArrayVec;
-use s66_isa::BLOCK_LIMIT;
+use s66_isa::{BLOCK_LIMIT, Set};
 use s66_model::Rule;
-use s66_time::Set;
 use std::alloc::{AllocError, Global};
 use std::boxed::Box;
 

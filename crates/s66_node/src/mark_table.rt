@@ -23,10 +23,10 @@ use crate::node::State;
 use crate::walk::{Walk, common_length};
 use crate::whole_order::copy_of;
 use arrayvec::ArrayVec;
-use s66_isa::{BLOCK_LIMIT, Profile};
+use s66_isa::{BLOCK_LIMIT, Profile, Set};
 use s66_line::Block;
 use s66_model::Rule;
-use s66_time::{Mark, Set, dominates, dominates_clamped};
+use s66_time::{Mark, dominates, dominates_clamped};
 use std::alloc::{AllocError, Global};
 use std::boxed::Box;
 use std::marker::Model;
@@ -253,7 +253,7 @@ fn remove_lines(
 
 impl MarkEntry {
     ghost use Rattle.std.specs.Prelude.{ℕ, ◌≡◌};
-    ghost use Rattle.s66_time.specs.Members.{numbers_in};
+    ghost use Rattle.s66_isa.specs.Members.{numbers_in};
     ghost use Rattle.s66_isa.specs.Lists.{has};
     ghost use Rattle.s66_time.specs.Marks.{IsMarkOf};
     ghost use Rattle.s66_node.specs.MarkTables.{IsEntry, numbers_of};
@@ -280,7 +280,7 @@ impl MarkEntry {
 
 impl<'a> MarkTable<'a> {
     ghost use Rattle.std.specs.Prelude.{ℕ, ◌≡◌, ◌⊎◌, ◌++◌, [], ◌∷◌, List, IfOk, IfSome, IfNone, IsTrue};
-    ghost use Rattle.s66_time.specs.Members.{numbers_in};
+    ghost use Rattle.s66_isa.specs.Members.{numbers_in};
     ghost use Rattle.s66_isa.specs.Lists.{Among, has};
     ghost use Rattle.s66_time.specs.Marks.{IsMarkOf};
     ghost use Rattle.s66_line.specs.Block.{instrs_of};

@@ -5,9 +5,9 @@ ghost use Rattle.std.specs.Prelude.{ℕ, ◌≡◌, ◌≢◌, ◌≤◌, ◌<�
 
 use arrayvec::ArrayVec;
 use s66_bound::{Bounds, Leaf};
-use s66_isa::{BLOCK_LIMIT, Profile, Reg};
+use s66_isa::{BLOCK_LIMIT, Profile, Reg, Set};
 use s66_line::Block;
-use s66_time::{Clock, Mark, Openings, Set};
+use s66_time::{Clock, Mark, Openings};
 use std::marker::Model;
 
 /// How many numbers two lists have in common from the first on.
@@ -75,7 +75,7 @@ impl<'a> Walk<'a> {
     ghost use Rattle.s66_model.specs.Later.{IsNextReady};
     ghost use Rattle.s66_bound.specs.LeafValues.{leaf_of, value_of};
     ghost use Rattle.s66_model.specs.Timing.{row_at};
-    ghost use Rattle.s66_time.specs.Members.{numbers_in};
+    ghost use Rattle.s66_isa.specs.Members.{numbers_in};
     ghost use Rattle.s66_node.specs.Walked.{front};
 
     /// At the empty prefix, in time quadratic in the block's length.

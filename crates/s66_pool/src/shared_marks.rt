@@ -4,12 +4,12 @@ ghost use Rattle.std.specs.Prelude.{◌≡◌, ◌<◌, All, length, IfOk};
 ghost use Rattle.s66_line.specs.Block.{instrs_of};
 
 use atomic_table::{Play, Refused, Seat, Table, TableRule};
-use s66_isa::Profile;
+use s66_isa::{Profile, Set};
 use s66_line::Block;
 use s66_model::Rule;
 use s66_node::{MarkEntry, MarkTable, Name, NodePlace, Walk};
 use s66_share::SPINS;
-use s66_time::{Mark, Set};
+use s66_time::Mark;
 use std::alloc::{AllocError, Global};
 use std::boxed::Box;
 use std::hint::spin_loop;
@@ -100,7 +100,7 @@ pub(crate) struct SharedMarks<'b> {
 impl<'b> SharedMarks<'b> {
     ghost use Rattle.std.specs.Prelude.{ℕ, ◌≡◌, ◌<◌, IfOk, IfSome};
     ghost use Rattle.s66_line.specs.Block.{instrs_of};
-    ghost use Rattle.s66_time.specs.Members.{numbers_in};
+    ghost use Rattle.s66_isa.specs.Members.{numbers_in};
     ghost use Rattle.s66_isa.specs.Lists.{has};
     ghost use Rattle.s66_time.specs.Marks.{IsMarkOf};
     ghost use Rattle.s66_model.specs.declared.rule.Rule.TheVariants.{ClampedStanding};

@@ -33,7 +33,8 @@ use Rattle.s66_checker.proofs.LoadsLeft.{gone, rising-few}
 use Rattle.s66_checker.proofs.Placed.{few-lines}
 use Rattle.s66_checker.proofs.TreeClaims.{tree-shows}
 use Rattle.s66_reasons.specs.Within.{AreWithin, IsFaultless, IsGranted, IsRight, is_split}
-use Rattle.s66_reasons.proofs.Leaves.{got-among, tree-count, tree-each, tree-fit, tree-short}
+use Rattle.s66_reasons.proofs.Leaves.{tree-count, tree-each, tree-fit, tree-short}
+use Rattle.s66_isa.proofs.Lists.{got-among}
 
 pub faultless : (limit : ℕ) (d : Document) (time bound : ℕ) → IsDocument limit d → verdict d ≡ Yes time bound → AreTaken d × IsFaultless d
 faultless limit d time bound is holds =

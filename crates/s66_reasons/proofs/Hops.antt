@@ -12,6 +12,7 @@ use Rattle.s66_checker.specs.Verdict.{problem_of}
 use Rattle.s66_reasons.specs.declared.hop.Hop.{Hop}
 use Rattle.s66_reasons.specs.Words.{row_text, rows_text}
 use Rattle.s66_reasons.specs.LongestPaths.{first_hop, hop_and, hop_rows, hop_to, hops_from, next_hop, path_rows}
+use Rattle.s66_isa.proofs.Lists.{rising-next}
 
 -- THE FIRST OF SEVERAL
 
@@ -39,13 +40,6 @@ first-append d left e (f ∷ fs) gs =
     ap (λ (o : Option Hop). option_or (hop_to d left e f) o) (first-append d left e fs gs)
     ∙ sym (or-assoc (hop_to d left e f) (first_hop d left e fs) (first_hop d left e gs))
 
-pub rising-first : (count p : ℕ) → p < count → rising (count - p) (p + 1) ≡ (p + 1) ∷ rising (count - (p + 1)) (p + 1 + 1)
-rising-first count p within =
-    let k = count - (p + 1) in
-    let more : count - p ≡ suc k = omega (arith, within) in
-    let next : suc (p + 1) ≡ p + 1 + 1 = omega arith in
-    ap (λ c. rising c (p + 1)) more ∙ ap (λ low. (p + 1) ∷ rising k low) next
-
 -- of the moments of the numbers from p + 1 to count
 abbrev pub hop_past : Document → (left : ℕ) → Moment → (count p : ℕ) → Option Hop
 hop_past d left e count p = first_hop d left e (moments_among (problem_of d) (rising (count - p) (p + 1)))
@@ -53,7 +47,7 @@ hop_past d left e count p = first_hop d left e (moments_among (problem_of d) (ri
 pub past-more : (d : Document) (left : ℕ) (e : Moment) (count p : ℕ) → p < count →
     hop_past d left e count p ≡ option_or (first_hop d left e (moments_of (problem_of d) (p + 1))) (hop_past d left e count (p + 1))
 past-more d left e count p within =
-    ap (λ ns. first_hop d left e (moments_among (problem_of d) ns)) (rising-first count p within)
+    ap (λ ns. first_hop d left e (moments_among (problem_of d) ns)) (rising-next count p within)
     ∙ first-append d left e (moments_of (problem_of d) (p + 1)) (moments_among (problem_of d) (rising (count - (p + 1)) (p + 1 + 1)))
 
 -- THE ROWS OF ARCS

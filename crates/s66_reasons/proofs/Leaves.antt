@@ -1,20 +1,15 @@
 -- The lines of a tree at their prefixes: what holds of each leaf, how long the prefixes are, and how many lines there are.
-use Rattle.std.proofs.Common.{ℕ, zero, suc, ◌≡◌, ◌≤◌, Bool, false, List, [], ◌∷◌, ◌++◌, Some, slice_get, length, refl, ap, sym, subst, inl, inr, arith, length-append, ◌∙◌}
+use Rattle.std.proofs.Common.{ℕ, ◌≡◌, ◌≤◌, Bool, false, List, [], ◌∷◌, ◌++◌, length, refl, ap, sym, subst, inl, inr, arith, length-append, ◌∙◌}
 use Rattle.std.proofs.lemmas.Bool.{or_parts}
 use Rattle.s66_isa.specs.declared.instr.Instr.{Instr}
 use Rattle.s66_isa.specs.Lists.{Among, some_of}
 use Rattle.s66_model.specs.Tree.{Tree, Alone, Parted, Siblings, NoMore, Unsplit, Split, Vertex, AtTerminal, AtSplit, SiblingsHold, TreeHolds, flat, flat_siblings}
 use Rattle.s66_model.specs.DominatedLeaves.{Ending}
-use Rattle.s66_moments.proofs.Tails.{split-among}
 use Rattle.s66_cert.specs.Document.{IsLeafLine, SiblingsFit, TreeFits, siblings_placed, tree_placed}
+use Rattle.s66_isa.proofs.Lists.{split-among}
 
 abbrev Line : Type 0
 Line = List ℕ × Vertex Ending
-
-pub got-among : {X : Type 0} (xs : List X) (i : ℕ) (x : X) → slice_get xs i ≡ Some x → Among x xs
-got-among [] i x is = absurd cc
-got-among (y ∷ xs) zero x is = inl (sym (cc))
-got-among (y ∷ xs) (suc i) x is = inr (got-among xs i x is)
 
 same-ending : (at other : List ℕ) (ending e : Ending) → ◌≡◌ {A = Line} (at, AtTerminal ending) (other, AtTerminal e) → ending ≡ e
 same-ending at other ending e is = (let vertex : AtTerminal ending ≡ AtTerminal e = ap (λ (line : Line). line.1) is in cc)

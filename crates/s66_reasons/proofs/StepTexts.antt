@@ -13,7 +13,7 @@ use Rattle.s66_cert.specs.Document.{Document}
 use Rattle.s66_cert.proofs.Printed.{drop-here}
 use Rattle.s66_reasons.specs.FactWords.{facts_from, late_number, numbered_step}
 use Rattle.s66_reasons.specs.LongestPaths.{to_show_after}
-use Rattle.s66_reasons.proofs.Hops.{rising-first}
+use Rattle.s66_isa.proofs.Lists.{rising-next}
 
 -- LINES
 
@@ -46,11 +46,11 @@ number-shown b bound standing shows Refuted taken number = tt
 
 module _ (b : Problem) (arcs : Network) (bound count : ℕ) where
   pub late-here : (i : ℕ) → i < count → is_late_through b arcs bound (i + 1) ≡ true → late_number b arcs bound (rising (count - i) (i + 1)) ≡ Some (i + 1)
-  late-here i within is = ap (late_number b arcs bound) (rising-first count i within) ∙ rw is refl
+  late-here i within is = ap (late_number b arcs bound) (rising-next count i within) ∙ rw is refl
 
   pub late-later : (i : ℕ) → i < count → is_late_through b arcs bound (i + 1) ≡ false →
       late_number b arcs bound (rising (count - i) (i + 1)) ≡ late_number b arcs bound (rising (count - (i + 1)) (i + 1 + 1))
-  late-later i within not = ap (late_number b arcs bound) (rising-first count i within) ∙ rw not refl
+  late-later i within not = ap (late_number b arcs bound) (rising-next count i within) ∙ rw not refl
 
   pub late-none : (i : ℕ) → count ≤ i → late_number b arcs bound (rising (count - i) (i + 1)) ≡ None
   late-none i past =

@@ -1,5 +1,5 @@
 -- The sentences of a row, of a leaf and of a fact are those of their pieces, appended one after the other.
-use Rattle.std.proofs.Common.{ℕ, suc, ◌+◌, ◌-◌, ◌≡◌, ◌<◌, ◌∙◌, Bool, true, false, true≢false, List, [], ◌∷◌, ◌++◌, codes, drop, get_or, slice_get, Some, length, map, refl, ap, append_assoc, sym, arith}
+use Rattle.std.proofs.Common.{ℕ, ◌+◌, ◌-◌, ◌≡◌, ◌<◌, ◌∙◌, Bool, true, false, true≢false, List, [], ◌∷◌, ◌++◌, codes, drop, get_or, slice_get, Some, length, map, refl, ap, append_assoc, sym}
 use Rattle.std.specs.Prelude.{Result, IfOk}
 use Rattle.std.specs.List.{filter}
 use Rattle.std.proofs.lemmas.List.{at_drop_more}
@@ -17,6 +17,7 @@ use Rattle.s66_reasons.specs.Words.{Reason, in_four, row_text, rows_text}
 use Rattle.s66_reasons.specs.ChainWords.{link_row, walk_rows}
 use Rattle.s66_reasons.specs.Reasons.{if_words, line_text, lines_text}
 use Rattle.s66_reasons.specs.Within.{is_split, vertex_text}
+use Rattle.s66_isa.proofs.Lists.{rising-next}
 
 -- its number, its words, and the end of the line
 pub row-pushed : {T E : Type 0} (r : Result T E) (out first second new words : List ℕ) (number : ℕ) → first ≡ out ++ (in_four number ++ codes "  ") →
@@ -42,14 +43,6 @@ walk-more d t n ms i wait old new within waits pushed =
     ap (λ k. new ++ rows_text (walk_rows d (t + k) m (drop (i + 1) ms))) waits
     ∙ ap (λ xs. xs ++ rest) pushed ∙ append_assoc old row rest
     ∙ ap (λ xs. old ++ xs) (sym (at_drop_more (λ ks. rows_text (walk_rows d t n ks)) ms i 0 within))
-
--- rising numbers, one after the other
-rising-next : (count p : ℕ) → p < count → rising (count - p) (p + 1) ≡ (p + 1) ∷ rising (count - (p + 1)) (p + 1 + 1)
-rising-next count p within =
-    let k = count - (p + 1) in
-    let more : count - p ≡ suc k = omega (arith, within) in
-    let next : suc (p + 1) ≡ p + 1 + 1 = omega arith in
-    ap (λ c. rising c (p + 1)) more ∙ ap (λ low. (p + 1) ∷ rising k low) next
 
 -- rows of those that pass, one of which is next
 module _ (row : ℕ → Reason) (test : ℕ → Bool) (count p : ℕ) (within : p < count) where

@@ -26,7 +26,8 @@ use Rattle.s66_time.specs.declared.progress.Progress.{Progress}
 use Rattle.s66_time.specs.declared.step.Saved.{Saved}
 use Rattle.s66_model.proofs.Growth.{AreSmall, none-first, fits_at-ge, start-le, start-ge, free-ge}
 use Rattle.s66_time.proofs.WorkOfKinds.{kinds-few, worked-step}
-use Rattle.s66_time.proofs.FreeUnits.{IsLeast, count-free, count-least, count-push, at-greatest, rest-same}
+use Rattle.s66_time.proofs.FreeUnits.{IsLeast, count-free, count-least, count-push, rest-same}
+use Rattle.s66_model.proofs.FreeTimes.{place-le}
 
 -- WHEN IT ISSUES
 
@@ -293,7 +294,7 @@ pushed-words p s w w2 r n place q good is soon e takes =
 
 pub unit-greatest : (p : Profile) (kind : Kind) (words : List ℕ) (place i : ℕ) → place ≡ first_unit kind + i → i < copies_of p kind → get_or words place 0 ≤ greatest (λ (w : ℕ). w) (units_of p kind words)
 unit-greatest p kind words place i e lt =
-    omega (arith, ap (λ k. get_or words k 0) e, unit-at p kind words i lt, at-greatest (units_of p kind words) i)
+    omega (arith, ap (λ k. get_or words k 0) e, unit-at p kind words i lt, place-le (units_of p kind words) i)
 
 none_greatest : (t : ℕ) (xs : List ℕ) → tally (λ (w : ℕ). ltb t w) xs ≡ 0 → greatest (λ (w : ℕ). w) xs ≤ t
 none_greatest t [] h = omega arith

@@ -1,5 +1,5 @@
 -- The words of the units of a kind: as many of the greatest free times as there are copies.
-use Rattle.std.proofs.Common.{ℕ, zero, suc, ◌+◌, ◌-◌, ◌≤◌, ◌<◌, ◌≡◌, Bool, true, false, cond, max, min, List, [], ◌∷◌, length, take, drop, set, get_or, refl, ap, arith, inl, inr, ltb, length-drop, subst}
+use Rattle.std.proofs.Common.{ℕ, zero, suc, ◌+◌, ◌-◌, ◌≤◌, ◌<◌, ◌≡◌, cond, max, min, List, [], ◌∷◌, length, take, drop, set, get_or, refl, ap, arith, inl, inr, ltb, length-drop, subst}
 use Rattle.std.proofs.lemmas.List.{take_more, get_or-drop}
 use Rattle.std.proofs.lemmas.Bool.{cond-true, cond-false, cases_Bool, cases_lt, le-ltb, lt-ltb}
 use Rattle.s66_isa.specs.Lists.{greatest, weigh, tally}
@@ -9,6 +9,7 @@ use Rattle.s66_model.specs.Timing.{Point, total, busy_at}
 use Rattle.s66_model.specs.Leaves.{rest_busy}
 use Rattle.s66_model.proofs.LoadBound.{fewer, all_drained}
 use Rattle.s66_isa.proofs.Lists.{cases_le, tally-set, weigh-append}
+use Rattle.s66_model.proofs.LegalOrders.{at-most-one}
 
 -- WORDS THAT ARE LATER
 
@@ -18,13 +19,9 @@ later_one t x lt = cond-true {A = ℕ} (ltb t x) 1 0 (lt-ltb t x lt)
 pub past_zero : (t x : ℕ) → x ≤ t → ◌≡◌ {A = ℕ} (cond (ltb t x) 1 0) 0
 past_zero t x le = cond-false {A = ℕ} (ltb t x) 1 0 (le-ltb t x le)
 
-pub one_at_most : (v : Bool) → cond v 1 0 ≤ 1
-one_at_most true = omega arith
-one_at_most false = omega arith
-
 pub later-le : (t : ℕ) (xs : List ℕ) → tally (λ w. ltb t w) xs ≤ length xs
 later-le t [] = omega arith
-later-le t (x ∷ xs) = omega (arith, later-le t xs, one_at_most (ltb t x))
+later-le t (x ∷ xs) = omega (arith, later-le t xs, at-most-one (ltb t x))
 
 pub all-later : (t : ℕ) (xs : List ℕ) → ((i : ℕ) → i < length xs → t < get_or xs i 0) → tally (λ w. ltb t w) xs ≡ length xs
 all-later t [] h = refl
@@ -34,7 +31,7 @@ all-later t (x ∷ xs) h =
 one-past : (t : ℕ) (xs : List ℕ) (i : ℕ) → i < length xs → get_or xs i 0 ≤ t → tally (λ w. ltb t w) xs < length xs
 one-past t [] i lt h = absurd (omega arith)
 one-past t (x ∷ xs) zero lt h = omega (arith, past_zero t x h, later-le t xs)
-one-past t (x ∷ xs) (suc i) lt h = omega (arith, one-past t xs i (omega arith) h, one_at_most (ltb t x))
+one-past t (x ∷ xs) (suc i) lt h = omega (arith, one-past t xs i (omega arith) h, at-most-one (ltb t x))
 
 -- Among the words xs, one of which is the least, a unit is free at t exactly when that one is past.
 pub record IsLeast (xs : List ℕ) (i : ℕ) : Type 0 where
@@ -66,7 +63,7 @@ pub count-push : (c : ℕ) (xs : List ℕ) (busy more : ℕ → ℕ) (i f : ℕ)
 count-push c xs busy more i f len h l late is t =
     let one = tally-set (λ w. ltb t w) xs i f 0 l.within in
     elim (cases_le (get_or xs i 0) t) [
-      | inl le ↦ omega (arith, h t, is t, one, past_zero t (get_or xs i 0) le, one-past t xs i l.within le, one_at_most (ltb t f))
+      | inl le ↦ omega (arith, h t, is t, one, past_zero t (get_or xs i 0) le, one-past t xs i l.within le, at-most-one (ltb t f))
       | inr lt ↦
           omega (arith, h t, is t, one, later_one t (get_or xs i 0) lt, later_one t f (omega arith), all-later t xs (λ j k. omega (arith, l.least j k)))
     ]
@@ -127,8 +124,3 @@ weigh-more f xs first i lt =
       weigh-append f (take i (drop first xs)) (get_or (drop first xs) i 0 ∷ []),
       ap f (get_or-drop first xs i 0),
     )
-
-pub at-greatest : (xs : List ℕ) (i : ℕ) → get_or xs i 0 ≤ greatest (λ w. w) xs
-at-greatest [] i = omega arith
-at-greatest (x ∷ xs) zero = omega arith
-at-greatest (x ∷ xs) (suc i) = omega (arith, at-greatest xs i)

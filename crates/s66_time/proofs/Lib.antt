@@ -1,11 +1,8 @@
-pub mod Bits
 pub mod Conflicts
 pub mod LongestBeginning
-pub mod Lowest
 pub mod Opened
 pub mod OrderNumbers
 pub mod Readiness
-pub mod Sets
 pub mod RankOrder
 pub mod RemainingSets
 pub mod Loops

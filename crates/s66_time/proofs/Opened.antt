@@ -12,10 +12,10 @@ use Rattle.s66_model.specs.Dependence.{depends, needs, all_needs}
 use Rattle.s66_model.specs.LegalOrder.{is_ready, ready, GoesOn, IsBeginning}
 use Rattle.s66_model.proofs.Beginnings.{length-rising}
 use Rattle.s66_model.proofs.LegalOrders.{has-push, has_push-other, ready-parts, ready-from, needs-each, each-needs, depends-lt, depends-from}
-use Rattle.s66_time.specs.declared.graph.set.Set.{Set}
-use Rattle.s66_time.specs.Members.{numbers_in, no_set}
+use Rattle.s66_isa.specs.declared.set.Set.{Set}
+use Rattle.s66_isa.specs.Members.{numbers_in, no_set}
 use Rattle.s66_time.specs.Opens.{needs_of, is_direct, opens, all_opens}
-use Rattle.s66_time.proofs.Sets.{within-parts, within-from, filter-within, filter-same, numbers_in-filter}
+use Rattle.s66_isa.proofs.Sets.{within-parts, within-from, filter-within, filter-same, numbers_in-filter}
 use Rattle.s66_time.proofs.Readiness.{needs-depends, depends-needs, get_or-needs, needs-at, has-ready}
 
 -- WHAT A NUMBER OPENS
@@ -96,7 +96,7 @@ depends-opens block n m last dep lone =
 
 -- BEFORE AND AFTER A NUMBER
 
-push-cases : (m n : ℕ) (ns : List ℕ) → has m (ns ++ n ∷ []) ≡ true → (m ≡ n) ⊎ (has m ns ≡ true)
+pub push-cases : (m n : ℕ) (ns : List ℕ) → has m (ns ++ n ∷ []) ≡ true → (m ≡ n) ⊎ (has m ns ≡ true)
 push-cases m n ns h =
     elim (or_cases (eqb m n) (has m ns) (sym (has-push m n ns) ∙ h)) [ inl here ↦ inl (eqb-true m n here) | inr before ↦ inr before ]
 
@@ -105,7 +105,7 @@ push-parts m n ns h =
     let (past, new) = or_parts (eqb m n) (has m ns) (sym (has-push m n ns) ∙ h) in
     (λ here. true≢false (sym (eq-eqb m n here) ∙ past), new)
 
-push-more : (m n : ℕ) (ns : List ℕ) → has m ns ≡ true → has m (ns ++ n ∷ []) ≡ true
+pub push-more : (m n : ℕ) (ns : List ℕ) → has m ns ≡ true → has m (ns ++ n ∷ []) ≡ true
 push-more m n ns h = has-push m n ns ∙ or_right (eqb m n) (has m ns) h
 
 -- all that a ready number depends on is placed

@@ -9,7 +9,7 @@ use Rattle.s66_isa.proofs.Lists.{every-each, each-every, has-among, among-has}
 use Rattle.s66_model.specs.Dependence.{conflict, depends, needs, all_needs}
 use Rattle.s66_model.specs.LegalOrder.{needs_met, is_ready, ready}
 use Rattle.s66_model.proofs.LegalOrders.{ready-parts, ready-from, needs-each, each-needs, depends-lt, depends-from}
-use Rattle.s66_time.proofs.Sets.{within, within-parts, within-from, filter-every, filter-within}
+use Rattle.s66_isa.proofs.Sets.{within, within-parts, within-from, filter-every, filter-within}
 
 -- WHAT A NUMBER NEEDS
 

@@ -10,9 +10,9 @@ use Rattle.s66_isa.proofs.Lists.{filter-filter, has-among, among-has, among-risi
 use Rattle.s66_model.specs.Timing.{Problem}
 use Rattle.s66_model.specs.LegalOrder.{is_remaining, remaining}
 use Rattle.s66_model.proofs.Remaining.{remaining-parts, remaining-among}
-use Rattle.s66_time.specs.declared.graph.set.Set.{Set}
-use Rattle.s66_time.specs.Members.{numbers_in}
-use Rattle.s66_time.proofs.Sets.{within, within-from, within-parts, filter-within, numbers_in-filter}
+use Rattle.s66_isa.specs.declared.set.Set.{Set}
+use Rattle.s66_isa.specs.Members.{numbers_in}
+use Rattle.s66_isa.proofs.Sets.{within, within-from, within-parts, filter-within, numbers_in-filter}
 
 -- ALL BUT THE PUSHED ONES
 

@@ -11,7 +11,7 @@ use Rattle.s66_model.specs.Timing.{Problem, Point, ResultAt, end_of, done_of, la
 use Rattle.s66_isa.specs.declared.limits.TheConstants.{BLOCK_LIMIT}
 use Rattle.s66_model.specs.Leaves.{work_of}
 use Rattle.s66_model.specs.Dominance.{references_wait, stores_wait}
-use Rattle.s66_time.specs.Members.{numbers_in}
+use Rattle.s66_isa.specs.Members.{numbers_in}
 use Rattle.s66_time.specs.declared.limits.TheConstants.{TOTAL_LIMIT, UNIT_LIMIT}
 use Rattle.s66_isa.specs.Registers.{word_of}
 use Rattle.s66_time.specs.Places.{first_unit, units_of, put_back}

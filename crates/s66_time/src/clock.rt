@@ -74,7 +74,7 @@ impl<'a> Clock<'a> {
     ghost use Rattle.s66_isa.specs.Lists.{weigh, has, tally, greatest};
     ghost use Rattle.s66_isa.specs.Table.{Reg as RegOf, copies_of, kind_of, instr_at, has_reg, memory_pair};
     ghost use Rattle.s66_isa.specs.Registers.{registers_in};
-    ghost use Rattle.s66_time.specs.Members.{numbers_in};
+    ghost use Rattle.s66_isa.specs.Members.{numbers_in};
     ghost use Rattle.s66_line.specs.Block.{instrs_of};
     ghost use Rattle.s66_isa.specs.declared.limits.TheConstants.{BLOCK_LIMIT};
     ghost use Rattle.s66_model.specs.LegalOrder.{is_ready, IsBeginning};

@@ -1,6 +1,5 @@
 -- What a page has of the instructions of a timed order in a loop: rows, bars, ticks and sums, one round more.
 use Rattle.std.proofs.Common.{ℕ, suc, ◌+◌, ◌-◌, ◌<◌, ◌≡◌, List, [], ◌∷◌, ◌++◌, ap, append_assoc, arith, flat_map, length, take, get_or, reverse, sym, ◌∙◌}
-use Rattle.std.specs.List.{range_with_len}
 use Rattle.std.proofs.lemmas.Grind.{flat_map-append}
 use Rattle.std.proofs.lemmas.List.{append-nil, length-reverse, take_more}
 use Rattle.s66_isa.proofs.Lists.{weigh-append}
@@ -36,13 +35,6 @@ rows-more block on ps i p text earlier w out mid new lt at is_text is_earlier is
     rw (is_text, is_earlier, is_work) (ap (λ n. row_head (bytes_of block p.number) on p.number (n + 1) ++ row_marks (stretches_at s p) (work p)) (sym (length-reverse (take i ps)))) in
     more ∙ ap (λ zs. mid ++ zs) row ∙ ap (λ zs. zs ++ instruction_row block on s p) first ∙ append_assoc out (instruction_rows block on s) (instruction_row block on s p)
     ∙ sym (ap (λ u. out ++ instruction_rows block on u) (earlier-more ps i p lt at))
-
--- the text of the next number
-pub range-more : (f : ℕ → List ℕ) (count i : ℕ) (out mid new : List ℕ) → i < count → mid ++ flat_map f (range_with_len i (count - i)) ≡ out → new ≡ mid ++ f i → new ++ flat_map f (range_with_len (i + 1) (count - (i + 1))) ≡ out
-range-more f count i out mid new lt first more =
-    let n : count - i ≡ suc (count - (i + 1)) = omega arith in
-    let others = flat_map f (range_with_len (i + 1) (count - (i + 1))) in
-    ap (λ zs. zs ++ others) more ∙ append_assoc mid (f i) others ∙ sym (ap (λ k. mid ++ flat_map f (range_with_len i k)) n) ∙ first
 
 -- the row of one more unit
 pub unit-more : (most i : ℕ) (kind : Kind) (total : ℕ) (ws mine rest : List Work) (out mid new : List ℕ) → i < most → mine ≡ taken_from 0 ws → rest ≡ left_from 0 ws →

@@ -1,5 +1,5 @@
 -- Two results of an instruction in the same register come equally late, so that either may stand for both on a path.
-use Rattle.std.proofs.Common.{ℕ, ◌≡◌, ◌∙◌, ◌&&◌, Bool, true, false, true≢false, cond, leb, ltb, List, [], ◌∷◌, ◌++◌, refl, sym, ap, subst, inl, inr, map}
+use Rattle.std.proofs.Common.{ℕ, ◌≡◌, ◌∙◌, ◌&&◌, true, false, true≢false, leb, ltb, List, [], ◌∷◌, ◌++◌, refl, sym, ap, subst, inl, inr, map}
 use Rattle.std.proofs.lemmas.Bool.{and_parts, leb-true, le-ltb}
 use Rattle.s66_isa.specs.declared.instr.Instr.{Instr}
 use Rattle.s66_isa.specs.declared.instr.Memory.{Memory}
@@ -7,8 +7,8 @@ use Rattle.s66_isa.specs.declared.instr.Memory.TheVariants as memory
 use Rattle.s66_isa.specs.declared.profile.Profile.{Profile}
 use Rattle.s66_isa.specs.declared.reg.Reg.{Reg}
 use Rattle.s66_isa.specs.Lists.{Among}
-use Rattle.s66_isa.specs.Table.{Write, row, hold_of, held_registers, loaded_registers, memory_of, same_reg, touches, a_reg, x_reg}
-use Rattle.s66_isa.proofs.Writes.{held_write, loaded_write}
+use Rattle.s66_isa.specs.Table.{Write, row, hold_of, held_registers, loaded_registers, memory_of, same_reg, a_reg, x_reg}
+use Rattle.s66_isa.proofs.Writes.{held_write, loaded_write, is-load}
 
 abbrev pub AreAlike : List Write → Type 0
 AreAlike ws = (w v : Write) → Among w ws → Among v ws → same_reg v.reg w.reg ≡ true → v.latency ≡ w.latency
@@ -21,11 +21,6 @@ held-late hold (r ∷ rs) w (inr past) = held-late hold rs w past
 
 all-held : (hold : ℕ) (rs : List Reg) → AreAlike (map (held_write hold) rs ++ [])
 all-held hold rs w v among-w among-v same = held-late hold rs v among-v ∙ sym (held-late hold rs w among-w)
-
--- only a load references memory in this way, and it holds its address alone
-is-load : (set low : Bool) → cond set (cond low memory.Load memory.Store) memory.None ≡ memory.Load → set ≡ true
-is-load true low h = refl
-is-load false low h = absurd (true≢false (sym (ap touches h)))
 
 load-holds : (n : Instr) → memory_of n ≡ memory.Load → held_registers n ≡ a_reg n.i ∷ []
 load-holds n h =

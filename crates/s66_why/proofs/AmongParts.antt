@@ -1,26 +1,16 @@
 -- What is in a list that is joined of parts, as the stretches of all instructions, is in one of the parts.
-use Rattle.std.proofs.Common.{ℕ, ◌≤◌, ◌≡◌, ◌⊎◌, ◌∙◌, List, [], ◌∷◌, ◌++◌, Bool, true, if◌then◌else◌, refl, ap, sym, arith, inl, inr, flat_map, map}
+use Rattle.std.proofs.Common.{ℕ, ◌≤◌, ◌≡◌, ◌∙◌, List, [], ◌∷◌, Bool, true, if◌then◌else◌, refl, sym, arith, inl, inr, flat_map}
 use Rattle.std.proofs.lemmas.Bool.{cases_Bool, cond-true, cond-false}
 use Rattle.s66_isa.specs.Lists.{Among, greatest, tally}
-use Rattle.s66_isa.proofs.Lists.{cases_le}
-
-pub among-parts : {X : Type 0} (x : X) (xs ys : List X) → Among x (xs ++ ys) → Among x xs ⊎ Among x ys
-among-parts x [] ys among = inr among
-among-parts x (y ∷ xs) ys (inl e) = inl (inl e)
-among-parts x (y ∷ xs) ys (inr past) = elim (among-parts x xs ys past) [ inl first ↦ inl (inr first) | inr second ↦ inr second ]
+use Rattle.s66_isa.proofs.Lists.{cases_le, split-among}
 
 pub among-flat : {X Y : Type 0} (f : Y → List X) (x : X) (ys : List Y) → Among x (flat_map f ys) → (y : Y) × Among y ys × Among x (f y)
 among-flat f x [] among = absurd among
 among-flat f x (y ∷ ys) among =
-    elim (among-parts x (f y) (flat_map f ys) among) [
+    elim (split-among x (f y) (flat_map f ys) among) [
       | inl here ↦ (y, inl refl, here)
       | inr past ↦ let more = among-flat f x ys past in (more.0, inr more.1, more.2)
     ]
-
-pub among-map : {X Y : Type 0} (f : X → Y) (x : X) (xs : List X) → Among x xs → Among (f x) (map f xs)
-among-map f x [] among = absurd among
-among-map f x (y ∷ xs) (inl e) = inl (ap f e)
-among-map f x (y ∷ xs) (inr past) = inr (among-map f x xs past)
 
 -- the greatest is that of some item
 pub greatest-met : {X : Type 0} (f : X → ℕ) (xs : List X) → 1 ≤ greatest f xs → (x : X) × Among x xs × (f x ≡ greatest f xs)

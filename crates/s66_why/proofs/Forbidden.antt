@@ -6,7 +6,7 @@ use Rattle.s66_isa.specs.declared.limits.TheConstants.{BLOCK_LIMIT}
 use Rattle.s66_isa.specs.declared.reg.Reg.{Reg}
 use Rattle.s66_isa.specs.Lists.{Among, greatest, tally}
 use Rattle.s66_isa.specs.Table.{Write, has_reg, memory_pair, same_kind}
-use Rattle.s66_isa.proofs.Lists.{cases_le, le-greatest}
+use Rattle.s66_isa.proofs.Lists.{cases_le, le-greatest, among-map, split-among}
 use Rattle.s66_model.specs.Timing.{Problem, Point, ResultAt, CanIssue, IsIssue, busy_at, copies, done_at, done_of, last_done, memory_wait, point, point_of, points_after, points_of, readers_wait, result_at, slot_of, start_of}
 use Rattle.s66_model.proofs.Issue.{issue-is}
 use Rattle.s66_model.proofs.PointTimes.{point_of-number}
@@ -20,7 +20,7 @@ use Rattle.s66_why.specs.declared.stretch.Conflict.TheVariants.{First, Second, T
 use Rattle.s66_why.specs.declared.stretch.Stretch.{Stretch}
 use Rattle.s66_why.specs.Why.{lets_go, holder, nobody, soonest, first_holder, second_holder, third_holder, or_else, slot, stretch, first_stretch, second_stretch, third_stretch, stretches_at}
 use Rattle.s66_why.specs.Forbids.{KeepsFromIssue, IsKeptBack, IsForbidden, AreFromOne}
-use Rattle.s66_why.proofs.AmongParts.{among-parts, among-flat, among-map, greatest-met, greatest-passes, tally-le}
+use Rattle.s66_why.proofs.AmongParts.{among-flat, greatest-met, greatest-passes, tally-le}
 use Rattle.s66_why.proofs.Found.{ArePositive, NoneDone, found-or-none, or_else-first, or_else-second, soonest-is}
 
 -- THE POINTS OF NUMBERS
@@ -227,9 +227,9 @@ all-forbidden b ns n x few from among =
     let pl : IsPlaced b s p = placed b s n in
     let positive : ArePositive s = positive-after b [] ns (λ q none. absurd none) from in
     let turn : InTurn s = in-turn b ns few in
-    elim (among-parts x (first_stretch s p ++ second_stretch s p) (flat_map (third_stretch s p) p.row.writes) among) [
+    elim (split-among x (first_stretch s p ++ second_stretch s p) (flat_map (third_stretch s p) p.row.writes) among) [
       | inl early ↦
-          elim (among-parts x (first_stretch s p) (second_stretch s p) early) [
+          elim (split-among x (first_stretch s p) (second_stretch s p) early) [
             | inl first ↦
                 forbidden-by b s p First (slot s p) p.issue (first_holder s p) x first (λ t is late. first-held b s p t is pl positive late)
             | inr second ↦

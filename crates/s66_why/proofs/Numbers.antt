@@ -1,10 +1,10 @@
 -- The numbers that stretches and steps have are those of instructions of the block, so they can be printed with their texts.
-use Rattle.std.proofs.Common.{ℕ, zero, suc, ◌+◌, ◌≤◌, ◌<◌, ◌≡◌, ◌∙◌, List, [], ◌∷◌, ◌++◌, ap, arith, drop, get_or, inl, inr, length, length-append, refl, reverse, subst, sym, take}
+use Rattle.std.proofs.Common.{ℕ, suc, ◌+◌, ◌≤◌, ◌<◌, ◌≡◌, ◌∙◌, List, [], ◌∷◌, ◌++◌, ap, arith, drop, get_or, inl, inr, length, length-append, refl, reverse, subst, sym, take}
 use Rattle.std.proofs.lemmas.Bool.{cases_Bool, cond-false, cond-true}
 use Rattle.std.proofs.lemmas.List.{reverse-append, take-append-drop}
 use Rattle.s66_isa.specs.declared.limits.TheConstants.{BLOCK_LIMIT}
 use Rattle.s66_isa.specs.Lists.{Among}
-use Rattle.s66_isa.proofs.Lists.{among-front, among-rest}
+use Rattle.s66_isa.proofs.Lists.{among-front, among-rest, split-among}
 use Rattle.s66_model.specs.Timing.{Problem, Point, point_of, points_after, points_of}
 use Rattle.s66_model.proofs.PointTimes.{point_of-number, points_after-append}
 use Rattle.s66_why.specs.declared.path.Milestone.{Milestone}
@@ -12,19 +12,14 @@ use Rattle.s66_why.specs.declared.path.Step.{Step}
 use Rattle.s66_why.specs.declared.path.Wait.{Wait}
 use Rattle.s66_why.specs.declared.stretch.Stretch.{Stretch}
 use Rattle.s66_why.specs.Why.{is_linked, next_wait, passes, steps, steps_from, stretches, stretches_at, walk}
-use Rattle.s66_why.proofs.AmongParts.{among-parts}
 use Rattle.s66_why.proofs.Earlier.{earlier-more}
 use Rattle.s66_why.proofs.Forbidden.{all-forbidden, points-met}
+use Rattle.s66_line.proofs.OperationLaw.{among-at}
 
 -- AT PLACES OF LISTS
 
-pub among-get : {X : Type 0} (xs : List X) (i : ℕ) (d : X) → i < length xs → Among (get_or xs i d) xs
-among-get [] i d lt = absurd (omega arith)
-among-get (y ∷ ys) zero d lt = inl refl
-among-get (y ∷ ys) (suc i) d lt = inr (among-get ys i d (omega arith))
-
 pub among-item : {X : Type 0} (xs : List X) (i : ℕ) (x : X) → i < length xs → x ≡ get_or xs i x → Among x xs
-among-item xs i x lt at = subst (λ y. Among y xs) (sym at) (among-get xs i x lt)
+among-item xs i x lt at = subst (λ y. Among y xs) (sym at) (among-at xs i x lt)
 
 -- what holds at each place holds of each
 pub each-among : {X : Type 0} (P : X → Type 0) (xs : List X) → ((i : ℕ) (d : X) → i < length xs → P (get_or xs i d)) → (x : X) → Among x xs → P x
@@ -35,7 +30,7 @@ each-among P (y ∷ ys) at x (inr past) = each-among P ys (λ i d lt. at (suc i)
 among-reverse : {X : Type 0} (x : X) (xs : List X) → Among x (reverse xs) → Among x xs
 among-reverse x [] among = absurd among
 among-reverse x (y ∷ ys) among =
-    elim (among-parts x (reverse ys) (y ∷ []) (subst (Among x) (reverse-append (y ∷ []) ys) among)) [
+    elim (split-among x (reverse ys) (y ∷ []) (subst (Among x) (reverse-append (y ∷ []) ys) among)) [
       | inl past ↦ inr (among-reverse x ys past)
       | inr here ↦ elim here [ inl e ↦ inl e | inr none ↦ absurd none ]
     ]
@@ -80,14 +75,14 @@ module _ (b : Problem) (P : ℕ → Type 0) where
       let p : Point = point_of b s n in
       let here : AllHold (stretches (p ∷ s)) =
       λ x among.
-      elim (among-parts x (stretches s) (stretches_at s p) among) [
+      elim (split-among x (stretches s) (stretches_at s p) among) [
         | inl past ↦ done x past
         | inr at ↦ hold-at ms n (omega (arith, few)) old (new n (inl refl)).1 x at
       ] in
       let more : points_of b (ms ++ n ∷ []) ≡ p ∷ s = points_after-append b [] ms (n ∷ []) in
       let both : (m : ℕ) → Among m (ms ++ n ∷ []) → Holds m =
       λ m among.
-      elim (among-parts m ms (n ∷ []) among) [
+      elim (split-among m ms (n ∷ []) among) [
         | inl past ↦ old m past
         | inr at ↦ elim at [ inl e ↦ subst Holds (sym e) (new n (inl refl)) | inr none ↦ absurd none ]
       ] in

@@ -5,7 +5,7 @@ use Rattle.std.proofs.lemmas.List.{reverse-append}
 use Rattle.s66_isa.specs.declared.reg.Reg.{Reg}
 use Rattle.s66_isa.specs.Lists.{Among, greatest, has, weigh}
 use Rattle.s66_isa.specs.Table.{Write, same_kind, same_reg}
-use Rattle.s66_isa.proofs.Lists.{cases_le, greatest-le, greatest-le-greatest, among-rest, le-greatest, weigh-append}
+use Rattle.s66_isa.proofs.Lists.{cases_le, greatest-le, greatest-le-greatest, among-rest, le-greatest, weigh-reverse}
 use Rattle.s66_isa.proofs.SameRegister.{same_reg-self, same_reg-true}
 use Rattle.s66_model.specs.Timing.{Problem, Point, ResultAt, done_at, done_of, end_of, free_after, last_done, parcel_of, point, point_of, points_after, points_of, readers_wait, result_at, total}
 use Rattle.s66_model.specs.Packing.{fits_at}
@@ -29,6 +29,7 @@ use Rattle.s66_why.proofs.Alike.{AreAlike, row-alike}
 use Rattle.s66_why.proofs.AmongParts.{greatest-met}
 use Rattle.s66_why.proofs.Forbidden.{IsHeldBy, IsPlaced, first-held, placed, positive-after, second-held, third-held}
 use Rattle.s66_why.proofs.Found.{ArePositive, found-or-none}
+use Rattle.s66_model.proofs.WrittenOrders.{greatest-map}
 
 -- LISTS
 
@@ -36,10 +37,6 @@ among-split : {X : Type 0} (x : X) (xs : List X) → Among x xs → (later : Lis
 among-split x [] among = absurd among
 among-split x (y ∷ ys) (inl here) = ([], ys, ap (λ z. z ∷ ys) (sym here))
 among-split x (y ∷ ys) (inr past) = let more = among-split x ys past in (y ∷ more.0, more.1, ap (λ zs. y ∷ zs) more.2)
-
-greatest-map : {X Y : Type 0} (f : Y → ℕ) (h : X → Y) (xs : List X) → greatest f (map h xs) ≡ greatest (λ x. f (h x)) xs
-greatest-map f h [] = refl
-greatest-map f h (x ∷ xs) = ap (max (f (h x))) (greatest-map f h xs)
 
 -- if f is at most g, and as great where g is greatest, then so are the greatest
 top-same : {X : Type 0} (f g : X → ℕ) (xs : List X) → ((x : X) → f x ≤ g x) → ((x : X) → Among x xs → 1 ≤ g x → g x ≡ greatest g xs → f x ≡ g x) →
@@ -211,10 +208,6 @@ steps-of_reverse (x ∷ xs) =
     let last : Step = step x.number (x.time - last_from 0 ys) in
     ap (λ zs. reverse (steps_from 0 zs)) (reverse-append (x ∷ []) xs) ∙ ap reverse (steps_from-append 0 ys x) ∙ reverse-append (steps_from 0 ys) (last ∷ [])
     ∙ ap (λ zs. last ∷ zs) (steps-of_reverse xs) ∙ ap (λ k. step x.number (x.time - k) ∷ steps_back xs) (last-of_reverse xs)
-
-weigh-reverse : {X : Type 0} (f : X → ℕ) (xs : List X) → weigh f (reverse xs) ≡ weigh f xs
-weigh-reverse f [] = refl
-weigh-reverse f (x ∷ xs) = omega (arith, ap (weigh f) (reverse-append (x ∷ []) xs), weigh-append f (reverse xs) (x ∷ []), weigh-reverse f xs)
 
 -- WHEN AN INSTRUCTION LETS GO
 

@@ -1,12 +1,8 @@
 -- Each result in a row has a short latency, so that times fit into the machine's numbers.
-use Rattle.std.proofs.Common.{ℕ, zero, suc, ◌<◌, ◌≤◌, ◌≡◌, List, [], ◌∷◌, arith, length, get_or, refl, inl, inr, subst, sym}
+use Rattle.std.proofs.Common.{ℕ, ◌<◌, ◌≤◌, ◌≡◌, List, length, get_or, subst, sym}
 use Rattle.s66_isa.specs.Lists.{Among}
 use Rattle.s66_isa.specs.Table.{Write}
-
-pub among-at : {X : Type 0} (xs : List X) (i : ℕ) (d : X) → i < length xs → Among (get_or xs i d) xs
-among-at [] i d lt = absurd (omega arith)
-among-at (x ∷ xs) zero d lt = inl refl
-among-at (x ∷ xs) (suc i) d lt = inr (among-at xs i d (omega arith))
+use Rattle.s66_line.proofs.OperationLaw.{among-at}
 
 pub short-latency : (writes ws : List Write) (i : ℕ) (w : Write) → ws ≡ writes → i < length ws → w ≡ get_or ws i w → ((v : Write) → Among v writes → (1 ≤ v.latency) × (v.latency ≤ 100)) → w.latency ≤ 100
 short-latency writes ws i w is lt at short =

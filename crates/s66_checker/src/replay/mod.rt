@@ -4,7 +4,7 @@
 //!
 //! It shares nothing with the search: no clock, no marks of nodes, no sets of dependences, no bounds. So a mistake there, or in what is
 //! proved of it, doesn't come back here. It uses the table of instructions (`s66_isa`), the definitions of the model (`s66_model`)
-//! and those of fact lines (`s66_moments`), and a set of numbers (`MarkedNumbers` of `s66_facts`), and knows nothing of documents. It
+//! and those of fact lines (`s66_moments`), and a set of numbers (`Set` of `s66_facts`), and knows nothing of documents. It
 //! allocates nothing.
 //!
 //! What each instruction depends on is tested pair by pair, and stored in a word (`needs`). A prefix is pushed and popped

@@ -7,8 +7,7 @@ ghost use Rattle.s66_facts.specs.Marked.{is_marked};
 ghost use Rattle.s66_checker.specs.KeptPrefix.{AreNeeds};
 
 use arrayvec::ArrayVec;
-use s66_facts::MarkedNumbers;
-use s66_isa::{BLOCK_LIMIT, Instr, Memory, Reg, has_register, is_memory_conflict};
+use s66_isa::{BLOCK_LIMIT, Instr, Memory, Reg, Set, has_register, is_memory_conflict};
 use std::marker::Model;
 
 /// Numbers of instructions of a block, each once.
@@ -102,12 +101,12 @@ fn depends(block: &[Effects], earlier: usize, position: usize) -> bool
 }
 
 /// The numbers that the instruction at a position depends on.
-fn needs(block: &[Effects], position: usize) -> MarkedNumbers
+fn needs(block: &[Effects], position: usize) -> Set
     requires few { length block.now ≤ BLOCK_LIMIT }
     requires within { position < length block.now }
     ensures { (m : ℕ) → 1 ≤ m → m ≤ BLOCK_LIMIT → is_marked result m ≡ depends block.now m (position + 1) }
 {
-    let mut needs = MarkedNumbers::none();
+    let mut needs = Set::empty();
     for earlier in 0..block.len() {
         if depends(block, earlier, position) {
             needs = needs.with((earlier + 1) as u8);
@@ -117,7 +116,7 @@ fn needs(block: &[Effects], position: usize) -> MarkedNumbers
 }
 
 /// What each instruction of the block depends on.
-pub(crate) fn needs_of_all(block: &[Instr]) -> ArrayVec<MarkedNumbers, BLOCK_LIMIT>
+pub(crate) fn needs_of_all(block: &[Instr]) -> ArrayVec<Set, BLOCK_LIMIT>
     requires { length block.now ≤ BLOCK_LIMIT }
     ensures { AreNeeds block.now result.items }
 {

@@ -11,8 +11,7 @@ use crate::replay::past::Past;
 use crate::replay::point::KeptPoint;
 use crate::replay::timing::{next, next_point};
 use arrayvec::ArrayVec;
-use s66_facts::MarkedNumbers;
-use s66_isa::{BLOCK_LIMIT, Instr, Kind, Profile, Row};
+use s66_isa::{BLOCK_LIMIT, Instr, Kind, Profile, Row, Set};
 use s66_model::Rule;
 use std::marker::Model;
 
@@ -22,8 +21,8 @@ pub struct Prefix {
     block: ArrayVec<Instr, BLOCK_LIMIT>,
     profile: Profile,
     rows: ArrayVec<Row, BLOCK_LIMIT>,
-    needs: ArrayVec<MarkedNumbers, BLOCK_LIMIT>,
-    placed: MarkedNumbers,
+    needs: ArrayVec<Set, BLOCK_LIMIT>,
+    placed: Set,
     numbers: Numbers,
     past: Past,
 }
@@ -78,7 +77,7 @@ impl Prefix {
             profile: *profile,
             rows: rows_of(block, profile),
             needs: needs_of_all(block),
-            placed: MarkedNumbers::none(),
+            placed: Set::empty(),
             numbers: ArrayVec::new(),
             past: Past::new(),
         }
@@ -99,7 +98,7 @@ impl Prefix {
             profile: self.profile,
             rows: rows_of(self.block.as_slice(), &self.profile),
             needs,
-            placed: MarkedNumbers::none(),
+            placed: Set::empty(),
             numbers: ArrayVec::new(),
             past: Past::new(),
         }
@@ -171,7 +170,7 @@ impl Prefix {
     }
 
     /// The numbers that the instruction of a number depends on.
-    fn needs(&self, n: u8) -> MarkedNumbers
+    fn needs(&self, n: u8) -> Set
         requires { (1 ≤ n) × (n ≤ length self.now.problem.block) }
         ensures { (m : ℕ) → 1 ≤ m → m ≤ BLOCK_LIMIT → is_marked result m ≡ depends self.now.problem.block m n }
     {
@@ -183,7 +182,7 @@ impl Prefix {
         requires { (1 ≤ n) × (n ≤ length self.now.problem.block) }
         ensures { result ≡ needs_met self.now.problem.block self.now.numbers n n }
     {
-        self.needs(n).are_within(&self.placed)
+        self.needs(n).is_within(&self.placed)
     }
 
     /// Whether a number may come next: it remains, and all that it depends on is placed.
@@ -223,7 +222,7 @@ impl Prefix {
     {
         let n = self.numbers.pop()?;
         self.past.pop();
-        self.placed = self.placed.without(n);
+        self.placed = self.placed.without(&Set::empty().with(n));
         Some(n)
     }
 
@@ -294,7 +293,7 @@ impl Prefix {
         requires { self.now.problem ≡ other.now.problem }
         ensures { result ≡ is_same_set self.now.numbers other.now.numbers }
     {
-        self.placed.are_same(&other.placed)
+        self.placed.is_same(&other.placed)
     }
 
     /// Whether it dominates another beginning of the same block under the same profile, by a rule.

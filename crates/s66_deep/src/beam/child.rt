@@ -1,7 +1,7 @@
 //! A beginning that may be kept: which one it goes on from, by which number, and its merit.
 
 use crate::beam::merit::Merit;
-use s66_time::Set;
+use s66_isa::Set;
 
 /// A beginning that goes on from one that is kept by a number.
 #[derive(Clone, Copy)]

@@ -7,8 +7,8 @@ use crate::beam::merit::Merit;
 use crate::facts::copy_of;
 use crate::walk::Prefix;
 use arrayvec::ArrayVec;
-use s66_isa::BLOCK_LIMIT;
-use s66_time::{Mark, Set, dominates_clamped};
+use s66_isa::{BLOCK_LIMIT, Set};
+use s66_time::{Mark, dominates_clamped};
 use std::alloc::{AllocError, Global};
 
 /// A beginning that is kept.

@@ -3,8 +3,7 @@
 
 use crate::classes::{Class, Role, those_of, users_of};
 use crate::facts::{Finder, Ground, Precedence};
-use s66_isa::{Kind, REGISTER_COUNT, Row};
-use s66_time::Set;
+use s66_isa::{Kind, REGISTER_COUNT, Row, Set};
 
 /// The instructions of a block, by which word of a clock they look at, and which is known to stand before which.
 #[derive(Drop)]

@@ -9,8 +9,8 @@ use crate::best_first::nodes::Nodes;
 use crate::best_first::remaining::Remaining;
 use crate::best_first::waits::Waits;
 use crate::limits::{KEPT_LIMIT, LOOK_LIMIT};
-use s66_isa::{KINDS, Profile};
-use s66_time::{Clock, Mark, Set, dominates_clamped};
+use s66_isa::{KINDS, Profile, Set};
+use s66_time::{Clock, Mark, dominates_clamped};
 use std::alloc::{AllocError, Global};
 
 /// In place of a place: there is none.

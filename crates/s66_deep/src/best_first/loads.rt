@@ -6,8 +6,8 @@ use crate::best_first::instructions::Instructions;
 use crate::best_first::remaining::{next_issue, operands};
 use crate::floors::Tails;
 use arrayvec::ArrayVec;
-use s66_isa::{BLOCK_LIMIT, KIND_COUNT, KINDS, Kind};
-use s66_time::{Clock, Set};
+use s66_isa::{BLOCK_LIMIT, KINDS, KIND_COUNT, Kind, Set};
+use s66_time::Clock;
 use std::alloc::{AllocError, Global};
 
 /// With what an instruction begins to use its unit.

@@ -3,8 +3,8 @@
 
 use crate::best_first::instructions::Instructions;
 use crate::best_first::waits::{READERS_AT, REFERENCES_AT, STORES_AT, UNITS_AT};
-use s66_isa::{KINDS, Row};
-use s66_time::{Clock, Set};
+use s66_isa::{KINDS, Row, Set};
+use s66_time::Clock;
 
 /// When an instruction looks at a word.
 #[derive(Clone, Copy)]

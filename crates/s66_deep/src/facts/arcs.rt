@@ -2,7 +2,7 @@
 
 use crate::facts::network::{Arc, Network};
 use crate::facts::nodes::{NODE_COUNT, Times, lift, number_at, time_at};
-use s66_time::Set;
+use s66_isa::Set;
 use std::alloc::{AllocError, Global};
 
 /// The place of no arc.

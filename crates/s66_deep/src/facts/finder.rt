@@ -20,10 +20,9 @@ use crate::facts::ways::Ways;
 use crate::floors::Tails;
 use crate::limits::{PASSES_LIMIT, ROUNDS_LIMIT, WAIT_LIMIT};
 use s66_facts::{Facts, Times};
-use s66_isa::{BLOCK_LIMIT, KINDS, Kind, Profile};
+use s66_isa::{BLOCK_LIMIT, KINDS, Kind, Profile, Set};
 use s66_line::Block;
 use s66_moments::{FactLine, FactStep, LoadLine, Moment, Stage};
-use s66_time::Set;
 use std::alloc::{AllocError, Global};
 use std::boxed::Box;
 

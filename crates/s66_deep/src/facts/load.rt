@@ -5,8 +5,7 @@ use crate::facts::network::Paths;
 use crate::facts::nodes::time_at;
 use crate::facts::spans::{Spans, at_issue, at_start, node_at};
 use arrayvec::ArrayVec;
-use s66_isa::BLOCK_LIMIT;
-use s66_time::Set;
+use s66_isa::{BLOCK_LIMIT, Set};
 
 /// What may be said of a load: its instructions begin so late, and so much is left after them; the wait follows.
 #[derive(Clone, Copy)]

@@ -8,9 +8,8 @@ use crate::facts::nodes::{
     END, NODE_COUNT, ORIGIN, Times, first, free, issue, raise, second, start, time_at,
 };
 use crate::facts::precedence::Precedence;
-use s66_isa::{Memory, Reg, Row, has_register, is_same_register};
+use s66_isa::{Memory, Reg, Row, Set, has_register, is_same_register};
 use s66_moments::{FactLine, Moment, Stage};
-use s66_time::Set;
 use std::alloc::{AllocError, Global};
 
 /// How much later one node comes at least than another, in minor cycles.

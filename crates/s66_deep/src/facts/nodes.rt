@@ -1,7 +1,6 @@
 //! What longest paths go through: the origin, the stages of each instruction, and the end.
 
-use s66_isa::BLOCK_LIMIT;
-use s66_time::Set;
+use s66_isa::{BLOCK_LIMIT, Set};
 
 /// How many there are: five of each number, and two in the places of number 0.
 pub(crate) const NODE_COUNT: usize = 5 * (BLOCK_LIMIT + 1);

@@ -8,8 +8,7 @@ use crate::facts::ground::Ground;
 use crate::facts::network::{Network, Paths};
 use crate::facts::nodes::{free, issue, time_at};
 use crate::facts::precedence::{Precedence, set_of, turned};
-use s66_isa::{BLOCK_LIMIT, is_same_kind};
-use s66_time::Set;
+use s66_isa::{BLOCK_LIMIT, Set, is_same_kind};
 
 /// The numbers that have to stand after each, and before each; what is of n is at n - 1.
 #[derive(Drop)]

@@ -7,8 +7,7 @@ ghost use Rattle.s66_moments.specs.Facts.{IsNumber};
 
 use arrayvec::ArrayVec;
 use s66_facts::Facts;
-use s66_isa::BLOCK_LIMIT;
-use s66_time::Set;
+use s66_isa::{BLOCK_LIMIT, Set};
 
 /// Which number is known to stand before which, as words. What is of number n is at n - 1.
 #[derive(Drop)]

@@ -7,8 +7,7 @@ use crate::facts::network::Paths;
 use crate::facts::nodes::{Times, first, free, issue, lift, number_at, second, start, time_at};
 use crate::facts::pairs::is_late;
 use crate::facts::precedence::{Precedence, joined, set_of};
-use s66_isa::BLOCK_LIMIT;
-use s66_time::Set;
+use s66_isa::{BLOCK_LIMIT, Set};
 
 /// Which number stands before which, and the longest paths by that and by arcs. What is of n is at n - 1.
 #[derive(Clone, Copy)]

@@ -12,9 +12,8 @@ use crate::facts::selection::Selection;
 use crate::facts::trial::Trial;
 use crate::facts::uses::are_used;
 use crate::limits::TRIALS_LIMIT;
-use s66_isa::BLOCK_LIMIT;
+use s66_isa::{BLOCK_LIMIT, Set};
 use s66_moments::{FactLine, LoadLine, Moment};
-use s66_time::Set;
 use std::alloc::{AllocError, Global};
 
 /// What is known of a block after some lines, as `Facts` knows it but by few arcs. Nothing is promised of it.

@@ -12,8 +12,7 @@ use crate::facts::sort::sort;
 use crate::facts::spans::{at_issue, at_start};
 use crate::limits::WAIT_LIMIT;
 use crate::work::Work;
-use s66_isa::BLOCK_LIMIT;
-use s66_time::Set;
+use s66_isa::{BLOCK_LIMIT, Set};
 use std::alloc::{AllocError, Global};
 
 /// When an instruction begins its use at the latest, as far as paths show, and how long it has its unit.

@@ -10,9 +10,9 @@ use crate::floors::tables::PathTables;
 use crate::floors::tails::{Tails, cut_all};
 use crate::floors::values::greatest_value;
 use crate::floors::words::value_by;
-use s66_isa::{BLOCK_LIMIT, Profile, Row};
+use s66_isa::{BLOCK_LIMIT, Profile, Row, Set};
 use s66_line::Block;
-use s66_time::{Clock, Set, rows_of};
+use s66_time::{Clock, rows_of};
 use std::marker::Model;
 
 /// What the greatest paths after all beginnings of a block have in common, worked out once from what follows each moment. Contracts

@@ -1,6 +1,6 @@
 //! What remains after a beginning, as two sets of ranks.
 
-use s66_time::Set;
+use s66_isa::Set;
 
 /// What remains after a beginning, by rank: a caller keeps it from push to push.
 #[derive(Clone, Copy)]

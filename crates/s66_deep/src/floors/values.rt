@@ -10,8 +10,8 @@ ghost use Rattle.s66_deep.specs.FollowingWords.{AreSmallWords, HasSmallWords};
 use crate::floors::left::Left;
 use crate::floors::tables::PathTables;
 use crate::floors::words::done_of;
-use s66_isa::{BLOCK_LIMIT, Kind, Memory, Reg, kind_number};
-use s66_time::{Clock, Ranking, Set};
+use s66_isa::{BLOCK_LIMIT, Kind, Memory, Reg, Set, kind_number};
+use s66_time::{Clock, Ranking};
 
 /// A value, or a word and what follows if that is greater, at one of those that remain of a class.
 fn raised(ranking: &Ranking, left: &Set, those: &Set, word: u32, top: u32, most: u32) -> u32

@@ -8,9 +8,9 @@ use crate::search::plain_paths::{plain_bound, plain_tails};
 use crate::search::reading::{block_of, source_of};
 use crate::search::walk::{push_ready, undo_last};
 use s66_deep::{Left, PathBounds, Tails};
-use s66_isa::{BLOCK_LIMIT, Profile};
+use s66_isa::{BLOCK_LIMIT, Profile, Set};
 use s66_line::Block;
-use s66_time::{Clock, Set};
+use s66_time::Clock;
 use std::process::Abort;
 
 /// How many numbers are tried, most of them in vain.

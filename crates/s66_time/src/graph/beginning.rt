@@ -6,7 +6,7 @@ ghost use Rattle.s66_line.specs.Block.{instrs_of};
 ghost use Rattle.s66_time.specs.Refusal.{IsLongestBeginning};
 
 use crate::graph::dependence::Dependences;
-use crate::graph::set::Set;
+use s66_isa::Set;
 use s66_line::Block;
 
 /// How many of the numbers are a legal beginning, from the first on: each is ready when it comes, and the next one isn't. It

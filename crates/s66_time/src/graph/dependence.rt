@@ -7,13 +7,12 @@ ghost use Rattle.s66_model.specs.Dependence.{depends, needs, all_needs};
 ghost use Rattle.s66_model.specs.LegalOrder.{ready};
 ghost use Rattle.s66_line.specs.Block.{instrs_of};
 ghost use Rattle.s66_isa.specs.declared.limits.TheConstants.{BLOCK_LIMIT};
-ghost use Rattle.s66_time.specs.Members.{numbers_in};
+ghost use Rattle.s66_isa.specs.Members.{numbers_in};
 ghost use Rattle.s66_time.specs.Effects.{AreEffects, AreEffectsOf};
 
 use crate::graph::effects::Effects;
-use crate::graph::set::Set;
+use s66_isa::{BLOCK_LIMIT, Set};
 use arrayvec::ArrayVec;
-use s66_isa::BLOCK_LIMIT;
 use s66_line::Block;
 use std::marker::Model;
 
@@ -28,7 +27,7 @@ pub struct Dependences {
 impl Model for Dependences {
     ghost use Rattle.std.specs.Prelude.{ℕ, List, ◌≡◌, map, length};
     ghost use Rattle.s66_isa.specs.Lists.{rising};
-    ghost use Rattle.s66_time.specs.Members.{numbers_in};
+    ghost use Rattle.s66_isa.specs.Members.{numbers_in};
 
     ghost Value = { List (List ℕ) };
 

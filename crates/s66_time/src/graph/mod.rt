@@ -9,11 +9,9 @@ mod effects;
 mod openings;
 mod order;
 mod ranking;
-mod set;
 
 pub use beginning::is_beginning;
 pub use dependence::{Dependences, depends, ready};
 pub use openings::Openings;
 pub use order::{NotLegal, Order};
 pub use ranking::Ranking;
-pub use set::Set;

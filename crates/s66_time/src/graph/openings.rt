@@ -4,13 +4,12 @@
 ghost use Rattle.std.specs.Prelude.{ℕ, ◌≡◌, ◌≤◌, ◌-◌, List, [], true, length, get_or};
 ghost use Rattle.std.specs.List.{filter};
 ghost use Rattle.s66_isa.specs.Lists.{has, rising};
-ghost use Rattle.s66_time.specs.Members.{numbers_in, no_set};
+ghost use Rattle.s66_isa.specs.Members.{numbers_in, no_set};
 ghost use Rattle.s66_time.specs.Opens.{needs_of, is_direct};
 
 use crate::graph::dependence::Dependences;
-use crate::graph::set::Set;
+use s66_isa::{BLOCK_LIMIT, Set};
 use arrayvec::ArrayVec;
-use s66_isa::BLOCK_LIMIT;
 use s66_line::Block;
 use std::marker::Model;
 
@@ -73,7 +72,7 @@ impl Openings {
     ghost use Rattle.s66_line.specs.Block.{instrs_of};
     ghost use Rattle.s66_model.specs.Dependence.{all_needs};
     ghost use Rattle.s66_model.specs.LegalOrder.{is_ready, ready, IsBeginning};
-    ghost use Rattle.s66_time.specs.Members.{numbers_in};
+    ghost use Rattle.s66_isa.specs.Members.{numbers_in};
     ghost use Rattle.s66_time.specs.Opens.{opens};
 
     /// Those of a block, in time quadratic in its length.

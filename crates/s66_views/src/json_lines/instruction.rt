@@ -3,7 +3,7 @@
 ghost use Rattle.std.specs.Prelude.{◌≡◌, ◌≤◌, ◌++◌, OnOk, length};
 ghost use Rattle.s66_line.specs.Block.{instrs_of};
 ghost use Rattle.s66_model.specs.Dependence.{all_needs, needs};
-ghost use Rattle.s66_time.specs.Members.{numbers_in};
+ghost use Rattle.s66_isa.specs.Members.{numbers_in};
 ghost use Rattle.s66_views.specs.Pieces.{instruction_text, instructions_text, needs_text, operands_text, source_text, work_text};
 
 use crate::json_lines::list::{push_numbers, push_registers, push_writes};
@@ -11,9 +11,9 @@ use crate::json_lines::string::push_string;
 use crate::json_lines::text::{push_comma, push_text};
 use crate::json_lines::words::{memory, unit};
 use s66_device::push_field;
-use s66_isa::{Profile, Row};
+use s66_isa::{Profile, Row, Set};
 use s66_line::Block;
-use s66_time::{Dependences, Set};
+use s66_time::Dependences;
 use std::alloc::AllocError;
 
 /// Where an instruction is in the source.

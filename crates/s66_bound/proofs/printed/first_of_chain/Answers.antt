@@ -9,7 +9,7 @@ use Rattle.s66_model.specs.Tails.{longest_tail}
 use Rattle.s66_model.proofs.Remaining.{remaining-parts, remaining-among}
 use Rattle.s66_model.proofs.FloorParts.{head-fits}
 use Rattle.s66_model.proofs.WalkOver.{first-passed, first-failed}
-use Rattle.s66_time.specs.Members.{numbers_in}
+use Rattle.s66_isa.specs.Members.{numbers_in}
 use Rattle.s66_bound.proofs.Heads.{heads_chain}
 use Rattle.s66_time.specs.Ticking.{problem_of, points}
 use Rattle.s66_bound.proofs.printed.first_of_chain.Goals.{else-saturating_sub-latest-via-then-saturating_sub-latest+else-head_of-longest, else-saturating_sub-latest-via-else-saturating_sub-latest}

@@ -2,7 +2,7 @@ use Rattle.std.proofs.Common.{ℕ, ◌≡◌, true, length}
 use Rattle.s66_isa.specs.Lists.{first_that, Among}
 use Rattle.s66_line.specs.Block.{instrs_of}
 use Rattle.s66_model.specs.LegalOrder.{is_remaining, remaining}
-use Rattle.s66_time.specs.Members.{numbers_in}
+use Rattle.s66_isa.specs.Members.{numbers_in}
 use Rattle.s66_bound.proofs.Heads.{heads_chain}
 use Rattle.s66_time.specs.Ticking.{problem_of}
 use Rattle.s66_bound.proofs.printed.first_of_chain.Given as goal

@@ -7,7 +7,7 @@ use Rattle.s66_model.specs.Leaves.{uses}
 use Rattle.s66_model.specs.Tails.{longest_tail}
 use Rattle.s66_model.proofs.LateRegisters.{has-late}
 use Rattle.s66_model.proofs.HeadByRegisters.{done_for, head-by-registers}
-use Rattle.s66_time.specs.Members.{numbers_in, no_set}
+use Rattle.s66_isa.specs.Members.{numbers_in, no_set}
 use Rattle.s66_time.specs.Ticking.{problem_of}
 use Rattle.s66_bound.proofs.Heads.{greatest-drop, done-used, done-unused}
 use Rattle.s66_bound.proofs.printed.head_of.Goals.{then-has, else-has}

@@ -2,7 +2,7 @@ use Rattle.std.proofs.Common.{ℕ, List, ◌≡◌, ◌∷◌, ◌++◌, [], tru
 use Rattle.std.proofs.lemmas.List.{append-nil}
 use Rattle.s66_isa.specs.Lists.{Among}
 use Rattle.s66_model.proofs.WalkOver.{goes_on, walk_over, over-on, over-past, goes-parts, pass-walks}
-use Rattle.s66_time.specs.Members.{numbers_in}
+use Rattle.s66_isa.specs.Members.{numbers_in}
 use Rattle.s66_bound.proofs.printed.walk_from.Goals as goal
 
 pub goes_on-requires-clause-numbers : goal.goes_on-requires-clause-numbers

@@ -2,7 +2,7 @@ use Rattle.std.proofs.Common.{ℕ, ◌≡◌, ◌≤◌, ◌∷◌, ◌++◌, le
 use Rattle.s66_isa.specs.Lists.{Among}
 use Rattle.s66_model.specs.Timing.{Problem}
 use Rattle.s66_model.proofs.WalkOver.{walk_over}
-use Rattle.s66_time.specs.Members.{numbers_in}
+use Rattle.s66_isa.specs.Members.{numbers_in}
 use Rattle.s66_bound.specs.InstructionCosts.{AreCosts}
 use Rattle.s66_bound.specs.TableWords.{IsTables}
 use Rattle.s66_bound.proofs.printed.walk_from.Given as goal

@@ -9,7 +9,7 @@ use Rattle.s66_isa.proofs.SameRegister.{same_reg-true}
 use Rattle.s66_model.specs.Timing.{row_at}
 use Rattle.s66_model.specs.Leaves.{uses}
 use Rattle.s66_model.specs.Tails.{longest_tail}
-use Rattle.s66_time.specs.Members.{no_set}
+use Rattle.s66_isa.specs.Members.{no_set}
 use Rattle.s66_time.proofs.RankOrder.{those-within, ranks-those}
 use Rattle.s66_bound.specs.Ranks.{AreRanks}
 use Rattle.s66_bound.proofs.tables.users_by_rank.Goals as goal

@@ -3,7 +3,7 @@ use Rattle.s66_isa.specs.Table.{Reg}
 use Rattle.s66_isa.specs.Registers.{index_of}
 use Rattle.s66_model.specs.Timing.{Problem, row_at}
 use Rattle.s66_model.specs.Leaves.{uses}
-use Rattle.s66_time.specs.Members.{no_set}
+use Rattle.s66_isa.specs.Members.{no_set}
 use Rattle.s66_bound.specs.InstructionCosts.{AreCosts}
 use Rattle.s66_bound.specs.Ranks.{IsRanking, AreRanks}
 use Rattle.s66_bound.proofs.tables.users_by_rank.Given as goal

@@ -5,8 +5,8 @@ use Rattle.s66_isa.specs.Table.{Reg}
 use Rattle.s66_model.specs.Timing.{Problem}
 use Rattle.s66_model.specs.Tails.{longest_tail, chain_by}
 use Rattle.s66_model.proofs.FloorParts.{by-fits}
-use Rattle.s66_time.specs.declared.graph.set.Set.{Set}
-use Rattle.s66_time.specs.Members.{numbers_in, no_set}
+use Rattle.s66_isa.specs.declared.set.Set.{Set}
+use Rattle.s66_isa.specs.Members.{numbers_in, no_set}
 use Rattle.s66_time.proofs.RankOrder.{ranks-both}
 use Rattle.s66_time.specs.Ticking.{problem_of}
 use Rattle.s66_bound.specs.Ranks.{AreRanks}

@@ -1,7 +1,7 @@
 use Rattle.std.proofs.Common.{length, refl}
 use Rattle.s66_isa.proofs.Lists.{has-among}
 use Rattle.s66_model.specs.Tails.{longest_tail}
-use Rattle.s66_time.specs.Members.{numbers_in}
+use Rattle.s66_isa.specs.Members.{numbers_in}
 use Rattle.s66_time.proofs.RankOrder.{ranks-left}
 use Rattle.s66_time.proofs.RemainingSets.{remaining-within}
 use Rattle.s66_time.specs.Ticking.{problem_of}

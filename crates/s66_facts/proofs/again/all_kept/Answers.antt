@@ -12,7 +12,7 @@ loop-position-preserved c = λ k low is.
     let n = c.loop-position.position + 1 in
     elim c.if-keeps.branch [
       | then-keeps w ↦
-          elim (or_cases (k == n) (is_marked c.loop-position.same k) (sym (w.with-same.ensures k low) ∙ subst (λ s. is_marked s k ≡ true) w.same-is is)) [
+          elim (or_cases (k == n) (is_marked c.loop-position.same k) (sym (w.with-same.ensures k) ∙ subst (λ s. is_marked s k ≡ true) w.same-is is)) [
             | inl here ↦ subst (λ j. keeps (sooner c.args.direction (before_in c.args.graph.now.marks)) c.args.m c.args.n j ≡ true) (sym (eqb-true k n here)) (sym c.keeps.ensures ∙ w.if-keeps.true)
             | inr earlier ↦ old k low earlier
           ]

@@ -1,10 +1,11 @@
-use Rattle.std.proofs.Common.{◌+◌, ◌<◌, length, sym, subst, arith, ◌∙◌}
+use Rattle.std.proofs.Common.{◌+◌, ◌<◌, length, sym, subst, arith, ◌∙◌, ap}
 use Rattle.s66_facts.proofs.NearEach.{IsTurned, turned-none, turned-more, turned-past, turned-all, before-at}
 use Rattle.s66_facts.proofs.pairs.turned_at.Goals.{then-has, else-has}
+use Rattle.s66_isa.specs.Lists.{has}
 use Rattle.s66_facts.proofs.pairs.turned_at.Goals as goal
 
 pub loop-position-init : goal.loop-position-init
-loop-position-init c = turned-none c.args.before.now c.args.n c.none-all.result c.none-all.ensures
+loop-position-init c = turned-none c.args.before.now c.args.n c.empty-all.result (λ m. ap (has m) c.empty-all.ensures)
 
 pub loop-position-preserved : goal.loop-position-preserved
 loop-position-preserved c =
@@ -15,7 +16,7 @@ loop-position-preserved c =
     let less : position < length before = omega (arith, c.loop-position-test.true) in
     let here = before-at before n position c.requires.n less c.marks_at.result c.marks_at.ensures in
     elim c.if-has.branch [
-      | then-has w ↦ subst (IsTurned before n (position + 1)) (sym w.all-is) (turned-more before n position old w.with-all.result (here ∙ (sym c.has.ensures ∙ w.if-has.true)) w.with-all.ensures c.loop-position.invariant)
+      | then-has w ↦ subst (IsTurned before n (position + 1)) (sym w.all-is) (turned-more before n position old w.with-all.result (here ∙ (sym c.has.ensures ∙ w.if-has.true)) (λ m low. w.with-all.ensures m) c.loop-position.invariant)
       | else-has w ↦ subst (IsTurned before n (position + 1)) (sym w.all-is) (turned-past before n position old (here ∙ (sym c.has.ensures ∙ w.if-has.false)) c.loop-position.invariant)
     ]
 

@@ -1,9 +1,10 @@
-use Rattle.std.proofs.Common.{ℕ, ◌≡◌, ◌≤◌, true}
+use Rattle.std.proofs.Common.{ℕ, ◌≡◌, ◌≤◌, true, length}
 use Rattle.s66_isa.specs.declared.limits.TheConstants.{BLOCK_LIMIT}
 use Rattle.s66_isa.specs.Table.{numbers}
 use Rattle.s66_moments.specs.Facts.{IsNumber}
 use Rattle.s66_facts.specs.Marked.{is_marked}
 use Rattle.s66_facts.specs.Passes.{later_times, gathered, by_one, by_all}
+use Rattle.s66_isa.specs.Members.{numbers_in}
 use Rattle.s66_facts.proofs.paths.by_all.Given as goal
 
 abbrev pub invariant-loop-m : goal.invariant-loop-m
@@ -13,4 +14,4 @@ invariant-loop-m l = record {
 }
 
 abbrev pub decreases-loop-m : goal.decreases-loop-m
-decreases-loop-m l = l.rest.bits
+decreases-loop-m l = length (numbers_in l.rest)

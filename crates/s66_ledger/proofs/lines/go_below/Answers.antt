@@ -1,6 +1,6 @@
 use Rattle.std.proofs.Common.{◌++◌, ◌∷◌, [], ℕ, List, ◌≡◌, refl, ap, sym, subst, inl, ◌∙◌}
 use Rattle.s66_isa.specs.Lists.{Among}
-use Rattle.s66_time.specs.Members.{numbers_in}
+use Rattle.s66_isa.specs.Members.{numbers_in}
 use Rattle.s66_model.specs.LegalOrder.{ready}
 use Rattle.s66_model.specs.Later.{children, later}
 use Rattle.s66_model.proofs.Remaining.{ready-among}

@@ -2,8 +2,9 @@ use Rattle.std.proofs.Common.{◌≡◌, ◌++◌, ◌∷◌, [], true≢false, 
 use Rattle.s66_model.specs.LegalOrder.{IsComplete}
 use Rattle.s66_model.specs.Expansion.{whole_at}
 use Rattle.s66_node.specs.Walking.{IsLeast, terminal_by, value_by}
-use Rattle.s66_node.proofs.Terminals.{found-none, whole-order, whole-total, whole-legal, least-same}
+use Rattle.s66_node.proofs.Terminals.{found-none, whole-order, whole-legal, least-same}
 use Rattle.s66_node.proofs.grow.keep_whole.Goals as goal
+use Rattle.s66_bound.proofs.ValueBounds.{floor-whole}
 
 pub returns-then-is_complete : goal.returns-then-is_complete
 returns-then-is_complete c =
@@ -13,7 +14,7 @@ returns-then-is_complete c =
     let v = c.in-Leaf.value in
     let whole : IsComplete b.block at = c.is_complete.ensures.complete.0 c.if-is_complete.true in
     λ rule best known found h least.
-    let total = sym (ap value_by c.in-Leaf.is) ∙ (h.value ∙ whole-total b at whole) in
+    let total = sym (ap value_by c.in-Leaf.is) ∙ (h.value ∙ floor-whole b at whole) in
     let next : IsLeast b (found ++ c.numbers.result.now ∷ []) c.keep_lesser.new.least = c.keep_lesser.ensures b found (rw c.numbers.ensures.value (whole-legal b at c.numbers.ensures.begins whole)) (rw c.numbers.ensures.value total) least in
     let order : whole_at at (terminal_by b at u) ≡ at ∷ [] = ap (λ k. whole_at at (terminal_by b at k)) c.in-Leaf.is ∙ whole-order b at whole in
     subst (λ xs. IsLeast b (found ++ xs) c.keep_lesser.new.least) (sym order) (subst (λ x. IsLeast b (found ++ x ∷ []) c.keep_lesser.new.least) c.numbers.ensures.value next)

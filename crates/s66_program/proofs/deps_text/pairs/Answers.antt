@@ -1,5 +1,5 @@
 use Rattle.std.proofs.Common.{rules, ℕ, List, [], ◌≡◌, ◌<◌, ◌+◌, ◌-◌, ◌^◌, ◌∙◌, length, get_or, ap, arith}
-use Rattle.s66_time.proofs.Sets.{numbers_in-few}
+use Rattle.s66_isa.proofs.Sets.{numbers_in-few}
 use Rattle.s66_program.proofs.Dependences.{weigh-drop}
 use Rattle.s66_program.proofs.deps_text.pairs.Goals as goal
 

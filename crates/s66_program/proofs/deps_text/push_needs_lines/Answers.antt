@@ -2,15 +2,15 @@ use Rattle.std.proofs.Common.{ℕ, List, ◌≡◌, ◌+◌, ◌-◌, ◌++◌, 
 use Rattle.s66_isa.specs.Lists.{rising}
 use Rattle.s66_line.specs.Block.{instrs_of}
 use Rattle.s66_model.specs.Dependence.{needs}
-use Rattle.s66_time.specs.Members.{numbers_in}
+use Rattle.s66_isa.specs.Members.{numbers_in}
 use Rattle.s66_time.proofs.Readiness.{needs-at}
-use Rattle.s66_answer.proofs.BlockTexts.{rising-next}
 use Rattle.s66_program.specs.DepsText.{needs_line, needs_lines}
-use Rattle.s66_program.proofs.Dependences.{length-all_needs}
 use Rattle.s66_program.proofs.deps_text.push_needs_lines.Goals as goal
+use Rattle.s66_isa.proofs.Lists.{rising-next}
+use Rattle.s66_time.proofs.Opened.{count-needs}
 
 pub needs-needs-requires : goal.needs-needs-requires
-needs-needs-requires c = (omega arith, omega (arith, ap (λ (all : List (List ℕ)). length all) c.requires, length-all_needs (instrs_of c.args.block.now)))
+needs-needs-requires c = (omega arith, omega (arith, ap (λ (all : List (List ℕ)). length all) c.requires, count-needs (instrs_of c.args.block.now)))
 
 pub loop-position-preserved : goal.loop-position-preserved
 loop-position-preserved c =

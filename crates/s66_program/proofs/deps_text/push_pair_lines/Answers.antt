@@ -3,13 +3,13 @@ use Rattle.s66_isa.specs.Lists.{rising}
 use Rattle.s66_line.specs.Block.{instrs_of}
 use Rattle.s66_model.specs.Dependence.{needs}
 use Rattle.s66_time.proofs.Readiness.{needs-at}
-use Rattle.s66_answer.proofs.BlockTexts.{rising-next}
 use Rattle.s66_program.specs.DepsText.{pair_line}
-use Rattle.s66_program.proofs.Dependences.{length-all_needs}
 use Rattle.s66_program.proofs.deps_text.push_pair_lines.Goals as goal
+use Rattle.s66_isa.proofs.Lists.{rising-next}
+use Rattle.s66_time.proofs.Opened.{count-needs}
 
 pub needs-needs-requires : goal.needs-needs-requires
-needs-needs-requires c = (omega arith, omega (arith, ap (λ (all : List (List ℕ)). length all) c.requires, length-all_needs (instrs_of c.args.block.now)))
+needs-needs-requires c = (omega arith, omega (arith, ap (λ (all : List (List ℕ)). length all) c.requires, count-needs (instrs_of c.args.block.now)))
 
 pub push_pairs_of-requires-clause-needs : goal.push_pairs_of-requires-clause-needs
 push_pairs_of-requires-clause-needs c =

@@ -1,5 +1,5 @@
 use Rattle.std.proofs.Common.{ℕ, ◌≡◌, ◌++◌, flat_map, length}
-use Rattle.s66_time.specs.Members.{numbers_in}
+use Rattle.s66_isa.specs.Members.{numbers_in}
 use Rattle.s66_isa.specs.Lists.{Among}
 use Rattle.s66_line.specs.Block.{instrs_of}
 use Rattle.s66_model.specs.Dependence.{needs}

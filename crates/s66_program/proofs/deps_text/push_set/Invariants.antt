@@ -1,5 +1,5 @@
 use Rattle.std.proofs.Common.{◌≡◌, ◌++◌, length}
-use Rattle.s66_time.specs.Members.{numbers_in}
+use Rattle.s66_isa.specs.Members.{numbers_in}
 use Rattle.s66_isa.specs.Lists.{after_blanks}
 use Rattle.s66_program.proofs.deps_text.push_set.Given as goal
 

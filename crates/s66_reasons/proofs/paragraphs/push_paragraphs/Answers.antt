@@ -9,9 +9,9 @@ use Rattle.s66_cert.specs.Document.{tree_placed}
 use Rattle.s66_cert.specs.DocumentParts.{document_of}
 use Rattle.s66_reasons.specs.Reasons.{line_text, lines_text}
 use Rattle.s66_reasons.proofs.Claimed.{all-found, few-lines_placed}
-use Rattle.s66_reasons.proofs.Leaves.{got-among}
 use Rattle.s66_reasons.proofs.Texts.{lines-more}
 use Rattle.s66_reasons.proofs.paragraphs.push_paragraphs.Goals as goal
+use Rattle.s66_isa.proofs.Lists.{got-among}
 
 pub push_line-requires-clause-among : goal.push_line-requires-clause-among
 push_line-requires-clause-among c =

@@ -2,11 +2,11 @@ use Rattle.std.proofs.Common.{ℕ, ◌≡◌, ◌≤◌, ◌<◌, ◌+◌, lengt
 use Rattle.s66_isa.specs.declared.limits.TheConstants.{BLOCK_LIMIT}
 use Rattle.s66_model.specs.Dependence.{depends}
 use Rattle.s66_facts.specs.Marked.{is_marked}
-use Rattle.s66_facts.specs.declared.marked_numbers.MarkedNumbers.{MarkedNumbers}
+use Rattle.s66_isa.specs.declared.set.Set.{Set}
 use Rattle.s66_checker.proofs.replay.needs.needs_of_all.Given as goal
 
 abbrev pub invariant-loop-position : goal.invariant-loop-position
 invariant-loop-position l = record {
   count : length l.needs_of_all.items ≡ l.position;
-  each : (i : ℕ) (d : MarkedNumbers) → i < l.position → (m : ℕ) → 1 ≤ m → m ≤ BLOCK_LIMIT → is_marked (get_or l.needs_of_all.items i d) m ≡ depends l.block m (i + 1);
+  each : (i : ℕ) (d : Set) → i < l.position → (m : ℕ) → 1 ≤ m → m ≤ BLOCK_LIMIT → is_marked (get_or l.needs_of_all.items i d) m ≡ depends l.block m (i + 1);
 }

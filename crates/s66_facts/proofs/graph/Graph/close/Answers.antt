@@ -5,7 +5,7 @@ use Rattle.s66_isa.specs.Table.{row}
 use Rattle.s66_model.specs.Timing.{Problem}
 use Rattle.s66_moments.specs.Known.{known_first}
 use Rattle.s66_moments.specs.declared.fact_line.KnownArc.{KnownArc}
-use Rattle.s66_facts.specs.declared.marked_numbers.MarkedNumbers.{MarkedNumbers}
+use Rattle.s66_isa.specs.declared.set.Set.{Set}
 use Rattle.s66_facts.specs.Marked.{is_marked, no_marks, before_in, IsClosedUpTo}
 use Rattle.s66_facts.specs.Ground.{IsOrdered, known_of}
 use Rattle.s66_facts.proofs.FirstKnown.{before-is, first-known, first-ordered}
@@ -23,9 +23,9 @@ invariant_of-result c =
     let closed : IsClosedUpTo block marks (length block) = subst (λ (is : List Instr). IsClosedUpTo is marks (length is)) (sym copied) c.before_each-before.ensures.closed in
     let after = c.turned-after.result.items in
     let before-slice : c.as_slice.result.now ≡ marks = c.as_slice.ensures.value in
-    let count_after : length after ≡ length block = c.turned-after.ensures.count ∙ (ap (λ (ms : List MarkedNumbers). length ms) c.as_slice-2.ensures.value ∙ count) in
+    let count_after : length after ≡ length block = c.turned-after.ensures.count ∙ (ap (λ (ms : List Set). length ms) c.as_slice-2.ensures.value ∙ count) in
     let each : (n : ℕ) → 1 ≤ n → n ≤ length marks → (m : ℕ) → 1 ≤ m → is_marked (get_or after (n - 1) no_marks) m ≡ before_in marks n m =
-    subst (λ (ms : List MarkedNumbers). (n : ℕ) → 1 ≤ n → n ≤ length ms → (m : ℕ) → 1 ≤ m → is_marked (get_or after (n - 1) no_marks) m ≡ before_in ms n m) c.as_slice-2.ensures.value c.turned-after.ensures.each in
+    subst (λ (ms : List Set). (n : ℕ) → 1 ≤ n → n ≤ length ms → (m : ℕ) → 1 ≤ m → is_marked (get_or after (n - 1) no_marks) m ≡ before_in ms n m) c.as_slice-2.ensures.value c.turned-after.ensures.each in
     let turned : (m n : ℕ) → before_in after n m ≡ before_in marks m n = turned-is b marks after count count_after each in
     record {
       ordered = subst (λ (loads : List KnownArc). IsOrdered (record { problem = b; marks = marks; loads = loads })) (sym c.none.ensures) (first-ordered b marks few count closed);

@@ -8,7 +8,7 @@ use Rattle.s66_line.specs.Block.{instrs_of}
 use Rattle.s66_model.specs.Dependence.{needs, all_needs}
 use Rattle.s66_model.specs.LegalOrder.{is_ready}
 use Rattle.s66_model.proofs.Beginnings.{length-rising}
-use Rattle.s66_time.specs.Members.{numbers_in}
+use Rattle.s66_isa.specs.Members.{numbers_in}
 use Rattle.s66_time.proofs.Readiness.{is_free, is_free-ready, is_ready-same}
 use Rattle.s66_node.specs.Walked.{Walked}
 use Rattle.s66_node.proofs.walk.Walk.is_ready.Goals as goal

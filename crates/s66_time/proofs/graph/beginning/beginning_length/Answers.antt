@@ -5,7 +5,7 @@ use Rattle.s66_line.specs.Block.{instrs_of}
 use Rattle.s66_model.specs.LegalOrder.{IsFront, IsBeginning}
 use Rattle.s66_model.proofs.LegalOrders.{has-push}
 use Rattle.s66_model.proofs.Beginnings.{beginning-front}
-use Rattle.s66_time.proofs.Sets.{numbers_in-range}
+use Rattle.s66_isa.proofs.Sets.{numbers_in-range}
 use Rattle.s66_time.proofs.Readiness.{has-ready_same}
 use Rattle.s66_model.proofs.Remaining.{step-begins}
 use Rattle.s66_time.proofs.LongestBeginning.{beginning-few, not_ready}

@@ -3,11 +3,11 @@ use Rattle.s66_isa.specs.Lists.{has}
 use Rattle.s66_isa.specs.Table.{instr_at}
 use Rattle.s66_model.specs.Dependence.{depends}
 use Rattle.s66_time.specs.declared.graph.effects.Effects.{Effects}
-use Rattle.s66_time.specs.declared.graph.set.Set.{Set}
-use Rattle.s66_time.specs.Members.{numbers_in}
+use Rattle.s66_isa.specs.declared.set.Set.{Set}
+use Rattle.s66_isa.specs.Members.{numbers_in}
 use Rattle.s66_time.specs.Effects.{AreEffects}
 use Rattle.s66_time.proofs.Conflicts.{conflict-is}
-use Rattle.s66_time.proofs.Sets.{numbers_in-filter, within-all, within-none, within-push, within-pass}
+use Rattle.s66_isa.proofs.Sets.{numbers_in-filter, within-all, within-none, within-push, within-pass}
 use Rattle.s66_time.proofs.Readiness.{depends-later, depends-conflict}
 use Rattle.s66_time.proofs.graph.dependence.needs.Goals as goal
 use Rattle.s66_time.proofs.graph.dependence.needs.Goals.{then-is_conflict, else-is_conflict}

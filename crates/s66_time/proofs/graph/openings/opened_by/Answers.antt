@@ -1,7 +1,7 @@
 use Rattle.std.proofs.Common.{ℕ, ◌≡◌, ◌+◌, ◌-◌, ◌∙◌, Bool, length, get_or, ap, sym, arith}
 use Rattle.s66_isa.specs.Lists.{has}
-use Rattle.s66_time.specs.Members.{numbers_in, no_set}
-use Rattle.s66_time.proofs.Sets.{within, within-none, numbers_in-filter}
+use Rattle.s66_isa.specs.Members.{numbers_in, no_set}
+use Rattle.s66_isa.proofs.Sets.{within, within-none, numbers_in-filter}
 use Rattle.s66_time.proofs.graph.openings.opened_by.Goals as goal
 
 pub loop-position-init : goal.loop-position-init

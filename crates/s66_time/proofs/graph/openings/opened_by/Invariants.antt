@@ -1,7 +1,7 @@
 use Rattle.std.proofs.Common.{ℕ, ◌≡◌, ◌+◌, ◌-◌, get_or}
 use Rattle.s66_isa.specs.Lists.{has}
-use Rattle.s66_time.specs.Members.{numbers_in, no_set}
-use Rattle.s66_time.proofs.Sets.{within}
+use Rattle.s66_isa.specs.Members.{numbers_in, no_set}
+use Rattle.s66_isa.proofs.Sets.{within}
 use Rattle.s66_time.proofs.graph.openings.opened_by.Given as goal
 
 abbrev pub invariant-loop-position : goal.invariant-loop-position

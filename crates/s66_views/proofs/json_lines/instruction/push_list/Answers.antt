@@ -8,8 +8,9 @@ use Rattle.s66_line.specs.Block.{instrs_of}
 use Rattle.s66_time.proofs.Readiness.{needs-at}
 use Rattle.s66_views.specs.Pieces.{instruction_text, instructions_text, listed}
 use Rattle.s66_views.proofs.Appended.{of-three}
-use Rattle.s66_views.proofs.Numbered.{rising-next, length-all_needs}
 use Rattle.s66_views.proofs.json_lines.instruction.push_list.Goals as goal
+use Rattle.s66_isa.proofs.Lists.{rising-next}
+use Rattle.s66_time.proofs.Opened.{count-needs}
 
 pub loop-position-init : goal.loop-position-init
 loop-position-init c =
@@ -21,7 +22,7 @@ loop-position-init c =
     ∙ append_assoc c.args.out.now.items start (listed text false (rising (length block - 0) 1)) ∙ ap (λ k. c.args.out.now.items ++ (start ++ listed text false (rising k 1))) none
 
 pub needs-after-requires : goal.needs-after-requires
-needs-after-requires c = (omega arith, omega (arith, ap (λ (all : List (List ℕ)). length all) c.requires, length-all_needs (instrs_of c.args.block.now)))
+needs-after-requires c = (omega arith, omega (arith, ap (λ (all : List (List ℕ)). length all) c.requires, count-needs (instrs_of c.args.block.now)))
 
 pub push_instruction-requires-clause-after : goal.push_instruction-requires-clause-after
 push_instruction-requires-clause-after c =

@@ -4,8 +4,8 @@ use Rattle.s66_isa.specs.Registers.{register_at}
 use Rattle.s66_isa.specs.Table.{Reg}
 use Rattle.s66_why.specs.Reservations.{register_reservations}
 use Rattle.s66_views.specs.Page.{register_row_of}
-use Rattle.s66_views.proofs.Points.{range-more}
 use Rattle.s66_views.proofs.page.register.push_register_rows.Goals as goal
+use Rattle.s66_why.proofs.Appended.{range-more}
 
 pub loop-index-preserved : goal.loop-index-preserved
 loop-index-preserved c =

@@ -26,6 +26,6 @@ pub invariant_of-self : goal.invariant_of-self
 invariant_of-self c =
     let n = c.args.n in
     let point = c.next_point-point.ensures.value ∙ ap (λ (q : Checked). point_of q.problem (points_of q.problem q.numbers) n) (sym c.self.view_is) in
-    prefix-push _ _ _ _ _ _ c.self.inside.past n _ c.next_point-point.result _ _ c.self.invariant c.with-self-inside.ensures
+    prefix-push _ _ _ _ _ _ c.self.inside.past n _ c.next_point-point.result _ _ c.self.invariant (λ m low. c.with-self-inside.ensures m)
     (subst (λ (q : Checked). is_ready q.problem.block q.numbers n ≡ true) (sym c.self.view_is) c.requires)
     point c.push-2.ensures.items c.push.ensures

@@ -8,9 +8,9 @@ use Rattle.s66_isa.proofs.Lists.{among-rising, has-among}
 use Rattle.s66_model.specs.Dependence.{needs, all_needs}
 use Rattle.s66_model.specs.LegalOrder.{is_ready}
 use Rattle.s66_model.proofs.Beginnings.{length-rising}
-use Rattle.s66_time.specs.declared.graph.set.Set.{Set}
-use Rattle.s66_time.specs.Members.{numbers_in}
-use Rattle.s66_time.proofs.Sets.{within, within-same, rising-few, numbers_in-filter}
+use Rattle.s66_isa.specs.declared.set.Set.{Set}
+use Rattle.s66_isa.specs.Members.{numbers_in}
+use Rattle.s66_isa.proofs.Sets.{within, within-same, rising-few, numbers_in-filter}
 use Rattle.s66_time.proofs.Readiness.{is_free, is_free-ready, free-rest, found-free, and_with, or_with}
 use Rattle.s66_time.proofs.graph.dependence.Dependences.ready.Goals as goal
 

@@ -2,7 +2,7 @@ use Rattle.std.proofs.Common.{ℕ, Bool, ◌≡◌, ◌∙◌, ◌-◌, ◌||◌
 use Rattle.std.proofs.lemmas.Bool.{or_left, or_right, eq-eqb}
 use Rattle.std.proofs.Math.Bool.{or-false}
 use Rattle.s66_isa.specs.Lists.{has, every}
-use Rattle.s66_time.specs.Members.{numbers_in}
+use Rattle.s66_isa.specs.Members.{numbers_in}
 use Rattle.s66_time.specs.Opens.{needs_of, opens}
 use Rattle.s66_time.proofs.Readiness.{every-tested, found-next, and_with, or_with}
 use Rattle.s66_time.proofs.Opened.{count-needs, opens-range, after-is, ready-set}

@@ -1,8 +1,0 @@
-use Rattle.std.proofs.Common.{ℕ, ◌≡◌, ◌+◌, true}
-use Rattle.s66_isa.specs.Lists.{has}
-use Rattle.s66_time.specs.Members.{numbers_in}
-use Rattle.s66_time.proofs.Sets.{within}
-use Rattle.s66_time.proofs.graph.set.Set.up_to.Given as goal
-
-abbrev pub invariant-loop-position : goal.invariant-loop-position
-invariant-loop-position l = (m : ℕ) → has m (numbers_in l.set) ≡ within (λ n. true) (l.position + 1) m

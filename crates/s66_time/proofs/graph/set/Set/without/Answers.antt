@@ -1,6 +1,0 @@
-use Rattle.std.proofs.Common.{arith}
-use Rattle.s66_time.proofs.Bits.{without-numbers}
-use Rattle.s66_time.proofs.graph.set.Set.without.Goals as goal
-
-pub returns : goal.returns
-returns c = without-numbers c.args.self.now c.args.other.now (omega arith) (omega arith)
