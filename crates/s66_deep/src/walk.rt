@@ -5,9 +5,9 @@ ghost use Rattle.std.specs.Prelude.{◌≡◌};
 use crate::floors::{Left, PathBounds, Tails};
 use s66_isa::{BLOCK_LIMIT, KINDS, Kind, Profile};
 use s66_line::Block;
+use s66_model::{FactLeaf, TreeLine};
 use s66_node::Walk;
 use s66_time::{Set, Timed};
-use s66_model::TreeLine;
 use std::marker::Model;
 
 /// A walk over the beginnings of a block's legal orders, with the greatest paths of what remains after its prefix.
@@ -168,7 +168,8 @@ impl<'a> Prefix<'a> {
         ensures { IfSome result (λ line. IsShort (vertex_of line)) }
     {
         if low <= self.path_floor() {
-            return Some(TreeLine::Next(self.paths.leaf(self.walk.clock())));
+            let leaf = FactLeaf::Next(self.paths.leaf(self.walk.clock()));
+            return Some(TreeLine::Factual(leaf));
         }
         if let Some(kind) = self.loaded(low) {
             return Some(TreeLine::Load(kind));
