@@ -21,7 +21,7 @@ use Rattle.s66_model.specs.Dominance.{Clamp, DominatesBy, clamp_at, no_clamp}
 use Rattle.s66_model.specs.declared.rule.Rule.{Rule}
 use Rattle.s66_model.specs.declared.rule.Rule.TheVariants.{NoneNamed, WrittenEarlier, ClampedStanding}
 use Rattle.s66_model.specs.Tree.{Tree, Alone, Parted, Siblings, NoMore, Unsplit, Split, SiblingsHold, TreeHolds, Vertex, AtTerminal, AtSplit, flat, flat_siblings, splits, tree_values}
-use Rattle.s66_model.specs.DominatedLeaves.{Ending, Bounding, Dominated, Next, Turned, AtLine, LoadFrom, DominatesByRule, EndingShows, MayBeDominated, ShowsBy}
+use Rattle.s66_model.specs.DominatedLeaves.{Ending, Bounding, Dominated, Factual, DominatesByRule, EndingShows, MayBeDominated, ShowsBy}
 use Rattle.s66_model.proofs.AnswerBound.{AreReady, answer-shown, split-ready}
 use Rattle.s66_model.proofs.Beginnings.{beginning-front, length-rising}
 use Rattle.s66_model.proofs.Dominating.{length-same}
@@ -125,10 +125,7 @@ module _ (b : Problem) (few : length b.block ≤ BLOCK_LIMIT) where
     ending-line : (prefix : List ℕ) (n : ℕ) (ending : Ending) → IsBeginning b.block (prefix ++ n ∷ []) → MayEnd rule b tree (prefix ++ n ∷ []) ending → IsLeafLine BLOCK_LIMIT ending
     ending-line prefix n (Bounding leaf) begins is = floor-line (prefix ++ n ∷ []) leaf begins is
     ending-line prefix n (Dominated name) begins is = dominated-line rule (prefix ++ n ∷ []) name is.0 (omega (arith, length-append prefix (n ∷ [])))
-    ending-line prefix n (Next number) begins is = absurd is
-    ending-line prefix n (Turned first second) begins is = absurd is
-    ending-line prefix n (AtLine line) begins is = absurd is
-    ending-line prefix n (LoadFrom after numbers) begins is = absurd is
+    ending-line prefix n (Factual leaf) begins is = absurd is
 
     siblings-fit : (siblings : Siblings Ending) (prefix ns : List ℕ) → SiblingsHold b.block (MayEnd rule b tree) prefix ns siblings → IsBeginning b.block prefix → AreReady b prefix ns → SiblingsFit BLOCK_LIMIT ns siblings
     siblings-fit NoMore prefix [] h begins are = tt
@@ -156,10 +153,7 @@ module _ (b : Problem) (few : length b.block ≤ BLOCK_LIMIT) where
   tree-fits : (rule : Rule) (tree : Tree Ending) → TreeHolds b.block (MayEnd rule b tree) [] tree → TreeFits BLOCK_LIMIT tree
   tree-fits rule (Alone (Bounding leaf)) h = floor-line [] leaf tt h
   tree-fits rule (Alone (Dominated name)) h = absurd (root-bounding rule name h)
-  tree-fits rule (Alone (Next number)) h = absurd h
-  tree-fits rule (Alone (Turned first second)) h = absurd h
-  tree-fits rule (Alone (AtLine line)) h = absurd h
-  tree-fits rule (Alone (LoadFrom after numbers)) h = absurd h
+  tree-fits rule (Alone (Factual leaf)) h = absurd h
   tree-fits rule (Parted numbers siblings) h =
       (subst (λ ms. AreNumbers BLOCK_LIMIT ms) (sym h.1) (ready-numbers b.block few [] tt h.0), siblings-fit rule (Parted numbers siblings) siblings [] numbers h.2 tt (split-ready b [] numbers h.1))
 
@@ -169,20 +163,14 @@ dominated-parts : (vertices more : List (Vertex Ending)) → has_dominated_line 
 dominated-parts [] more h = (refl, h)
 dominated-parts (AtTerminal (Bounding leaf) ∷ vertices) more h = dominated-parts vertices more h
 dominated-parts (AtTerminal (Dominated name) ∷ vertices) more h = absurd (cc)
-dominated-parts (AtTerminal (Next number) ∷ vertices) more h = dominated-parts vertices more h
-dominated-parts (AtTerminal (Turned first second) ∷ vertices) more h = dominated-parts vertices more h
-dominated-parts (AtTerminal (AtLine line) ∷ vertices) more h = dominated-parts vertices more h
-dominated-parts (AtTerminal (LoadFrom after numbers) ∷ vertices) more h = dominated-parts vertices more h
+dominated-parts (AtTerminal (Factual leaf) ∷ vertices) more h = dominated-parts vertices more h
 dominated-parts (AtSplit numbers ∷ vertices) more h = dominated-parts vertices more h
 
 dominated-neither : (vertices more : List (Vertex Ending)) → has_dominated_line vertices ≡ false → has_dominated_line more ≡ false → has_dominated_line (vertices ++ more) ≡ false
 dominated-neither [] more h none = none
 dominated-neither (AtTerminal (Bounding leaf) ∷ vertices) more h none = dominated-neither vertices more h none
 dominated-neither (AtTerminal (Dominated name) ∷ vertices) more h none = absurd (cc)
-dominated-neither (AtTerminal (Next number) ∷ vertices) more h none = dominated-neither vertices more h none
-dominated-neither (AtTerminal (Turned first second) ∷ vertices) more h none = dominated-neither vertices more h none
-dominated-neither (AtTerminal (AtLine line) ∷ vertices) more h none = dominated-neither vertices more h none
-dominated-neither (AtTerminal (LoadFrom after numbers) ∷ vertices) more h none = dominated-neither vertices more h none
+dominated-neither (AtTerminal (Factual leaf) ∷ vertices) more h none = dominated-neither vertices more h none
 dominated-neither (AtSplit numbers ∷ vertices) more h none = dominated-neither vertices more h none
 
 -- what holds at the terminals if none is dominated
@@ -210,10 +198,7 @@ module _ (b : Problem) (tree : Tree Ending) where
   siblings-none (Unsplit ending siblings) prefix [] h = absurd h
   siblings-none (Unsplit (Bounding leaf) siblings) prefix (n ∷ ns) h = siblings-none siblings prefix ns h.1
   siblings-none (Unsplit (Dominated name) siblings) prefix (n ∷ ns) h = absurd h.0.0
-  siblings-none (Unsplit (Next number) siblings) prefix (n ∷ ns) h = absurd h.0
-  siblings-none (Unsplit (Turned first second) siblings) prefix (n ∷ ns) h = absurd h.0
-  siblings-none (Unsplit (AtLine line) siblings) prefix (n ∷ ns) h = absurd h.0
-  siblings-none (Unsplit (LoadFrom after numbers) siblings) prefix (n ∷ ns) h = absurd h.0
+  siblings-none (Unsplit (Factual leaf) siblings) prefix (n ∷ ns) h = absurd h.0
   siblings-none (Split numbers sub siblings) prefix [] h = absurd h
   siblings-none (Split numbers sub siblings) prefix (n ∷ ns) h =
       dominated-neither (flat_siblings sub) (flat_siblings siblings) (siblings-none sub (prefix ++ n ∷ []) numbers h.2) (siblings-none siblings prefix ns h.3)
@@ -221,21 +206,15 @@ module _ (b : Problem) (tree : Tree Ending) where
 none-dominated : (b : Problem) (tree : Tree Ending) → TreeHolds b.block (MayEnd NoneNamed b tree) [] tree → has_dominated tree ≡ false
 none-dominated b (Alone (Bounding leaf)) h = refl
 none-dominated b (Alone (Dominated name)) h = absurd h.0
-none-dominated b (Alone (Next number)) h = absurd h
-none-dominated b (Alone (Turned first second)) h = absurd h
-none-dominated b (Alone (AtLine line)) h = absurd h
-none-dominated b (Alone (LoadFrom after numbers)) h = absurd h
+none-dominated b (Alone (Factual leaf)) h = absurd h
 none-dominated b (Parted numbers siblings) h = siblings-none b (Parted numbers siblings) siblings [] numbers h.2
 
--- no leaf is of the kinds that come with fact lines
+-- no leaf is one by facts
 factual-neither : (vertices more : List (Vertex Ending)) → some_of is_factual vertices ≡ false → some_of is_factual more ≡ false → some_of is_factual (vertices ++ more) ≡ false
 factual-neither [] more h none = none
 factual-neither (AtTerminal (Bounding leaf) ∷ vertices) more h none = factual-neither vertices more h none
 factual-neither (AtTerminal (Dominated name) ∷ vertices) more h none = factual-neither vertices more h none
-factual-neither (AtTerminal (Next number) ∷ vertices) more h none = absurd (cc)
-factual-neither (AtTerminal (Turned first second) ∷ vertices) more h none = absurd (cc)
-factual-neither (AtTerminal (AtLine line) ∷ vertices) more h none = absurd (cc)
-factual-neither (AtTerminal (LoadFrom after numbers) ∷ vertices) more h none = absurd (cc)
+factual-neither (AtTerminal (Factual leaf) ∷ vertices) more h none = absurd (cc)
 factual-neither (AtSplit numbers ∷ vertices) more h none = factual-neither vertices more h none
 
 module _ (rule : Rule) (b : Problem) (tree : Tree Ending) where
@@ -244,10 +223,7 @@ module _ (rule : Rule) (b : Problem) (tree : Tree Ending) where
   siblings-plain (Unsplit ending siblings) prefix [] h = absurd h
   siblings-plain (Unsplit (Bounding leaf) siblings) prefix (n ∷ ns) h = siblings-plain siblings prefix ns h.1
   siblings-plain (Unsplit (Dominated name) siblings) prefix (n ∷ ns) h = siblings-plain siblings prefix ns h.1
-  siblings-plain (Unsplit (Next number) siblings) prefix (n ∷ ns) h = absurd h.0
-  siblings-plain (Unsplit (Turned first second) siblings) prefix (n ∷ ns) h = absurd h.0
-  siblings-plain (Unsplit (AtLine line) siblings) prefix (n ∷ ns) h = absurd h.0
-  siblings-plain (Unsplit (LoadFrom after numbers) siblings) prefix (n ∷ ns) h = absurd h.0
+  siblings-plain (Unsplit (Factual leaf) siblings) prefix (n ∷ ns) h = absurd h.0
   siblings-plain (Split numbers sub siblings) prefix [] h = absurd h
   siblings-plain (Split numbers sub siblings) prefix (n ∷ ns) h =
       factual-neither (flat_siblings sub) (flat_siblings siblings) (siblings-plain sub (prefix ++ n ∷ []) numbers h.2) (siblings-plain siblings prefix ns h.3)
@@ -255,10 +231,7 @@ module _ (rule : Rule) (b : Problem) (tree : Tree Ending) where
 none-factual : (rule : Rule) (b : Problem) (tree : Tree Ending) → TreeHolds b.block (MayEnd rule b tree) [] tree → has_factual tree ≡ false
 none-factual rule b (Alone (Bounding leaf)) h = refl
 none-factual rule b (Alone (Dominated name)) h = refl
-none-factual rule b (Alone (Next number)) h = absurd h
-none-factual rule b (Alone (Turned first second)) h = absurd h
-none-factual rule b (Alone (AtLine line)) h = absurd h
-none-factual rule b (Alone (LoadFrom after numbers)) h = absurd h
+none-factual rule b (Alone (Factual leaf)) h = absurd h
 none-factual rule b (Parted numbers siblings) h = siblings-plain rule b (Parted numbers siblings) siblings [] numbers h.2
 
 -- the rule of a document names nodes if a leaf is dominated
@@ -278,10 +251,7 @@ same-shown : (rule : Rule) (b : Problem) (low : ℕ) (tree : Tree Ending) (at : 
     EndingShows NoneNamed b low [] tree at ending
 same-shown rule b low tree at (Bounding leaf) none h = h
 same-shown rule b low tree at (Dominated name) none h = absurd (cc)
-same-shown rule b low tree at (Next number) none h = h
-same-shown rule b low tree at (Turned first second) none h = h
-same-shown rule b low tree at (AtLine line) none h = h
-same-shown rule b low tree at (LoadFrom after numbers) none h = h
+same-shown rule b low tree at (Factual leaf) none h = h
 
 -- by which the tree shows its bound
 shows-by : (rule : Rule) (b : Problem) (low : ℕ) (tree : Tree Ending) (dominated : Bool) → has_dominated tree ≡ dominated → ShowsBy rule b low [] tree →

@@ -13,6 +13,7 @@ ghost use Rattle.s66_command.specs.declared.strategy.Strategy.{Strategy as Strat
 ghost use Rattle.s66_deep.specs.Orders.{IsGood, IsLooked};
 ghost use Rattle.s66_model.specs.Answer.{source_time};
 ghost use Rattle.s66_model.specs.Timing.{total_of};
+ghost use Rattle.s66_ledger.specs.Answers.{answer_of};
 ghost use Rattle.s66_answer.specs.Answers.{problem_of};
 ghost use Rattle.s66_answer.specs.SearchWithin.{IsSearchWithin};
 ghost use Rattle.s66_answer.specs.Stored.{AreBeside, IsFor, IsFound, IsSearchOf, IsShownBy, IsWorth, tree_splits};
@@ -436,6 +437,8 @@ fn answer_by(
 /// The answer, or the same with this order if that takes less.
 fn with_faster(answer: Answer, best: Timed) -> Answer
     requires { best.problem ≡ answer.problem }
+    ensures no_slower { (answer_of result).time ≤ (answer_of answer).time }
+    ensures faster { (answer_of result).time ≤ total_of best.problem best.numbers }
     ensures rule { result.rule ≡ answer.rule }
     ensures problem { result.problem ≡ answer.problem }
     ensures budget { result.budget ≡ answer.budget }

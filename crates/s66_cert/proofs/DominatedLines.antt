@@ -6,7 +6,7 @@ use Rattle.s66_isa.specs.declared.limits.TheConstants.{BLOCK_LIMIT}
 use Rattle.s66_model.specs.declared.rule.Rule.{Rule}
 use Rattle.s66_model.specs.declared.rule.Rule.TheVariants.{NoneNamed, ClampedStanding}
 use Rattle.s66_model.specs.Tree.{Tree, Vertex, AtTerminal, AtSplit, flat}
-use Rattle.s66_model.specs.DominatedLeaves.{Ending, Bounding, Dominated, Next, Turned, AtLine, LoadFrom}
+use Rattle.s66_model.specs.DominatedLeaves.{Ending, Bounding, Dominated, Factual}
 use Rattle.s66_moments.specs.declared.fact_line.FactStep.{FactStep}
 use Rattle.s66_model.specs.Lines.{has_dominated_line}
 use Rattle.s66_cert.specs.Document.{names_nodes, is_factual, has_dominated, AreFacts, HasItsLeaves}
@@ -32,30 +32,21 @@ module _ (dominated factual : Bool) where
   dominated-allowed [] all has = absurd (cc)
   dominated-allowed (AtTerminal (Bounding leaf) ∷ vertices) all has = dominated-allowed vertices all has
   dominated-allowed (AtTerminal (Dominated name) ∷ vertices) all has = (and_parts dominated (every (is_allowed dominated factual) vertices) all).0
-  dominated-allowed (AtTerminal (Next number) ∷ vertices) all has = dominated-allowed vertices (and_parts factual (every (is_allowed dominated factual) vertices) all).1 has
-  dominated-allowed (AtTerminal (Turned first second) ∷ vertices) all has = dominated-allowed vertices (and_parts factual (every (is_allowed dominated factual) vertices) all).1 has
-  dominated-allowed (AtTerminal (AtLine line) ∷ vertices) all has = dominated-allowed vertices (and_parts factual (every (is_allowed dominated factual) vertices) all).1 has
-  dominated-allowed (AtTerminal (LoadFrom after numbers) ∷ vertices) all has = dominated-allowed vertices (and_parts factual (every (is_allowed dominated factual) vertices) all).1 has
+  dominated-allowed (AtTerminal (Factual leaf) ∷ vertices) all has = dominated-allowed vertices (and_parts factual (every (is_allowed dominated factual) vertices) all).1 has
   dominated-allowed (AtSplit numbers ∷ vertices) all has = dominated-allowed vertices all has
 
   factual-allowed : (vertices : List (Vertex Ending)) → every (is_allowed dominated factual) vertices ≡ true → some_of is_factual vertices ≡ true → factual ≡ true
   factual-allowed [] all has = absurd (cc)
   factual-allowed (AtTerminal (Bounding leaf) ∷ vertices) all has = factual-allowed vertices all has
   factual-allowed (AtTerminal (Dominated name) ∷ vertices) all has = factual-allowed vertices (and_parts dominated (every (is_allowed dominated factual) vertices) all).1 has
-  factual-allowed (AtTerminal (Next number) ∷ vertices) all has = (and_parts factual (every (is_allowed dominated factual) vertices) all).0
-  factual-allowed (AtTerminal (Turned first second) ∷ vertices) all has = (and_parts factual (every (is_allowed dominated factual) vertices) all).0
-  factual-allowed (AtTerminal (AtLine line) ∷ vertices) all has = (and_parts factual (every (is_allowed dominated factual) vertices) all).0
-  factual-allowed (AtTerminal (LoadFrom after numbers) ∷ vertices) all has = (and_parts factual (every (is_allowed dominated factual) vertices) all).0
+  factual-allowed (AtTerminal (Factual leaf) ∷ vertices) all has = (and_parts factual (every (is_allowed dominated factual) vertices) all).0
   factual-allowed (AtSplit numbers ∷ vertices) all has = factual-allowed vertices all has
 
   all-allowed : (vertices : List (Vertex Ending)) → (has_dominated_line vertices ≡ true → dominated ≡ true) → (some_of is_factual vertices ≡ true → factual ≡ true) → every (is_allowed dominated factual) vertices ≡ true
   all-allowed [] named known = refl
   all-allowed (AtTerminal (Bounding leaf) ∷ vertices) named known = all-allowed vertices named known
   all-allowed (AtTerminal (Dominated name) ∷ vertices) named known = and_from dominated (every (is_allowed dominated factual) vertices) (named refl) (all-allowed vertices (λ has. named refl) known)
-  all-allowed (AtTerminal (Next number) ∷ vertices) named known = and_from factual (every (is_allowed dominated factual) vertices) (known refl) (all-allowed vertices named (λ has. known refl))
-  all-allowed (AtTerminal (Turned first second) ∷ vertices) named known = and_from factual (every (is_allowed dominated factual) vertices) (known refl) (all-allowed vertices named (λ has. known refl))
-  all-allowed (AtTerminal (AtLine line) ∷ vertices) named known = and_from factual (every (is_allowed dominated factual) vertices) (known refl) (all-allowed vertices named (λ has. known refl))
-  all-allowed (AtTerminal (LoadFrom after numbers) ∷ vertices) named known = and_from factual (every (is_allowed dominated factual) vertices) (known refl) (all-allowed vertices named (λ has. known refl))
+  all-allowed (AtTerminal (Factual leaf) ∷ vertices) named known = and_from factual (every (is_allowed dominated factual) vertices) (known refl) (all-allowed vertices named (λ has. known refl))
   all-allowed (AtSplit numbers ∷ vertices) named known = all-allowed vertices named known
 
 -- a leaf is dominated exactly if nodes are named: none is missing

@@ -9,7 +9,8 @@ use Rattle.s66_line.proofs.Wholes.{every-append}
 use Rattle.s66_model.specs.declared.rule.Rule.{Rule}
 use Rattle.s66_model.specs.Leaves.{Whole, Chain, Load, Parcels}
 use Rattle.s66_model.specs.Tree.{Tree, Alone, Parted, Siblings, NoMore, Unsplit, Split, Vertex, AtTerminal, AtSplit, flat, flat_siblings}
-use Rattle.s66_model.specs.DominatedLeaves.{Ending, Bounding, Dominated, Next, Turned, AtLine, LoadFrom}
+use Rattle.s66_model.specs.DominatedLeaves.{Ending, Bounding, Dominated, Factual}
+use Rattle.s66_model.specs.FactLeaves.{Next, Turned, AtLine, LoadFrom}
 use Rattle.s66_moments.specs.declared.moment.Stage.TheVariants.{Issue, Start, Done, Free}
 use Rattle.s66_moments.specs.declared.moment.Moment.{Moment}
 use Rattle.s66_moments.specs.declared.moment.Moment.TheVariants.{Origin, At}
@@ -79,10 +80,10 @@ is-line limit (OfTree (AtTerminal (Bounding (Chain numbers)))) narrow is = after
 is-line limit (OfTree (AtTerminal (Bounding (Load kind)))) narrow is = kind-line kind
 is-line limit (OfTree (AtTerminal (Bounding Parcels))) narrow is = refl
 is-line limit (OfTree (AtTerminal (Dominated name))) narrow is = after_blanks-line 1 limit name narrow is.2
-is-line limit (OfTree (AtTerminal (Next n))) narrow is = decimal-line n (omega (arith, narrow, is.1))
-is-line limit (OfTree (AtTerminal (Turned n m))) narrow is = after_blanks-line 1 limit (n ∷ m ∷ []) narrow is
-is-line limit (OfTree (AtTerminal (AtLine n))) narrow is = decimal-line n (omega (arith, is.1))
-is-line limit (OfTree (AtTerminal (LoadFrom after numbers))) narrow is =
+is-line limit (OfTree (AtTerminal (Factual (Next n)))) narrow is = decimal-line n (omega (arith, narrow, is.1))
+is-line limit (OfTree (AtTerminal (Factual (Turned n m)))) narrow is = after_blanks-line 1 limit (n ∷ m ∷ []) narrow is
+is-line limit (OfTree (AtTerminal (Factual (AtLine n)))) narrow is = decimal-line n (omega (arith, is.1))
+is-line limit (OfTree (AtTerminal (Factual (LoadFrom after numbers)))) narrow is =
     every-append _ (decimal after) (after_blanks numbers) (decimal-line after (omega (arith, is.0))) (after_blanks-line 1 limit numbers narrow is.1.2)
 is-line limit (OfFact (step.Suppose n m)) narrow is = after_blanks-line 1 limit (n ∷ m ∷ []) narrow is
 is-line limit (OfFact step.Refuted) narrow is = refl

@@ -16,7 +16,8 @@ use Rattle.s66_cert.specs.declared.version.Version.TheVariants.{BoundsAlone, Ear
 use Rattle.s66_cert.specs.Versions.{version_number}
 use Rattle.s66_model.specs.Leaves.{Whole, Chain, Load, Parcels}
 use Rattle.s66_model.specs.Tree.{AtTerminal, AtSplit}
-use Rattle.s66_model.specs.DominatedLeaves.{Bounding, Dominated, Next, Turned, AtLine, LoadFrom}
+use Rattle.s66_model.specs.DominatedLeaves.{Bounding, Dominated, Factual}
+use Rattle.s66_model.specs.FactLeaves.{Next, Turned, AtLine, LoadFrom}
 use Rattle.s66_moments.specs.declared.moment.Stage.TheVariants.{Issue, Start, Done, Free}
 use Rattle.s66_moments.specs.declared.moment.Moment.{Moment}
 use Rattle.s66_moments.specs.declared.moment.Moment.TheVariants.{Origin, At}
@@ -157,7 +158,7 @@ load-again limit from to after wait (n ∷ ns) narrow front back amounts are =
     ) refl
 
 -- a minor cycle, and numbers
-load_from-again : (limit after : ℕ) (ns : List ℕ) → limit < 2 ^ 64 → after ≤ TIME_LIMIT → AreNumbers limit ns → load_from_in limit (Some (decimal after ++ after_blanks ns)) ≡ Some (OfTree (AtTerminal (LoadFrom after ns)))
+load_from-again : (limit after : ℕ) (ns : List ℕ) → limit < 2 ^ 64 → after ≤ TIME_LIMIT → AreNumbers limit ns → load_from_in limit (Some (decimal after ++ after_blanks ns)) ≡ Some (OfTree (AtTerminal (Factual (LoadFrom after ns))))
 load_from-again limit after [] narrow few are = absurd (omega (arith, are.0))
 load_from-again limit after (n ∷ ns) narrow few are =
     let rest : List ℕ = decimal n ++ after_blanks ns in
@@ -181,10 +182,10 @@ line-again limit (OfFact (step.Suppose n m)) narrow is = pair-again limit n m (�
 line-again limit (OfFact step.Refuted) narrow is = refl
 line-again limit (OfFact (step.Fact (fact.Pair n m))) narrow is = pair-again limit n m (λ n m. OfFact (step.Fact (fact.Pair n m))) narrow is
 line-again limit (OfFact (step.Fact (fact.Load line))) narrow is = load-again limit line.from line.to line.after line.wait line.numbers.items narrow is.0.front is.0.back is.1 is.2
-line-again limit (OfTree (AtTerminal (Next n))) narrow is = ap (option_map (λ n. OfTree (AtTerminal (Next n)))) (number-again 1 limit n (omega (arith, narrow, is.1)) is.0 is.1)
-line-again limit (OfTree (AtTerminal (Turned n m))) narrow is = pair-again limit n m (λ n m. OfTree (AtTerminal (Turned n m))) narrow is
-line-again limit (OfTree (AtTerminal (AtLine n))) narrow is = ap (option_map (λ n. OfTree (AtTerminal (AtLine n)))) (number-again 1 LINE_LIMIT n (omega (arith, is.1)) is.0 is.1)
-line-again limit (OfTree (AtTerminal (LoadFrom after ns))) narrow is = load_from-again limit after ns narrow is.0 is.1
+line-again limit (OfTree (AtTerminal (Factual (Next n)))) narrow is = ap (option_map (λ n. OfTree (AtTerminal (Factual (Next n))))) (number-again 1 limit n (omega (arith, narrow, is.1)) is.0 is.1)
+line-again limit (OfTree (AtTerminal (Factual (Turned n m)))) narrow is = pair-again limit n m (λ n m. OfTree (AtTerminal (Factual (Turned n m)))) narrow is
+line-again limit (OfTree (AtTerminal (Factual (AtLine n)))) narrow is = ap (option_map (λ n. OfTree (AtTerminal (Factual (AtLine n))))) (number-again 1 LINE_LIMIT n (omega (arith, is.1)) is.0 is.1)
+line-again limit (OfTree (AtTerminal (Factual (LoadFrom after ns)))) narrow is = load_from-again limit after ns narrow is.0 is.1
 line-again limit (OfTree (AtTerminal (Bounding Whole))) narrow is = refl
 line-again limit (OfTree (AtTerminal (Bounding (Chain [])))) narrow is = absurd (omega (arith, is.0))
 line-again limit (OfTree (AtTerminal (Bounding (Chain (n ∷ ns))))) narrow is = ap (option_map (λ ns. OfTree (AtTerminal (Bounding (Chain ns))))) (block_numbers-again limit n ns narrow is)
@@ -424,7 +425,7 @@ fact-line limit name rest l narrow same h =
     )
 
 -- the line of a leaf of a load
-load_from-parts : (after : Option ℕ) (numbers : Option (List ℕ)) (l : DocumentLine) → load_from_with after numbers ≡ Some l → (h : ℕ) × (ns : List ℕ) × (after ≡ Some h) × (numbers ≡ Some ns) × (OfTree (AtTerminal (LoadFrom h ns)) ≡ l)
+load_from-parts : (after : Option ℕ) (numbers : Option (List ℕ)) (l : DocumentLine) → load_from_with after numbers ≡ Some l → (h : ℕ) × (ns : List ℕ) × (after ≡ Some h) × (numbers ≡ Some ns) × (OfTree (AtTerminal (Factual (LoadFrom h ns))) ≡ l)
 load_from-parts (Some h) (Some ns) l is = (h, ns, refl, refl, (cc))
 load_from-parts None numbers l is = absurd (cc)
 load_from-parts (Some h) None l is = absurd (cc)
@@ -446,9 +447,9 @@ with-is limit name rest l narrow h =
     (named name (codes "D") _ _ l P (list-line limit 1 limit 1 limit name (codes "D") rest (λ ns. OfTree (AtTerminal (Dominated ns))) l narrow (λ ns. refl) (λ ns a b are. (a, b, are)))
     (named name (codes "U") _ _ l P (load-line limit name rest l)
     (named name (codes "P") _ _ l P (word-line limit name (codes "P") rest (OfTree (AtTerminal (Bounding Parcels))) l refl tt)
-    (named name (codes "E") _ _ l P (number-line limit 1 limit name (codes "E") rest (λ n. OfTree (AtTerminal (Next n))) l narrow (λ n. refl) (λ n a b. (a, b, tt)))
-    (named name (codes "R") _ _ l P (pair-line limit name (codes "R") rest (λ n m. OfTree (AtTerminal (Turned n m))) l narrow (λ n m. refl) (λ n m are. are))
-    (named name (codes "N") _ _ l P (number-line limit 1 LINE_LIMIT name (codes "N") rest (λ n. OfTree (AtTerminal (AtLine n))) l (omega arith) (λ n. refl) (λ n a b. (a, b, tt)))
+    (named name (codes "E") _ _ l P (number-line limit 1 limit name (codes "E") rest (λ n. OfTree (AtTerminal (Factual (Next n)))) l narrow (λ n. refl) (λ n a b. (a, b, tt)))
+    (named name (codes "R") _ _ l P (pair-line limit name (codes "R") rest (λ n m. OfTree (AtTerminal (Factual (Turned n m)))) l narrow (λ n m. refl) (λ n m are. are))
+    (named name (codes "N") _ _ l P (number-line limit 1 LINE_LIMIT name (codes "N") rest (λ n. OfTree (AtTerminal (Factual (AtLine n)))) l (omega arith) (λ n. refl) (λ n a b. (a, b, tt)))
     (named name (codes "L") _ _ l P (load_from-line limit name rest l narrow)
     (named name (codes "F") _ _ l P (pair-line limit name (codes "F") rest (λ n m. OfFact (step.Fact (fact.Pair n m))) l narrow (λ n m. refl) (λ n m are. are))
     (named name (codes "A") _ _ l P (fact-line limit name rest l narrow)

@@ -3,7 +3,7 @@ use Rattle.std.proofs.Common.{◌≡◌, ◌≤◌, ◌+◌, ◌*◌, ◌^◌, �
 use Rattle.std.specs.Prelude.{Err}
 use Rattle.s66_isa.specs.declared.limits.TheConstants.{BLOCK_LIMIT}
 use Rattle.s66_model.specs.Tree.{Vertex, AtTerminal, AtSplit}
-use Rattle.s66_model.specs.DominatedLeaves.{Ending, Bounding, Dominated, Next, Turned, AtLine, LoadFrom}
+use Rattle.s66_model.specs.DominatedLeaves.{Ending, Bounding, Dominated, Factual}
 use Rattle.s66_moments.specs.declared.fact_line.FactStep.{FactStep}
 use Rattle.s66_cert.specs.declared.version.Version.{Version}
 use Rattle.s66_cert.specs.Fine.{Leave, split_count, IsPart, IsFine}
@@ -60,10 +60,7 @@ other_end most s place other = refl
 pub refused_vertex : (most : ℕ) (s : DocumentState) (vertex : Vertex Ending) → is_leaf_of s.part vertex ≡ false → step_at most s AtTree (OfTree vertex) ≡ Err (BadLine (suc s.count))
 refused_vertex most s (AtTerminal (Bounding leaf)) h = absurd (cc)
 refused_vertex most s (AtTerminal (Dominated name)) h = rw h refl
-refused_vertex most s (AtTerminal (Next number)) h = rw h refl
-refused_vertex most s (AtTerminal (Turned first second)) h = rw h refl
-refused_vertex most s (AtTerminal (AtLine line)) h = rw h refl
-refused_vertex most s (AtTerminal (LoadFrom after numbers)) h = rw h refl
+refused_vertex most s (AtTerminal (Factual leaf)) h = rw h refl
 refused_vertex most s (AtSplit numbers) h = absurd (cc)
 
 -- the last line if what the version requires is missing

@@ -5,7 +5,8 @@ use Rattle.s66_isa.specs.Lists.{after_blanks}
 use Rattle.s66_isa.specs.declared.limits.TheConstants.{BLOCK_LIMIT}
 use Rattle.s66_model.specs.Leaves.{Whole, Chain, Load, Parcels}
 use Rattle.s66_model.specs.Tree.{Tree, Alone, Parted, Siblings, NoMore, Unsplit, Split, Vertex, AtTerminal, AtSplit, flat, flat_siblings}
-use Rattle.s66_model.specs.DominatedLeaves.{Ending, Bounding, Dominated, Next, Turned, AtLine, LoadFrom}
+use Rattle.s66_model.specs.DominatedLeaves.{Ending, Bounding, Dominated, Factual}
+use Rattle.s66_model.specs.FactLeaves.{Next, Turned, AtLine, LoadFrom}
 use Rattle.s66_moments.specs.declared.fact_line.FactStep.{FactStep}
 use Rattle.s66_cert.specs.Document.{IsLeafLine, SiblingsFit, TreeFits, document_text, leaf_line, instructions_text, step_line, step_lines, facts_text, tree_lines}
 use Rattle.s66_cert.specs.Versions.{version, version_number}
@@ -22,10 +23,10 @@ leaf-short (Bounding (Chain numbers)) fits = fits.1
 leaf-short (Bounding (Load kind)) fits = tt
 leaf-short (Bounding Parcels) fits = tt
 leaf-short (Dominated name) fits = fits.1
-leaf-short (Next number) fits = tt
-leaf-short (Turned first second) fits = tt
-leaf-short (AtLine line) fits = tt
-leaf-short (LoadFrom after numbers) fits = fits.1.1
+leaf-short (Factual (Next number)) fits = tt
+leaf-short (Factual (Turned first second)) fits = tt
+leaf-short (Factual (AtLine line)) fits = tt
+leaf-short (Factual (LoadFrom after numbers)) fits = fits.1.1
 
 short-both : (vertices more : List (Vertex Ending)) → AreShort vertices → AreShort more → AreShort (vertices ++ more)
 short-both [] more short others = others

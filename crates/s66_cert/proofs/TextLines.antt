@@ -6,7 +6,8 @@ use Rattle.std.specs.Prelude.{Option, None, Some, codes, decimal}
 use Rattle.s66_isa.specs.Lists.{every, after_blanks}
 use Rattle.s66_model.specs.Leaves.{Whole, Chain, Load, Parcels}
 use Rattle.s66_model.specs.Tree.{Vertex, AtTerminal, AtSplit, flat}
-use Rattle.s66_model.specs.DominatedLeaves.{Ending, Bounding, Dominated, Next, Turned, AtLine, LoadFrom}
+use Rattle.s66_model.specs.DominatedLeaves.{Ending, Bounding, Dominated, Factual}
+use Rattle.s66_model.specs.FactLeaves.{Next, Turned, AtLine, LoadFrom}
 use Rattle.s66_moments.specs.declared.fact_line.FactLine.{FactLine}
 use Rattle.s66_moments.specs.declared.fact_line.FactStep.{FactStep}
 use Rattle.s66_moments.specs.declared.fact_line.FactStep.TheVariants as step
@@ -107,10 +108,10 @@ leaf-text (Bounding (Chain numbers)) more = simp append_assoc
 leaf-text (Bounding (Load kind)) more = simp append_assoc
 leaf-text (Bounding Parcels) more = refl
 leaf-text (Dominated name) more = simp append_assoc
-leaf-text (Next number) more = simp append_assoc
-leaf-text (Turned first second) more = append_assoc (codes "R" ++ after_blanks (first ∷ second ∷ [])) (codes "\n") more
-leaf-text (AtLine line) more = simp append_assoc
-leaf-text (LoadFrom after numbers) more = append_assoc (codes "L" ++ after_blanks (after ∷ numbers)) (codes "\n") more
+leaf-text (Factual (Next number)) more = simp append_assoc
+leaf-text (Factual (Turned first second)) more = append_assoc (codes "R" ++ after_blanks (first ∷ second ∷ [])) (codes "\n") more
+leaf-text (Factual (AtLine line)) more = simp append_assoc
+leaf-text (Factual (LoadFrom after numbers)) more = append_assoc (codes "L" ++ after_blanks (after ∷ numbers)) (codes "\n") more
 
 fact-text : (line : FactLine) (more : List ℕ) → fact_line line ++ more ≡ fact_bytes line ++ 10 ∷ more
 fact-text (fact.Pair first second) more = append_assoc (codes "F" ++ after_blanks (first ∷ second ∷ [])) (codes "\n") more

@@ -2,7 +2,8 @@
 use Rattle.std.proofs.Common.{◌≤◌, ℕ, List, [], ◌∷◌, Option, None, Some, arith}
 use Rattle.s66_model.specs.Leaves.{Whole, Chain, Load, Parcels}
 use Rattle.s66_model.specs.Tree.{Tree, Alone, Parted, Siblings, NoMore, Unsplit, Split}
-use Rattle.s66_model.specs.DominatedLeaves.{Ending, Bounding, Dominated, Next, Turned, AtLine, LoadFrom}
+use Rattle.s66_model.specs.DominatedLeaves.{Ending, Bounding, Dominated, Factual}
+use Rattle.s66_model.specs.FactLeaves.{Next, Turned, AtLine, LoadFrom}
 use Rattle.s66_model.specs.declared.rule.Rule.{Rule}
 use Rattle.s66_moments.specs.declared.moment.Moment.{Moment}
 use Rattle.s66_moments.specs.declared.moment.Moment.TheVariants.{Origin, At, End}
@@ -27,10 +28,10 @@ module _ (limit wide : ℕ) (wider : limit ≤ wide) where
   wide-leaf (Bounding (Load kind)) is = tt
   wide-leaf (Bounding Parcels) is = tt
   wide-leaf (Dominated name) is = wide-numbers name is
-  wide-leaf (Next number) is = wide-in (number ∷ []) is
-  wide-leaf (Turned first second) is = wide-in (first ∷ second ∷ []) is
-  wide-leaf (AtLine line) is = is
-  wide-leaf (LoadFrom after numbers) is = (is.0, wide-numbers numbers is.1)
+  wide-leaf (Factual (Next number)) is = wide-in (number ∷ []) is
+  wide-leaf (Factual (Turned first second)) is = wide-in (first ∷ second ∷ []) is
+  wide-leaf (Factual (AtLine line)) is = is
+  wide-leaf (Factual (LoadFrom after numbers)) is = (is.0, wide-numbers numbers is.1)
 
   wide-moment : (m : Moment) → IsMomentWithin limit m → IsMomentWithin wide m
   wide-moment Origin is = tt

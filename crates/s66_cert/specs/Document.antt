@@ -4,7 +4,8 @@ use Rattle.s66_model.specs.declared.rule.Rule.{Rule}
 use Rattle.s66_model.specs.declared.rule.Rule.TheVariants.{NoneNamed, WrittenEarlier, ClampedStanding}
 use Rattle.s66_model.specs.Leaves.{Whole, Chain, Load, Parcels}
 use Rattle.s66_model.specs.Tree.{Tree, Alone, Parted, Siblings, NoMore, Unsplit, Split, Vertex, AtTerminal, AtSplit, flat, splits}
-use Rattle.s66_model.specs.DominatedLeaves.{Ending, Bounding, Dominated, Next, Turned, AtLine, LoadFrom}
+use Rattle.s66_model.specs.DominatedLeaves.{Ending, Bounding, Dominated, Factual}
+use Rattle.s66_model.specs.FactLeaves.{Next, Turned, AtLine, LoadFrom}
 use Rattle.s66_isa.specs.Lists.{some_of, after_blanks}
 use Rattle.s66_moments.specs.declared.moment.Stage.TheVariants.{Issue, Start, Done, Free}
 use Rattle.s66_moments.specs.declared.moment.Moment.{Moment}
@@ -50,10 +51,10 @@ IsLeafLine limit (Bounding (Chain numbers)) = AreNumbers limit numbers
 IsLeafLine limit (Bounding (Load kind)) = Unit {0}
 IsLeafLine limit (Bounding Parcels) = Unit {0}
 IsLeafLine limit (Dominated name) = AreNumbers limit name
-IsLeafLine limit (Next number) = AreIn 1 limit (number ∷ [])
-IsLeafLine limit (Turned first second) = AreIn 1 limit (first ∷ second ∷ [])
-IsLeafLine limit (AtLine line) = AreIn 1 LINE_LIMIT (line ∷ [])
-IsLeafLine limit (LoadFrom after numbers) = (after ≤ TIME_LIMIT) × AreNumbers limit numbers
+IsLeafLine limit (Factual (Next number)) = AreIn 1 limit (number ∷ [])
+IsLeafLine limit (Factual (Turned first second)) = AreIn 1 limit (first ∷ second ∷ [])
+IsLeafLine limit (Factual (AtLine line)) = AreIn 1 LINE_LIMIT (line ∷ [])
+IsLeafLine limit (Factual (LoadFrom after numbers)) = (after ≤ TIME_LIMIT) × AreNumbers limit numbers
 
 -- a tree for each number of a split
 abbrev pub SiblingsFit : ℕ → List ℕ → Siblings Ending → Type 0
@@ -102,21 +103,18 @@ names_nodes NoneNamed = false
 names_nodes WrittenEarlier = true
 names_nodes ClampedStanding = true
 
--- a leaf of the kinds that come with fact lines
+-- a leaf by facts
 abbrev pub is_factual : Vertex Ending → Bool
 is_factual (AtSplit numbers) = false
 is_factual (AtTerminal (Bounding leaf)) = false
 is_factual (AtTerminal (Dominated name)) = false
-is_factual (AtTerminal (Next number)) = true
-is_factual (AtTerminal (Turned first second)) = true
-is_factual (AtTerminal (AtLine line)) = true
-is_factual (AtTerminal (LoadFrom after numbers)) = true
+is_factual (AtTerminal (Factual leaf)) = true
 
 abbrev pub has_factual : Tree Ending → Bool
 has_factual tree = some_of is_factual (flat tree)
 
--- without fact lines nodes are named by the rule exactly when a leaf is dominated, and no leaf is of the kinds that come with fact lines;
--- with them no leaf is dominated
+-- without fact lines nodes are named by the rule exactly when a leaf is dominated, and no leaf is one by facts; with them no leaf is
+-- dominated
 abbrev pub HasItsLeaves : Rule → Option (List FactStep) → Tree Ending → Type 0
 HasItsLeaves rule None tree = (names_nodes rule ≡ has_dominated tree) × (has_factual tree ≡ false)
 HasItsLeaves rule (Some steps) tree = has_dominated tree ≡ false
@@ -164,10 +162,10 @@ leaf_line (Bounding (Chain numbers)) = codes "C" ++ after_blanks numbers ++ code
 leaf_line (Bounding (Load kind)) = codes "U " ++ kind_name kind ++ codes "\n"
 leaf_line (Bounding Parcels) = codes "P\n"
 leaf_line (Dominated name) = codes "D" ++ after_blanks name ++ codes "\n"
-leaf_line (Next number) = codes "E " ++ decimal number ++ codes "\n"
-leaf_line (Turned first second) = codes "R" ++ after_blanks (first ∷ second ∷ []) ++ codes "\n"
-leaf_line (AtLine line) = codes "N " ++ decimal line ++ codes "\n"
-leaf_line (LoadFrom after numbers) = codes "L" ++ after_blanks (after ∷ numbers) ++ codes "\n"
+leaf_line (Factual (Next number)) = codes "E " ++ decimal number ++ codes "\n"
+leaf_line (Factual (Turned first second)) = codes "R" ++ after_blanks (first ∷ second ∷ []) ++ codes "\n"
+leaf_line (Factual (AtLine line)) = codes "N " ++ decimal line ++ codes "\n"
+leaf_line (Factual (LoadFrom after numbers)) = codes "L" ++ after_blanks (after ∷ numbers) ++ codes "\n"
 
 abbrev pub tree_lines : List (Vertex Ending) → List ℕ
 tree_lines [] = []

@@ -7,7 +7,8 @@ use Rattle.s66_isa.specs.declared.instr.Kind.TheVariants.{Boolean, Shift, Add, L
 use Rattle.s66_isa.specs.Lists.{every, after_blanks}
 use Rattle.s66_model.specs.Leaves.{Whole, Chain, Load, Parcels}
 use Rattle.s66_model.specs.Tree.{Vertex, AtTerminal, AtSplit}
-use Rattle.s66_model.specs.DominatedLeaves.{Ending, Bounding, Dominated, Next, Turned, AtLine, LoadFrom}
+use Rattle.s66_model.specs.DominatedLeaves.{Ending, Bounding, Dominated, Factual}
+use Rattle.s66_model.specs.FactLeaves.{Next, Turned, AtLine, LoadFrom}
 use Rattle.s66_line.specs.InstructionText.{spelling, operation_in, operand_in, IsInstruction}
 use Rattle.s66_line.specs.Operand.{instr_of}
 use Rattle.s66_line.specs.declared.limits.TheConstants.{TEXT_LIMIT}
@@ -47,10 +48,10 @@ leaf_bytes (Bounding (Chain numbers)) = codes "C" ++ after_blanks numbers
 leaf_bytes (Bounding (Load kind)) = codes "U " ++ kind_name kind
 leaf_bytes (Bounding Parcels) = codes "P"
 leaf_bytes (Dominated name) = codes "D" ++ after_blanks name
-leaf_bytes (Next number) = codes "E " ++ decimal number
-leaf_bytes (Turned first second) = codes "R" ++ after_blanks (first ∷ second ∷ [])
-leaf_bytes (AtLine line) = codes "N " ++ decimal line
-leaf_bytes (LoadFrom after numbers) = codes "L" ++ after_blanks (after ∷ numbers)
+leaf_bytes (Factual (Next number)) = codes "E " ++ decimal number
+leaf_bytes (Factual (Turned first second)) = codes "R" ++ after_blanks (first ∷ second ∷ [])
+leaf_bytes (Factual (AtLine line)) = codes "N " ++ decimal line
+leaf_bytes (Factual (LoadFrom after numbers)) = codes "L" ++ after_blanks (after ∷ numbers)
 
 abbrev pub vertex_bytes : Vertex Ending → List ℕ
 vertex_bytes (AtTerminal leaf) = leaf_bytes leaf
@@ -228,7 +229,7 @@ load_in limit rest =
 
 -- of a leaf: a minor cycle, and numbers
 abbrev pub load_from_with : Option ℕ → Option (List ℕ) → Option DocumentLine
-load_from_with (Some after) (Some numbers) = Some (OfTree (AtTerminal (LoadFrom after numbers)))
+load_from_with (Some after) (Some numbers) = Some (OfTree (AtTerminal (Factual (LoadFrom after numbers))))
 load_from_with after numbers = None
 
 abbrev pub load_from_in : ℕ → Option (List ℕ) → Option DocumentLine
@@ -285,9 +286,9 @@ line_with limit name rest =
     else (if bytes_eq name (codes "D") then option_map (λ ns. OfTree (AtTerminal (Dominated ns))) (block_numbers limit rest)
     else (if bytes_eq name (codes "U") then option_map (λ kind. OfTree (AtTerminal (Bounding (Load kind)))) (kind_in rest)
     else (if bytes_eq name (codes "P") then alone (OfTree (AtTerminal (Bounding Parcels))) rest
-    else (if bytes_eq name (codes "E") then option_map (λ n. OfTree (AtTerminal (Next n))) (one_number 1 limit rest)
-    else (if bytes_eq name (codes "R") then pair_with (λ n m. OfTree (AtTerminal (Turned n m))) (two_numbers limit rest)
-    else (if bytes_eq name (codes "N") then option_map (λ n. OfTree (AtTerminal (AtLine n))) (one_number 1 LINE_LIMIT rest)
+    else (if bytes_eq name (codes "E") then option_map (λ n. OfTree (AtTerminal (Factual (Next n)))) (one_number 1 limit rest)
+    else (if bytes_eq name (codes "R") then pair_with (λ n m. OfTree (AtTerminal (Factual (Turned n m)))) (two_numbers limit rest)
+    else (if bytes_eq name (codes "N") then option_map (λ n. OfTree (AtTerminal (Factual (AtLine n)))) (one_number 1 LINE_LIMIT rest)
     else (if bytes_eq name (codes "L") then load_from_in limit rest
     else (if bytes_eq name (codes "F") then pair_with (λ n m. OfFact (step.Fact (fact.Pair n m))) (two_numbers limit rest)
     else (if bytes_eq name (codes "A") then load_in limit rest

@@ -4,7 +4,7 @@ use Rattle.std.specs.Option.{option_map}
 use Rattle.s66_isa.specs.declared.limits.TheConstants.{BLOCK_LIMIT}
 use Rattle.s66_model.specs.declared.rule.Rule.TheVariants.{NoneNamed}
 use Rattle.s66_model.specs.Tree.{Vertex, AtTerminal, AtSplit}
-use Rattle.s66_model.specs.DominatedLeaves.{Ending, Bounding, Dominated, Next, Turned, AtLine, LoadFrom}
+use Rattle.s66_model.specs.DominatedLeaves.{Ending, Bounding, Dominated, Factual}
 use Rattle.s66_moments.specs.declared.fact_line.FactStep.{FactStep}
 use Rattle.s66_model.specs.Lines.{has_dominated_line}
 use Rattle.s66_cert.specs.Document.{Document, names_nodes}
@@ -75,10 +75,7 @@ may_dominate p = names_nodes p.rule && not (is_some p.facts)
 abbrev pub is_allowed : (dominated factual : Bool) → Vertex Ending → Bool
 is_allowed dominated factual (AtTerminal (Bounding leaf)) = true
 is_allowed dominated factual (AtTerminal (Dominated name)) = dominated
-is_allowed dominated factual (AtTerminal (Next number)) = factual
-is_allowed dominated factual (AtTerminal (Turned first second)) = factual
-is_allowed dominated factual (AtTerminal (AtLine line)) = factual
-is_allowed dominated factual (AtTerminal (LoadFrom after numbers)) = factual
+is_allowed dominated factual (AtTerminal (Factual leaf)) = factual
 is_allowed dominated factual (AtSplit numbers) = true
 
 abbrev pub is_leaf_of : Parts → Vertex Ending → Bool

@@ -37,6 +37,6 @@ pub use limits::{FACT_LIMIT, LINE_LIMIT, SPLIT_LIMIT, TIME_LIMIT};
 pub use printing::print;
 pub use reading::read;
 pub use readings::{fault_examples, reading_examples};
-pub use s66_model::{Tree, TreeLine, TreeLines};
+pub use s66_model::{FactLeaf, Tree, TreeLine, TreeLines};
 pub use s66_moments::{FactLine, FactStep, LoadLine};
 pub use text::text_examples;

@@ -6,18 +6,19 @@ ghost use Rattle.s66_isa.specs.Lists.{after_blanks};
 ghost use Rattle.s66_isa.specs.declared.limits.TheConstants.{BLOCK_LIMIT};
 ghost use Rattle.s66_line.specs.declared.limits.TheConstants.{TEXT_LIMIT};
 ghost use Rattle.s66_model.specs.Tree.{AtTerminal};
-ghost use Rattle.s66_model.specs.DominatedLeaves.{LoadFrom};
+ghost use Rattle.s66_model.specs.DominatedLeaves.{Factual};
+ghost use Rattle.s66_model.specs.FactLeaves.{LoadFrom};
 ghost use Rattle.s66_moments.specs.declared.fact_line.FactLine.TheVariants as fact;
 ghost use Rattle.s66_moments.specs.declared.fact_line.FactStep.TheVariants as step;
 ghost use Rattle.s66_cert.specs.Document.{moment_text, instructions_text, step_lines, tree_lines};
 ghost use Rattle.s66_cert.specs.Pages.{Printed};
-ghost use Rattle.s66_model.specs.Lines.{vertex_of, IsShort};
+ghost use Rattle.s66_model.specs.Lines.{fact_leaf_of, vertex_of, IsShort};
 
 use arrayvec::ArrayVec;
 use itoa::Buffer;
 use s66_device::{Sink, WriteError, write_all};
 use s66_isa::{BLOCK_LIMIT, kind_name};
-use s66_model::TreeLine;
+use s66_model::{FactLeaf, TreeLine};
 use s66_moments::{FactLine, FactStep, LoadLine, Moment, Stage};
 use std::marker::Model;
 
@@ -209,12 +210,26 @@ impl Page {
     fn load_from(&mut self, after: u32, numbers: &[u8])
         requires few { length numbers.now ≤ BLOCK_LIMIT }
         requires room { length self.old + LINE_ROOM ≤ PAGE_SIZE }
-        ensures { self.new ≡ self.old ++ tree_lines (AtTerminal (LoadFrom after numbers.now) ∷ []) }
+        ensures { self.new ≡ self.old ++ tree_lines (AtTerminal (Factual (LoadFrom after numbers.now)) ∷ []) }
     {
         self.text(b"L ");
         self.number(after);
         self.numbers(numbers);
         self.text(b"\n");
+    }
+
+    /// Prints the line of a leaf by facts.
+    fn fact_leaf(&mut self, leaf: FactLeaf<'_>)
+        requires short { IsShort (AtTerminal (Factual (fact_leaf_of leaf))) }
+        requires room { length self.old + LINE_ROOM ≤ PAGE_SIZE }
+        ensures { self.new ≡ self.old ++ tree_lines (AtTerminal (Factual (fact_leaf_of leaf.entry)) ∷ []) }
+    {
+        match leaf {
+            FactLeaf::Next(number) => self.number_line(b"E", u32::from(number)),
+            FactLeaf::Turned(first, second) => self.numbered_line(b"R", &[first, second]),
+            FactLeaf::AtLine(line) => self.number_line(b"N", line),
+            FactLeaf::LoadFrom(after, numbers) => self.load_from(after, numbers),
+        }
     }
 
     /// Prints a line of a tree.
@@ -234,10 +249,7 @@ impl Page {
             }
             TreeLine::Parcels => self.text(b"P\n"),
             TreeLine::Dominated(numbers) => self.numbered_line(b"D", numbers),
-            TreeLine::Next(number) => self.number_line(b"E", u32::from(number)),
-            TreeLine::Turned(first, second) => self.numbered_line(b"R", &[first, second]),
-            TreeLine::AtLine(line) => self.number_line(b"N", line),
-            TreeLine::LoadFrom(after, numbers) => self.load_from(after, numbers),
+            TreeLine::Factual(leaf) => self.fact_leaf(leaf),
         }
     }
 

@@ -6,7 +6,8 @@ ghost use Rattle.std.specs.Option.{option_map};
 ghost use Rattle.s66_isa.specs.declared.limits.TheConstants.{BLOCK_LIMIT};
 ghost use Rattle.s66_model.specs.Leaves.{Chain, Load};
 ghost use Rattle.s66_model.specs.Tree.{AtTerminal, AtSplit};
-ghost use Rattle.s66_model.specs.DominatedLeaves.{Bounding, Dominated, Next, Turned, AtLine};
+ghost use Rattle.s66_model.specs.DominatedLeaves.{Bounding, Dominated, Factual};
+ghost use Rattle.s66_model.specs.FactLeaves.{Next, Turned, AtLine};
 ghost use Rattle.s66_moments.specs.declared.fact_line.FactLine.TheVariants as fact;
 ghost use Rattle.s66_moments.specs.declared.fact_line.FactStep.TheVariants as step;
 ghost use Rattle.s66_cert.specs.Lines.{line_read, word_in, rest_in, block_numbers, two_numbers, pair_with, profile_in, one_number, stage_in, front_in, back_in, load_in, load_from_in, instruction_in, kind_in, header_in, alone, OfFact, OfTree};
@@ -22,7 +23,7 @@ use crate::version::Version;
 use arrayvec::ArrayVec;
 use s66_isa::{BLOCK_LIMIT, Kind, PROFILE_LENGTH, PROFILE_LIMIT};
 use s66_line::instruction_of_text;
-use s66_model::TreeLine;
+use s66_model::{FactLeaf, TreeLine};
 use s66_moments::{FactLine, FactStep, LoadLine, Moment, Stage};
 
 fn is_name(bytes: &[u8], name: &[u8]) -> bool
@@ -180,27 +181,30 @@ fn dominated_line<'a>(
 
 fn next_line(rest: Option<&[u8]>) -> Option<LineOf<'_>>
     ensures { option_map said result ≡
-        option_map (λ n. OfTree (AtTerminal (Next n))) (one_number 1 BLOCK_LIMIT (option_map (λ r. r.now) rest.entry)) }
+        option_map (λ n. OfTree (AtTerminal (Factual (Next n)))) (one_number 1 BLOCK_LIMIT (option_map (λ r. r.now) rest.entry)) }
 {
     let number = number(rest, 1, BLOCK_LIMIT as u32)?;
-    Some(LineOf::OfTree(TreeLine::Next(number as u8)))
+    Some(LineOf::OfTree(TreeLine::Factual(FactLeaf::Next(number as u8))))
 }
 
 fn turned_line(rest: Option<&[u8]>) -> Option<LineOf<'_>>
-    ensures { option_map said result ≡ pair_with (λ n m. OfTree (AtTerminal (Turned n m)))
+    ensures { option_map said result ≡ pair_with (λ n m. OfTree (AtTerminal (Factual (Turned n m))))
         (two_numbers BLOCK_LIMIT (option_map (λ r. r.now) rest.entry)) }
 {
     match two_numbers(rest)?.as_slice() {
-        [first, second] => Some(LineOf::OfTree(TreeLine::Turned(*first, *second))),
+        [first, second] => Some(LineOf::OfTree(TreeLine::Factual(FactLeaf::Turned(
+            *first, *second,
+        )))),
         _ => None,
     }
 }
 
 fn at_line(rest: Option<&[u8]>) -> Option<LineOf<'_>>
-    ensures { option_map said result ≡ option_map (λ n. OfTree (AtTerminal (AtLine n)))
+    ensures { option_map said result ≡ option_map (λ n. OfTree (AtTerminal (Factual (AtLine n))))
         (one_number 1 LINE_LIMIT (option_map (λ r. r.now) rest.entry)) }
 {
-    Some(LineOf::OfTree(TreeLine::AtLine(number(rest, 1, LINE_LIMIT)?)))
+    let line = number(rest, 1, LINE_LIMIT)?;
+    Some(LineOf::OfTree(TreeLine::Factual(FactLeaf::AtLine(line))))
 }
 
 /// A leaf of a load: a minor cycle, at most `TIME_LIMIT`, and numbers of instructions of a block.
@@ -212,7 +216,8 @@ fn load_from_line<'a>(
 {
     let (after, rest) = next_word(rest);
     let after = number(after, 0, TIME_LIMIT)?;
-    Some(LineOf::OfTree(TreeLine::LoadFrom(after, block_numbers(rest, room)?)))
+    let numbers = block_numbers(rest, room)?;
+    Some(LineOf::OfTree(TreeLine::Factual(FactLeaf::LoadFrom(after, numbers))))
 }
 
 fn pair_line(rest: Option<&[u8]>) -> Option<LineOf<'_>>

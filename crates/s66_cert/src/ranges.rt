@@ -4,13 +4,14 @@ ghost use Rattle.std.specs.Prelude.{◌≡◌, ◌↔◌, [], ◌∷◌, IsTrue}
 ghost use Rattle.s66_isa.specs.declared.limits.TheConstants.{BLOCK_LIMIT};
 ghost use Rattle.s66_moments.specs.declared.fact_line.FactLine.TheVariants as fact;
 ghost use Rattle.s66_moments.specs.Known.{IsMomentWithin, is_front, is_back};
-ghost use Rattle.s66_model.specs.Lines.{vertex_of};
-ghost use Rattle.s66_cert.specs.Document.{AreIn, AreNumbers, AreFactSteps, IsFactLine, IsFactStep};
+ghost use Rattle.s66_model.specs.DominatedLeaves.{Factual};
+ghost use Rattle.s66_model.specs.Lines.{fact_leaf_of, vertex_of};
+ghost use Rattle.s66_cert.specs.Document.{AreIn, AreNumbers, AreFactSteps, IsFactLine, IsFactStep, IsLeafLine};
 ghost use Rattle.s66_cert.specs.Lines.{IsVertex};
 
 use crate::limits::{LINE_LIMIT, TIME_LIMIT};
 use s66_isa::BLOCK_LIMIT;
-use s66_model::TreeLine;
+use s66_model::{FactLeaf, TreeLine};
 use s66_moments::{FactLine, FactStep, LoadLine, Moment, Stage};
 
 /// Whether a block may have an instruction of this number.
@@ -109,6 +110,18 @@ pub(crate) fn are_fact_steps(steps: &[FactStep]) -> bool
     true
 }
 
+/// Whether a tree may have this leaf by facts.
+fn is_fact_leaf(leaf: FactLeaf<'_>) -> bool
+    ensures { IsTrue result ↔ IsLeafLine BLOCK_LIMIT (Factual (fact_leaf_of leaf.entry)) }
+{
+    match leaf {
+        FactLeaf::Next(number) => is_number(number),
+        FactLeaf::Turned(first, second) => is_number(first) && is_number(second),
+        FactLeaf::AtLine(line) => 1 <= line && line <= LINE_LIMIT,
+        FactLeaf::LoadFrom(after, numbers) => after <= TIME_LIMIT && are_numbers(numbers),
+    }
+}
+
 /// Whether a tree may have this line.
 pub(crate) fn is_vertex(line: TreeLine<'_>) -> bool
     ensures { IsTrue result ↔ IsVertex BLOCK_LIMIT (vertex_of line.entry) }
@@ -117,10 +130,7 @@ pub(crate) fn is_vertex(line: TreeLine<'_>) -> bool
         TreeLine::Split(numbers) | TreeLine::Chain(numbers) | TreeLine::Dominated(numbers) => {
             are_numbers(numbers)
         }
-        TreeLine::Next(number) => is_number(number),
-        TreeLine::Turned(first, second) => is_number(first) && is_number(second),
-        TreeLine::AtLine(line) => 1 <= line && line <= LINE_LIMIT,
-        TreeLine::LoadFrom(after, numbers) => after <= TIME_LIMIT && are_numbers(numbers),
+        TreeLine::Factual(leaf) => is_fact_leaf(leaf),
         TreeLine::Whole | TreeLine::Load(_) | TreeLine::Parcels => true,
     }
 }

@@ -61,10 +61,7 @@ fn is_allowed(dominated: bool, factual: bool, line: TreeLine<'_>) -> bool
 {
     match line {
         TreeLine::Dominated(_) => dominated,
-        TreeLine::Next(_)
-        | TreeLine::Turned(_, _)
-        | TreeLine::AtLine(_)
-        | TreeLine::LoadFrom(_, _) => factual,
+        TreeLine::Factual(_) => factual,
         _ => true,
     }
 }

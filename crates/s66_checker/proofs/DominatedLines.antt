@@ -9,7 +9,7 @@ use Rattle.s66_model.specs.LegalOrder.{IsBeginning, IsIncomplete}
 use Rattle.s66_model.specs.Digits.{HaveDigits}
 use Rattle.s66_model.specs.Dominance.{IsSameSet}
 use Rattle.s66_model.specs.NodeNames.{node_named}
-use Rattle.s66_model.specs.DominatedLeaves.{Ending, Bounding, Dominated, Next, Turned, AtLine, LoadFrom, may_be_named, DominatesByRule, MayBeDominated, EndingShows}
+use Rattle.s66_model.specs.DominatedLeaves.{Ending, Bounding, Dominated, Factual, may_be_named, DominatesByRule, MayBeDominated, EndingShows}
 use Rattle.s66_model.specs.Tree.{AtTerminal}
 use Rattle.s66_cert.specs.Document.{Document, is_factual}
 use Rattle.s66_checker.specs.declared.verdict.Reason.TheVariants as fault
@@ -77,7 +77,4 @@ dominated-shows d at name begins =
 pub ending-shows : (d : Document) (at : List ℕ) (ending : Ending) → is_factual (AtTerminal ending) ≡ false → IsBeginning (problem_of d).block at → (line_fault d at (AtTerminal ending) ≡ None) ↔ EndingShows d.rule (problem_of d) d.bound [] d.tree at ending
 ending-shows d at (Bounding leaf) may begins = leaf-shows (problem_of d) d.bound at leaf begins
 ending-shows d at (Dominated name) may begins = dominated-shows d at name begins
-ending-shows d at (Next number) may begins = absurd (true≢false may)
-ending-shows d at (Turned first second) may begins = absurd (true≢false may)
-ending-shows d at (AtLine line) may begins = absurd (true≢false may)
-ending-shows d at (LoadFrom after numbers) may begins = absurd (true≢false may)
+ending-shows d at (Factual leaf) may begins = absurd (true≢false may)

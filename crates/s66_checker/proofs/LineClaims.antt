@@ -7,7 +7,8 @@ use Rattle.s66_model.specs.Timing.{Problem}
 use Rattle.s66_model.specs.LegalOrder.{IsBeginning, is_remaining}
 use Rattle.s66_model.specs.Tree.{Vertex, AtTerminal, TreeHolds}
 use Rattle.s66_model.specs.NodeNames.{node_named}
-use Rattle.s66_model.specs.DominatedLeaves.{Ending, Bounding, Dominated, Next, Turned, AtLine, LoadFrom, is_standing, may_be_named, DominatesByRule}
+use Rattle.s66_model.specs.DominatedLeaves.{Ending, Bounding, Dominated, Factual, is_standing, may_be_named, DominatesByRule}
+use Rattle.s66_model.specs.FactLeaves.{Next, Turned, AtLine, LoadFrom}
 use Rattle.s66_model.proofs.TreesHold.{tree-weaken, seen-holds}
 use Rattle.s66_moments.specs.Facts.{Fact}
 use Rattle.s66_moments.specs.Known.{next_value, is_turned, is_loaded}
@@ -42,7 +43,7 @@ module _ (d : Document) (rule : d.rule ≡ ClampedStanding) (taken : AreTaken d)
 
   -- LEAVES BY FACTS
 
-  next-shows : (at : List ℕ) (n : ℕ) → next_fault d at n ≡ None → Shows at (line_ending d (Next n))
+  next-shows : (at : List ℕ) (n : ℕ) → next_fault d at n ≡ None → Shows at (line_ending d (Factual (Next n)))
   next-shows at n h =
       let remains : Bool = is_remaining b.block at n in
       let late : Bool = leb d.bound (next_value b (known_of d) at n) in
@@ -52,14 +53,14 @@ module _ (d : Document) (rule : d.rule ≡ ClampedStanding) (taken : AreTaken d)
       let high : d.bound ≤ next_value b (known_of d) at n = leb-true d.bound (next_value b (known_of d) at n) reaches in
       (tt, next-too_late b facts (known_of d) sound d.bound at n is high)
 
-  turned-shows : (at : List ℕ) (m n : ℕ) → turned_fault d at m n ≡ None → Shows at (line_ending d (Turned m n))
+  turned-shows : (at : List ℕ) (m n : ℕ) → turned_fault d at m n ≡ None → Shows at (line_ending d (Factual (Turned m n)))
   turned-shows at m n h =
       let turned : Bool = is_turned b (known_of d) at m n in
       let one = (passed (is_complete b at) (Some fault.Place) (cond (not turned) (Some fault.Pair) None) None (λ h. (cc))).0 h in
       let two = (passed (not turned) (Some fault.Pair) None None (λ h. (cc))).0 one.1 in
       (tt, turned-too_late b facts (known_of d) sound d.bound at m n (not-false turned two.0))
 
-  load_from-shows : (at : List ℕ) (after : ℕ) (ns : List ℕ) → load_from_fault d at after ns ≡ None → Shows at (line_ending d (LoadFrom after ns))
+  load_from-shows : (at : List ℕ) (after : ℕ) (ns : List ℕ) → load_from_fault d at after ns ≡ None → Shows at (line_ending d (Factual (LoadFrom after ns)))
   load_from-shows at after ns h =
       let loaded : Bool = is_loaded b (known_of d) at d.bound after ns in
       let one = (passed (is_complete b at) (Some fault.Place) (cond (not loaded) (Some fault.Loaded) None) None (λ h. (cc))).0 h in
@@ -88,7 +89,7 @@ module _ (d : Document) (rule : d.rule ≡ ClampedStanding) (taken : AreTaken d)
         let (stands, begins) = and_parts (is_standing (Some node.1)) (is_beginning b.block node.0) rest in
         closed-node d node.0 ∙ ap is_standing (node-found b.block Q d line node holds is) ∙ stands
 
-    at_line-shows : (at : List ℕ) (line : ℕ) → IsBeginning b.block at → at_line_fault d at line ≡ None → Shows at (line_ending d (AtLine line))
+    at_line-shows : (at : List ℕ) (line : ℕ) → IsBeginning b.block at → at_line_fault d at line ≡ None → Shows at (line_ending d (Factual (AtLine line)))
     at_line-shows at line begins h =
         let named : Bool = is_name_at d at (node_on d line) in
         let name : List ℕ = name_of (node_on d line) in
@@ -103,10 +104,10 @@ module _ (d : Document) (rule : d.rule ≡ ClampedStanding) (taken : AreTaken d)
     ending-line : (at : List ℕ) (ending : Ending) → IsBeginning b.block at × (line_fault d at (AtTerminal ending) ≡ None) → Shows at (line_ending d ending)
     ending-line at (Bounding leaf) h = (leaf-shows b d.bound at leaf h.0).0 h.1
     ending-line at (Dominated name) h = dominated-line at name h.0 h.1
-    ending-line at (Next number) h = next-shows at number h.1
-    ending-line at (Turned first second) h = turned-shows at first second h.1
-    ending-line at (AtLine line) h = at_line-shows at line h.0 h.1
-    ending-line at (LoadFrom after numbers) h = load_from-shows at after numbers h.1
+    ending-line at (Factual (Next number)) h = next-shows at number h.1
+    ending-line at (Factual (Turned first second)) h = turned-shows at first second h.1
+    ending-line at (Factual (AtLine line)) h = at_line-shows at line h.0 h.1
+    ending-line at (Factual (LoadFrom after numbers)) h = load_from-shows at after numbers h.1
 
   pub shown-by_lines : TreeHolds b.block (λ at ending. IsBeginning b.block at × (line_fault d at (AtTerminal ending) ≡ None)) [] d.tree → ShowsByLines ClampedStanding b d.bound (shown_lines d) [] (line_tree d)
   shown-by_lines holds = (

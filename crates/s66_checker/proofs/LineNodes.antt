@@ -8,7 +8,8 @@ use Rattle.s66_isa.specs.Table.{numbers}
 use Rattle.s66_model.specs.LegalOrder.{is_ready, ready}
 use Rattle.s66_model.specs.Tree.{Tree, Alone, Parted, Siblings, NoMore, Unsplit, Split, Vertex, SiblingsHold, TreeHolds}
 use Rattle.s66_model.specs.NodeNames.{terminal_at, sibling_at, node_named}
-use Rattle.s66_model.specs.DominatedLeaves.{Ending, Bounding, Dominated, Next, Turned, AtLine, LoadFrom, is_standing}
+use Rattle.s66_model.specs.DominatedLeaves.{Ending, Bounding, Dominated, Factual, is_standing}
+use Rattle.s66_model.specs.FactLeaves.{Next, Turned, AtLine, LoadFrom}
 use Rattle.s66_model.specs.Stated.{siblings_seen, tree_seen}
 use Rattle.s66_moments.specs.LineTrees.{LineEnding, is_closed}
 use Rattle.s66_cert.specs.Document.{Document, siblings_placed, tree_placed}
@@ -31,10 +32,10 @@ module _ (d : Document) where
   closed-terminal ending at (n ∷ path) = refl
   closed-terminal (Bounding leaf) at [] = refl
   closed-terminal (Dominated name) at [] = refl
-  closed-terminal (Next number) at [] = refl
-  closed-terminal (Turned first second) at [] = refl
-  closed-terminal (AtLine line) at [] = refl
-  closed-terminal (LoadFrom after numbers) at [] = refl
+  closed-terminal (Factual (Next number)) at [] = refl
+  closed-terminal (Factual (Turned first second)) at [] = refl
+  closed-terminal (Factual (AtLine line)) at [] = refl
+  closed-terminal (Factual (LoadFrom after numbers)) at [] = refl
 
   closed-siblings : (siblings : Siblings Ending) (prefix ns path : List ℕ) → is_closed (sibling_at ns (siblings_seen seen prefix ns siblings) path) ≡ is_standing (sibling_at ns siblings path)
   closed-siblings siblings prefix ns [] = refl

@@ -9,7 +9,8 @@ use Rattle.s66_model.specs.declared.rule.Rule.{Rule}
 use Rattle.s66_model.specs.declared.rule.Rule.TheVariants.{ClampedStanding}
 use Rattle.s66_model.specs.Leaves.{Leaf, Whole, Chain, Load, Parcels}
 use Rattle.s66_model.specs.Tree.{Tree, Alone, Parted, Siblings, NoMore, Unsplit, Split}
-use Rattle.s66_model.specs.DominatedLeaves.{Ending, Bounding, Dominated, Next, Turned, AtLine, LoadFrom}
+use Rattle.s66_model.specs.DominatedLeaves.{Ending, Bounding, Dominated, Factual}
+use Rattle.s66_model.specs.FactLeaves.{FactLeaf, Next, Turned, AtLine, LoadFrom}
 use Rattle.s66_model.specs.Examples.{late_reader_tree, increments_tree, increments_load}
 use Rattle.s66_moments.specs.declared.moment.Stage.TheVariants.{Issue}
 use Rattle.s66_moments.specs.declared.moment.Moment.TheVariants.{At, End}
@@ -154,7 +155,7 @@ three_sums facts tree =
 -- the slower of its two orders
 abbrev pub two_sums : ℕ → Document
 two_sums bound =
-    with_facts (codes "BX5 X2*X5" ∷ codes "FX2 X4+X4" ∷ codes "FX5 X1+X4" ∷ []) (1 ∷ 3 ∷ 2 ∷ []) 13 bound (Pair 3 2 ∷ []) (Alone (Next 1))
+    with_facts (codes "BX5 X2*X5" ∷ codes "FX2 X4+X4" ∷ codes "FX5 X1+X4" ∷ []) (1 ∷ 3 ∷ 2 ∷ []) 13 bound (Pair 3 2 ∷ []) (Alone (Factual (Next 1)))
 
 -- what comes after 1, and after 2
 abbrev pub first_of_two : List FactLine → Siblings Ending → Document
@@ -162,31 +163,31 @@ first_of_two facts siblings =
     with_facts (codes "BX2 X4*X3" ∷ codes "IX1 X3+X1" ∷ codes "FX2 X1*X4" ∷ []) (1 ∷ 2 ∷ 3 ∷ []) 15 15 facts (Parted (1 ∷ 2 ∷ []) siblings)
 
 -- after the line that the first stands before the second
-abbrev pub after_pair : Ending → Ending → Document
-after_pair first second = first_of_two (Pair 1 2 ∷ []) (Unsplit first (Unsplit second NoMore))
+abbrev pub after_pair : FactLeaf → FactLeaf → Document
+after_pair first second = first_of_two (Pair 1 2 ∷ []) (Unsplit (Factual first) (Unsplit (Factual second) NoMore))
 
 -- at 1 2 3
 abbrev pub at_the_end : Ending → Document
 at_the_end ending =
-    first_of_two (Pair 1 2 ∷ []) (Split (2 ∷ []) (Split (3 ∷ []) (Unsplit ending NoMore) NoMore) (Unsplit (Turned 1 2) NoMore))
+    first_of_two (Pair 1 2 ∷ []) (Split (2 ∷ []) (Split (3 ∷ []) (Unsplit ending NoMore) NoMore) (Unsplit (Factual (Turned 1 2)) NoMore))
 
 -- two Booleans between the first and the last, which begin so much after the issue of the first
 abbrev pub booleans_between : ℕ → ℕ → Document
 booleans_between after wait =
     with_facts (codes "BX1 X2*X3" ∷ codes "BX4 X1*X1" ∷ codes "BX5 X1*X1" ∷ codes "FX6 X4+X5" ∷ []) (1 ∷ 2 ∷ 3 ∷ 4 ∷ []) 16 16
-    (load_fact (At 1 Issue) End after wait (2 ∷ 3 ∷ []) ∷ []) (Alone (Next 1))
+    (load_fact (At 1 Issue) End after wait (2 ∷ 3 ∷ []) ∷ []) (Alone (Factual (Next 1)))
 
 -- one Add unit for three that don't depend on each other, and the second is known to stand before the first
 abbrev pub three_adds : List FactStep → Document
 three_adds steps =
     with_steps (codes "FX1 X2+X3" ∷ codes "FX4 X2+X5" ∷ codes "FX6 X2+X7" ∷ []) (1 ∷ 2 ∷ 3 ∷ []) 15 15 steps
     (Parted (1 ∷ 2 ∷ 3 ∷ [])
-    (Unsplit (Turned 2 1) (Unsplit (LoadFrom 5 (1 ∷ 3 ∷ [])) (Unsplit (LoadFrom 5 (1 ∷ 2 ∷ [])) NoMore))))
+    (Unsplit (Factual (Turned 2 1)) (Unsplit (Factual (LoadFrom 5 (1 ∷ 3 ∷ []))) (Unsplit (Factual (LoadFrom 5 (1 ∷ 2 ∷ []))) NoMore))))
 
 -- after 1 units do all that these numbers need of them, from a minor cycle on at the soonest
 abbrev pub after_the_first : List (List ℕ) → ℕ → ℕ → ℕ → List ℕ → Document
 after_the_first block time bound after numbers =
-    with_facts block (1 ∷ 2 ∷ 3 ∷ 4 ∷ []) time bound [] (Parted (1 ∷ []) (Unsplit (LoadFrom after numbers) NoMore))
+    with_facts block (1 ∷ 2 ∷ 3 ∷ 4 ∷ []) time bound [] (Parted (1 ∷ []) (Unsplit (Factual (LoadFrom after numbers)) NoMore))
 
 -- 2 and 3 need the only Boolean unit and X1, which are theirs from 4 on, and 8 are left from the issue of either
 abbrev pub booleans_left : ℕ → ℕ → List ℕ → Document
@@ -207,12 +208,12 @@ waits_for_the_product =
 abbrev pub before_their_writers : Document
 before_their_writers =
     with_facts (codes "BX1 X2" ∷ codes "BX3 X4" ∷ codes "FX2 X5*X6" ∷ codes "FX4 X5*X6" ∷ []) (1 ∷ 3 ∷ 2 ∷ 4 ∷ []) 16 16 []
-    (Alone (LoadFrom 0 (1 ∷ 2 ∷ [])))
+    (Alone (Factual (LoadFrom 0 (1 ∷ 2 ∷ []))))
 
 -- two Multiply units for three, each for 11; the leaf has these numbers
 abbrev pub multiplies_left : ℕ → List ℕ → Document
 multiplies_left bound numbers =
-    with_facts (codes "FX1 X2*X3" ∷ codes "FX4 X5*X6" ∷ codes "FX0 X7*X7" ∷ []) (1 ∷ 2 ∷ 3 ∷ []) 22 bound [] (Alone (LoadFrom 0 numbers))
+    with_facts (codes "FX1 X2*X3" ∷ codes "FX4 X5*X6" ∷ codes "FX0 X7*X7" ∷ []) (1 ∷ 2 ∷ 3 ∷ []) 22 bound [] (Alone (Factual (LoadFrom 0 numbers)))
 
 -- 1 3 2 names 1 2 3, on line 14, where the Add unit does all from 11 on
 abbrev pub booleans_named : Document
@@ -220,7 +221,7 @@ booleans_named =
     with_facts (codes "BX1 X2*X3" ∷ codes "BX4 X1*X1" ∷ codes "BX5 X1*X1" ∷ codes "FX6 X4+X5" ∷ []) (1 ∷ 2 ∷ 3 ∷ 4 ∷ []) 16 16 []
     (Parted (1 ∷ [])
     (Split (2 ∷ 3 ∷ [])
-    (Split (3 ∷ []) (Unsplit (LoadFrom 11 (4 ∷ [])) NoMore) (Split (2 ∷ []) (Unsplit (AtLine 14) NoMore) NoMore))
+    (Split (3 ∷ []) (Unsplit (Factual (LoadFrom 11 (4 ∷ []))) NoMore) (Split (2 ∷ []) (Unsplit (Factual (AtLine 14)) NoMore) NoMore))
     NoMore))
 
 -- 1 2, on line 12, and 2 1, on line 15
@@ -235,7 +236,7 @@ abbrev pub named_in_use : List (List ℕ) → List ℕ → ℕ → Document
 named_in_use block numbers time =
     with_facts block numbers time time []
     (Parted (1 ∷ 2 ∷ [])
-    (Split (2 ∷ 3 ∷ []) (Unsplit (AtLine 15) (Unsplit (Bounding (Load Boolean)) NoMore))
+    (Split (2 ∷ 3 ∷ []) (Unsplit (Factual (AtLine 15)) (Unsplit (Bounding (Load Boolean)) NoMore))
     (Split (1 ∷ []) (Unsplit (Bounding (Load Boolean)) NoMore) NoMore)))
 
 -- the third waits for the only Boolean unit, and by then X1 is there in either order

@@ -5,7 +5,8 @@ use Rattle.s66_model.specs.Timing.{total_of}
 use Rattle.s66_model.specs.LegalOrder.{IsLegal}
 use Rattle.s66_model.specs.Tree.{Tree}
 use Rattle.s66_model.specs.Stated.{tree_seen}
-use Rattle.s66_model.specs.DominatedLeaves.{Ending, Bounding, Dominated, Next, Turned, AtLine, LoadFrom, ShowsBy}
+use Rattle.s66_model.specs.DominatedLeaves.{Ending, Bounding, Dominated, Factual, ShowsBy}
+use Rattle.s66_model.specs.FactLeaves.{Next, Turned, AtLine, LoadFrom}
 use Rattle.s66_moments.specs.declared.fact_line.FactStep.{FactStep}
 use Rattle.s66_moments.specs.Known.{load_of}
 use Rattle.s66_moments.specs.Suppositions.{standing_first, shown_by_all}
@@ -19,10 +20,10 @@ use Rattle.s66_checker.specs.Verdict.{problem_of, node_on, name_of}
 abbrev pub line_ending : Document → Ending → LineEnding
 line_ending d (Bounding leaf) = AtLeaf leaf
 line_ending d (Dominated name) = DominatedBy name
-line_ending d (Next number) = AtLines []
-line_ending d (Turned first second) = AtLines []
-line_ending d (AtLine line) = DominatedBy (name_of (node_on d line))
-line_ending d (LoadFrom after numbers) = AtLines (load_of (problem_of d) d.bound after numbers ∷ [])
+line_ending d (Factual (Next number)) = AtLines []
+line_ending d (Factual (Turned first second)) = AtLines []
+line_ending d (Factual (AtLine line)) = DominatedBy (name_of (node_on d line))
+line_ending d (Factual (LoadFrom after numbers)) = AtLines (load_of (problem_of d) d.bound after numbers ∷ [])
 
 -- its tree as a tree with lines: `Next` and `Turned` are closed by the facts alone, `LoadFrom` by its load, and `AtLine` names the node
 -- of that line

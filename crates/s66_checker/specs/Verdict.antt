@@ -11,7 +11,8 @@ use Rattle.s66_model.specs.LegalOrder.{is_remaining, ready}
 use Rattle.s66_model.specs.Leaves.{Leaf, Whole, Chain, Load, Parcels, value, is_linked}
 use Rattle.s66_model.specs.Tree.{Vertex, AtTerminal, AtSplit}
 use Rattle.s66_model.specs.NodeNames.{node_named}
-use Rattle.s66_model.specs.DominatedLeaves.{Ending, Bounding, Dominated, Next, Turned, AtLine, LoadFrom, is_standing, may_be_named}
+use Rattle.s66_model.specs.DominatedLeaves.{Ending, Bounding, Dominated, Factual, is_standing, may_be_named}
+use Rattle.s66_model.specs.FactLeaves.{Next, Turned, AtLine, LoadFrom}
 use Rattle.s66_moments.specs.declared.fact_line.FactStep.{FactStep}
 use Rattle.s66_moments.specs.declared.fact_line.FactStep.TheVariants.{Fact, Suppose, Refuted}
 use Rattle.s66_moments.specs.Known.{Known, next_value, is_turned, is_loaded}
@@ -170,10 +171,10 @@ abbrev pub line_fault : Document → List ℕ → Vertex Ending → Option Reaso
 line_fault d at (AtSplit numbers) = if bytes_eq numbers (ready (problem_of d).block at) then None else Some fault.Children
 line_fault d at (AtTerminal (Bounding leaf)) = leaf_fault (problem_of d) d.bound at leaf
 line_fault d at (AtTerminal (Dominated name)) = dominated_fault d at name
-line_fault d at (AtTerminal (Next number)) = next_fault d at number
-line_fault d at (AtTerminal (Turned first second)) = turned_fault d at first second
-line_fault d at (AtTerminal (AtLine line)) = at_line_fault d at line
-line_fault d at (AtTerminal (LoadFrom after numbers)) = load_from_fault d at after numbers
+line_fault d at (AtTerminal (Factual (Next number))) = next_fault d at number
+line_fault d at (AtTerminal (Factual (Turned first second))) = turned_fault d at first second
+line_fault d at (AtTerminal (Factual (AtLine line))) = at_line_fault d at line
+line_fault d at (AtTerminal (Factual (LoadFrom after numbers))) = load_from_fault d at after numbers
 
 -- THE VERDICT, with the number of the line
 

@@ -8,7 +8,8 @@ ghost use Rattle.s66_model.specs.declared.rule.Rule.TheVariants.{NoneNamed, Writ
 ghost use Rattle.s66_model.specs.Examples.{standard_problem, late_reader, three_increments, packing_gap, two_gaps, booleans_and_sets, late_result, later_gap, fourth_bounding, fourth_split, increments_tree, increments_load};
 ghost use Rattle.s66_model.specs.Leaves.{Whole, Chain, Load, Parcels};
 ghost use Rattle.s66_model.specs.Tree.{Alone, Parted, NoMore, Unsplit, Split};
-ghost use Rattle.s66_model.specs.DominatedLeaves.{Bounding, Dominated, Next, Turned, AtLine, LoadFrom};
+ghost use Rattle.s66_model.specs.DominatedLeaves.{Bounding, Dominated, Factual};
+ghost use Rattle.s66_model.specs.FactLeaves.{Next, Turned, AtLine, LoadFrom};
 ghost use Rattle.s66_moments.specs.declared.fact_line.FactLine.TheVariants.{Pair};
 ghost use Rattle.s66_moments.specs.declared.fact_line.FactStep.TheVariants.{Fact, Suppose, Refuted};
 ghost use Rattle.s66_moments.specs.Examples as in_use;
@@ -124,14 +125,14 @@ pub fn dominated_examples()
 
 /// Verdicts on documents with fact lines, each of which is checked by those before it.
 pub fn fact_examples()
-    ensures each_by_those_before_it { verdict (three_sums (Pair 1 3 ∷ Pair 2 3 ∷ []) (Alone (Next 1))) ≡ Yes 15 15 }
-    ensures by_a_later_line { verdict (three_sums (Pair 2 3 ∷ Pair 1 3 ∷ []) (Alone (Next 1))) ≡ No 10 fault.Fact }
+    ensures each_by_those_before_it { verdict (three_sums (Pair 1 3 ∷ Pair 2 3 ∷ []) (Alone (Factual (Next 1)))) ≡ Yes 15 15 }
+    ensures by_a_later_line { verdict (three_sums (Pair 2 3 ∷ Pair 1 3 ∷ []) (Alone (Factual (Next 1)))) ≡ No 10 fault.Fact }
     ensures tree_after_two_lines { verdict (three_sums (Pair 1 3 ∷ Pair 2 3 ∷ []) (Alone (Bounding Parcels))) ≡
         No 12 fault.Value }
     ensures bound_below_the_time { verdict (two_sums 11) ≡ Yes 13 11 }
     ensures not_for_the_time { verdict (two_sums 13) ≡ No 10 fault.Fact }
     ensures bound_above_the_time { verdict (two_sums 14) ≡ No 8 fault.Bound }
-    ensures ring { verdict (first_of_two (Pair 1 2 ∷ Pair 2 1 ∷ []) (Unsplit (Next 2) (Unsplit (Turned 1 2) NoMore))) ≡
+    ensures ring { verdict (first_of_two (Pair 1 2 ∷ Pair 2 1 ∷ []) (Unsplit (Factual (Next 2)) (Unsplit (Factual (Turned 1 2)) NoMore))) ≡
         No 11 fault.Fact }
     ensures by_a_load { verdict (booleans_between 4 16) ≡ Yes 16 16 }
     ensures load_too_long { verdict (booleans_between 4 17) ≡ No 11 fault.Fact }
@@ -161,14 +162,14 @@ pub fn fact_leaf_examples()
     ensures next_below_the_bound { verdict (after_pair (Next 3) (Turned 1 2)) ≡ No 12 fault.Event }
     ensures next_is_placed { verdict (after_pair (Next 1) (Turned 1 2)) ≡ No 12 fault.Event }
     ensures next_is_no_number { verdict (after_pair (Next 4) (Turned 1 2)) ≡ No 12 fault.Event }
-    ensures next_without_the_last_line { verdict (three_sums (Pair 1 3 ∷ []) (Alone (Next 1))) ≡ No 11 fault.Event }
+    ensures next_without_the_last_line { verdict (three_sums (Pair 1 3 ∷ []) (Alone (Factual (Next 1)))) ≡ No 11 fault.Event }
     ensures turned_at_the_first { verdict (after_pair (Turned 1 2) (Turned 1 2)) ≡ No 12 fault.Pair }
     ensures turned_the_other_way { verdict (after_pair (Next 2) (Turned 2 1)) ≡ No 13 fault.Pair }
-    ensures turned_without_a_line { verdict (first_of_two [] (Unsplit (Next 2) (Unsplit (Turned 1 2) NoMore))) ≡
+    ensures turned_without_a_line { verdict (first_of_two [] (Unsplit (Factual (Next 2)) (Unsplit (Factual (Turned 1 2)) NoMore))) ≡
         No 12 fault.Pair }
-    ensures next_at_a_whole_order { verdict (at_the_end (Next 3)) ≡ No 14 fault.Place }
-    ensures turned_at_a_whole_order { verdict (at_the_end (Turned 1 2)) ≡ No 14 fault.Place }
-    ensures line_at_a_whole_order { verdict (at_the_end (AtLine 11)) ≡ No 14 fault.Place }
+    ensures next_at_a_whole_order { verdict (at_the_end (Factual (Next 3))) ≡ No 14 fault.Place }
+    ensures turned_at_a_whole_order { verdict (at_the_end (Factual (Turned 1 2))) ≡ No 14 fault.Place }
+    ensures line_at_a_whole_order { verdict (at_the_end (Factual (AtLine 11))) ≡ No 14 fault.Place }
     ensures whole_order { verdict (at_the_end (Bounding Whole)) ≡ Yes 15 15 }
 {}
 
@@ -192,20 +193,20 @@ pub fn load_leaf_examples()
     ensures two_units_share { verdict (multiplies_left 17 (1 ∷ 2 ∷ 3 ∷ [])) ≡ Yes 22 17 }
     ensures one_of_two_units_has_two { verdict (multiplies_left 22 (1 ∷ 2 ∷ 3 ∷ [])) ≡ Yes 22 22 }
     ensures each_of_two_has_one { verdict (multiplies_left 12 (1 ∷ 2 ∷ [])) ≡ No 10 fault.Loaded }
-    ensures at_a_whole_order { verdict (at_the_end (LoadFrom 0 (3 ∷ []))) ≡ No 14 fault.Place }
+    ensures at_a_whole_order { verdict (at_the_end (Factual (LoadFrom 0 (3 ∷ [])))) ≡ No 14 fault.Place }
     ensures named { verdict booleans_named ≡ Yes 16 16 }
 {}
 
 /// Verdicts on dominated leaves that name the line of a node.
 pub fn line_name_examples()
-    ensures line_behind { verdict (increments_named (AtLine 15) increments_load) ≡ Yes 8 7 }
-    ensures line_before { verdict (increments_named increments_load (AtLine 12)) ≡ Yes 8 7 }
-    ensures line_after_it { verdict (increments_named (AtLine 16) increments_load) ≡ No 12 fault.Name }
-    ensures line_before_it { verdict (increments_named (AtLine 14) increments_load) ≡ No 12 fault.Name }
-    ensures itself { verdict (increments_named (AtLine 12) increments_load) ≡ No 12 fault.Name }
-    ensures each_by_the_other { verdict (increments_named (AtLine 15) (AtLine 12)) ≡ No 12 fault.Name }
-    ensures no_line_of_the_tree { verdict (increments_named (AtLine 9) increments_load) ≡ No 12 fault.Name }
-    ensures no_line { verdict (increments_named (AtLine 18) increments_load) ≡ No 12 fault.Name }
+    ensures line_behind { verdict (increments_named (Factual (AtLine 15)) increments_load) ≡ Yes 8 7 }
+    ensures line_before { verdict (increments_named increments_load (Factual (AtLine 12))) ≡ Yes 8 7 }
+    ensures line_after_it { verdict (increments_named (Factual (AtLine 16)) increments_load) ≡ No 12 fault.Name }
+    ensures line_before_it { verdict (increments_named (Factual (AtLine 14)) increments_load) ≡ No 12 fault.Name }
+    ensures itself { verdict (increments_named (Factual (AtLine 12)) increments_load) ≡ No 12 fault.Name }
+    ensures each_by_the_other { verdict (increments_named (Factual (AtLine 15)) (Factual (AtLine 12))) ≡ No 12 fault.Name }
+    ensures no_line_of_the_tree { verdict (increments_named (Factual (AtLine 9)) increments_load) ≡ No 12 fault.Name }
+    ensures no_line { verdict (increments_named (Factual (AtLine 18)) increments_load) ≡ No 12 fault.Name }
     ensures in_use_alone { verdict waits_for_the_unit ≡ Yes 12 12 }
     ensures not_in_use { verdict waits_for_x1 ≡ No 12 fault.Dominance }
 {}

@@ -7,7 +7,9 @@ ghost use Rattle.s66_isa.specs.declared.limits.TheConstants.{BLOCK_LIMIT};
 ghost use Rattle.s66_model.specs.LegalOrder.{ready};
 ghost use Rattle.s66_model.specs.Leaves.{Whole, Chain, Load, Parcels};
 ghost use Rattle.s66_checker.specs.declared.verdict.Reason.TheVariants as fault;
-ghost use Rattle.s66_model.specs.Lines.{vertex_of};
+ghost use Rattle.s66_model.specs.Tree.{AtTerminal};
+ghost use Rattle.s66_model.specs.DominatedLeaves.{Factual};
+ghost use Rattle.s66_model.specs.Lines.{fact_leaf_of, vertex_of};
 ghost use Rattle.s66_cert.specs.DocumentParts.{document_of};
 ghost use Rattle.s66_checker.specs.KeptKnown.{KnowsAll};
 ghost use Rattle.s66_checker.specs.Verdict.{problem_of, is_complete, line_fault, leaf_fault, dominated_fault, at_line_fault, next_fault, turned_fault, load_from_fault};
@@ -19,7 +21,7 @@ use crate::loaded::is_loaded;
 use crate::name::{is_name, is_name_at};
 use crate::replay::Prefix;
 use crate::verdict::Reason;
-use s66_cert::{Document, TreeLine};
+use s66_cert::{Document, FactLeaf, TreeLine};
 use s66_isa::Kind;
 use s66_model::Rule;
 
@@ -47,10 +49,30 @@ pub(crate) fn line_fault(
         TreeLine::Load(kind) => load_fault(prefix, bound, kind),
         TreeLine::Parcels => parcels_fault(prefix, bound),
         TreeLine::Dominated(name) => dominated_fault(prefix, named, document, name),
-        TreeLine::AtLine(line) => at_line_fault(prefix, named, document, known, line),
-        TreeLine::Next(n) => next_fault(prefix, document, known, n),
-        TreeLine::Turned(first, second) => turned_fault(prefix, document, known, first, second),
-        TreeLine::LoadFrom(after, numbers) => {
+        TreeLine::Factual(leaf) => fact_leaf_fault(prefix, named, document, known, leaf),
+    }
+}
+
+/// The same of a leaf by facts.
+fn fact_leaf_fault(
+    prefix: &Prefix,
+    named: &mut Prefix,
+    document: &Document,
+    known: &Known,
+    leaf: FactLeaf<'_>,
+) -> Option<Reason>
+    requires problem { prefix.now.problem ≡ problem_of (document_of document.now) }
+    requires same { named.old.problem ≡ prefix.now.problem }
+    requires known { KnowsAll (document_of document.now) known.now }
+    ensures value { result ≡ line_fault (document_of document.now) prefix.now.numbers
+        (AtTerminal (Factual (fact_leaf_of leaf.entry))) }
+    ensures same { named.new.problem ≡ named.old.problem }
+{
+    match leaf {
+        FactLeaf::AtLine(line) => at_line_fault(prefix, named, document, known, line),
+        FactLeaf::Next(n) => next_fault(prefix, document, known, n),
+        FactLeaf::Turned(first, second) => turned_fault(prefix, document, known, first, second),
+        FactLeaf::LoadFrom(after, numbers) => {
             load_from_fault(prefix, document, known, after, numbers)
         }
     }

@@ -12,7 +12,7 @@ ghost use Rattle.s66_checker.specs.NamedNodes.{IsNodeOn};
 use crate::known::fact_lines;
 use crate::replay::Prefix;
 use arrayvec::ArrayVec;
-use s66_cert::{Document, TreeLine};
+use s66_cert::{Document, FactLeaf, TreeLine};
 use s66_isa::BLOCK_LIMIT;
 use s66_model::Rule;
 
@@ -20,7 +20,10 @@ use s66_model::Rule;
 fn is_standing(line: TreeLine<'_>) -> bool
     ensures { result ≡ is_standing (Some (vertex_of line.entry)) }
 {
-    !matches!(line, TreeLine::Dominated(_) | TreeLine::AtLine(_))
+    !matches!(
+        line,
+        TreeLine::Dominated(_) | TreeLine::Factual(FactLeaf::AtLine(_))
+    )
 }
 
 /// Whether a rule lets this node be named, by its line.

@@ -14,7 +14,7 @@ use crate::limits::{
 };
 use crate::lines::{Bound, Halved, Lined, beam_by, best_by_lines, found_below, halve};
 use crate::orders::faster;
-use s66_cert::{Tree, TreeLine};
+use s66_cert::{FactLeaf, Tree, TreeLine};
 use s66_line::Block;
 use s66_moments::FactStep;
 use s66_time::Timed;
@@ -80,7 +80,7 @@ fn by_leaf(alloc: Global, bound: Bound, is_printed: bool) -> Result<Written, All
     let finder = for_print(bound, is_printed)?;
     let (leaf, _) = finder.root();
     let mut tree = Tree::new(alloc);
-    tree.push(TreeLine::Next(leaf))?;
+    tree.push(TreeLine::Factual(FactLeaf::Next(leaf)))?;
     Ok(Written {
         bound: value,
         lines: finder.steps()?,

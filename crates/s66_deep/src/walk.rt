@@ -5,7 +5,7 @@ ghost use Rattle.std.specs.Prelude.{◌≡◌};
 use crate::floors::{Left, PathBounds, Tails};
 use s66_isa::{BLOCK_LIMIT, KINDS, Kind, Profile, Set};
 use s66_line::Block;
-use s66_model::TreeLine;
+use s66_model::{FactLeaf, TreeLine};
 use s66_node::Walk;
 use s66_time::Timed;
 use std::marker::Model;
@@ -168,7 +168,8 @@ impl<'a> Prefix<'a> {
         ensures { IfSome result (λ line. IsShort (vertex_of line)) }
     {
         if low <= self.path_floor() {
-            return Some(TreeLine::Next(self.paths.leaf(self.walk.clock())));
+            let leaf = FactLeaf::Next(self.paths.leaf(self.walk.clock()));
+            return Some(TreeLine::Factual(leaf));
         }
         if let Some(kind) = self.loaded(low) {
             return Some(TreeLine::Load(kind));

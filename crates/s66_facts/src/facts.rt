@@ -269,7 +269,7 @@ impl Facts {
     }
 
     /// Whether the longest path through the issue or the start of a number takes the bound at least.
-    fn is_late_through(&self, bound: u32, n: u8) -> bool
+    pub fn is_late_through(&self, bound: u32, n: u8) -> bool
         requires { IsNumber self.now.problem n }
         ensures { result ≡ is_late_through self.now.problem (arcs_of self.now.problem (known_of self.now)) bound n }
     {

@@ -27,4 +27,4 @@ pub use facts::Facts;
 pub use limits::FACT_LIMIT;
 pub use loads::are_rising;
 pub use supposing::Supposing;
-pub use times::{Times, fetches, is_same_moment, latency_to, times_at, writes};
+pub use times::{Times, fetches, is_same_moment, latency_to, reaches_both, times_at, writes};

@@ -39,7 +39,7 @@ impl Model for Supposing {
 
 impl Supposing {
     ghost use Rattle.s66_moments.specs.Known.{is_taken};
-    ghost use Rattle.s66_moments.specs.Suppositions.{standing_first, with_step, may_be_supposed, is_late, is_step_taken, are_steps_taken, standing_after};
+    ghost use Rattle.s66_moments.specs.Suppositions.{standing_first, with_step, may_be_supposed, is_late, is_step_taken};
     ghost use Rattle.s66_moments.specs.declared.fact_line.FactStep.TheVariants.{Fact, Suppose, Refuted};
     ghost use Rattle.s66_facts.specs.Ground.{known_of};
     ghost use Rattle.s66_facts.specs.Supposing.{standing_in};
@@ -141,21 +141,6 @@ impl Supposing {
             FactStep::Suppose(first, second) => self.suppose(*first, *second),
             FactStep::Refuted => self.refute(bound),
         }
-    }
-
-    /// Takes steps one after the other up to the first that may not be taken, and returns whether all may.
-    pub fn take_all(&mut self, bound: u32, steps: &[FactStep]) -> bool
-        requires room { self.old.steps + length steps.now ≤ FACT_LIMIT }
-        ensures taken { result ≡ are_steps_taken self.old.ground.problem bound (standing_in self.old) steps.now }
-        ensures problem { self.new.ground.problem ≡ self.old.ground.problem }
-        ensures standing { IsTrue result → standing_in self.new ≡ standing_after (standing_in self.old) steps.now }
-    {
-        for step in steps {
-            if !self.take(bound, step) {
-                return false;
-            }
-        }
-        true
     }
 
     /// What is known now, with what is supposed.

@@ -183,7 +183,7 @@ pub(crate) fn reaches_through(low: u32, first: Option<u64>, wait: u32, second: O
 }
 
 /// Whether two paths take so long at least.
-pub(crate) fn reaches_both(low: u32, first: Option<u64>, second: Option<u64>) -> bool
+pub fn reaches_both(low: u32, first: Option<u64>, second: Option<u64>) -> bool
     ensures { result ≡ reaches low (plus first second) }
 {
     match (first, second) {

@@ -7,7 +7,7 @@ use Rattle.s66_model.specs.LegalOrder.{is_ready, ready, IsBeginning}
 use Rattle.s66_model.specs.BestAndBound.{IsBound, IsBest}
 use Rattle.s66_model.specs.Leaves.{value, MayStand, floor}
 use Rattle.s66_model.specs.Tree.{Siblings, NoMore, Unsplit, Split, Tree, Alone, Parted, SiblingsHold, TreeHolds, sibling_values, tree_values}
-use Rattle.s66_model.specs.DominatedLeaves.{Ending, Bounding, Dominated, Next, Turned, AtLine, LoadFrom, EndingShows, ShowsBy}
+use Rattle.s66_model.specs.DominatedLeaves.{Ending, Bounding, Dominated, Factual, EndingShows, ShowsBy}
 use Rattle.s66_model.specs.Answer.{Answer, MayEnd, ending_values, IsAnswer, IsBestAnswer}
 use Rattle.s66_isa.proofs.Lists.{least-le, among-front, among-rest}
 use Rattle.s66_model.proofs.Remaining.{ready-among, step-begins}
@@ -30,10 +30,7 @@ module _ (stands : (b : Problem) (prefix : List ℕ) → IsBeginning b.block pre
     ending-shows at (Bounding leaf) begins is below =
         (subst (λ x. MayStand b at x) (sym is) (stands b at begins), below (value b at leaf) (inl refl))
     ending-shows at (Dominated name) begins is below = is
-    ending-shows at (Next number) begins is below = is
-    ending-shows at (Turned first second) begins is below = is
-    ending-shows at (AtLine line) begins is below = is
-    ending-shows at (LoadFrom after numbers) begins is below = is
+    ending-shows at (Factual leaf) begins is below = is
 
     siblings-show : (siblings : Siblings Ending) (prefix ns : List ℕ) → SiblingsHold b.block (MayEnd rule b whole) prefix ns siblings → IsBeginning b.block prefix → AreReady b prefix ns → IsBelow low (sibling_values (ending_values b) prefix ns siblings) → SiblingsHold b.block (EndingShows rule b low [] whole) prefix ns siblings
     siblings-show NoMore prefix [] holds begins are below = tt

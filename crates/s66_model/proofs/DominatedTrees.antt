@@ -9,7 +9,7 @@ use Rattle.s66_model.specs.LegalOrder.{IsLegal, Completes, IsBeginning, IsOrder}
 use Rattle.s66_model.specs.Leaves.{Leaf}
 use Rattle.s66_model.specs.Tree.{Siblings, NoMore, Unsplit, Split, Tree, Alone, Parted, Vertex, AtTerminal, AtSplit, SiblingsHold, TreeHolds, LeafShows, Shows}
 use Rattle.s66_model.specs.Dominance.{IsNoWorse, clamp_at}
-use Rattle.s66_model.specs.DominatedLeaves.{Ending, Bounding, Dominated, Next, Turned, AtLine, LoadFrom, IsEarlier, is_standing, may_be_named, DominatesByRule, EndingShows, ShowsBy, siblings_bounding, tree_bounding}
+use Rattle.s66_model.specs.DominatedLeaves.{Ending, Bounding, Dominated, Factual, IsEarlier, is_standing, may_be_named, DominatesByRule, EndingShows, ShowsBy, siblings_bounding, tree_bounding}
 use Rattle.s66_model.specs.NodeNames.{node_named, is_node}
 use Rattle.s66_model.proofs.LegalOrders.{GoesOn-join, order-legal, legal-order}
 use Rattle.s66_model.proofs.Remaining.{legal-parts}
@@ -168,18 +168,12 @@ module _ (rule : Rule) (b : Problem) (low : ℕ) (prefix : List ℕ) (tree : Tre
   ending-says at (Bounding leaf) h = inl (leaf-shuts b low at leaf h)
   ending-says at (Dominated name) h =
       (let (taken, stays) = rule-takes rule b low name at h.0 in inr (name, taken, stays, sym (may-name rule (node_named prefix tree name)) ∙ h.1))
-  ending-says at (Next number) h = absurd h
-  ending-says at (Turned first second) h = absurd h
-  ending-says at (AtLine line) h = absurd h
-  ending-says at (LoadFrom after numbers) h = absurd h
+  ending-says at (Factual leaf) h = absurd h
 
   ending-shuts : (at : List ℕ) (ending : Ending) → bounds ending ≡ true → EndingShows rule b low prefix tree at ending → IsShut b low at
   ending-shuts at (Bounding leaf) closed h = leaf-shuts b low at leaf h
   ending-shuts at (Dominated name) closed h = absurd cc
-  ending-shuts at (Next number) closed h = absurd h
-  ending-shuts at (Turned first second) closed h = absurd h
-  ending-shuts at (AtLine line) closed h = absurd h
-  ending-shuts at (LoadFrom after numbers) closed h = absurd h
+  ending-shuts at (Factual leaf) closed h = absurd h
 
 pub shown-below : (rule : Rule) (b : Problem) (low : ℕ) (prefix rest : List ℕ) (tree : Tree Ending) → ShowsBy rule b low prefix tree → IsLegal b.block (prefix ++ rest) → low ≤ total_of b (prefix ++ rest)
 shown-below rule b low prefix rest tree shows legal =

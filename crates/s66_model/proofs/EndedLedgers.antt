@@ -9,7 +9,7 @@ use Rattle.s66_model.specs.LegalOrder.{IsBeginning, IsComplete}
 use Rattle.s66_model.specs.BestAndBound.{IsBound}
 use Rattle.s66_model.specs.Leaves.{Leaf, Whole, value, floor, floor_value, MayStand}
 use Rattle.s66_model.specs.Tree.{Siblings, NoMore, Unsplit, Split, Tree, Alone, Parted, SiblingsHold, TreeHolds, sibling_values, tree_values}
-use Rattle.s66_model.specs.DominatedLeaves.{Ending, Bounding, Dominated, Next, Turned, AtLine, LoadFrom}
+use Rattle.s66_model.specs.DominatedLeaves.{Ending, Bounding, Dominated, Factual}
 use Rattle.s66_model.specs.Answer.{source_time, MayEnd, ending_values, IsAnswer}
 use Rattle.s66_model.specs.Ledger.{Ledger, Node, State, Open, Out, Cut, Closed, is_cut, is_cut_state, is_live, is_live_state, node_at, no_node, with_state, root_state, new_nodes, best_time, opening, Event, Grant, Claim, Graft, Offer, Back, Retire, Reply, Granted, Claimed, Taken, NotOut, OtherPrefix, OverAllowance, Lower, NotLower, OtherBlock, Returned, Retired, Moves, Run}
 use Rattle.s66_model.specs.Coverage.{ClosedHolds, NodeHolds, NodesHold, Covers, live_floors, bound_of, IsFinished}
@@ -133,10 +133,7 @@ module _ (rule : Rule) (b : Problem) (budget : ℕ) (l : Ledger) (c : Covers rul
         by Cut is = absurd (let no : true ≡ false = sym (ap is_cut_state is) ∙ off in cc)
         by (Closed (Bounding leaf)) is = bounding leaf is
         by (Closed (Dominated name)) is = dominated name is
-        by (Closed (Next number)) is = absurd (closed-holds node (Next number) among is)
-        by (Closed (Turned first second)) is = absurd (closed-holds node (Turned first second) among is)
-        by (Closed (AtLine line)) is = absurd (closed-holds node (AtLine line) among is)
-        by (Closed (LoadFrom after numbers)) is = absurd (closed-holds node (LoadFrom after numbers) among is)
+        by (Closed (Factual leaf)) is = absurd (closed-holds node (Factual leaf) among is)
 
   closed-above : (node : Node) (leaf : Leaf) → Among node l.nodes → node.state ≡ Closed (Bounding leaf) → best_time b l ≤ floor_value b node.prefix
   closed-above node leaf among is =

@@ -8,7 +8,7 @@ use Rattle.s66_model.specs.Timing.{Problem, total_of}
 use Rattle.s66_model.specs.LegalOrder.{IsLegal, IsBeginning, is_ready}
 use Rattle.s66_model.specs.Leaves.{Leaf, value, floor, floor_value}
 use Rattle.s66_model.specs.Tree.{Tree, Alone, Parted, Siblings, NoMore, Unsplit, Split, SiblingsHold, splits}
-use Rattle.s66_model.specs.DominatedLeaves.{Ending, Bounding, Dominated, Next, Turned, AtLine, LoadFrom, IsEarlier}
+use Rattle.s66_model.specs.DominatedLeaves.{Ending, Bounding, Dominated, Factual, IsEarlier}
 use Rattle.s66_model.specs.Piece.{Terminal, Carries, Frontier, Passed, TerminalHolds, IsPiece}
 use Rattle.s66_model.specs.Ledger.{Ledger, Node, State, Open, Out, Cut, Closed, is_cut, is_cut_state, is_open_state, node_at, no_node, with_state, best_time, IsWorker, allowance, share_of, opening, after_grant, after_retire, after_move, after_offer, after_graft, state_of, root_state, sibling_nodes, new_nodes, may_name, HasNamed, TerminalIsNamed, AreNamed, IsOut}
 use Rattle.s66_model.specs.Coverage.{begins, covers, ClosedHolds, NodeHolds, NodesHold, Covers}
@@ -89,10 +89,7 @@ module _ (rule : Rule) (b : Problem) where
   closed-goes-on : (best lower : ℕ) (all more : List Node) → lower ≤ best → ((name : List ℕ) → HasNamed rule all name → HasNamed rule more name) → (at : List ℕ) (ending : Ending) → ClosedHolds rule b best all at ending → ClosedHolds rule b lower more at ending
   closed-goes-on best lower all more le named at (Bounding leaf) h = (h.0, omega (arith, le, h.1), h.2)
   closed-goes-on best lower all more le named at (Dominated name) h = (h.0, named name h.1)
-  closed-goes-on best lower all more le named at (Next number) h = h
-  closed-goes-on best lower all more le named at (Turned first second) h = h
-  closed-goes-on best lower all more le named at (AtLine line) h = h
-  closed-goes-on best lower all more le named at (LoadFrom after numbers) h = h
+  closed-goes-on best lower all more le named at (Factual leaf) h = h
 
   holds-on : (best lower : ℕ) (all more : List Node) → lower ≤ best → ((name : List ℕ) → HasNamed rule all name → HasNamed rule more name) → (nodes : List Node) → NodesHold rule b best all nodes → NodesHold rule b lower more nodes
   holds-on best lower all more le named [] h = tt

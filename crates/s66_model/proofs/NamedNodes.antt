@@ -9,7 +9,7 @@ use Rattle.s66_model.specs.Timing.{Problem}
 use Rattle.s66_model.specs.LegalOrder.{ready, GoesOn, IsBeginning}
 use Rattle.s66_model.specs.Tree.{Siblings, NoMore, Unsplit, Split, Tree, Alone, Parted, Vertex, AtTerminal, AtSplit}
 use Rattle.s66_model.specs.NodeNames.{terminal_at, sibling_at, node_named}
-use Rattle.s66_model.specs.DominatedLeaves.{Ending, Bounding, Dominated, Next, Turned, AtLine, LoadFrom, may_be_named}
+use Rattle.s66_model.specs.DominatedLeaves.{Ending, Bounding, Dominated, Factual, may_be_named}
 use Rattle.s66_model.specs.Ledger.{Ledger, Node, State, Open, Out, Cut, Closed, may_name, HasNamed}
 use Rattle.s66_model.specs.NodeTable.{stands_at, IsTable}
 use Rattle.s66_model.specs.NodeTree.{is_split_at, state_ending, ending_at, node_tree}
@@ -92,10 +92,7 @@ module _ (b : Problem) (l : Ledger) (table : IsTable b l) (beginnings : (node : 
   named-vertex ClampedStanding Cut at false h = refl
   named-vertex ClampedStanding (Closed (Bounding leaf)) at false h = refl
   named-vertex ClampedStanding (Closed (Dominated name)) at false h = absurd cc
-  named-vertex ClampedStanding (Closed (Next number)) at false h = refl
-  named-vertex ClampedStanding (Closed (Turned first second)) at false h = refl
-  named-vertex ClampedStanding (Closed (AtLine line)) at false h = absurd cc
-  named-vertex ClampedStanding (Closed (LoadFrom after numbers)) at false h = refl
+  named-vertex ClampedStanding (Closed (Factual leaf)) at false h = refl
 
   pub named-there : (rule : Rule) (name : List ℕ) → HasNamed rule l.nodes name → may_be_named rule (node_named [] (node_tree b l.nodes) name) ≡ true
   named-there rule name (node, among, is, may) =

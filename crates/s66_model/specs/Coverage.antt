@@ -7,7 +7,7 @@ use Rattle.s66_model.specs.LegalOrder.{IsLegal, IsBeginning}
 use Rattle.s66_model.specs.Leaves.{value, floor, floor_value}
 use Rattle.s66_model.specs.Tree.{split_at}
 use Rattle.s66_model.specs.Answer.{Answer, IsAnswer}
-use Rattle.s66_model.specs.DominatedLeaves.{Ending, Bounding, Dominated, Next, Turned, AtLine, LoadFrom, DominatesByRule}
+use Rattle.s66_model.specs.DominatedLeaves.{Ending, Bounding, Dominated, Factual, DominatesByRule}
 use Rattle.s66_model.specs.Ledger.{Ledger, Node, Cut, Closed, is_cut, is_live, best_time, HasNamed}
 
 -- the order begins with the prefix
@@ -27,10 +27,7 @@ ClosedHolds rule b best all prefix (Bounding leaf) =
     (leaf ≡ floor b prefix) × (best ≤ value b prefix leaf)
     × ((order : List ℕ) → IsLegal b.block order → begins prefix order ≡ true → value b prefix leaf ≤ total_of b order)
 ClosedHolds rule b best all prefix (Dominated name) = DominatesByRule rule b name prefix × HasNamed rule all name
-ClosedHolds rule b best all prefix (Next number) = ⊥
-ClosedHolds rule b best all prefix (Turned first second) = ⊥
-ClosedHolds rule b best all prefix (AtLine line) = ⊥
-ClosedHolds rule b best all prefix (LoadFrom after numbers) = ⊥
+ClosedHolds rule b best all prefix (Factual leaf) = ⊥
 
 abbrev pub NodeHolds : Rule → Problem → ℕ → List Node → Node → Type 0
 NodeHolds rule b best all node =

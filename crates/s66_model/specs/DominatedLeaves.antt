@@ -5,23 +5,16 @@ use Rattle.s66_model.specs.declared.rule.Rule.TheVariants.{NoneNamed, WrittenEar
 use Rattle.s66_model.specs.Timing.{Problem}
 use Rattle.s66_model.specs.LegalOrder.{IsIncomplete}
 use Rattle.s66_model.specs.Leaves.{Leaf}
+use Rattle.s66_model.specs.FactLeaves.{FactLeaf, names_none}
 use Rattle.s66_model.specs.Tree.{Siblings, NoMore, Unsplit, Split, Tree, Alone, Parted, Vertex, AtTerminal, AtSplit, TreeHolds, LeafShows}
 use Rattle.s66_model.specs.Dominance.{Dominates, DominatesClamped}
 use Rattle.s66_model.specs.NodeNames.{node_named, is_node}
 
--- what a prefix has that isn't split: a leaf that bounds, or the name of a node that dominates the prefix; or what only the fact lines of a
--- document, or its lines, give a meaning
+-- what a prefix has that isn't split: a leaf that bounds, the name of a node that dominates the prefix, or a leaf by facts
 pub data Ending : Type 0 where
   Bounding : Leaf → Ending
   Dominated : (name : List ℕ) → Ending
-  -- the number came too late if it came next
-  Next : (number : ℕ) → Ending
-  -- the second is placed and the first isn't, which stands before it
-  Turned : (first second : ℕ) → Ending
-  -- the node of this line of the document dominates the prefix
-  AtLine : (line : ℕ) → Ending
-  -- units of one kind do all that these numbers need of them, from a minor cycle on at the soonest
-  LoadFrom : (after : ℕ) (numbers : List ℕ) → Ending
+  Factual : FactLeaf → Ending
 
 -- WHICH NODES MAY BE NAMED
 
@@ -37,10 +30,7 @@ is_standing None = false
 is_standing (Some (AtSplit numbers)) = true
 is_standing (Some (AtTerminal (Bounding leaf))) = true
 is_standing (Some (AtTerminal (Dominated name))) = false
-is_standing (Some (AtTerminal (Next number))) = true
-is_standing (Some (AtTerminal (Turned first second))) = true
-is_standing (Some (AtTerminal (AtLine line))) = false
-is_standing (Some (AtTerminal (LoadFrom after numbers))) = true
+is_standing (Some (AtTerminal (Factual leaf))) = names_none leaf
 
 -- what may be named if this is found
 abbrev pub may_be_named : Rule → Option (Vertex Ending) → Bool
@@ -58,15 +48,12 @@ DominatesByRule ClampedStanding b name at = IsIncomplete b.block at × Dominates
 abbrev pub MayBeDominated : Rule → Problem → List ℕ → Tree Ending → List ℕ → List ℕ → Type 0
 MayBeDominated rule b prefix tree at name = DominatesByRule rule b name at × (may_be_named rule (node_named prefix tree name) ≡ true)
 
--- WHAT A TREE SHOWS over a prefix: dominated leaves are passed over, and without fact lines the later kinds show nothing
+-- WHAT A TREE SHOWS over a prefix: dominated leaves are passed over, and without fact lines a leaf by facts shows nothing
 
 abbrev pub EndingShows : Rule → Problem → ℕ → List ℕ → Tree Ending → List ℕ → Ending → Type 0
 EndingShows rule b low prefix tree at (Bounding leaf) = LeafShows b low at leaf
 EndingShows rule b low prefix tree at (Dominated name) = MayBeDominated rule b prefix tree at name
-EndingShows rule b low prefix tree at (Next number) = ⊥
-EndingShows rule b low prefix tree at (Turned first second) = ⊥
-EndingShows rule b low prefix tree at (AtLine line) = ⊥
-EndingShows rule b low prefix tree at (LoadFrom after numbers) = ⊥
+EndingShows rule b low prefix tree at (Factual leaf) = ⊥
 
 -- as `Shows`, but that a dominated leaf stands at an incomplete prefix
 abbrev pub ShowsBy : Rule → Problem → ℕ → List ℕ → Tree Ending → Type 0

@@ -13,7 +13,8 @@ use Rattle.s66_model.specs.Timing.{Problem, total_of}
 use Rattle.s66_model.specs.LegalOrder.{IsLegal}
 use Rattle.s66_model.specs.Leaves.{value}
 use Rattle.s66_model.specs.Tree.{Tree, Alone, Parted, Siblings, NoMore, Unsplit, Split, splits, TreeHolds}
-use Rattle.s66_model.specs.DominatedLeaves.{Ending, Bounding, Dominated, Next, Turned, AtLine, LoadFrom}
+use Rattle.s66_model.specs.FactLeaves.{names_none}
+use Rattle.s66_model.specs.DominatedLeaves.{Ending, Bounding, Dominated, Factual}
 use Rattle.s66_model.specs.Piece.{Terminal, Carries, Frontier, Passed, IsPiece}
 
 -- NODES
@@ -207,10 +208,7 @@ may_name ClampedStanding Out = true
 may_name ClampedStanding Cut = true
 may_name ClampedStanding (Closed (Bounding leaf)) = true
 may_name ClampedStanding (Closed (Dominated name)) = false
-may_name ClampedStanding (Closed (Next number)) = true
-may_name ClampedStanding (Closed (Turned first second)) = true
-may_name ClampedStanding (Closed (AtLine line)) = false
-may_name ClampedStanding (Closed (LoadFrom after numbers)) = true
+may_name ClampedStanding (Closed (Factual leaf)) = names_none leaf
 
 abbrev pub HasNamed : Rule → List Node → List ℕ → Type 0
 HasNamed rule nodes name = (node : Node) × Among node nodes × (node.prefix ≡ name) × (may_name rule node.state ≡ true)

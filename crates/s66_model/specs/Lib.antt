@@ -31,6 +31,7 @@ pub mod Stated
 pub mod Dominance
 pub mod Digits
 pub mod NodeNames
+pub mod FactLeaves
 pub mod DominatedLeaves
 pub mod Examples
 pub use Rattle.s66_isa.specs.Lists

@@ -3,7 +3,8 @@ use Rattle.std.specs.Prelude.{◌≡◌, ◌+◌, ℕ, Bool, true, false, List, 
 use Rattle.s66_isa.specs.Lists.{weigh}
 use Rattle.s66_model.specs.Leaves.{Whole, Chain, Load, Parcels}
 use Rattle.s66_model.specs.Tree.{Vertex, AtTerminal, AtSplit}
-use Rattle.s66_model.specs.DominatedLeaves.{Ending, Bounding, Dominated, Next, Turned, AtLine, LoadFrom}
+use Rattle.s66_model.specs.DominatedLeaves.{Ending, Bounding, Dominated, Factual}
+use Rattle.s66_model.specs.FactLeaves.{Next, Turned, AtLine, LoadFrom}
 use Rattle.s66_model.specs.declared.lines.Mark.{Mark}
 use Rattle.s66_model.specs.declared.lines.Mark.TheVariants as mark
 
@@ -40,10 +41,10 @@ marked (mark.Chain count) numbers = AtTerminal (Bounding (Chain (take count numb
 marked (mark.Load kind) numbers = AtTerminal (Bounding (Load kind))
 marked mark.Parcels numbers = AtTerminal (Bounding Parcels)
 marked (mark.Dominated count) numbers = AtTerminal (Dominated (take count numbers))
-marked (mark.Next number) numbers = AtTerminal (Next number)
-marked (mark.Turned first second) numbers = AtTerminal (Turned first second)
-marked (mark.AtLine line) numbers = AtTerminal (AtLine line)
-marked (mark.LoadFrom count after) numbers = AtTerminal (LoadFrom after (take count numbers))
+marked (mark.Next number) numbers = AtTerminal (Factual (Next number))
+marked (mark.Turned first second) numbers = AtTerminal (Factual (Turned first second))
+marked (mark.AtLine line) numbers = AtTerminal (Factual (AtLine line))
+marked (mark.LoadFrom count after) numbers = AtTerminal (Factual (LoadFrom after (take count numbers)))
 
 -- the numbers of the lines come one after the other
 abbrev pub vertices_of : List Mark → List ℕ → List (Vertex Ending)

@@ -6,7 +6,7 @@ use Rattle.s66_model.specs.Timing.{Problem}
 use Rattle.s66_model.specs.LegalOrder.{ready}
 use Rattle.s66_model.specs.Leaves.{floor}
 use Rattle.s66_model.specs.Tree.{Siblings, NoMore, Unsplit, Split, Tree, Alone, Parted}
-use Rattle.s66_model.specs.DominatedLeaves.{Ending, Bounding, Dominated, Next, Turned, AtLine, LoadFrom}
+use Rattle.s66_model.specs.DominatedLeaves.{Ending, Bounding, Dominated, Factual}
 use Rattle.s66_model.specs.Ledger.{State, Open, Out, Cut, Closed, Node}
 use Rattle.s66_model.specs.NodeTable.{stands_at, is_cut_at}
 
@@ -37,10 +37,7 @@ state_ending b at Out = Bounding (floor b at)
 state_ending b at Cut = Bounding (floor b at)
 state_ending b at (Closed (Bounding leaf)) = Bounding (floor b at)
 state_ending b at (Closed (Dominated name)) = Dominated name
-state_ending b at (Closed (Next number)) = Bounding (floor b at)
-state_ending b at (Closed (Turned first second)) = Bounding (floor b at)
-state_ending b at (Closed (AtLine line)) = Bounding (floor b at)
-state_ending b at (Closed (LoadFrom after numbers)) = Bounding (floor b at)
+state_ending b at (Closed (Factual leaf)) = Bounding (floor b at)
 
 -- by the first node that is there
 abbrev pub ending_at : Problem → List Node → List ℕ → Ending

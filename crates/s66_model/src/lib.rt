@@ -36,7 +36,7 @@ pub use dominated_leaves::{dominated_examples, dominated_law};
 pub use leaves::{floor_examples, floor_law, leaf_examples, leaf_law};
 pub use legal_order::{beginning_law, order_examples, order_law, same_set_law, source_law};
 pub use limits::{BUDGET_LIMIT, WORKERS_LIMIT};
-pub use lines::{KeptLines, Tree, TreeLine, TreeLines};
+pub use lines::{FactLeaf, KeptLines, Tree, TreeLine, TreeLines};
 pub use machine::{
     Summed, Ticket, account_examples, account_law, best_whole_examples, claim_examples,
     coverage_examples, coverage_law, ended_examples, ended_law, expansion_examples, expansion_law,

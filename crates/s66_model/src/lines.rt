@@ -10,6 +10,19 @@ use s66_isa::Kind;
 use std::alloc::{AllocError, Global};
 use std::marker::Model;
 
+/// What the line of a leaf by facts says.
+#[derive(Clone, Copy)]
+pub enum FactLeaf<'a> {
+    /// The instruction of this number came too late if it came next.
+    Next(u8),
+    /// The second is placed and the first is not, which stands before it.
+    Turned(u8, u8),
+    /// The node of this line of the document, from 1, dominates the prefix.
+    AtLine(u32),
+    /// Units of one kind do all that these numbers need of them, from this minor cycle on at the soonest.
+    LoadFrom(u32, &'a [u8]),
+}
+
 /// What a line of a tree says.
 #[derive(Clone, Copy)]
 pub enum TreeLine<'a> {
@@ -25,14 +38,8 @@ pub enum TreeLine<'a> {
     Parcels,
     /// The node of this name dominates the prefix.
     Dominated(&'a [u8]),
-    /// The instruction of this number came too late if it came next.
-    Next(u8),
-    /// The second is placed and the first is not, which stands before it.
-    Turned(u8, u8),
-    /// The node of this line of the document, from 1, dominates the prefix.
-    AtLine(u32),
-    /// Units of one kind do all that these numbers need of them, from this minor cycle on at the soonest.
-    LoadFrom(u32, &'a [u8]),
+    /// Fact lines of the document, or its lines, close the prefix.
+    Factual(FactLeaf<'a>),
 }
 
 /// What a line of a tree says except its numbers, with how many it has.
@@ -87,10 +94,10 @@ impl Mark {
             Mark::Load(kind) => TreeLine::Load(kind),
             Mark::Parcels => TreeLine::Parcels,
             Mark::Dominated(_) => TreeLine::Dominated(numbers),
-            Mark::Next(number) => TreeLine::Next(number),
-            Mark::Turned(first, second) => TreeLine::Turned(first, second),
-            Mark::AtLine(line) => TreeLine::AtLine(line),
-            Mark::LoadFrom(_, after) => TreeLine::LoadFrom(after, numbers),
+            Mark::Next(number) => TreeLine::Factual(FactLeaf::Next(number)),
+            Mark::Turned(first, second) => TreeLine::Factual(FactLeaf::Turned(first, second)),
+            Mark::AtLine(line) => TreeLine::Factual(FactLeaf::AtLine(line)),
+            Mark::LoadFrom(_, after) => TreeLine::Factual(FactLeaf::LoadFrom(after, numbers)),
         }
     }
 }
@@ -146,7 +153,9 @@ impl Model for KeptLines {
 
 impl KeptLines {
     ghost use Rattle.std.specs.Prelude.{◌≡◌, ◌<◌, ◌+◌, ◌++◌, [], ◌∷◌, drop, length, OnOk, OnErr};
-    ghost use Rattle.s66_model.specs.Lines.{vertex_of, IsShort, has_dominated_line};
+    ghost use Rattle.s66_model.specs.Tree.{AtTerminal};
+    ghost use Rattle.s66_model.specs.DominatedLeaves.{Factual};
+    ghost use Rattle.s66_model.specs.Lines.{fact_leaf_of, vertex_of, IsShort, has_dominated_line};
     ghost use Rattle.s66_model.specs.Marks.{number_count, marked};
 
     /// No lines.
@@ -175,6 +184,22 @@ impl KeptLines {
         Ok(())
     }
 
+    /// Appends the line of a leaf by facts.
+    fn push_fact_leaf(&mut self, leaf: FactLeaf<'_>) -> Result<(), AllocError>
+        requires { IsShort (AtTerminal (Factual (fact_leaf_of leaf))) }
+        ensures pushed { OnOk result (self.new ≡ self.old ++ AtTerminal (Factual (fact_leaf_of leaf.entry)) ∷ []) }
+        ensures same { OnErr result (self.new ≡ self.old) }
+    {
+        match leaf {
+            FactLeaf::Next(number) => self.append(Mark::Next(number), &[]),
+            FactLeaf::Turned(first, second) => self.append(Mark::Turned(first, second), &[]),
+            FactLeaf::AtLine(line) => self.append(Mark::AtLine(line), &[]),
+            FactLeaf::LoadFrom(after, numbers) => {
+                self.append(Mark::LoadFrom(numbers.len() as u8, after), numbers)
+            }
+        }
+    }
+
     /// Appends a line of at most `BLOCK_LIMIT` numbers. If memory is refused, the lines are as before.
     fn push(&mut self, line: TreeLine<'_>) -> Result<(), AllocError>
         requires { IsShort (vertex_of line) }
@@ -190,12 +215,7 @@ impl KeptLines {
             TreeLine::Dominated(numbers) => {
                 self.append(Mark::Dominated(numbers.len() as u8), numbers)
             }
-            TreeLine::Next(number) => self.append(Mark::Next(number), &[]),
-            TreeLine::Turned(first, second) => self.append(Mark::Turned(first, second), &[]),
-            TreeLine::AtLine(line) => self.append(Mark::AtLine(line), &[]),
-            TreeLine::LoadFrom(after, numbers) => {
-                self.append(Mark::LoadFrom(numbers.len() as u8, after), numbers)
-            }
+            TreeLine::Factual(leaf) => self.push_fact_leaf(leaf),
         }
     }
 

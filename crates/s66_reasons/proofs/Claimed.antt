@@ -11,7 +11,8 @@ use Rattle.s66_model.specs.Timing.{Problem}
 use Rattle.s66_model.specs.LegalOrder.{IsBeginning, is_remaining}
 use Rattle.s66_model.specs.Leaves.{Leaf, Whole, Chain, Load, Parcels, IsWalk, IsChain, MayStand, value}
 use Rattle.s66_model.specs.Tree.{Vertex, AtTerminal, AtSplit}
-use Rattle.s66_model.specs.DominatedLeaves.{Ending, Bounding, Dominated, Next, Turned, AtLine, LoadFrom}
+use Rattle.s66_model.specs.DominatedLeaves.{Ending, Bounding, Dominated, Factual}
+use Rattle.s66_model.specs.FactLeaves.{Next, Turned, AtLine, LoadFrom}
 use Rattle.s66_model.proofs.Remaining.{remaining-parts}
 use Rattle.s66_line.specs.InstructionText.{instr_in_text}
 use Rattle.s66_moments.specs.Facts.{IsNumber}
@@ -97,7 +98,7 @@ remain b at known kind bound after time ns left =
     ]
 
 -- some numbers, each of them shown to be so late
-loaded-parts : (d : Document) (at : List ℕ) (after : ℕ) (ns : List ℕ) → line_fault d at (AtTerminal (LoadFrom after ns)) ≡ None →
+loaded-parts : (d : Document) (at : List ℕ) (after : ℕ) (ns : List ℕ) → line_fault d at (AtTerminal (Factual (LoadFrom after ns))) ≡ None →
     (nat_lt 0 (length ns) && are_rising ns ≡ true)
     × (every (is_left (problem_of d) (known_of d) at (kind_of_load (problem_of d) ns) d.bound after (use_time (problem_of d) (kind_of_load (problem_of d) ns) (map (use_of (problem_of d)) ns))) ns ≡ true)
 loaded-parts d at after ns none =
@@ -108,7 +109,7 @@ loaded-parts d at after ns none =
     let all = tested (is_complete b at) (is_loaded b known at d.bound after ns) fault.Place fault.Loaded none in
     and_parts (nat_lt 0 (length ns) && are_rising ns) (every (is_left b known at kind d.bound after time) ns) all
 
-granted-left : (d : Document) (at : List ℕ) (after : ℕ) (ns : List ℕ) → line_fault d at (AtTerminal (LoadFrom after ns)) ≡ None →
+granted-left : (d : Document) (at : List ℕ) (after : ℕ) (ns : List ℕ) → line_fault d at (AtTerminal (Factual (LoadFrom after ns))) ≡ None →
     (0 < length ns) × (length ns ≤ length (problem_of d).block) × (every (is_remaining (problem_of d).block at) ns ≡ true)
 granted-left d at after ns none =
     let b : Problem = problem_of d in
@@ -118,12 +119,12 @@ granted-left d at after ns none =
     let stay = remain b at (known_of d) kind d.bound after (use_time b kind (map (use_of b) ns)) ns parts.1 in
     (ltb-true 0 (length ns) some.0, rising-few b at ns some.1 stay, stay)
 
-pub granted-each : (d : Document) (at : List ℕ) (after : ℕ) (ns : List ℕ) → line_fault d at (AtTerminal (LoadFrom after ns)) ≡ None →
+pub granted-each : (d : Document) (at : List ℕ) (after : ℕ) (ns : List ℕ) → line_fault d at (AtTerminal (Factual (LoadFrom after ns))) ≡ None →
     every (is_left (problem_of d) (known_of d) at (kind_of_load (problem_of d) ns) d.bound after (use_time (problem_of d) (kind_of_load (problem_of d) ns) (map (use_of (problem_of d)) ns))) ns ≡ true
 granted-each d at after ns none = (loaded-parts d at after ns none).1
 
 -- a number that remains, after which the bound is reached
-pub granted-next : (d : Document) (at : List ℕ) (n : ℕ) → line_fault d at (AtTerminal (Next n)) ≡ None →
+pub granted-next : (d : Document) (at : List ℕ) (n : ℕ) → line_fault d at (AtTerminal (Factual (Next n))) ≡ None →
     (is_remaining (problem_of d).block at n ≡ true) × (nat_le d.bound (next_value (problem_of d) (known_of d) at n) ≡ true)
 granted-next d at n none =
     let b : Problem = problem_of d in
@@ -131,7 +132,7 @@ granted-next d at n none =
     let reaches = nat_le d.bound (next_value b (known_of d) at n) in
     and_parts stays reaches (tested (is_complete b at) (stays && reaches) fault.Place fault.Event none)
 
-pub granted-turned : (d : Document) (at : List ℕ) (m n : ℕ) → line_fault d at (AtTerminal (Turned m n)) ≡ None → is_turned (problem_of d) (known_of d) at m n ≡ true
+pub granted-turned : (d : Document) (at : List ℕ) (m n : ℕ) → line_fault d at (AtTerminal (Factual (Turned m n))) ≡ None → is_turned (problem_of d) (known_of d) at m n ≡ true
 granted-turned d at m n none = tested (is_complete (problem_of d) at) (is_turned (problem_of d) (known_of d) at m n) fault.Place fault.Pair none
 
 turned-numbers : (d : Document) (at : List ℕ) (m n : ℕ) → is_turned (problem_of d) (known_of d) at m n ≡ true → IsNumber (problem_of d) m × IsNumber (problem_of d) n
@@ -167,11 +168,11 @@ granted-line d at (AtTerminal (Bounding (Chain numbers))) right among =
 granted-line d at (AtTerminal (Bounding (Load kind))) right among = tt
 granted-line d at (AtTerminal (Bounding Parcels)) right among = tt
 granted-line d at (AtTerminal (Dominated name)) right among = tt
-granted-line d at (AtTerminal (Next n)) right among =
-    let (low, high, new) = remaining-parts (problem_of d).block at n (granted-next d at n (right-each d at (Next n) right.lines among).1).0 in
+granted-line d at (AtTerminal (Factual (Next n))) right among =
+    let (low, high, new) = remaining-parts (problem_of d).block at n (granted-next d at n (right-each d at (Factual (Next n)) right.lines among).1).0 in
     (low, high)
-granted-line d at (AtTerminal (Turned m n)) right among = turned-numbers d at m n (granted-turned d at m n (right-each d at (Turned m n) right.lines among).1)
-granted-line d at (AtTerminal (AtLine line)) right among = tt
-granted-line d at (AtTerminal (LoadFrom after ns)) right among =
-    let parts = granted-left d at after ns (right-each d at (LoadFrom after ns) right.lines among).1 in
+granted-line d at (AtTerminal (Factual (Turned m n))) right among = turned-numbers d at m n (granted-turned d at m n (right-each d at (Factual (Turned m n)) right.lines among).1)
+granted-line d at (AtTerminal (Factual (AtLine line))) right among = tt
+granted-line d at (AtTerminal (Factual (LoadFrom after ns))) right among =
+    let parts = granted-left d at after ns (right-each d at (Factual (LoadFrom after ns)) right.lines among).1 in
     (parts.0, omega (arith, parts.1, right.document.block.1, length-map d.block instr_in_text), parts.2)

@@ -1,7 +1,8 @@
 -- Used by examples alone: a document with fact lines and a longest path.
 use Rattle.std.specs.Prelude.{[], ◌∷◌, codes}
 use Rattle.s66_model.specs.Tree.{Alone}
-use Rattle.s66_model.specs.DominatedLeaves.{Next}
+use Rattle.s66_model.specs.DominatedLeaves.{Factual}
+use Rattle.s66_model.specs.FactLeaves.{Next}
 use Rattle.s66_moments.specs.declared.fact_line.FactLine.TheVariants.{Pair}
 use Rattle.s66_cert.specs.Document.{Document}
 use Rattle.s66_checker.specs.Examples.{with_facts}
@@ -9,4 +10,4 @@ use Rattle.s66_checker.specs.Examples.{with_facts}
 -- 1 stands before 3, which needs its unit, only by both lines
 abbrev pub shifts_in_turn : Document
 shifts_in_turn =
-    with_facts (codes "LX1 5" ∷ codes "BX2 X3" ∷ codes "LX4 5" ∷ []) (1 ∷ 2 ∷ 3 ∷ []) 8 5 (Pair 1 2 ∷ Pair 2 3 ∷ []) (Alone (Next 1))
+    with_facts (codes "LX1 5" ∷ codes "BX2 X3" ∷ codes "LX4 5" ∷ []) (1 ∷ 2 ∷ 3 ∷ []) 8 5 (Pair 1 2 ∷ Pair 2 3 ∷ []) (Alone (Factual (Next 1)))

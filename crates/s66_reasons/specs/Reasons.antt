@@ -8,7 +8,8 @@ use Rattle.s66_model.specs.Timing.{Problem, copies, next, points_of, row_at, tot
 use Rattle.s66_model.specs.LegalOrder.{is_remaining, remaining, sum_remaining}
 use Rattle.s66_model.specs.Leaves.{Whole, Chain, Load, Parcels, if_last, load, rest_busy, tail, work_of}
 use Rattle.s66_model.specs.Tree.{Tree, Vertex, AtTerminal, AtSplit, flat, splits}
-use Rattle.s66_model.specs.DominatedLeaves.{Ending, Bounding, Dominated, Next, Turned, AtLine, LoadFrom}
+use Rattle.s66_model.specs.DominatedLeaves.{Ending, Bounding, Dominated, Factual}
+use Rattle.s66_model.specs.FactLeaves.{Next, Turned, AtLine, LoadFrom}
 use Rattle.s66_cert.specs.Document.{Document, has_factual, tree_placed}
 use Rattle.s66_moments.specs.declared.moment.Stage.TheVariants.{Issue}
 use Rattle.s66_moments.specs.declared.moment.Moment.TheVariants.{Origin, At, End}
@@ -133,19 +134,19 @@ leaf_rows d at (Bounding (Chain ns)) = chain_rows d at ns
 leaf_rows d at (Bounding (Load kind)) = load_row d at kind ∷ []
 leaf_rows d at (Bounding Parcels) = map (last_row d at) (remaining (problem_of d).block at)
 leaf_rows d at (Dominated name) = []
-leaf_rows d at (Next n) = next_rows d n
-leaf_rows d at (Turned first second) = []
-leaf_rows d at (AtLine line) = []
-leaf_rows d at (LoadFrom after ns) = left_row d after ns ∷ []
+leaf_rows d at (Factual (Next n)) = next_rows d n
+leaf_rows d at (Factual (Turned first second)) = []
+leaf_rows d at (Factual (AtLine line)) = []
+leaf_rows d at (Factual (LoadFrom after ns)) = left_row d after ns ∷ []
 
 -- its rows, or without a number why it is turned
 abbrev pub leaf_text : Document → List ℕ → Ending → List ℕ
 leaf_text d at (Bounding leaf) = rows_text (leaf_rows d at (Bounding leaf))
 leaf_text d at (Dominated name) = []
-leaf_text d at (Next n) = rows_text (leaf_rows d at (Next n))
-leaf_text d at (Turned first second) = turned_text d first second
-leaf_text d at (AtLine line) = []
-leaf_text d at (LoadFrom after ns) = rows_text (leaf_rows d at (LoadFrom after ns))
+leaf_text d at (Factual (Next n)) = rows_text (leaf_rows d at (Factual (Next n)))
+leaf_text d at (Factual (Turned first second)) = turned_text d first second
+leaf_text d at (Factual (AtLine line)) = []
+leaf_text d at (Factual (LoadFrom after ns)) = rows_text (leaf_rows d at (Factual (LoadFrom after ns)))
 
 -- A TREE
 
@@ -172,10 +173,10 @@ abbrev pub is_line_said : (splits : ℕ) → Vertex Ending → Bool
 is_line_said splits (AtSplit numbers) = true
 is_line_said splits (AtTerminal (Bounding leaf)) = true
 is_line_said splits (AtTerminal (Dominated name)) = false
-is_line_said splits (AtTerminal (Next number)) = splits == 0
-is_line_said splits (AtTerminal (Turned first second)) = true
-is_line_said splits (AtTerminal (AtLine line)) = false
-is_line_said splits (AtTerminal (LoadFrom after numbers)) = true
+is_line_said splits (AtTerminal (Factual (Next number))) = splits == 0
+is_line_said splits (AtTerminal (Factual (Turned first second))) = true
+is_line_said splits (AtTerminal (Factual (AtLine line))) = false
+is_line_said splits (AtTerminal (Factual (LoadFrom after numbers))) = true
 
 -- a tree of few splits is said leaf by leaf, if each can be said
 abbrev pub is_said : Tree Ending → Bool

@@ -6,7 +6,8 @@ use Rattle.s66_model.specs.Timing.{Problem}
 use Rattle.s66_model.specs.LegalOrder.{IsBeginning, is_remaining}
 use Rattle.s66_model.specs.Leaves.{Whole, Chain, Load, Parcels}
 use Rattle.s66_model.specs.Tree.{TreeHolds, Vertex, AtTerminal, AtSplit}
-use Rattle.s66_model.specs.DominatedLeaves.{Ending, Bounding, Dominated, Next, Turned, AtLine, LoadFrom}
+use Rattle.s66_model.specs.DominatedLeaves.{Ending, Bounding, Dominated, Factual}
+use Rattle.s66_model.specs.FactLeaves.{Next, Turned, AtLine, LoadFrom}
 use Rattle.s66_moments.specs.declared.fact_line.LoadLine.{LoadLine}
 use Rattle.s66_moments.specs.declared.moment.Moment.{Moment}
 use Rattle.s66_moments.specs.declared.moment.Moment.TheVariants.{Origin, At, End}
@@ -49,10 +50,10 @@ IsGranted d at (AtTerminal (Bounding (Chain numbers))) = (1 ≤ length numbers) 
 IsGranted d at (AtTerminal (Bounding (Load kind))) = Unit {0}
 IsGranted d at (AtTerminal (Bounding Parcels)) = Unit {0}
 IsGranted d at (AtTerminal (Dominated name)) = Unit {0}
-IsGranted d at (AtTerminal (Next number)) = IsNumber (problem_of d) number
-IsGranted d at (AtTerminal (Turned first second)) = IsNumber (problem_of d) first × IsNumber (problem_of d) second
-IsGranted d at (AtTerminal (AtLine line)) = Unit {0}
-IsGranted d at (AtTerminal (LoadFrom after numbers)) =
+IsGranted d at (AtTerminal (Factual (Next number))) = IsNumber (problem_of d) number
+IsGranted d at (AtTerminal (Factual (Turned first second))) = IsNumber (problem_of d) first × IsNumber (problem_of d) second
+IsGranted d at (AtTerminal (Factual (AtLine line))) = Unit {0}
+IsGranted d at (AtTerminal (Factual (LoadFrom after numbers))) =
     (0 < length numbers) × (length numbers ≤ BLOCK_LIMIT) × (every (is_remaining (problem_of d).block at) numbers ≡ true)
 
 -- an arc from e to f, with a load that may be there too

@@ -3,7 +3,8 @@
 ghost use Rattle.std.specs.Prelude.{ℕ, List, ◌≡◌, true};
 ghost use Rattle.s66_model.specs.Leaves.{Leaf};
 ghost use Rattle.s66_model.specs.Tree.{Alone};
-ghost use Rattle.s66_model.specs.DominatedLeaves.{Bounding, LoadFrom, Next, Turned};
+ghost use Rattle.s66_model.specs.DominatedLeaves.{Bounding, Factual};
+ghost use Rattle.s66_model.specs.FactLeaves.{Next, Turned, LoadFrom};
 ghost use Rattle.s66_moments.specs.Facts.{IsNumber};
 ghost use Rattle.s66_moments.specs.Known.{is_turned};
 ghost use Rattle.s66_moments.specs.declared.fact_line.FactStep.{FactStep};
@@ -27,7 +28,7 @@ pub fn reasons_law()
         IsDocument limit d → verdict d ≡ Yes time bound → IsLeafAt d at (Bounding leaf) →
         IsReached (problem_of d) at bound (end_by leaf (leaf_rows d at (Bounding leaf))) }
     ensures next { (limit : ℕ) (d : Document) (time bound n : ℕ) → IsDocument limit d → verdict d ≡ Yes time bound →
-        d.tree ≡ Alone (Next n) → IsPathShown d bound n }
+        d.tree ≡ Alone (Factual (Next n)) → IsPathShown d bound n }
     ensures supposed { (d : Document) (front : List FactStep) → are_steps_taken (problem_of d) d.bound
         (standing_first (problem_of d)) front ≡ true → HoldsIn d (standing_after (standing_first (problem_of d)) front) }
     ensures refuted { (d : Document) (front : List FactStep) → are_steps_taken (problem_of d) d.bound
@@ -36,9 +37,9 @@ pub fn reasons_law()
         IsRefutedIn d (standing_after (standing_first (problem_of d)) front) }
     ensures no_sooner { (d : Document) (n : ℕ) → AreTaken d → IsNumber (problem_of d) n → HasNoneSooner d n }
     ensures left { (limit : ℕ) (d : Document) (time bound : ℕ) (at : List ℕ) (after : ℕ) (ns : List ℕ) →
-        IsDocument limit d → verdict d ≡ Yes time bound → IsLeafAt d at (LoadFrom after ns) →
+        IsDocument limit d → verdict d ≡ Yes time bound → IsLeafAt d at (Factual (LoadFrom after ns)) →
         IsLoadShown d at bound after ns }
     ensures turned { (limit : ℕ) (d : Document) (time bound : ℕ) (at : List ℕ) (m n : ℕ) →
-        IsDocument limit d → verdict d ≡ Yes time bound → IsLeafAt d at (Turned m n) →
+        IsDocument limit d → verdict d ≡ Yes time bound → IsLeafAt d at (Factual (Turned m n)) →
         is_turned (problem_of d) (known_of d) at m n ≡ true }
 {}

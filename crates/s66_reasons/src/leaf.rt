@@ -1,13 +1,15 @@
 //! What is said of a leaf at its prefix.
 //! That depends on its kind: a whole order, a chain, a load, parcels, or by facts.
 
-ghost use Rattle.std.specs.Prelude.{◌≡◌, ◌++◌, true, false, IfNone, IfSome, OnOk};
+ghost use Rattle.std.specs.Prelude.{◌≡◌, ◌++◌, false, IfNone, IfSome, OnOk};
 ghost use Rattle.s66_moments.specs.Facts.{IsNumber};
-ghost use Rattle.s66_model.specs.Lines.{vertex_of};
+ghost use Rattle.s66_model.specs.Tree.{AtTerminal};
+ghost use Rattle.s66_model.specs.DominatedLeaves.{Factual};
+ghost use Rattle.s66_model.specs.Lines.{fact_leaf_of, vertex_of};
 ghost use Rattle.s66_cert.specs.Document.{is_factual};
 ghost use Rattle.s66_cert.specs.DocumentParts.{document_of};
 ghost use Rattle.s66_checker.specs.Verdict.{problem_of};
-ghost use Rattle.s66_reasons.specs.Reasons.{issue_row, left_row, next_rows, turned_text, whole_row};
+ghost use Rattle.s66_reasons.specs.Reasons.{issue_row, leaf_text, left_row, next_rows, turned_text, whole_row};
 ghost use Rattle.s66_reasons.specs.Words.{row_text, rows_text};
 ghost use Rattle.s66_reasons.specs.Within.{AreLoaded, IsGranted, vertex_text};
 
@@ -16,11 +18,10 @@ use crate::facts::{load_end, push_load_sentence};
 use crate::known_paths::KnownPaths;
 use crate::parcels::push_parcels;
 use crate::path::push_by;
-use crate::tree::is_factual;
 use crate::units::push_load;
 use crate::words::{push_around, push_number};
 use crate::work::Work;
-use s66_cert::{Document, TreeLine};
+use s66_cert::{Document, FactLeaf, TreeLine};
 use s66_checker::Prefix;
 use s66_moments::Moment;
 use std::alloc::AllocError;
@@ -98,51 +99,20 @@ fn push_factual(
     out: &mut Vec<u8>,
     known: &KnownPaths<'_>,
     prefix: &Prefix,
-    line: TreeLine<'_>,
+    leaf: FactLeaf<'_>,
 ) -> Result<(), AllocError>
     requires same { prefix.now.problem ≡ problem_of (document_of known.now) }
-    requires granted { IsGranted (document_of known.now) prefix.now.numbers (vertex_of line) }
-    requires factual { is_factual (vertex_of line) ≡ true }
+    requires granted { IsGranted (document_of known.now) prefix.now.numbers (AtTerminal (Factual (fact_leaf_of leaf))) }
     ensures { OnOk result (out.new.items ≡ out.old.items ++
-        vertex_text (document_of known.now) prefix.now.numbers (vertex_of line.entry)) }
+        leaf_text (document_of known.now) prefix.now.numbers (Factual (fact_leaf_of leaf.entry))) }
 {
-    match line {
-        TreeLine::Next(n) => push_path(out, known, n),
-        TreeLine::Turned(m, n) => push_turned(out, known, m, n),
-        TreeLine::LoadFrom(after, numbers) => {
+    match leaf {
+        FactLeaf::Next(n) => push_path(out, known, n),
+        FactLeaf::Turned(m, n) => push_turned(out, known, m, n),
+        FactLeaf::LoadFrom(after, numbers) => {
             push_left_row(out, known.document, prefix, after, numbers)
         }
-        TreeLine::AtLine(_) => Ok(()),
-        TreeLine::Split(_)
-        | TreeLine::Whole
-        | TreeLine::Chain(_)
-        | TreeLine::Load(_)
-        | TreeLine::Parcels
-        | TreeLine::Dominated(_) => unreachable!(),
-    }
-}
-
-/// What is said of any other leaf at its prefix.
-fn push_bounding(
-    out: &mut Vec<u8>,
-    document: &Document,
-    prefix: &Prefix,
-    line: TreeLine<'_>,
-) -> Result<(), AllocError>
-    requires same { prefix.now.problem ≡ problem_of (document_of document.now) }
-    requires granted { IsGranted (document_of document.now) prefix.now.numbers (vertex_of line) }
-    requires factual { is_factual (vertex_of line) ≡ false }
-    ensures { OnOk result (out.new.items ≡ out.old.items ++
-        vertex_text (document_of document.now) prefix.now.numbers (vertex_of line.entry)) }
-{
-    match line {
-        TreeLine::Whole => push_whole(out, document, prefix),
-        TreeLine::Chain(numbers) => push_chain(out, document, prefix, numbers),
-        TreeLine::Load(kind) => push_load(out, document, prefix, kind),
-        TreeLine::Parcels => push_parcels(out, document, prefix),
-        TreeLine::Split(_) | TreeLine::Dominated(_) => Ok(()),
-        TreeLine::Next(_) | TreeLine::Turned(..) | TreeLine::LoadFrom(..) | TreeLine::AtLine(_) =>
-            unreachable!(),
+        FactLeaf::AtLine(_) => Ok(()),
     }
 }
 
@@ -161,9 +131,15 @@ pub(crate) fn push_leaf(
     ensures { OnOk result (out.new.items ≡ out.old.items ++
         vertex_text (document_of document.now) prefix.now.numbers (vertex_of line.entry)) }
 {
-    if !is_factual(&line) {
-        return push_bounding(out, document, prefix, line);
+    match line {
+        TreeLine::Whole => push_whole(out, document, prefix),
+        TreeLine::Chain(numbers) => push_chain(out, document, prefix, numbers),
+        TreeLine::Load(kind) => push_load(out, document, prefix, kind),
+        TreeLine::Parcels => push_parcels(out, document, prefix),
+        TreeLine::Split(_) | TreeLine::Dominated(_) => Ok(()),
+        TreeLine::Factual(leaf) => {
+            let Some(known) = known else { unreachable!() };
+            push_factual(out, known, prefix, leaf)
+        }
     }
-    let Some(known) = known else { unreachable!() };
-    push_factual(out, known, prefix, line)
 }

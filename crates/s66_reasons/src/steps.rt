@@ -3,14 +3,14 @@
 ghost use Rattle.std.specs.Prelude.{◌≡◌, ◌++◌, [], ◌∷◌, true, IfOk, IfSome, OnOk};
 ghost use Rattle.s66_isa.specs.Table.{numbers};
 ghost use Rattle.s66_moments.specs.Facts.{IsNumber};
-ghost use Rattle.s66_moments.specs.Known.{arcs_of, plus, reaches};
-ghost use Rattle.s66_moments.specs.Suppositions.{is_late_through, is_step_taken, standing_first};
+ghost use Rattle.s66_moments.specs.Known.{arcs_of};
+ghost use Rattle.s66_moments.specs.Suppositions.{is_step_taken, standing_first};
 ghost use Rattle.s66_facts.specs.Ground.{known_of as known_in};
 ghost use Rattle.s66_facts.specs.Supposing.{standing_in};
 ghost use Rattle.s66_cert.specs.DocumentParts.{document_of};
 ghost use Rattle.s66_checker.specs.KeptKnown.{KnowsAll};
 ghost use Rattle.s66_checker.specs.Verdict.{facts_of, problem_of};
-ghost use Rattle.s66_reasons.specs.FactWords.{comes_words, facts_from, late_number, margin, numbered_step, refuted_sentence, refuted_words, step_sentence, suppose_sentence, through_words, to_show, too_late_words};
+ghost use Rattle.s66_reasons.specs.FactWords.{comes_words, facts_from, late_number, margin, numbered_step, refuted_sentence, refuted_words, suppose_sentence, through_words, to_show, too_late_words};
 ghost use Rattle.s66_reasons.specs.Within.{AreBegun};
 
 use crate::facts::{push_fact, push_pair_words, push_rest};
@@ -18,7 +18,7 @@ use crate::left::to_show_after;
 use crate::words::{push_around, push_between};
 use s66_cert::Document;
 use s66_checker::{Prefix, fact_lines};
-use s66_facts::{Facts, Supposing};
+use s66_facts::{Facts, Supposing, reaches_both};
 use s66_moments::FactStep;
 use std::alloc::AllocError;
 
@@ -45,34 +45,14 @@ fn push_comes(
     push_rest(out, bound, soonest)
 }
 
-/// Whether two paths, one after the other, reach the bound.
-fn reaches_both(bound: u32, head: Option<u64>, tail: Option<u64>) -> bool
-    ensures { result ≡ reaches bound (plus head tail) }
-{
-    match (head, tail) {
-        (Some(head), Some(tail)) => (bound as u64).saturating_sub(head) <= tail,
-        _ => false,
-    }
-}
-
-/// Whether the longest path through the issue or the start of n does.
-fn is_late_through(facts: &Facts, bound: u32, n: u8) -> bool
-    requires { IsNumber facts.now.problem n }
-    ensures { result ≡ is_late_through facts.now.problem (arcs_of facts.now.problem (known_in facts.now)) bound n }
-{
-    let head = facts.head(n);
-    let tail = facts.tail(n);
-    reaches_both(bound, head.issue, tail.issue) || reaches_both(bound, head.start, tail.start)
-}
-
-/// The first number of the block of which that is so.
+/// The first number of the block through whose issue or start the longest path reaches the bound.
 fn some_late(facts: &Facts, bound: u32) -> Option<u8>
     ensures value { result ≡ late_number facts.now.problem (arcs_of facts.now.problem (known_in facts.now)) bound
         (numbers facts.now.problem.block) }
     ensures number { IfSome result (λ n. IsNumber facts.now.problem n) }
 {
     for position in 0..facts.count() {
-        if is_late_through(facts, bound, position + 1) {
+        if facts.is_late_through(bound, position + 1) {
             return Some(position + 1);
         }
     }
@@ -86,7 +66,7 @@ fn late_number(facts: &Facts, bound: u32, n: u8) -> Option<u8>
         (n ∷ numbers facts.now.problem.block) }
     ensures number { IfSome result (λ n. IsNumber facts.now.problem n) }
 {
-    if is_late_through(facts, bound, n) {
+    if facts.is_late_through(bound, n) {
         Some(n)
     } else {
         some_late(facts, bound)
@@ -161,32 +141,6 @@ fn push_refuted(
     }
 }
 
-/// A line that is right by what is known before it.
-fn push_step(
-    out: &mut Vec<u8>,
-    document: &Document,
-    prefix: &Prefix,
-    supposing: &Supposing,
-    shows: Option<(u8, u8)>,
-    step: &FactStep,
-) -> Result<(), AllocError>
-    requires same { prefix.now.problem ≡ supposing.now.ground.problem }
-    requires start { prefix.now.numbers ≡ [] }
-    requires problem { supposing.now.ground.problem ≡ problem_of (document_of document.now) }
-    requires shows { shows ≡ to_show (standing_in supposing.now) }
-    requires number { IfSome shows (λ pair. IsNumber supposing.now.ground.problem pair.0) }
-    requires taken { is_step_taken (problem_of (document_of document.now)) (document_of document.now).bound
-        (standing_in supposing.now) step.now ≡ true }
-    ensures { OnOk result (out.new.items ≡ out.old.items ++
-        step_sentence (document_of document.now) (standing_in supposing.now) step.now) }
-{
-    match step {
-        FactStep::Fact(line) => push_fact(out, document, prefix, supposing.facts(), line),
-        FactStep::Suppose(first, second) => push_suppose(out, document, *first, *second),
-        FactStep::Refuted => push_refuted(out, document, supposing.facts(), shows),
-    }
-}
-
 /// What comes before its number: a fact line within a supposition stands further in.
 fn margin(to_show: Option<(u8, u8)>, step: &FactStep) -> &'static [u8]
     ensures { result.now ≡ margin to_show step.now }
@@ -200,7 +154,7 @@ fn margin(to_show: Option<(u8, u8)>, step: &FactStep) -> &'static [u8]
     }
 }
 
-/// The line with its number.
+/// A line that is right by what is known before it, with its number.
 fn push_numbered(
     out: &mut Vec<u8>,
     document: &Document,
@@ -221,7 +175,11 @@ fn push_numbered(
         numbered_step (document_of document.now) (standing_in supposing.now) number step.now) }
 {
     push_between(out, margin(shows, step), number, b". ")?;
-    push_step(out, document, prefix, supposing, shows, step)?;
+    match step {
+        FactStep::Fact(line) => push_fact(out, document, prefix, supposing.facts(), line)?,
+        FactStep::Suppose(first, second) => push_suppose(out, document, *first, *second)?,
+        FactStep::Refuted => push_refuted(out, document, supposing.facts(), shows)?,
+    }
     out.extend_from_slice(b"\n")
 }
 

@@ -10,7 +10,7 @@ ghost use Rattle.s66_cert.specs.DocumentParts.{document_of};
 ghost use Rattle.s66_reasons.specs.Reasons.{is_line_said, is_said};
 ghost use Rattle.s66_reasons.specs.Within.{is_split};
 
-use s66_cert::{Document, TreeLine, TreeLines};
+use s66_cert::{Document, FactLeaf, TreeLine, TreeLines};
 
 /// The most splits of a tree that is said leaf by leaf.
 pub(crate) const SAID_SPLITS: usize = 3;
@@ -48,15 +48,9 @@ fn is_line_said(line: &TreeLine<'_>, count: usize) -> bool
     ensures { result ≡ is_line_said count (vertex_of line.now) }
 {
     match line {
-        TreeLine::Split(_)
-        | TreeLine::Whole
-        | TreeLine::Chain(_)
-        | TreeLine::Load(_)
-        | TreeLine::Parcels
-        | TreeLine::Turned(..)
-        | TreeLine::LoadFrom(..) => true,
-        TreeLine::Next(_) => count == 0,
-        TreeLine::Dominated(_) | TreeLine::AtLine(_) => false,
+        TreeLine::Factual(FactLeaf::Next(_)) => count == 0,
+        TreeLine::Dominated(_) | TreeLine::Factual(FactLeaf::AtLine(_)) => false,
+        _ => true,
     }
 }
 
@@ -81,19 +75,10 @@ pub(crate) fn is_said(document: &Document, count: usize) -> bool
 }
 
 /// Whether a line is a leaf by facts.
-pub(crate) fn is_factual(line: &TreeLine<'_>) -> bool
+fn is_factual(line: &TreeLine<'_>) -> bool
     ensures { result ≡ is_factual (vertex_of line.now) }
 {
-    match line {
-        TreeLine::Split(_)
-        | TreeLine::Whole
-        | TreeLine::Chain(_)
-        | TreeLine::Load(_)
-        | TreeLine::Parcels
-        | TreeLine::Dominated(_) => false,
-        TreeLine::Next(_) | TreeLine::Turned(..) | TreeLine::AtLine(_) | TreeLine::LoadFrom(..) =>
-            true,
-    }
+    matches!(line, TreeLine::Factual(_))
 }
 
 /// Whether one of these lines is.

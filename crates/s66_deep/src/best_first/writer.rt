@@ -9,7 +9,7 @@ use crate::best_first::nodes::{Fate, Node, Nodes, ROOT};
 use crate::best_first::trail::Trail;
 use crate::walk::Prefix;
 use s66_isa::BLOCK_LIMIT;
-use s66_model::{Tree, TreeLine};
+use s66_model::{FactLeaf, Tree, TreeLine};
 use std::alloc::{AllocError, Global};
 
 /// How many lines the tree of each node has.
@@ -119,7 +119,7 @@ impl Leaves<'_> {
         else {
             return Ok(false);
         };
-        tree.push(TreeLine::LoadFrom(load.after, load.numbers.as_slice()))?;
+        tree.push(TreeLine::Factual(FactLeaf::LoadFrom(load.after, load.numbers.as_slice())))?;
         Ok(true)
     }
 }
@@ -151,11 +151,12 @@ impl Writer<'_, '_> {
                 self.tree.push(TreeLine::Split(numbers.as_slice()))?;
             }
             Fate::Turned(missing) => {
-                self.tree.push(TreeLine::Turned(missing, node.number))?;
+                let leaf = FactLeaf::Turned(missing, node.number);
+                self.tree.push(TreeLine::Factual(leaf))?;
             }
             Fate::Dominated { floor, .. } if u32::from(floor) < self.leaves.low => {
                 let line = self.line_of(index);
-                self.tree.push(TreeLine::AtLine(line))?;
+                self.tree.push(TreeLine::Factual(FactLeaf::AtLine(line)))?;
             }
             Fate::Open | Fate::Closed | Fate::Dominated { .. } => {
                 if !trail.go_to(self.nodes, index) {

@@ -1,7 +1,7 @@
 //! The arcs of a block, from each node and to each.
 
 use crate::facts::network::{Arc, Network};
-use crate::facts::nodes::{NODE_COUNT, Times, lift, number_at, time_at};
+use crate::facts::nodes::{NODE_COUNT, Times, number_at, raise, time_at};
 use s66_isa::Set;
 use std::alloc::{AllocError, Global};
 
@@ -62,7 +62,7 @@ impl Fan {
     }
 
     /// Makes times as long as the arcs from a node ask for, and returns the numbers of which some grew.
-    pub(crate) fn lift_from(&self, times: &mut Times, node: usize) -> Set {
+    pub(crate) fn raise_from(&self, times: &mut Times, node: usize) -> Set {
         let mut grown = Set::empty();
         let Some(time) = time_at(times, node) else {
             return grown;
@@ -75,7 +75,7 @@ impl Fan {
             let Some(link) = self.links.get(place) else {
                 break;
             };
-            if lift(times, link.arc.to, time.saturating_add(link.arc.wait)) {
+            if raise(times, link.arc.to, time.saturating_add(link.arc.wait)) {
                 grown = number_at(grown, link.arc.to);
             }
             place = link.next;

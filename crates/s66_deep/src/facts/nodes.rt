@@ -47,19 +47,9 @@ pub(crate) fn time_at(times: &[Option<u32>], place: usize) -> Option<u32> {
     }
 }
 
-/// There is a path so long at a place.
-pub(crate) fn raise(times: &mut [Option<u32>], place: usize, time: u32) {
-    if place < times.len() {
-        times[place] = match times[place] {
-            None => Some(time),
-            Some(own) => Some(own.max(time)),
-        };
-    }
-}
-
 /// Makes the path at a place so long at least, and returns whether it grew.
-pub(crate) fn lift(times: &mut Times, place: usize, time: u32) -> bool {
-    if place >= NODE_COUNT {
+pub(crate) fn raise(times: &mut [Option<u32>], place: usize, time: u32) -> bool {
+    if place >= times.len() {
         return false;
     }
     match times[place] {

@@ -4,7 +4,7 @@
 use crate::facts::arcs::{Arcs, Fan};
 use crate::facts::ground::Ground;
 use crate::facts::network::Paths;
-use crate::facts::nodes::{Times, first, free, issue, lift, number_at, second, start, time_at};
+use crate::facts::nodes::{Times, first, free, issue, number_at, raise, second, start, time_at};
 use crate::facts::pairs::is_late;
 use crate::facts::precedence::{Precedence, joined, set_of};
 use s66_isa::{BLOCK_LIMIT, Set};
@@ -79,14 +79,14 @@ fn parcels_of(ground: &Ground, n: u8) -> u32 {
 fn lift_by(fan: &Fan, times: &mut Times, stages: [usize; 5], all: Set) -> Set {
     let mut grown = Set::empty();
     for node in stages {
-        grown = joined(all, grown, fan.lift_from(times, node));
+        grown = joined(all, grown, fan.raise_from(times, node));
     }
     grown
 }
 
 /// Makes the paths to these numbers as long as n before them asks for, by parcels or by the only unit of their kind, and returns those
 /// whose paths grew.
-fn lift_after(ground: &Ground, heads: &mut Times, n: u8, those: Set) -> Set {
+fn raise_after(ground: &Ground, heads: &mut Times, n: u8, those: Set) -> Set {
     let mut grown = Set::empty();
     let Some(time) = time_at(heads, issue(n)) else {
         return grown;
@@ -101,7 +101,7 @@ fn lift_after(ground: &Ground, heads: &mut Times, n: u8, those: Set) -> Set {
         } else {
             by_parcels
         };
-        if lift(heads, issue(m), time) {
+        if raise(heads, issue(m), time) {
             grown = grown.with(m);
         }
     }
@@ -109,7 +109,7 @@ fn lift_after(ground: &Ground, heads: &mut Times, n: u8, those: Set) -> Set {
 }
 
 /// The same of the paths from these numbers, before n.
-fn lift_before(ground: &Ground, tails: &mut Times, n: u8, those: Set) -> Set {
+fn raise_before(ground: &Ground, tails: &mut Times, n: u8, those: Set) -> Set {
     let mut grown = Set::empty();
     let Some(time) = time_at(tails, issue(n)) else {
         return grown;
@@ -117,9 +117,9 @@ fn lift_before(ground: &Ground, tails: &mut Times, n: u8, those: Set) -> Set {
     let mates = mates_of(ground, n);
     let mut rest = those;
     while let Some(m) = rest.pop_first() {
-        let is_free = mates.has(m) && lift(tails, free(m), time);
+        let is_free = mates.has(m) && raise(tails, free(m), time);
         let by_parcels = time.saturating_add(parcels_of(ground, m));
-        if lift(tails, issue(m), by_parcels) || is_free {
+        if raise(tails, issue(m), by_parcels) || is_free {
             grown = grown.with(m);
         }
     }
@@ -189,13 +189,13 @@ impl Selection {
     /// Adds the wait of an arc, which is among the arcs.
     pub(crate) fn wait(&mut self, from: usize, wait: u32, to: usize) {
         if let Some(time) = time_at(&self.paths.heads, from)
-            && lift(&mut self.paths.heads, to, time.saturating_add(wait))
+            && raise(&mut self.paths.heads, to, time.saturating_add(wait))
         {
             self.open.heads = number_at(self.open.heads, to);
             self.grown.heads = number_at(self.grown.heads, to);
         }
         if let Some(time) = time_at(&self.paths.tails, to)
-            && lift(&mut self.paths.tails, from, time.saturating_add(wait))
+            && raise(&mut self.paths.tails, from, time.saturating_add(wait))
         {
             self.open.tails = number_at(self.open.tails, from);
             self.grown.tails = number_at(self.grown.tails, from);
@@ -213,7 +213,7 @@ impl Selection {
             let stages = [issue(n), start(n), first(n), second(n), free(n)];
             let by_arcs = lift_by(&arcs.onward, heads, stages, self.all);
             let new = set_of(&self.after, n).without(&set_of(&self.old_after, n));
-            let by_pairs = lift_after(ground, heads, n, new);
+            let by_pairs = raise_after(ground, heads, n, new);
             let both = joined(self.all, by_arcs, by_pairs);
             grown = joined(self.all, grown, both);
             rest = joined(self.all, rest, both).without(&one(n));
@@ -237,7 +237,7 @@ impl Selection {
             let stages = [free(n), second(n), first(n), start(n), issue(n)];
             let by_arcs = lift_by(&arcs.back, tails, stages, self.all);
             let new = set_of(&self.before, n).without(&set_of(&self.old_before, n));
-            let by_pairs = lift_before(ground, tails, n, new);
+            let by_pairs = raise_before(ground, tails, n, new);
             let both = joined(self.all, by_arcs, by_pairs);
             grown = joined(self.all, grown, both);
             rest = joined(self.all, rest, both).without(&one(n));

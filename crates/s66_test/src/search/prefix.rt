@@ -6,7 +6,7 @@ use crate::search::reading::{block_of, source_of};
 use s66_deep::{Prefix, Tails};
 use s66_isa::{BLOCK_LIMIT, Profile};
 use s66_line::Block;
-use s66_model::TreeLine;
+use s66_model::{FactLeaf, TreeLine};
 use std::process::Abort;
 
 /// Checks the floor of an empty beginning, as paths alone have it too. A leaf says that the first instruction comes too late for this
@@ -15,7 +15,12 @@ fn check_floor<R: Abort>(rt: &R, block: &Block, tails: &[Tails; BLOCK_LIMIT], fl
     let prefix = Prefix::new(block, &Profile::standard(), tails);
     assert!(rt; !prefix.walk().is_complete());
     assert!(rt; prefix.path_floor() == floor && prefix.floor() == floor);
-    assert!(rt; matches!(prefix.leaf(floor), Some(TreeLine::Next(1))));
+    assert!(rt;
+        matches!(
+            prefix.leaf(floor),
+            Some(TreeLine::Factual(FactLeaf::Next(1)))
+        )
+    );
     assert!(rt; prefix.leaf(floor.saturating_add(1)).is_none());
 }
 

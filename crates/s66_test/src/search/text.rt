@@ -1,6 +1,6 @@
 //! Documents of version 4 as texts, and what the checker says of them.
 
-use s66_cert::{FactLine, Tree, TreeLine, read};
+use s66_cert::{FactLeaf, FactLine, Tree, TreeLine, read};
 use s66_checker::{Verdict, verify};
 use s66_isa::kind_name;
 use s66_moments::{FactStep, Moment, Stage};
@@ -74,6 +74,19 @@ fn version_of(steps: &[FactStep]) -> u8 {
     4
 }
 
+/// Appends the line of a leaf by facts.
+fn push_fact_leaf<R: Abort>(rt: &R, text: &mut String, leaf: FactLeaf) {
+    match leaf {
+        FactLeaf::Next(n) => push_line(rt, text, "E", &[n]),
+        FactLeaf::Turned(m, n) => push_line(rt, text, "R", &[m, n]),
+        FactLeaf::AtLine(line) => writeln!(text, "N {line}").expect(rt, "memory"),
+        FactLeaf::LoadFrom(after, numbers) => {
+            write!(text, "L {after}").expect(rt, "memory");
+            push_line(rt, text, "", numbers);
+        }
+    }
+}
+
 /// Appends a line of a tree.
 fn push_tree_line<R: Abort>(rt: &R, text: &mut String, line: TreeLine) {
     match line {
@@ -84,13 +97,7 @@ fn push_tree_line<R: Abort>(rt: &R, text: &mut String, line: TreeLine) {
             writeln!(text, "U {name}").expect(rt, "memory");
         }
         TreeLine::Parcels => push_line(rt, text, "P", &[]),
-        TreeLine::Next(n) => push_line(rt, text, "E", &[n]),
-        TreeLine::Turned(m, n) => push_line(rt, text, "R", &[m, n]),
-        TreeLine::AtLine(line) => writeln!(text, "N {line}").expect(rt, "memory"),
-        TreeLine::LoadFrom(after, numbers) => {
-            write!(text, "L {after}").expect(rt, "memory");
-            push_line(rt, text, "", numbers);
-        }
+        TreeLine::Factual(leaf) => push_fact_leaf(rt, text, leaf),
         // a tree of version 4 has none
         TreeLine::Chain(_) | TreeLine::Dominated(_) => push_line(rt, text, "?", &[]),
     }

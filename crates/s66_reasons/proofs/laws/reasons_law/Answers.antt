@@ -3,7 +3,8 @@ use Rattle.std.proofs.lemmas.Bool.{leb-true}
 use Rattle.s66_isa.specs.Lists.{Among}
 use Rattle.s66_model.specs.Leaves.{value}
 use Rattle.s66_model.specs.Tree.{Tree, AtTerminal}
-use Rattle.s66_model.specs.DominatedLeaves.{Ending, Bounding, LoadFrom, Next, Turned}
+use Rattle.s66_model.specs.DominatedLeaves.{Ending, Bounding, Factual}
+use Rattle.s66_model.specs.FactLeaves.{Next, Turned, LoadFrom}
 use Rattle.s66_model.proofs.Remaining.{legal-parts, remaining-parts}
 use Rattle.s66_model.proofs.Trees.{leaf-sound}
 use Rattle.s66_moments.specs.Known.{next_value}
@@ -33,8 +34,8 @@ returns-clause-bounding c = λ limit d time bound at leaf is holds among.
 pub returns-clause-next : goal.returns-clause-next
 returns-clause-next c = λ limit d time bound n is holds alone.
     let all = faultless limit d time bound is holds in
-    let among : Among ([], AtTerminal (Next n)) (tree_placed [] d.tree) = subst (λ (t : Tree Ending). Among ([], AtTerminal (Next n)) (tree_placed [] t)) (sym alone) (inl refl) in
-    let granted_here = granted-next d [] n (right-each d [] (Next n) all.1 among).1 in
+    let among : Among ([], AtTerminal (Factual (Next n))) (tree_placed [] d.tree) = subst (λ (t : Tree Ending). Among ([], AtTerminal (Factual (Next n))) (tree_placed [] t)) (sym alone) (inl refl) in
+    let granted_here = granted-next d [] n (right-each d [] (Factual (Next n)) all.1 among).1 in
     let (low, high, new) = remaining-parts (problem_of d).block [] n granted_here.0 in
     path-shown d all.0 n (low, high) bound (omega (arith, ((granted d time bound).0 holds).1, leb-true d.bound (next_value (problem_of d) (known_of d) [] n) granted_here.1))
 
@@ -50,8 +51,8 @@ returns-clause-no_sooner c = λ d n taken is_n. has-none_sooner d taken n is_n
 pub returns-clause-left : goal.returns-clause-left
 returns-clause-left c = λ limit d time bound at after ns is holds among.
     let all = faultless limit d time bound is holds in
-    load-shown d all.0 at bound after ns (granted-each d at after ns (right-each d at (LoadFrom after ns) all.1 among).1) (omega (arith, ((granted d time bound).0 holds).1))
+    load-shown d all.0 at bound after ns (granted-each d at after ns (right-each d at (Factual (LoadFrom after ns)) all.1 among).1) (omega (arith, ((granted d time bound).0 holds).1))
 
 pub returns-clause-turned : goal.returns-clause-turned
 returns-clause-turned c = λ limit d time bound at m n is holds among.
-    granted-turned d at m n (right-each d at (Turned m n) (faultless limit d time bound is holds).1 among).1
+    granted-turned d at m n (right-each d at (Factual (Turned m n)) (faultless limit d time bound is holds).1 among).1

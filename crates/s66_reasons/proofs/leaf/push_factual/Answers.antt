@@ -1,12 +1,12 @@
 use Rattle.std.proofs.Common.{◌++◌, ◌∙◌, ap, sym}
 use Rattle.std.proofs.lemmas.List.{append-nil}
 use Rattle.std.proofs.lemmas.Result.{IfOk-equal}
-use Rattle.s66_model.specs.declared.lines.TreeLine.{TreeLine}
-use Rattle.s66_model.specs.Lines.{vertex_of}
+use Rattle.s66_model.specs.declared.lines.FactLeaf.{FactLeaf}
+use Rattle.s66_model.specs.DominatedLeaves.{Factual}
+use Rattle.s66_model.specs.Lines.{fact_leaf_of}
 use Rattle.s66_cert.specs.DocumentParts.{Parts, document_of}
-use Rattle.s66_reasons.specs.Reasons.{left_row}
+use Rattle.s66_reasons.specs.Reasons.{leaf_text, left_row}
 use Rattle.s66_reasons.specs.Words.{row_text}
-use Rattle.s66_reasons.specs.Within.{vertex_text}
 use Rattle.s66_reasons.proofs.leaf.push_factual.Goals as goal
 
 pub returns-in-LoadFrom : goal.returns-in-LoadFrom
@@ -16,4 +16,4 @@ returns-in-LoadFrom c =
     IfOk-equal c.push_left_row.result _ _ _ c.push_left_row.ensures
     (ap (λ (p : Parts). out ++ row_text (left_row (document_of p) c.in-LoadFrom.after c.in-LoadFrom.numbers.now)) c.known.view_is
     ∙ ap (λ xs. out ++ xs) (sym (append-nil (row_text (left_row d c.in-LoadFrom.after c.in-LoadFrom.numbers.now))))
-    ∙ ap (λ (l : TreeLine). out ++ vertex_text d c.args.prefix.now.numbers (vertex_of l)) (sym c.in-LoadFrom.is))
+    ∙ ap (λ (l : FactLeaf). out ++ leaf_text d c.args.prefix.now.numbers (Factual (fact_leaf_of l))) (sym c.in-LoadFrom.is))

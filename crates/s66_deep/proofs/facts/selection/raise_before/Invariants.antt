@@ -1,6 +1,6 @@
 use Rattle.std.proofs.Common.{length}
 use Rattle.s66_isa.specs.Members.{numbers_in}
-use Rattle.s66_deep.proofs.facts.selection.lift_before.Given as goal
+use Rattle.s66_deep.proofs.facts.selection.raise_before.Given as goal
 
 abbrev pub decreases-loop-m : goal.decreases-loop-m
 decreases-loop-m l = length (numbers_in l.rest)
