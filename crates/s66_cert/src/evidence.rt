@@ -9,8 +9,8 @@ ghost use Rattle.s66_cert.specs.DocumentParts.{tree_of_lines};
 use crate::indexed_tree::sibling_count;
 use crate::limits::{FACT_LIMIT, SPLIT_LIMIT, TIME_LIMIT};
 use crate::ranges::{are_fact_steps, is_vertex};
-use s66_moments::FactStep;
 use s66_model::Tree;
+use s66_moments::FactStep;
 use std::marker::Model;
 
 /// Whether lines are those of one whole tree that a document may have, of at most this many splits.

@@ -4,8 +4,8 @@ use crate::instruction::ReadText;
 use crate::version::Version;
 use arrayvec::ArrayVec;
 use s66_isa::PROFILE_LENGTH;
-use s66_moments::FactStep;
 use s66_model::TreeLine;
+use s66_moments::FactStep;
 
 /// What a line of a document says.
 #[derive(Drop)]

@@ -22,8 +22,8 @@ use crate::version::Version;
 use arrayvec::ArrayVec;
 use s66_isa::{BLOCK_LIMIT, Kind, PROFILE_LENGTH, PROFILE_LIMIT};
 use s66_line::instruction_of_text;
-use s66_moments::{FactLine, FactStep, LoadLine, Moment, Stage};
 use s66_model::TreeLine;
+use s66_moments::{FactLine, FactStep, LoadLine, Moment, Stage};
 
 fn is_name(bytes: &[u8], name: &[u8]) -> bool
     ensures { result ≡ bytes_eq bytes.now name.now }
@@ -230,7 +230,7 @@ fn suppose_line(rest: Option<&[u8]>) -> Option<LineOf<'_>>
         pair_with (λ n m. OfFact (step.Suppose n m)) (two_numbers BLOCK_LIMIT (option_map (λ r. r.now) rest.entry)) }
 {
     match two_numbers(rest)?.as_slice() {
-        [second, first] => Some(LineOf::OfFact(FactStep::Suppose(*second, *first))),
+        [first, second] => Some(LineOf::OfFact(FactStep::Suppose(*first, *second))),
         _ => None,
     }
 }

@@ -10,8 +10,8 @@ ghost use Rattle.s66_cert.specs.Lines.{IsVertex};
 
 use crate::limits::{LINE_LIMIT, TIME_LIMIT};
 use s66_isa::BLOCK_LIMIT;
-use s66_moments::{FactLine, FactStep, LoadLine, Moment, Stage};
 use s66_model::TreeLine;
+use s66_moments::{FactLine, FactStep, LoadLine, Moment, Stage};
 
 /// Whether a block may have an instruction of this number.
 fn is_number(n: u8) -> bool
@@ -92,7 +92,7 @@ fn is_fact_step(step: &FactStep) -> bool
 {
     match step {
         FactStep::Fact(line) => is_fact_line(line),
-        FactStep::Suppose(second, first) => is_number(*second) && is_number(*first),
+        FactStep::Suppose(first, second) => is_number(*first) && is_number(*second),
         FactStep::Refuted => true,
     }
 }
