@@ -25,5 +25,4 @@ pub mod OneFault
 pub mod Places
 pub mod ReaderSteps
 pub mod ReadGives
-pub mod Pages
 pub mod Printed

@@ -4,19 +4,14 @@ use Rattle.std.proofs.lemmas.Bool.{and_parts, and_from, not-true, eqb-true}
 use Rattle.std.proofs.lemmas.List.{append-nil, map-append}
 use Rattle.std.specs.Prelude.{Option, None, Some, codes, decimal}
 use Rattle.s66_isa.specs.Lists.{every, after_blanks}
-use Rattle.s66_model.specs.Leaves.{Whole, Chain, Load, Parcels}
-use Rattle.s66_model.specs.Tree.{Vertex, AtTerminal, AtSplit, flat}
-use Rattle.s66_model.specs.DominatedLeaves.{Ending, Bounding, Dominated, Factual}
-use Rattle.s66_model.specs.FactLeaves.{Next, Turned, AtLine, LoadFrom}
-use Rattle.s66_moments.specs.declared.fact_line.FactLine.{FactLine}
+use Rattle.s66_model.specs.Tree.{Vertex, flat}
+use Rattle.s66_model.specs.DominatedLeaves.{Ending}
 use Rattle.s66_moments.specs.declared.fact_line.FactStep.{FactStep}
-use Rattle.s66_moments.specs.declared.fact_line.FactStep.TheVariants as step
-use Rattle.s66_moments.specs.declared.fact_line.FactLine.TheVariants as fact
-use Rattle.s66_cert.specs.Document.{Document, tree_lines, leaf_line, instructions_text, moment_text, fact_line, step_line, step_lines, facts_text, text_headed, document_text, documents_text}
+use Rattle.s66_cert.specs.Document.{Document, vertex_line, tree_lines, instructions_text, step_line, step_lines, facts_text, text_headed, document_text, documents_text}
 use Rattle.s66_cert.specs.declared.version.Version.{Version}
 use Rattle.s66_cert.specs.Versions.{version, version_number}
 use Rattle.s66_cert.specs.Faults.{IsLine, HaveNoNewline}
-use Rattle.s66_cert.specs.Lines.{DocumentLine, End, line_bytes, fact_bytes, step_bytes, leaf_bytes}
+use Rattle.s66_cert.specs.Lines.{DocumentLine, End, line_bytes}
 use Rattle.s66_line.specs.Fields.{with_newlines}
 use Rattle.s66_cert.specs.Reading.{whole_lines, last_bytes}
 use Rattle.s66_cert.proofs.DocumentLines.{open_lines, document_lines, documents_lines, instructions_of, steps_of, facts_of, vertices_of}
@@ -102,30 +97,9 @@ instructions-text : (texts : List (List ℕ)) → instructions_text texts ≡ wi
 instructions-text [] = refl
 instructions-text (text ∷ texts) = ap (λ x. codes "I " ++ text ++ codes "\n" ++ x) (instructions-text texts) ∙ simp append_assoc
 
-leaf-text : (ending : Ending) (more : List ℕ) → leaf_line ending ++ more ≡ leaf_bytes ending ++ 10 ∷ more
-leaf-text (Bounding Whole) more = refl
-leaf-text (Bounding (Chain numbers)) more = simp append_assoc
-leaf-text (Bounding (Load kind)) more = simp append_assoc
-leaf-text (Bounding Parcels) more = refl
-leaf-text (Dominated name) more = simp append_assoc
-leaf-text (Factual (Next number)) more = simp append_assoc
-leaf-text (Factual (Turned first second)) more = append_assoc (codes "R" ++ after_blanks (first ∷ second ∷ [])) (codes "\n") more
-leaf-text (Factual (AtLine line)) more = simp append_assoc
-leaf-text (Factual (LoadFrom after numbers)) more = append_assoc (codes "L" ++ after_blanks (after ∷ numbers)) (codes "\n") more
-
-fact-text : (line : FactLine) (more : List ℕ) → fact_line line ++ more ≡ fact_bytes line ++ 10 ∷ more
-fact-text (fact.Pair first second) more = append_assoc (codes "F" ++ after_blanks (first ∷ second ∷ [])) (codes "\n") more
-fact-text (fact.Load line) more =
-    append_assoc (codes "A " ++ moment_text line.from ++ codes " " ++ moment_text line.to ++ after_blanks (line.after ∷ line.wait ∷ line.numbers.items)) (codes "\n") more
-
-step-text : (s : FactStep) (more : List ℕ) → step_line s ++ more ≡ step_bytes s ++ 10 ∷ more
-step-text (step.Fact line) more = fact-text line more
-step-text (step.Suppose second first) more = append_assoc (codes "B" ++ after_blanks (second ∷ first ∷ [])) (codes "\n") more
-step-text step.Refuted more = refl
-
 steps-text : (steps : List FactStep) → step_lines steps ≡ with_newlines (map line_bytes (steps_of steps))
 steps-text [] = refl
-steps-text (s ∷ steps) = ap (λ x. step_line s ++ x) (steps-text steps) ∙ step-text s (with_newlines (map line_bytes (steps_of steps)))
+steps-text (step ∷ steps) = ap (λ x. step_line step ++ codes "\n" ++ x) (steps-text steps) ∙ append_assoc (step_line step) (codes "\n") (with_newlines (map line_bytes (steps_of steps)))
 
 facts-text : (facts : Option (List FactStep)) → facts_text facts ≡ with_newlines (map line_bytes (facts_of facts))
 facts-text None = refl
@@ -133,14 +107,13 @@ facts-text (Some steps) = steps-text steps
 
 tree-text : (vertices : List (Vertex Ending)) → tree_lines vertices ≡ with_newlines (map line_bytes (vertices_of vertices))
 tree-text [] = refl
-tree-text (AtTerminal ending ∷ vertices) = ap (λ x. leaf_line ending ++ x) (tree-text vertices) ∙ leaf-text ending (with_newlines (map line_bytes (vertices_of vertices)))
-tree-text (AtSplit numbers ∷ vertices) = ap (λ x. codes "S" ++ after_blanks numbers ++ codes "\n" ++ x) (tree-text vertices) ∙ simp append_assoc
+tree-text (vertex ∷ vertices) = ap (λ x. vertex_line vertex ++ codes "\n" ++ x) (tree-text vertices) ∙ append_assoc (vertex_line vertex) (codes "\n") (with_newlines (map line_bytes (vertices_of vertices)))
 
 lines-append : (xs ys : List DocumentLine) → with_newlines (map line_bytes (xs ++ ys)) ≡ with_newlines (map line_bytes xs) ++ with_newlines (map line_bytes ys)
 lines-append xs ys = ap with_newlines (map-append line_bytes xs ys) ∙ newlines-append (map line_bytes xs) (map line_bytes ys)
 
 right-nested : (s r q p c k l i t a u b v n w f m : List ℕ) →
-    s ++ r ++ q ++ p ++ c ++ k ++ l ++ i ++ t ++ a ++ u ++ b ++ v ++ n ++ w ++ f ++ m
+    (s ++ r ++ q ++ p ++ c ++ k ++ l) ++ i ++ (t ++ a ++ u ++ b ++ v ++ n ++ w) ++ f ++ m
     ≡ s ++ (r ++ (q ++ (p ++ (c ++ (k ++ (l ++ (i ++ (t ++ (a ++ (u ++ (b ++ (v ++ (n ++ (w ++ (f ++ m)))))))))))))))
 right-nested s r q p c k l i t a u b v n w f m = simp append_assoc
 

@@ -45,7 +45,7 @@ module _ (limit wide : ℕ) (wider : limit ≤ wide) where
 
   wide-step : (s : FactStep) → IsFactStep limit s → IsFactStep wide s
   wide-step (step.Fact line) is = wide-fact line is
-  wide-step (step.Suppose second first) is = wide-in (second ∷ first ∷ []) is
+  wide-step (step.Suppose first second) is = wide-in (first ∷ second ∷ []) is
   wide-step step.Refuted is = tt
 
   wide-steps : (steps : List FactStep) → AreFactSteps limit steps → AreFactSteps wide steps

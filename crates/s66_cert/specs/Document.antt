@@ -79,7 +79,7 @@ IsFactLine limit (fact.Load line) =
 -- with the lines that begin and end suppositions
 abbrev pub IsFactStep : ℕ → FactStep → Type 0
 IsFactStep limit (step.Fact line) = IsFactLine limit line
-IsFactStep limit (step.Suppose second first) = AreIn 1 limit (second ∷ first ∷ [])
+IsFactStep limit (step.Suppose first second) = AreIn 1 limit (first ∷ second ∷ [])
 IsFactStep limit step.Refuted = Unit {0}
 
 abbrev pub AreFactSteps : ℕ → List FactStep → Type 0
@@ -156,25 +156,21 @@ IsDocument limit d = IsDocumentWithin limit SPLIT_LIMIT d
 
 -- THE TEXT
 
+-- of a leaf, a split, a fact line and so on, without its newline
 abbrev pub leaf_line : Ending → List ℕ
-leaf_line (Bounding Whole) = codes "T\n"
-leaf_line (Bounding (Chain numbers)) = codes "C" ++ after_blanks numbers ++ codes "\n"
-leaf_line (Bounding (Load kind)) = codes "U " ++ kind_name kind ++ codes "\n"
-leaf_line (Bounding Parcels) = codes "P\n"
-leaf_line (Dominated name) = codes "D" ++ after_blanks name ++ codes "\n"
-leaf_line (Factual (Next number)) = codes "E " ++ decimal number ++ codes "\n"
-leaf_line (Factual (Turned first second)) = codes "R" ++ after_blanks (first ∷ second ∷ []) ++ codes "\n"
-leaf_line (Factual (AtLine line)) = codes "N " ++ decimal line ++ codes "\n"
-leaf_line (Factual (LoadFrom after numbers)) = codes "L" ++ after_blanks (after ∷ numbers) ++ codes "\n"
+leaf_line (Bounding Whole) = codes "T"
+leaf_line (Bounding (Chain numbers)) = codes "C" ++ after_blanks numbers
+leaf_line (Bounding (Load kind)) = codes "U " ++ kind_name kind
+leaf_line (Bounding Parcels) = codes "P"
+leaf_line (Dominated name) = codes "D" ++ after_blanks name
+leaf_line (Factual (Next number)) = codes "E " ++ decimal number
+leaf_line (Factual (Turned first second)) = codes "R" ++ after_blanks (first ∷ second ∷ [])
+leaf_line (Factual (AtLine line)) = codes "N " ++ decimal line
+leaf_line (Factual (LoadFrom after numbers)) = codes "L" ++ after_blanks (after ∷ numbers)
 
-abbrev pub tree_lines : List (Vertex Ending) → List ℕ
-tree_lines [] = []
-tree_lines (AtTerminal leaf ∷ vertices) = leaf_line leaf ++ tree_lines vertices
-tree_lines (AtSplit numbers ∷ vertices) = codes "S" ++ after_blanks numbers ++ codes "\n" ++ tree_lines vertices
-
-abbrev pub instructions_text : List (List ℕ) → List ℕ
-instructions_text [] = []
-instructions_text (text ∷ texts) = codes "I " ++ text ++ codes "\n" ++ instructions_text texts
+abbrev pub vertex_line : Vertex Ending → List ℕ
+vertex_line (AtTerminal leaf) = leaf_line leaf
+vertex_line (AtSplit numbers) = codes "S" ++ after_blanks numbers
 
 -- of the origin, the end, and the stages that a fact line may have
 abbrev pub moment_text : Moment → List ℕ
@@ -186,29 +182,40 @@ moment_text (At n (Done x)) = []
 moment_text (At n Free) = []
 
 abbrev pub fact_line : FactLine → List ℕ
-fact_line (fact.Pair first second) = codes "F" ++ after_blanks (first ∷ second ∷ []) ++ codes "\n"
-fact_line (fact.Load line) =
-    codes "A " ++ moment_text line.from ++ codes " " ++ moment_text line.to ++ after_blanks (line.after ∷ line.wait ∷ line.numbers.items) ++ codes "\n"
+fact_line (fact.Pair first second) = codes "F" ++ after_blanks (first ∷ second ∷ [])
+fact_line (fact.Load line) = codes "A " ++ moment_text line.from ++ codes " " ++ moment_text line.to ++ after_blanks (line.after ∷ line.wait ∷ line.numbers.items)
 
 abbrev pub step_line : FactStep → List ℕ
 step_line (step.Fact line) = fact_line line
-step_line (step.Suppose second first) = codes "B" ++ after_blanks (second ∷ first ∷ []) ++ codes "\n"
-step_line step.Refuted = codes "Q\n"
+step_line (step.Suppose first second) = codes "B" ++ after_blanks (first ∷ second ∷ [])
+step_line step.Refuted = codes "Q"
+
+abbrev pub tree_lines : List (Vertex Ending) → List ℕ
+tree_lines [] = []
+tree_lines (vertex ∷ vertices) = vertex_line vertex ++ codes "\n" ++ tree_lines vertices
+
+abbrev pub instructions_text : List (List ℕ) → List ℕ
+instructions_text [] = []
+instructions_text (text ∷ texts) = codes "I " ++ text ++ codes "\n" ++ instructions_text texts
 
 abbrev pub step_lines : List FactStep → List ℕ
 step_lines [] = []
-step_lines (step ∷ steps) = step_line step ++ step_lines steps
+step_lines (step ∷ steps) = step_line step ++ codes "\n" ++ step_lines steps
 
 abbrev pub facts_text : Option (List FactStep) → List ℕ
 facts_text None = []
 facts_text (Some steps) = step_lines steps
 
--- up to its last line, with the number of this version
+-- up to the instructions, with the number of this version
+abbrev pub head_lines : Version → Document → List ℕ
+head_lines v d = codes "S66 CERTIFICATE " ++ decimal (version_number v) ++ codes "\nPROFILE" ++ after_blanks d.profile ++ codes "\nBLOCK " ++ decimal (length d.block) ++ codes "\n"
+
+abbrev pub claim_lines : Document → List ℕ
+claim_lines d = codes "TIME " ++ decimal d.time ++ codes "\nBOUND " ++ decimal d.bound ++ codes "\nORDER" ++ after_blanks d.numbers ++ codes "\n"
+
+-- up to its last line
 abbrev pub text_headed : Version → Document → List ℕ
-text_headed v d =
-    codes "S66 CERTIFICATE " ++ decimal (version_number v) ++ codes "\nPROFILE" ++ after_blanks d.profile ++ codes "\nBLOCK " ++ decimal (length d.block) ++ codes "\n" ++ instructions_text d.block
-    ++ codes "TIME " ++ decimal d.time ++ codes "\nBOUND " ++ decimal d.bound ++ codes "\nORDER" ++ after_blanks d.numbers ++ codes "\n"
-    ++ facts_text d.facts ++ tree_lines (flat d.tree)
+text_headed v d = head_lines v d ++ instructions_text d.block ++ claim_lines d ++ facts_text d.facts ++ tree_lines (flat d.tree)
 
 abbrev pub document_text : Document → List ℕ
 document_text d = text_headed (version d.facts d.rule) d ++ codes "END\n"

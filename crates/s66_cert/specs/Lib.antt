@@ -5,7 +5,6 @@ pub mod Faults
 pub mod Fine
 pub mod Lines
 pub mod NodePlaces
-pub mod Pages
 pub mod DocumentParts
 pub mod Evidence
 pub mod DocumentReader

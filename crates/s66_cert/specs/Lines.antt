@@ -20,8 +20,7 @@ use Rattle.s66_moments.specs.declared.fact_line.FactLine.{FactLine}
 use Rattle.s66_moments.specs.declared.fact_line.FactLine.TheVariants as fact
 use Rattle.s66_moments.specs.declared.fact_line.FactStep.{FactStep}
 use Rattle.s66_moments.specs.declared.fact_line.FactStep.TheVariants as step
-use Rattle.s66_cert.specs.Document.{AreIn, AreNumbers, IsLeafLine, IsFactStep, moment_text}
-use Rattle.s66_isa.specs.KindNames.{kind_name}
+use Rattle.s66_cert.specs.Document.{AreIn, AreNumbers, IsLeafLine, IsFactStep, step_line, vertex_line}
 use Rattle.s66_isa.specs.declared.limits.TheConstants.{PROFILE_LENGTH, PROFILE_LIMIT}
 use Rattle.s66_cert.specs.declared.version.Version.{Version}
 use Rattle.s66_cert.specs.declared.version.Version.TheVariants.{BoundsAlone, EarlierNodes, StandingNodes, FactLines, Suppositions}
@@ -42,30 +41,6 @@ pub data DocumentLine : Type 0 where
 
 -- ITS BYTES, without the newline
 
-abbrev pub leaf_bytes : Ending → List ℕ
-leaf_bytes (Bounding Whole) = codes "T"
-leaf_bytes (Bounding (Chain numbers)) = codes "C" ++ after_blanks numbers
-leaf_bytes (Bounding (Load kind)) = codes "U " ++ kind_name kind
-leaf_bytes (Bounding Parcels) = codes "P"
-leaf_bytes (Dominated name) = codes "D" ++ after_blanks name
-leaf_bytes (Factual (Next number)) = codes "E " ++ decimal number
-leaf_bytes (Factual (Turned first second)) = codes "R" ++ after_blanks (first ∷ second ∷ [])
-leaf_bytes (Factual (AtLine line)) = codes "N " ++ decimal line
-leaf_bytes (Factual (LoadFrom after numbers)) = codes "L" ++ after_blanks (after ∷ numbers)
-
-abbrev pub vertex_bytes : Vertex Ending → List ℕ
-vertex_bytes (AtTerminal leaf) = leaf_bytes leaf
-vertex_bytes (AtSplit numbers) = codes "S" ++ after_blanks numbers
-
-abbrev pub fact_bytes : FactLine → List ℕ
-fact_bytes (fact.Pair first second) = codes "F" ++ after_blanks (first ∷ second ∷ [])
-fact_bytes (fact.Load line) = codes "A " ++ moment_text line.from ++ codes " " ++ moment_text line.to ++ after_blanks (line.after ∷ line.wait ∷ line.numbers.items)
-
-abbrev pub step_bytes : FactStep → List ℕ
-step_bytes (step.Fact line) = fact_bytes line
-step_bytes (step.Suppose second first) = codes "B" ++ after_blanks (second ∷ first ∷ [])
-step_bytes step.Refuted = codes "Q"
-
 abbrev pub line_bytes : DocumentLine → List ℕ
 line_bytes (Header version) = codes "S66 CERTIFICATE " ++ decimal (version_number version)
 line_bytes (Profile numbers) = codes "PROFILE" ++ after_blanks numbers
@@ -74,8 +49,8 @@ line_bytes (Instruction text) = codes "I " ++ text
 line_bytes (Time time) = codes "TIME " ++ decimal time
 line_bytes (Bound bound) = codes "BOUND " ++ decimal bound
 line_bytes (Order numbers) = codes "ORDER" ++ after_blanks numbers
-line_bytes (OfFact step) = step_bytes step
-line_bytes (OfTree vertex) = vertex_bytes vertex
+line_bytes (OfFact step) = step_line step
+line_bytes (OfTree vertex) = vertex_line vertex
 line_bytes End = codes "END"
 
 -- ITS RANGES

@@ -11,7 +11,7 @@ use Rattle.s66_cert.specs.declared.version.Version.TheVariants.{BoundsAlone, Ear
 -- a line that begins or ends a supposition
 abbrev pub supposes : FactStep → Bool
 supposes (Fact line) = false
-supposes (Suppose second first) = true
+supposes (Suppose first second) = true
 supposes Refuted = true
 
 abbrev pub has_suppositions : Option (List FactStep) → Bool

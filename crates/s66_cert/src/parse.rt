@@ -235,7 +235,7 @@ fn suppose_line(rest: Option<&[u8]>) -> Option<LineOf<'_>>
         pair_with (λ n m. OfFact (step.Suppose n m)) (two_numbers BLOCK_LIMIT (option_map (λ r. r.now) rest.entry)) }
 {
     match two_numbers(rest)?.as_slice() {
-        [second, first] => Some(LineOf::OfFact(FactStep::Suppose(*second, *first))),
+        [first, second] => Some(LineOf::OfFact(FactStep::Suppose(*first, *second))),
         _ => None,
     }
 }

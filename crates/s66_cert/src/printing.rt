@@ -1,140 +1,193 @@
-//! Prints a document (`print`): its lines in order, from the version to `END`.
+//! Pushes the text of a document (`push_document`): its lines in order, from the version to `END`.
 
 ghost use Rattle.std.specs.Option.{option_map};
-ghost use Rattle.std.specs.Prelude.{◌≡◌, ◌-◌, ◌^◌, ◌<◌, ◌++◌, [], codes};
-ghost use Rattle.s66_device.specs.Devices.{Written};
-ghost use Rattle.s66_cert.specs.Document.{document_text, instructions_text, step_lines, facts_text, tree_lines};
-ghost use Rattle.s66_cert.specs.Pages.{Printed, AreShort, opening_lines, claim_lines};
+ghost use Rattle.std.specs.Prelude.{◌≡◌, ◌++◌, OnOk, codes};
+ghost use Rattle.s66_isa.specs.Lists.{after_blanks};
+ghost use Rattle.s66_model.specs.DominatedLeaves.{Factual};
+ghost use Rattle.s66_model.specs.Lines.{fact_leaf_of, vertex_of};
+ghost use Rattle.s66_moments.specs.declared.fact_line.FactLine.TheVariants as fact;
+ghost use Rattle.s66_cert.specs.Document.{claim_lines, document_text, fact_line, facts_text, head_lines, instructions_text, leaf_line, moment_text, step_line, step_lines, tree_lines, vertex_line};
 ghost use Rattle.s66_cert.specs.DocumentParts.{document_of};
+ghost use Rattle.s66_cert.specs.Versions.{version};
 
 use crate::document::Document;
 use crate::instruction::InstructionText;
-use crate::page::Page;
 use crate::version::Version;
-use s66_device::{Sink, WriteError};
-use s66_model::TreeLines;
-use s66_moments::FactStep;
+use s66_device::push_field;
+use s66_isa::kind_name;
+use s66_model::{FactLeaf, TreeLine, TreeLines};
+use s66_moments::{FactLine, FactStep, LoadLine, Moment, Stage};
+use std::alloc::AllocError;
 
-/// Prints what a document has before its instructions.
-fn print_opening(document: &Document, page: &mut Page)
-    requires { page.old ≡ [] }
-    ensures { page.new ≡ opening_lines document.now }
+/// A text and numbers after it, each after a blank.
+fn push_numbers(out: &mut Vec<u8>, text: &[u8], numbers: &[u8]) -> Result<(), AllocError>
+    ensures { OnOk result (out.new.items ≡ out.old.items ++ (text.now ++ after_blanks numbers.now)) }
 {
-    page.text(b"S66 CERTIFICATE ");
-    page.number(Version::of(document.facts(), document.rule()).number());
-    page.text(b"\nPROFILE");
-    page.numbers(document.profile());
-    page.text(b"\nBLOCK ");
-    page.number(document.block().len() as u32);
-    page.text(b"\n");
+    out.extend_from_slice(text)?;
+    for number in numbers {
+        push_field(out, b" ", *number as usize)?;
+    }
+    Ok(())
 }
 
-/// Prints the instructions of these texts.
-fn print_block<S: Sink>(
-    block: &[InstructionText],
-    page: &mut Page,
-    writer: &mut S,
-) -> Result<(), WriteError>
-    requires { (S.seen writer.old).failures < 2 ^ 64 - 1 }
-    ensures { Printed (S.seen writer.old) (S.seen writer.new) page.old page.new (instructions_text block.now) result }
+/// What a document has before its instructions.
+fn push_head(out: &mut Vec<u8>, document: &Document) -> Result<(), AllocError>
+    ensures { OnOk result (out.new.items ≡ out.old.items ++
+        head_lines (version document.now.facts document.now.rule) (document_of document.now)) }
+{
+    let version = Version::of(document.facts(), document.rule());
+    push_field(out, b"S66 CERTIFICATE ", version.number() as usize)?;
+    push_numbers(out, b"\nPROFILE", document.profile())?;
+    push_field(out, b"\nBLOCK ", document.block().len())?;
+    out.extend_from_slice(b"\n")
+}
+
+/// The instructions of these texts.
+fn push_block(out: &mut Vec<u8>, block: &[InstructionText]) -> Result<(), AllocError>
+    ensures { OnOk result (out.new.items ≡ out.old.items ++ instructions_text block.now) }
 {
     for text in block {
-        page.make_room(writer)?;
-        page.instruction(text.bytes());
+        out.extend_from_slice(b"I ")?;
+        out.extend_from_slice(text.bytes())?;
+        out.extend_from_slice(b"\n")?;
     }
     Ok(())
 }
 
-/// Prints what a document has between its instructions and its fact lines.
-fn print_claim<S: Sink>(
-    document: &Document,
-    page: &mut Page,
-    writer: &mut S,
-) -> Result<(), WriteError>
-    requires { (S.seen writer.old).failures < 2 ^ 64 - 1 }
-    ensures { Printed (S.seen writer.old) (S.seen writer.new) page.old page.new (claim_lines document.now) result }
+/// What a document has between its instructions and its fact lines.
+fn push_claim(out: &mut Vec<u8>, document: &Document) -> Result<(), AllocError>
+    ensures { OnOk result (out.new.items ≡ out.old.items ++ claim_lines (document_of document.now)) }
 {
-    page.make_room(writer)?;
-    page.text(b"TIME ");
-    page.number(document.time());
-    page.text(b"\nBOUND ");
-    page.number(document.bound());
-    page.text(b"\nORDER");
-    page.numbers(document.order());
-    page.text(b"\n");
-    Ok(())
+    push_field(out, b"TIME ", document.time() as usize)?;
+    push_field(out, b"\nBOUND ", document.bound() as usize)?;
+    push_numbers(out, b"\nORDER", document.order())?;
+    out.extend_from_slice(b"\n")
 }
 
-/// Prints fact lines and lines of suppositions.
-fn print_steps<S: Sink>(
-    steps: &[FactStep],
-    page: &mut Page,
-    writer: &mut S,
-) -> Result<(), WriteError>
-    requires { (S.seen writer.old).failures < 2 ^ 64 - 1 }
-    ensures { Printed (S.seen writer.old) (S.seen writer.new) page.old page.new (step_lines steps.now) result }
+/// A moment that a fact line may have, and nothing of any other.
+fn push_moment(out: &mut Vec<u8>, moment: Moment) -> Result<(), AllocError>
+    ensures { OnOk result (out.new.items ≡ out.old.items ++ moment_text moment) }
+{
+    match moment {
+        Moment::Origin => out.extend_from_slice(b"0"),
+        Moment::End => out.extend_from_slice(b"END"),
+        Moment::At(number, Stage::Issue) => push_field(out, b"I", number as usize),
+        Moment::At(number, Stage::Start) => push_field(out, b"S", number as usize),
+        Moment::At(_, _) => Ok(()),
+    }
+}
+
+/// The two moments of the line of a load.
+fn push_moments(out: &mut Vec<u8>, from: Moment, to: Moment) -> Result<(), AllocError>
+    ensures { OnOk result (out.new.items ≡ out.old.items ++
+        (codes "A " ++ moment_text from ++ codes " " ++ moment_text to)) }
+{
+    out.extend_from_slice(b"A ")?;
+    push_moment(out, from)?;
+    out.extend_from_slice(b" ")?;
+    push_moment(out, to)
+}
+
+/// The line of a load, without its newline.
+fn push_load(out: &mut Vec<u8>, line: &LoadLine) -> Result<(), AllocError>
+    ensures { OnOk result (out.new.items ≡ out.old.items ++ fact_line (fact.Load line.now)) }
+{
+    push_moments(out, line.from, line.to)?;
+    push_field(out, b" ", line.after as usize)?;
+    push_field(out, b" ", line.wait as usize)?;
+    push_numbers(out, b"", line.numbers.as_slice())
+}
+
+/// A fact line or a line of a supposition, without its newline.
+fn push_step(out: &mut Vec<u8>, step: &FactStep) -> Result<(), AllocError>
+    ensures { OnOk result (out.new.items ≡ out.old.items ++ step_line step.now) }
+{
+    match step {
+        FactStep::Fact(FactLine::Pair(first, second)) => push_numbers(
+            out,
+            b"F",
+            &[*first, *second],
+        ),
+        FactStep::Fact(FactLine::Load(line)) => push_load(out, line),
+        FactStep::Suppose(first, second) => push_numbers(out, b"B", &[*first, *second]),
+        FactStep::Refuted => out.extend_from_slice(b"Q"),
+    }
+}
+
+/// Fact lines and lines of suppositions.
+fn push_steps(out: &mut Vec<u8>, steps: &[FactStep]) -> Result<(), AllocError>
+    ensures { OnOk result (out.new.items ≡ out.old.items ++ step_lines steps.now) }
 {
     for step in steps {
-        page.make_room(writer)?;
-        page.step(step);
+        push_step(out, step)?;
+        out.extend_from_slice(b"\n")?;
     }
     Ok(())
 }
 
-/// Prints the fact lines, if there may be some.
-fn print_facts<S: Sink>(
-    facts: Option<&[FactStep]>,
-    page: &mut Page,
-    writer: &mut S,
-) -> Result<(), WriteError>
-    requires { (S.seen writer.old).failures < 2 ^ 64 - 1 }
-    ensures { Printed (S.seen writer.old) (S.seen writer.new) page.old page.new
-        (facts_text (option_map (λ steps. steps.now) facts.entry)) result }
+/// The fact lines, if there may be some.
+fn push_facts(out: &mut Vec<u8>, facts: Option<&[FactStep]>) -> Result<(), AllocError>
+    ensures { OnOk result (out.new.items ≡ out.old.items ++
+        facts_text (option_map (λ steps. steps.now) facts.entry)) }
 {
     match facts {
         None => Ok(()),
-        Some(steps) => print_steps(steps, page, writer),
+        Some(steps) => push_steps(out, steps),
     }
 }
 
-/// Prints the lines of a tree.
-fn print_tree<S: Sink>(
-    mut lines: TreeLines<'_>,
-    page: &mut Page,
-    writer: &mut S,
-) -> Result<(), WriteError>
-    requires failures { (S.seen writer.old).failures < 2 ^ 64 - 1 }
-    requires short { AreShort lines }
-    ensures { Printed (S.seen writer.old) (S.seen writer.new) page.old page.new (tree_lines lines.entry) result }
+/// The line of a leaf by facts, without its newline.
+fn push_fact_leaf(out: &mut Vec<u8>, leaf: FactLeaf<'_>) -> Result<(), AllocError>
+    ensures { OnOk result (out.new.items ≡ out.old.items ++ leaf_line (Factual (fact_leaf_of leaf.entry))) }
+{
+    match leaf {
+        FactLeaf::Next(number) => push_field(out, b"E ", number as usize),
+        FactLeaf::Turned(first, second) => push_numbers(out, b"R", &[first, second]),
+        FactLeaf::AtLine(line) => push_field(out, b"N ", line as usize),
+        FactLeaf::LoadFrom(after, numbers) => {
+            push_field(out, b"L ", after as usize)?;
+            push_numbers(out, b"", numbers)
+        }
+    }
+}
+
+/// A line of a tree, without its newline.
+fn push_tree_line(out: &mut Vec<u8>, line: TreeLine<'_>) -> Result<(), AllocError>
+    ensures { OnOk result (out.new.items ≡ out.old.items ++ vertex_line (vertex_of line.entry)) }
+{
+    match line {
+        TreeLine::Split(numbers) => push_numbers(out, b"S", numbers),
+        TreeLine::Whole => out.extend_from_slice(b"T"),
+        TreeLine::Chain(numbers) => push_numbers(out, b"C", numbers),
+        TreeLine::Load(kind) => {
+            out.extend_from_slice(b"U ")?;
+            out.extend_from_slice(kind_name(kind))
+        }
+        TreeLine::Parcels => out.extend_from_slice(b"P"),
+        TreeLine::Dominated(numbers) => push_numbers(out, b"D", numbers),
+        TreeLine::Factual(leaf) => push_fact_leaf(out, leaf),
+    }
+}
+
+/// The lines of a tree.
+fn push_tree(out: &mut Vec<u8>, mut lines: TreeLines<'_>) -> Result<(), AllocError>
+    ensures { OnOk result (out.new.items ≡ out.old.items ++ tree_lines lines.entry) }
 {
     while let Some(line) = lines.next() {
-        page.make_room(writer)?;
-        page.tree_line(line);
+        push_tree_line(out, line)?;
+        out.extend_from_slice(b"\n")?;
     }
     Ok(())
 }
 
-/// Prints the last line, and writes what is still to be written.
-fn print_end<S: Sink>(page: &mut Page, writer: &mut S) -> Result<(), WriteError>
-    requires { (S.seen writer.old).failures < 2 ^ 64 - 1 }
-    ensures { Written (S.seen writer.old) (S.seen writer.new) (page.old ++ codes "END\n") result }
+/// Appends the text of a document. `Err` is out of memory. It takes time linear in the text, and allocates nothing but room in `out`.
+pub fn push_document(out: &mut Vec<u8>, document: &Document) -> Result<(), AllocError>
+    ensures { OnOk result (out.new.items ≡ out.old.items ++ document_text (document_of document.now)) }
 {
-    page.make_room(writer)?;
-    page.text(b"END\n");
-    page.write(writer)
-}
-
-/// Writes a document; if the sink fails, a beginning of the text. It takes time linear in the text, calls the sink for some thousand
-/// bytes each, and allocates nothing.
-pub fn print<S: Sink>(document: &Document, writer: &mut S) -> Result<(), WriteError>
-    requires { (S.seen writer.old).failures < 2 ^ 64 - 1 }
-    ensures { Written (S.seen writer.old) (S.seen writer.new) (document_text (document_of document.now)) result }
-{
-    let mut page = Page::new();
-    print_opening(document, &mut page);
-    print_block(document.block(), &mut page, writer)?;
-    print_claim(document, &mut page, writer)?;
-    print_facts(document.facts(), &mut page, writer)?;
-    print_tree(document.tree(), &mut page, writer)?;
-    print_end(&mut page, writer)
+    push_head(out, document)?;
+    push_block(out, document.block())?;
+    push_claim(out, document)?;
+    push_facts(out, document.facts())?;
+    push_tree(out, document.tree())?;
+    out.extend_from_slice(b"END\n")
 }

@@ -93,7 +93,7 @@ fn is_fact_step(step: &FactStep) -> bool
 {
     match step {
         FactStep::Fact(line) => is_fact_line(line),
-        FactStep::Suppose(second, first) => is_number(*second) && is_number(*first),
+        FactStep::Suppose(first, second) => is_number(*first) && is_number(*second),
         FactStep::Refuted => true,
     }
 }

@@ -1,34 +1,17 @@
 //! What `prove` writes: the document of the answer to each block.
 
-ghost use Rattle.std.specs.Prelude.{◌≡◌, ◌++◌, IfOk, OnOk};
-ghost use Rattle.s66_cert.specs.Document.{document_text};
-ghost use Rattle.s66_cert.specs.DocumentParts.{document_of};
+ghost use Rattle.std.specs.Prelude.{IfOk};
 ghost use Rattle.s66_answer.specs.SearchWithin.{IsSearchWithin};
 ghost use Rattle.s66_program.specs.ProveText.{IsProveOutput, document_part};
 
 use s66_answer::{BlockAnswer, Keep, Observer, Output, text_of_answers};
-use s66_cert::{Document, print};
+use s66_cert::push_document;
 use s66_command::Strategy;
-use s66_device::OverWrite;
 use s66_isa::Profile;
 use s66_source::Source;
-use std::alloc::{AllocError, Global};
-use std::mem;
+use std::alloc::AllocError;
 use std::sync::Wait;
 use std::thread::Threads;
-
-/// The text of a document. `Err` is out of memory.
-fn push_document(alloc: Global, out: &mut Vec<u8>, document: &Document) -> Result<(), AllocError>
-    ensures { OnOk result (out.new.items ≡ out.old.items ++ document_text (document_of document.now)) }
-{
-    let mut page = OverWrite::new(mem::replace(out, Vec::new(alloc)));
-    let printed = print(document, &mut page);
-    *out = page.into_inner();
-    match printed {
-        Ok(()) => Ok(()),
-        Err(_) => Err(AllocError),
-    }
-}
 
 /// The texts of documents.
 #[derive(Drop)]
@@ -51,8 +34,7 @@ impl Keep<u8> for Documents {
             ..
         } = answer;
         let document = found.into_document(alloc, block, profile, strategy)?;
-        push_document(alloc, parts, &document)?;
-        Ok(())
+        push_document(parts, &document)
     }
 }
 

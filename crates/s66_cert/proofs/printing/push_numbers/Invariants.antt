@@ -1,0 +1,6 @@
+use Rattle.std.proofs.Common.{◌≡◌, ◌++◌, drop}
+use Rattle.s66_isa.specs.Lists.{after_blanks}
+use Rattle.s66_cert.proofs.printing.push_numbers.Given as goal
+
+abbrev pub invariant-loop-number : goal.invariant-loop-number
+invariant-loop-number l = l.out.items ++ after_blanks (drop l.number-index l.numbers) ≡ l.fn.out.items ++ (l.text ++ after_blanks l.numbers)
