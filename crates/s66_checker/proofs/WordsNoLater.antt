@@ -2,7 +2,6 @@
 use Rattle.std.proofs.Common.{ℕ, ◌+◌, ◌≤◌, ◌<◌, ◌≡◌, ◌==◌, ◌↔◌, Bool, IsTrue, true, false, cond, max, List, get_or, reverse, sym, ap, subst, ◌∙◌, arith, leb}
 use Rattle.std.proofs.lemmas.Bool.{le-leb, lt-leb, eq-eqb}
 use Rattle.std.proofs.lemmas.Bool.Decides.{Decides-like, same_from_decides}
-use Rattle.s66_isa.specs.declared.instr.Memory.{Memory}
 use Rattle.s66_isa.specs.declared.instr.Memory.TheVariants as memory
 use Rattle.s66_isa.specs.declared.profile.Profile.{Profile}
 use Rattle.s66_isa.specs.declared.reg.Reg.{Reg}

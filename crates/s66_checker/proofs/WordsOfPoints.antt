@@ -6,7 +6,6 @@ use Rattle.s66_isa.specs.Lists.{greatest, tally}
 use Rattle.s66_isa.specs.declared.instr.TheConstants.{KIND_COUNT}
 use Rattle.s66_isa.specs.declared.instr.Kind.{Kind}
 use Rattle.s66_isa.specs.declared.instr.Kind.TheVariants.{Boolean, Shift, Add, LongAdd, Multiply, Divide, Increment}
-use Rattle.s66_isa.specs.declared.instr.Memory.{Memory}
 use Rattle.s66_isa.specs.declared.instr.Memory.TheVariants as memory
 use Rattle.s66_isa.specs.declared.reg.Reg.{Reg}
 use Rattle.s66_isa.specs.declared.reg.TheConstants.{REGISTER_COUNT}

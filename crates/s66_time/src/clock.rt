@@ -10,13 +10,12 @@ ghost use Rattle.s66_line.specs.Block.{instrs_of};
 ghost use Rattle.s66_model.specs.Digits.{HaveDigits};
 
 use crate::copies::Copies;
-use crate::graph::Set;
 use crate::mark::Mark;
 use crate::mark_shape::MarkShape;
 use crate::steps::Steps;
 use crate::words::Words;
 use arrayvec::ArrayVec;
-use s66_isa::{BLOCK_LIMIT, Kind, Memory, Profile, Reg, Registers, Row, kind_number};
+use s66_isa::{BLOCK_LIMIT, Kind, Memory, Profile, Reg, Registers, Row, Set, kind_number};
 use s66_line::Block;
 use std::marker::Model;
 

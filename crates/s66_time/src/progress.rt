@@ -9,9 +9,8 @@ ghost use Rattle.s66_isa.specs.declared.limits.TheConstants.{BLOCK_LIMIT};
 ghost use Rattle.s66_model.specs.Timing.{ResultAt as ResultOf};
 ghost use Rattle.s66_time.specs.declared.limits.TheConstants.{TOTAL_LIMIT};
 
-use crate::graph::Set;
 use crate::tick::Tick;
-use s66_isa::{Memory, Row};
+use s66_isa::{Memory, Row, Set};
 
 /// What a clock stores in one word each.
 #[derive(Clone, Copy, Default, Drop)]
