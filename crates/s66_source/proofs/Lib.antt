@@ -5,6 +5,7 @@ pub mod PartsLaw
 pub mod UpperSwitches
 pub mod CaseLaw
 pub mod LineLaw
+pub mod KeptRead
 pub mod PadsLaw
 pub mod LeadingPads
 pub mod IndentedLines

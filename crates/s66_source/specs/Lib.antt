@@ -9,6 +9,7 @@ pub mod Printed
 pub mod ReadAgain
 pub mod Gives
 pub mod Pads
+pub mod Kept
 pub mod Columns
 pub mod Replaced
 pub mod Keeper

@@ -5,7 +5,7 @@ use Rattle.s66_source.specs.declared.reader.Reader.{Reader}
 use Rattle.s66_source.specs.Reader.{SourceState}
 
 abbrev pub state : Reader → SourceState
-state r = record { blocks = r.blocks.items; label = r.label.now; entries = r.entries.items; count = r.lines; after = r.after_code }
+state r = record { blocks = r.blocks.items; label = r.label.now; entries = r.entries.items; count = r.kept.count; after = r.after_code }
 
 -- a line, if it comes next
 abbrev pub flagged : Reader → Bool → List ℕ → Flagged

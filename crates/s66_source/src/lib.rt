@@ -15,6 +15,7 @@ mod error;
 mod frame;
 mod halves;
 mod keeper;
+mod kept;
 mod laws;
 mod limits;
 mod lines;

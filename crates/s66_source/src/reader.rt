@@ -6,6 +6,7 @@ ghost use Rattle.s66_line.specs.Fields.{lines_from};
 ghost use Rattle.s66_line.specs.InstructionText.{Spells};
 ghost use Rattle.s66_source.specs.Pads.{settle, pads_by_class, pads_of_lines};
 ghost use Rattle.s66_source.specs.Pads as pads;
+ghost use Rattle.s66_source.specs.Kept.{put_line, put_lines};
 ghost use Rattle.s66_source.specs.Reader.{Steps, end_block, begin_run, with_entry, by_class, line_step, lines_step};
 ghost use Rattle.s66_line.specs.Class.{IsSpelled, is_code};
 ghost use Rattle.s66_source.specs.SourceReader.{flagged, state};
@@ -16,6 +17,7 @@ ghost use Rattle.s66_line.specs.declared.limits.TheConstants.{TEXT_LIMIT};
 
 use crate::continued::{is_continued, is_continued_at_first};
 use crate::error::SourceError;
+use crate::kept::Kept;
 use crate::limits::SOURCE_LINES_LIMIT;
 use crate::lines::cut_line;
 use crate::pads::Pads;
@@ -34,8 +36,8 @@ pub(crate) struct Reader<'r, 'a> {
     /// The instructions of the open block, fewer than `BLOCK_LIMIT`.
     pub(crate) entries: Vec<Entry<'a>>,
     pub(crate) pads: Pads,
-    /// How many lines were read.
-    pub(crate) lines: u32,
+    /// The lines that were read.
+    pub(crate) kept: Kept<'a>,
     /// Whether the last of them is an Instruction or a Pad.
     pub(crate) after_code: bool,
     /// Whether lines that are refused, or covered by a count, a definition or a directive, are left alone.
@@ -49,6 +51,7 @@ impl<'r, 'a> Reader<'r, 'a> {
         requires { length self.old.entries.items ≤ BLOCK_LIMIT }
         ensures step { OnOk result (state self.new ≡ end_block (state self.old)) }
         ensures pads { self.new.pads ≡ self.old.pads }
+        ensures kept { self.new.kept ≡ self.old.kept }
         ensures cut { self.new.cut ≡ self.old.cut }
         ensures standing { self.new.standing ≡ self.old.standing }
     {
@@ -65,6 +68,7 @@ impl<'r, 'a> Reader<'r, 'a> {
         requires { length self.old.entries.items ≤ BLOCK_LIMIT }
         ensures step { OnOk result (state self.new ≡ end_block (state self.old)) }
         ensures pads { OnOk result (self.new.pads ≡ pads.end_run self.old.pads) }
+        ensures kept { self.new.kept ≡ self.old.kept }
         ensures cut { self.new.cut ≡ self.old.cut }
         ensures standing { self.new.standing ≡ self.old.standing }
     {
@@ -77,6 +81,7 @@ impl<'r, 'a> Reader<'r, 'a> {
         requires { length self.old.entries.items ≤ BLOCK_LIMIT }
         ensures step { OnOk result (state self.new ≡ begin_run label.now (state self.old)) }
         ensures pads { OnOk result (self.new.pads ≡ pads.end_run self.old.pads) }
+        ensures kept { self.new.kept ≡ self.old.kept }
         ensures cut { self.new.cut ≡ self.old.cut }
         ensures standing { self.new.standing ≡ self.old.standing }
     {
@@ -88,16 +93,17 @@ impl<'r, 'a> Reader<'r, 'a> {
     /// Puts the instruction of the next line into the open block, which ends if it is full.
     fn put(&mut self, alloc: Global, instr: Instr, bytes: &'a [u8]) -> Result<(), AllocError>
         requires few { length self.old.entries.items < BLOCK_LIMIT }
-        requires lines { self.old.lines < SOURCE_LINES_LIMIT }
+        requires lines { self.old.kept.count < SOURCE_LINES_LIMIT }
         requires bytes { length bytes.now ≤ TEXT_LIMIT }
         requires spelled { Spells bytes.now instr }
         ensures step { OnOk result (state self.new ≡ with_entry instr bytes.now (state self.old)) }
         ensures pads { OnOk result (self.new.pads ≡ settle self.old.pads) }
+        ensures kept { self.new.kept ≡ self.old.kept }
         ensures cut { self.new.cut ≡ self.old.cut }
         ensures standing { self.new.standing ≡ self.old.standing }
         ensures few { OnOk result (length self.new.entries.items < BLOCK_LIMIT) }
     {
-        let line = self.lines + 1;
+        let line = self.kept.count() + 1;
         self.pads.settle()?;
         self.entries.push(Entry { instr, line, bytes })?;
         if self.entries.len() == BLOCK_LIMIT {
@@ -106,21 +112,26 @@ impl<'r, 'a> Reader<'r, 'a> {
         Ok(())
     }
 
-    /// Reads the next line, which was classified.
-    fn take_classified(&mut self, alloc: Global, line: Classified<'a>) -> Result<(), SourceError>
+    /// Reads the next line, of these bytes, which was classified.
+    fn take_classified(
+        &mut self,
+        alloc: Global,
+        bytes: &'a [u8],
+        line: Classified<'a>,
+    ) -> Result<(), SourceError>
         requires few { length self.old.entries.items < BLOCK_LIMIT }
-        requires lines { self.old.lines < SOURCE_LINES_LIMIT }
+        requires lines { self.old.kept.count < SOURCE_LINES_LIMIT }
         requires bytes { length line.bytes.now ≤ TEXT_LIMIT }
         requires spelled { IsSpelled line.class line.bytes.now }
         ensures step { Steps (state self.new) result (by_class
             (state self.old) line.entry.class line.entry.label.now line.entry.bytes.now) }
-        ensures pads { OnOk result (self.new.pads ≡ pads_by_class line.entry.class (suc self.old.lines) self.old.pads) }
-        ensures count { OnOk result (self.new.lines ≡ suc self.old.lines) }
+        ensures pads { OnOk result (self.new.pads ≡ pads_by_class line.entry.class (suc self.old.kept.count) self.old.pads) }
+        ensures kept { OnOk result (self.new.kept ≡ put_line line.entry.class bytes.now self.old.kept) }
         ensures after_code { OnOk result (self.new.after_code ≡ is_code line.entry.class) }
         ensures cut { self.new.cut ≡ self.old.cut }
         ensures standing { self.new.standing ≡ self.old.standing }
         ensures few { OnOk result (length self.new.entries.items < BLOCK_LIMIT) }
-        ensures lines { OnOk result (self.new.lines ≤ SOURCE_LINES_LIMIT) }
+        ensures lines { OnOk result (self.new.kept.count ≤ SOURCE_LINES_LIMIT) }
     {
         let mut after_code = false;
         let class = line.class;
@@ -129,14 +140,14 @@ impl<'r, 'a> Reader<'r, 'a> {
             Class::Other => self.end_run(alloc)?,
             Class::Refused => {
                 return Err(SourceError::BadOperand {
-                    line: self.lines + 1,
+                    line: self.kept.count() + 1,
                 });
             }
             Class::Pad { located } => {
                 if located {
                     self.begin_run(alloc, line.label)?;
                 }
-                self.pads.put(self.lines + 1)?;
+                self.pads.put(self.kept.count() + 1)?;
                 after_code = true;
             }
             Class::Instruction { located, instr } => {
@@ -147,7 +158,7 @@ impl<'r, 'a> Reader<'r, 'a> {
                 after_code = true;
             }
         }
-        self.lines += 1;
+        self.kept.put(&class, bytes)?;
         self.after_code = after_code;
         Ok(())
     }
@@ -160,43 +171,46 @@ impl<'r, 'a> Reader<'r, 'a> {
         continued: bool,
     ) -> Result<(), SourceError>
         requires few { length self.old.entries.items < BLOCK_LIMIT }
-        requires lines { self.old.lines ≤ SOURCE_LINES_LIMIT }
-        requires bodies { self.old.standing.bodies ≤ self.old.lines }
+        requires lines { self.old.kept.count ≤ SOURCE_LINES_LIMIT }
+        requires bodies { self.old.standing.bodies ≤ self.old.kept.count }
         ensures step { Steps (state self.new) result (line_step (state self.old)
             (flagged self.old continued line.now)) }
         ensures pads { OnOk result (self.new.pads ≡ pads_by_class
-            (class_at self.old.after_code (flagged self.old continued line.now)) (suc self.old.lines) self.old.pads) }
-        ensures count { OnOk result (self.new.lines ≡ suc self.old.lines) }
+            (class_at self.old.after_code (flagged self.old continued line.now)) (suc self.old.kept.count) self.old.pads) }
+        ensures kept { OnOk result (self.new.kept ≡ put_line
+            (class_at self.old.after_code (flagged self.old continued line.now)) line.now self.old.kept) }
         ensures after_code { OnOk result (self.new.after_code ≡
             is_code (class_at self.old.after_code (flagged self.old continued line.now))) }
         ensures standing { OnOk result (self.new.standing ≡ after_line self.old.cut self.old.standing line.now) }
         ensures cut { self.new.cut ≡ self.old.cut }
         ensures few { OnOk result (length self.new.entries.items < BLOCK_LIMIT) }
-        ensures lines { OnOk result (self.new.lines ≤ SOURCE_LINES_LIMIT) }
-        ensures bodies { OnOk result (self.new.standing.bodies ≤ self.new.lines) }
+        ensures lines { OnOk result (self.new.kept.count ≤ SOURCE_LINES_LIMIT) }
+        ensures bodies { OnOk result (self.new.standing.bodies ≤ self.new.kept.count) }
     {
         if line.len() > LINE_BYTES_LIMIT {
             return Err(SourceError::LineTooLong {
-                line: self.lines + 1,
+                line: self.kept.count() + 1,
             });
         }
-        if self.lines >= SOURCE_LINES_LIMIT {
+        if self.kept.count() >= SOURCE_LINES_LIMIT {
             return Err(SourceError::TooLarge);
         }
         let classified = self
             .standing
             .take(self.cut, self.after_code, line, continued);
-        self.take_classified(alloc, classified)
+        self.take_classified(alloc, line, classified)
     }
 
     /// Reads all lines of a text.
     pub(crate) fn take_all(&mut self, alloc: Global, text: &'a [u8]) -> Result<(), SourceError>
         requires few { length self.old.entries.items < BLOCK_LIMIT }
-        requires lines { self.old.lines ≤ SOURCE_LINES_LIMIT }
-        requires bodies { self.old.standing.bodies ≤ self.old.lines }
+        requires lines { self.old.kept.count ≤ SOURCE_LINES_LIMIT }
+        requires bodies { self.old.standing.bodies ≤ self.old.kept.count }
         ensures step { Steps (state self.new) result (lines_step (state self.old)
             (flagged_from self.old.cut self.old.standing (lines_from [] text.now))) }
-        ensures pads { OnOk result (self.new.pads ≡ pads_of_lines self.old.lines self.old.after_code self.old.pads
+        ensures pads { OnOk result (self.new.pads ≡ pads_of_lines self.old.kept.count self.old.after_code self.old.pads
+            (flagged_from self.old.cut self.old.standing (lines_from [] text.now))) }
+        ensures kept { OnOk result (self.new.kept ≡ put_lines self.old.after_code self.old.kept
             (flagged_from self.old.cut self.old.standing (lines_from [] text.now))) }
         ensures few { OnOk result (length self.new.entries.items < BLOCK_LIMIT) }
     {

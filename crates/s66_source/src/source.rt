@@ -6,6 +6,7 @@ ghost use Rattle.s66_source.specs.Gives.{Gives};
 ghost use Rattle.s66_source.specs.LeftAlone.{plain};
 
 use crate::error::SourceError;
+use crate::kept::{Kept, KeptLine};
 use crate::pads::Pads;
 use crate::reader::Reader;
 use crate::redefined::Redefined;
@@ -20,6 +21,7 @@ pub struct Source<'a> {
     text: &'a [u8],
     cut: bool,
     blocks: Vec<Block<'a>>,
+    lines: Vec<KeptLine<'a>>,
     /// The lines of the `NO`s that are left out when it is printed.
     dropped: Vec<u32>,
     /// The lines of the `NO`s before which no instruction of their run comes.
@@ -27,16 +29,18 @@ pub struct Source<'a> {
 }
 
 impl<'a> Model for Source<'a> {
-    ghost use Rattle.std.specs.Prelude.{◌≡◌, Ok};
+    ghost use Rattle.std.specs.Prelude.{◌≡◌, Ok, map};
+    ghost use Rattle.s66_source.specs.Kept.{kept_line};
     ghost use Rattle.s66_source.specs.LeftAlone.{Reading};
     ghost use Rattle.s66_source.specs.Roles.{is_dropped, is_leading, lines_that};
-    ghost use Rattle.s66_source.specs.Source.{source_of};
+    ghost use Rattle.s66_source.specs.Source.{classed_lines, source_of};
 
     ghost Value = { Reading };
 
     ghost view = { λ s. record { cut = s.cut; text = s.text.now } };
 
     ghost invariant = { λ s. (source_of (record { cut = s.cut; text = s.text.now }) ≡ Ok s.blocks.items) ×
+        (s.lines.items ≡ map kept_line (classed_lines (record { cut = s.cut; text = s.text.now }))) ×
         (s.dropped.items ≡ lines_that is_dropped (record { cut = s.cut; text = s.text.now })) ×
         (s.leading.items ≡ lines_that is_leading (record { cut = s.cut; text = s.text.now })) };
 }
@@ -103,7 +107,7 @@ pub fn read_source_with(alloc: Global, cut: bool, text: &[u8]) -> Result<Source<
         label: &[],
         entries: Vec::new(alloc),
         pads: Pads::new(alloc),
-        lines: 0,
+        kept: Kept::new(alloc),
         after_code: false,
         cut,
         standing,
@@ -115,7 +119,7 @@ pub fn read_source_with(alloc: Global, cut: bool, text: &[u8]) -> Result<Source<
         label: _,
         entries: _,
         pads,
-        lines: _,
+        kept,
         after_code: _,
         cut: _,
         standing: _,
@@ -125,6 +129,7 @@ pub fn read_source_with(alloc: Global, cut: bool, text: &[u8]) -> Result<Source<
         text,
         cut,
         blocks,
+        lines: kept.into_lines(),
         dropped,
         leading,
     })

@@ -1,6 +1,7 @@
 use Rattle.std.proofs.Common.{sym, ap, ◌∙◌, arith}
 use Rattle.std.proofs.lemmas.Result.{err_from_is_err_and}
 use Rattle.s66_source.specs.LeftAlone.{flagged_from}
+use Rattle.s66_source.specs.Kept.{put_lines}
 use Rattle.s66_source.specs.Pads.{pads_of_lines}
 use Rattle.s66_source.specs.Reader.{lines_step}
 use Rattle.s66_source.specs.SourceReader.{state}
@@ -19,8 +20,10 @@ loop-line-preserved c =
     let next = c.is_continued-continued.ensures in
     record {
       rest = rw (taken.cut, taken.standing) (lines_step-found self.cut self.standing (state self) (state c.take_line.new.self) rest line more c.is_continued-continued.result _ cut next taken.step c.loop-line.invariant.rest);
-      pads = rw (taken.pads, taken.count, taken.after_code, taken.cut, taken.standing)
-          (sym (ap (pads_of_lines self.lines self.after_code self.pads) (flagged-found self.cut self.standing rest line more c.is_continued-continued.result cut next)) ∙ c.loop-line.invariant.pads);
+      pads = rw (taken.pads, taken.kept, taken.after_code, taken.cut, taken.standing)
+          (sym (ap (pads_of_lines self.kept.count self.after_code self.pads) (flagged-found self.cut self.standing rest line more c.is_continued-continued.result cut next)) ∙ c.loop-line.invariant.pads);
+      kept = rw (taken.kept, taken.after_code, taken.cut, taken.standing)
+          (sym (ap (put_lines self.after_code self.kept) (flagged-found self.cut self.standing rest line more c.is_continued-continued.result cut next)) ∙ c.loop-line.invariant.kept);
       few = taken.few;
       lines = taken.lines;
       bodies = taken.bodies;
@@ -39,7 +42,12 @@ returns-in_err-take_line-clause-step c =
 pub returns-clause-pads : goal.returns-clause-pads
 returns-clause-pads c =
     let self = c.loop-line.self in
-    sym (ap (λ lines. pads_of_lines self.lines self.after_code self.pads (flagged_from self.cut self.standing lines)) c.in_default.ensures.none) ∙ c.loop-line.invariant.pads
+    sym (ap (λ lines. pads_of_lines self.kept.count self.after_code self.pads (flagged_from self.cut self.standing lines)) c.in_default.ensures.none) ∙ c.loop-line.invariant.pads
+
+pub returns-clause-kept : goal.returns-clause-kept
+returns-clause-kept c =
+    let self = c.loop-line.self in
+    sym (ap (λ lines. put_lines self.after_code self.kept (flagged_from self.cut self.standing lines)) c.in_default.ensures.none) ∙ c.loop-line.invariant.kept
 
 pub returns-clause-step : goal.returns-clause-step
 returns-clause-step c =

@@ -1,0 +1,145 @@
+//! The lines of a source as they are kept: the bytes of each, what of its class printing has to know, and where it stands in its run.
+
+ghost use Rattle.std.specs.Prelude.{◌≡◌};
+ghost use Rattle.s66_line.specs.Class.{begins_run};
+ghost use Rattle.s66_source.specs.Kept.{kind_of};
+
+use s66_line::Class;
+use std::alloc::{AllocError, Global};
+use std::marker::Model;
+
+/// What a line is, but for what its class has beside.
+#[derive(Clone, Copy)]
+pub(crate) enum Kind {
+    Comment,
+    /// One that is copied as it stands.
+    Other,
+    /// A `NO`.
+    Pad,
+    Instruction,
+}
+
+/// A line of a source.
+#[derive(Drop)]
+pub(crate) struct KeptLine<'a> {
+    pub(crate) bytes: &'a [u8],
+    pub(crate) kind: Kind,
+    /// The number of its run.
+    pub(crate) run: u32,
+    /// How many instructions of its run come before it.
+    pub(crate) index: u32,
+}
+
+impl<'a> Model for KeptLine<'a> {
+    ghost use Rattle.s66_source.specs.Kept.{KeptLine};
+
+    ghost Value = { KeptLine };
+
+    ghost view = { λ l. record { bytes = l.bytes.now; kind = l.kind; run = l.run; index = l.index } };
+}
+
+/// The lines that were read so far.
+#[derive(Drop)]
+pub(crate) struct Kept<'a> {
+    lines: Vec<KeptLine<'a>>,
+    /// How many there are.
+    count: u32,
+    /// The run of the next line, unless that begins one.
+    run: u32,
+    /// How many instructions it has so far.
+    index: u32,
+}
+
+impl<'a> Model for Kept<'a> {
+    ghost use Rattle.std.specs.Prelude.{◌≤◌};
+    ghost use Rattle.s66_source.specs.Kept.{Kept};
+
+    ghost Value = { Kept };
+
+    ghost view = { λ k. record { lines = k.lines.items; count = k.count; run = k.run; index = k.index } };
+
+    ghost invariant = { λ k. (k.run ≤ k.count) × (k.index ≤ k.count) };
+}
+
+fn kind_of(class: &Class) -> Kind
+    ensures { result ≡ kind_of class.now }
+{
+    match class {
+        Class::Comment => Kind::Comment,
+        Class::Other | Class::Refused => Kind::Other,
+        Class::Pad { .. } => Kind::Pad,
+        Class::Instruction { .. } => Kind::Instruction,
+    }
+}
+
+/// Whether a line of this class begins a run.
+fn begins_run(class: &Class) -> bool
+    ensures { result ≡ begins_run class.now }
+{
+    match class {
+        Class::Pad { located } => *located,
+        Class::Instruction { located, .. } => *located,
+        _ => false,
+    }
+}
+
+impl<'a> Kept<'a> {
+    ghost use Rattle.std.specs.Prelude.{◌≡◌, ◌<◌, OnOk};
+    ghost use Rattle.s66_source.specs.Kept.{nothing_kept, put_line};
+    ghost use Rattle.s66_source.specs.declared.limits.TheConstants.{SOURCE_LINES_LIMIT};
+
+    pub(crate) fn new(alloc: Global) -> Kept<'a>
+        ensures { result ≡ nothing_kept }
+    {
+        Kept {
+            lines: Vec::new(alloc),
+            count: 0,
+            run: 0,
+            index: 0,
+        }
+    }
+
+    /// How many lines there are.
+    pub(crate) fn count(&self) -> u32
+        ensures { result ≡ self.now.count }
+    {
+        self.count
+    }
+
+    pub(crate) fn into_lines(self) -> Vec<KeptLine<'a>>
+        ensures { result.items ≡ self.entry.lines }
+    {
+        self.lines
+    }
+
+    /// The next line, with its class.
+    pub(crate) fn put(&mut self, class: &Class, bytes: &'a [u8]) -> Result<(), AllocError>
+        requires { self.old.count < SOURCE_LINES_LIMIT }
+        ensures { OnOk result (self.new ≡ put_line class.now bytes.now self.old) }
+    {
+        let mut run = self.run;
+        let mut index = self.index;
+        if begins_run(class) {
+            run += 1;
+            index = 0;
+        }
+        self.lines.push(KeptLine {
+            bytes,
+            kind: kind_of(class),
+            run,
+            index,
+        })?;
+        match class {
+            Class::Other => {
+                run += 1;
+                index = 0;
+            }
+            Class::Instruction { .. } => index += 1,
+            _ => {}
+        }
+        self.count += 1;
+        self.run = run;
+        self.index = index;
+        Ok(())
+    }
+}
