@@ -19,7 +19,10 @@ use crate::cost::Cost;
 use crate::longest::longest_tails;
 use crate::numbers::ends_of;
 use arrayvec::ArrayVec;
-use s66_isa::{BLOCK_LIMIT, KIND_COUNT, Profile, REGISTER_COUNT, Reg, Set, Write, is_same_register, kind_number};
+use s66_isa::{
+    BLOCK_LIMIT, KIND_COUNT, Profile, REGISTER_COUNT, Reg, Set, Write, is_same_register,
+    kind_number,
+};
 use s66_time::Ranking;
 
 /// What bounds look up of the numbers of a block; the word of n is at place n - 1. Times are in minor cycles.

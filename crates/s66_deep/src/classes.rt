@@ -5,7 +5,10 @@ ghost use Rattle.std.specs.Prelude.{◌≤◌, length};
 ghost use Rattle.s66_isa.specs.declared.limits.TheConstants.{BLOCK_LIMIT};
 ghost use Rattle.s66_time.specs.Ranks.{AreUpTo};
 
-use s66_isa::{Kind, Memory, REGISTER_COUNT, Reg, Row, Set, Write, has_register, is_same_kind, is_same_register};
+use s66_isa::{
+    Kind, Memory, REGISTER_COUNT, Reg, Row, Set, Write, has_register, is_same_kind,
+    is_same_register,
+};
 
 /// What an instruction does with a register.
 #[derive(Clone, Copy)]

@@ -16,9 +16,9 @@ ghost use Rattle.s66_facts.specs.Settled.{AreAll, IsReady, IsMarkedUpTo, AreSett
 
 use crate::direction::Direction;
 use crate::graph::Graph;
-use s66_isa::{BLOCK_LIMIT, Set};
 use crate::paths::times_of;
 use crate::times::{Times, is_same_moment, times_at};
+use s66_isa::{BLOCK_LIMIT, Set};
 use s66_moments::{Moment, Stage};
 
 /// Whether the same numbers come sooner than k if m comes sooner than n too.

@@ -7,8 +7,8 @@ ghost use Rattle.s66_model.specs.Dependence.{share, conflict, depends};
 ghost use Rattle.s66_moments.specs.Networks.{precedes};
 ghost use Rattle.s66_facts.specs.Marked.{is_marked, no_marks, IsClosedUpTo};
 
-use s66_isa::{BLOCK_LIMIT, Instr, Reg, Set, has_register, is_memory_conflict};
 use arrayvec::ArrayVec;
+use s66_isa::{BLOCK_LIMIT, Instr, Reg, Set, has_register, is_memory_conflict};
 
 /// Whether some register is in both.
 fn share(registers: &[Reg], others: &[Reg]) -> bool

@@ -10,10 +10,10 @@ use crate::arcs::Arcs;
 use crate::closure::{before_each, marks_at};
 use crate::direction::Direction;
 use crate::marks::{copy_of, none_each};
-use s66_isa::{BLOCK_LIMIT, Instr, Kind, Profile, Row, Set, is_same_kind};
 use crate::near::near_each;
 use crate::pairs::{turned, with_pair};
 use arrayvec::ArrayVec;
+use s66_isa::{BLOCK_LIMIT, Instr, Kind, Profile, Row, Set, is_same_kind};
 use s66_moments::{KnownArc, Moment};
 use std::marker::Model;
 

@@ -12,9 +12,9 @@ ghost use Rattle.s66_facts.specs.Near.{uses, hands_on, covers, IsCovered, AreNea
 
 use crate::closure::marks_at;
 use crate::graph::Graph;
-use s66_isa::{BLOCK_LIMIT, Reg, Row, Set, has_register, is_memory_conflict, is_same_kind};
 use crate::times::writes;
 use arrayvec::ArrayVec;
+use s66_isa::{BLOCK_LIMIT, Reg, Row, Set, has_register, is_memory_conflict, is_same_kind};
 
 /// Whether an instruction writes a register or reads it.
 fn uses(row: &Row, register: Reg) -> bool
@@ -70,14 +70,7 @@ fn is_covered(graph: &Graph, sooner: &[Set], near: Set, m: u8, n: u8) -> bool
 }
 
 /// Marks m too, if it is one of these and none that is marked covers it.
-fn with_one(
-    graph: &Graph,
-    sooner: &[Set],
-    own: Set,
-    near: Set,
-    m: u8,
-    n: u8,
-) -> Set
+fn with_one(graph: &Graph, sooner: &[Set], own: Set, near: Set, m: u8, n: u8) -> Set
     requires n { IsNumber graph.now.problem n }
     requires few { length graph.now.problem.block ≤ BLOCK_LIMIT }
     requires count { length sooner.now ≡ length graph.now.problem.block }
@@ -97,13 +90,7 @@ fn with_one(
 }
 
 /// Marks more of these numbers, those next to n in the source first, until what is marked covers all of them.
-fn with_near(
-    graph: &Graph,
-    sooner: &[Set],
-    own: Set,
-    near: Set,
-    n: u8,
-) -> Set
+fn with_near(graph: &Graph, sooner: &[Set], own: Set, near: Set, n: u8) -> Set
     requires n { IsNumber graph.now.problem n }
     requires few { length graph.now.problem.block ≤ BLOCK_LIMIT }
     requires count { length sooner.now ≡ length graph.now.problem.block }

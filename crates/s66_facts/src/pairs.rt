@@ -7,8 +7,8 @@ ghost use Rattle.s66_moments.specs.Networks.{with_pair};
 ghost use Rattle.s66_facts.specs.Marked.{is_marked, no_marks, before_in};
 
 use crate::closure::marks_at;
-use s66_isa::{BLOCK_LIMIT, Set};
 use arrayvec::ArrayVec;
+use s66_isa::{BLOCK_LIMIT, Set};
 
 /// The numbers that stand before the one at a position, if j stands before k too.
 fn marks_with_pair(before: &[Set], j: u8, k: u8, position: usize) -> Set
@@ -31,11 +31,7 @@ fn marks_with_pair(before: &[Set], j: u8, k: u8, position: usize) -> Set
 }
 
 /// The numbers that stand before each, if j stands before k too.
-pub(crate) fn with_pair(
-    before: &[Set],
-    j: u8,
-    k: u8,
-) -> ArrayVec<Set, BLOCK_LIMIT>
+pub(crate) fn with_pair(before: &[Set], j: u8, k: u8) -> ArrayVec<Set, BLOCK_LIMIT>
     requires few { length before.now ≤ BLOCK_LIMIT }
     requires j { (1 ≤ j) × (j ≤ length before.now) }
     requires k { (1 ≤ k) × (k ≤ length before.now) }

@@ -13,9 +13,9 @@ ghost use Rattle.s66_facts.specs.Passes.{by_one, by_all, all_moments};
 use crate::direction::Direction;
 use crate::graph::Graph;
 use crate::heads::{after_one, heads_of};
-use s66_isa::{BLOCK_LIMIT, Set};
 use crate::tails::{before_one, tails_of};
 use crate::times::Times;
+use s66_isa::{BLOCK_LIMIT, Set};
 use s66_moments::{Moment, Stage};
 
 /// The moments of n by those of m.

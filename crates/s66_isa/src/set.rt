@@ -5,8 +5,8 @@ ghost use Rattle.s66_isa.specs.declared.limits.TheConstants.{BLOCK_LIMIT};
 ghost use Rattle.s66_isa.specs.Lists.{has, rising};
 ghost use Rattle.s66_isa.specs.Members.{numbers_in};
 
-use arrayvec::ArrayVec;
 use crate::limits::BLOCK_LIMIT;
+use arrayvec::ArrayVec;
 
 // two words have a bit for each number of a block
 const _: () = prove!(BLOCK_LIMIT == 2 * u64::BITS as usize);

@@ -16,9 +16,9 @@ ghost use Rattle.s66_node.specs.declared.node.State.TheVariants as state;
 use crate::links::Links;
 use crate::path::{name_of, up};
 use s66_bound::Leaf;
+use s66_isa::Set;
 use s66_model::{Tree, TreeLine};
 use s66_node::{Node, State, Walk};
-use s66_isa::Set;
 use std::alloc::AllocError;
 
 /// Appends the line of a leaf, which leaves out its value.

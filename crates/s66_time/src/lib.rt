@@ -26,9 +26,7 @@ mod words;
 
 pub use clock::{Clock, rows_of};
 pub use dominance::{dominates, dominates_clamped};
-pub use graph::{
-    Dependences, NotLegal, Openings, Order, Ranking, depends, is_beginning, ready,
-};
+pub use graph::{Dependences, NotLegal, Openings, Order, Ranking, depends, is_beginning, ready};
 pub use limits::{COPIES_LIMIT, LOOK_LIMIT, TOTAL_LIMIT};
 pub use mark::Mark;
 pub use result::{ResultAt, last_time};

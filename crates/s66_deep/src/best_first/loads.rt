@@ -6,7 +6,7 @@ use crate::best_first::instructions::Instructions;
 use crate::best_first::remaining::{next_issue, operands};
 use crate::floors::Tails;
 use arrayvec::ArrayVec;
-use s66_isa::{BLOCK_LIMIT, KINDS, KIND_COUNT, Kind, Set};
+use s66_isa::{BLOCK_LIMIT, KIND_COUNT, KINDS, Kind, Set};
 use s66_time::Clock;
 use std::alloc::{AllocError, Global};
 

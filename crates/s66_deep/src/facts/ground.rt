@@ -6,7 +6,7 @@ ghost use Rattle.s66_isa.specs.declared.limits.TheConstants.{BLOCK_LIMIT};
 
 use crate::facts::copies::copy_of;
 use arrayvec::ArrayVec;
-use s66_isa::{BLOCK_LIMIT, Instr, KINDS, KIND_COUNT, Kind, Profile, Row, Set, kind_number};
+use s66_isa::{BLOCK_LIMIT, Instr, KIND_COUNT, KINDS, Kind, Profile, Row, Set, kind_number};
 use s66_line::Block;
 use s66_time::rows_of;
 

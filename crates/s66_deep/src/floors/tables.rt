@@ -9,7 +9,7 @@ ghost use Rattle.s66_deep.specs.FollowingWords.{AreSmall, AreSmallWords, HasSmal
 
 use crate::classes::{Class, Role, those_of, users_of};
 use crate::floors::tails::{Part, Tails};
-use s66_isa::{BLOCK_LIMIT, KINDS, KIND_COUNT, REGISTER_COUNT, Reg, Row, Set};
+use s66_isa::{BLOCK_LIMIT, KIND_COUNT, KINDS, REGISTER_COUNT, Reg, Row, Set};
 use s66_time::Ranking;
 
 /// What the greatest paths of a block look up. Words are in minor cycles; that of n is at place n - 1.

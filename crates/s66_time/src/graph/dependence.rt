@@ -11,8 +11,8 @@ ghost use Rattle.s66_isa.specs.Members.{numbers_in};
 ghost use Rattle.s66_time.specs.Effects.{AreEffects, AreEffectsOf};
 
 use crate::graph::effects::Effects;
-use s66_isa::{BLOCK_LIMIT, Set};
 use arrayvec::ArrayVec;
+use s66_isa::{BLOCK_LIMIT, Set};
 use s66_line::Block;
 use std::marker::Model;
 

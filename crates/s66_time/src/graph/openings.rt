@@ -8,8 +8,8 @@ ghost use Rattle.s66_isa.specs.Members.{numbers_in, no_set};
 ghost use Rattle.s66_time.specs.Opens.{needs_of, is_direct};
 
 use crate::graph::dependence::Dependences;
-use s66_isa::{BLOCK_LIMIT, Set};
 use arrayvec::ArrayVec;
+use s66_isa::{BLOCK_LIMIT, Set};
 use s66_line::Block;
 use std::marker::Model;
 
