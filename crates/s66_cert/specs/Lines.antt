@@ -20,7 +20,6 @@ use Rattle.s66_moments.specs.declared.fact_line.FactLine.TheVariants as fact
 use Rattle.s66_moments.specs.declared.fact_line.FactStep.{FactStep}
 use Rattle.s66_moments.specs.declared.fact_line.FactStep.TheVariants as step
 use Rattle.s66_cert.specs.Document.{AreIn, AreNumbers, IsLeafLine, IsFactStep, step_line, vertex_line}
-use Rattle.s66_isa.specs.KindNames.{kind_name}
 use Rattle.s66_isa.specs.declared.limits.TheConstants.{PROFILE_LENGTH, PROFILE_LIMIT}
 use Rattle.s66_cert.specs.declared.version.Version.{Version}
 use Rattle.s66_cert.specs.declared.version.Version.TheVariants.{BoundsAlone, EarlierNodes, StandingNodes, FactLines, Suppositions}
