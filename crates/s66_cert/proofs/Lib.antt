@@ -10,12 +10,11 @@ pub mod LineTexts
 pub mod DocumentLines
 pub mod DominatedLines
 pub mod Heads
-pub mod LineBytes
+pub mod InRange
 pub mod TextLines
 pub mod States
 pub mod Grammar
 pub mod RoundTrip
-pub mod WiderDocuments
 pub mod OneReading
 pub mod Sound
 pub mod WholeTrees

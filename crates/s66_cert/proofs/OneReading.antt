@@ -4,7 +4,7 @@ use Rattle.std.specs.Prelude.{Result, Ok}
 use Rattle.s66_cert.specs.Document.{Document, IsDocumentWithin, IsTextWithin, document_text, documents_text}
 use Rattle.s66_cert.specs.declared.error.CertError.{CertError}
 use Rattle.s66_cert.proofs.RoundTrip.{read-again}
-use Rattle.s66_cert.proofs.WiderDocuments.{wide-documents}
+use Rattle.s66_cert.proofs.InRange.{wide-documents}
 
 same-list : (ds es : List Document) (r : Result (List Document) CertError) → r ≡ Ok ds → r ≡ Ok es → ds ≡ es
 same-list ds es r h k = let e = sym h ∙ k in (cc)

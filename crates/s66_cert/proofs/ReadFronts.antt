@@ -25,7 +25,7 @@ use Rattle.s66_cert.proofs.DocumentLines.{documents_lines, open_lines}
 use Rattle.s66_cert.proofs.TextLines.{whole-of, whole-all, newlines-append, open-text, documents-text}
 use Rattle.s66_cert.proofs.Heads.{read-under}
 use Rattle.s66_cert.proofs.Grammar.{step-line, documents-run, open-run}
-use Rattle.s66_cert.proofs.LineBytes.{is-line, lines-of-documents, lines-of-open}
+use Rattle.s66_cert.proofs.InRange.{is-line, lines-of-documents, lines-of-open}
 use Rattle.s66_cert.proofs.States.{at, place-instruction, place-tree}
 use Rattle.s66_cert.proofs.Sound.{part_lines, open-is, open-document, steps-sound, after-ok}
 

@@ -10,7 +10,7 @@ use Rattle.s66_cert.specs.Lines.{line_bytes}
 use Rattle.s66_cert.specs.Reading.{first_state, steps, whole_lines, last_bytes, read_within}
 use Rattle.s66_cert.proofs.TextLines.{documents-text, whole-all, last-all}
 use Rattle.s66_cert.proofs.Grammar.{documents-run}
-use Rattle.s66_cert.proofs.LineBytes.{lines-of-documents}
+use Rattle.s66_cert.proofs.InRange.{lines-of-documents}
 
 pub read-again : (limit most : ℕ) (text : List ℕ) (ds : List Document) → limit < 2 ^ 64 → IsTextWithin limit most text ds → read_within limit most text ≡ Ok ds
 read-again limit most text ds narrow is =

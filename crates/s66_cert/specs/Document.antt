@@ -154,9 +154,8 @@ pub record IsDocumentWithin (limit most : ℕ) (d : Document) : Type 0 where
 abbrev pub IsDocument : ℕ → Document → Type 0
 IsDocument limit d = IsDocumentWithin limit SPLIT_LIMIT d
 
--- THE TEXT
+-- ITS LINES, without their newlines
 
--- of a leaf, a split, a fact line and so on, without its newline
 abbrev pub leaf_line : Ending → List ℕ
 leaf_line (Bounding Whole) = codes "T"
 leaf_line (Bounding (Chain numbers)) = codes "C" ++ after_blanks numbers
@@ -190,6 +189,8 @@ step_line (step.Fact line) = fact_line line
 step_line (step.Suppose first second) = codes "B" ++ after_blanks (first ∷ second ∷ [])
 step_line step.Refuted = codes "Q"
 
+-- THE TEXT
+
 abbrev pub tree_lines : List (Vertex Ending) → List ℕ
 tree_lines [] = []
 tree_lines (vertex ∷ vertices) = vertex_line vertex ++ codes "\n" ++ tree_lines vertices
@@ -210,6 +211,7 @@ facts_text (Some steps) = step_lines steps
 abbrev pub head_lines : Version → Document → List ℕ
 head_lines v d = codes "S66 CERTIFICATE " ++ decimal (version_number v) ++ codes "\nPROFILE" ++ after_blanks d.profile ++ codes "\nBLOCK " ++ decimal (length d.block) ++ codes "\n"
 
+-- from these to the fact lines
 abbrev pub claim_lines : Document → List ℕ
 claim_lines d = codes "TIME " ++ decimal d.time ++ codes "\nBOUND " ++ decimal d.bound ++ codes "\nORDER" ++ after_blanks d.numbers ++ codes "\n"
 

@@ -12,7 +12,8 @@ use Rattle.s66_cert.specs.Lines.{DocumentLine, Header, Profile, Block, Instructi
 use Rattle.s66_cert.specs.DocumentParts.{Parts, document_of}
 use Rattle.s66_cert.specs.declared.version.Version.{Version}
 use Rattle.s66_cert.specs.declared.version.Version.TheVariants.{BoundsAlone}
-use Rattle.s66_cert.specs.Versions.{supposes, has_suppositions, version_rule, has_facts, may_suppose}
+use Rattle.s66_moments.specs.Suppositions.{supposes}
+use Rattle.s66_cert.specs.Versions.{has_suppositions, version_rule, has_facts, may_suppose}
 use Rattle.s66_cert.specs.declared.limits.TheConstants.{SPLIT_LIMIT, FACT_LIMIT}
 use Rattle.s66_cert.specs.declared.error.CertError.{CertError}
 use Rattle.s66_cert.specs.declared.error.CertError.TheVariants.{BadLine, Truncated, TooManyNodes}

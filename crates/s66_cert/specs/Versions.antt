@@ -4,15 +4,9 @@ use Rattle.s66_isa.specs.Lists.{some_of}
 use Rattle.s66_model.specs.declared.rule.Rule.{Rule}
 use Rattle.s66_model.specs.declared.rule.Rule.TheVariants.{NoneNamed, WrittenEarlier, ClampedStanding}
 use Rattle.s66_moments.specs.declared.fact_line.FactStep.{FactStep}
-use Rattle.s66_moments.specs.declared.fact_line.FactStep.TheVariants.{Fact, Suppose, Refuted}
+use Rattle.s66_moments.specs.Suppositions.{supposes}
 use Rattle.s66_cert.specs.declared.version.Version.{Version}
 use Rattle.s66_cert.specs.declared.version.Version.TheVariants.{BoundsAlone, EarlierNodes, StandingNodes, FactLines, Suppositions}
-
--- a line that begins or ends a supposition
-abbrev pub supposes : FactStep → Bool
-supposes (Fact line) = false
-supposes (Suppose first second) = true
-supposes Refuted = true
 
 abbrev pub has_suppositions : Option (List FactStep) → Bool
 has_suppositions None = false

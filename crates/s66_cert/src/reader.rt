@@ -21,7 +21,7 @@ use crate::instruction::{InstructionText, ReadText};
 use crate::limits::{FACT_LIMIT, SPLIT_LIMIT};
 use crate::line::LineOf;
 use crate::parse::line_of;
-use crate::version::{Version, has_suppositions, supposes};
+use crate::version::{Version, has_suppositions};
 use arrayvec::ArrayVec;
 use s66_isa::PROFILE_LENGTH;
 use s66_model::{Rule, Tree, TreeLine};
@@ -177,7 +177,7 @@ impl Reader {
     fn takes_step(&self, step: &FactStep) -> bool
         ensures { result ≡ takes_step self.now.version self.now.claim step.now }
     {
-        self.takes_fact() && (self.version.may_suppose() || !supposes(step))
+        self.takes_fact() && (self.version.may_suppose() || !step.supposes())
     }
 
     /// Reads a fact line, or one of a supposition, if it may come.

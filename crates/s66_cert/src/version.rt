@@ -3,7 +3,8 @@
 ghost use Rattle.std.specs.Prelude.{◌≡◌};
 ghost use Rattle.std.specs.Option.{option_map};
 ghost use Rattle.s66_isa.specs.Lists.{some_of};
-ghost use Rattle.s66_cert.specs.Versions.{supposes, has_suppositions, version, version_number, version_rule, has_facts, may_suppose};
+ghost use Rattle.s66_moments.specs.Suppositions.{supposes};
+ghost use Rattle.s66_cert.specs.Versions.{has_suppositions, version, version_number, version_rule, has_facts, may_suppose};
 
 use s66_model::Rule;
 use s66_moments::FactStep;
@@ -23,22 +24,12 @@ pub(crate) enum Version {
     Suppositions,
 }
 
-/// Whether the line begins or ends a supposition.
-pub(crate) fn supposes(step: &FactStep) -> bool
-    ensures { result ≡ supposes step.now }
-{
-    match step {
-        FactStep::Fact(_) => false,
-        FactStep::Suppose(_, _) | FactStep::Refuted => true,
-    }
-}
-
 /// Whether one of the lines begins or ends a supposition.
 fn some_supposes(steps: &[FactStep]) -> bool
     ensures { result ≡ some_of supposes steps.now }
 {
     for step in steps {
-        if supposes(step) {
+        if step.supposes() {
             return true;
         }
     }

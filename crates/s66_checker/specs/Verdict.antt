@@ -14,9 +14,8 @@ use Rattle.s66_model.specs.NodeNames.{node_named}
 use Rattle.s66_model.specs.DominatedLeaves.{Ending, Bounding, Dominated, Factual, is_standing, may_be_named}
 use Rattle.s66_model.specs.FactLeaves.{Next, Turned, AtLine, LoadFrom}
 use Rattle.s66_moments.specs.declared.fact_line.FactStep.{FactStep}
-use Rattle.s66_moments.specs.declared.fact_line.FactStep.TheVariants.{Fact, Suppose, Refuted}
 use Rattle.s66_moments.specs.Known.{Known, next_value, is_turned, is_loaded}
-use Rattle.s66_moments.specs.Suppositions.{Standing, standing_first, with_step, standing_after, is_step_taken}
+use Rattle.s66_moments.specs.Suppositions.{Standing, begins, standing_first, with_step, standing_after, is_step_taken}
 use Rattle.s66_cert.specs.Document.{Document, tree_placed}
 use Rattle.s66_checker.specs.declared.verdict.Verdict.{Verdict}
 use Rattle.s66_checker.specs.declared.verdict.Verdict.TheVariants.{Yes, No}
@@ -189,9 +188,7 @@ lines_verdict d line (at ∷ later) = unless line (line_fault d at.0 at.1) (line
 
 -- the line on which the last supposition began, if this line has this step
 abbrev pub begun_by : (line begun : ℕ) → FactStep → ℕ
-begun_by line begun (Fact fact) = begun
-begun_by line begun (Suppose first second) = line
-begun_by line begun Refuted = begun
+begun_by line begun step = if begins step then line else begun
 
 -- of these fact lines, by what is known before them, and then of what comes later; a supposition that doesn't end is a fault where it began
 abbrev pub facts_verdict : Document → (line begun : ℕ) → Standing → List FactStep → Verdict → Verdict

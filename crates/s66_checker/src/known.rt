@@ -31,10 +31,7 @@ pub fn fact_lines(document: &Document) -> &[FactStep]
 fn begun_by(line: u32, begun: u32, step: &FactStep) -> u32
     ensures { result ≡ begun_by line begun step.now }
 {
-    match step {
-        FactStep::Suppose(..) => line,
-        FactStep::Fact(_) | FactStep::Refuted => begun,
-    }
+    if step.begins() { line } else { begun }
 }
 
 /// Takes the fact lines of a document one after the other, and stops at the first that isn't shown by what is known before it. Returns

@@ -16,5 +16,5 @@ pub mod PairTaken
 pub mod LoadTaken
 pub mod SameTimes
 pub mod Settled
-pub mod Suppose
+pub mod NumbersLeft
 pub mod Opened

@@ -1,5 +1,5 @@
 -- To be believed: fact lines with suppositions among them, as a certificate has them: which are taken, what is known after them, and what they show of all orders.
-use Rattle.std.specs.Prelude.{ℕ, Bool, true, not, ◌&&◌, ◌||◌, ◌==◌, List, [], ◌∷◌, ◌++◌, nat_le, Option, Some, None, is_some}
+use Rattle.std.specs.Prelude.{ℕ, Bool, true, false, not, ◌&&◌, ◌||◌, ◌==◌, List, [], ◌∷◌, ◌++◌, nat_le, Option, Some, None, is_some}
 use Rattle.s66_isa.specs.Lists.{some_of}
 use Rattle.s66_isa.specs.Table.{numbers}
 use Rattle.s66_model.specs.Timing.{Problem}
@@ -12,6 +12,18 @@ use Rattle.s66_moments.specs.FactLines.{Line, Supposed}
 use Rattle.s66_moments.specs.declared.fact_line.KnownArc.{KnownArc}
 use Rattle.s66_moments.specs.Networks.{Network, same_moment, with_pair}
 use Rattle.s66_moments.specs.Known.{Known, known_first, with_line, line_of, is_number, is_taken, arcs_of, plus, span, reaches}
+
+-- it begins a supposition
+abbrev pub begins : FactStep → Bool
+begins (Fact line) = false
+begins (Suppose m n) = true
+begins Refuted = false
+
+-- it begins or ends one
+abbrev pub supposes : FactStep → Bool
+supposes (Fact line) = false
+supposes (Suppose m n) = true
+supposes Refuted = true
 
 -- it is to show that the first number stands before the second, by what was known when it began
 pub record Supposition : Type 0 where

@@ -24,6 +24,25 @@ pub enum FactStep {
     Refuted,
 }
 
+impl FactStep {
+    ghost use Rattle.std.specs.Prelude.{◌≡◌};
+    ghost use Rattle.s66_moments.specs.Suppositions.{begins, supposes};
+
+    /// Whether it begins a supposition.
+    pub fn begins(&self) -> bool
+        ensures { result ≡ begins self.now }
+    {
+        matches!(self, FactStep::Suppose(..))
+    }
+
+    /// Whether it begins or ends one.
+    pub fn supposes(&self) -> bool
+        ensures { result ≡ supposes self.now }
+    {
+        matches!(self, FactStep::Suppose(..) | FactStep::Refuted)
+    }
+}
+
 /// Instructions of one kind of unit begin their use of it at least `after` minor cycles after a moment, and have to be over before
 /// another. So this one comes later, by `wait` minor cycles at least.
 #[derive(Drop)]
