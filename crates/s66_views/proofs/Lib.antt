@@ -1,6 +1,5 @@
 pub mod Appended
 pub mod Labels
-pub mod Numbered
 pub mod PointTexts
 pub mod Values
 pub mod Escaping

@@ -1,1 +1,0 @@
--- The instructions of a block in the list of JSON, from a number on.
