@@ -12,10 +12,10 @@
 //! all fact lines. By that a leaf may also be closed without a node.
 //!
 //! It shares nothing with the search that made the certificate: no clock, no marks, no sets of dependences, no bounds, no ledger.
-//! So a mistake there, or in what is proved of it, doesn't come back here as a yes. It uses the table of instructions
-//! (`s66_isa`), the definitions of the model (`s66_model`), beginnings of orders that are worked out anew (`replay/`), what fact
-//! lines give of a block (`s66_moments`, `s66_facts`), and documents, their trees and their texts (`s66_cert`,
-//! `s66_line`). It allocates nothing.
+//! So a mistake there, or in what is proved of it, doesn't come back here as a yes. It uses the table of instructions and
+//! sets of numbers (`s66_isa`), the definitions of the model (`s66_model`), beginnings of orders that are worked out anew (`replay/`),
+//! what fact lines give of a block (`s66_moments`, `s66_facts`), and documents, their trees and their texts (`s66_cert`, `s66_line`). It
+//! allocates nothing.
 //!
 //! One prefix is pushed and popped along the tree (`walk`). Another goes to the nodes that are named (`name`). What both leave decides
 //! whether it dominates, clamped or in use (`in_use`), and what is known after the fact lines whether a leaf is right by facts (`known`,

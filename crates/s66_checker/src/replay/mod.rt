@@ -3,9 +3,8 @@
 //! Begin at `specs/Dominating.antt`, then `prefix.rt`.
 //!
 //! It shares nothing with the search: no clock, no marks of nodes, no sets of dependences, no bounds. So a mistake there, or in what is
-//! proved of it, doesn't come back here. It uses the table of instructions (`s66_isa`), the definitions of the model (`s66_model`)
-//! and those of fact lines (`s66_moments`), and a set of numbers (`Set` of `s66_facts`), and knows nothing of documents. It
-//! allocates nothing.
+//! proved of it, doesn't come back here. It uses the table of instructions and sets of numbers (`s66_isa`), the definitions of the model
+//! (`s66_model`) and those of fact lines (`s66_moments`), and knows nothing of documents. It allocates nothing.
 //!
 //! What each instruction depends on is tested pair by pair, and stored in a word (`needs`). A prefix is pushed and popped
 //! (`prefix`), with its points and what they leave for the next instruction (`past`, `words`, `timing`), or goes to other numbers. What
