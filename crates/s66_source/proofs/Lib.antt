@@ -35,5 +35,7 @@ pub mod Standings
 pub mod CutLaw
 pub mod Counted
 pub mod HalvesFound
+pub mod Runs
+pub mod Settled
 pub mod Frames
 mod OpenLines

@@ -32,7 +32,7 @@ behind [] = []
 behind ([] ∷ parts) = parts
 behind ((l ∷ more) ∷ parts) = if begins_block l then (l ∷ more) ∷ parts else parts
 
-put-before : (l : Line) (parts : List (List Line)) → put_before l parts ≡ (l ∷ left parts) ∷ behind parts
+pub put-before : (l : Line) (parts : List (List Line)) → put_before l parts ≡ (l ∷ left parts) ∷ behind parts
 put-before l [] = refl
 put-before l ([] ∷ parts) = refl
 put-before l ((next ∷ more) ∷ parts) =

@@ -72,7 +72,7 @@ same-blocks found blocks read h g = cc
 pub accepted-is : (source : Reading) (blocks : List Block) → source_of source ≡ Ok blocks → blocks_of (classed_lines source) ≡ blocks
 accepted-is source blocks accepted = same-blocks (blocks_of (classed_lines source)) blocks (source_of source) (Gives-accepted source blocks accepted) accepted
 
-not-many : (long many : Bool) (e f : SourceError) (o : Option SourceError) → (if long then Some e else (if many then Some f else o)) ≡ None → many ≡ false
+pub not-many : (long many : Bool) (e f : SourceError) (o : Option SourceError) → (if long then Some e else (if many then Some f else o)) ≡ None → many ≡ false
 not-many true many e f o h = cc
 not-many false true e f o h = cc
 not-many false false e f o h = refl

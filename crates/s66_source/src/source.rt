@@ -46,9 +46,10 @@ impl<'a> Model for Source<'a> {
 }
 
 impl<'a> Source<'a> {
-    ghost use Rattle.std.specs.Prelude.{◌≡◌, Ok};
+    ghost use Rattle.std.specs.Prelude.{◌≡◌, Ok, map};
+    ghost use Rattle.s66_source.specs.Kept.{kept_line};
     ghost use Rattle.s66_source.specs.Roles.{is_dropped, is_leading, lines_that};
-    ghost use Rattle.s66_source.specs.Source.{source_of};
+    ghost use Rattle.s66_source.specs.Source.{classed_lines, source_of};
 
     /// The blocks, in the order of their lines.
     pub fn blocks(&self) -> &[Block<'a>]
@@ -57,11 +58,10 @@ impl<'a> Source<'a> {
         self.blocks.as_slice()
     }
 
-    /// Whether it was read with `--cut`.
-    pub(crate) fn is_cut(&self) -> bool
-        ensures { result ≡ self.now.cut }
+    pub(crate) fn lines(&self) -> &[KeptLine<'a>]
+        ensures { result.now ≡ map kept_line (classed_lines self.now) }
     {
-        self.cut
+        self.lines.as_slice()
     }
 
     pub(crate) fn text(&self) -> &'a [u8]
