@@ -4,14 +4,13 @@ use Rattle.std.specs.Prelude.{Ok}
 use Rattle.std.proofs.lemmas.List.{append-nil, drop_all}
 use Rattle.s66_line.specs.Block.{Block, line_of}
 use Rattle.s66_line.specs.Fields.{trim, is_trailing}
-use Rattle.s66_source.specs.Frame.{FramePart, block_part, frame_of, frame_of_lines, line_part}
+use Rattle.s66_source.specs.Frame.{FramePart, block_part, frame_of, frame_of_lines}
 use Rattle.s66_source.specs.Kept.{KeptLine, begins_at, is_beside_by, kept_line, part_by}
 use Rattle.s66_source.specs.LeftAlone.{Reading}
 use Rattle.s66_source.specs.Source.{Line, blocks_of, classed_lines, source_of}
 use Rattle.s66_source.specs.declared.limits.TheConstants.{SOURCE_LINES_LIMIT}
-use Rattle.s66_source.proofs.KeptLines.{map-first}
 use Rattle.s66_source.proofs.LineTexts.{count_after, first_of}
-use Rattle.s66_source.proofs.Settled.{AreSettled, IsSettled, get-none, get-some, item-next, settled-source}
+use Rattle.s66_source.proofs.Settled.{AreSettled, IsSettled, get-none, get-some, item-next, map-first, settled-source}
 
 -- after so many lines, in which so many blocks begin: these are the lines to come
 pub record IsFramed (source : Reading) (rest : List KeptLine) (number begun : ℕ) (parts : List FramePart) : Type 0 where

@@ -8,7 +8,6 @@ pub mod Roles
 pub mod Printed
 pub mod ReadAgain
 pub mod Gives
-pub mod Pads
 pub mod Columns
 pub mod Replaced
 pub mod Keeper

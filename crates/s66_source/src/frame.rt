@@ -7,7 +7,7 @@ ghost use Rattle.s66_source.specs.Frame.{block_part, frame_of};
 ghost use Rattle.s66_source.specs.Kept.{begins_at, is_beside_by, part_by};
 ghost use Rattle.s66_source.specs.declared.limits.TheConstants.{SOURCE_LINES_LIMIT};
 
-use crate::kept::{KeptLine, Kind, begins_at, count_after, has_block};
+use crate::kept::{KeptLine, Kind, begins_at, count_after, first_line, has_block};
 use crate::source::Source;
 use s66_line::{Block, without_trailing};
 use std::alloc::{AllocError, Global};
@@ -46,10 +46,8 @@ fn without_first_blank(label: &[u8]) -> &[u8]
 fn block_part<'a>(block: &Block<'a>) -> FramePart<'a>
     ensures { result ≡ block_part block.now }
 {
-    // so there is a first instruction
-    prove!(block.count() >= 1);
     FramePart {
-        line: block.line(1),
+        line: first_line(block),
         is_block: true,
         bytes: without_first_blank(block.label()),
     }

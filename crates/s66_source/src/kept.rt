@@ -1,7 +1,9 @@
 //! The lines of a source as they are kept: the bytes of each, what of its class printing has to know, and where it stands in its run.
 
-ghost use Rattle.std.specs.Prelude.{◌≡◌, ◌<◌, suc, if◌then◌else◌, option_map};
+ghost use Rattle.std.specs.Prelude.{◌≡◌, ◌<◌, suc, if◌then◌else◌, length, option_map};
+ghost use Rattle.s66_line.specs.Block.{line_of};
 ghost use Rattle.s66_line.specs.Class.{begins_run};
+ghost use Rattle.s66_source.specs.Keeper.{bytes_at};
 ghost use Rattle.s66_source.specs.Kept.{begins_at, has_block_by, kind_of, runs_next};
 ghost use Rattle.s66_source.specs.declared.limits.TheConstants.{SOURCE_LINES_LIMIT};
 
@@ -145,16 +147,28 @@ impl<'a> Kept<'a> {
     }
 }
 
+/// The line of the first instruction of a block.
+pub(crate) fn first_line(block: &Block) -> u32
+    ensures { result ≡ line_of block.now 1 }
+{
+    // so there is a first instruction
+    prove!(block.count() >= 1);
+    block.line(1)
+}
+
+/// The line of the last instruction of a block.
+pub(crate) fn last_line(block: &Block) -> u32
+    ensures { result ≡ line_of block.now (length block.now.entries) }
+{
+    block.line(block.count())
+}
+
 /// Whether this block, that begins next, begins in the line of this number.
 pub(crate) fn begins_at(next: Option<&Block>, number: u32) -> bool
     ensures { result ≡ begins_at (option_map (λ block. block.now) next.entry) number }
 {
     match next {
-        Some(block) => {
-            // so there is a first instruction
-            prove!(block.count() >= 1);
-            block.line(1) == number
-        }
+        Some(block) => first_line(block) == number,
         None => false,
     }
 }
@@ -174,9 +188,7 @@ fn runs_next(lines: &[KeptLine], run: u32, next: Option<&Block>) -> bool
     let Some(block) = next else {
         return false;
     };
-    // so there is a first instruction
-    prove!(block.count() >= 1);
-    match lines.get((block.line(1) as usize).saturating_sub(1)) {
+    match lines.get((first_line(block) as usize).saturating_sub(1)) {
         Some(first) => first.run == run,
         None => false,
     }
@@ -187,4 +199,17 @@ pub(crate) fn has_block(lines: &[KeptLine], next: Option<&Block>, line: &KeptLin
     ensures { result ≡ has_block_by lines.now (option_map (λ block. block.now) next.entry) line.now }
 {
     line.index > 0 || runs_next(lines, line.run, next)
+}
+
+/// The bytes of the line of this number, from 1; none of any other number.
+pub(crate) fn bytes_at<'a>(lines: &[KeptLine<'a>], number: u32) -> &'a [u8]
+    ensures { result.now ≡ bytes_at lines.now number }
+{
+    if number == 0 {
+        return &[];
+    }
+    match lines.get(number as usize - 1) {
+        Some(line) => line.bytes,
+        None => &[],
+    }
 }

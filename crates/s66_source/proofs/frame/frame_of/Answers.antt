@@ -1,4 +1,4 @@
-use Rattle.std.proofs.Common.{◌∙◌, arith, refl, sym}
+use Rattle.std.proofs.Common.{arith, refl, sym}
 use Rattle.s66_source.proofs.Frames.{few-framed, framed-after, framed-all, framed-first}
 use Rattle.s66_source.proofs.PrintedLines.{accepted-is}
 use Rattle.s66_source.proofs.frame.frame_of.Goals as goal
