@@ -31,12 +31,13 @@ use Rattle.s66_source.proofs.ReadComments.{AreLinesOfSource, lines-of_source}
 use Rattle.s66_source.proofs.ReadLine.{IsLabel}
 use Rattle.s66_source.proofs.ReadStanding.{IsQuiet, flagged_at}
 use Rattle.s66_source.proofs.ReaderBlocks.{fresh, from_class, full-index, next-index}
+use Rattle.s66_source.proofs.Runs.{Within, begun, block-new, block-same, has_run, none-ahead, none-behind, run-skip, some-ahead, within-more, within-new, within-same}
 use Rattle.s66_source.proofs.SoundBlocks.{AreSoundBlocks, all-texts, located-label, sound-source}
 use Rattle.s66_source.proofs.SourceAgain.{redefined-again}
 use Rattle.s66_source.proofs.Standings.{code-stays, same-redefined}
 use Rattle.s66_compare.specs.Difference.{Shape, first_difference, shape_of, shapes}
 use Rattle.s66_compare.proofs.Differences.{same-alike}
-use Rattle.s66_compare.proofs.FrameRuns.{Reached, Within, begun, block-new, block-same, block_shape, emit, first-label, first_label, frame-runs, has_run, line_shape, next, none-ahead, none-behind, reached, run-skip, runs, some-ahead, within-more, within-new, within-same}
+use Rattle.s66_compare.proofs.FrameRuns.{Reached, block_shape, emit, first-label, first_label, frame-runs, line_shape, next, reached, runs}
 use Rattle.s66_compare.proofs.LinesAgain.{Clean, Free, GiveBlocks, GivesBlock, GivesIf, clean-classed, gives-anew, gives-copied, gives_at}
 use Rattle.s66_compare.proofs.PadTexts.{dropped-text, stands_at}
 

@@ -1,25 +1,22 @@
 -- The frame of a source, line by line: a NO stands in it once its run has ended without an instruction.
-use Rattle.std.proofs.Common.{◌≡◌, ◌≢◌, ◌≤◌, ◌<◌, ◌%◌, ◌==◌, ◌&&◌, ◌||◌, ◌∙◌, not, ℕ, zero, suc, Bool, true, false, true≢false, if◌then◌else◌, List, [], ◌∷◌, ◌++◌, None, map, refl, sym, ap, ap₂, arith, append_assoc, eqb, eq-eqb}
+use Rattle.std.proofs.Common.{◌≡◌, ◌≢◌, ◌%◌, ◌==◌, ◌||◌, ◌∙◌, not, ℕ, zero, suc, Bool, true, false, true≢false, if◌then◌else◌, List, [], ◌∷◌, ◌++◌, None, map, refl, sym, ap, ap₂, arith, append_assoc, eq-eqb}
 use Rattle.std.specs.Prelude.{Ok}
-use Rattle.std.proofs.Math.Bool.{and-false}
-use Rattle.std.proofs.lemmas.Bool.{ne_eqb, or_right}
+use Rattle.std.proofs.lemmas.Bool.{ne_eqb}
 use Rattle.std.proofs.lemmas.List.{append-nil}
-use Rattle.s66_isa.specs.Lists.{some_of}
 use Rattle.s66_isa.specs.declared.limits.TheConstants.{BLOCK_LIMIT}
 use Rattle.s66_line.specs.Block.{Block, line_of}
-use Rattle.s66_line.specs.Class.{is_instruction}
 use Rattle.s66_line.specs.Fields.{body, from_location, label_bytes, trim, is_trailing}
 use Rattle.s66_line.specs.declared.class.Class.{Class}
 use Rattle.s66_line.specs.declared.class.Class.TheVariants.{Comment, Other, Refused, Pad, Instruction}
 use Rattle.s66_source.specs.Frame.{FramePart, block_part, frame_of, frame_of_lines, is_beside, line_part, part_beside}
 use Rattle.s66_source.specs.LeftAlone.{Flagged, Reading, class_at, flagged_lines}
-use Rattle.s66_source.specs.Roles.{has_block}
 use Rattle.s66_source.specs.Source.{Line, begins_block, block_of, blocks_of, classed_lines, classes_from, instructions, parts_of, put_before, refusal, source_of}
 use Rattle.s66_source.proofs.LineLaw.{no_refusal}
-use Rattle.s66_source.proofs.PrintedLines.{Ordered, ordered-classed, run_behind, run_behind-le}
+use Rattle.s66_source.proofs.PrintedLines.{ordered-classed}
 use Rattle.s66_source.proofs.LineTexts.{AllFrom, all-from, behind, behind-begins, behind-put, left, parts_by, parts_from}
 use Rattle.s66_source.proofs.ReadAgain.{none-refused, rest-taken}
 use Rattle.s66_source.proofs.ReaderBlocks.{fresh, from_class}
+use Rattle.s66_source.proofs.Runs.{Within, begun, block-new, block-same, has_run, none-ahead, none-behind, run-skip, some-ahead, within-more, within-new, within-same}
 use Rattle.s66_compare.specs.Difference.{Shape, shape_of, shapes}
 
 -- WHAT IS KNOWN before a line
@@ -39,10 +36,6 @@ pub record Reached : Type 0 where
 
 abbrev pub reached : Bool → List Shape → ℕ → List ℕ → Reached
 reached after pads index label = record { after = after; pads = pads; index = index; label = label }
-
-abbrev pub begun : ℕ → Bool
-begun zero = false
-begun (suc n) = true
 
 -- the label of a block that begins after so many instructions of its run
 abbrev pub first_label : ℕ → List ℕ → List ℕ
@@ -71,100 +64,6 @@ next r (Instruction true i) line = reached true [] 1 (label_bytes (body line))
 abbrev pub runs : Reached → List Flagged → List Shape
 runs r [] = r.pads
 runs r (line ∷ lines) = emit r (class_at r.after line) line.bytes ++ runs (next r (class_at r.after line) line.bytes) lines
-
--- WHETHER A RUN HAS AN INSTRUCTION among lines
-
-abbrev pub has_run : ℕ → List Line → Bool
-has_run run lines = some_of (λ (l : Line). l.run == run && is_instruction l.class) lines
-
-pub run-skip : (run : ℕ) (l : Line) (lines : List Line) → is_instruction l.class ≡ false → has_run run (l ∷ lines) ≡ has_run run lines
-run-skip run l lines stated = ap (λ t. (eqb l.run run && t) || has_run run lines) stated ∙ ap (λ t. t || has_run run lines) (and-false (eqb l.run run))
-
-run-here : (run : ℕ) (l : Line) (lines : List Line) → l.run ≡ run → is_instruction l.class ≡ true → has_run run (l ∷ lines) ≡ true
-run-here run l lines same stated = rw (eq-eqb l.run run same, stated) refl
-
-run-other : (run : ℕ) (l : Line) (lines : List Line) → l.run ≢ run → has_run run (l ∷ lines) ≡ has_run run lines
-run-other run l lines other = rw (ne_eqb l.run run other) refl
-
-run-append : (run : ℕ) (before lines : List Line) → has_run run (before ++ lines) ≡ (has_run run before || has_run run lines)
-run-append run [] lines = refl
-run-append run (l ∷ before) lines =
-    elim (eqb l.run run && is_instruction l.class) as (λ t. (t || has_run run (before ++ lines)) ≡ ((t || has_run run before) || has_run run lines))
-    [ true ↦ refl | false ↦ run-append run before lines ]
-
-or-false : (b : Bool) → (b || false) ≡ b
-or-false true = refl
-or-false false = refl
-
--- of no later run
-abbrev UpTo : ℕ → List Line → Type 0
-UpTo run [] = Unit {0}
-UpTo run (l ∷ lines) = (l.run ≤ run) × UpTo run lines
-
-UpTo-later : (run later : ℕ) (lines : List Line) → run ≤ later → UpTo run lines → UpTo later lines
-UpTo-later run later [] least up_to = tt
-UpTo-later run later (l ∷ lines) least up_to = (omega (arith, least, up_to.0), UpTo-later run later lines least up_to.1)
-
-UpTo-push : (run : ℕ) (lines : List Line) (l : Line) → UpTo run lines → l.run ≤ run → UpTo run (lines ++ l ∷ [])
-UpTo-push run [] l up_to last = (last, tt)
-UpTo-push run (m ∷ lines) l up_to last = (up_to.0, UpTo-push run lines l up_to.1 last)
-
-none-past : (run : ℕ) (lines : List Line) → UpTo run lines → has_run (suc run) lines ≡ false
-none-past run [] up_to = refl
-none-past run (l ∷ lines) up_to = run-other (suc run) l lines (λ same. omega (arith, same, up_to.0)) ∙ none-past run lines up_to.1
-
-none-later : (run number low : ℕ) (lines : List Line) → run < low → Ordered number low lines → has_run run lines ≡ false
-none-later run number low [] below ordered = refl
-none-later run number low (l ∷ lines) below ordered =
-    run-other run l lines (λ same. omega (arith, same, below, ordered.1)) ∙ none-later run (suc number) (run_behind l) lines (omega (arith, below, ordered.1, run_behind-le l)) ordered.2
-
--- these lines come before, and so many instructions of the run are among them
-pub record Within (all before lines : List Line) (run index : ℕ) : Type 0 where
-  pub whole : all ≡ before ++ lines
-  pub past : UpTo run before
-  pub begins : has_run run before ≡ begun index
-
--- one line more, in the run or a later one
-within-next : (all before : List Line) (l : Line) (lines : List Line) (run later index i : ℕ) → Within all before (l ∷ lines) run index → run ≤ later → l.run ≤ later → has_run later (before ++ l ∷ []) ≡ begun i → Within all (before ++ l ∷ []) lines later i
-within-next all before l lines run later index i within least last is =
-    record { whole = within.whole ∙ sym (append_assoc before (l ∷ []) lines); past = UpTo-push later before l (UpTo-later run later before least within.past) last; begins = is }
-
--- that is no instruction, in the run
-pub within-same : (all before : List Line) (l : Line) (lines : List Line) (run index : ℕ) → Within all before (l ∷ lines) run index → l.run ≡ run → is_instruction l.class ≡ false → Within all (before ++ l ∷ []) lines run index
-within-same all before l lines run index within same stated =
-    within-next all before l lines run run index index within (omega arith) (omega (arith, same))
-    (run-append run before (l ∷ []) ∙ ap (λ b. has_run run before || b) (run-skip run l [] stated) ∙ or-false (has_run run before) ∙ within.begins)
-
--- with which a run ends, or that begins one
-pub within-new : (all before : List Line) (l : Line) (lines : List Line) (run index : ℕ) → Within all before (l ∷ lines) run index → l.run ≤ suc run → is_instruction l.class ≡ false → Within all (before ++ l ∷ []) lines (suc run) 0
-within-new all before l lines run index within last stated =
-    within-next all before l lines run (suc run) index 0 within (omega arith) last
-    (run-append (suc run) before (l ∷ []) ∙ ap (λ b. has_run (suc run) before || b) (run-skip (suc run) l [] stated) ∙ or-false (has_run (suc run) before) ∙ none-past run before within.past)
-
--- an instruction of the run, or the first of the next one
-pub within-more : (all before : List Line) (l : Line) (lines : List Line) (run later index i : ℕ) → Within all before (l ∷ lines) run index → run ≤ later → l.run ≡ later → is_instruction l.class ≡ true → Within all (before ++ l ∷ []) lines later (suc i)
-within-more all before l lines run later index i within least same stated =
-    within-next all before l lines run later index (suc i) within least (omega (arith, same))
-    (run-append later before (l ∷ []) ∙ ap (λ b. has_run later before || b) (run-here later l [] same stated) ∙ or_right (has_run later before) true refl)
-
--- whether a NO of the run, or of a new one, is of a run with an instruction
-pub block-same : (all before : List Line) (l : Line) (lines : List Line) (run index : ℕ) → Within all before (l ∷ lines) run index → l.run ≡ run → is_instruction l.class ≡ false → has_block all l ≡ (begun index || has_run run lines)
-block-same all before l lines run index within same stated =
-    ap (λ k. has_run k all) same ∙ ap (has_run run) within.whole ∙ run-append run before (l ∷ lines) ∙ ap₂ (λ a b. a || b) within.begins (run-skip run l lines stated)
-
-pub block-new : (all before : List Line) (l : Line) (lines : List Line) (run index : ℕ) → Within all before (l ∷ lines) run index → l.run ≡ suc run → is_instruction l.class ≡ false → has_block all l ≡ has_run (suc run) lines
-block-new all before l lines run index within same stated =
-    ap (λ k. has_run k all) same ∙ ap (has_run (suc run)) within.whole ∙ run-append (suc run) before (l ∷ lines) ∙ ap₂ (λ a b. a || b) (none-past run before within.past) (run-skip (suc run) l lines stated)
-
--- no instruction of the run comes once it has ended
-pub none-ahead : (run number : ℕ) (l : Line) (lines : List Line) → Ordered number (suc run) lines → is_instruction l.class ≡ false → has_run run (l ∷ lines) ≡ false
-none-ahead run number l lines ordered stated = run-skip run l lines stated ∙ none-later run number (suc run) lines (omega arith) ordered
-
-pub none-behind : (run number : ℕ) (l : Line) (lines : List Line) → Ordered number (suc run) lines → l.run ≡ suc run → has_run run (l ∷ lines) ≡ false
-none-behind run number l lines ordered same = run-other run l lines (λ here. omega (arith, here, same)) ∙ none-later run number (suc run) lines (omega arith) ordered
-
-pub some-ahead : (run : ℕ) (l : Line) (lines : List Line) → l.run ≡ run → is_instruction l.class ≡ true → has_run run (l ∷ lines) ≡ true
-some-ahead run l lines same stated = run-here run l lines same stated
 
 -- THE FRAME, line by line
 

@@ -34,7 +34,8 @@ use Rattle.s66_source.proofs.ReadStanding.{IsQuiet, after-body, alone-body, clas
 use Rattle.s66_source.proofs.ReaderBlocks.{next-index}
 use Rattle.s66_source.proofs.Standings.{code-line, code-stays}
 use Rattle.s66_compare.specs.Difference.{Shape}
-use Rattle.s66_compare.proofs.FrameRuns.{Reached, begun, block_shape, emit, first_label, line_shape, next, reached, runs}
+use Rattle.s66_source.proofs.Runs.{begun}
+use Rattle.s66_compare.proofs.FrameRuns.{Reached, block_shape, emit, first_label, line_shape, next, reached, runs}
 
 -- an unlabelled block may begin next
 abbrev pub Free : ℕ → List ℕ → Type 0

@@ -8,7 +8,7 @@ use Rattle.s66_source.specs.LeftAlone.{Flagged, Reading, class_at, flagged_lines
 use Rattle.s66_source.specs.Replaced.{begun, owner}
 use Rattle.s66_source.specs.Roles.{has_block, is_comment_class, is_leading, is_other_class, is_pad_class}
 use Rattle.s66_source.specs.Source.{Line, blocks_of, classed_lines, classes_from, label_after, label_at, place_after, place_at, run_after, run_at}
-use Rattle.s66_source.proofs.Owners.{plain-notes}
+use Rattle.s66_source.proofs.LineTexts.{no-note_in}
 
 abbrev IsOther : Line → Flagged → Type 0
 IsOther line m = (line.bytes ≡ m.bytes) × (m.alone ≡ true → is_other_class line.class ≡ true)
@@ -36,7 +36,7 @@ other-only (Instruction located i) is = absurd (true≢false (sym is))
 other-none : (all : List Line) (l : Line) → is_other_class l.class ≡ true → owner all l ≡ 0
 other-none all l is =
     let plain = other-only l.class is in
-    ap₂ own (ap₂ (λ s t. s || t) plain.0 (plain-notes l (blocks_of all) plain.1)) (ap (λ t. t && has_block all l) plain.2)
+    ap₂ own (ap₂ (λ s t. s || t) plain.0 (no-note_in l (blocks_of all) plain.1)) (ap (λ t. t && has_block all l) plain.2)
   where
     own : (given dropped : Bool) → ℕ
     own given dropped = if given then begun all l else (if dropped then (if is_leading all l then suc (begun all l) else begun all l) else 0)

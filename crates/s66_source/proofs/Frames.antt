@@ -1,145 +1,124 @@
 -- Passing the lines of a source one by one gives its frame (`frame_of`).
-use Rattle.std.proofs.Common.{◌≡◌, ◌≤◌, ◌<◌, ◌&&◌, ◌||◌, not, ℕ, suc, Bool, true, false, if◌then◌else◌, Option, None, Some, List, [], ◌∷◌, ◌++◌, length, map, refl, sym, ap, ap₂, ◌∙◌, append_assoc, arith, nat_lt}
-use Rattle.std.specs.Prelude.{Ok, ◌==◌}
-use Rattle.std.specs.List.{filter}
-use Rattle.std.proofs.lemmas.Bool.{and_parts, eq-eqb, le-leb, leb-true, ltb-false, ne_eqb}
-use Rattle.s66_isa.specs.Lists.{every}
+use Rattle.std.proofs.Common.{◌≡◌, ◌≤◌, ◌<◌, ◌+◌, ◌==◌, ◌∙◌, ℕ, suc, Bool, true, false, if◌then◌else◌, Option, None, Some, List, [], ◌∷◌, ◌++◌, drop, get_or, length, map, refl, sym, ap, ap₂, append_assoc, arith, slice_get, subst}
+use Rattle.std.specs.Prelude.{Ok}
+use Rattle.std.proofs.lemmas.List.{append-nil, drop_all}
 use Rattle.s66_line.specs.Block.{Block, line_of}
-use Rattle.s66_line.specs.Class.{is_code}
-use Rattle.s66_line.specs.Fields.{lines_from, lines_of}
-use Rattle.s66_line.specs.declared.class.Class.{Class}
-use Rattle.s66_line.specs.declared.limits.TheConstants.{LINE_BYTES_LIMIT}
-use Rattle.s66_source.specs.Frame.{FramePart, block_part, frame_of, frame_of_lines, is_beside, line_part, part_beside}
-use Rattle.s66_source.specs.Framer.{Framer, after_framed, begins_block, begins_with, first_part, flagged_next, frame_from, framed, is_short, part_at}
-use Rattle.s66_source.specs.Replaced.{others}
-use Rattle.s66_source.specs.LeftAlone.{Flagged, Reading, after_line, at_first, class_at, flagged_lines, is_continued, redefined_by}
-use Rattle.s66_source.specs.Roles.{has_block, is_dropped, is_other_class, is_pad_class, lines_that}
-use Rattle.s66_source.specs.Source.{Line, blocks_of, classed_lines, classes_from, label_after, label_at, operand_refusal, place_after, place_at, refusal, run_after, run_at, source_of}
-use Rattle.s66_source.specs.declared.error.SourceError.{SourceError}
-use Rattle.s66_source.specs.declared.error.SourceError.TheVariants.{LineTooLong, TooLarge}
-use Rattle.s66_source.specs.LeftAlone.{Standing}
+use Rattle.s66_line.specs.Fields.{trim, is_trailing}
+use Rattle.s66_source.specs.Frame.{FramePart, block_part, frame_of, frame_of_lines}
+use Rattle.s66_source.specs.Kept.{KeptLine, begins_at, is_beside_by, kept_line, part_by}
+use Rattle.s66_source.specs.LeftAlone.{Reading}
+use Rattle.s66_source.specs.Source.{Line, blocks_of, classed_lines, source_of}
 use Rattle.s66_source.specs.declared.limits.TheConstants.{SOURCE_LINES_LIMIT}
-use Rattle.s66_source.proofs.FlaggedLines.{bytes-flagged, flagged-found}
-use Rattle.s66_source.proofs.LineLaw.{neither, no_refusal}
-use Rattle.s66_source.proofs.PrintedLines.{accepted-is}
+use Rattle.s66_source.proofs.LineTexts.{count_after, first_of}
+use Rattle.s66_source.proofs.Settled.{AreSettled, IsSettled, get-none, get-some, item-next, map-first, settled-source}
 
--- LINE BY LINE
+-- after so many lines, in which so many blocks begin: these are the lines to come
+pub record IsFramed (source : Reading) (rest : List KeptLine) (number begun : ℕ) (parts : List FramePart) : Type 0 where
+  pub lines : List Line
+  pub left : rest ≡ map kept_line lines
+  pub settled : AreSettled (classed_lines source) (suc number) begun lines
+  pub whole : parts ++ frame_of_lines (classed_lines source) (drop begun (blocks_of (classed_lines source))) lines ≡ frame_of source
+  pub counts : begun ≤ number
 
--- the first line, and then those after it
-pub framed-found : (f : Framer) (out : List FramePart) (text line more : List ℕ) (continued : Bool) → lines_from [] text ≡ line ∷ lines_from [] more → (f.cut && continued) ≡ (f.cut && is_continued (lines_from [] more)) →
-    (out ++ part_at f (flagged_next f continued line)) ++ framed (after_framed f (flagged_next f continued line)) (lines_from [] more) ≡ out ++ framed f (lines_from [] text)
-framed-found f out text line more continued cut same =
-    let next = flagged_next f continued line in
-    append_assoc out (part_at f next) (framed (after_framed f next) (lines_from [] more)) ∙ ap (λ lines. out ++ frame_from f lines) (sym (flagged-found f.cut f.standing text line more continued cut same))
+pub framed-first : (source : Reading) (blocks : List Block) (rest : List KeptLine) (parts : List FramePart) → source_of source ≡ Ok blocks → rest ≡ map kept_line (classed_lines source) → parts ≡ [] → IsFramed source rest 0 0 parts
+framed-first source blocks rest parts accepted is none = record {
+  lines = classed_lines source;
+  left = is;
+  settled = settled-source source blocks accepted;
+  whole = ap (λ ps. ps ++ frame_of source) none;
+  counts = omega arith;
+}
 
--- the first line is short, and so are those after it
-pub short-found : (text line more : List ℕ) → lines_from [] text ≡ line ∷ lines_from [] more → every is_short (lines_from [] text) ≡ true → (length line ≤ LINE_BYTES_LIMIT) × (every is_short (lines_from [] more) ≡ true)
-short-found text line more cut short =
-    let both = and_parts (is_short line) (every is_short (lines_from [] more)) (ap (every is_short) (sym cut) ∙ short) in
-    (leb-true (length line) LINE_BYTES_LIMIT both.0, both.1)
-
--- EACH LINE of an accepted source is short
-
-not-long : (long many : Bool) (e f : SourceError) (o : Option SourceError) → (if long then Some e else (if many then Some f else o)) ≡ None → long ≡ false
-not-long true many e f o h = cc
-not-long false many e f o h = refl
-
-short-from : (lines : List Flagged) (number run index : ℕ) (label : List ℕ) (after : Bool) → refusal (classes_from number run index label after lines) ≡ None → every is_short (map (λ (m : Flagged). m.bytes) lines) ≡ true
-short-from [] number run index label after taken = refl
-short-from (line ∷ lines) number run index label after taken =
-    let c : Class = class_at after line in
-    let both = neither _ _ taken in
-    let one = not-long (nat_lt LINE_BYTES_LIMIT (length line.bytes)) (nat_lt SOURCE_LINES_LIMIT number) (LineTooLong number) TooLarge (operand_refusal number c) both.0 in
-    let short : is_short line.bytes ≡ true = le-leb (length line.bytes) LINE_BYTES_LIMIT (ltb-false LINE_BYTES_LIMIT (length line.bytes) one) in
-    rw short (short-from lines (suc number) (run_after run c) (place_after index c) (label_after label c line.bytes) (is_code c) both.1)
-
-pub short-lines : (source : Reading) (blocks : List Block) → source_of source ≡ Ok blocks → every is_short (lines_of source.text) ≡ true
-short-lines source blocks accepted =
-    ap (every is_short) (sym (bytes-flagged source.cut (at_first (redefined_by source)) (lines_of source.text)))
-    ∙ short-from (flagged_lines source) 1 0 0 [] false (no_refusal (refusal (classed_lines source)) (blocks_of (classed_lines source)) blocks accepted)
-
--- a Pad with a block is no Pad without one
-beside-same : (other pad has : Bool) → (other || (pad && not (pad && has))) ≡ (other || (pad && not has))
-beside-same other true has = refl
-beside-same other false has = refl
-
--- THE NUMBERS OF SOME LINES, of which the first is that of the next line, or not
-
-abbrev Numbered : ℕ → List Line → Type 0
-Numbered number [] = Unit {0}
-Numbered number (l ∷ lines) = (l.number ≡ number) × Numbered (suc number) lines
-
-numbered-classed : (lines : List Flagged) (number run index : ℕ) (label : List ℕ) (after : Bool) → Numbered number (classes_from number run index label after lines)
-numbered-classed [] number run index label after = tt
-numbered-classed (line ∷ lines) number run index label after =
-    let c = class_at after line in
-    (refl, numbered-classed lines (suc number) (run_after run c) (place_after index c) (label_after label c line.bytes) (is_code c))
-
-abbrev numbers_in : (Line → Bool) → List Line → List ℕ
-numbers_in some lines = map (λ (l : Line). l.number) (filter some lines)
-
-later-numbers : (some : Line → Bool) (low number : ℕ) (lines : List Line) → low < number → Numbered number lines → begins_with low (numbers_in some lines) ≡ false
-later-numbers some low number [] lt h = refl
-later-numbers some low number (l ∷ lines) lt h =
-    elim (some l) as (λ t. begins_with low (map (λ (x : Line). x.number) (if t then l ∷ filter some lines else filter some lines)) ≡ false)
-    [ true ↦ ne_eqb l.number low (λ same. absurd (omega (arith, same, h.0, lt))) | false ↦ later-numbers some low (suc number) lines (omega (arith, lt)) h.1 ]
-
-next-number : (some : Line → Bool) (number : ℕ) (l : Line) (lines : List Line) → Numbered number (l ∷ lines) → begins_with number (numbers_in some (l ∷ lines)) ≡ some l
-next-number some number l lines h =
-    elim (some l) as (λ t. begins_with number (map (λ (x : Line). x.number) (if t then l ∷ filter some lines else filter some lines)) ≡ t)
-    [ true ↦ eq-eqb l.number number h.0 | false ↦ later-numbers some number (suc number) lines (omega arith) h.1 ]
-
-numbers-after : (some : Line → Bool) (l : Line) (lines : List Line) → (if some l then others (numbers_in some (l ∷ lines)) else numbers_in some (l ∷ lines)) ≡ numbers_in some lines
-numbers-after some l lines =
-    elim (some l) as (λ t. (if t then others (map (λ (x : Line). x.number) (if t then l ∷ filter some lines else filter some lines))
-    else map (λ (x : Line). x.number) (if t then l ∷ filter some lines else filter some lines)) ≡ numbers_in some lines) [ true ↦ refl | false ↦ refl ]
-
--- ALL LINES
-
-frame-lines : (all : List Line) (lines : List Flagged) (cut : Bool) (standing : Standing) (blocks : List Block) (dropped : List ℕ) (after : Bool) (count run index : ℕ) (label : List ℕ) →
-    dropped ≡ numbers_in (is_dropped all) (classes_from (suc count) run index label after lines) →
-    frame_from (record { cut = cut; standing = standing; blocks = blocks; dropped = dropped; after = after; lines = count }) lines ≡ frame_of_lines all blocks (classes_from (suc count) run index label after lines)
-frame-lines all [] cut standing blocks dropped after count run index label same = refl
-frame-lines all (line ∷ lines) cut standing blocks dropped after count run index label same =
-    let c : Class = class_at after line in
-    let l : Line = first-classed (suc count) run index label after line in
-    let ls : List Line = classes_from (suc (suc count)) (run_after run c) (place_after index c) (label_after label c line.bytes) (is_code c) lines in
-    let begins : begins_with (suc count) dropped ≡ is_dropped all l =
-    ap (begins_with (suc count)) same ∙ next-number (is_dropped all) (suc count) l ls (numbered-classed (line ∷ lines) (suc count) run index label after)
-    in
-    let left = ap₂ (λ t ns. if t then others ns else ns) begins same ∙ numbers-after (is_dropped all) l ls in
-    let beside : (is_other_class c || (is_pad_class c && not (begins_with (suc count) dropped))) ≡ is_beside all l =
-    ap (λ t. is_other_class c || (is_pad_class c && not t)) begins ∙ beside-same (is_other_class c) (is_pad_class c) (has_block all l)
-    in
-    by_blocks all blocks (is_other_class c || (is_pad_class c && not (begins_with (suc count) dropped))) l ls lines
-    cut (after_line cut standing line.bytes) (if begins_with (suc count) dropped then others dropped else dropped) (is_code c) (suc count)
-    beside
-    (λ more. frame-lines all lines cut (after_line cut standing line.bytes) more (if begins_with (suc count) dropped then others dropped else dropped) (is_code c) (suc count) (run_after run c) (place_after index c) (label_after label c line.bytes) left)
+-- the line, by the block that begins next
+frame-line : (all : List Line) (begun number : ℕ) (l : Line) (ls : List Line) (next : Option Block) → IsSettled all number begun l → slice_get (blocks_of all) begun ≡ next →
+    frame_of_lines all (drop begun (blocks_of all)) (l ∷ ls) ≡ part_by (map kept_line all) next number (kept_line l) ++ frame_of_lines all (drop (if begins_at next number then suc begun else begun) (blocks_of all)) ls
+frame-line all begun number l ls None s is =
+    let none = get-none (blocks_of all) begun is in
+    ap (λ bs. frame_of_lines all bs (l ∷ ls)) none
+    ∙ ap₂ (λ (b : Bool) n. (if b then record { line = n; is_block = false; bytes = trim is_trailing l.bytes } ∷ [] else []) ++ frame_of_lines all [] ls) (s.beside ∙ ap (λ next. is_beside_by (map kept_line all) next (kept_line l)) is) s.number_is
+    ∙ ap (λ bs. part_by (map kept_line all) None number (kept_line l) ++ frame_of_lines all bs ls) (sym none)
+frame-line all begun number l ls (Some block) s is =
+    ap (λ bs. frame_of_lines all bs (l ∷ ls)) some
+    ∙ ap₂ (λ (b : Bool) n. if line_of block 1 == n then block_part block ∷ frame_of_lines all (drop (suc begun) (blocks_of all)) ls else ((if b then record { line = n; is_block = false; bytes = trim is_trailing l.bytes } ∷ [] else []) ++ frame_of_lines all (block ∷ drop (suc begun) (blocks_of all)) ls))
+    (s.beside ∙ ap (λ next. is_beside_by (map kept_line all) next (kept_line l)) is) s.number_is
+    ∙ by_place (line_of block 1 == number) (if is_beside_by (map kept_line all) (Some block) (kept_line l) then record { line = number; is_block = false; bytes = trim is_trailing l.bytes } ∷ [] else [])
   where
-    first-classed : (number run index : ℕ) (label : List ℕ) (after : Bool) → Flagged → Line
-    first-classed number run index label after line =
-        record { number = number; bytes = line.bytes; class = class_at after line; run = run_at run (class_at after line); index = place_at index (class_at after line); label = label_at label (class_at after line) line.bytes }
+    some : drop begun (blocks_of all) ≡ block ∷ drop (suc begun) (blocks_of all)
+    some = get-some (blocks_of all) begun block is
 
-    by_blocks : (all : List Line) (blocks : List Block) (is : Bool) (l : Line) (ls : List Line) (lines : List Flagged) (cut : Bool) (standing : Standing) (dropped : List ℕ) (after : Bool) (count : ℕ) →
-        is ≡ is_beside all l →
-        ((more : List Block) → frame_from (record { cut = cut; standing = standing; blocks = more; dropped = dropped; after = after; lines = count }) lines ≡ frame_of_lines all more ls) →
-        (if begins_block l.number blocks then first_part blocks else (if is then line_part l ∷ [] else []))
-        ++ frame_from (record { cut = cut; standing = standing; blocks = if begins_block l.number blocks then others blocks else blocks; dropped = dropped; after = after; lines = count }) lines
-        ≡ frame_of_lines all blocks (l ∷ ls)
-    by_blocks all [] is l ls lines cut standing dropped after count beside later =
-        ap₂ (λ xs ys. xs ++ ys) (ap (λ t. if t then line_part l ∷ [] else []) beside) (later [])
-    by_blocks all (block ∷ blocks) is l ls lines cut standing dropped after count beside later =
-        elim (line_of block 1 == l.number) as (λ t.
-        (if t then block_part block ∷ [] else (if is then line_part l ∷ [] else []))
-        ++ frame_from (record { cut = cut; standing = standing; blocks = if t then blocks else (block ∷ blocks); dropped = dropped; after = after; lines = count }) lines
-        ≡ (if t then block_part block ∷ frame_of_lines all blocks ls else (part_beside all l ++ frame_of_lines all (block ∷ blocks) ls))) [
-          | true ↦ ap (λ xs. block_part block ∷ xs) (later blocks)
-          | false ↦ ap₂ (λ xs ys. xs ++ ys) (ap (λ t. if t then line_part l ∷ [] else []) beside) (later (block ∷ blocks))
-        ]
+    by_place : (t : Bool) (ps : List FramePart) → (if t then block_part block ∷ frame_of_lines all (drop (suc begun) (blocks_of all)) ls else (ps ++ frame_of_lines all (block ∷ drop (suc begun) (blocks_of all)) ls))
+        ≡ (if t then block_part block ∷ [] else ps) ++ frame_of_lines all (drop (if t then suc begun else begun) (blocks_of all)) ls
+    by_place true ps = refl
+    by_place false ps = ap (λ bs. ps ++ frame_of_lines all bs ls) (sym some)
 
-pub frame-read : (source : Reading) (blocks : List Block) → source_of source ≡ Ok blocks →
-    framed (record { cut = source.cut; standing = at_first (redefined_by source); blocks = blocks; dropped = lines_that is_dropped source; after = false; lines = 0 }) (lines_of source.text) ≡ frame_of source
-frame-read source blocks accepted =
-    let all = classed_lines source in
-    frame-lines all (flagged_lines source) source.cut (at_first (redefined_by source)) blocks (lines_that is_dropped source) false 0 0 0 [] refl
-    ∙ ap (λ bs. frame_of_lines all bs all) (sym (accepted-is source blocks accepted))
+framed-next : (source : Reading) (rest : List KeptLine) (number begun : ℕ) (parts : List FramePart) (line : KeptLine) (more : List KeptLine) → IsFramed source rest number begun parts → rest ≡ line ∷ more →
+    (suc number ≤ SOURCE_LINES_LIMIT) × IsFramed source more (suc number) (if begins_at (slice_get (blocks_of (classed_lines source)) begun) (suc number) then suc begun else begun)
+    (parts ++ part_by (map kept_line (classed_lines source)) (slice_get (blocks_of (classed_lines source)) begun) (suc number) line)
+framed-next source rest number begun parts line more f is =
+    let (l, ls, lines, here, later) = map-first kept_line f.lines line more (sym f.left ∙ is) in
+    let settled : AreSettled all (suc number) begun (l ∷ ls) = subst (AreSettled all (suc number) begun) lines f.settled in
+    let counted : count_after (first_of l) begun ≡ next = ap (λ (t : Bool). if t then suc begun else begun) (sym settled.0.begins_is) in
+    (settled.0.few,
+    record {
+      lines = ls;
+      left = sym later;
+      settled = subst (λ m. AreSettled all (suc (suc number)) m ls) counted settled.1;
+      whole =
+          append_assoc parts (part_by (map kept_line all) (slice_get (blocks_of all) begun) (suc number) line) (frame_of_lines all (drop next (blocks_of all)) ls)
+          ∙ ap (λ k. parts ++ (part_by (map kept_line all) (slice_get (blocks_of all) begun) (suc number) k ++ frame_of_lines all (drop next (blocks_of all)) ls)) (sym here)
+          ∙ ap (λ ps. parts ++ ps) (sym (frame-line all begun (suc number) l ls (slice_get (blocks_of all) begun) settled.0 refl))
+          ∙ ap (λ ls. parts ++ frame_of_lines all (drop begun (blocks_of all)) ls) (sym lines)
+          ∙ f.whole;
+      counts = by_test (begins_at (slice_get (blocks_of all) begun) (suc number)) f.counts;
+    })
+  where
+    all : List Line
+    all = classed_lines source
+
+    next : ℕ
+    next = if begins_at (slice_get (blocks_of all) begun) (suc number) then suc begun else begun
+
+    by_test : (t : Bool) → begun ≤ number → (if t then suc begun else begun) ≤ suc number
+    by_test true le = omega (arith, le)
+    by_test false le = omega (arith, le)
+
+-- no line is left
+framed-last : (source : Reading) (rest : List KeptLine) (number begun : ℕ) (parts : List FramePart) → IsFramed source rest number begun parts → rest ≡ [] → parts ≡ frame_of source
+framed-last source rest number begun parts f none = by_lines f.lines (sym f.left ∙ none) f.whole
+  where
+    end : (bs : List Block) → frame_of_lines (classed_lines source) bs [] ≡ []
+    end [] = refl
+    end (b ∷ bs) = refl
+
+    by_lines : (lines : List Line) → map kept_line lines ≡ [] → parts ++ frame_of_lines (classed_lines source) (drop begun (blocks_of (classed_lines source))) lines ≡ frame_of source → parts ≡ frame_of source
+    by_lines [] none whole = sym (append-nil parts) ∙ ap (λ ps. parts ++ ps) (sym (end (drop begun (blocks_of (classed_lines source))))) ∙ whole
+    by_lines (l ∷ lines) none whole = cc
+
+-- AS THE LOOP GOES, over these lines by their indices
+
+module _ (source : Reading) (lines : List KeptLine) (same : lines ≡ map kept_line (classed_lines source)) (i number begun : ℕ) (parts : List FramePart) (line : KeptLine) where
+  left-lines : i < length lines → line ≡ get_or lines i line → drop i (map kept_line (classed_lines source)) ≡ line ∷ drop (i + 1) (map kept_line (classed_lines source))
+  left-lines lt is = subst (λ (ls : List KeptLine). drop i ls ≡ line ∷ drop (i + 1) ls) same (item-next lines i line lt is)
+
+  pub few-framed : i < length lines → line ≡ get_or lines i line → IsFramed source (drop i (map kept_line (classed_lines source))) number begun parts → (number < SOURCE_LINES_LIMIT) × (begun < SOURCE_LINES_LIMIT)
+  few-framed lt is f =
+      let few = (framed-next source (drop i (map kept_line (classed_lines source))) number begun parts line (drop (i + 1) (map kept_line (classed_lines source))) f (left-lines lt is)).0 in
+      (omega (arith, few), omega (arith, few, f.counts))
+
+  pub framed-after : (blocks : List Block) (after : ℕ) (pushed : List FramePart) → i < length lines → line ≡ get_or lines i line → blocks ≡ blocks_of (classed_lines source) →
+      pushed ≡ parts ++ part_by lines (slice_get blocks begun) (number + 1) line → after ≡ (if begins_at (slice_get blocks begun) (number + 1) then suc begun else begun) →
+      IsFramed source (drop i (map kept_line (classed_lines source))) number begun parts → IsFramed source (drop (i + 1) (map kept_line (classed_lines source))) (number + 1) after pushed
+  framed-after blocks after pushed lt is are text counted f =
+      let next = (framed-next source (drop i (map kept_line (classed_lines source))) number begun parts line (drop (i + 1) (map kept_line (classed_lines source))) f (left-lines lt is)).1 in
+      let one : suc number ≡ number + 1 = omega arith in
+      let counted_is : after ≡ (if begins_at (slice_get (blocks_of (classed_lines source)) begun) (suc number) then suc begun else begun) =
+      counted ∙ ap₂ (λ bs n. if begins_at (slice_get bs begun) n then suc begun else begun) are (sym one) in
+      let text_is : pushed ≡ parts ++ part_by (map kept_line (classed_lines source)) (slice_get (blocks_of (classed_lines source)) begun) (suc number) line =
+      text ∙ ap₂ (λ ls bs. parts ++ part_by ls (slice_get bs begun) (number + 1) line) same are ∙ ap (λ n. parts ++ part_by (map kept_line (classed_lines source)) (slice_get (blocks_of (classed_lines source)) begun) n line) (sym one) in
+      subst (λ n. IsFramed source (drop (i + 1) (map kept_line (classed_lines source))) n after pushed) one
+      (subst (λ m. IsFramed source (drop (i + 1) (map kept_line (classed_lines source))) (suc number) m pushed) (sym counted_is)
+      (subst (IsFramed source (drop (i + 1) (map kept_line (classed_lines source))) (suc number) _) (sym text_is) next))
+
+pub framed-all : (source : Reading) (lines : List KeptLine) (i number begun : ℕ) (parts : List FramePart) → lines ≡ map kept_line (classed_lines source) → length lines ≤ i → IsFramed source (drop i (map kept_line (classed_lines source))) number begun parts → parts ≡ frame_of source
+framed-all source lines i number begun parts same past f =
+    framed-last source (drop i (map kept_line (classed_lines source))) number begun parts f (subst (λ (ls : List KeptLine). drop i ls ≡ []) same (drop_all i lines past))

@@ -6,12 +6,8 @@ pub mod UpperSwitches
 pub mod CaseLaw
 pub mod LineLaw
 pub mod KeptRead
-pub mod PadsLaw
-pub mod LeadingPads
 pub mod IndentedLines
 pub mod PrintedLines
-pub mod UpTo
-pub mod Owners
 pub mod FewBlocks
 pub mod KeptLines
 pub mod AloneLines
@@ -35,5 +31,7 @@ pub mod Standings
 pub mod CutLaw
 pub mod Counted
 pub mod HalvesFound
+pub mod Runs
+pub mod Settled
 pub mod Frames
 mod OpenLines

@@ -79,7 +79,7 @@ pub Rising-lower : (low high : ℕ) (lines : List Line) → low ≤ high → Ris
 Rising-lower low high [] le h = tt
 Rising-lower low high (l ∷ lines) le h = (omega (arith, le, h.0), h.1)
 
-rising-classed : (lines : List Flagged) (number run index : ℕ) (label : List ℕ) (after : Bool) → Rising number (classes_from number run index label after lines)
+pub rising-classed : (lines : List Flagged) (number run index : ℕ) (label : List ℕ) (after : Bool) → Rising number (classes_from number run index label after lines)
 rising-classed [] number run index label after = tt
 rising-classed (line ∷ lines) number run index label after =
     let c : Class = class_at after line in
@@ -118,7 +118,7 @@ outside true first n last (inl h) = rw (le-ltb first n h) refl
 outside true first n last (inr h) = rw (le-ltb n last h) (and-false (nat_lt first n))
 outside false first n last h = refl
 
-not-note : (line l : Line) (more : List Line) → (line.number ≤ l.number) ⊎ (last_number l more ≤ line.number) → is_note_of line (block_of (l ∷ more)) ≡ false
+pub not-note : (line l : Line) (more : List Line) → (line.number ≤ l.number) ⊎ (last_number l more ≤ line.number) → is_note_of line (block_of (l ∷ more)) ≡ false
 not-note line l more h = rw (line_of-last l more) (outside (is_comment_class line.class) l.number line.number (last_number l more) h)
 
 tally-fails : {X : Type 0} (test : X → Bool) (x : X) (xs : List X) → test x ≡ false → tally test (x ∷ xs) ≡ tally test xs

@@ -32,7 +32,7 @@ behind [] = []
 behind ([] ∷ parts) = parts
 behind ((l ∷ more) ∷ parts) = if begins_block l then (l ∷ more) ∷ parts else parts
 
-put-before : (l : Line) (parts : List (List Line)) → put_before l parts ≡ (l ∷ left parts) ∷ behind parts
+pub put-before : (l : Line) (parts : List (List Line)) → put_before l parts ≡ (l ∷ left parts) ∷ behind parts
 put-before l [] = refl
 put-before l ([] ∷ parts) = refl
 put-before l ((next ∷ more) ∷ parts) =
@@ -254,7 +254,7 @@ plain-text all texts l none = by_text (text_for texts (owner all l)) refl
     by_text None stated = inl (ap (λ text. line_text (begins all l) text l) stated)
     by_text (Some text) stated = inr (ap₂ (λ first text. line_text first text l) none stated)
 
-no-note_in : (l : Line) (blocks : List Block) → is_comment_class l.class ≡ false → some_of (is_note_of l) blocks ≡ false
+pub no-note_in : (l : Line) (blocks : List Block) → is_comment_class l.class ≡ false → some_of (is_note_of l) blocks ≡ false
 no-note_in l [] none = refl
 no-note_in l (block ∷ blocks) none = rw none (no-note_in l blocks none)
 

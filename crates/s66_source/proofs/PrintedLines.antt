@@ -1,22 +1,22 @@
 -- The lines of a source with their classes, in order, and the blocks of an accepted one, as printing and the frame go over them.
-use Rattle.std.proofs.Common.{◌≡◌, ◌≤◌, ◌+◌, ℕ, suc, Bool, true, false, if◌then◌else◌, Option, None, Some, List, [], ◌∷◌, ◌++◌, length, map, refl, sym, ap, ◌∙◌, subst, inl, inr, arith, nat_lt}
+use Rattle.std.proofs.Common.{◌≡◌, ◌≤◌, ◌+◌, ℕ, suc, Bool, true, false, if◌then◌else◌, Option, None, Some, List, [], ◌∷◌, length, map, refl, sym, ap, ◌∙◌, subst, inl, inr, arith, nat_lt}
 use Rattle.std.specs.Prelude.{Result, Ok}
 use Rattle.std.proofs.lemmas.Bool.{ltb-false}
 use Rattle.s66_isa.specs.Lists.{Among}
 use Rattle.s66_line.specs.Fields.{lines_of}
 use Rattle.s66_source.specs.LeftAlone.{Reading, Flagged, class_at, at_first, flagged_lines, redefined_by}
-use Rattle.s66_source.specs.Source.{Line, run_after, place_after, label_after, classes_from, classed_lines, refusal, operand_refusal, instructions, blocks_of, source_of}
+use Rattle.s66_source.specs.Source.{Line, run_at, run_after, place_after, label_after, classes_from, classed_lines, refusal, operand_refusal, instructions, blocks_of, source_of}
 use Rattle.s66_line.specs.Block.{Block}
 use Rattle.s66_line.specs.Class.{is_instruction, is_code, ends_run}
 use Rattle.s66_line.specs.declared.class.Class.{Class}
+use Rattle.s66_line.specs.declared.class.Class.TheVariants.{Comment, Other, Refused, Pad, Instruction}
 use Rattle.s66_line.specs.declared.limits.TheConstants.{LINE_BYTES_LIMIT}
 use Rattle.s66_source.specs.declared.limits.TheConstants.{SOURCE_LINES_LIMIT}
-use Rattle.s66_source.proofs.PadsLaw.{run_at-le}
 use Rattle.s66_source.specs.declared.error.SourceError.{SourceError}
 use Rattle.s66_source.specs.declared.error.SourceError.TheVariants.{LineTooLong, TooLarge}
 use Rattle.s66_source.proofs.ReaderBlocks.{Gives-accepted}
 use Rattle.s66_source.proofs.FlaggedLines.{length-flagged}
-use Rattle.s66_source.proofs.LineLaw.{no_refusal, neither, Rising, Rising-lower}
+use Rattle.s66_source.proofs.LineLaw.{no_refusal, neither, Rising}
 
 -- LINES IN ORDER: numbers that rise by one, runs that do not fall
 
@@ -26,6 +26,15 @@ run_behind l = if ends_run l.class then suc l.run else l.run
 abbrev pub Ordered : ℕ → ℕ → List Line → Type 0
 Ordered number run [] = Unit {0}
 Ordered number run (l ∷ lines) = (l.number ≡ number) × (run ≤ l.run) × Ordered (suc number) (run_behind l) lines
+
+run_at-le : (run : ℕ) (c : Class) → (run ≤ run_at run c) × (run_at run c ≤ run_after run c)
+run_at-le run Comment = (omega arith, omega arith)
+run_at-le run Other = (omega arith, omega arith)
+run_at-le run Refused = (omega arith, omega arith)
+run_at-le run (Pad true) = (omega arith, omega arith)
+run_at-le run (Pad false) = (omega arith, omega arith)
+run_at-le run (Instruction true n) = (omega arith, omega arith)
+run_at-le run (Instruction false n) = (omega arith, omega arith)
 
 pub ordered-classed : (lines : List Flagged) (number run index : ℕ) (label : List ℕ) (after : Bool) → Ordered number run (classes_from number run index label after lines)
 ordered-classed [] number run index label after = tt
@@ -57,10 +66,6 @@ of-instructions (l ∷ lines) m among = by_test (is_instruction l.class) refl (o
     by_test true stated later (inr among) = (inr (later among).0, (later among).1)
     by_test false stated later among = (inr (later among).0, (later among).1)
 
-pub Rising-after : (low : ℕ) (xs ys : List Line) → Rising low (xs ++ ys) → Rising low ys
-Rising-after low [] ys h = h
-Rising-after low (x ∷ xs) ys h = Rising-lower low (suc x.number) ys (omega (arith, h.0)) (Rising-after (suc x.number) xs ys h.1)
-
 pub first-line : (l m : Line) (ls ms : List Line) → l ∷ ls ≡ m ∷ ms → (l ≡ m) × (ls ≡ ms)
 first-line l m ls ms h = (cc, cc)
 
@@ -72,7 +77,7 @@ same-blocks found blocks read h g = cc
 pub accepted-is : (source : Reading) (blocks : List Block) → source_of source ≡ Ok blocks → blocks_of (classed_lines source) ≡ blocks
 accepted-is source blocks accepted = same-blocks (blocks_of (classed_lines source)) blocks (source_of source) (Gives-accepted source blocks accepted) accepted
 
-not-many : (long many : Bool) (e f : SourceError) (o : Option SourceError) → (if long then Some e else (if many then Some f else o)) ≡ None → many ≡ false
+pub not-many : (long many : Bool) (e f : SourceError) (o : Option SourceError) → (if long then Some e else (if many then Some f else o)) ≡ None → many ≡ false
 not-many true many e f o h = cc
 not-many false true e f o h = cc
 not-many false false e f o h = refl

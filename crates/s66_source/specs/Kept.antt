@@ -1,8 +1,11 @@
 -- Used by contracts within the crate alone: the lines of a source as they are kept, read line by line.
-use Rattle.std.specs.Prelude.{ℕ, suc, Bool, List, [], ◌∷◌, ◌++◌}
+use Rattle.std.specs.Prelude.{ℕ, suc, ◌-◌, ◌==◌, if◌then◌else◌, not, Bool, true, false, List, [], ◌∷◌, ◌++◌, Option, None, Some, slice_get}
+use Rattle.s66_line.specs.Block.{Block, line_of}
 use Rattle.s66_line.specs.Class.{is_code}
+use Rattle.s66_line.specs.Fields.{trim, is_trailing}
 use Rattle.s66_line.specs.declared.class.Class.{Class}
 use Rattle.s66_line.specs.declared.class.Class.TheVariants.{Comment, Other, Refused, Pad, Instruction}
+use Rattle.s66_source.specs.Frame.{FramePart, block_part}
 use Rattle.s66_source.specs.LeftAlone.{Flagged, class_at}
 use Rattle.s66_source.specs.Source.{Line, place_after, place_at, run_after, run_at}
 use Rattle.s66_source.specs.declared.kept.Kind.{Kind}
@@ -51,3 +54,38 @@ put_line c bytes kept =
 abbrev pub put_lines : Bool → Kept → List Flagged → Kept
 put_lines after kept [] = kept
 put_lines after kept (line ∷ lines) = put_lines (is_code (class_at after line)) (put_line (class_at after line) line.bytes kept) lines
+
+-- OF A LINE, by the block that begins next, in it or later
+
+abbrev pub begins_at : Option Block → ℕ → Bool
+begins_at None number = false
+begins_at (Some block) number = line_of block 1 == number
+
+abbrev pub is_run : ℕ → Option KeptLine → Bool
+is_run run None = false
+is_run run (Some line) = line.run == run
+
+-- the first line of the next block is of this run
+abbrev pub runs_next : List KeptLine → ℕ → Option Block → Bool
+runs_next lines run None = false
+runs_next lines run (Some block) = is_run run (slice_get lines (line_of block 1 - 1))
+
+-- of a NO: an instruction is in its run, before or after it
+abbrev pub has_block_by : List KeptLine → Option Block → KeptLine → Bool
+has_block_by lines next line = if line.index == 0 then runs_next lines line.run next else true
+
+abbrev pub beside_by_kind : Kind → (has : Bool) → Bool
+beside_by_kind kind.Other has = true
+beside_by_kind kind.Pad has = not has
+beside_by_kind _ has = false
+
+abbrev pub is_beside_by : List KeptLine → Option Block → KeptLine → Bool
+is_beside_by lines next line = beside_by_kind line.kind (has_block_by lines next line)
+
+-- what it is of the frame
+abbrev pub part_by : List KeptLine → Option Block → ℕ → KeptLine → List FramePart
+part_by lines None number line =
+    if is_beside_by lines None line then record { line = number; is_block = false; bytes = trim is_trailing line.bytes } ∷ [] else []
+part_by lines (Some block) number line =
+    if line_of block 1 == number then block_part block ∷ []
+    else (if is_beside_by lines (Some block) line then record { line = number; is_block = false; bytes = trim is_trailing line.bytes } ∷ [] else [])

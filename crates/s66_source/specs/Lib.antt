@@ -8,8 +8,6 @@ pub mod Roles
 pub mod Printed
 pub mod ReadAgain
 pub mod Gives
-pub mod Pads
-pub mod Kept
 pub mod Columns
 pub mod Replaced
 pub mod Keeper
@@ -19,4 +17,4 @@ pub mod Refusals
 pub mod UpperRead
 pub mod Halves
 pub mod Frame
-pub mod Framer
+pub mod Kept

@@ -1,13 +1,15 @@
 //! The text of a block that is printed in another order: its report, and the line of each instruction.
 
-ghost use Rattle.std.specs.Prelude.{ℕ, ◌≡◌, ◌≤◌, ◌++◌, codes, length, OnOk};
+ghost use Rattle.std.specs.Prelude.{ℕ, ◌≡◌, ◌≤◌, ◌-◌, ◌++◌, codes, get_or, length, option_map, slice_get, OnOk};
 ghost use Rattle.s66_isa.specs.Lists.{Among};
 ghost use Rattle.s66_line.specs.Fields.{body};
 ghost use Rattle.s66_source.specs.Columns.{indented_line, indented_lines, line_start};
+ghost use Rattle.s66_source.specs.Keeper.{indents_by, note_in};
 ghost use Rattle.s66_source.specs.Printed.{bound_text, splits_line, times_text, report, label_field};
 ghost use Rattle.s66_isa.specs.declared.limits.TheConstants.{BLOCK_LIMIT};
 
-use crate::columns::USUAL_INDENT;
+use crate::columns::{Columns, USUAL_INDENT};
+use crate::kept::{KeptLine, Kind, bytes_at};
 use crate::placed::Placed;
 use s66_device::push_field;
 use s66_line::{Block, body_of, without_trailing};
@@ -109,26 +111,59 @@ fn push_instruction(
     out.extend_from_slice(b"\n")
 }
 
-/// The lines of the instructions of these numbers, the first with the label of the block, by the blanks before each instruction of the
-/// block that has no label.
+/// The blanks before an instruction of a block that is printed without a label, by the lines of its source.
+fn indent_of(lines: &[KeptLine], columns: Columns, block: &Block, number: usize) -> u8
+    requires first { 1 ≤ number }
+    requires last { number ≤ length block.now.entries }
+    ensures { result ≡ get_or (indents_by columns lines.now block.now) (number - 1) 0 }
+{
+    columns.indent(bytes_at(lines, block.line(number)))
+}
+
+/// The lines of the instructions of these numbers, the first with the label of the block, by the lines of its source.
 pub(crate) fn push_indented(
     out: &mut Vec<u8>,
+    lines: &[KeptLine],
     block: &Block,
     order: &[u8],
-    indents: &[u8],
+    columns: Columns,
 ) -> Result<(), AllocError>
-    requires order { (n : ℕ) → Among n order.now → (1 ≤ n) × (n ≤ length block.now.entries) }
-    requires indents { length block.now.entries ≤ length indents.now }
+    requires { (n : ℕ) → Among n order.now → (1 ≤ n) × (n ≤ length block.now.entries) }
     ensures { OnOk result (out.new.items ≡ out.old.items ++
-        indented_lines indents.now block.now block.now.label order.now) }
+        indented_lines (indents_by columns lines.now block.now) block.now block.now.label order.now) }
 {
     let mut label = block.label();
     for number in order {
         let number = *number as usize;
-        push_instruction(out, label, indents[number - 1], block.bytes(number))?;
+        let indent = indent_of(lines, columns, block, number);
+        push_instruction(out, label, indent, block.bytes(number))?;
         label = &[];
     }
     Ok(())
+}
+
+/// The line, if it is a comment.
+fn push_if_comment(out: &mut Vec<u8>, line: Option<&KeptLine>) -> Result<(), AllocError>
+    ensures { OnOk result (out.new.items ≡ out.old.items ++ note_in (option_map (λ line. line.now) line.entry)) }
+{
+    match line {
+        Some(line) => match line.kind {
+            Kind::Comment => push_copied(out, line.bytes),
+            _ => Ok(()),
+        },
+        None => Ok(()),
+    }
+}
+
+/// The line behind so many of these, if it is a comment.
+pub(crate) fn push_note(
+    out: &mut Vec<u8>,
+    lines: &[KeptLine],
+    passed: u32,
+) -> Result<(), AllocError>
+    ensures { OnOk result (out.new.items ≡ out.old.items ++ note_in (slice_get lines.now passed)) }
+{
+    push_if_comment(out, lines.get(passed as usize))
 }
 
 /// A line as it was read, without the carriage returns at its end.

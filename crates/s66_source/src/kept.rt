@@ -1,10 +1,13 @@
 //! The lines of a source as they are kept: the bytes of each, what of its class printing has to know, and where it stands in its run.
 
-ghost use Rattle.std.specs.Prelude.{◌≡◌};
+ghost use Rattle.std.specs.Prelude.{◌≡◌, ◌<◌, suc, if◌then◌else◌, length, option_map};
+ghost use Rattle.s66_line.specs.Block.{line_of};
 ghost use Rattle.s66_line.specs.Class.{begins_run};
-ghost use Rattle.s66_source.specs.Kept.{kind_of};
+ghost use Rattle.s66_source.specs.Keeper.{bytes_at};
+ghost use Rattle.s66_source.specs.Kept.{begins_at, has_block_by, kind_of, runs_next};
+ghost use Rattle.s66_source.specs.declared.limits.TheConstants.{SOURCE_LINES_LIMIT};
 
-use s66_line::Class;
+use s66_line::{Block, Class};
 use std::alloc::{AllocError, Global};
 use std::marker::Model;
 
@@ -141,5 +144,72 @@ impl<'a> Kept<'a> {
         self.run = run;
         self.index = index;
         Ok(())
+    }
+}
+
+/// The line of the first instruction of a block.
+pub(crate) fn first_line(block: &Block) -> u32
+    ensures { result ≡ line_of block.now 1 }
+{
+    // so there is a first instruction
+    prove!(block.count() >= 1);
+    block.line(1)
+}
+
+/// The line of the last instruction of a block.
+pub(crate) fn last_line(block: &Block) -> u32
+    ensures { result ≡ line_of block.now (length block.now.entries) }
+{
+    block.line(block.count())
+}
+
+/// Whether this block, that begins next, begins in the line of this number.
+pub(crate) fn begins_at(next: Option<&Block>, number: u32) -> bool
+    ensures { result ≡ begins_at (option_map (λ block. block.now) next.entry) number }
+{
+    match next {
+        Some(block) => first_line(block) == number,
+        None => false,
+    }
+}
+
+/// How many blocks begin up to a line, before which so many begin, and in it one or none.
+pub(crate) fn count_after(begun: usize, begins: bool) -> usize
+    requires { begun < SOURCE_LINES_LIMIT }
+    ensures { result ≡ (if begins then suc begun else begun) }
+{
+    if begins { begun + 1 } else { begun }
+}
+
+/// Whether the first line of this block is of this run.
+fn runs_next(lines: &[KeptLine], run: u32, next: Option<&Block>) -> bool
+    ensures { result ≡ runs_next lines.now run (option_map (λ block. block.now) next.entry) }
+{
+    let Some(block) = next else {
+        return false;
+    };
+    match lines.get((first_line(block) as usize).saturating_sub(1)) {
+        Some(first) => first.run == run,
+        None => false,
+    }
+}
+
+/// Whether an instruction is in the run of a `NO`, before or after it, by the lines of its source and the block that begins next.
+pub(crate) fn has_block(lines: &[KeptLine], next: Option<&Block>, line: &KeptLine) -> bool
+    ensures { result ≡ has_block_by lines.now (option_map (λ block. block.now) next.entry) line.now }
+{
+    line.index > 0 || runs_next(lines, line.run, next)
+}
+
+/// The bytes of the line of this number, from 1; none of any other number.
+pub(crate) fn bytes_at<'a>(lines: &[KeptLine<'a>], number: u32) -> &'a [u8]
+    ensures { result.now ≡ bytes_at lines.now number }
+{
+    if number == 0 {
+        return &[];
+    }
+    match lines.get(number as usize - 1) {
+        Some(line) => line.bytes,
+        None => &[],
     }
 }

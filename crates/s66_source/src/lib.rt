@@ -20,7 +20,6 @@ mod laws;
 mod limits;
 mod lines;
 mod operation;
-mod pads;
 mod placed;
 mod reader;
 mod redefined;

@@ -4,8 +4,6 @@
 ghost use Rattle.std.specs.Prelude.{◌≡◌, ◌≤◌, ◌<◌, suc, [], length, OnOk};
 ghost use Rattle.s66_line.specs.Fields.{lines_from};
 ghost use Rattle.s66_line.specs.InstructionText.{Spells};
-ghost use Rattle.s66_source.specs.Pads.{settle, pads_by_class, pads_of_lines};
-ghost use Rattle.s66_source.specs.Pads as pads;
 ghost use Rattle.s66_source.specs.Kept.{put_line, put_lines};
 ghost use Rattle.s66_source.specs.Reader.{Steps, end_block, begin_run, with_entry, by_class, line_step, lines_step};
 ghost use Rattle.s66_line.specs.Class.{IsSpelled, is_code};
@@ -20,7 +18,6 @@ use crate::error::SourceError;
 use crate::kept::Kept;
 use crate::limits::SOURCE_LINES_LIMIT;
 use crate::lines::cut_line;
-use crate::pads::Pads;
 use crate::standing::Standing;
 use s66_isa::{BLOCK_LIMIT, Instr};
 use s66_line::{Block, Class, Classified, Entry, LINE_BYTES_LIMIT};
@@ -35,7 +32,6 @@ pub(crate) struct Reader<'r, 'a> {
     pub(crate) label: &'a [u8],
     /// The instructions of the open block, fewer than `BLOCK_LIMIT`.
     pub(crate) entries: Vec<Entry<'a>>,
-    pub(crate) pads: Pads,
     /// The lines that were read.
     pub(crate) kept: Kept<'a>,
     /// Whether the last of them is an Instruction or a Pad.
@@ -50,7 +46,6 @@ impl<'r, 'a> Reader<'r, 'a> {
     pub(crate) fn end_block(&mut self, alloc: Global) -> Result<(), AllocError>
         requires { length self.old.entries.items ≤ BLOCK_LIMIT }
         ensures step { OnOk result (state self.new ≡ end_block (state self.old)) }
-        ensures pads { self.new.pads ≡ self.old.pads }
         ensures kept { self.new.kept ≡ self.old.kept }
         ensures cut { self.new.cut ≡ self.old.cut }
         ensures standing { self.new.standing ≡ self.old.standing }
@@ -63,29 +58,15 @@ impl<'r, 'a> Reader<'r, 'a> {
         Ok(())
     }
 
-    /// Ends the open run, and its open block.
-    fn end_run(&mut self, alloc: Global) -> Result<(), AllocError>
-        requires { length self.old.entries.items ≤ BLOCK_LIMIT }
-        ensures step { OnOk result (state self.new ≡ end_block (state self.old)) }
-        ensures pads { OnOk result (self.new.pads ≡ pads.end_run self.old.pads) }
-        ensures kept { self.new.kept ≡ self.old.kept }
-        ensures cut { self.new.cut ≡ self.old.cut }
-        ensures standing { self.new.standing ≡ self.old.standing }
-    {
-        self.pads.end_run();
-        self.end_block(alloc)
-    }
-
     /// Ends the open run, and begins one with this label.
     fn begin_run(&mut self, alloc: Global, label: &'a [u8]) -> Result<(), AllocError>
         requires { length self.old.entries.items ≤ BLOCK_LIMIT }
         ensures step { OnOk result (state self.new ≡ begin_run label.now (state self.old)) }
-        ensures pads { OnOk result (self.new.pads ≡ pads.end_run self.old.pads) }
         ensures kept { self.new.kept ≡ self.old.kept }
         ensures cut { self.new.cut ≡ self.old.cut }
         ensures standing { self.new.standing ≡ self.old.standing }
     {
-        self.end_run(alloc)?;
+        self.end_block(alloc)?;
         self.label = label;
         Ok(())
     }
@@ -97,14 +78,12 @@ impl<'r, 'a> Reader<'r, 'a> {
         requires bytes { length bytes.now ≤ TEXT_LIMIT }
         requires spelled { Spells bytes.now instr }
         ensures step { OnOk result (state self.new ≡ with_entry instr bytes.now (state self.old)) }
-        ensures pads { OnOk result (self.new.pads ≡ settle self.old.pads) }
         ensures kept { self.new.kept ≡ self.old.kept }
         ensures cut { self.new.cut ≡ self.old.cut }
         ensures standing { self.new.standing ≡ self.old.standing }
         ensures few { OnOk result (length self.new.entries.items < BLOCK_LIMIT) }
     {
         let line = self.kept.count() + 1;
-        self.pads.settle()?;
         self.entries.push(Entry { instr, line, bytes })?;
         if self.entries.len() == BLOCK_LIMIT {
             self.end_block(alloc)?;
@@ -125,7 +104,6 @@ impl<'r, 'a> Reader<'r, 'a> {
         requires spelled { IsSpelled line.class line.bytes.now }
         ensures step { Steps (state self.new) result (by_class
             (state self.old) line.entry.class line.entry.label.now line.entry.bytes.now) }
-        ensures pads { OnOk result (self.new.pads ≡ pads_by_class line.entry.class (suc self.old.kept.count) self.old.pads) }
         ensures kept { OnOk result (self.new.kept ≡ put_line line.entry.class bytes.now self.old.kept) }
         ensures after_code { OnOk result (self.new.after_code ≡ is_code line.entry.class) }
         ensures cut { self.new.cut ≡ self.old.cut }
@@ -137,7 +115,7 @@ impl<'r, 'a> Reader<'r, 'a> {
         let class = line.class;
         match class {
             Class::Comment => {}
-            Class::Other => self.end_run(alloc)?,
+            Class::Other => self.end_block(alloc)?,
             Class::Refused => {
                 return Err(SourceError::BadOperand {
                     line: self.kept.count() + 1,
@@ -147,7 +125,6 @@ impl<'r, 'a> Reader<'r, 'a> {
                 if located {
                     self.begin_run(alloc, line.label)?;
                 }
-                self.pads.put(self.kept.count() + 1)?;
                 after_code = true;
             }
             Class::Instruction { located, instr } => {
@@ -175,8 +152,6 @@ impl<'r, 'a> Reader<'r, 'a> {
         requires bodies { self.old.standing.bodies ≤ self.old.kept.count }
         ensures step { Steps (state self.new) result (line_step (state self.old)
             (flagged self.old continued line.now)) }
-        ensures pads { OnOk result (self.new.pads ≡ pads_by_class
-            (class_at self.old.after_code (flagged self.old continued line.now)) (suc self.old.kept.count) self.old.pads) }
         ensures kept { OnOk result (self.new.kept ≡ put_line
             (class_at self.old.after_code (flagged self.old continued line.now)) line.now self.old.kept) }
         ensures after_code { OnOk result (self.new.after_code ≡
@@ -207,8 +182,6 @@ impl<'r, 'a> Reader<'r, 'a> {
         requires lines { self.old.kept.count ≤ SOURCE_LINES_LIMIT }
         requires bodies { self.old.standing.bodies ≤ self.old.kept.count }
         ensures step { Steps (state self.new) result (lines_step (state self.old)
-            (flagged_from self.old.cut self.old.standing (lines_from [] text.now))) }
-        ensures pads { OnOk result (self.new.pads ≡ pads_of_lines self.old.kept.count self.old.after_code self.old.pads
             (flagged_from self.old.cut self.old.standing (lines_from [] text.now))) }
         ensures kept { OnOk result (self.new.kept ≡ put_lines self.old.after_code self.old.kept
             (flagged_from self.old.cut self.old.standing (lines_from [] text.now))) }

@@ -1,4 +1,4 @@
-//! A source that was read: its text, its blocks, and what printing has to know of its lines (`read_source`, `read_source_with`).
+//! A source that was read: its text, its blocks, and its lines (`read_source`, `read_source_with`).
 
 ghost use Rattle.std.specs.Prelude.{◌≡◌, [], IfOk};
 ghost use Rattle.s66_source.specs.Source.{classed_lines, blocks_of, source_of};
@@ -7,7 +7,6 @@ ghost use Rattle.s66_source.specs.LeftAlone.{plain};
 
 use crate::error::SourceError;
 use crate::kept::{Kept, KeptLine};
-use crate::pads::Pads;
 use crate::reader::Reader;
 use crate::redefined::Redefined;
 use crate::standing::Standing;
@@ -22,17 +21,12 @@ pub struct Source<'a> {
     cut: bool,
     blocks: Vec<Block<'a>>,
     lines: Vec<KeptLine<'a>>,
-    /// The lines of the `NO`s that are left out when it is printed.
-    dropped: Vec<u32>,
-    /// The lines of the `NO`s before which no instruction of their run comes.
-    leading: Vec<u32>,
 }
 
 impl<'a> Model for Source<'a> {
     ghost use Rattle.std.specs.Prelude.{◌≡◌, Ok, map};
     ghost use Rattle.s66_source.specs.Kept.{kept_line};
     ghost use Rattle.s66_source.specs.LeftAlone.{Reading};
-    ghost use Rattle.s66_source.specs.Roles.{is_dropped, is_leading, lines_that};
     ghost use Rattle.s66_source.specs.Source.{classed_lines, source_of};
 
     ghost Value = { Reading };
@@ -40,15 +34,13 @@ impl<'a> Model for Source<'a> {
     ghost view = { λ s. record { cut = s.cut; text = s.text.now } };
 
     ghost invariant = { λ s. (source_of (record { cut = s.cut; text = s.text.now }) ≡ Ok s.blocks.items) ×
-        (s.lines.items ≡ map kept_line (classed_lines (record { cut = s.cut; text = s.text.now }))) ×
-        (s.dropped.items ≡ lines_that is_dropped (record { cut = s.cut; text = s.text.now })) ×
-        (s.leading.items ≡ lines_that is_leading (record { cut = s.cut; text = s.text.now })) };
+        (s.lines.items ≡ map kept_line (classed_lines (record { cut = s.cut; text = s.text.now }))) };
 }
 
 impl<'a> Source<'a> {
-    ghost use Rattle.std.specs.Prelude.{◌≡◌, Ok};
-    ghost use Rattle.s66_source.specs.Roles.{is_dropped, is_leading, lines_that};
-    ghost use Rattle.s66_source.specs.Source.{source_of};
+    ghost use Rattle.std.specs.Prelude.{◌≡◌, Ok, map};
+    ghost use Rattle.s66_source.specs.Kept.{kept_line};
+    ghost use Rattle.s66_source.specs.Source.{classed_lines, source_of};
 
     /// The blocks, in the order of their lines.
     pub fn blocks(&self) -> &[Block<'a>]
@@ -57,31 +49,10 @@ impl<'a> Source<'a> {
         self.blocks.as_slice()
     }
 
-    /// Whether it was read with `--cut`.
-    pub(crate) fn is_cut(&self) -> bool
-        ensures { result ≡ self.now.cut }
+    pub(crate) fn lines(&self) -> &[KeptLine<'a>]
+        ensures { result.now ≡ map kept_line (classed_lines self.now) }
     {
-        self.cut
-    }
-
-    pub(crate) fn text(&self) -> &'a [u8]
-        ensures { result.now ≡ self.now.text }
-    {
-        self.text
-    }
-
-    /// The lines of the `NO`s that are left out when it is printed, in order.
-    pub(crate) fn dropped(&self) -> &[u32]
-        ensures { result.now ≡ lines_that is_dropped self.now }
-    {
-        self.dropped.as_slice()
-    }
-
-    /// The lines of the `NO`s before which no instruction of their run comes, in order.
-    pub(crate) fn leading(&self) -> &[u32]
-        ensures { result.now ≡ lines_that is_leading self.now }
-    {
-        self.leading.as_slice()
+        self.lines.as_slice()
     }
 }
 
@@ -106,7 +77,6 @@ pub fn read_source_with(alloc: Global, cut: bool, text: &[u8]) -> Result<Source<
         blocks: Vec::new(alloc),
         label: &[],
         entries: Vec::new(alloc),
-        pads: Pads::new(alloc),
         kept: Kept::new(alloc),
         after_code: false,
         cut,
@@ -118,19 +88,15 @@ pub fn read_source_with(alloc: Global, cut: bool, text: &[u8]) -> Result<Source<
         blocks,
         label: _,
         entries: _,
-        pads,
         kept,
         after_code: _,
         cut: _,
         standing: _,
     } = reader;
-    let (dropped, leading) = pads.into_dropped_and_leading();
     Ok(Source {
         text,
         cut,
         blocks,
         lines: kept.into_lines(),
-        dropped,
-        leading,
     })
 }

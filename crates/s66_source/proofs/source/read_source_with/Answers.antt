@@ -2,13 +2,10 @@ use Rattle.std.proofs.Common.{false, refl, ap, ◌∙◌}
 use Rattle.std.proofs.lemmas.Result.{err_from_is_err_and}
 use Rattle.s66_source.specs.LeftAlone.{Reading, flagged_lines}
 use Rattle.s66_source.specs.Kept.{Kept, put_lines}
-use Rattle.s66_source.specs.Pads.{Pads, pads_of_lines}
 use Rattle.s66_source.specs.SourceReader.{state}
 use Rattle.s66_source.specs.Source.{classed_lines, blocks_of}
 use Rattle.s66_source.proofs.ReaderBlocks.{source-blocks, Gives-accepted, Gives-refusal}
-use Rattle.s66_source.proofs.PadsLaw.{dropped-read}
 use Rattle.s66_source.proofs.KeptRead.{kept-read}
-use Rattle.s66_source.proofs.LeadingPads.{leading-read}
 use Rattle.s66_source.proofs.source.read_source_with.Goals as goal
 
 pub returns-in_err-take_all-clause-read : goal.returns-in_err-take_all-clause-read
@@ -16,22 +13,19 @@ returns-in_err-take_all-clause-read c =
     let source : Reading = record { cut = c.args.cut; text = c.args.text.now } in
     let p = err_from_is_err_and c.from_residual-in_err-take_all.result c.from_residual-in_err-take_all.ensures.1 in
     let step = rw (c.at_first-standing.ensures, c.in_ok-redefined.ensures) at c.in_err-take_all.ensures.step in
-    rw (p.1, p.2) (Gives-refusal {X = Reading} (λ source. blocks_of (classed_lines source)) c.in_err-take_all.field-0.0 source _ (state c.take_all.new.self) (rw (c.new.ensures.items, c.new-2.ensures.items, c.new-4.ensures) refl) step)
+    rw (p.1, p.2) (Gives-refusal {X = Reading} (λ source. blocks_of (classed_lines source)) c.in_err-take_all.field-0.0 source _ (state c.take_all.new.self) (rw (c.new.ensures.items, c.new-2.ensures.items, c.new-3.ensures) refl) step)
 
 pub invariant_of-result : goal.invariant_of-result
 invariant_of-result c =
     let source : Reading = record { cut = c.args.cut; text = c.args.text.now } in
     let step = rw (c.at_first-standing.ensures, c.in_ok-redefined.ensures) at c.in_ok-take_all.ensures.step in
-    let pads = rw (c.at_first-standing.ensures, c.in_ok-redefined.ensures, c.new-4.ensures) at c.in_ok-take_all.ensures.pads in
     let kept = rw (c.at_first-standing.ensures, c.in_ok-redefined.ensures) at c.in_ok-take_all.ensures.kept in (
-      source-blocks source _ (state c.take_all.new.self) (state c.end_block.new.self) (rw (c.new.ensures.items, c.new-2.ensures.items, c.new-4.ensures) refl) step c.in_ok-end_block.ensures.step,
-      c.into_lines.ensures ∙ ap (λ (k : Kept). k.lines) (c.end_block.ensures.kept ∙ kept ∙ ap (λ k. put_lines false k (flagged_lines source)) c.new-4.ensures) ∙ kept-read source,
-      c.into_dropped_and_leading-dropped.ensures.dropped ∙ ap (λ (p : Pads). p.dropped) (c.end_block.ensures.pads ∙ pads ∙ ap (λ p. pads_of_lines 0 false p (flagged_lines source)) c.new-3.ensures) ∙ dropped-read source,
-      c.into_dropped_and_leading-dropped.ensures.leading ∙ ap (λ (p : Pads). p.leading) (c.end_block.ensures.pads ∙ pads ∙ ap (λ p. pads_of_lines 0 false p (flagged_lines source)) c.new-3.ensures) ∙ leading-read source,
+      source-blocks source _ (state c.take_all.new.self) (state c.end_block.new.self) (rw (c.new.ensures.items, c.new-2.ensures.items, c.new-3.ensures) refl) step c.in_ok-end_block.ensures.step,
+      c.into_lines.ensures ∙ ap (λ (k : Kept). k.lines) (c.end_block.ensures.kept ∙ kept ∙ ap (λ k. put_lines false k (flagged_lines source)) c.new-3.ensures) ∙ kept-read source,
     )
 
 pub returns-clause-read : goal.returns-clause-read
 returns-clause-read c =
     let source : Reading = record { cut = c.args.cut; text = c.args.text.now } in
     let step = rw (c.at_first-standing.ensures, c.in_ok-redefined.ensures) at c.in_ok-take_all.ensures.step in
-    Gives-accepted source _ (source-blocks source _ (state c.take_all.new.self) (state c.end_block.new.self) (rw (c.new.ensures.items, c.new-2.ensures.items, c.new-4.ensures) refl) step c.in_ok-end_block.ensures.step)
+    Gives-accepted source _ (source-blocks source _ (state c.take_all.new.self) (state c.end_block.new.self) (rw (c.new.ensures.items, c.new-2.ensures.items, c.new-3.ensures) refl) step c.in_ok-end_block.ensures.step)

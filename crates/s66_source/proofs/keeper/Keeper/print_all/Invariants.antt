@@ -1,15 +1,10 @@
-use Rattle.std.proofs.Common.{◌≡◌, ◌++◌, [], length}
-use Rattle.s66_line.specs.Fields.{lines_from}
-use Rattle.s66_source.specs.Keeper.{bytes_left, passed_at, text_left}
+use Rattle.std.proofs.Common.{◌++◌, drop, map}
+use Rattle.s66_source.specs.Keeper.{whole_text}
+use Rattle.s66_source.specs.Kept.{kept_line}
+use Rattle.s66_source.specs.Source.{classed_lines}
+use Rattle.s66_source.proofs.KeptLines.{IsPrinting}
 use Rattle.s66_source.proofs.keeper.Keeper.print_all.Given as goal
 
 -- the text so far, and then that of the lines that are left, is that of all
 abbrev pub invariant-loop-line : goal.invariant-loop-line
-invariant-loop-line l = record {
-  text : l.out.items ++ text_left l.self l.passed.lines ≡ l.fn.out.items ++ text_left l.self 0;
-  passed : l.passed ≡ passed_at l.self.source l.passed.lines;
-  left : lines_from [] l.rest ≡ bytes_left l.self.source l.passed.lines;
-}
-
-abbrev pub decreases-loop-line : goal.decreases-loop-line
-decreases-loop-line l = length l.rest
+invariant-loop-line l = IsPrinting l.self (drop l.line-index (map kept_line (classed_lines l.self.source))) l.number l.begun l.out.items (l.fn.out.items ++ whole_text l.self)

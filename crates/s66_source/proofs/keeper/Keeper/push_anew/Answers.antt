@@ -3,5 +3,5 @@ use Rattle.s66_isa.specs.Lists.{Among}
 use Rattle.s66_source.specs.Printed.{Placed}
 use Rattle.s66_source.proofs.keeper.Keeper.push_anew.Goals as goal
 
-pub push_indented-requires-clause-order : goal.push_indented-requires-clause-order
-push_indented-requires-clause-order c = λ n among. c.requires.placed n (subst (Among n) (c.as_slice.ensures.value ∙ ap (λ (p : Placed). p.order) c.placed.view_is) among)
+pub push_order-requires : goal.push_order-requires
+push_order-requires c = λ n among. c.requires.placed n (subst (Among n) (c.as_slice.ensures.value ∙ ap (λ (p : Placed). p.order) c.placed.view_is) among)

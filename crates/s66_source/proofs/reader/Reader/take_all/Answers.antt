@@ -2,7 +2,6 @@ use Rattle.std.proofs.Common.{sym, ap, ◌∙◌, arith}
 use Rattle.std.proofs.lemmas.Result.{err_from_is_err_and}
 use Rattle.s66_source.specs.LeftAlone.{flagged_from}
 use Rattle.s66_source.specs.Kept.{put_lines}
-use Rattle.s66_source.specs.Pads.{pads_of_lines}
 use Rattle.s66_source.specs.Reader.{lines_step}
 use Rattle.s66_source.specs.SourceReader.{state}
 use Rattle.s66_source.proofs.FlaggedLines.{flagged-found}
@@ -20,8 +19,6 @@ loop-line-preserved c =
     let next = c.is_continued-continued.ensures in
     record {
       rest = rw (taken.cut, taken.standing) (lines_step-found self.cut self.standing (state self) (state c.take_line.new.self) rest line more c.is_continued-continued.result _ cut next taken.step c.loop-line.invariant.rest);
-      pads = rw (taken.pads, taken.kept, taken.after_code, taken.cut, taken.standing)
-          (sym (ap (pads_of_lines self.kept.count self.after_code self.pads) (flagged-found self.cut self.standing rest line more c.is_continued-continued.result cut next)) ∙ c.loop-line.invariant.pads);
       kept = rw (taken.kept, taken.after_code, taken.cut, taken.standing)
           (sym (ap (put_lines self.after_code self.kept) (flagged-found self.cut self.standing rest line more c.is_continued-continued.result cut next)) ∙ c.loop-line.invariant.kept);
       few = taken.few;
@@ -38,11 +35,6 @@ returns-in_err-take_line-clause-step c =
     rw (p.1, p.2)
     (Steps-found self.cut self.standing c.in_err-take_line.field-0.0 (state self) (state c.take_line.new.self) (state c.take_line.new.self) c.loop-line.rest.now c.in-Some.line.now c.in-Some.more.now c.is_continued-continued.result _ c.in-Some.ensures.line c.is_continued-continued.ensures
     c.in_err-take_line.ensures.step c.loop-line.invariant.rest)
-
-pub returns-clause-pads : goal.returns-clause-pads
-returns-clause-pads c =
-    let self = c.loop-line.self in
-    sym (ap (λ lines. pads_of_lines self.kept.count self.after_code self.pads (flagged_from self.cut self.standing lines)) c.in_default.ensures.none) ∙ c.loop-line.invariant.pads
 
 pub returns-clause-kept : goal.returns-clause-kept
 returns-clause-kept c =

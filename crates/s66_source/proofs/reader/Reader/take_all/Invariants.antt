@@ -4,7 +4,6 @@ use Rattle.s66_source.specs.declared.limits.TheConstants.{SOURCE_LINES_LIMIT}
 use Rattle.s66_line.specs.Fields.{lines_from}
 use Rattle.s66_source.specs.LeftAlone.{flagged_from, is_continued}
 use Rattle.s66_source.specs.Kept.{put_lines}
-use Rattle.s66_source.specs.Pads.{pads_of_lines}
 use Rattle.s66_source.specs.Reader.{lines_step}
 use Rattle.s66_source.specs.SourceReader.{state}
 use Rattle.s66_source.proofs.reader.Reader.take_all.Given as goal
@@ -13,8 +12,6 @@ use Rattle.s66_source.proofs.reader.Reader.take_all.Given as goal
 abbrev pub invariant-loop-line : goal.invariant-loop-line
 invariant-loop-line l = record {
   rest : lines_step (state l.self) (flagged_from l.self.cut l.self.standing (lines_from [] l.rest)) ≡ lines_step (state l.fn.self) (flagged_from l.fn.self.cut l.fn.self.standing (lines_from [] l.text));
-  pads : pads_of_lines l.self.kept.count l.self.after_code l.self.pads (flagged_from l.self.cut l.self.standing (lines_from [] l.rest))
-      ≡ pads_of_lines l.fn.self.kept.count l.fn.self.after_code l.fn.self.pads (flagged_from l.fn.self.cut l.fn.self.standing (lines_from [] l.text));
   kept : put_lines l.self.after_code l.self.kept (flagged_from l.self.cut l.self.standing (lines_from [] l.rest))
       ≡ put_lines l.fn.self.after_code l.fn.self.kept (flagged_from l.fn.self.cut l.fn.self.standing (lines_from [] l.text));
   few : length l.self.entries.items < BLOCK_LIMIT;
