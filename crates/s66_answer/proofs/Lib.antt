@@ -2,7 +2,7 @@ mod AnswerDocuments
 pub mod AnswerVerdicts
 pub mod EveryAnswer
 pub mod BlockTexts
-mod ByFacts
+mod FactAnswers
 mod FactDocuments
 pub mod KeptParts
 mod Places

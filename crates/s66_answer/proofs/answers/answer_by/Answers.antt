@@ -10,7 +10,7 @@ use Rattle.s66_answer.specs.declared.answers.Candidate.{Candidate}
 use Rattle.s66_answer.specs.Answers.{IsEnough, problem_of}
 use Rattle.s66_answer.specs.Stored.{IsShownBy, claimed, tree_splits}
 use Rattle.s66_answer.proofs.SearchAnswers.{beside-deep}
-use Rattle.s66_answer.proofs.ByFacts.{IsCandidate, as-good, as-long, shown-claimed}
+use Rattle.s66_answer.proofs.FactAnswers.{IsCandidate, as-good, as-long, shown-claimed}
 use Rattle.s66_answer.proofs.answers.answer_by.Goals as goal
 
 pub found_or_shown-requires-clause-made : goal.found_or_shown-requires-clause-made

@@ -15,7 +15,7 @@ use Rattle.s66_cert.specs.DocumentParts.{tree_of_lines}
 use Rattle.s66_answer.specs.Answers.{IsEnough, problem_of}
 use Rattle.s66_answer.specs.Stored.{IsShownBy, claimed}
 use Rattle.s66_answer.proofs.SearchAnswers.{search-answers}
-use Rattle.s66_answer.proofs.ByFacts.{IsCandidate, shown-claimed}
+use Rattle.s66_answer.proofs.FactAnswers.{IsCandidate, shown-claimed}
 use Rattle.s66_answer.proofs.answers.shown_or_searched.Goals as goal
 
 pub shown_by-requires-clause-time : goal.shown_by-requires-clause-time
