@@ -34,7 +34,8 @@ impl Keep<u8> for Documents {
             ..
         } = answer;
         let document = found.into_document(alloc, block, profile, strategy)?;
-        push_document(parts, &document)
+        push_document(parts, &document)?;
+        Ok(())
     }
 }
 
