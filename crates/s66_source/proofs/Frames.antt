@@ -57,20 +57,21 @@ framed-next : (source : Reading) (rest : List KeptLine) (number begun : ℕ) (pa
 framed-next source rest number begun parts line more f is =
     let (l, ls, lines, here, later) = map-first kept_line f.lines line more (sym f.left ∙ is) in
     let settled : AreSettled all (suc number) begun (l ∷ ls) = subst (AreSettled all (suc number) begun) lines f.settled in
-    let counted : count_after (first_of l) begun ≡ next = ap (λ (t : Bool). if t then suc begun else begun) (sym settled.0.begins_is) in
-    (settled.0.few,
-    record {
-      lines = ls;
-      left = sym later;
-      settled = subst (λ m. AreSettled all (suc (suc number)) m ls) counted settled.1;
-      whole =
-          append_assoc parts (part_by (map kept_line all) (slice_get (blocks_of all) begun) (suc number) line) (frame_of_lines all (drop next (blocks_of all)) ls)
-          ∙ ap (λ k. parts ++ (part_by (map kept_line all) (slice_get (blocks_of all) begun) (suc number) k ++ frame_of_lines all (drop next (blocks_of all)) ls)) (sym here)
-          ∙ ap (λ ps. parts ++ ps) (sym (frame-line all begun (suc number) l ls (slice_get (blocks_of all) begun) settled.0 refl))
-          ∙ ap (λ ls. parts ++ frame_of_lines all (drop begun (blocks_of all)) ls) (sym lines)
-          ∙ f.whole;
-      counts = by_test (begins_at (slice_get (blocks_of all) begun) (suc number)) f.counts;
-    })
+    let counted : count_after (first_of l) begun ≡ next = ap (λ (t : Bool). if t then suc begun else begun) (sym settled.0.begins_is) in (
+      settled.0.few,
+      record {
+        lines = ls;
+        left = sym later;
+        settled = subst (λ m. AreSettled all (suc (suc number)) m ls) counted settled.1;
+        whole =
+            append_assoc parts (part_by (map kept_line all) (slice_get (blocks_of all) begun) (suc number) line) (frame_of_lines all (drop next (blocks_of all)) ls)
+            ∙ ap (λ k. parts ++ (part_by (map kept_line all) (slice_get (blocks_of all) begun) (suc number) k ++ frame_of_lines all (drop next (blocks_of all)) ls)) (sym here)
+            ∙ ap (λ ps. parts ++ ps) (sym (frame-line all begun (suc number) l ls (slice_get (blocks_of all) begun) settled.0 refl))
+            ∙ ap (λ ls. parts ++ frame_of_lines all (drop begun (blocks_of all)) ls) (sym lines)
+            ∙ f.whole;
+        counts = by_test (begins_at (slice_get (blocks_of all) begun) (suc number)) f.counts;
+      },
+    )
   where
     all : List Line
     all = classed_lines source

@@ -290,21 +290,22 @@ printing-next k rest number begun out whole line more p is =
     let (l, ls, lines, here, later) = map-first kept_line p.lines line more (sym p.left ∙ is) in
     let settled : AreSettled all (suc number) begun (l ∷ ls) = subst (AreSettled all (suc number) begun) lines p.settled in
     let one = settled.0 in
-    let some : is_some (block_at (slice_get (blocks_of all) begun) (suc number)) ≡ first_of l = is_some-block_at (slice_get (blocks_of all) begun) (suc number) ∙ one.begins_is in
-    (one.few,
-    λ new after printed counted.
-    let next : after ≡ count_after (first_of l) begun = counted ∙ ap (λ (t : Bool). if t then suc begun else begun) some in
-    record {
-      lines = ls;
-      left = sym later;
-      settled = subst (λ m. AreSettled all (suc (suc number)) m ls) (sym next) settled.1;
-      text =
-          ap (λ text. text ++ replaced all (texts_by k) ls) (printed ∙ ap (λ x. out ++ text_by k (suc number) begun x) (sym here) ∙ ap (λ text. out ++ text) (text-kept k (suc number) begun l one))
-          ∙ append_assoc out (text_at all (texts_by k) l) (replaced all (texts_by k) ls)
-          ∙ ap (λ ls. out ++ replaced all (texts_by k) ls) (sym lines)
-          ∙ p.text;
-      counts = (let le = by_test (is_some (block_at (slice_get (blocks_of all) begun) (suc number))) p.counts in omega (arith, le, counted));
-    })
+    let some : is_some (block_at (slice_get (blocks_of all) begun) (suc number)) ≡ first_of l = is_some-block_at (slice_get (blocks_of all) begun) (suc number) ∙ one.begins_is in (
+      one.few,
+      λ new after printed counted.
+          let next : after ≡ count_after (first_of l) begun = counted ∙ ap (λ (t : Bool). if t then suc begun else begun) some in
+          record {
+            lines = ls;
+            left = sym later;
+            settled = subst (λ m. AreSettled all (suc (suc number)) m ls) (sym next) settled.1;
+            text =
+                ap (λ text. text ++ replaced all (texts_by k) ls) (printed ∙ ap (λ x. out ++ text_by k (suc number) begun x) (sym here) ∙ ap (λ text. out ++ text) (text-kept k (suc number) begun l one))
+                ∙ append_assoc out (text_at all (texts_by k) l) (replaced all (texts_by k) ls)
+                ∙ ap (λ ls. out ++ replaced all (texts_by k) ls) (sym lines)
+                ∙ p.text;
+            counts = (let le = by_test (is_some (block_at (slice_get (blocks_of all) begun) (suc number))) p.counts in omega (arith, le, counted));
+          },
+    )
   where
     all : List Line
     all = classed_lines k.source

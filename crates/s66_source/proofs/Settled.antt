@@ -154,9 +154,10 @@ none-later l low [] filled rising lt = (refl, refl)
 none-later l low ([] ∷ parts) filled rising lt = absurd (omega (arith, filled [] (inl refl)))
 none-later l low ((a ∷ more) ∷ parts) filled rising lt =
     let behind = Rising-behind low a more (all_of parts) rising in
-    let rest = none-later l (suc (last_number a more)) parts (later-filled (a ∷ more) parts filled) behind.1 (omega (arith, lt, rising.0, behind.0)) in
-    (ap₂ (λ s t. s || t) (not-note l a more (inl (omega (arith, lt, rising.0)))) rest.0,
-    ap (λ (t : Bool). (if t then 1 else 0) + up_to l.number parts) (le-ltb a.number (suc l.number) (omega (arith, lt, rising.0))) ∙ omega (arith, rest.1))
+    let rest = none-later l (suc (last_number a more)) parts (later-filled (a ∷ more) parts filled) behind.1 (omega (arith, lt, rising.0, behind.0)) in (
+      ap₂ (λ s t. s || t) (not-note l a more (inl (omega (arith, lt, rising.0)))) rest.0,
+      ap (λ (t : Bool). (if t then 1 else 0) + up_to l.number parts) (le-ltb a.number (suc l.number) (omega (arith, lt, rising.0))) ∙ omega (arith, rest.1),
+    )
 
 note-is : (l : Line) → is_comment_class l.class ≡ true → (low : ℕ) (parts : List (List Line)) → AreFilled parts → Rising low (all_of parts) → some_of (λ (block : Block). line_of block 1 == l.number) (map block_of parts) ≡ false →
     some_of (is_note_of l) (map block_of parts) ≡ nat_lt l.number (last_of (map block_of parts) (up_to l.number parts))
@@ -249,23 +250,26 @@ module _ (all : List Line) (whole : Ordered 1 0 all) (filled : AreFilled (parts_
   settled-class Comment line lines settles before number run index m label within is told taken =
       let l : Line = record { number = number; bytes = line; class = Comment; run = run; index = index; label = label } in
       let rest : List Line = classes_from (suc number) run index label false lines in
-      let next = line-next all m l rest (all-from lines (suc number) run index label false) is in
-      (record { number_is = refl; few = few-here number m l rest refl taken; begins_is = next.begins_is; told = told.0; owner_is = owner-of all l (is_note all l) false m refl refl told.0.begun ∙ ap (λ (t : Bool). if t then m else 0) (noted l m told.0 refl); beside = refl },
-      settles (before ++ l ∷ []) (suc number) run index m label false (within-same all before l rest run index within refl refl) next.blocks told.1 (rest-taken l rest taken))
+      let next = line-next all m l rest (all-from lines (suc number) run index label false) is in (
+        record { number_is = refl; few = few-here number m l rest refl taken; begins_is = next.begins_is; told = told.0; owner_is = owner-of all l (is_note all l) false m refl refl told.0.begun ∙ ap (λ (t : Bool). if t then m else 0) (noted l m told.0 refl); beside = refl },
+        settles (before ++ l ∷ []) (suc number) run index m label false (within-same all before l rest run index within refl refl) next.blocks told.1 (rest-taken l rest taken),
+      )
   settled-class Refused line lines settles before number run index m label within is told taken =
       absurd (none-refused number (classes_from (suc number) run index label false lines) (record { number = number; bytes = line; class = Refused; run = run; index = index; label = label }) refl taken)
   settled-class Other line lines settles before number run index m label within is told taken =
       let l : Line = record { number = number; bytes = line; class = Other; run = run; index = index; label = label } in
       let rest : List Line = classes_from (suc number) (suc run) 0 [] false lines in
-      let next = line-next all m l rest (all-from lines (suc number) (suc run) 0 [] false) is in
-      (record { number_is = refl; few = few-here number m l rest refl taken; begins_is = next.begins_is; told = told.0; owner_is = owner-of all l false false m (no-note_in l (blocks_of all) refl) refl told.0.begun; beside = refl },
-      settles (before ++ l ∷ []) (suc number) (suc run) 0 m [] false (within-new all before l rest run index within (omega arith) refl) next.blocks told.1 (rest-taken l rest taken))
+      let next = line-next all m l rest (all-from lines (suc number) (suc run) 0 [] false) is in (
+        record { number_is = refl; few = few-here number m l rest refl taken; begins_is = next.begins_is; told = told.0; owner_is = owner-of all l false false m (no-note_in l (blocks_of all) refl) refl told.0.begun; beside = refl },
+        settles (before ++ l ∷ []) (suc number) (suc run) 0 m [] false (within-new all before l rest run index within (omega arith) refl) next.blocks told.1 (rest-taken l rest taken),
+      )
   settled-class (Pad false) line lines settles before number run index m label within is told taken =
       let l : Line = record { number = number; bytes = line; class = Pad false; run = run; index = index; label = label } in
       let rest : List Line = classes_from (suc number) run index label true lines in
-      let next = line-next all m l rest (all-from lines (suc number) run index label true) is in
-      (record { number_is = refl; few = few-here number m l rest refl taken; begins_is = next.begins_is; told = told.0; owner_is = owner-of all l false (has_block all l) m (no-note_in l (blocks_of all) refl) refl told.0.begun ∙ ap (λ (t : Bool). if t then (if index == 0 then suc m else m) else 0) (block-same all before l rest run index within refl refl ∙ by_index index within is); beside = ap not (block-same all before l rest run index within refl refl ∙ by_index index within is) },
-      settles (before ++ l ∷ []) (suc number) run index m label true (within-same all before l rest run index within refl refl) next.blocks told.1 (rest-taken l rest taken))
+      let next = line-next all m l rest (all-from lines (suc number) run index label true) is in (
+        record { number_is = refl; few = few-here number m l rest refl taken; begins_is = next.begins_is; told = told.0; owner_is = owner-of all l false (has_block all l) m (no-note_in l (blocks_of all) refl) refl told.0.begun ∙ ap (λ (t : Bool). if t then (if index == 0 then suc m else m) else 0) (block-same all before l rest run index within refl refl ∙ by_index index within is); beside = ap not (block-same all before l rest run index within refl refl ∙ by_index index within is) },
+        settles (before ++ l ∷ []) (suc number) run index m label true (within-same all before l rest run index within refl refl) next.blocks told.1 (rest-taken l rest taken),
+      )
     where
       by_index : (i : ℕ) → Within all before (from_class number run i label (Pad false) line lines) run i → drop m (blocks_of all) ≡ map block_of (behind (parts_from (suc number) run i label true lines)) →
           (begun i || has_run run (classes_from (suc number) run i label true lines)) ≡ has_block_by (map kept_line all) (slice_get (blocks_of all) m) (record { bytes = line; kind = kind.Pad; run = run; index = i })
@@ -283,30 +287,33 @@ module _ (all : List Line) (whole : Ordered 1 0 all) (filled : AreFilled (parts_
       let next = line-next all m l rest (all-from lines (suc number) (suc run) 0 new true) is in
       let has : has_block all l ≡ runs_next (map kept_line all) (suc run) (slice_get (blocks_of all) m) =
       block-new all before l rest run index within refl refl
-            ∙ run-next all rest (suc number) (suc run) (suc run) m whole (λ x among. subst (Among x) (sym within.whole) (among-behind before (l ∷ rest) x (inr among))) (omega arith) (ordered-classed lines (suc number) (suc run) 0 new true)
-            (is ∙ ap (map block_of) (behind-begins (parts_from (suc number) (suc run) 0 new true lines) (fresh lines (suc number) (suc run) 0 new true refl))) in
-      (record {
-        number_is = refl;
-        few = few-here number m l rest refl taken;
-        begins_is = next.begins_is;
-        told = told.0;
-        owner_is = owner-of all l false (has_block all l) m (no-note_in l (blocks_of all) refl) refl told.0.begun ∙ ap (λ (t : Bool). if t then suc m else 0) has;
-        beside = ap not has;
-      },
-      settles (before ++ l ∷ []) (suc number) (suc run) 0 m new true (within-new all before l rest run index within (omega arith) refl) next.blocks told.1 (rest-taken l rest taken))
+      ∙ run-next all rest (suc number) (suc run) (suc run) m whole (λ x among. subst (Among x) (sym within.whole) (among-behind before (l ∷ rest) x (inr among))) (omega arith) (ordered-classed lines (suc number) (suc run) 0 new true)
+      (is ∙ ap (map block_of) (behind-begins (parts_from (suc number) (suc run) 0 new true lines) (fresh lines (suc number) (suc run) 0 new true refl))) in (
+        record {
+          number_is = refl;
+          few = few-here number m l rest refl taken;
+          begins_is = next.begins_is;
+          told = told.0;
+          owner_is = owner-of all l false (has_block all l) m (no-note_in l (blocks_of all) refl) refl told.0.begun ∙ ap (λ (t : Bool). if t then suc m else 0) has;
+          beside = ap not has;
+        },
+        settles (before ++ l ∷ []) (suc number) (suc run) 0 m new true (within-new all before l rest run index within (omega arith) refl) next.blocks told.1 (rest-taken l rest taken),
+      )
   settled-class (Instruction false i) line lines settles before number run index m label within is told taken =
       let l : Line = record { number = number; bytes = line; class = Instruction false i; run = run; index = index; label = label } in
       let rest : List Line = classes_from (suc number) run (suc index) label true lines in
-      let next = line-next all m l rest (all-from lines (suc number) run (suc index) label true) is in
-      (record { number_is = refl; few = few-here number m l rest refl taken; begins_is = next.begins_is; told = told.0; owner_is = told.0.begun ∙ counted (first_of l) m; beside = refl },
-      settles (before ++ l ∷ []) (suc number) run (suc index) (count_after (first_of l) m) label true (within-more all before l rest run run index index within (omega arith) refl refl) next.blocks told.1 (rest-taken l rest taken))
+      let next = line-next all m l rest (all-from lines (suc number) run (suc index) label true) is in (
+        record { number_is = refl; few = few-here number m l rest refl taken; begins_is = next.begins_is; told = told.0; owner_is = told.0.begun ∙ counted (first_of l) m; beside = refl },
+        settles (before ++ l ∷ []) (suc number) run (suc index) (count_after (first_of l) m) label true (within-more all before l rest run run index index within (omega arith) refl refl) next.blocks told.1 (rest-taken l rest taken),
+      )
   settled-class (Instruction true i) line lines settles before number run index m label within is told taken =
       let new : List ℕ = label_bytes (body line) in
       let l : Line = record { number = number; bytes = line; class = Instruction true i; run = suc run; index = 0; label = new } in
       let rest : List Line = classes_from (suc number) (suc run) 1 new true lines in
-      let next = line-next all m l rest (all-from lines (suc number) (suc run) 1 new true) is in
-      (record { number_is = refl; few = few-here number m l rest refl taken; begins_is = next.begins_is; told = told.0; owner_is = told.0.begun ∙ counted (first_of l) m; beside = refl },
-      settles (before ++ l ∷ []) (suc number) (suc run) 1 (count_after (first_of l) m) new true (within-more all before l rest run (suc run) index 0 within (omega arith) refl refl) next.blocks told.1 (rest-taken l rest taken))
+      let next = line-next all m l rest (all-from lines (suc number) (suc run) 1 new true) is in (
+        record { number_is = refl; few = few-here number m l rest refl taken; begins_is = next.begins_is; told = told.0; owner_is = told.0.begun ∙ counted (first_of l) m; beside = refl },
+        settles (before ++ l ∷ []) (suc number) (suc run) 1 (count_after (first_of l) m) new true (within-more all before l rest run (suc run) index 0 within (omega arith) refl refl) next.blocks told.1 (rest-taken l rest taken),
+      )
 
   settled-from : (lines : List Flagged) → Settles lines
   settled-from [] before number run index m label after within is told taken = tt
