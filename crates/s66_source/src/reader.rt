@@ -1,7 +1,7 @@
 //! Reads a source line by line: instructions join the open block, a full block ends, and so does a run at a location field or at a line
 //! that is neither code nor a comment.
 
-ghost use Rattle.std.specs.Prelude.{◌≡◌, ◌≤◌, ◌<◌, suc, [], length, OnOk};
+ghost use Rattle.std.specs.Prelude.{◌≡◌, ◌≤◌, ◌<◌, [], length, OnOk};
 ghost use Rattle.s66_line.specs.Fields.{lines_from};
 ghost use Rattle.s66_line.specs.InstructionText.{Spells};
 ghost use Rattle.s66_source.specs.Kept.{put_line, put_lines};
