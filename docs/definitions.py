@@ -454,7 +454,7 @@ def lemma_rows(crate):
         said = first_comment(text.splitlines())[0]
         if not said:
             raise Wrong(f"crates/{crate}/proofs/{name}.antt: its first line doesn't say what it shows")
-        yield f"proofs/{name}.antt", said, LEMMA.findall(text)
+        yield f"proofs/{name}.antt", said, dict.fromkeys(LEMMA.findall(text))
 
 
 def files_of(house):
