@@ -1,7 +1,7 @@
 //! Pushes the text of a document (`push_document`): its lines in order, from the version to `END`.
 
 ghost use Rattle.std.specs.Option.{option_map};
-ghost use Rattle.std.specs.Prelude.{◌≡◌, ◌++◌, OnOk, codes};
+ghost use Rattle.std.specs.Prelude.{◌≡◌, ◌++◌, ◌∷◌, OnOk, codes, decimal};
 ghost use Rattle.s66_isa.specs.Lists.{after_blanks};
 ghost use Rattle.s66_model.specs.DominatedLeaves.{Factual};
 ghost use Rattle.s66_model.specs.Lines.{fact_leaf_of, vertex_of};
@@ -19,13 +19,32 @@ use s66_model::{FactLeaf, TreeLine, TreeLines};
 use s66_moments::{FactLine, FactStep, LoadLine, Moment, Stage};
 use std::alloc::AllocError;
 
+/// A number after a blank. Most have one digit or two, and a large tree has millions of them.
+#[tactic(auto, using(crate::proofs::Printed::one_digit, crate::proofs::Printed::two_digits, crate::proofs::Printed::three_digits))]
+fn push_number(out: &mut Vec<u8>, number: u8) -> Result<(), AllocError>
+    ensures { OnOk result (out.new.items ≡ out.old.items ++ (32 ∷ decimal number)) }
+{
+    if number < 10 {
+        out.extend_from_slice(&[b' ', b'0' + number])
+    } else if number < 100 {
+        out.extend_from_slice(&[b' ', b'0' + number / 10, b'0' + number % 10])
+    } else {
+        out.extend_from_slice(&[
+            b' ',
+            b'0' + number / 100,
+            b'0' + number % 100 / 10,
+            b'0' + number % 10,
+        ])
+    }
+}
+
 /// A text and numbers after it, each after a blank.
 fn push_numbers(out: &mut Vec<u8>, text: &[u8], numbers: &[u8]) -> Result<(), AllocError>
     ensures { OnOk result (out.new.items ≡ out.old.items ++ (text.now ++ after_blanks numbers.now)) }
 {
     out.extend_from_slice(text)?;
     for number in numbers {
-        push_field(out, b" ", *number as usize)?;
+        push_number(out, *number)?;
     }
     Ok(())
 }
