@@ -1,5 +1,5 @@
-//! The text of `compare`: a line for each row, which is a pair of blocks or a block that one source
-//! alone has, where what stands beside the blocks differs, and the sums.
+//! The text of `compare`: a line for each row, which is a pair of blocks or a block that one source alone has, where what stands beside
+//! the blocks differs, and the sums.
 
 ghost use Rattle.std.specs.Prelude.{◌≡◌, ◌≤◌, ◌*◌, ◌^◌, ◌<◌, ◌++◌, codes, decimal, length, slice_get, IfOk, OnOk};
 ghost use Rattle.s66_isa.specs.Lists.{after_blanks, tally, weigh};

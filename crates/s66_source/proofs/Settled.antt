@@ -10,7 +10,7 @@ use Rattle.s66_line.specs.declared.class.Class.{Class}
 use Rattle.s66_line.specs.declared.class.Class.TheVariants.{Comment, Other, Refused, Pad, Instruction}
 use Rattle.s66_line.specs.declared.limits.TheConstants.{LINE_BYTES_LIMIT}
 use Rattle.s66_source.specs.Frame.{is_beside}
-use Rattle.s66_source.specs.declared.kept.Kind.TheVariants as kind
+use Rattle.s66_source.specs.declared.kept.LineKind.TheVariants as kind
 use Rattle.s66_source.specs.BlockParts.{all_of}
 use Rattle.s66_source.specs.Keeper.{last_of, owner_by}
 use Rattle.s66_source.specs.Kept.{begins_at, has_block_by, is_beside_by, is_run, kept_line, runs_next}

@@ -9,8 +9,8 @@ use Rattle.s66_source.specs.Printed.{Placed}
 use Rattle.s66_source.specs.Replaced.{AreGiven, anew_text, printed_in}
 use Rattle.s66_source.specs.Source.{blocks_of, classed_lines, source_of}
 use Rattle.s66_source.specs.declared.columns.Columns.{Columns}
-use Rattle.s66_source.specs.declared.kept.Kind.{Kind}
-use Rattle.s66_source.specs.declared.kept.Kind.TheVariants as kind
+use Rattle.s66_source.specs.declared.kept.LineKind.{LineKind}
+use Rattle.s66_source.specs.declared.kept.LineKind.TheVariants as kind
 
 pub record Keeper : Type 0 where
   pub source : Reading
@@ -39,7 +39,7 @@ last_of blocks zero = 0
 last_of blocks (suc i) = last_in (slice_get blocks i)
 
 -- of one in which no block begins: whether it is before the end of the last block, whether an instruction is in its run, and none before it
-abbrev pub owner_by_kind : Kind → (note has leading : Bool) → ℕ → ℕ
+abbrev pub owner_by_kind : LineKind → (note has leading : Bool) → ℕ → ℕ
 owner_by_kind kind.Instruction note has leading begun = begun
 owner_by_kind kind.Comment note has leading begun = if note then begun else 0
 owner_by_kind kind.Pad note has leading begun = if has then (if leading then suc begun else begun) else 0
@@ -65,7 +65,7 @@ bytes_at lines (suc n) = bytes_in (slice_get lines n)
 abbrev pub indents_by : Columns → List KeptLine → Block → List ℕ
 indents_by columns lines block = map (λ (e : Entry). indent columns (bytes_at lines e.line)) block.entries
 
-abbrev pub note_by_kind : Kind → List ℕ → List ℕ
+abbrev pub note_by_kind : LineKind → List ℕ → List ℕ
 note_by_kind kind.Comment bytes = body bytes ++ codes "\n"
 note_by_kind _ bytes = []
 

@@ -8,17 +8,17 @@ use Rattle.s66_line.specs.declared.class.Class.TheVariants.{Comment, Other, Refu
 use Rattle.s66_source.specs.Frame.{FramePart, block_part}
 use Rattle.s66_source.specs.LeftAlone.{Flagged, class_at}
 use Rattle.s66_source.specs.Source.{Line, place_after, place_at, run_after, run_at}
-use Rattle.s66_source.specs.declared.kept.Kind.{Kind}
-use Rattle.s66_source.specs.declared.kept.Kind.TheVariants as kind
+use Rattle.s66_source.specs.declared.kept.LineKind.{LineKind}
+use Rattle.s66_source.specs.declared.kept.LineKind.TheVariants as kind
 
 pub record KeptLine : Type 0 where
   pub bytes : List ℕ
-  pub kind : Kind
+  pub kind : LineKind
   -- those of the definition
   pub run : ℕ
   pub index : ℕ
 
-abbrev pub kind_of : Class → Kind
+abbrev pub kind_of : Class → LineKind
 kind_of Comment = kind.Comment
 kind_of Other = kind.Other
 kind_of Refused = kind.Other
@@ -74,7 +74,7 @@ runs_next lines run (Some block) = is_run run (slice_get lines (line_of block 1 
 abbrev pub has_block_by : List KeptLine → Option Block → KeptLine → Bool
 has_block_by lines next line = if line.index == 0 then runs_next lines line.run next else true
 
-abbrev pub beside_by_kind : Kind → (has : Bool) → Bool
+abbrev pub beside_by_kind : LineKind → (has : Bool) → Bool
 beside_by_kind kind.Other has = true
 beside_by_kind kind.Pad has = not has
 beside_by_kind _ has = false

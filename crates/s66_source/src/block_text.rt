@@ -9,7 +9,7 @@ ghost use Rattle.s66_source.specs.Printed.{bound_text, splits_line, times_text, 
 ghost use Rattle.s66_isa.specs.declared.limits.TheConstants.{BLOCK_LIMIT};
 
 use crate::columns::{Columns, USUAL_INDENT};
-use crate::kept::{KeptLine, Kind, bytes_at};
+use crate::kept::{KeptLine, LineKind, bytes_at};
 use crate::placed::Placed;
 use s66_device::push_field;
 use s66_line::{Block, body_of, without_trailing};
@@ -148,7 +148,7 @@ fn push_if_comment(out: &mut Vec<u8>, line: Option<&KeptLine>) -> Result<(), All
 {
     match line {
         Some(line) => match line.kind {
-            Kind::Comment => push_copied(out, line.bytes),
+            LineKind::Comment => push_copied(out, line.bytes),
             _ => Ok(()),
         },
         None => Ok(()),

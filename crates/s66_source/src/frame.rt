@@ -7,7 +7,7 @@ ghost use Rattle.s66_source.specs.Frame.{block_part, frame_of};
 ghost use Rattle.s66_source.specs.Kept.{begins_at, is_beside_by, part_by};
 ghost use Rattle.s66_source.specs.declared.limits.TheConstants.{SOURCE_LINES_LIMIT};
 
-use crate::kept::{KeptLine, Kind, begins_at, count_after, first_line, has_block};
+use crate::kept::{KeptLine, LineKind, begins_at, count_after, first_line, has_block};
 use crate::source::Source;
 use s66_line::{Block, without_trailing};
 use std::alloc::{AllocError, Global};
@@ -58,8 +58,8 @@ fn is_beside(lines: &[KeptLine], next: Option<&Block>, line: &KeptLine) -> bool
     ensures { result ≡ is_beside_by lines.now (option_map (λ block. block.now) next.entry) line.now }
 {
     match line.kind {
-        Kind::Other => true,
-        Kind::Pad => !has_block(lines, next, line),
+        LineKind::Other => true,
+        LineKind::Pad => !has_block(lines, next, line),
         _ => false,
     }
 }

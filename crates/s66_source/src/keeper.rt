@@ -7,7 +7,7 @@ ghost use Rattle.s66_source.specs.Source.{blocks_of, classed_lines};
 
 use crate::block_text::{push_copied, push_indented, push_note, push_report};
 use crate::columns::Columns;
-use crate::kept::{KeptLine, Kind, count_after, first_line, has_block, last_line};
+use crate::kept::{KeptLine, LineKind, count_after, first_line, has_block, last_line};
 use crate::placed::Placed;
 use crate::source::Source;
 use s66_line::Block;
@@ -122,15 +122,15 @@ impl<'s, 'a> Keeper<'s, 'a> {
             return begun + 1;
         }
         match line.kind {
-            Kind::Instruction => begun,
-            Kind::Comment => {
+            LineKind::Instruction => begun,
+            LineKind::Comment => {
                 if number < self.last_of(begun) {
                     begun
                 } else {
                     0
                 }
             }
-            Kind::Pad => {
+            LineKind::Pad => {
                 if !has_block(self.lines(), self.blocks().get(begun), line) {
                     0
                 } else if line.index == 0 {
@@ -139,7 +139,7 @@ impl<'s, 'a> Keeper<'s, 'a> {
                     begun
                 }
             }
-            Kind::Other => 0,
+            LineKind::Other => 0,
         }
     }
 

@@ -13,7 +13,7 @@ use std::marker::Model;
 
 /// What a line is, but for what its class has beside.
 #[derive(Clone, Copy)]
-pub(crate) enum Kind {
+pub(crate) enum LineKind {
     Comment,
     /// One that is copied as it stands.
     Other,
@@ -26,7 +26,7 @@ pub(crate) enum Kind {
 #[derive(Drop)]
 pub(crate) struct KeptLine<'a> {
     pub(crate) bytes: &'a [u8],
-    pub(crate) kind: Kind,
+    pub(crate) kind: LineKind,
     /// The number of its run.
     pub(crate) run: u32,
     /// How many instructions of its run come before it.
@@ -64,14 +64,14 @@ impl<'a> Model for Kept<'a> {
     ghost invariant = { λ k. (k.run ≤ k.count) × (k.index ≤ k.count) };
 }
 
-fn kind_of(class: &Class) -> Kind
+fn kind_of(class: &Class) -> LineKind
     ensures { result ≡ kind_of class.now }
 {
     match class {
-        Class::Comment => Kind::Comment,
-        Class::Other | Class::Refused => Kind::Other,
-        Class::Pad { .. } => Kind::Pad,
-        Class::Instruction { .. } => Kind::Instruction,
+        Class::Comment => LineKind::Comment,
+        Class::Other | Class::Refused => LineKind::Other,
+        Class::Pad { .. } => LineKind::Pad,
+        Class::Instruction { .. } => LineKind::Instruction,
     }
 }
 
