@@ -199,7 +199,8 @@ fn push_tree(out: &mut Vec<u8>, mut lines: TreeLines<'_>) -> Result<(), AllocErr
     Ok(())
 }
 
-/// Appends the text of a document. `Err` is out of memory. It takes time linear in the text, and allocates nothing but room in `out`.
+/// Appends the text of a document, in time linear in the text; it allocates nothing but room in `out`. `Err` is out of memory, and then
+/// nothing is said of `out`.
 pub fn push_document(out: &mut Vec<u8>, document: &Document) -> Result<(), AllocError>
     ensures { OnOk result (out.new.items ≡ out.old.items ++ document_text (document_of document.now)) }
 {

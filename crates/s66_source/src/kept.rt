@@ -11,11 +11,11 @@ use s66_line::{Block, Class};
 use std::alloc::{AllocError, Global};
 use std::marker::Model;
 
-/// What a line is, but for what its class has beside.
+/// The class of a line, without its instruction and whether a location stands there.
 #[derive(Clone, Copy)]
 pub(crate) enum LineKind {
     Comment,
-    /// One that is copied as it stands.
+    /// Neither code nor a comment.
     Other,
     /// A `NO`.
     Pad,
