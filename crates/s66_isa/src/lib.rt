@@ -1,5 +1,6 @@
 //! Instructions of the Control Data 6600: what each reads, writes and occupies, and the profile of its times. All other crates use it,
-//! and it uses none of them. Begin at `specs/Table.antt`, the instruction table, then `instr.rt`.
+//! and it uses none of them; so the sets of numbers that many of them keep (`Set`) stand here too. Begin at `specs/Table.antt`, the
+//! instruction table, then `instr.rt`.
 //!
 //! It promises that what code says of an instruction is what the table says of it (`Row::of`).
 #![tactic(auto)]
