@@ -1,5 +1,5 @@
 -- Used by contracts: the prefixes that a walk over a tree in preorder has still to reach, by the prefix at which it is.
-use Rattle.std.specs.Prelude.{ℕ, suc, ◌-◌, ◌≡◌, List, [], ◌∷◌, ◌++◌, Option, None, Some, length, map}
+use Rattle.std.specs.Prelude.{ℕ, suc, ◌-◌, ◌≡◌, Bool, true, false, List, [], ◌∷◌, ◌++◌, Option, None, Some, length, map}
 use Rattle.std.specs.List.{filter}
 use Rattle.s66_isa.specs.declared.instr.Instr.{Instr}
 use Rattle.s66_isa.specs.Lists.{rising}
@@ -23,3 +23,8 @@ children prefix numbers = map (λ n. prefix ++ n ∷ []) numbers
 abbrev pub later : List Instr → List ℕ → List ℕ → List (List ℕ)
 later block prefix [] = []
 later block prefix (n ∷ path) = later block (prefix ++ n ∷ []) path ++ children prefix (ready_above block prefix n)
+
+-- what is to come if the walk goes on with this prefix, and if it has ended
+abbrev pub coming : List Instr → Bool → List ℕ → List (List ℕ)
+coming block true prefix = prefix ∷ later block [] prefix
+coming block false prefix = []

@@ -1,14 +1,19 @@
 //! The options of a search: workers, the most splits, and which nodes dominated leaves may name.
 
+ghost use Rattle.std.specs.Prelude.{◌≤◌};
+ghost use Rattle.s66_model.specs.declared.limits.TheConstants.{BUDGET_LIMIT, WORKERS_LIMIT};
+
 use crate::rule::Rule;
 
 /// How a block's orders are searched.
 #[derive(Clone, Copy, PartialEq, Eq)]
 pub struct Options {
-    /// How many workers search, 1 to `WORKERS_LIMIT`.
+    /// How many workers search.
     pub workers: u8,
-    /// The most splits of the search, 0 to `BUDGET_LIMIT`.
+    /// The most splits of the search.
     pub nodes: u32,
     /// Which nodes dominated leaves name; by `NoneNamed` no leaf is dominated.
     pub rule: Rule,
+    pub ghost crew: { (1 ≤ workers) × (workers ≤ WORKERS_LIMIT) },
+    pub ghost few: { nodes ≤ BUDGET_LIMIT },
 }
