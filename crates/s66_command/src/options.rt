@@ -88,6 +88,7 @@ fn rule_of(flags: SearchFlags) -> Rule
 
 /// How the best order is looked for.
 pub(crate) fn strategy_in(matches: &ArgMatches) -> Strategy
+    requires { (words : List Text) × IsFoundBy (found_of matches.now) words }
     ensures { (words : List Text) → IsFoundBy (found_of matches.now) words → GivesSearch words result }
 {
     let flags = search_flags_in(matches);
@@ -104,6 +105,7 @@ pub(crate) fn strategy_in(matches: &ArgMatches) -> Strategy
 
 /// How the best order is looked for, if the flag `--order` is given.
 pub(crate) fn order_in(matches: &ArgMatches) -> Option<Strategy>
+    requires { (words : List Text) × IsFoundBy (found_of matches.now) words }
     ensures { (words : List Text) → IsFoundBy (found_of matches.now) words → GivesOrder words result }
 {
     if flag_in(matches, "order") {

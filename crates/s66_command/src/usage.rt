@@ -99,7 +99,8 @@ fn mistake(alloc: Global, name: &str, kind: ErrorKind, message: &str) -> Usage
 
 /// What the subcommand of this name writes, by what clap found of its options.
 fn asked_by(name: &str, given: &ArgMatches) -> Asked
-    requires { IsSubcommand name.now }
+    requires named { IsSubcommand name.now }
+    requires found { (words : List Text) × IsFoundBy (found_of given.now) words }
     ensures { (words : List Text) → IsFoundBy (found_of given.now) words → Calls words name.now → AsksBy words result }
 {
     let text = flag_in(given, "text");
@@ -150,7 +151,8 @@ fn asked_by(name: &str, given: &ArgMatches) -> Asked
 
 /// The command of the subcommand of this name, by what clap found of its options.
 fn command_by<'a>(name: &str, given: &ArgMatches<'a>) -> Command<'a>
-    requires { IsSubcommand name.now }
+    requires named { IsSubcommand name.now }
+    requires found { (words : List Text) × IsFoundBy (found_of given.now) words }
     ensures { (words : List Text) → IsFoundBy (found_of given.now) words → Calls words name.now → Asks words result }
 {
     Command {
