@@ -1,11 +1,11 @@
 -- What a tree with closings by lines and with dominated leaves shows is a lower bound, by any rule, and so is each time that is less.
-use Rattle.std.proofs.Common.{ℕ, ◌≤◌, ◌<◌, ◌≡◌, ◌⊎◌, Bool, true, List, [], ◌∷◌, ◌++◌, refl, sym, arith, inl, inr, ◌∙◌, Option, Some, None}
+use Rattle.std.proofs.Common.{ℕ, ◌≤◌, ◌<◌, ◌≡◌, ◌⊎◌, Bool, true, List, [], ◌∷◌, ◌++◌, refl, sym, arith, inl, inr, ◌∙◌, Option, Some}
 use Rattle.s66_isa.proofs.Lists.{cases_le}
 use Rattle.s66_model.specs.declared.rule.Rule.{Rule}
 use Rattle.s66_model.specs.declared.rule.Rule.TheVariants.{NoneNamed, WrittenEarlier, ClampedStanding}
 use Rattle.s66_model.specs.Timing.{Problem, total_of}
 use Rattle.s66_model.specs.LegalOrder.{IsLegal}
-use Rattle.s66_model.specs.Tree.{Tree, Vertex, AtTerminal, AtSplit}
+use Rattle.s66_model.specs.Tree.{Tree, Vertex, AtTerminal}
 use Rattle.s66_model.specs.NodeNames.{node_named}
 use Rattle.s66_moments.specs.Facts.{Fact, Begins, AreSo}
 use Rattle.s66_moments.specs.FactLines.{Line, facts_after}
@@ -19,11 +19,8 @@ abbrev closes : LineEnding → Bool
 closes ending = is_closed (Some (AtTerminal ending))
 
 may-name : (rule : Rule) (vertex : Option (Vertex LineEnding)) → may_be_named rule vertex ≡ may_name closes rule vertex
-may-name NoneNamed vertex = refl
-may-name WrittenEarlier vertex = refl
-may-name ClampedStanding None = refl
-may-name ClampedStanding (Some (AtSplit numbers)) = refl
 may-name ClampedStanding (Some (AtTerminal ending)) = refl
+may-name _ _ = refl
 
 -- BY ANY RULE, and by facts that are so in each order below low
 

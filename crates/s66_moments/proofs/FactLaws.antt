@@ -1,11 +1,11 @@
 -- What facts give: pairs of which one stands first, and what a prefix decides.
 use Rattle.std.proofs.Common.{ℕ, ◌+◌, ◌≤◌, ◌<◌, ◌≡◌, ◌≢◌, ◌⊎◌, Bool, true, false, true≢false, cond, List, [], ◌∷◌, ◌++◌, length, refl, sym, ap, arith, inl, inr, eqb, ltb, append_assoc, subst, ◌∙◌}
-use Rattle.std.proofs.lemmas.Bool.{cond_both, cond-true, cond-false, cases_Bool, cases_lt, or_cases, or_parts, or_left, or_right, and_from, eqb-true, eqb-false, eq-eqb, lt-ltb}
+use Rattle.std.proofs.lemmas.Bool.{cond_both, cond-true, cond-false, cases_Bool, cases_lt, or_cases, or_parts, and_from, eqb-true, eqb-false, eq-eqb, lt-ltb}
 use Rattle.s66_isa.specs.declared.instr.Kind.{Kind}
 use Rattle.s66_isa.specs.declared.reg.Reg.{Reg}
 use Rattle.s66_isa.specs.Lists.{tally, has, Among}
 use Rattle.s66_isa.specs.Table.{Row, same_kind}
-use Rattle.s66_isa.proofs.Lists.{greatest-le-greatest}
+use Rattle.s66_isa.proofs.Lists.{greatest-le-greatest, has-among, among-has, split-among}
 use Rattle.s66_model.specs.Timing.{Problem, Point, row_at, copies, done_at, end_of, total, busy_at, point_of, points_after, points_of, next, total_of}
 use Rattle.s66_model.specs.Dependence.{depends}
 use Rattle.s66_model.specs.LegalOrder.{IsLegal}
@@ -56,15 +56,10 @@ module _ (b : Problem) (order : List ℕ) (legal : IsLegal b.block order) where
 -- PAIRS
 
 has-parts : (n : ℕ) (xs ys : List ℕ) → has n (xs ++ ys) ≡ true → (has n xs ≡ true) ⊎ (has n ys ≡ true)
-has-parts n [] ys h = inr h
-has-parts n (x ∷ xs) ys h =
-    elim (or_cases (eqb n x) (has n (xs ++ ys)) h) [
-      | inl here ↦ inl (or_left (eqb n x) (has n xs) here)
-      | inr past ↦
-          elim (has-parts n xs ys past) [
-            | inl front ↦ inl (or_right (eqb n x) (has n xs) front)
-            | inr rest ↦ inr rest
-          ]
+has-parts n xs ys h =
+    elim (split-among n xs ys (has-among n (xs ++ ys) h)) [
+      | inl front ↦ inl (among-has n xs front)
+      | inr rest ↦ inr (among-has n ys rest)
     ]
 
 -- where a number stands for the first time

@@ -6,6 +6,7 @@ use Rattle.s66_isa.specs.Lists.{least, weigh, Among}
 use Rattle.s66_isa.specs.Table.{same_kind}
 use Rattle.s66_model.specs.Timing.{Problem, Point, row_at, copies, total_of}
 use Rattle.s66_model.specs.LegalOrder.{IsLegal}
+use Rattle.s66_moments.specs.declared.moment.Stage.{Stage}
 use Rattle.s66_moments.specs.declared.moment.Stage.TheVariants.{Issue, Start, Free}
 use Rattle.s66_moments.specs.declared.moment.Moment.{Moment}
 use Rattle.s66_moments.specs.declared.moment.Moment.TheVariants.{Origin, At, End}
@@ -24,9 +25,8 @@ weigh-map f [] = refl
 weigh-map f (x ∷ xs) = ap (λ k. f x + k) (weigh-map f xs)
 
 least-map : {X : Type 0} (f : X → ℕ) (xs : List X) → least f xs ≡ least (λ (k : ℕ). k) (map f xs)
-least-map f [] = refl
-least-map f (x ∷ []) = refl
 least-map f (x ∷ (y ∷ ys)) = ap (min (f x)) (least-map f (y ∷ ys))
+least-map f _ = refl
 
 -- the same amounts take the same time
 shared-map : {X : Type 0} (f : X → ℕ) (xs : List X) (units : ℕ) → shared_time f xs units ≡ shared_time (λ (k : ℕ). k) (map f xs) units
@@ -54,47 +54,36 @@ module _ (b : Problem) (low : ℕ) (known : List Fact) where
     abbrev v : ℕ
     v = h + time - wait
 
-    -- a use that is between
-    one-within : (u : Use) → IsNumber b u.number → same_kind (row_at b u.number).kind kind ≡ true → IsBetween b known e f h wait time u → (x : Work) × (x.number ≡ u.number) × (x.amount ≡ u.amount) × IsWithin b low known kind e h f q v x
-    one-within u is same (inl (t, full, head, tail, enough)) = (
-      record { number = u.number; amount = u.amount; from = At u.number Issue; more = 0 },
+    -- a use, as work that lies within
+    abbrev Works : Use → Type 0
+    Works u = (x : Work) × (x.number ≡ u.number) × (x.amount ≡ u.amount) × IsWithin b low known kind e h f q v x
+
+    -- from a stage that is no sooner than its issue and no later than its start
+    from-stage : (u : Use) (stage : Stage) → IsNumber b u.number → same_kind (row_at b u.number).kind kind ≡ true → u.amount ≤ (row_at b u.number).hold + 1 →
+        ((order : List ℕ) → IsLegal b.block order → (time_of b order (At u.number Issue) ≤ time_of b order (At u.number stage)) × (time_of b order (At u.number stage) ≤ time_of b order (At u.number Start))) →
+        Leads b known e h (At u.number stage) → Follows b low known (Arc (At u.number stage) (u.amount + q) f v) → Works u
+    from-stage u stage is same full range head ended = (
+      record { number = u.number; amount = u.amount; from = At u.number stage; more = 0 },
       refl,
       refl,
       record {
         is_number = is;
         is_kind = same;
-        issued = λ order legal less so. omega arith;
-        begun = λ order legal less so. omega (arith, leads-so b known order legal so e h (At u.number Issue) head);
-        held = λ order legal less so. omega (arith, full, issue-start b order legal u.number is.0 is.1, start-free b order legal u.number is.0 is.1);
-        ended = λ order legal less so. omega (arith, leads-so b known order legal so (At u.number Issue) t f tail, enough);
+        issued = λ order legal less so. omega (arith, (range order legal).0);
+        begun = λ order legal less so. omega (arith, leads-so b known order legal so e h (At u.number stage) head);
+        held = λ order legal less so. omega (arith, full, (range order legal).1, start-free b order legal u.number is.0 is.1);
+        ended = λ order legal less so. omega (arith, ended order legal less so);
       },
     )
-    one-within u is same (inr (inl (t, full, head, tail, enough))) = (
-      record { number = u.number; amount = u.amount; from = At u.number Start; more = 0 },
-      refl,
-      refl,
-      record {
-        is_number = is;
-        is_kind = same;
-        issued = λ order legal less so. omega (arith, issue-start b order legal u.number is.0 is.1);
-        begun = λ order legal less so. omega (arith, leads-so b known order legal so e h (At u.number Start) head);
-        held = λ order legal less so. omega (arith, full, start-free b order legal u.number is.0 is.1);
-        ended = λ order legal less so. omega (arith, leads-so b known order legal so (At u.number Start) t f tail, enough);
-      },
-    )
-    one-within u is same (inr (inr (inl (t, full, head, tail, enough)))) = (
-      record { number = u.number; amount = u.amount; from = At u.number Start; more = 0 },
-      refl,
-      refl,
-      record {
-        is_number = is;
-        is_kind = same;
-        issued = λ order legal less so. omega (arith, issue-start b order legal u.number is.0 is.1);
-        begun = λ order legal less so. omega (arith, leads-so b known order legal so e h (At u.number Start) head);
-        held = λ order legal less so. omega (arith, full, start-free b order legal u.number is.0 is.1);
-        ended = λ order legal less so. omega (arith, full, leads-so b known order legal so (At u.number Free) t f tail, start-free b order legal u.number is.0 is.1, enough);
-      },
-    )
+
+    one-within : (u : Use) → IsNumber b u.number → same_kind (row_at b u.number).kind kind ≡ true → IsBetween b known e f h wait time u → Works u
+    one-within u is same (inl (t, full, head, tail, enough)) =
+        from-stage u Issue is same full (λ order legal. (omega arith, issue-start b order legal u.number is.0 is.1)) head (λ order legal less so. omega (arith, leads-so b known order legal so (At u.number Issue) t f tail, enough))
+    one-within u is same (inr (inl (t, full, head, tail, enough))) =
+        from-stage u Start is same full (λ order legal. (issue-start b order legal u.number is.0 is.1, omega arith)) head (λ order legal less so. omega (arith, leads-so b known order legal so (At u.number Start) t f tail, enough))
+    one-within u is same (inr (inr (inl (t, full, head, tail, enough)))) =
+        from-stage u Start is same full (λ order legal. (issue-start b order legal u.number is.0 is.1, omega arith)) head (λ order legal less so.
+        omega (arith, full, leads-so b known order legal so (At u.number Free) t f tail, start-free b order legal u.number is.0 is.1, enough))
     one-within u is same (inr (inr (inr (prefix, t, origin, among, there, before, busy, tail, enough)))) = (
       record { number = u.number; amount = u.amount; from = Origin; more = h },
       refl,
@@ -145,9 +134,8 @@ module _ (b : Problem) (low : ℕ) (known : List Fact) where
 
   paths-follow : (line : Line) → IsFoundedByPaths b low known line → Follows b low known (fact_of line)
   paths-follow (ForcedPair y x) founded = pair-follows y x founded
-  paths-follow (LoadArc kind e f h wait []) founded = absurd founded
   paths-follow (LoadArc kind e f h wait (u ∷ us)) founded = span-follows kind e f h wait u us founded.0 founded.1
-  paths-follow (Supposed y x) founded = absurd founded
+  paths-follow _ founded = absurd founded
 
   pub too_late-none : IsTooLate b low known → NoOrder b low known
   too_late-none (inl leads) = λ order legal less so. absurd (omega (arith, leads-so b known order legal so Origin low End leads, less))
@@ -182,9 +170,7 @@ module _ (b : Problem) (low other : ℕ) (less : other ≤ low) where
       (differ, is_x, is_y, inl (h, t, head, tail, omega (arith, late, less)))
   paths-lower known (ForcedPair y x) (differ, is_x, is_y, inr (h, t, one, head, tail, late)) =
       (differ, is_x, is_y, inr (h, t, one, head, tail, omega (arith, late, less)))
-  paths-lower known (LoadArc kind e f h wait []) founded = founded
-  paths-lower known (LoadArc kind e f h wait (u ∷ us)) founded = founded
-  paths-lower known (Supposed y x) founded = founded
+  paths-lower known _ founded = founded
 
   too_late-lower : (known : List Fact) → IsTooLate b low known → IsTooLate b other known
   too_late-lower known (inl (hops, path, long)) = inl (hops, path, omega (arith, long, less))

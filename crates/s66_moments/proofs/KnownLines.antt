@@ -1,7 +1,7 @@
 -- Fact lines that are taken are founded, and what is known after them is known by their facts.
-use Rattle.std.proofs.Common.{ℕ, ◌+◌, ◌*◌, ◌≤◌, ◌<◌, ◌≡◌, ◌≢◌, ◌⊎◌, Bool, true, false, true≢false, not, ◌||◌, ◌&&◌, List, [], ◌∷◌, ◌++◌, ◌-◌, length, map, refl, sym, ap, arith, inl, inr, eqb, leb, ltb, ◌∙◌, subst, Option, Some, None}
+use Rattle.std.proofs.Common.{ℕ, ◌+◌, ◌*◌, ◌≤◌, ◌<◌, ◌≡◌, ◌≢◌, ◌⊎◌, Bool, true, false, true≢false, not, ◌||◌, List, [], ◌∷◌, ◌++◌, ◌-◌, length, map, refl, sym, ap, arith, inl, inr, eqb, leb, ltb, ◌∙◌, subst, Option, Some, None}
 use Rattle.std.specs.Prelude.{is_some}
-use Rattle.std.proofs.lemmas.Bool.{and_parts, or_cases, or_left, not-true, eqb-true, ne_eqb, eqb-false, leb-true, ltb-true}
+use Rattle.std.proofs.lemmas.Bool.{and_parts, or_cases, or_left, not-true, eqb-true, eq-eqb, ne_eqb, eqb-false, leb-true, ltb-true}
 use Rattle.s66_isa.specs.declared.instr.Kind.{Kind}
 use Rattle.s66_isa.specs.Lists.{every, has, Among}
 use Rattle.s66_isa.specs.Table.{same_kind}
@@ -17,13 +17,13 @@ use Rattle.s66_moments.specs.declared.fact_line.FactLine.{FactLine}
 use Rattle.s66_moments.specs.declared.fact_line.FactLine.TheVariants.{Pair, Load}
 use Rattle.s66_moments.specs.declared.fact_line.LoadLine.{LoadLine}
 use Rattle.s66_moments.specs.declared.fact_line.KnownArc.{KnownArc}
-use Rattle.s66_moments.specs.Moments.{is_moment, own_arc, arc}
+use Rattle.s66_moments.specs.Moments.{is_moment}
 use Rattle.s66_moments.specs.Facts.{Fact, Arc, Before, Begins, IsNumber, AreOnce}
 use Rattle.s66_moments.specs.Paths.{IsStep, Hop, IsPath, waits, Leads}
 use Rattle.s66_moments.specs.FactLines.{Use, LoadArc, fact_of, IsLateByParcels, IsLateByUnit, use_time, IsBetween, AreBetween, IsFoundedByPaths, IsTooLate, IsFounded, AreFounded, facts_after}
 use Rattle.s66_moments.specs.Networks.{Network, network, IsKnown, AreSteps, IsRising, RisesBy, HasOwnArcs, IsTransitive, HasNoRing, IsNetworkPath, targets, most_arcs, rank_by, place_by, moments_of, with_arc, with_pair, soonest_path, tail}
 use Rattle.s66_moments.specs.Known.{Known, is_front, is_back, use_of, kind_of_load, line_of, plus, span, reaches, known_first, with_line, with_loads, arcs_of, is_number, is_late_by_parcels, is_late_by_unit, is_pair_taken, are_rising, leads_up, is_used_from, is_used, are_used, is_arc_up, is_load_taken, is_taken, are_taken, known_after, next_value, is_turned}
-use Rattle.s66_moments.proofs.TableArcs.{Some-same, moment-number}
+use Rattle.s66_moments.proofs.TableArcs.{and_three, and_four, and_five, Some-same, moment-number}
 use Rattle.s66_moments.proofs.Tails.{moment-target, network-steps, network-rises_by, network-own, own-among, tail-reached, path-tail, some-arc, arc-some}
 use Rattle.s66_moments.proofs.MoreArcs.{with-steps, with-rises, with-own, with-longer, pair-known}
 use Rattle.s66_moments.proofs.Rings.{places, pair-transitive, pair-no_ring}
@@ -49,12 +49,7 @@ number-is b n h =
 -- what its test says
 pub up-parts : (b : Problem) (before : ℕ → ℕ → Bool) (e f : Moment) → is_arc_up b before e f ≡ true →
     (is_front e ≡ true) × (is_moment b e ≡ true) × (is_back f ≡ true) × (is_moment b f ≡ true) × (leads_up before e f ≡ true)
-up-parts b before e f h =
-    let (rest, leads) = and_parts (is_front e && is_moment b e && is_back f && is_moment b f) (leads_up before e f) h in
-    let (rest2, is_f) = and_parts (is_front e && is_moment b e && is_back f) (is_moment b f) rest in
-    let (rest3, back) = and_parts (is_front e && is_moment b e) (is_back f) rest2 in
-    let (front, is_e) = and_parts (is_front e) (is_moment b e) rest3 in
-    (front, is_e, back, is_f, leads)
+up-parts b before e f h = and_five (is_front e) (is_moment b e) (is_back f) (is_moment b f) (leads_up before e f) h
 
 -- which still leads up with a pair more
 pub up-pair : (b : Problem) (before : ℕ → ℕ → Bool) (m n : ℕ) (e f : Moment) → is_arc_up b before e f ≡ true → is_arc_up b (with_pair before m n) e f ≡ true
@@ -74,10 +69,7 @@ pub pair-tests : (b : Problem) (bound : ℕ) (known : Known) (m n : ℕ) → is_
     (m ≢ n) × IsNumber b m × IsNumber b n × (known.before n m ≡ false) × ((is_late_by_parcels b (arcs_of b known) bound m n || is_late_by_unit b (arcs_of b known) bound m n) ≡ true)
 pair-tests b bound known m n h =
     let late_ways = is_late_by_parcels b (arcs_of b known) bound m n || is_late_by_unit b (arcs_of b known) bound m n in
-    let (rest, late) = and_parts (not (eqb m n) && is_number b m && is_number b n && not (known.before n m)) late_ways h in
-    let (rest2, off) = and_parts (not (eqb m n) && is_number b m && is_number b n) (not (known.before n m)) rest in
-    let (rest3, is_n) = and_parts (not (eqb m n) && is_number b m) (is_number b n) rest2 in
-    let (differ, is_m) = and_parts (not (eqb m n)) (is_number b m) rest3 in
+    let (differ, is_m, is_n, off, late) = and_five (not (eqb m n)) (is_number b m) (is_number b n) (not (known.before n m)) late_ways h in
     (eqb-false m n (not-true (eqb m n) differ), number-is b m is_m, number-is b n is_n, not-true (known.before n m) off, late)
 
 -- ITS ARCS
@@ -110,33 +102,26 @@ module _ (b : Problem) where
     arc-target End back is = inl refl
 
     arc-high : (f : Moment) → is_back f ≡ true → is_moment b f ≡ true → rank f ≤ most_arcs b
-    arc-high Origin back is = absurd (true≢false (sym back))
     arc-high (At n Issue) back is = (let placed = (places b before through none).0 n (moment-number b n Issue is) in omega (arith, placed.1))
     arc-high (At n Start) back is = (let placed = (places b before through none).0 n (moment-number b n Start is) in omega (arith, placed.1))
-    arc-high (At n (Done x)) back is = absurd (true≢false (sym back))
-    arc-high (At n Free) back is = absurd (true≢false (sym back))
     arc-high End back is = omega arith
+    arc-high _ back is = absurd (true≢false (sym back))
 
     -- an issue or a start
     early : (n : ℕ) (stage : Stage) → is_front (At n stage) ≡ true → rank (At n stage) ≤ 4 * place_by b before n - 2
-    early n Issue h = omega arith
-    early n Start h = omega arith
     early n (Done x) h = absurd (true≢false (sym h))
     early n Free h = absurd (true≢false (sym h))
+    early n _ h = omega arith
 
     late : (n : ℕ) (stage : Stage) → 4 * place_by b before n - 3 ≤ rank (At n stage)
-    late n Issue = omega arith
-    late n Start = omega arith
     late n (Done x) = omega arith
-    late n Free = omega arith
+    late n _ = omega arith
 
     arc-up : (e f : Moment) → is_front e ≡ true → is_moment b e ≡ true → is_back f ≡ true → is_moment b f ≡ true → leads_up before e f ≡ true → rank e < rank f
-    arc-up Origin Origin front is_e back is_f up = absurd (true≢false (sym back))
     arc-up Origin (At n stage) front is_e back is_f up =
         let placed = (places b before through none).0 n (moment-number b n stage is_f) in
         omega (arith, placed.0, late n stage)
     arc-up Origin End front is_e back is_f up = omega arith
-    arc-up (At m e) Origin front is_e back is_f up = absurd (true≢false (sym back))
     arc-up (At m e) (At n f) front is_e back is_f up =
         let is_m = moment-number b m e is_e in
         let is_n = moment-number b n f is_f in
@@ -147,6 +132,7 @@ module _ (b : Problem) where
         let placed = (places b before through none).0 m (moment-number b m e is_e) in
         omega (arith, placed.0, placed.1, early m e front)
     arc-up End f front is_e back is_f up = absurd (true≢false (sym front))
+    arc-up _ Origin front is_e back is_f up = absurd (true≢false (sym back))
 
     pub loads-rise : (loads : List KnownArc) → ((load : KnownArc) → Among load loads → is_arc_up b before load.from load.to ≡ true) → RisesBy b (with_loads (network b before) loads) rank
     loads-rise [] up = network-rises_by b before (place_by b before) (places b before through none)
@@ -201,8 +187,7 @@ module _ (b : Problem) (facts : List Fact) (known : Known) (sound : IsSound b fa
 
     by_unit : is_late_by_unit b (arcs_of b known) bound m n ≡ true → IsLateByUnit b bound facts n m
     by_unit h =
-        let (rest, late) = and_parts (same_kind (row_at b n).kind (row_at b m).kind && eqb (copies b (row_at b m).kind) 1) (reaches bound (plus (S Origin (At n Free)) (S (At m Issue) End))) h in
-        let (same, one) = and_parts (same_kind (row_at b n).kind (row_at b m).kind) (eqb (copies b (row_at b m).kind) 1) rest in
+        let (same, one, late) = and_three (same_kind (row_at b n).kind (row_at b m).kind) (eqb (copies b (row_at b m).kind) 1) (reaches bound (plus (S Origin (At n Free)) (S (At m Issue) End))) h in
         let (w, is, le) = reaches-some bound (plus (S Origin (At n Free)) (S (At m Issue) End)) late in
         let (u, t, head, tail, sum) = plus-some (S Origin (At n Free)) (S (At m Issue) End) w is in
         (u, t, (same, eqb-true (copies b (row_at b m).kind) 1 one), span-leads Origin (At n Free) u head, span-leads (At m Issue) End t tail, omega (arith, le, sum))
@@ -230,8 +215,7 @@ module _ (b : Problem) (facts : List Fact) (known : Known) (sound : IsSound b fa
     used-between : (n : ℕ) → is_used b (arcs_of b known) line kind time n ≡ true →
         IsNumber b n × (same_kind (row_at b n).kind kind ≡ true) × IsBetween b facts line.from line.to line.after line.wait time (use_of b n)
     used-between n h =
-        let (rest, ways) = and_parts (is_number b n && same_kind (row_at b n).kind kind) (is_used_from b (arcs_of b known) line time Issue n || is_used_from b (arcs_of b known) line time Start n) h in
-        let (is_n, same) = and_parts (is_number b n) (same_kind (row_at b n).kind kind) rest in
+        let (is_n, same, ways) = and_three (is_number b n) (same_kind (row_at b n).kind kind) (is_used_from b (arcs_of b known) line time Issue n || is_used_from b (arcs_of b known) line time Start n) h in
         let between : IsBetween b facts line.from line.to line.after line.wait time (use_of b n) =
         elim (or_cases (is_used_from b (arcs_of b known) line time Issue n) (is_used_from b (arcs_of b known) line time Start n) ways) [
           | inl issue ↦ (let (t, head, tail, enough) = used-leads Issue n issue in inl (t, omega arith, head, tail, enough))
@@ -277,9 +261,7 @@ module _ (b : Problem) (bound : ℕ) (facts : List Fact) (known : Known) (sound 
       (is_arc_up b known.before line.from line.to ≡ true) × IsFounded b bound facts (line_of b (Load line))
   load-parts line h =
       let ns : List ℕ = line.numbers.items in
-      let (rest, used) = and_parts (is_arc_up b known.before line.from line.to && ltb 0 (length ns) && are_rising ns) (are_used b (arcs_of b known) line (kind_of_load b ns)) h in
-      let (rest2, rises) = and_parts (is_arc_up b known.before line.from line.to && ltb 0 (length ns)) (are_rising ns) rest in
-      let (up, some) = and_parts (is_arc_up b known.before line.from line.to) (ltb 0 (length ns)) rest2 in
+      let (up, some, rises, used) = and_four (is_arc_up b known.before line.from line.to) (ltb 0 (length ns)) (are_rising ns) (are_used b (arcs_of b known) line (kind_of_load b ns)) h in
       (up, load-founded line ns refl some rises used)
 
   pub line-by_paths : (line : FactLine) → is_taken b bound known line ≡ true → IsFoundedByPaths b bound facts (line_of b line)
@@ -375,46 +357,34 @@ module _ (b : Problem) (facts : List Fact) (known : Known) (sound : IsSound b fa
 
   pub turned-too_late : (bound : ℕ) (prefix : List ℕ) (m n : ℕ) → is_turned b known prefix m n ≡ true → IsTooLate b bound (Begins prefix ∷ facts)
   turned-too_late bound prefix m n h =
-      let (rest, first) = and_parts (is_remaining b.block prefix m && is_number b n && has n prefix) (known.before m n) h in
-      let (rest2, there) = and_parts (is_remaining b.block prefix m && is_number b n) (has n prefix) rest in
-      let (remains, number) = and_parts (is_remaining b.block prefix m) (is_number b n) rest2 in
+      let (remains, number, there, first) = and_four (is_remaining b.block prefix m) (is_number b n) (has n prefix) (known.before m n) h in
       let (low, high, new) = remaining-parts b.block prefix m remains in
       let is_n : IsNumber b n = number-is b n number in
       turned-late b bound facts prefix m n (low, high) is_n (sound.is_known m n (low, high) is_n first) (there, new)
 
   -- TAILS: each moment leads to the end
 
-  own-hop : (n : ℕ) (e f : Stage) (w : ℕ) → is_moment b (At n e) ≡ true → is_moment b (At n f) ≡ true → own_arc (row_at b n) e f ≡ Some w → (v : ℕ) × (arcs (At n e) (At n f) ≡ Some v)
-  own-hop n e f w is_e is_f is = (let (v, there, le) = arcs-own b facts known sound n e f w is_e is_f is in (v, there))
-
-  end-hop : (e : Moment) → is_moment b e ≡ true → is_some (arc b e End) ≡ true → (v : ℕ) × (arcs e End ≡ Some v)
-  end-hop e is some =
-      let there : is_some (network b known.before e End) ≡ true = end-network e is some in
-      (_, some-arc (arcs e End) (loads-some b (network b known.before) known.loads e End there))
-    where
-      end-network : (e : Moment) → is_moment b e ≡ true → is_some (arc b e End) ≡ true → is_some (network b known.before e End) ≡ true
-      end-network Origin is some = refl
-      end-network (At n stage) is some = rw is some
-      end-network End is some = some
-
   abbrev LeadsOn : Moment → Type 0
   LeadsOn e = (hops : List Hop) × IsNetworkPath arcs e hops End
 
-  one-more : (e f : Moment) (v : ℕ) → arcs e f ≡ Some v → LeadsOn f → LeadsOn e
-  one-more e f v is (hops, path) = (record { wait = v; to = f } ∷ hops, (is, path))
+  -- by an arc of the table
+  one-more : (e f : Moment) (w : ℕ) → network b known.before e f ≡ Some w → LeadsOn f → LeadsOn e
+  one-more e f w is (hops, path) =
+      let there : is_some (arcs e f) ≡ true = loads-some b (network b known.before) known.loads e f (arc-some (network b known.before e f) w is).0 in
+      (record { wait = _; to = f } ∷ hops, (some-arc (arcs e f) there, path))
 
-  to-end : (e : Moment) → is_moment b e ≡ true → is_some (arc b e End) ≡ true → LeadsOn e
-  to-end e is some = (let (v, there) = end-hop e is some in one-more e End v there ([], refl))
+  free-on : (n : ℕ) → is_moment b (At n Free) ≡ true → LeadsOn (At n Free)
+  free-on n is = one-more (At n Free) End 0 (rw is refl) ([], refl)
 
   start-on : (n : ℕ) → is_moment b (At n Start) ≡ true → LeadsOn (At n Start)
-  start-on n is = (let (v, there) = own-hop n Start Free ((row_at b n).hold + 1) is is refl in one-more (At n Start) (At n Free) v there (to-end (At n Free) is refl))
+  start-on n is = one-more (At n Start) (At n Free) ((row_at b n).hold + 1) (rw (is, eq-eqb n n refl) refl) (free-on n is)
 
   leads-on : (e : Moment) → is_moment b e ≡ true → LeadsOn e
-  leads-on Origin is = to-end Origin is refl
-  leads-on (At n Issue) is = (let (v, there) = own-hop n Issue Start 0 is is refl in one-more (At n Issue) (At n Start) v there (start-on n is))
+  leads-on Origin is = one-more Origin End 0 refl ([], refl)
+  leads-on (At n Issue) is = one-more (At n Issue) (At n Start) 0 (rw (is, eq-eqb n n refl) refl) (start-on n is)
   leads-on (At n Start) is = start-on n is
-  leads-on (At n (Done x)) is = to-end (At n (Done x)) is refl
-  leads-on (At n Free) is = to-end (At n Free) is refl
+  leads-on (At n (Done x)) is = one-more (At n (Done x)) End 0 (rw is refl) ([], refl)
+  leads-on (At n Free) is = free-on n is
   leads-on End is = ([], refl)
 
   pub span-tail : (e : Moment) → is_moment b e ≡ true → span b arcs e End ≡ Some (tail b arcs e)

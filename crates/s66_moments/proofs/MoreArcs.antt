@@ -11,7 +11,7 @@ use Rattle.s66_moments.specs.declared.moment.Stage.TheVariants.{Issue, Start, Do
 use Rattle.s66_moments.specs.declared.moment.Moment.{Moment}
 use Rattle.s66_moments.specs.declared.moment.Moment.TheVariants.{Origin, At, End}
 use Rattle.s66_moments.specs.Facts.{Fact, Arc, Before, Follows, IsNumber}
-use Rattle.s66_moments.specs.Paths.{PrecedesBy, Precedes, IsStep}
+use Rattle.s66_moments.specs.Paths.{PrecedesBy, Precedes}
 use Rattle.s66_moments.specs.Networks.{Network, IsKnown, AreArcs, targets, most_arcs, RisesBy, HasOwnArcs, same_stage, same_moment, with_arc, with_pair, through, tail_over, tail, AreSteps}
 use Rattle.s66_moments.proofs.TableArcs.{Some-same}
 use Rattle.s66_moments.proofs.Tails.{some-arc, arc-some}
@@ -23,18 +23,7 @@ same_stage-true Issue Issue h = refl
 same_stage-true Start Start h = refl
 same_stage-true (Done x) (Done y) h = ap (λ r. Done r) (same_reg-true x y h)
 same_stage-true Free Free h = refl
-same_stage-true Issue Start h = absurd (true≢false (sym h))
-same_stage-true Issue (Done y) h = absurd (true≢false (sym h))
-same_stage-true Issue Free h = absurd (true≢false (sym h))
-same_stage-true Start Issue h = absurd (true≢false (sym h))
-same_stage-true Start (Done y) h = absurd (true≢false (sym h))
-same_stage-true Start Free h = absurd (true≢false (sym h))
-same_stage-true (Done x) Issue h = absurd (true≢false (sym h))
-same_stage-true (Done x) Start h = absurd (true≢false (sym h))
-same_stage-true (Done x) Free h = absurd (true≢false (sym h))
-same_stage-true Free Issue h = absurd (true≢false (sym h))
-same_stage-true Free Start h = absurd (true≢false (sym h))
-same_stage-true Free (Done y) h = absurd (true≢false (sym h))
+same_stage-true _ _ h = absurd (true≢false (sym h))
 
 pub same_moment-true : (e f : Moment) → same_moment e f ≡ true → e ≡ f
 same_moment-true Origin Origin h = refl
@@ -42,23 +31,15 @@ same_moment-true (At m e) (At n f) h =
     let (number, stage) = and_parts _ (same_stage e f) h in
     ap (λ k. At k e) (eqb-true m n number) ∙ ap (λ s. At n s) (same_stage-true e f stage)
 same_moment-true End End h = refl
-same_moment-true Origin (At n f) h = absurd (true≢false (sym h))
-same_moment-true Origin End h = absurd (true≢false (sym h))
-same_moment-true (At m e) Origin h = absurd (true≢false (sym h))
-same_moment-true (At m e) End h = absurd (true≢false (sym h))
-same_moment-true End Origin h = absurd (true≢false (sym h))
-same_moment-true End (At n f) h = absurd (true≢false (sym h))
+same_moment-true _ _ h = absurd (true≢false (sym h))
 
 same_stage-self : (e : Stage) → same_stage e e ≡ true
-same_stage-self Issue = refl
-same_stage-self Start = refl
 same_stage-self (Done x) = same_reg-self x
-same_stage-self Free = refl
+same_stage-self _ = refl
 
 pub same_moment-self : (e : Moment) → same_moment e e ≡ true
-same_moment-self Origin = refl
 same_moment-self (At n e) = and_from (eqb n n) (same_stage e e) (eq-eqb n n refl) (same_stage-self e)
-same_moment-self End = refl
+same_moment-self _ = refl
 
 -- AN ARC MORE
 
@@ -88,24 +69,32 @@ module _ (arcs : Network) (e : Moment) (w : ℕ) (f : Moment) where
         | inr same ↦ (u, same ∙ is, omega arith)
       ]
 
-  pub with-follows : (b : Problem) (low : ℕ) (known : List Fact) → AreArcs b low known arcs → Follows b low known (Arc e w f 0) → AreArcs b low known (with_arc arcs e w f)
-  with-follows b low known follow more m n v is =
+  -- so each arc is an old one, or the new one
+  pub with-some : (m n : Moment) (v : ℕ) → with_arc arcs e w f m n ≡ Some v → (arcs m n ≡ Some v) ⊎ ((m ≡ e) × (n ≡ f) × (v ≡ w))
+  with-some m n v is =
       elim (with-cases m n) [
-        | inl at ↦
-            let (first, second, there) = at in
-            let value : max w (unwrap_or (arcs e f) 0) ≡ v = Some-same (max w (unwrap_or (arcs e f) 0)) v (sym there ∙ is) in
-            let both : Follows b low known (Arc e v f 0) = λ order legal less so. (let one = more order legal less so in
-            elim (cases_Bool (is_some (arcs e f))) [
-              | inl some ↦ (let two = follow e f (unwrap_or (arcs e f) 0) (some-arc (arcs e f) some) order legal less so in omega (arith, value, one, two))
-              | inr none ↦ omega (arith, value, one, none-zero (arcs e f) none)
-            ]) in
-            subst (λ k. Follows b low known (Arc k v n 0)) (sym first) (subst (λ k. Follows b low known (Arc e v k 0)) (sym second) both)
-        | inr same ↦ follow m n v (sym same ∙ is)
+        | inl (first, second, there) ↦
+            elim (longer (arcs e f) (Some-same (max w (unwrap_or (arcs e f) 0)) v (sym there ∙ is))) [
+              | inl old ↦ inl (ap (λ k. arcs k n) first ∙ (ap (arcs e) second ∙ old))
+              | inr new ↦ inr (first, second, new)
+            ]
+        | inr same ↦ inl (sym same ∙ is)
       ]
     where
-      none-zero : (o : Option ℕ) → is_some o ≡ false → unwrap_or o 0 ≡ 0
-      none-zero None h = refl
-      none-zero (Some u) h = absurd (true≢false h)
+      longer : (o : Option ℕ) → max w (unwrap_or o 0) ≡ v → (o ≡ Some v) ⊎ (v ≡ w)
+      longer None value = inr (omega (arith, value))
+      longer (Some u) value =
+          elim (cases_le u w) [
+            | inl le ↦ inr (omega (arith, value, le))
+            | inr lt ↦ inl (ap Some (omega (arith, value, lt)))
+          ]
+
+  pub with-follows : (b : Problem) (low : ℕ) (known : List Fact) → AreArcs b low known arcs → Follows b low known (Arc e w f 0) → AreArcs b low known (with_arc arcs e w f)
+  with-follows b low known follow more m n v is =
+      elim (with-some m n v is) [
+        | inl old ↦ follow m n v old
+        | inr (first, second, new) ↦ rw (first, second, new) more
+      ]
 
   pub with-rises : (b : Problem) (rank : Moment → ℕ) → RisesBy b arcs rank → Among f (targets b) → rank e < rank f → rank f ≤ most_arcs b → RisesBy b (with_arc arcs e w f) rank
   with-rises b rank rises among up high m n some =
@@ -147,38 +136,10 @@ module _ (arcs : Network) (e : Moment) (w : ℕ) (f : Moment) where
 
 pub with-steps : (b : Problem) (known : List Fact) (arcs : Network) (e : Moment) (w : ℕ) (f : Moment) → AreSteps b known arcs → Among (Arc e w f 0) known → AreSteps b known (with_arc arcs e w f)
 with-steps b known arcs e w f steps among m n v is =
-    elim (with-cases arcs e w f m n) [
-      | inl at ↦
-          let (first, second, there) = at in
-          let value : max w (unwrap_or (arcs e f) 0) ≡ v = Some-same (max w (unwrap_or (arcs e f) 0)) v (there-is there is) in
-          subst (λ k. IsStep b known k v n) (sym first) (subst (λ k. IsStep b known e v k) (sym second) (longer v value))
-      | inr same ↦ steps m n v (there-is same is)
+    elim (with-some arcs e w f m n v is) [
+      | inl old ↦ steps m n v old
+      | inr (first, second, new) ↦ rw (first, second, new) (inr (inl among))
     ]
-  where
-    there-is : {o p q : Option ℕ} → o ≡ p → o ≡ q → p ≡ q
-    there-is {q = q} one two = subst (λ x. x ≡ q) one two
-
-    -- the known arc, or the one that was there
-    longer : (v : ℕ) → max w (unwrap_or (arcs e f) 0) ≡ v → IsStep b known e v f
-    longer v value =
-        elim (cases_Bool (is_some (arcs e f))) [
-          | inl some ↦ of-two (unwrap_or (arcs e f) 0) v value (steps e f (unwrap_or (arcs e f) 0) (some-arc (arcs e f) some))
-          | inr none ↦ subst (λ x. IsStep b known e x f) (none-value (arcs e f) none v value) (inr (inl among))
-        ]
-      where
-        none-value : (o : Option ℕ) → is_some o ≡ false → (v : ℕ) → max w (unwrap_or o 0) ≡ v → w ≡ v
-        none-value None h v is = omega (arith, is)
-        none-value (Some u) h v is = absurd cc
-
-        of-two : (u v : ℕ) → max w u ≡ v → IsStep b known e u f → IsStep b known e v f
-        of-two u v value old =
-            elim (cases_le u w) [
-              | inl le ↦ subst (λ x. IsStep b known e x f) (low u v value le) (inr (inl among))
-              | inr lt ↦ subst (λ x. IsStep b known e x f) (omega (arith, value, lt)) old
-            ]
-          where
-            low : (u v : ℕ) → max w u ≡ v → u ≤ w → w ≡ v
-            low u v value le = omega (arith, value, le)
 
 -- A PAIR MORE
 

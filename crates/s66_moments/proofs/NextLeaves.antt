@@ -32,16 +32,9 @@ module _ (b : Problem) (known : List Fact) (fact : Fact) where
   precedes-more m n (between, by) = (between, by-more m between n by)
 
   in_order-more : (e f : Moment) → IsInOrder b known e f → IsInOrder b (fact ∷ known) e f
-  in_order-more Origin Origin h = tt
-  in_order-more Origin (At n f) h = tt
-  in_order-more Origin End h = tt
-  in_order-more (At m e) Origin h = tt
   in_order-more (At m e) (At n f) (inl same) = inl same
   in_order-more (At m e) (At n f) (inr before) = inr (precedes-more m n before)
-  in_order-more (At m e) End h = tt
-  in_order-more End Origin h = tt
-  in_order-more End (At n f) h = tt
-  in_order-more End End h = tt
+  in_order-more _ _ h = tt
 
   step-more : (e : Moment) (w : ℕ) (f : Moment) → IsStep b known e w f → IsStep b (fact ∷ known) e w f
   step-more e w f (inl (stands, is, at)) = inl (in_order-more e f stands, is, at)

@@ -1,5 +1,5 @@
 -- What precedes a number by dependence: what it depends on, and what precedes one of these.
-use Rattle.std.proofs.Common.{ℕ, zero, suc, ◌+◌, ◌-◌, ◌≤◌, ◌<◌, ◌≡◌, Bool, true, ◌&&◌, List, [], ◌∷◌, ◌++◌, length, refl, arith, inl, inr, ap, sym, ◌∙◌, ◌⊎◌}
+use Rattle.std.proofs.Common.{ℕ, zero, suc, ◌+◌, ◌-◌, ◌≤◌, ◌<◌, ◌≡◌, Bool, true, ◌&&◌, List, [], ◌∷◌, ◌++◌, length, arith, inl, inr, ◌⊎◌}
 use Rattle.std.proofs.lemmas.Bool.{cases_Bool, or_cases, or_left, or_right, and_parts, and_from}
 use Rattle.s66_isa.specs.declared.instr.Instr.{Instr}
 use Rattle.s66_isa.specs.Lists.{some_of, Among}
@@ -11,22 +11,7 @@ use Rattle.s66_moments.specs.Facts.{Fact, IsNumber}
 use Rattle.s66_moments.specs.Paths.{PrecedesBy, Precedes}
 use Rattle.s66_moments.specs.Networks.{IsPlaced, IsTransitive, HasNoRing, precedes_over, precedes}
 use Rattle.s66_model.proofs.LegalOrders.{depends-lt, depends-from}
-
-some-among : (test : ℕ → Bool) (ns : List ℕ) → some_of test ns ≡ true → (k : ℕ) × Among k ns × (test k ≡ true)
-some-among test [] h = absurd cc
-some-among test (k ∷ ns) h =
-    elim (or_cases (test k) (some_of test ns) h) [
-      | inl here ↦ (k, inl refl, here)
-      | inr past ↦ (let (j, among, is) = some-among test ns past in (j, inr among, is))
-    ]
-
-among-some : (test : ℕ → Bool) (k : ℕ) (ns : List ℕ) → Among k ns → test k ≡ true → some_of test ns ≡ true
-among-some test k [] h is = absurd h
-among-some test k (n ∷ ns) h is =
-    elim h [
-      | inl here ↦ or_left (test n) (some_of test ns) (ap test (sym here) ∙ is)
-      | inr past ↦ or_right (test n) (some_of test ns) (among-some test k ns past is)
-    ]
+use Rattle.s66_moments.proofs.TableArcs.{some-found, found-some}
 
 module _ (block : List Instr) where
   abbrev through : ℕ → ℕ → ℕ → ℕ → Bool
@@ -38,7 +23,7 @@ module _ (block : List Instr) where
 
   far : (more m k n : ℕ) → Among k (numbers block) → precedes_over block more m k ≡ true → depends block k n ≡ true → precedes_over block (suc more) m n ≡ true
   far more m k n among first then =
-      or_right (depends block m n) (some_of (through more m n) (numbers block)) (among-some (through more m n) k (numbers block) among (and_from (precedes_over block more m k) (depends block k n) first then))
+      or_right (depends block m n) (some_of (through more m n) (numbers block)) (found-some (through more m n) k (numbers block) among (and_from (precedes_over block more m k) (depends block k n) first then))
 
   -- the last of the numbers between
   last-between : (more m n : ℕ) → precedes_over block (suc more) m n ≡ true → (depends block m n ≡ true) ⊎ ((k : ℕ) × Among k (numbers block) × (precedes_over block more m k ≡ true) × (depends block k n ≡ true))
@@ -46,7 +31,7 @@ module _ (block : List Instr) where
       elim (or_cases (depends block m n) (some_of (through more m n) (numbers block)) h) [
         | inl here ↦ inl here
         | inr past ↦
-            let (k, among, both) = some-among (through more m n) (numbers block) past in
+            let (k, among, both) = some-found (through more m n) (numbers block) past in
             let (first, then) = and_parts (precedes_over block more m k) (depends block k n) both in
             inr (k, among, first, then)
       ]

@@ -12,24 +12,20 @@ use Rattle.s66_model.proofs.LegalOrders.{tally-le}
 
 -- COUNTS
 
+tally-one : (test other : ℕ → Bool) (n : ℕ) → (test n ≡ true → other n ≡ true) → cond {A = ℕ} (test n) 1 0 ≤ cond {A = ℕ} (other n) 1 0
+tally-one test other n h =
+    elim (cases_Bool (test n)) [
+      | inl is ↦ omega (arith, cond-true {A = ℕ} (test n) 1 0 is, cond-true {A = ℕ} (other n) 1 0 (h is))
+      | inr off ↦ omega (arith, cond-false {A = ℕ} (test n) 1 0 off)
+    ]
+
 -- one doesn't pass
 tally-but_one : (test : ℕ → Bool) (k : ℕ) (ns : List ℕ) → Among k ns → test k ≡ false → tally test ns + 1 ≤ length ns
 tally-but_one test k [] among off = absurd among
 tally-but_one test k (n ∷ ns) among off =
     elim among [
       | inl here ↦ omega (arith, tally-le test ns, cond-false {A = ℕ} (test n) 1 0 (subst (λ x. test x ≡ false) here off))
-      | inr past ↦
-          elim (cases_Bool (test n)) [
-            | inl is ↦ omega (arith, tally-but_one test k ns past off, cond-true {A = ℕ} (test n) 1 0 is)
-            | inr fails ↦ omega (arith, tally-but_one test k ns past off, cond-false {A = ℕ} (test n) 1 0 fails)
-          ]
-    ]
-
-tally-one : (test other : ℕ → Bool) (n : ℕ) → (test n ≡ true → other n ≡ true) → cond {A = ℕ} (test n) 1 0 ≤ cond {A = ℕ} (other n) 1 0
-tally-one test other n h =
-    elim (cases_Bool (test n)) [
-      | inl is ↦ omega (arith, cond-true {A = ℕ} (test n) 1 0 is, cond-true {A = ℕ} (other n) 1 0 (h is))
-      | inr off ↦ omega (arith, cond-false {A = ℕ} (test n) 1 0 off)
+      | inr past ↦ omega (arith, tally-but_one test k ns past off, tally-one test (λ _. true) n (λ _. refl))
     ]
 
 tally-within : (test other : ℕ → Bool) (ns : List ℕ) → ((n : ℕ) → Among n ns → test n ≡ true → other n ≡ true) → tally test ns ≤ tally other ns
@@ -54,23 +50,23 @@ tally-less test other k (n ∷ ns) each among off is =
 
 -- PLACES
 
+pub number-among : (b : Problem) (n : ℕ) → IsNumber b n → Among n (numbers b.block)
+number-among b n (low, high) = rising-among (length b.block) 1 n low (omega (arith, high))
+
+pub among-number : (b : Problem) (n : ℕ) → Among n (numbers b.block) → IsNumber b n
+among-number b n among = (let (low, high) = among-rising (length b.block) 1 n among in (low, omega (arith, high)))
+
 module _ (b : Problem) (before : ℕ → ℕ → Bool) where
-  number-among : (n : ℕ) → IsNumber b n → Among n (numbers b.block)
-  number-among n (low, high) = rising-among (length b.block) 1 n low (omega (arith, high))
-
-  among-number : (n : ℕ) → Among n (numbers b.block) → IsNumber b n
-  among-number n among = (let (low, high) = among-rising (length b.block) 1 n among in (low, omega (arith, high)))
-
   pub places : IsTransitive b before → HasNoRing b before → IsPlaced b before (place_by b before)
   places through none = (within, rises)
     where
       within : (n : ℕ) → IsNumber b n → IsNumber b (place_by b before n)
       within n is =
-          (omega arith, omega (arith, tally-but_one (λ m. before m n) n (numbers b.block) (number-among n is) (none n is), length-rising (length b.block) 1))
+          (omega arith, omega (arith, tally-but_one (λ m. before m n) n (numbers b.block) (number-among b n is) (none n is), length-rising (length b.block) 1))
 
       rises : (m n : ℕ) → IsNumber b m → IsNumber b n → before m n ≡ true → place_by b before m < place_by b before n
       rises m n is_m is_n first =
-          omega (arith, tally-less (λ k. before k m) (λ k. before k n) m (numbers b.block) (λ k among then. through k m n (among-number k among) is_m is_n then first) (number-among m is_m) (none m is_m) first)
+          omega (arith, tally-less (λ k. before k m) (λ k. before k n) m (numbers b.block) (λ k among then. through k m n (among-number b k among) is_m is_n then first) (number-among b m is_m) (none m is_m) first)
 
   -- A PAIR MORE
 

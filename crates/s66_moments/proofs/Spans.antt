@@ -21,9 +21,8 @@ height (Some w) = suc w
 
 pub height-same : (o p : Option ℕ) → height o ≡ height p → o ≡ p
 height-same None None h = refl
-height-same None (Some w) h = absurd (omega (arith, h))
-height-same (Some v) None h = absurd (omega (arith, h))
 height-same (Some v) (Some w) h = ap (λ k. Some k) (omega (arith, h))
+height-same _ _ h = absurd (omega (arith, h))
 
 pub height-some : (o : Option ℕ) (w : ℕ) → o ≡ Some w → height o ≡ suc w
 height-some o w h = ap height h
@@ -34,9 +33,8 @@ some-height None w h = absurd (omega (arith, h))
 some-height (Some v) w h = (v, refl, omega (arith, h))
 
 pub height-later : (o p : Option ℕ) → height (later o p) ≡ max (height o) (height p)
-height-later None p = omega arith
-height-later (Some v) None = omega arith
 height-later (Some v) (Some w) = omega arith
+height-later _ _ = omega arith
 
 pub height-latest : {X : Type 0} (f : X → Option ℕ) (xs : List X) → height (latest f xs) ≡ greatest (λ x. height (f x)) xs
 height-latest f [] = refl
@@ -65,9 +63,8 @@ latest-some f (x ∷ xs) w h =
     ]
 
 pub plus-some : (o p : Option ℕ) (w : ℕ) → plus o p ≡ Some w → (u v : ℕ) × (o ≡ Some u) × (p ≡ Some v) × (u + v ≡ w)
-plus-some None p w h = absurd (None-none w h)
-plus-some (Some u) None w h = absurd (None-none w h)
 plus-some (Some u) (Some v) w h = (u, v, refl, refl, Some-same (u + v) w h)
+plus-some _ _ w h = absurd (None-none w h)
 
 -- no lower than each that is among them
 pub latest-high : {X : Type 0} (f : X → Option ℕ) (x : X) (xs : List X) (w : ℕ) → Among x xs → w < height (f x) → w < height (latest f xs)
@@ -78,6 +75,12 @@ later-left o p w h = omega (arith, h, height-later o p)
 
 pub later-right : (o p : Option ℕ) (w : ℕ) → w < height p → w < height (later o p)
 later-right o p w h = omega (arith, h, height-later o p)
+
+-- no step at all
+pub same-high : (e f : Moment) → e ≡ f → 0 < height (only_if (same_moment e f) 0)
+same-high e f same =
+    let is : same_moment e f ≡ true = subst (λ m. same_moment e m ≡ true) same (same_moment-self e) in
+    omega (arith, ap (λ t. height (only_if t 0)) is)
 
 -- PATHS
 
@@ -97,12 +100,6 @@ module _ (b : Problem) (arcs : Network) where
 
   pub span-same : (e f : Moment) (o p : Option ℕ) → IsSpan e f o → IsSpan e f p → o ≡ p
   span-same e f o p one two = height-same o p (omega (arith, span-below e f o p one two, span-below e f p o two one))
-
-  -- no step at all
-  none-high : (e f : Moment) → e ≡ f → 0 < height (only_if (same_moment e f) 0)
-  none-high e f same =
-      let is : same_moment e f ≡ true = subst (λ m. same_moment e m ≡ true) same (same_moment-self e) in
-      omega (arith, ap (λ t. height (only_if t 0)) is)
 
   none-path : (e f : Moment) (w : ℕ) → only_if (same_moment e f) 0 ≡ Some w → IsPathOf e f w
   none-path e f w h =
@@ -127,7 +124,7 @@ module _ (b : Problem) (arcs : Network) where
 
   front-none : (after : Moment → Option ℕ) (e f : Moment) → e ≡ f → 0 < height (by_front after e f)
   front-none after e f same =
-      later-left (only_if (same_moment e f) 0) (latest (λ m. plus (arcs e m) (after m)) (targets b)) 0 (none-high e f same)
+      later-left (only_if (same_moment e f) 0) (latest (λ m. plus (arcs e m) (after m)) (targets b)) 0 (same-high e f same)
 
   front-more : (after : Moment → Option ℕ) (e f : Moment) (hop : Hop) (w : ℕ) → Among hop.to (targets b) → arcs e hop.to ≡ Some hop.wait → w < height (after hop.to) → hop.wait + w < height (by_front after e f)
   front-more after e f hop w among first then =
@@ -146,7 +143,7 @@ module _ (b : Problem) (arcs : Network) where
     hop-among e f w is = (rises.1 e f (arc-some (arcs e f) w is).0).0
 
     over-longest : (more : ℕ) (e : Moment) (hops : List Hop) (f : Moment) → length hops ≤ more → IsNetworkPath arcs e hops f → waits hops < height (span_over b arcs more e f)
-    over-longest zero e [] f short path = none-high e f path
+    over-longest zero e [] f short path = same-high e f path
     over-longest zero e (hop ∷ hops) f short path = absurd (omega (arith, short))
     over-longest (suc more) e [] f short path = front-none (λ m. span_over b arcs more m f) e f path
     over-longest (suc more) e (hop ∷ hops) f short path =
@@ -200,7 +197,7 @@ module _ (b : Problem) (arcs : Network) where
 
     back-high : (e : Moment) (hops : List Hop) (f : Moment) → IsNetworkPath arcs e hops f → waits hops < height (by_back e f)
     back-high e [] f path =
-        later-left (only_if (same_moment e f) 0) (latest (λ m. plus (span b arcs e m) (arcs m f)) (e ∷ targets b)) 0 (none-high e f path)
+        later-left (only_if (same_moment e f) 0) (latest (λ m. plus (span b arcs e m) (arcs m f)) (e ∷ targets b)) 0 (same-high e f path)
     back-high e (hop ∷ hops) f path =
         let (front, m, w, first, among, last, takes) = last-step e hop hops f path in
         let (v, is, le) = some-height (span b arcs e m) (waits front) (span-high e front m first) in

@@ -27,19 +27,12 @@ module _ (b : Problem) (known : List Fact) (order : List ℕ) (legal : IsLegal b
   precedes-so m n (between, by) = by-so m between n by
 
   in-order : (e f : Moment) → IsInOrder b known e f → InOrder b order legal e f
-  in-order Origin Origin h = tt
-  in-order Origin (At n f) h = tt
-  in-order Origin End h = tt
-  in-order (At m e) Origin h = tt
   in-order (At m e) (At n f) h =
       elim h [
         | inl same ↦ inl same
         | inr precedes ↦ inr (precedes-so m n precedes)
       ]
-  in-order (At m e) End h = tt
-  in-order End Origin h = tt
-  in-order End (At n f) h = tt
-  in-order End End h = tt
+  in-order _ _ h = tt
 
   at_prefix-so : (prefix rest : List ℕ) (w : ℕ) (f : Moment) → order ≡ prefix ++ rest → IsAtPrefix b prefix w f → w ≤ time_of b order f
   at_prefix-so prefix rest w Origin e is = absurd is

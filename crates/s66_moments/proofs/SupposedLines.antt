@@ -1,5 +1,5 @@
 -- Steps that are taken show what is founded, and what is known after them is known by that, and by what is supposed.
-use Rattle.std.proofs.Common.{ℕ, ◌≡◌, ◌≢◌, Bool, true, false, true≢false, not, ◌&&◌, List, [], ◌∷◌, ◌++◌, map, refl, sym, ap, arith, inl, inr, eqb, leb, subst, Option, Some, None}
+use Rattle.std.proofs.Common.{ℕ, ◌≡◌, ◌≢◌, true, false, true≢false, not, ◌&&◌, List, [], ◌∷◌, ◌++◌, map, refl, sym, ap, arith, inl, inr, eqb, leb, subst, Option, Some, None}
 use Rattle.std.proofs.lemmas.Bool.{and_parts, or_cases, not-true, eqb-false, leb-true}
 use Rattle.s66_isa.specs.Lists.{some_of, Among}
 use Rattle.s66_isa.specs.Table.{numbers}
@@ -16,6 +16,7 @@ use Rattle.s66_moments.specs.Networks.{same_moment}
 use Rattle.s66_moments.specs.FactLines.{Line, fact_of, IsRefuted, AreFounded, facts_after}
 use Rattle.s66_moments.specs.Known.{Known, line_of, is_number, is_taken, are_taken, known_after, with_line, plus, span, arcs_of}
 use Rattle.s66_moments.specs.Suppositions.{Supposition, Standing, standing_by, standing_first, with_step, standing_after, may_be_supposed, is_late_at, is_late_through, is_late_load, is_late, is_step_taken, are_steps_taken, shown_by, shown_by_all}
+use Rattle.s66_moments.proofs.TableArcs.{and_three, and_five, some-found}
 use Rattle.s66_moments.proofs.MoreArcs.{same_moment-true}
 use Rattle.s66_moments.proofs.NextLeaves.{path-join, waits-join}
 use Rattle.s66_moments.proofs.Spans.{plus-some}
@@ -45,10 +46,7 @@ module _ (b : Problem) (bound : ℕ) where
 
   pub supposed-parts : (known : Known) (m n : ℕ) → may_be_supposed b known m n ≡ true → MaySuppose known m n
   supposed-parts known m n h =
-      let (rest, off_back) = and_parts (not (eqb m n) && is_number b m && is_number b n && not (known.before m n)) (not (known.before n m)) h in
-      let (rest2, off) = and_parts (not (eqb m n) && is_number b m && is_number b n) (not (known.before m n)) rest in
-      let (rest3, is_n) = and_parts (not (eqb m n) && is_number b m) (is_number b n) rest2 in
-      let (differ, is_m) = and_parts (not (eqb m n)) (is_number b m) rest3 in
+      let (differ, is_m, is_n, off, off_back) = and_five (not (eqb m n)) (is_number b m) (is_number b n) (not (known.before m n)) (not (known.before n m)) h in
       record {
         differ = eqb-false m n (not-true (eqb m n) differ);
         is_m = number-is b m is_m;
@@ -70,14 +68,6 @@ module _ (b : Problem) (bound : ℕ) where
 
   -- TOO LATE
 
-  some-found : {X : Type 0} (test : X → Bool) (xs : List X) → some_of test xs ≡ true → (x : X) × Among x xs × (test x ≡ true)
-  some-found test [] h = absurd (true≢false (sym h))
-  some-found test (x ∷ xs) h =
-      elim (or_cases (test x) (some_of test xs) h) [
-        | inl here ↦ (x, inl refl, here)
-        | inr past ↦ (let (y, among, is) = some-found test xs past in (y, inr among, is))
-      ]
-
   module _ (facts : List SomeFact) (known : Known) (sound : IsSound b facts known) where
     at-leads : (stage : Stage) (n : ℕ) → is_late_at b (arcs_of b known) bound stage n ≡ true → Leads b facts Origin bound End
     at-leads stage n h =
@@ -98,8 +88,7 @@ module _ (b : Problem) (bound : ℕ) where
               ]
           | inr by_load ↦
               let (load, among, late) = some-found (is_late_load bound) known.loads by_load in
-              let (ends, enough) = and_parts (same_moment load.from Origin && same_moment load.to End) (leb bound load.wait) late in
-              let (from, to) = and_parts (same_moment load.from Origin) (same_moment load.to End) ends in
+              let (from, to, enough) = and_three (same_moment load.from Origin) (same_moment load.to End) (leb bound load.wait) late in
               let arc : Among (Arc Origin load.wait End 0) facts =
               subst (λ e. Among (Arc e load.wait End 0) facts) (same_moment-true load.from Origin from)
               (subst (λ f. Among (Arc load.from load.wait f 0) facts) (same_moment-true load.to End to) (sound.among load among)) in

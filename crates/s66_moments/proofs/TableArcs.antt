@@ -1,7 +1,7 @@
 -- In every legal order a moment comes after another at least by the arc of the table.
-use Rattle.std.proofs.Common.{ℕ, ◌+◌, ◌-◌, ◌≤◌, ◌≡◌, ◌⊎◌, Bool, true, false, true≢false, cond, not, ◌&&◌, List, [], ◌∷◌, refl, sym, ap, arith, inl, inr, eqb, subst, Some, None, Option}
+use Rattle.std.proofs.Common.{ℕ, ◌+◌, ◌-◌, ◌≤◌, ◌≡◌, ◌⊎◌, ◌∙◌, Bool, true, false, true≢false, cond, not, ◌&&◌, List, [], ◌∷◌, refl, sym, ap, arith, inl, inr, eqb, subst, Some, None, Option}
 use Rattle.std.specs.Prelude.{unwrap_or, is_some}
-use Rattle.std.proofs.lemmas.Bool.{cond-true, cond-false, or_cases, and_parts, eqb-true, eq-eqb, ne_eqb, not-true, cases_Bool, cases_eq}
+use Rattle.std.proofs.lemmas.Bool.{cond-true, cond-false, or_cases, or_left, or_right, and_parts, eqb-true, eq-eqb, ne_eqb, not-true, cases_Bool, cases_eq}
 use Rattle.s66_isa.specs.declared.reg.Reg.{Reg}
 use Rattle.s66_isa.specs.Lists.{some_of, Among}
 use Rattle.s66_isa.specs.Table.{Write, same_reg, same_kind, has_reg, memory_pair}
@@ -18,6 +18,37 @@ use Rattle.s66_moments.specs.Facts.{Before, IsSo, IsNumber}
 use Rattle.s66_model.proofs.Remaining.{remaining-parts}
 use Rattle.s66_moments.proofs.FactLaws.{free-last, done-last, issue-start, start-free, before-parcels, before-unit}
 use Rattle.s66_moments.proofs.BaseArcs.{start-done, held-free, read-start, written-issue, memory-start, reader-done}
+
+-- TESTS
+
+pub and_three : (x y z : Bool) → (x && y && z) ≡ true → (x ≡ true) × (y ≡ true) × (z ≡ true)
+and_three true true true h = (refl, refl, refl)
+and_three _ _ _ h = absurd (true≢false (sym h))
+
+pub and_four : (x y z u : Bool) → (x && y && z && u) ≡ true → (x ≡ true) × (y ≡ true) × (z ≡ true) × (u ≡ true)
+and_four true true true true h = (refl, refl, refl, refl)
+and_four _ _ _ _ h = absurd (true≢false (sym h))
+
+pub and_five : (x y z u v : Bool) → (x && y && z && u && v) ≡ true → (x ≡ true) × (y ≡ true) × (z ≡ true) × (u ≡ true) × (v ≡ true)
+and_five true true true true true h = (refl, refl, refl, refl, refl)
+and_five _ _ _ _ _ h = absurd (true≢false (sym h))
+
+-- one that passes
+pub some-found : {X : Type 0} (test : X → Bool) (xs : List X) → some_of test xs ≡ true → (x : X) × Among x xs × (test x ≡ true)
+some-found test [] h = absurd (true≢false (sym h))
+some-found test (x ∷ xs) h =
+    elim (or_cases (test x) (some_of test xs) h) [
+      | inl here ↦ (x, inl refl, here)
+      | inr past ↦ (let (y, among, is) = some-found test xs past in (y, inr among, is))
+    ]
+
+pub found-some : {X : Type 0} (test : X → Bool) (x : X) (xs : List X) → Among x xs → test x ≡ true → some_of test xs ≡ true
+found-some test x [] h is = absurd h
+found-some test x (y ∷ ys) h is =
+    elim h [
+      | inl here ↦ or_left (test y) (some_of test ys) (ap test (sym here) ∙ is)
+      | inr past ↦ or_right (test y) (some_of test ys) (found-some test x ys past is)
+    ]
 
 -- OPTIONS
 
@@ -40,12 +71,9 @@ pub moment-number : (b : Problem) (n : ℕ) (stage : Stage) → is_moment b (At 
 moment-number b n stage h = (let (low, high, new) = remaining-parts b.block [] n (moment-parts b n stage h).0 in (low, high))
 
 pub some-write : (x : Reg) (ws : List Write) → some_of (λ (w : Write). same_reg w.reg x) ws ≡ true → (w : Write) × Among w ws × (w.reg ≡ x)
-some-write x [] h = absurd cc
-some-write x (w ∷ ws) h =
-    elim (or_cases (same_reg w.reg x) (some_of (λ (u : Write). same_reg u.reg x) ws) h) [
-      | inl here ↦ (w, inl refl, same_reg-true w.reg x here)
-      | inr past ↦ (let (v, among, is) = some-write x ws past in (v, inr among, is))
-    ]
+some-write x ws h =
+    let (w, among, is) = some-found (λ (w : Write). same_reg w.reg x) ws h in
+    (w, among, same_reg-true w.reg x is)
 
 module _ (b : Problem) (order : List ℕ) (legal : IsLegal b.block order) where
   -- OF ONE INSTRUCTION
@@ -65,24 +93,13 @@ module _ (b : Problem) (order : List ℕ) (legal : IsLegal b.block order) where
       omega (arith, most, each v among same)
 
   own-so : (n : ℕ) (e f : Stage) (w : ℕ) → IsNumber b n → has_stage (row_at b n) f ≡ true → own_arc (row_at b n) e f ≡ Some w → time_of b order (At n e) + w ≤ time_of b order (At n f)
-  own-so n Issue Issue w is there arc = absurd (None-none w arc)
   own-so n Issue Start w is there arc = omega (arith, Some-same 0 w arc, issue-start b order legal n is.0 is.1)
-  own-so n Issue (Done x) w is there arc = absurd (None-none w arc)
-  own-so n Issue Free w is there arc = absurd (None-none w arc)
-  own-so n Start Issue w is there arc = absurd (None-none w arc)
-  own-so n Start Start w is there arc = absurd (None-none w arc)
   own-so n Start (Done x) w is there arc = omega (arith, Some-same (latency_to (row_at b n) x) w arc, latency-so n x is there)
   own-so n Start Free w is there arc = omega (arith, Some-same ((row_at b n).hold + 1) w arc, start-free b order legal n is.0 is.1)
-  own-so n (Done x) Issue w is there arc = absurd (None-none w arc)
-  own-so n (Done x) Start w is there arc = absurd (None-none w arc)
-  own-so n (Done x) (Done y) w is there arc = absurd (None-none w arc)
   own-so n (Done x) Free w is there arc =
       let parts = only_if-parts (not (fetches (row_at b n) x)) 1 w arc in
       omega (arith, parts.1, held-free b order legal n x is.0 is.1 (not-true (fetches (row_at b n) x) parts.0))
-  own-so n Free Issue w is there arc = absurd (None-none w arc)
-  own-so n Free Start w is there arc = absurd (None-none w arc)
-  own-so n Free (Done x) w is there arc = absurd (None-none w arc)
-  own-so n Free Free w is there arc = absurd (None-none w arc)
+  own-so n _ _ w is there arc = absurd (None-none w arc)
 
   -- OF TWO, of which m stands before n
 
@@ -100,32 +117,23 @@ module _ (b : Problem) (order : List ℕ) (legal : IsLegal b.block order) where
 
     later-so : (e f : Stage) (w : ℕ) → has_stage (row_at b n) f ≡ true → later_arc b (row_at b m) (row_at b n) e f ≡ Some w → time_of b order (At m e) + w ≤ time_of b order (At n f)
     later-so Issue Issue w there arc = (let le = before-parcels b order legal m n before in omega (arith, Some-same (row_at b m).parcels w arc, le))
-    later-so Issue Start w there arc = absurd (None-none w arc)
-    later-so Issue (Done x) w there arc = absurd (None-none w arc)
-    later-so Issue Free w there arc = absurd (None-none w arc)
-    later-so Start Issue w there arc = absurd (None-none w arc)
     later-so Start Start w there arc =
         let parts = only_if-parts (memory_pair (row_at b m).memory (row_at b n).memory) 1 w arc in
         (let le = memory-start b order legal m n before parts.0 in omega (arith, parts.1, le))
     later-so Start (Done x) w there arc =
         let parts = only_if-parts (has_reg x (row_at b m).reads) 1 w arc in
         (let le = reader-so x parts.0 there in omega (arith, parts.1, le))
-    later-so Start Free w there arc = absurd (None-none w arc)
     later-so (Done x) Issue w there arc =
         let parts = only_if-parts (writes (row_at b n) x) 0 w arc in
         (let le = written-so x parts.0 in omega (arith, parts.1, le))
     later-so (Done x) Start w there arc =
         let parts = only_if-parts (has_reg x (row_at b n).reads) 0 w arc in
         (let le = read-start b order legal m n before x parts.0 in omega (arith, parts.1, le))
-    later-so (Done x) (Done y) w there arc = absurd (None-none w arc)
-    later-so (Done x) Free w there arc = absurd (None-none w arc)
     later-so Free Issue w there arc =
         let parts = only_if-parts (same_kind (row_at b m).kind (row_at b n).kind && eqb (copies b (row_at b n).kind) 1) 0 w arc in
         let both = and_parts (same_kind (row_at b m).kind (row_at b n).kind) (eqb (copies b (row_at b n).kind) 1) parts.0 in
         (let le = before-unit b order legal m n before both.0 (eqb-true (copies b (row_at b n).kind) 1 both.1) in omega (arith, parts.1, le))
-    later-so Free Start w there arc = absurd (None-none w arc)
-    later-so Free (Done x) w there arc = absurd (None-none w arc)
-    later-so Free Free w there arc = absurd (None-none w arc)
+    later-so _ _ w there arc = absurd (None-none w arc)
 
   -- THE TABLE
 
@@ -149,15 +157,9 @@ module _ (b : Problem) (order : List ℕ) (legal : IsLegal b.block order) where
       ]
 
   pub arc-so : (e f : Moment) (w : ℕ) → InOrder e f → is_moment b f ≡ true → arc b e f ≡ Some w → time_of b order e + w ≤ time_of b order f
-  arc-so Origin Origin w stands is at_arc = absurd (None-none w at_arc)
   arc-so Origin (At n f) w stands is at_arc = omega (arith, Some-same 0 w at_arc)
   arc-so Origin End w stands is at_arc = omega (arith, Some-same 0 w at_arc)
-  arc-so (At m e) Origin w stands is at_arc = absurd (None-none w at_arc)
   arc-so (At m e) (At n f) w stands is at_arc = both-so m n e f w stands is at_arc
-  arc-so (At m Issue) End w stands is at_arc = absurd (None-none w at_arc)
-  arc-so (At m Start) End w stands is at_arc = absurd (None-none w at_arc)
   arc-so (At m (Done x)) End w stands is at_arc = omega (arith, Some-same 0 w at_arc, done-last b order m x)
   arc-so (At m Free) End w stands is at_arc = omega (arith, Some-same 0 w at_arc, free-last b order m)
-  arc-so End Origin w stands is at_arc = absurd (None-none w at_arc)
-  arc-so End (At n f) w stands is at_arc = absurd (None-none w at_arc)
-  arc-so End End w stands is at_arc = absurd (None-none w at_arc)
+  arc-so _ _ w stands is at_arc = absurd (None-none w at_arc)

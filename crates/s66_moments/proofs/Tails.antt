@@ -1,11 +1,11 @@
 -- Tails of a network: each is reached by a path, no path is greater, and each follows from what is known.
-use Rattle.std.proofs.Common.{ℕ, zero, suc, ◌+◌, ◌-◌, ◌≤◌, ◌<◌, ◌≡◌, Bool, true, false, true≢false, cond, ◌||◌, ◌&&◌, max, List, [], ◌∷◌, ◌++◌, length, map, refl, sym, ap, arith, inl, inr, ◌∙◌, subst, Some, None, Option}
+use Rattle.std.proofs.Common.{ℕ, zero, suc, ◌+◌, ◌-◌, ◌≤◌, ◌<◌, ◌≡◌, Bool, true, false, true≢false, cond, max, List, [], ◌∷◌, ◌++◌, length, map, refl, sym, ap, arith, inl, inr, ◌∙◌, subst, Some, None, Option}
 use Rattle.std.specs.Prelude.{unwrap_or, is_some}
-use Rattle.std.proofs.lemmas.Bool.{cond_both, cond-true, cond-false, or_cases, and_parts, and_from, eqb-true, eq-eqb, ne_eqb, cases_Bool, cases_eq}
+use Rattle.std.proofs.lemmas.Bool.{cond_both, cond-true, cond-false, or_cases, and_from, eqb-true, eq-eqb, ne_eqb, le-leb, cases_Bool, cases_eq}
 use Rattle.s66_isa.specs.declared.reg.Reg.{Reg}
 use Rattle.s66_isa.specs.Lists.{greatest, some_of, Among}
 use Rattle.s66_isa.specs.Table.{Row, Write, same_reg, numbers}
-use Rattle.s66_isa.proofs.Lists.{greatest-le, le-greatest, among-front, among-rest, rising-among, split-among}
+use Rattle.s66_isa.proofs.Lists.{greatest-le, le-greatest, among-front, among-rest, split-among}
 use Rattle.s66_isa.proofs.SameRegister.{same_reg-true, same_reg-self}
 use Rattle.s66_model.specs.Timing.{Problem, row_at, total_of}
 use Rattle.s66_model.specs.LegalOrder.{IsLegal, is_remaining, remaining}
@@ -19,7 +19,7 @@ use Rattle.s66_moments.specs.Paths.{IsInOrder, Hop, waits}
 use Rattle.s66_moments.specs.Networks.{Network, is_in_order, network, AreArcs, moments_of, moments_among, targets, most_arcs, IsRising, IsPlaced, tail_over, tail, through, IsRemaining, IsNetworkPath, IsKnown, HasOwnArcs, soonest_path, greatest_path, RisesBy, rank_by, stage_rank, precedes, AreSteps}
 use Rattle.s66_model.proofs.Remaining.{remaining-parts, among-remaining, remaining-among, all-remain}
 use Rattle.s66_model.proofs.LongestChain.{greatest-reached}
-use Rattle.s66_moments.proofs.TableArcs.{None-none, moment-parts, moment-number}
+use Rattle.s66_moments.proofs.TableArcs.{and_three, found-some, None-none, moment-parts, moment-number}
 use Rattle.s66_moments.proofs.Soonest.{soonest-le, stage-le-total}
 use Rattle.s66_moments.proofs.Steps.{step-so}
 
@@ -49,16 +49,7 @@ among-all b n stage (m ∷ ns) h there =
 
 -- and back
 pub written : (w : Write) (ws : List Write) → Among w ws → some_of (λ (u : Write). same_reg u.reg w.reg) ws ≡ true
-written w [] h = absurd h
-written w (v ∷ ws) h =
-    elim h [
-      | inl here ↦ rw (← here) (rw (same_reg-self w.reg) refl)
-      | inr past ↦ rw (written w ws past) (or-true (same_reg v.reg w.reg))
-    ]
-  where
-    or-true : (t : Bool) → (t || true) ≡ true
-    or-true true = refl
-    or-true false = refl
+written w ws among = found-some (λ (u : Write). same_reg u.reg w.reg) w ws among (same_reg-self w.reg)
 
 done-among : (e : Moment) (n : ℕ) (ws all : List Write) → ((w : Write) → Among w ws → some_of (λ (u : Write). same_reg u.reg w.reg) all ≡ true) → Among e (map (λ (w : Write). At n (Done w.reg)) ws) → (x : Reg) × (e ≡ At n (Done x)) × (some_of (λ (u : Write). same_reg u.reg x) all ≡ true)
 done-among e n [] all each h = absurd h
@@ -145,9 +136,7 @@ module _ (b : Problem) (arcs : Network) where
         omega (arith, up, high, path-short hop.to hops f path.1)
 
     path-le : (more : ℕ) (e : Moment) (hops : List Hop) (f : Moment) → length hops ≤ more → IsNetworkPath arcs e hops f → waits hops ≤ tail_over b arcs more e
-    path-le zero e [] f short path = omega arith
     path-le zero e (hop ∷ hops) f short path = absurd (omega (arith, short))
-    path-le (suc more) e [] f short path = omega arith
     path-le (suc more) e (hop ∷ hops) f short path =
         let (some, takes) = arc-some (arcs e hop.to) hop.wait path.0 in
         omega (
@@ -157,6 +146,7 @@ module _ (b : Problem) (arcs : Network) where
           le-greatest (through arcs (tail_over b arcs more) e) hop.to (targets b) (rises.1 e hop.to some).0,
           cond-true {A = ℕ} (is_some (arcs e hop.to)) (unwrap_or (arcs e hop.to) 0 + tail_over b arcs more hop.to) 0 some,
         )
+    path-le _ e [] f short path = omega arith
 
     pub path-tail : (e : Moment) (hops : List Hop) (f : Moment) → IsNetworkPath arcs e hops f → waits hops ≤ tail b arcs e
     path-tail e hops f path = path-le (most_arcs b) e hops f (omega (arith, path-short e hops f path)) path
@@ -184,9 +174,8 @@ module _ (b : Problem) (arcs : Network) where
   module _ (low : ℕ) (known : List Fact) (known_arcs : AreArcs b low known arcs) where
     module _ (order : List ℕ) (legal : IsLegal b.block order) (less : total_of b order < low) (so : AreSo b order known) where
       moment-le-total : (e : Moment) → is_moment b e ≡ true → time_of b order e ≤ total_of b order
-      moment-le-total Origin is = omega arith
       moment-le-total (At n stage) is = stage-le-total b order legal n stage (moment-parts b n stage is).0
-      moment-le-total End is = omega arith
+      moment-le-total _ is = omega arith
 
       tail-so : (more : ℕ) (e : Moment) → is_moment b e ≡ true → time_of b order e + tail_over b arcs more e ≤ total_of b order
       tail-so zero e is = omega (arith, moment-le-total e is)
@@ -202,11 +191,9 @@ module _ (b : Problem) (arcs : Network) where
     soonest-follows : (prefix : List ℕ) (n : ℕ) (stage : Stage) → is_remaining b.block prefix n ≡ true → has_stage (row_at b n) stage ≡ true → Follows b low (Begins prefix ∷ known) (Arc Origin (soonest b prefix n stage + tail b arcs (At n stage)) End 0)
     soonest-follows prefix n stage remains there order legal less ((rest, begins), so) =
         let (from, to, new) = remaining-parts b.block prefix n remains in
-        let is : is_moment b (At n stage) ≡ true = target-moment b (At n stage) (block-target n stage from to there) in
+        let stays : is_remaining b.block [] n ≡ true = rw (le-leb 1 n from, le-leb n _ to) refl in
+        let is : is_moment b (At n stage) ≡ true = and_from (is_remaining b.block [] n) (has_stage (row_at b n) stage) stays there in
         omega (arith, soonest-le b order legal prefix rest begins n stage remains, tail-so order legal less so (most_arcs b) (At n stage) is)
-      where
-        block-target : (n : ℕ) (stage : Stage) → 1 ≤ n → n ≤ length b.block → has_stage (row_at b n) stage ≡ true → Among (At n stage) (targets b)
-        block-target n stage from to there = inr (among-all b n stage (numbers b.block) (rising-among (length b.block) 1 n from (omega (arith, to))) there)
 
     pub greatest-follows : (prefix : List ℕ) → Follows b low (Begins prefix ∷ known) (Arc Origin (greatest_path b arcs prefix) End 0)
     greatest-follows prefix order legal less so =
@@ -226,24 +213,16 @@ module _ (b : Problem) (before : ℕ → ℕ → Bool) where
   pub network-parts : (e f : Moment) (w : ℕ) → network b before e f ≡ Some w → (is_moment b e ≡ true) × (is_moment b f ≡ true) × (is_in_order before e f ≡ true) × (arc b e f ≡ Some w)
   network-parts e f w h =
       let (all, is) = when-parts _ (arc b e f) w h in
-      let (both, third) = and_parts (is_moment b e && is_moment b f) (is_in_order before e f) all in
-      let (first, second) = and_parts (is_moment b e) (is_moment b f) both in
-      (first, second, third, is)
+      let (is_e, is_f, stands) = and_three (is_moment b e) (is_moment b f) (is_in_order before e f) all in
+      (is_e, is_f, stands, is)
 
   in-order-is : (known : List Fact) → IsKnown b known before → (e f : Moment) → is_moment b e ≡ true → is_moment b f ≡ true → is_in_order before e f ≡ true → IsInOrder b known e f
-  in-order-is known each Origin Origin is_e is_f h = tt
-  in-order-is known each Origin (At n f) is_e is_f h = tt
-  in-order-is known each Origin End is_e is_f h = tt
-  in-order-is known each (At m e) Origin is_e is_f h = tt
   in-order-is known each (At m e) (At n f) is_e is_f h =
       elim (or_cases _ (before m n) h) [
         | inl same ↦ inl (eqb-true m n same)
         | inr first ↦ inr (each m n (moment-number b m e is_e) (moment-number b n f is_f) first)
       ]
-  in-order-is known each (At m e) End is_e is_f h = tt
-  in-order-is known each End Origin is_e is_f h = tt
-  in-order-is known each End (At n f) is_e is_f h = tt
-  in-order-is known each End End is_e is_f h = tt
+  in-order-is known each _ _ is_e is_f h = tt
 
   pub network-steps : (known : List Fact) → IsKnown b known before → AreSteps b known (network b before)
   network-steps known is e f w h =
@@ -260,28 +239,15 @@ network-own b before n e f w is_e is_f is = (w, rw (is_e, is_f, eq-eqb n n refl)
 -- ARCS LEAD UP
 
 stage-small : (stage : Stage) → stage_rank stage ≤ 3
-stage-small Issue = omega arith
-stage-small Start = omega arith
 stage-small (Done x) = omega arith
-stage-small Free = omega arith
+stage-small _ = omega arith
 
 own-rises : (r : Row) (e f : Stage) (w : ℕ) → own_arc r e f ≡ Some w → stage_rank e < stage_rank f
 own-rises r Issue Start w h = omega arith
 own-rises r Start (Done x) w h = omega arith
 own-rises r Start Free w h = omega arith
 own-rises r (Done x) Free w h = omega arith
-own-rises r Issue Issue w h = absurd (None-none w h)
-own-rises r Issue (Done x) w h = absurd (None-none w h)
-own-rises r Issue Free w h = absurd (None-none w h)
-own-rises r Start Issue w h = absurd (None-none w h)
-own-rises r Start Start w h = absurd (None-none w h)
-own-rises r (Done x) Issue w h = absurd (None-none w h)
-own-rises r (Done x) Start w h = absurd (None-none w h)
-own-rises r (Done x) (Done y) w h = absurd (None-none w h)
-own-rises r Free Issue w h = absurd (None-none w h)
-own-rises r Free Start w h = absurd (None-none w h)
-own-rises r Free (Done x) w h = absurd (None-none w h)
-own-rises r Free Free w h = absurd (None-none w h)
+own-rises r _ _ w h = absurd (None-none w h)
 
 module _ (b : Problem) (before : ℕ → ℕ → Bool) (place : ℕ → ℕ) (placed : IsPlaced b before place) where
   abbrev place_rank : Moment → ℕ
@@ -310,17 +276,13 @@ module _ (b : Problem) (before : ℕ → ℕ → Bool) (place : ℕ → ℕ) (pl
       (inl refl, omega (arith, high, stage-small e), omega arith)
 
   leads-up : (e f : Moment) (w : ℕ) → is_moment b e ≡ true → is_moment b f ≡ true → is_in_order before e f ≡ true → arc b e f ≡ Some w → LeadsUp e f
-  leads-up Origin Origin w is_e is_f stands is = absurd (None-none w is)
   leads-up Origin (At n f) w is_e is_f stands is =
       let (low, high) = placed.0 n (moment-number b n f is_f) in
       (moment-target b n f is_f, omega (arith, low), omega (arith, high, stage-small f))
   leads-up Origin End w is_e is_f stands is = (inl refl, omega arith, omega arith)
-  leads-up (At m e) Origin w is_e is_f stands is = absurd (None-none w is)
   leads-up (At m e) (At n f) w is_e is_f stands is = up-both m n e f w is_e is_f stands is
   leads-up (At m e) End w is_e is_f stands is = up-end m e is_e
-  leads-up End Origin w is_e is_f stands is = absurd (None-none w is)
-  leads-up End (At n f) w is_e is_f stands is = absurd (None-none w is)
-  leads-up End End w is_e is_f stands is = absurd (None-none w is)
+  leads-up _ _ w is_e is_f stands is = absurd (None-none w is)
 
   pub network-rises_by : RisesBy b (network b before) (rank_by b place)
   network-rises_by e f some =

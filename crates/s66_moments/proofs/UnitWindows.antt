@@ -108,8 +108,7 @@ between-le kind s c most a (suc d) =
 
 either_one : (e h : Bool) (g : ℕ) → (e ≡ true → h ≡ false) → cond e g 0 + cond h g 0 ≤ cond {A = ℕ} (e || h) g 0
 either_one true true g one = absurd (let no = one refl in cc)
-either_one true false g one = omega arith
-either_one false h g one = omega arith
+either_one _ _ g one = omega arith
 
 pub either : (g : Point → ℕ) (n : ℕ) (ns : List ℕ) (s : List Point) → has n ns ≡ false → weigh (λ (p : Point). cond (eqb p.number n) (g p) 0) s + weigh (λ (p : Point). cond (has p.number ns) (g p) 0) s ≤ weigh (λ (p : Point). cond (has p.number (n ∷ ns)) (g p) 0) s
 either g n ns [] new = omega arith

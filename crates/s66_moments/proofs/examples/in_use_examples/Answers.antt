@@ -25,11 +25,9 @@ by-next block low other prefix n left finds =
 -- only the third remains
 unit_finds : (low n : ℕ) → is_remaining waits_for_the_unit (1 ∷ 2 ∷ []) n ≡ true → FindsInUse (standard_problem waits_for_the_unit) low [] (2 ∷ 1 ∷ []) (1 ∷ 2 ∷ []) n
 unfolding row conflict issue_of start_of point
-unit_finds low zero h = absurd (true≢false (sym h))
-unit_finds low (suc zero) h = absurd (true≢false (sym h))
-unit_finds low (suc (suc zero)) h = absurd (true≢false (sym h))
 unit_finds low (suc (suc (suc zero))) h = by-next waits_for_the_unit low (2 ∷ 1 ∷ []) (1 ∷ 2 ∷ []) 3 h (search rules)
 unit_finds low (suc (suc (suc (suc n)))) h = absurd (omega (arith, (remaining-parts waits_for_the_unit (1 ∷ 2 ∷ []) (suc (suc (suc (suc n)))) h).1))
+unit_finds low _ h = absurd (true≢false (sym h))
 
 pub returns-clause-read_after_the_unit : goal.returns-clause-read_after_the_unit
 unfolding row conflict issue_of start_of point
@@ -59,9 +57,6 @@ returns-clause-read_at_once c = λ low less h.
 -- the fourth comes after the parcels of the third, on which it depends
 behind_finds : (low n : ℕ) → is_remaining waits_for_two_parcels (1 ∷ 2 ∷ []) n ≡ true → FindsInUse (standard_problem waits_for_two_parcels) low [] (2 ∷ 1 ∷ []) (1 ∷ 2 ∷ []) n
 unfolding row conflict issue_of start_of point
-behind_finds low zero h = absurd (true≢false (sym h))
-behind_finds low (suc zero) h = absurd (true≢false (sym h))
-behind_finds low (suc (suc zero)) h = absurd (true≢false (sym h))
 behind_finds low (suc (suc (suc zero))) h = by-next waits_for_two_parcels low (2 ∷ 1 ∷ []) (1 ∷ 2 ∷ []) 3 h (search rules)
 behind_finds low (suc (suc (suc (suc zero)))) h =
     let b = standard_problem waits_for_two_parcels in
@@ -69,6 +64,7 @@ behind_finds low (suc (suc (suc (suc zero)))) h =
     let at : List ℕ = 1 ∷ 2 ∷ [] in
     (issue_at_least b known at 4, start_at_least b known at 4, turn-comes b [] known (precedes-known b []) low at 4 h, search rules)
 behind_finds low (suc (suc (suc (suc (suc n))))) h = absurd (omega (arith, (remaining-parts waits_for_two_parcels (1 ∷ 2 ∷ []) (suc (suc (suc (suc (suc n))))) h).1))
+behind_finds low _ h = absurd (true≢false (sym h))
 
 pub returns-clause-read_after_two_parcels : goal.returns-clause-read_after_two_parcels
 unfolding row conflict issue_of start_of point
@@ -85,11 +81,9 @@ returns-clause-read_after_two_parcels c = λ low.
 
 product_finds : (low n : ℕ) → is_remaining product_and_booleans (2 ∷ 1 ∷ []) n ≡ true → FindsInUse (standard_problem product_and_booleans) low [] (1 ∷ 2 ∷ []) (2 ∷ 1 ∷ []) n
 unfolding row conflict issue_of start_of point
-product_finds low zero h = absurd (true≢false (sym h))
-product_finds low (suc zero) h = absurd (true≢false (sym h))
-product_finds low (suc (suc zero)) h = absurd (true≢false (sym h))
 product_finds low (suc (suc (suc zero))) h = by-next product_and_booleans low (1 ∷ 2 ∷ []) (2 ∷ 1 ∷ []) 3 h (search rules)
 product_finds low (suc (suc (suc (suc n)))) h = absurd (omega (arith, (remaining-parts product_and_booleans (2 ∷ 1 ∷ []) (suc (suc (suc (suc n)))) h).1))
+product_finds low _ h = absurd (true≢false (sym h))
 
 pub returns-clause-by_its_total : goal.returns-clause-by_its_total
 unfolding row conflict issue_of start_of point

@@ -22,38 +22,19 @@ stands b bound steps taken = (after-stands b bound steps taken).1
 sound : (b : Problem) (bound : ℕ) (steps : List FactStep) → are_steps_taken b bound (standing_first b) steps ≡ true → (after b steps).supposed ≡ None → IsSound b (facts b steps) (after b steps).known
 sound b bound steps taken none = closed-sound b bound (facts b steps) (after b steps) (stands b bound steps taken) none
 
-pub returns-clause-founded : goal.returns-clause-founded
-returns-clause-founded c = λ b bound steps taken. (after-stands b bound steps taken).0
-
-pub returns-clause-transitive : goal.returns-clause-transitive
-returns-clause-transitive c = λ b bound steps taken. (stands b bound steps taken).sound.transitive
-
-pub returns-clause-no_ring : goal.returns-clause-no_ring
-returns-clause-no_ring c = λ b bound steps taken. (stands b bound steps taken).sound.no_ring
-
-pub returns-clause-rising : goal.returns-clause-rising
-returns-clause-rising c = λ b bound steps taken. (let all = stands b bound steps taken in arcs-rise b all.facts (after b steps).known all.sound)
-
-pub returns-clause-own : goal.returns-clause-own
-returns-clause-own c = λ b bound steps taken. (let all = stands b bound steps taken in arcs-own b all.facts (after b steps).known all.sound)
-
-pub returns-clause-tails : goal.returns-clause-tails
-returns-clause-tails c = λ b bound steps e taken is. (let all = stands b bound steps taken in span-tail b all.facts (after b steps).known all.sound e is)
-
-pub returns-clause-known : goal.returns-clause-known
-returns-clause-known c = λ b bound steps taken none. (sound b bound steps taken none).is_known
-
-pub returns-clause-steps : goal.returns-clause-steps
-returns-clause-steps c = λ b bound steps taken none. arcs-steps b (facts b steps) (after b steps).known (sound b bound steps taken none)
-
-pub returns-clause-next : goal.returns-clause-next
-returns-clause-next c = λ b bound steps prefix n taken none remains le. next-too_late b (facts b steps) (after b steps).known (sound b bound steps taken none) bound prefix n remains le
-
-pub returns-clause-turned : goal.returns-clause-turned
-returns-clause-turned c = λ b bound steps prefix m n taken none turned. turned-too_late b (facts b steps) (after b steps).known (sound b bound steps taken none) bound prefix m n turned
-
-pub returns-clause-loaded : goal.returns-clause-loaded
-returns-clause-loaded c = λ b bound steps prefix after2 numbers taken none loaded. loaded-closed b (facts b steps) (after b steps).known (sound b bound steps taken none) prefix bound after2 numbers loaded
-
-pub returns-clause-no_sooner : goal.returns-clause-no_sooner
-returns-clause-no_sooner c = λ b bound steps prefix n taken none left. turn-comes b (facts b steps) (after b steps).known (sound b bound steps taken none).is_known bound prefix n left
+pub returns : goal.returns
+returns c =
+    record {
+      founded = λ b bound steps taken. (after-stands b bound steps taken).0;
+      transitive = λ b bound steps taken. (stands b bound steps taken).sound.transitive;
+      no_ring = λ b bound steps taken. (stands b bound steps taken).sound.no_ring;
+      rising = λ b bound steps taken. (let all = stands b bound steps taken in arcs-rise b all.facts (after b steps).known all.sound);
+      own = λ b bound steps taken. (let all = stands b bound steps taken in arcs-own b all.facts (after b steps).known all.sound);
+      tails = λ b bound steps e taken is. (let all = stands b bound steps taken in span-tail b all.facts (after b steps).known all.sound e is);
+      known = λ b bound steps taken none. (sound b bound steps taken none).is_known;
+      steps = λ b bound steps taken none. arcs-steps b (facts b steps) (after b steps).known (sound b bound steps taken none);
+      next = λ b bound steps prefix n taken none remains le. next-too_late b (facts b steps) (after b steps).known (sound b bound steps taken none) bound prefix n remains le;
+      turned = λ b bound steps prefix m n taken none turned. turned-too_late b (facts b steps) (after b steps).known (sound b bound steps taken none) bound prefix m n turned;
+      loaded = λ b bound steps prefix after2 numbers taken none loaded. loaded-closed b (facts b steps) (after b steps).known (sound b bound steps taken none) prefix bound after2 numbers loaded;
+      no_sooner = λ b bound steps prefix n taken none left. turn-comes b (facts b steps) (after b steps).known (sound b bound steps taken none).is_known bound prefix n left;
+    }
