@@ -1,12 +1,13 @@
 -- Chains of arcs of loads: they end, one arc more leaves them as they are, and each number's chain gives what all arcs give.
-use Rattle.std.proofs.Common.{ℕ, zero, suc, ◌+◌, ◌-◌, ◌≤◌, ◌<◌, ◌≡◌, ◌≢◌, ◌&&◌, Bool, true, false, List, [], ◌∷◌, ◌++◌, length, get_or, set, replicate, refl, sym, ap, arith, inl, inr, leb, ◌∙◌, subst, Option, Some, None}
-use Rattle.std.proofs.lemmas.Bool.{and_parts, cases_Bool, cases_eq, leb-true}
+use Rattle.std.proofs.Common.{ℕ, zero, suc, ◌+◌, ◌-◌, ◌≤◌, ◌<◌, ◌≡◌, ◌≢◌, Bool, true, false, List, [], ◌∷◌, ◌++◌, length, get_or, set, replicate, refl, sym, ap, arith, inl, inr, leb, ◌∙◌, subst, Option, Some, None}
+use Rattle.std.proofs.lemmas.Bool.{cases_Bool, cases_eq, leb-true}
 use Rattle.std.proofs.lemmas.List.{length-append, get_or_append_left, get_or_push, get_or-set_same, get_or-set_other, get_or-replicate, length-set, length-replicate}
 use Rattle.s66_isa.proofs.Lists.{cases_le}
 use Rattle.s66_moments.specs.declared.moment.Moment.{Moment}
 use Rattle.s66_moments.specs.declared.fact_line.KnownArc.{KnownArc}
 use Rattle.s66_moments.specs.Networks.{same_moment}
 use Rattle.s66_moments.specs.Known.{later, latest}
+use Rattle.s66_moments.proofs.TableArcs.{and_three}
 use Rattle.s66_moments.proofs.MoreArcs.{same_moment-true}
 use Rattle.s66_moments.proofs.Spans.{height-same, height-later}
 use Rattle.s66_facts.specs.declared.direction.Direction.{Direction}
@@ -30,15 +31,12 @@ module _ (f : KnownArc → Option ℕ) (arcs : List KnownArc) (before : List ℕ
   from_place place = along f arcs before place place
 
   along-same : (h h2 place : ℕ) → place ≤ h → place ≤ h2 → place ≤ length arcs → along f arcs before h place ≡ along f arcs before h2 place
-  along-same zero zero place le le2 fits = refl
-  along-same zero (suc k2) zero le le2 fits = refl
   along-same zero (suc k2) (suc i) le le2 fits = absurd (omega (arith, le))
-  along-same (suc k) zero zero le le2 fits = refl
   along-same (suc k) zero (suc i) le le2 fits = absurd (omega (arith, le2))
-  along-same (suc k) (suc k2) zero le le2 fits = refl
   along-same (suc k) (suc k2) (suc i) le le2 fits =
       let falls : get_or before i 0 ≤ i = falling.falls i (omega (arith, fits, falling.count)) in
       ap (later (f (get_or arcs i no_arc))) (along-same k k2 (get_or before i 0) (omega (arith, falls, le)) (omega (arith, falls, le2)) (omega (arith, falls, fits)))
+  along-same _ _ _ le le2 fits = refl
 
   pub along-at : (place : ℕ) → 0 < place → place ≤ length arcs → from_place place ≡ later (f (get_or arcs (place - 1) no_arc)) (from_place (get_or before (place - 1) 0))
   along-at zero some fits = absurd (omega (arith, some))
@@ -49,8 +47,6 @@ module _ (f : KnownArc → Option ℕ) (arcs : List KnownArc) (before : List ℕ
       ∙ ap (λ j. later (f (get_or arcs j no_arc)) (from_place (get_or before j 0))) (sym e)
 
   along-append : (other : KnownArc) (p h place : ℕ) → place ≤ h → place ≤ length arcs → along f (arcs ++ other ∷ []) (before ++ p ∷ []) h place ≡ along f arcs before h place
-  along-append other p zero place le fits = refl
-  along-append other p (suc k) zero le fits = refl
   along-append other p (suc k) (suc i) le fits =
       let inside : i < length before = omega (arith, fits, falling.count) in
       let falls : get_or before i 0 ≤ i = falling.falls i inside in
@@ -59,6 +55,7 @@ module _ (f : KnownArc → Option ℕ) (arcs : List KnownArc) (before : List ℕ
       ap (λ (l : KnownArc). later (f l) (along f arcs2 before2 k (get_or before2 i 0))) (get_or_append_left arcs (other ∷ []) no_arc i (omega (arith, fits)))
       ∙ (ap (λ j. later (f (get_or arcs i no_arc)) (along f arcs2 before2 k j)) (get_or_append_left before (p ∷ []) 0 i inside)
       ∙ ap (later (f (get_or arcs i no_arc))) (along-append other p k (get_or before i 0) (omega (arith, falls, le)) (omega (arith, falls, fits))))
+  along-append other p _ _ le fits = refl
 
   -- what the rest of a chain has, all of it has
   pub along-lifts : (place : ℕ) (o : Option ℕ) → 0 < place → place ≤ length arcs → later (from_place (get_or before (place - 1) 0)) o ≡ from_place (get_or before (place - 1) 0) → later (from_place place) o ≡ from_place place
@@ -117,8 +114,7 @@ absorbs-when false o v w le = refl
 
 long-parts : (d : Direction) (l other : KnownArc) → is_as_long l other ≡ true → (arc_start d l ≡ arc_start d other) × (arc_end d l ≡ arc_end d other) × (other.wait ≤ l.wait)
 long-parts d l other long =
-    let (ends, wait) = and_parts (same_moment l.from other.from && same_moment l.to other.to) (leb other.wait l.wait) long in
-    let (from, to) = and_parts (same_moment l.from other.from) (same_moment l.to other.to) ends in
+    let (from, to, wait) = and_three (same_moment l.from other.from) (same_moment l.to other.to) (leb other.wait l.wait) long in
     let (start, end) = at_ends d (same_moment-true l.from other.from from) (same_moment-true l.to other.to to) in
     (start, end, leb-true other.wait l.wait wait)
   where

@@ -1,7 +1,6 @@
 -- What a number between two others hands on: the test `covers` of `src/near.rt`, and that numbers which are covered decide no times.
 use Rattle.std.proofs.Common.{ℕ, ◌-◌, ◌≤◌, ◌≡◌, ◌⊎◌, not, ◌||◌, ◌&&◌, ◌==◌, Bool, true, false, true≢false, List, [], ◌∷◌, length, get_or, leb, refl, sym, arith, inl, inr, ◌∙◌, subst, Some}
 use Rattle.std.proofs.lemmas.Bool.{and_parts, and_from, or_cases, not-true, leb-true}
-use Rattle.s66_isa.specs.declared.limits.TheConstants.{BLOCK_LIMIT}
 use Rattle.s66_isa.specs.declared.reg.Reg.{Reg}
 use Rattle.s66_isa.specs.Lists.{every, some_of}
 use Rattle.s66_isa.specs.Table.{Row, Write, same_reg, same_kind, memory_pair}
@@ -10,11 +9,14 @@ use Rattle.s66_model.specs.Timing.{Problem, row_at, copies}
 use Rattle.s66_model.proofs.LoadBound.{same_kind-true}
 use Rattle.s66_moments.specs.Moments.{writes, only_if}
 use Rattle.s66_moments.specs.Facts.{IsNumber}
+use Rattle.s66_moments.proofs.TableArcs.{and_four}
 use Rattle.s66_facts.specs.declared.direction.Direction.{Direction}
 use Rattle.s66_facts.specs.declared.direction.Direction.TheVariants.{Forward, Backward}
 use Rattle.s66_isa.specs.declared.set.Set.{Set}
-use Rattle.s66_facts.specs.Marked.{is_marked, is_in, no_marks, before_in}
-use Rattle.s66_facts.specs.Ground.{Ground, IsOrdered}
+use Rattle.s66_isa.specs.Lists.{has}
+use Rattle.s66_isa.specs.Members.{numbers_in, no_set}
+use Rattle.s66_facts.specs.Marked.{is_in, before_in}
+use Rattle.s66_facts.specs.Ground.{Ground, IsAcyclic}
 use Rattle.s66_facts.specs.Directions.{sooner}
 use Rattle.s66_facts.specs.Near.{uses, hands_on, covers, IsNear}
 use Rattle.s66_facts.specs.Passes.{share_unit}
@@ -31,20 +33,19 @@ pub all-near : (b : Problem) (before : ℕ → ℕ → Bool) (n : ℕ) → IsNea
 all-near b before n = record { within = λ m is first. first; enough = λ m is first. inl first }
 
 -- those that are marked
-pub near-by : (b : Problem) (before : ℕ → ℕ → Bool) (near : Set) (n : ℕ) → length b.block ≤ BLOCK_LIMIT → IsNear b before near n → IsNearBy b before (is_marked near) n
-near-by b before near n few is =
-    record { within = λ m is_m marked. is.within m is_m.0 (omega (arith, is_m.1, few)) marked; enough = is.enough }
+pub near-by : (b : Problem) (before : ℕ → ℕ → Bool) (near : Set) (n : ℕ) → IsNear b before near n → IsNearBy b before (λ i. has i (numbers_in near)) n
+near-by b before near n is = record { within = λ m is_m. is.within m; enough = is.enough }
 
 -- what stands before another is a number
 pub before-range : (marks : List Set) (m n : ℕ) → before_in marks m n ≡ true → (1 ≤ m) × (m ≤ length marks) × (1 ≤ n) × (n ≤ length marks)
 before-range marks m n first =
-    let (both, bit) = and_parts (is_in marks m && is_in marks n) (is_marked (get_or marks (n - 1) no_marks) m) first in
+    let (both, bit) = and_parts (is_in marks m && is_in marks n) (has m (numbers_in (get_or marks (n - 1) no_set))) first in
     let (in_m, in_n) = and_parts (is_in marks m) (is_in marks n) both in
     let (low_m, high_m) = and_parts (leb 1 m) (leb m (length marks)) in_m in
     let (low_n, high_n) = and_parts (leb 1 n) (leb n (length marks)) in_n in
     (leb-true 1 m low_m, leb-true m (length marks) high_m, leb-true 1 n low_n, leb-true n (length marks) high_n)
 
-pub sooner-number : (d : Direction) (g : Ground) → IsOrdered g → (m n : ℕ) → sooner d (before_in g.marks) m n ≡ true → IsNumber g.problem m
+pub sooner-number : (d : Direction) (g : Ground) → IsAcyclic g → (m n : ℕ) → sooner d (before_in g.marks) m n ≡ true → IsNumber g.problem m
 sooner-number Forward g ordered m n first = (let (low, high, low2, high2) = before-range g.marks m n first in (low, omega (arith, high, ordered.count)))
 sooner-number Backward g ordered m n last = (let (low, high, low2, high2) = before-range g.marks n m last in (low2, omega (arith, high2, ordered.count)))
 
@@ -76,11 +77,7 @@ by_memory b m k n =
 
 covers-parts : (b : Problem) (m k n : ℕ) → covers b m k n ≡ true →
     (hands_on (row_at b m) (row_at b k) (row_at b n) ≡ true) × (hands_on (row_at b n) (row_at b k) (row_at b m) ≡ true) × (by_unit b m k n ≡ true) × (by_memory b m k n ≡ true)
-covers-parts b m k n h =
-    let (rest, memory) = and_parts (hands_on (row_at b m) (row_at b k) (row_at b n) && hands_on (row_at b n) (row_at b k) (row_at b m) && by_unit b m k n) (by_memory b m k n) h in
-    let (rest2, unit) = and_parts (hands_on (row_at b m) (row_at b k) (row_at b n) && hands_on (row_at b n) (row_at b k) (row_at b m)) (by_unit b m k n) rest in
-    let (first, second) = and_parts (hands_on (row_at b m) (row_at b k) (row_at b n)) (hands_on (row_at b n) (row_at b k) (row_at b m)) rest2 in
-    (first, second, unit, memory)
+covers-parts b m k n h = and_four (hands_on (row_at b m) (row_at b k) (row_at b n)) (hands_on (row_at b n) (row_at b k) (row_at b m)) (by_unit b m k n) (by_memory b m k n) h
 
 pub covers-first : (b : Problem) (m k n : ℕ) (x : Reg) → covers b m k n ≡ true → writes (row_at b m) x ≡ true → uses (row_at b n) x ≡ true → writes (row_at b k) x ≡ true
 covers-first b m k n x h there used = handed-go (row_at b k) (row_at b n) x (row_at b m).writes (covers-parts b m k n h).0 there used

@@ -1,11 +1,10 @@
 -- The arcs of what is known, and the longest paths in a direction by their last arcs.
-use Rattle.std.proofs.Common.{ℕ, ◌+◌, ◌-◌, ◌*◌, ◌^◌, ◌≤◌, ◌<◌, ◌≡◌, ◌⊎◌, Bool, true, false, true≢false, cond, not, max, List, [], ◌∷◌, ◌++◌, length, refl, sym, ap, arith, inl, inr, eqb, ◌∙◌, subst, Option, Some, None}
-use Rattle.std.specs.Prelude.{unwrap_or}
+use Rattle.std.proofs.Common.{ℕ, ◌+◌, ◌-◌, ◌*◌, ◌^◌, ◌≤◌, ◌<◌, ◌≡◌, ◌⊎◌, Bool, true, false, true≢false, cond, not, List, [], ◌∷◌, ◌++◌, length, refl, sym, ap, arith, inl, inr, eqb, ◌∙◌, subst, Option, Some, None}
 use Rattle.std.proofs.lemmas.Bool.{and_from, or_cases, or_left, or_right, cond-true, cond-false, cases_Bool, eqb-true, eq-eqb, ne_eqb, le-leb}
 use Rattle.s66_isa.specs.declared.reg.Reg.{Reg}
 use Rattle.s66_isa.specs.Lists.{Among}
 use Rattle.s66_isa.specs.Table.{Row, Write, same_reg, has_reg, memory_pair, instr_at}
-use Rattle.s66_isa.proofs.Lists.{cases_le, greatest-le}
+use Rattle.s66_isa.proofs.Lists.{greatest-le}
 use Rattle.s66_isa.proofs.GoodRows.{row-good}
 use Rattle.s66_model.specs.Timing.{Problem, row_at}
 use Rattle.s66_model.specs.LegalOrder.{is_remaining}
@@ -21,14 +20,14 @@ use Rattle.s66_moments.specs.Networks.{Network, network, is_in_order, IsRising, 
 use Rattle.s66_moments.specs.Known.{later, latest, plus, span, with_loads}
 use Rattle.s66_moments.proofs.TableArcs.{Some-same, None-none, only_if-parts}
 use Rattle.s66_moments.proofs.Tails.{network-parts, path-short, all-among, arc-some}
-use Rattle.s66_moments.proofs.MoreArcs.{same_moment-true, same_moment-self, with-cases, with-there, with-longer}
+use Rattle.s66_moments.proofs.MoreArcs.{same_moment-true, with-some, with-there, with-longer}
 use Rattle.s66_moments.proofs.NextLeaves.{path-join, waits-join}
 use Rattle.s66_moments.proofs.KnownLines.{loads-rise}
 use Rattle.s66_moments.proofs.Spans.{height, height-later, height-latest, later-some, latest-some, plus-some, span-path, span-high, span-from_front, span-from_back}
 use Rattle.s66_facts.specs.declared.direction.Direction.{Direction}
 use Rattle.s66_facts.specs.declared.direction.Direction.TheVariants.{Forward, Backward}
 use Rattle.s66_facts.specs.Marked.{before_in}
-use Rattle.s66_facts.specs.Ground.{Ground, ground_arcs, IsOrdered}
+use Rattle.s66_facts.specs.Ground.{Ground, ground_arcs, IsAcyclic}
 use Rattle.s66_facts.specs.Directions.{source, sooner, arc_start, arc_end, arcs_along, span_along}
 use Rattle.s66_facts.specs.Passes.{add, when, share_unit}
 
@@ -69,9 +68,6 @@ pub only_if-high : (test : Bool) → test ≡ true → 0 < height (only_if test 
 only_if-high true is = omega arith
 only_if-high false is = absurd (true≢false (sym is))
 
-pub same-high : (e f : Moment) → e ≡ f → 0 < height (only_if (same_moment e f) 0)
-same-high e f is = only_if-high (same_moment e f) (subst (λ m. same_moment e m ≡ true) is (same_moment-self e))
-
 -- an option between two heights
 pub between : (o p : Option ℕ) → ((w : ℕ) → o ≡ Some w → w < height p) → height o ≤ height p
 between None p each = omega arith
@@ -83,32 +79,16 @@ between (Some w) p each = omega (arith, each w refl)
 abbrev pub IsKindOf : Network → List KnownArc → Moment → Moment → ℕ → Type 0
 IsKindOf arcs loads e f v = (arcs e f ≡ Some v) ⊎ ((l : KnownArc) × Among l loads × (e ≡ l.from) × (f ≡ l.to) × (v ≡ l.wait))
 
-more-loads : (arcs : Network) (load : KnownArc) (loads : List KnownArc) (e f : Moment) (v : ℕ) → IsKindOf arcs loads e f v → IsKindOf arcs (load ∷ loads) e f v
-more-loads arcs load loads e f v (inl table) = inl table
-more-loads arcs load loads e f v (inr (l, among, from, to, wait)) = inr (l, inr among, from, to, wait)
-
-new-load : (arcs : Network) (load : KnownArc) (loads : List KnownArc) (e f : Moment) (v : ℕ) → (with_loads arcs loads e f ≡ Some v → IsKindOf arcs (load ∷ loads) e f v) → with_loads arcs (load ∷ loads) e f ≡ Some v →
-    (e ≡ load.from) × (f ≡ load.to) × (with_loads arcs (load ∷ loads) e f ≡ Some (max load.wait (unwrap_or (with_loads arcs loads load.from load.to) 0))) → IsKindOf arcs (load ∷ loads) e f v
-new-load arcs load loads e f v again is (from, to, there) =
-    let o : Option ℕ = with_loads arcs loads load.from load.to in
-    let value : max load.wait (unwrap_or o 0) ≡ v = Some-same (max load.wait (unwrap_or o 0)) v (sym there ∙ is) in
-    elim (cases_le (unwrap_or o 0) load.wait) [
-      | inl le ↦ inr (load, inl refl, from, to, omega (arith, value, le))
-      | inr lt ↦ again (there-is o lt value refl)
-    ]
-  where
-    there-is : (o : Option ℕ) → load.wait < unwrap_or o 0 → max load.wait (unwrap_or o 0) ≡ v → with_loads arcs loads load.from load.to ≡ o → with_loads arcs loads e f ≡ Some v
-    there-is None lt value same = absurd (omega (arith, lt))
-    there-is (Some u) lt value same =
-        ap (λ m. with_loads arcs loads m f) from ∙ (ap (λ m. with_loads arcs loads load.from m) to ∙ (same ∙ ap (λ k. Some k) (omega (arith, lt, value))))
-
 pub loads-cases : (arcs : Network) (loads : List KnownArc) (e f : Moment) (v : ℕ) → with_loads arcs loads e f ≡ Some v → IsKindOf arcs loads e f v
 loads-cases arcs [] e f v is = inl is
 loads-cases arcs (load ∷ loads) e f v is =
-    let again : with_loads arcs loads e f ≡ Some v → IsKindOf arcs (load ∷ loads) e f v = λ there. more-loads arcs load loads e f v (loads-cases arcs loads e f v there) in
-    elim (with-cases (with_loads arcs loads) load.from load.wait load.to e f) [
-      | inl at ↦ new-load arcs load loads e f v again is at
-      | inr same ↦ again (sym same ∙ is)
+    elim (with-some (with_loads arcs loads) load.from load.wait load.to e f v is) [
+      | inl old ↦
+          elim (loads-cases arcs loads e f v old) [
+            | inl table ↦ inl table
+            | inr (l, among, from, to, wait) ↦ inr (l, inr among, from, to, wait)
+          ]
+      | inr (from, to, wait) ↦ inr (load, inl refl, from, to, wait)
     ]
 
 -- an arc of this wait at least
@@ -148,22 +128,11 @@ module _ (b : Problem) where
       ])
 
   own-short : (n : ℕ) (s t : Stage) (v : ℕ) → own_arc (row_at b n) s t ≡ Some v → v ≤ 101
-  own-short n Issue Issue v is = absurd (None-none v is)
   own-short n Issue Start v is = omega (arith, Some-same 0 v is)
-  own-short n Issue (Done x) v is = absurd (None-none v is)
-  own-short n Issue Free v is = absurd (None-none v is)
-  own-short n Start Issue v is = absurd (None-none v is)
-  own-short n Start Start v is = absurd (None-none v is)
   own-short n Start (Done x) v is = omega (arith, Some-same (latency_to (row_at b n) x) v is, latency-short n x)
   own-short n Start Free v is = omega (arith, Some-same ((row_at b n).hold + 1) v is, (row-good b.profile (instr_at b.block n)).hold.1)
-  own-short n (Done x) Issue v is = absurd (None-none v is)
-  own-short n (Done x) Start v is = absurd (None-none v is)
-  own-short n (Done x) (Done y) v is = absurd (None-none v is)
   own-short n (Done x) Free v is = omega (arith, only_if-value (not (fetches (row_at b n) x)) 1 v is)
-  own-short n Free Issue v is = absurd (None-none v is)
-  own-short n Free Start v is = absurd (None-none v is)
-  own-short n Free (Done x) v is = absurd (None-none v is)
-  own-short n Free Free v is = absurd (None-none v is)
+  own-short n _ _ v is = absurd (None-none v is)
 
   -- the arcs that there are from one number to another
   pub later-cases : (m n : ℕ) (P : Stage → Stage → ℕ → Type 0) → P Issue Issue (row_at b m).parcels → ((x : Reg) → writes (row_at b n) x ≡ true → P (Done x) Issue 0) → (share_unit b m n ≡ true → P Free Issue 0) →
@@ -175,16 +144,7 @@ module _ (b : Problem) where
   later-cases m n P parcels result unit operand memory reader (Done x) Start v is = (let (read, nil) = only_if-parts (has_reg x (row_at b n).reads) 0 v is in subst (P (Done x) Start) nil (operand x read))
   later-cases m n P parcels result unit operand memory reader Start Start v is = (let (pair, one) = only_if-parts (memory_pair (row_at b m).memory (row_at b n).memory) 1 v is in subst (P Start Start) one (memory pair))
   later-cases m n P parcels result unit operand memory reader Start (Done x) v is = (let (read, one) = only_if-parts (has_reg x (row_at b m).reads) 1 v is in subst (P Start (Done x)) one (reader x read))
-  later-cases m n P parcels result unit operand memory reader Issue Start v is = absurd (None-none v is)
-  later-cases m n P parcels result unit operand memory reader Issue (Done x) v is = absurd (None-none v is)
-  later-cases m n P parcels result unit operand memory reader Issue Free v is = absurd (None-none v is)
-  later-cases m n P parcels result unit operand memory reader Start Issue v is = absurd (None-none v is)
-  later-cases m n P parcels result unit operand memory reader Start Free v is = absurd (None-none v is)
-  later-cases m n P parcels result unit operand memory reader (Done x) (Done y) v is = absurd (None-none v is)
-  later-cases m n P parcels result unit operand memory reader (Done x) Free v is = absurd (None-none v is)
-  later-cases m n P parcels result unit operand memory reader Free Start v is = absurd (None-none v is)
-  later-cases m n P parcels result unit operand memory reader Free (Done x) v is = absurd (None-none v is)
-  later-cases m n P parcels result unit operand memory reader Free Free v is = absurd (None-none v is)
+  later-cases m n P parcels result unit operand memory reader _ _ v is = absurd (None-none v is)
 
   later-short : (m n : ℕ) (s t : Stage) (v : ℕ) → later_arc b (row_at b m) (row_at b n) s t ≡ Some v → v ≤ 101
   later-short m n =
@@ -203,22 +163,16 @@ module _ (b : Problem) where
       ]
 
   arc-short : (e f : Moment) (v : ℕ) → arc b e f ≡ Some v → v ≤ 101
-  arc-short Origin Origin v is = absurd (None-none v is)
   arc-short Origin (At n f) v is = omega (arith, Some-same 0 v is)
   arc-short Origin End v is = omega (arith, Some-same 0 v is)
-  arc-short (At m e) Origin v is = absurd (None-none v is)
   arc-short (At m e) (At n f) v is =
       elim (at-cases m n e f v is) [
         | inl (same, own) ↦ own-short m e f v own
         | inr (other, later) ↦ later-short m n e f v later
       ]
-  arc-short (At m Issue) End v is = absurd (None-none v is)
-  arc-short (At m Start) End v is = absurd (None-none v is)
   arc-short (At m (Done x)) End v is = omega (arith, Some-same 0 v is)
   arc-short (At m Free) End v is = omega (arith, Some-same 0 v is)
-  arc-short End Origin v is = absurd (None-none v is)
-  arc-short End (At n f) v is = absurd (None-none v is)
-  arc-short End End v is = absurd (None-none v is)
+  arc-short _ _ v is = absurd (None-none v is)
 
 -- SPANS
 
@@ -233,13 +187,11 @@ later_along Backward b m n s t = later_arc b (row_at b n) (row_at b m) t s
 
 -- whether a stage has an arc from the moment at which all paths begin
 abbrev pub is_reached : Direction → Stage → Bool
-is_reached Forward t = true
 is_reached Backward Issue = false
 is_reached Backward Start = false
-is_reached Backward (Done x) = true
-is_reached Backward Free = true
+is_reached _ _ = true
 
-module _ (g : Ground) (ordered : IsOrdered g) where
+module _ (g : Ground) (ordered : IsAcyclic g) where
   abbrev b : Problem
   b = g.problem
 
@@ -368,10 +320,9 @@ module _ (g : Ground) (ordered : IsOrdered g) where
 
   pub source-edge : (d : Direction) (n : ℕ) → IsNumber b n → (t : Stage) → is_reached d t ≡ true → has_stage (row_at b n) t ≡ true → HasArc (arcs_along d arcs) (source d) 0 (At n t)
   source-edge Forward n is_n t is there = table-arc Origin (At n t) 0 refl (is-stage n t is_n there) refl refl
-  source-edge Backward n is_n Issue is there = absurd (true≢false (sym is))
-  source-edge Backward n is_n Start is there = absurd (true≢false (sym is))
   source-edge Backward n is_n (Done x) is there = table-arc (At n (Done x)) End 0 (is-stage n (Done x) is_n there) refl refl refl
   source-edge Backward n is_n Free is there = table-arc (At n Free) End 0 (is-stage n Free is_n there) refl refl refl
+  source-edge Backward n is_n _ is there = absurd (true≢false (sym is))
 
   -- WHAT LEADS to a moment of n
 

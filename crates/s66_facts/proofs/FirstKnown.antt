@@ -14,8 +14,10 @@ use Rattle.s66_moments.specs.Networks.{precedes, precedes_over, IsTransitive, Ha
 use Rattle.s66_moments.specs.Known.{Known, known_first}
 use Rattle.s66_moments.proofs.Preceders.{precedes-transitive, precedes-no_ring}
 use Rattle.s66_isa.specs.declared.set.Set.{Set}
-use Rattle.s66_facts.specs.Marked.{is_marked, no_marks, is_in, before_in, IsClosedUpTo}
-use Rattle.s66_facts.specs.Ground.{known_of, IsOrdered}
+use Rattle.s66_isa.specs.Lists.{has}
+use Rattle.s66_isa.specs.Members.{numbers_in, no_set}
+use Rattle.s66_facts.specs.Marked.{is_in, before_in, IsClosedUpTo}
+use Rattle.s66_facts.specs.Ground.{known_of, IsAcyclic}
 use Rattle.s66_model.proofs.PushedBoth.{pair-none}
 use Rattle.s66_isa.proofs.Lists.{get_or-past}
 
@@ -77,10 +79,10 @@ module _ (block : List Instr) (marks : List Set) (count : length marks ≡ lengt
   before-at : (m n : ℕ) → before_in marks m n ≡ precedes block m n
   before-at m n =
       elim (cases_Bool (is_in marks m)) [
-        | inr off ↦ and_left (is_in marks m && is_in marks n) (is_marked (get_or marks (n - 1) no_marks) m) (and_left (is_in marks m) (is_in marks n) off) ∙ sym (first-over block m (sym (in-block m) ∙ off) (length block) n)
+        | inr off ↦ and_left (is_in marks m && is_in marks n) (has m (numbers_in (get_or marks (n - 1) no_set))) (and_left (is_in marks m) (is_in marks n) off) ∙ sym (first-over block m (sym (in-block m) ∙ off) (length block) n)
         | inl is_m ↦
             elim (cases_Bool (is_in marks n)) [
-              | inr off ↦ and_left (is_in marks m && is_in marks n) (is_marked (get_or marks (n - 1) no_marks) m) (and_right (is_in marks m) (is_in marks n) off) ∙ sym (second-over block n (sym (in-block n) ∙ off) (length block) m)
+              | inr off ↦ and_left (is_in marks m && is_in marks n) (has m (numbers_in (get_or marks (n - 1) no_set))) (and_right (is_in marks m) (is_in marks n) off) ∙ sym (second-over block n (sym (in-block n) ∙ off) (length block) m)
               | inl is_n ↦
                   let (low_m, high_m) = and_parts (leb 1 m) (leb m (length marks)) is_m in
                   let (low, high) = and_parts (leb 1 n) (leb n (length marks)) is_n in
@@ -94,7 +96,7 @@ module _ (block : List Instr) (marks : List Set) (count : length marks ≡ lengt
 pub first-known : (b : Problem) (marks : List Set) → length marks ≡ length b.block → IsClosedUpTo b.block marks (length b.block) → known_of (record { problem = b; marks = marks; loads = [] }) ≡ known_first b
 first-known b marks count closed = ap {B = Known} (λ f. record { before = f; loads = [] }) (before-is b.block marks count closed)
 
-pub first-ordered : (b : Problem) (marks : List Set) → length b.block ≤ BLOCK_LIMIT → length marks ≡ length b.block → IsClosedUpTo b.block marks (length b.block) → IsOrdered (record { problem = b; marks = marks; loads = [] })
+pub first-ordered : (b : Problem) (marks : List Set) → length b.block ≤ BLOCK_LIMIT → length marks ≡ length b.block → IsClosedUpTo b.block marks (length b.block) → IsAcyclic (record { problem = b; marks = marks; loads = [] })
 first-ordered b marks few count closed =
     record {
       few = few;

@@ -1,5 +1,5 @@
 -- Longest paths from a moment on: those to the moments of a number, by those of all that stands before it.
-use Rattle.std.proofs.Common.{ℕ, ◌+◌, ◌≤◌, ◌≡◌, not, Bool, true, List, [], ◌∷◌, refl, sym, ap, arith, inl, inr, ◌∙◌, Option, Some, None}
+use Rattle.std.proofs.Common.{ℕ, ◌+◌, ◌≤◌, ◌≡◌, not, Bool, true, List, refl, sym, ap, arith, inl, inr, ◌∙◌, Option, Some, None}
 use Rattle.std.proofs.lemmas.Bool.{or_left, or_right}
 use Rattle.s66_isa.specs.declared.reg.Reg.{Reg}
 use Rattle.s66_isa.specs.Table.{Write, has_reg, memory_pair, numbers}
@@ -17,16 +17,16 @@ use Rattle.s66_moments.proofs.Spans.{height-some, some-height}
 use Rattle.s66_facts.specs.declared.direction.Direction.TheVariants.{Forward}
 use Rattle.s66_facts.specs.declared.times.Times.{Times}
 use Rattle.s66_facts.specs.Marked.{before_in}
-use Rattle.s66_facts.specs.Ground.{Ground, ground_arcs, IsOrdered}
+use Rattle.s66_facts.specs.Ground.{Ground, ground_arcs, IsAcyclic}
 use Rattle.s66_facts.specs.Near.{uses, covers}
 use Rattle.s66_facts.specs.Passes.{no_times, add, when, times_at, latest_done, share_unit, issue_after, start_after, done_after, after_one, by_loads, by_all, at_once, head_issue, head_start, head_done, head_results, head_free, with_free, times_of, AreResults, AreTimes}
 use Rattle.s66_facts.proofs.Latest.{later-assoc}
 use Rattle.s66_facts.proofs.Edges.{HasArc, later-cases, is-stage, step, later_along, own-edge, later-edge}
 use Rattle.s66_facts.proofs.Walks.{Walk, IsHop, by-parts, by-others, results-go}
 use Rattle.s66_facts.proofs.Covered.{IsNearBy, covers-first, covers-second, covers-unit, covers-memory, if-only}
-use Rattle.s66_facts.proofs.Results.{issue-part, start-part, first-part, second-part, via, via_results, by_stages, via-if, via-zero, alone, alone-zero, results-none, results-zero, results-one, all-same, none-gathered}
+use Rattle.s66_facts.proofs.Results.{part, same-results, via, via_results, by_stages, via-if, via-zero, alone, alone-zero, results-none, results-zero, results-one, all-same, none-gathered}
 
-module _ (g : Ground) (ordered : IsOrdered g) (e : Moment) (front : is_front e ≡ true) (times : List Times) (n : ℕ) (is_n : IsNumber g.problem n) (near : ℕ → Bool) (is_near : IsNearBy g.problem (before_in g.marks) near n) where
+module _ (g : Ground) (ordered : IsAcyclic g) (e : Moment) (front : is_front e ≡ true) (times : List Times) (n : ℕ) (is_n : IsNumber g.problem n) (near : ℕ → Bool) (is_near : IsNearBy g.problem (before_in g.marks) near n) where
   abbrev b : Problem
   b = g.problem
 
@@ -169,7 +169,7 @@ module _ (g : Ground) (ordered : IsOrdered g) (e : Moment) (front : is_front e �
     issue-is : issue ≡ S (At n Issue)
     issue-is =
         by-parts walk near-hop Issue refl no_times (record { issue = λ v is. absurd (None-none v is); start = λ v is. absurd (None-none v is); free = λ v is. absurd (None-none v is); results = λ x v is. absurd (None-none v is) }) None after.issue
-        (sym (results-none no_times its_writes)) (issue-part near (after_one b times n) all ∙ all-same near (λ m. issue_after b n m (T m)) (from_one Issue) all issue-one)
+        (sym (results-none no_times its_writes)) (part near (after_one b times n) (λ t. t.issue) refl (λ s t. refl) all ∙ all-same near (λ m. issue_after b n m (T m)) (from_one Issue) all issue-one)
 
     abbrev start : Option ℕ
     start = head_start e n after issue (by_loads Forward g.loads times e (At n Start))
@@ -181,7 +181,7 @@ module _ (g : Ground) (ordered : IsOrdered g) (e : Moment) (front : is_front e �
     start-is =
         later-assoc (at_once e (At n Start)) issue (later after.start (by_loads Forward g.loads times e (At n Start)))
         ∙ by-parts walk near-hop Start refl results (record { issue = λ v is. issue-is; start = λ v is. absurd (None-none v is); free = λ v is. absurd (None-none v is); results = λ x v is. absurd (None-none v is) }) issue after.start
-        (sym (alone-zero issue (via_results (λ x. None) results its_writes) (results-none results its_writes))) (start-part near (after_one b times n) all ∙ all-same near (λ m. start_after b n m (T m)) (from_one Start) all start-one)
+        (sym (alone-zero issue (via_results (λ x. None) results its_writes) (results-none results its_writes))) (part near (after_one b times n) (λ t. t.start) refl (λ s t. refl) all ∙ all-same near (λ m. start_after b n m (T m)) (from_one Start) all start-one)
 
     abbrev readers : Reg → Option ℕ
     readers x = latest (λ m. when (near m) (done_after b m (T m) x)) all
@@ -195,7 +195,7 @@ module _ (g : Ground) (ordered : IsOrdered g) (e : Moment) (front : is_front e �
     results-are : AreResults (λ x. S (At n (Done x))) results its_writes
     results-are =
         results-go (λ x. S (At n (Done x))) near all (λ m. done_after b m (T m)) (head_done b e n start) its_writes after.first after.second results done-is
-        (first-part near (after_one b times n) all) (second-part near (after_one b times n) all) refl refl
+        (part near (after_one b times n) (λ t. t.first) refl (λ s t. refl) all) (part near (after_one b times n) (λ t. t.second) refl (λ s t. refl) all) refl refl
 
     free-is : head_free b e n results ≡ S (At n Free)
     free-is =
@@ -208,9 +208,4 @@ module _ (g : Ground) (ordered : IsOrdered g) (e : Moment) (front : is_front e �
         (sym (all-same near (from_one Free) (λ m. None) all (λ m. results-none (T m) (row_at b m).writes) ∙ none-gathered near all))
 
     pub heads-are : AreTimes b S n (times_of Forward g near e times n)
-    heads-are = record { issue = issue-is; start = start-is; free = free-is; results = free-results (row_at b n).writes results-are }
-      where
-        free-results : (ws : List Write) → AreResults (λ x. S (At n (Done x))) results ws → AreResults (λ x. S (At n (Done x))) (with_free results (head_free b e n results)) ws
-        free-results [] are = tt
-        free-results (v ∷ []) are = are
-        free-results (v ∷ (w ∷ ws)) are = are
+    heads-are = record { issue = issue-is; start = start-is; free = free-is; results = same-results (λ x. S (At n (Done x))) (with_free results (head_free b e n results)) results its_writes refl refl results-are }

@@ -2,8 +2,7 @@
 use Rattle.std.proofs.Common.{ℕ, zero, suc, ◌-◌, ◌≤◌, ◌<◌, ◌≡◌, not, ◌&&◌, ◌==◌, Bool, true, false, cond, List, [], ◌∷◌, length, map, get_or, refl, sym, ap, arith, inl, inr, ◌∙◌, Option, Some, None}
 use Rattle.std.proofs.lemmas.Bool.{cases_eq, eq-eqb, ne_eqb}
 use Rattle.s66_isa.specs.Lists.{Among}
-use Rattle.s66_isa.specs.declared.limits.TheConstants.{BLOCK_LIMIT}
-use Rattle.s66_isa.proofs.Lists.{rising-among, among-rising}
+use Rattle.s66_isa.proofs.Lists.{rising-among}
 use Rattle.s66_model.specs.Timing.{Problem}
 use Rattle.s66_moments.specs.Facts.{IsNumber}
 use Rattle.s66_isa.specs.declared.instr.Instr.{Instr}
@@ -13,7 +12,8 @@ use Rattle.s66_moments.specs.Known.{later}
 use Rattle.s66_moments.proofs.Spans.{height-same, height-later}
 use Rattle.s66_isa.specs.declared.set.Set.{Set}
 use Rattle.s66_facts.specs.declared.times.Times.{Times}
-use Rattle.s66_facts.specs.Marked.{is_marked}
+use Rattle.s66_isa.specs.Lists.{has}
+use Rattle.s66_isa.specs.Members.{numbers_in}
 use Rattle.s66_facts.specs.Passes.{no_times, later_times, gathered}
 
 pub later-assoc : (o p q : Option ℕ) → later (later o p) q ≡ later o (later p q)
@@ -91,19 +91,16 @@ gathered-none test f [] off = refl
 gathered-none test f (k ∷ ks) off = ap (λ p. later_times (cond {A = Times} p (f k) no_times) (gathered test f ks)) (off k) ∙ gathered-none test f ks off
 
 -- one more of those that are marked, of a block's numbers
-pub gathered-next : (b : Problem) (old new : Set) (f : ℕ → Times) (m : ℕ) (latest whole : Times) → length b.block ≤ BLOCK_LIMIT → IsNumber b m → is_marked old m ≡ true →
-    ((k : ℕ) → 1 ≤ k → k ≤ BLOCK_LIMIT → is_marked new k ≡ (not (k == m) && is_marked old k)) → later_times latest (gathered (is_marked old) f (numbers b.block)) ≡ whole →
-    later_times (later_times latest (f m)) (gathered (is_marked new) f (numbers b.block)) ≡ whole
-gathered-next b old new f m latest whole few is_m marked others is =
-    times-assoc latest (f m) (gathered (is_marked new) f (numbers b.block))
-    ∙ (ap (λ t. later_times latest t) (gathered-out (is_marked old) (is_marked new) f m marked (numbers b.block) (rising-among (length b.block) 1 m is_m.0 (omega (arith, is_m.1))) (λ k among.
-    let (low, high) = among-rising (length b.block) 1 k among in
-    others k low (omega (arith, high, few))))
-    ∙ is)
+pub gathered-next : (b : Problem) (old new : Set) (f : ℕ → Times) (m : ℕ) (latest whole : Times) → IsNumber b m → has m (numbers_in old) ≡ true →
+    ((k : ℕ) → has k (numbers_in new) ≡ (not (k == m) && has k (numbers_in old))) → later_times latest (gathered (λ i. has i (numbers_in old)) f (numbers b.block)) ≡ whole →
+    later_times (later_times latest (f m)) (gathered (λ i. has i (numbers_in new)) f (numbers b.block)) ≡ whole
+gathered-next b old new f m latest whole is_m marked others is =
+    times-assoc latest (f m) (gathered (λ i. has i (numbers_in new)) f (numbers b.block))
+    ∙ (ap (λ t. later_times latest t) (gathered-out (λ i. has i (numbers_in old)) (λ i. has i (numbers_in new)) f m marked (numbers b.block) (rising-among (length b.block) 1 m is_m.0 (omega (arith, is_m.1))) (λ k among. others k)) ∙ is)
 
-pub gathered-end : (b : Problem) (rest : Set) (f : ℕ → Times) (latest whole : Times) → ((k : ℕ) → is_marked rest k ≡ false) → later_times latest (gathered (is_marked rest) f (numbers b.block)) ≡ whole → latest ≡ whole
+pub gathered-end : (b : Problem) (rest : Set) (f : ℕ → Times) (latest whole : Times) → ((k : ℕ) → has k (numbers_in rest) ≡ false) → later_times latest (gathered (λ i. has i (numbers_in rest)) f (numbers b.block)) ≡ whole → latest ≡ whole
 gathered-end b rest f latest whole off is =
-    sym (times-none latest) ∙ (ap (λ t. later_times latest t) (sym (gathered-none (is_marked rest) f (numbers b.block) off)) ∙ is)
+    sym (times-none latest) ∙ (ap (λ t. later_times latest t) (sym (gathered-none (λ i. has i (numbers_in rest)) f (numbers b.block) off)) ∙ is)
 
 -- the row of a number
 get_or-map : {X Y : Type 0} (f : X → Y) (xs : List X) (k : ℕ) (d : Y) (x : X) → k < length xs → get_or (map f xs) k d ≡ f (get_or xs k x)

@@ -10,15 +10,17 @@ use Rattle.s66_moments.specs.declared.fact_line.KnownArc.{KnownArc}
 use Rattle.s66_moments.specs.Facts.{IsNumber}
 use Rattle.s66_moments.specs.Networks.{Network}
 use Rattle.s66_moments.specs.Known.{is_number, are_rising, is_used, is_arc_up}
-use Rattle.s66_facts.specs.Marked.{is_marked, no_marks, is_in, before_in}
-use Rattle.s66_facts.specs.Ground.{Ground, IsOrdered}
+use Rattle.s66_isa.specs.Lists.{has}
+use Rattle.s66_isa.specs.Members.{numbers_in, no_set}
+use Rattle.s66_facts.specs.Marked.{is_in, before_in}
+use Rattle.s66_facts.specs.Ground.{Ground, IsAcyclic}
 use Rattle.s66_isa.proofs.Lists.{split-among}
 
 -- nothing stands before what isn't of the block
 pub outside : (g : Ground) (m n : ℕ) → length g.marks ≡ length g.problem.block → (is_number g.problem m && is_number g.problem n) ≡ false → before_in g.marks m n ≡ false
 outside g m n count off =
     let same : (is_in g.marks m && is_in g.marks n) ≡ (is_number g.problem m && is_number g.problem n) = ap (λ c. (leb 1 m && leb m c) && (leb 1 n && leb n c)) count in
-    and_left (is_in g.marks m && is_in g.marks n) (is_marked (get_or g.marks (n - 1) no_marks) m) (same ∙ off)
+    and_left (is_in g.marks m && is_in g.marks n) (has m (numbers_in (get_or g.marks (n - 1) no_set))) (same ∙ off)
 
 -- no number is left to be compared
 pub rising-end : (ns : List ℕ) (i : ℕ) → length ns ≤ i + 1 → are_rising (drop i ns) ≡ true
@@ -46,7 +48,7 @@ unused b arcs line kind time (n ∷ ns) off =
     ]
 
 -- all arcs lead up, with one more that does
-pub load-ordered : (g : Ground) (last : KnownArc) → IsOrdered g → last.wait ≤ 2 ^ 32 - 1 → is_arc_up g.problem (before_in g.marks) last.from last.to ≡ true → IsOrdered (record { problem = g.problem; marks = g.marks; loads = g.loads ++ last ∷ [] })
+pub load-ordered : (g : Ground) (last : KnownArc) → IsAcyclic g → last.wait ≤ 2 ^ 32 - 1 → is_arc_up g.problem (before_in g.marks) last.from last.to ≡ true → IsAcyclic (record { problem = g.problem; marks = g.marks; loads = g.loads ++ last ∷ [] })
 load-ordered g last ordered small up =
     record {
       few = ordered.few;

@@ -11,13 +11,15 @@ use Rattle.s66_moments.specs.Known.{is_arc_up}
 use Rattle.s66_moments.proofs.Rings.{pair-transitive, pair-no_ring}
 use Rattle.s66_moments.proofs.KnownLines.{up-pair}
 use Rattle.s66_isa.specs.declared.set.Set.{Set}
-use Rattle.s66_facts.specs.Marked.{is_marked, before_in}
-use Rattle.s66_facts.specs.Ground.{Ground, IsOrdered, known_of}
+use Rattle.s66_isa.specs.Lists.{has}
+use Rattle.s66_isa.specs.Members.{numbers_in}
+use Rattle.s66_facts.specs.Marked.{before_in}
+use Rattle.s66_facts.specs.Ground.{Ground, IsAcyclic, known_of}
 use Rattle.s66_facts.proofs.Covered.{before-range}
 use Rattle.s66_facts.proofs.Settled.{or-no, or-yes}
 use Rattle.s66_facts.proofs.NearEach.{at, apart-marked, pair-more, turned-pair, turned-ring}
 
-pub pair-ordered : (g : Ground) (marks : List Set) (m n : ℕ) → IsOrdered g → length marks ≡ length g.marks → before_in marks ≡ with_pair (before_in g.marks) m n → IsNumber g.problem m → IsNumber g.problem n → m ≢ n → before_in g.marks n m ≡ false → IsOrdered (record { problem = g.problem; marks = marks; loads = g.loads })
+pub pair-ordered : (g : Ground) (marks : List Set) (m n : ℕ) → IsAcyclic g → length marks ≡ length g.marks → before_in marks ≡ with_pair (before_in g.marks) m n → IsNumber g.problem m → IsNumber g.problem n → m ≢ n → before_in g.marks n m ≡ false → IsAcyclic (record { problem = g.problem; marks = marks; loads = g.loads })
 pair-ordered g marks m n ordered count is is_m is_n differ off =
     record {
       few = ordered.few;
@@ -30,30 +32,40 @@ pair-ordered g marks m n ordered count is is_m is_n differ off =
 
 -- AS IT IS KEPT, with a pair more
 
-module _ (g : Ground) (ordered : IsOrdered g) (m n : ℕ) (is_m : IsNumber g.problem m) (is_n : IsNumber g.problem n) (differ : m ≢ n) (off : before_in g.marks n m ≡ false)
-    (marks : List Set) (count : length marks ≡ length g.marks) (pairs : before_in marks ≡ with_pair (before_in g.marks) m n) where
-  pub its-order : IsOrdered (record { problem = g.problem; marks = marks; loads = g.loads })
-  its-order = pair-ordered g marks m n ordered count pairs is_m is_n differ off
+-- now as others see it; what stands before each number is `marks` then, and what stands after it was `after` and is `after2`
+pub record IsPairTaken (g now : Ground) (after marks after2 : List Set) : Type 0 where
+  pub order : IsAcyclic (record { problem = g.problem; marks = marks; loads = g.loads })
+  pub apart : (k : ℕ) → IsNumber now.problem k → has k (numbers_in (at marks k)) ≡ false
+  pub more : (i j : ℕ) → before_in g.marks i j ≡ true → before_in marks i j ≡ true
+  pub turned : (i j : ℕ) → before_in after2 j i ≡ before_in marks i j
+  pub after_count : length after2 ≡ length g.problem.block
+  pub after_apart : (k : ℕ) → IsNumber now.problem k → has k (numbers_in (at after2 k)) ≡ false
+  pub after_more : (i j : ℕ) → before_in after i j ≡ true → before_in after2 i j ≡ true
 
-  pub its-apart : (k : ℕ) → IsNumber g.problem k → is_marked (at marks k) k ≡ false
-  its-apart = apart-marked g.problem marks its-order.count its-order.no_ring
-
-  pub its-more : (i j : ℕ) → before_in g.marks i j ≡ true → before_in marks i j ≡ true
-  its-more = pair-more g.marks marks m n pairs
-
-  module _ (after after2 : List Set) (count_after : length after ≡ length g.problem.block) (count_after2 : length after2 ≡ length after) (turned : (i j : ℕ) → before_in after j i ≡ before_in g.marks i j) (pairs_after : before_in after2 ≡ with_pair (before_in after) n m) where
-    pub after-turned : (i j : ℕ) → before_in after2 j i ≡ before_in marks i j
-    after-turned = turned-pair g.problem g.marks after ordered.count count_after marks after2 m n turned pairs pairs_after
-
-    pub after-apart : (k : ℕ) → IsNumber g.problem k → is_marked (at after2 k) k ≡ false
-    after-apart = apart-marked g.problem after2 (count_after2 ∙ count_after) (turned-ring g.problem marks after2 after-turned its-order.no_ring)
-
-    pub after-more : (i j : ℕ) → before_in after i j ≡ true → before_in after2 i j ≡ true
-    after-more = pair-more after after2 n m pairs_after
+pub pair-taken : (g now : Ground) → g ≡ now → (m n : ℕ) (after slice slice2 marks after2 : List Set) → IsAcyclic g → length after ≡ length g.problem.block → ((i j : ℕ) → before_in after j i ≡ before_in g.marks i j) →
+    IsNumber now.problem m → IsNumber now.problem n → m ≢ n → before_in now.marks n m ≡ false → slice ≡ g.marks → slice2 ≡ after →
+    length marks ≡ length slice → before_in marks ≡ with_pair (before_in slice) m n → length after2 ≡ length slice2 → before_in after2 ≡ with_pair (before_in slice2) n m → IsPairTaken g now after marks after2
+pair-taken g now same m n after slice slice2 marks after2 ordered count_after turned is_m is_n differ off is is2 count pairs count2 pairs2 =
+    let its : (k : ℕ) → IsNumber now.problem k → IsNumber g.problem k = λ k is_k. subst (λ (o : Ground). IsNumber o.problem k) (sym same) is_k in
+    let its_off : before_in g.marks n m ≡ false = subst (λ (o : Ground). before_in o.marks n m ≡ false) (sym same) off in
+    let its_pairs : before_in marks ≡ with_pair (before_in g.marks) m n = pairs ∙ ap (λ (ms : List Set). with_pair (before_in ms) m n) is in
+    let after_pairs : before_in after2 ≡ with_pair (before_in after) n m = pairs2 ∙ ap (λ (ms : List Set). with_pair (before_in ms) n m) is2 in
+    let after_count : length after2 ≡ length g.problem.block = count2 ∙ (ap (λ (ms : List Set). length ms) is2 ∙ count_after) in
+    let order : IsAcyclic (record { problem = g.problem; marks = marks; loads = g.loads }) = pair-ordered g marks m n ordered (count ∙ ap (λ (ms : List Set). length ms) is) its_pairs (its m is_m) (its n is_n) differ its_off in
+    let now_turned : (i j : ℕ) → before_in after2 j i ≡ before_in marks i j = turned-pair g.problem g.marks after ordered.count count_after marks after2 m n turned its_pairs after_pairs in
+    record {
+      order = order;
+      apart = λ k is_k. apart-marked g.problem marks order.count order.no_ring k (its k is_k);
+      more = pair-more g.marks marks m n its_pairs;
+      turned = now_turned;
+      after_count = after_count;
+      after_apart = λ k is_k. apart-marked g.problem after2 after_count (turned-ring g.problem marks after2 now_turned order.no_ring) k (its k is_k);
+      after_more = pair-more after after2 n m after_pairs;
+    }
 
 -- A PAIR THAT IS KNOWN says nothing new
 
-module _ (g : Ground) (ordered : IsOrdered g) (m n : ℕ) (is_m : IsNumber g.problem m) (is_n : IsNumber g.problem n) (first : before_in g.marks m n ≡ true) where
+module _ (g : Ground) (ordered : IsAcyclic g) (m n : ℕ) (is_m : IsNumber g.problem m) (is_n : IsNumber g.problem n) (first : before_in g.marks m n ≡ true) where
   abbrev before : ℕ → ℕ → Bool
   before = before_in g.marks
 

@@ -1,5 +1,6 @@
 -- The time of a moment by arcs from the stages of a number, its results in the order of its row.
 use Rattle.std.proofs.Common.{ℕ, ◌+◌, ◌≤◌, ◌<◌, ◌≡◌, Bool, true, false, true≢false, cond, List, [], ◌∷◌, length, refl, sym, ap, arith, inl, inr, ◌∙◌, subst, Option, Some, None}
+use Rattle.std.proofs.Math.Path.{fun_ext}
 use Rattle.std.proofs.lemmas.Bool.{or_cases, or_left, or_right}
 use Rattle.s66_isa.specs.declared.reg.Reg.{Reg}
 use Rattle.s66_isa.specs.Lists.{some_of, Among}
@@ -14,7 +15,7 @@ use Rattle.s66_moments.specs.declared.moment.Moment.TheVariants.{At}
 use Rattle.s66_moments.specs.Moments.{has_stage, latency_to, only_if}
 use Rattle.s66_moments.specs.Known.{later, latest}
 use Rattle.s66_moments.proofs.TableArcs.{Some-same, None-none}
-use Rattle.s66_moments.proofs.Spans.{height, later-left, later-right, latest-high}
+use Rattle.s66_moments.proofs.Spans.{height, height-same, later-left, later-right, latest-high}
 use Rattle.s66_facts.specs.declared.times.Times.{Times}
 use Rattle.s66_facts.specs.Passes.{add, when, no_times, later_times, latest_done, latest_result, gathered, AreResults, AreTimes}
 use Rattle.s66_facts.proofs.Edges.{later-low, latest-low, when-low, most_time, add-high, when-high}
@@ -141,9 +142,8 @@ add-zero None = refl
 add-zero (Some t) = ap (λ k. Some k) (omega arith)
 
 add-later : (o p : Option ℕ) (w : ℕ) → add (later o p) w ≡ later (add o w) (add p w)
-add-later None p w = refl
-add-later (Some s) None w = refl
 add-later (Some s) (Some t) w = ap (λ k. Some k) (omega arith)
+add-later _ _ w = refl
 
 add-when : (test : Bool) (o : Option ℕ) (w : ℕ) → add (when test o) w ≡ when test (add o w)
 add-when true o w = refl
@@ -165,9 +165,8 @@ pub alone-zero : (o p : Option ℕ) → p ≡ None → later (add o 0) p ≡ o
 alone-zero o p none = alone (add o 0) p none ∙ add-zero o
 
 pub results-none : (t : Times) (ws : List Write) → via_results (λ x. None) t ws ≡ None
-results-none t [] = refl
-results-none t (v ∷ []) = refl
 results-none t (v ∷ (w ∷ ws)) = refl
+results-none t _ = refl
 
 pub results-zero : (test : Reg → Bool) (t : Times) (ws : List Write) → via_results (λ x. only_if (test x) 0) t ws ≡ latest_done test t ws
 results-zero test t [] = refl
@@ -182,14 +181,13 @@ results-one test t (v ∷ (w ∷ ws)) =
     ∙ (ap (later (add (when (test v.reg) t.first) 1)) (via-if (test w.reg) t.second 1 ∙ sym (add-when (test w.reg) t.second 1)) ∙ sym (add-later (when (test v.reg) t.first) (when (test w.reg) t.second) 1))
 
 pub results-latency : (r : Row) (t : Times) (ws : List Write) → via_results (λ x. Some (latency_to r x)) t ws ≡ latest_result r t ws
-results-latency r t [] = refl
-results-latency r t (v ∷ []) = refl
 results-latency r t (v ∷ (w ∷ ws)) = refl
+results-latency r t _ = refl
 
 -- WHAT IS GATHERED, part by part
 
 module _ (test : ℕ → Bool) (f : ℕ → Times) where
-  part : (get : Times → Option ℕ) → get no_times ≡ None → ((s t : Times) → get (later_times s t) ≡ later (get s) (get t)) → (ms : List ℕ) → get (gathered test f ms) ≡ latest (λ m. when (test m) (get (f m))) ms
+  pub part : (get : Times → Option ℕ) → get no_times ≡ None → ((s t : Times) → get (later_times s t) ≡ later (get s) (get t)) → (ms : List ℕ) → get (gathered test f ms) ≡ latest (λ m. when (test m) (get (f m))) ms
   part get none joins [] = none
   part get none joins (m ∷ ms) =
       joins (cond {A = Times} (test m) (f m) no_times) (gathered test f ms)
@@ -199,21 +197,6 @@ module _ (test : ℕ → Bool) (f : ℕ → Times) where
       one true = refl
       one false = none
 
-  pub issue-part : (ms : List ℕ) → (gathered test f ms).issue ≡ latest (λ m. when (test m) (f m).issue) ms
-  issue-part ms = part (λ t. t.issue) refl (λ s t. refl) ms
-
-  pub start-part : (ms : List ℕ) → (gathered test f ms).start ≡ latest (λ m. when (test m) (f m).start) ms
-  start-part ms = part (λ t. t.start) refl (λ s t. refl) ms
-
-  pub free-part : (ms : List ℕ) → (gathered test f ms).free ≡ latest (λ m. when (test m) (f m).free) ms
-  free-part ms = part (λ t. t.free) refl (λ s t. refl) ms
-
-  pub first-part : (ms : List ℕ) → (gathered test f ms).first ≡ latest (λ m. when (test m) (f m).first) ms
-  first-part ms = part (λ t. t.first) refl (λ s t. refl) ms
-
-  pub second-part : (ms : List ℕ) → (gathered test f ms).second ≡ latest (λ m. when (test m) (f m).second) ms
-  second-part ms = part (λ t. t.second) refl (λ s t. refl) ms
-
 -- in all numbers that stand so
 pub all-high : (test : ℕ → Bool) (f : ℕ → Option ℕ) (m : ℕ) (ms : List ℕ) (w : ℕ) → Among m ms → test m ≡ true → w < height (f m) → w < height (latest (λ k. when (test k) (f k)) ms)
 all-high test f m ms w among stands high = latest-high (λ k. when (test k) (f k)) m ms w among (when-high (test m) (f m) w stands high)
@@ -222,14 +205,13 @@ pub all-low : (test : ℕ → Bool) (f : ℕ → Option ℕ) (ms : List ℕ) (h 
 all-low test f ms h each = latest-low (λ k. when (test k) (f k)) ms h (λ m among. when-low (test m) (f m) h (each m among))
 
 pub all-same : (test : ℕ → Bool) (f f2 : ℕ → Option ℕ) (ms : List ℕ) → ((m : ℕ) → f m ≡ f2 m) → latest (λ m. when (test m) (f m)) ms ≡ latest (λ m. when (test m) (f2 m)) ms
-all-same test f f2 [] same = refl
-all-same test f f2 (m ∷ ms) same =
-    ap (λ o. later (when (test m) o) (latest (λ k. when (test k) (f k)) ms)) (same m) ∙ ap (later (when (test m) (f2 m))) (all-same test f f2 ms same)
+all-same test f f2 ms same = ap (λ g. latest (λ m. when (test m) (g m)) ms) (fun_ext same)
 
 pub none-gathered : (test : ℕ → Bool) (ms : List ℕ) → latest (λ m. when (test m) None) ms ≡ None
-none-gathered test [] = refl
-none-gathered test (m ∷ ms) = ap (λ o. later o (latest (λ k. when (test k) None) ms)) (one (test m)) ∙ none-gathered test ms
-  where
-    one : (passes : Bool) → when passes None ≡ None
-    one true = refl
-    one false = refl
+none-gathered test ms = height-same (latest (λ m. when (test m) None) ms) None (omega (arith, all-low test (λ m. None) ms 0 (λ m among is. omega arith)))
+
+-- results are right by the times of these alone
+pub same-results : (time : Reg → Option ℕ) (s t : Times) (ws : List Write) → s.first ≡ t.first → s.second ≡ t.second → AreResults time t ws → AreResults time s ws
+same-results time s t [] one two are = tt
+same-results time s t (v ∷ []) one two are = one ∙ are
+same-results time s t (v ∷ (w ∷ ws)) one two are = (one ∙ are.0, two ∙ are.1)

@@ -13,9 +13,8 @@ all_same s t =
 
 option-same : (o p : Option ℕ) → same o p ≡ true → o ≡ p
 option-same None None is = refl
-option-same None (Some q) is = absurd (true≢false (sym is))
-option-same (Some p) None is = absurd (true≢false (sym is))
 option-same (Some p) (Some q) is = ap Some (eqb-true p q is)
+option-same _ _ is = absurd (true≢false (sym is))
 
 option-self : (o : Option ℕ) → same o o ≡ true
 option-self None = refl

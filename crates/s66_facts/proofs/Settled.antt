@@ -1,9 +1,9 @@
 -- Times that are right if those of the others are: they stay so while another's times change or more is known, and all are right once all are so.
-use Rattle.std.proofs.Common.{ℕ, zero, suc, ◌-◌, ◌≤◌, ◌≡◌, ◌≢◌, ◌⊎◌, not, ◌||◌, ◌&&◌, ◌==◌, Bool, true, false, true≢false, cond, List, [], ◌∷◌, ◌++◌, length, set, refl, sym, ap, arith, inl, inr, ◌∙◌, subst, Option, None}
+use Rattle.std.proofs.Common.{ℕ, zero, suc, ◌-◌, ◌≤◌, ◌≡◌, ◌≢◌, ◌⊎◌, not, ◌||◌, ◌&&◌, ◌==◌, Bool, true, false, true≢false, List, [], ◌∷◌, ◌++◌, length, set, refl, sym, ap, arith, inl, inr, ◌∙◌, subst, Option, None}
 use Rattle.std.proofs.lemmas.Bool.{and_from, and_parts, and_left, and_right, or_cases, or_parts, or_left, or_right, not-true, cases_eq, cases_Bool, eqb-true}
 use Rattle.std.proofs.Math.Bool.{and_comm}
-use Rattle.s66_isa.specs.declared.limits.TheConstants.{BLOCK_LIMIT}
-use Rattle.s66_isa.specs.Table.{Write, numbers}
+use Rattle.std.proofs.Math.Path.{fun_ext}
+use Rattle.s66_isa.specs.Table.{Write}
 use Rattle.s66_model.specs.Timing.{Problem, row_at}
 use Rattle.s66_moments.specs.declared.moment.Stage.{Stage}
 use Rattle.s66_moments.specs.declared.moment.Stage.TheVariants.{Issue, Start, Done}
@@ -19,10 +19,12 @@ use Rattle.s66_facts.specs.declared.direction.Direction.{Direction}
 use Rattle.s66_facts.specs.declared.direction.Direction.TheVariants.{Forward, Backward}
 use Rattle.s66_isa.specs.declared.set.Set.{Set}
 use Rattle.s66_facts.specs.declared.times.Times.{Times}
-use Rattle.s66_facts.specs.Marked.{is_marked, before_in}
-use Rattle.s66_facts.specs.Ground.{Ground, known_of, IsOrdered}
+use Rattle.s66_isa.specs.Lists.{has}
+use Rattle.s66_isa.specs.Members.{numbers_in}
+use Rattle.s66_facts.specs.Marked.{before_in}
+use Rattle.s66_facts.specs.Ground.{Ground, known_of, IsAcyclic}
 use Rattle.s66_facts.specs.Directions.{source, can_begin, sooner, rank, arc_start, arc_end, span_along}
-use Rattle.s66_facts.specs.Passes.{add, when, no_times, later_times, times_at, gathered, time_along, by_arc, by_loads, by_one, by_all, all_moments, times_of, AreResults, AreTimes}
+use Rattle.s66_facts.specs.Passes.{add, when, times_at, time_along, by_arc, by_loads, by_all, all_moments, times_of, AreResults, AreTimes}
 use Rattle.s66_facts.specs.Settled.{AreAll, IsStep, AreSettled, keeps}
 use Rattle.s66_facts.proofs.Latest.{later-none}
 use Rattle.s66_facts.proofs.Covered.{IsNearBy, all-near, sooner-number}
@@ -31,18 +33,6 @@ use Rattle.s66_facts.proofs.TailLaw.{tails-are}
 use Rattle.s66_facts.proofs.Told.{set-same, set-other, rank-less, rank-range}
 
 -- WHAT IS GATHERED is the same if its parts are
-
-gathered-same : (test test2 : ℕ → Bool) (f f2 : ℕ → Times) (ms : List ℕ) → ((m : ℕ) → test m ≡ test2 m) → ((m : ℕ) → test m ≡ true → f m ≡ f2 m) → gathered test f ms ≡ gathered test2 f2 ms
-gathered-same test test2 f f2 [] tests agree = refl
-gathered-same test test2 f f2 (m ∷ ms) tests agree =
-    ap (λ t. later_times t (gathered test f ms)) (one (test m) (test2 m) (tests m) (agree m))
-    ∙ ap (later_times (cond {A = Times} (test2 m) (f2 m) no_times)) (gathered-same test test2 f f2 ms tests agree)
-  where
-    one : (t t2 : Bool) → t ≡ t2 → (t ≡ true → f m ≡ f2 m) → cond {A = Times} t (f m) no_times ≡ cond {A = Times} t2 (f2 m) no_times
-    one true true same is = is refl
-    one false false same is = refl
-    one true false same is = absurd (true≢false same)
-    one false true same is = absurd (true≢false (sym same))
 
 latest-more : (f : KnownArc → Option ℕ) (loads : List KnownArc) (last : KnownArc) → f last ≡ None → latest f (loads ++ last ∷ []) ≡ latest f loads
 latest-more f [] last none = later-none (f last) ∙ none
@@ -63,18 +53,18 @@ step-by d b marks marks2 loads loads2 e times k gathers leads =
     ∙ (ap (λ o. all_moments d b e k others2 o (by_loads d loads times e (At k Start))) (leads Issue (inl refl)) ∙ ap (all_moments d b e k others2 (by_loads d loads2 times e (At k Issue))) (leads Start (inr refl)))
 
 -- by all of the number that comes sooner, and by loads
-pub times-are : (d : Direction) (g : Ground) → IsOrdered g → (e : Moment) → can_begin d e ≡ true → (times : List Times) (n : ℕ) → IsNumber g.problem n → (near : ℕ → Bool) → IsNearBy g.problem (sooner d (before_in g.marks)) near n →
+pub times-are : (d : Direction) (g : Ground) → IsAcyclic g → (e : Moment) → can_begin d e ≡ true → (times : List Times) (n : ℕ) → IsNumber g.problem n → (near : ℕ → Bool) → IsNearBy g.problem (sooner d (before_in g.marks)) near n →
     ((m : ℕ) → IsNumber g.problem m → sooner d (before_in g.marks) m n ≡ true → AreTimes g.problem (span_along d g e) m (times_at times m)) → AreTimes g.problem (span_along d g e) n (times_of d g near e times n)
 times-are Forward g ordered e begins times n is_n near is_near known = heads-are g ordered e begins times n is_n near is_near known
 times-are Backward g ordered e begins times n is_n near is_near known = tails-are g ordered e begins times n is_n near is_near known
 
 -- A NUMBER SETTLED
 
-apart : (d : Direction) (g : Ground) → IsOrdered g → (n : ℕ) → IsNumber g.problem n → sooner d (before_in g.marks) n n ≡ false
+apart : (d : Direction) (g : Ground) → IsAcyclic g → (n : ℕ) → IsNumber g.problem n → sooner d (before_in g.marks) n n ≡ false
 apart Forward g ordered n is_n = ordered.no_ring n is_n
 apart Backward g ordered n is_n = ordered.no_ring n is_n
 
-module _ (d : Direction) (g : Ground) (ordered : IsOrdered g) (e : Moment) (times : List Times) (settled new : Set) (n : ℕ) (is_n : IsNumber g.problem n) (room : n ≤ length times) (time : Times) (right : IsStep d g e times n time) where
+module _ (d : Direction) (g : Ground) (ordered : IsAcyclic g) (e : Moment) (times : List Times) (settled new : Set) (n : ℕ) (is_n : IsNumber g.problem n) (room : n ≤ length times) (time : Times) (right : IsStep d g e times n time) where
   abbrev sooner_in : ℕ → ℕ → Bool
   sooner_in = sooner d (before_in g.marks)
 
@@ -82,23 +72,23 @@ module _ (d : Direction) (g : Ground) (ordered : IsOrdered g) (e : Moment) (time
   Are = AreTimes g.problem (span_along d g e)
 
   -- its times are the same
-  pub step-kept : time ≡ times_at times n → ((m : ℕ) → 1 ≤ m → is_marked new m ≡ (m == n || is_marked settled m)) → AreSettled d g e times settled → AreSettled d g e times new
+  pub step-kept : time ≡ times_at times n → ((m : ℕ) → has m (numbers_in new) ≡ (m == n || has m (numbers_in settled))) → AreSettled d g e times settled → AreSettled d g e times new
   step-kept same marked are k is_k now =
-      elim (or_cases (k == n) (is_marked settled k) (sym (marked k is_k.0) ∙ now)) [
+      elim (or_cases (k == n) (has k (numbers_in settled)) (sym (marked k) ∙ now)) [
         | inl here ↦ subst (λ i. IsStep d g e times i (times_at times i)) (sym (eqb-true k n here)) (subst (IsStep d g e times n) same right)
         | inr old ↦ are k is_k old
       ]
 
   -- they are others, and so is not settled what waits for them
-  module _ (touched rest : Set) (less : (m : ℕ) → 1 ≤ m → m ≤ BLOCK_LIMIT → is_marked rest m ≡ (is_marked settled m && not (is_marked touched m))) (marked : (m : ℕ) → 1 ≤ m → is_marked new m ≡ (m == n || is_marked rest m)) where
-    was-settled : (k : ℕ) → IsNumber g.problem k → is_marked rest k ≡ true → (is_marked settled k ≡ true) × (is_marked touched k ≡ false)
+  module _ (touched rest : Set) (less : (m : ℕ) → has m (numbers_in rest) ≡ (has m (numbers_in settled) && not (has m (numbers_in touched)))) (marked : (m : ℕ) → has m (numbers_in new) ≡ (m == n || has m (numbers_in rest))) where
+    was-settled : (k : ℕ) → IsNumber g.problem k → has k (numbers_in rest) ≡ true → (has k (numbers_in settled) ≡ true) × (has k (numbers_in touched) ≡ false)
     was-settled k is_k now =
-        let (old, off) = and_parts (is_marked settled k) (not (is_marked touched k)) (sym (less k is_k.0 (omega (arith, is_k.1, ordered.few))) ∙ now) in
-        (old, not-true (is_marked touched k) off)
+        let (old, off) = and_parts (has k (numbers_in settled)) (not (has k (numbers_in touched))) (sym (less k) ∙ now) in
+        (old, not-true (has k (numbers_in touched)) off)
 
-    or-other : (k : ℕ) → 1 ≤ k → k ≢ n → is_marked new k ≡ true → is_marked rest k ≡ true
-    or-other k one differ now =
-        elim (or_cases (k == n) (is_marked rest k) (sym (marked k one) ∙ now)) [
+    or-other : (k : ℕ) → k ≢ n → has k (numbers_in new) ≡ true → has k (numbers_in rest) ≡ true
+    or-other k differ now =
+        elim (or_cases (k == n) (has k (numbers_in rest)) (sym (marked k) ∙ now)) [
           | inl here ↦ absurd (differ (eqb-true k n here))
           | inr old ↦ old
         ]
@@ -107,14 +97,14 @@ module _ (d : Direction) (g : Ground) (ordered : IsOrdered g) (e : Moment) (time
     others : (m : ℕ) → 1 ≤ m → m ≢ n → times_at times m ≡ times_at (set times (n - 1) time) m
     others m one differ = sym (set-other times n m time is_n.0 one differ)
 
-    pub step-settled : ((m : ℕ) → IsNumber g.problem m → sooner_in n m ≡ true → is_marked touched m ≡ true) → AreSettled d g e times settled → AreSettled d g e (set times (n - 1) time) new
+    pub step-settled : ((m : ℕ) → IsNumber g.problem m → sooner_in n m ≡ true → has m (numbers_in touched) ≡ true) → AreSettled d g e times settled → AreSettled d g e (set times (n - 1) time) new
     step-settled after are k is_k now =
         elim (cases_eq k n) [
           | inl same ↦
               subst (λ i. IsStep d g e (set times (n - 1) time) i (times_at (set times (n - 1) time) i)) (sym same) (λ known.
               subst (Are n) (sym (set-same times n time is_n.0 room)) (right (λ m is_m first. old-known n (apart d g ordered n is_n) m is_m first (known m is_m first))))
           | inr differ ↦
-              let (old, off) = was-settled k is_k (or-other k is_k.0 differ now) in
+              let (old, off) = was-settled k is_k (or-other k differ now) in
               λ known.
               subst (Are k) (others k is_k.0 differ) (are k is_k old (λ m is_m first. old-known k (not-first k is_k off) m is_m first (known m is_m first)))
         ]
@@ -122,7 +112,7 @@ module _ (d : Direction) (g : Ground) (ordered : IsOrdered g) (e : Moment) (time
         old-known : (k : ℕ) → sooner_in n k ≡ false → (m : ℕ) → IsNumber g.problem m → sooner_in m k ≡ true → Are m (times_at (set times (n - 1) time) m) → Are m (times_at times m)
         old-known k off m is_m first are = subst (Are m) (sym (others m is_m.0 (λ same. true≢false (sym first ∙ (ap (λ i. sooner_in i k) same ∙ off))))) are
 
-        not-first : (k : ℕ) → IsNumber g.problem k → is_marked touched k ≡ false → sooner_in n k ≡ false
+        not-first : (k : ℕ) → IsNumber g.problem k → has k (numbers_in touched) ≡ false → sooner_in n k ≡ false
         not-first k is_k off =
             elim (cases_Bool (sooner_in n k)) [
               | inl first ↦ absurd (true≢false (sym (after k is_k first) ∙ off))
@@ -131,10 +121,10 @@ module _ (d : Direction) (g : Ground) (ordered : IsOrdered g) (e : Moment) (time
 
 -- WHAT IS MARKED stays so, but for what waits for others
 
-pub still-marked : (settled touched rest new : Set) (n : ℕ) → ((m : ℕ) → 1 ≤ m → m ≤ BLOCK_LIMIT → is_marked rest m ≡ (is_marked settled m && not (is_marked touched m))) → ((m : ℕ) → 1 ≤ m → is_marked new m ≡ (m == n || is_marked rest m)) →
-    (k : ℕ) → 1 ≤ k → k ≤ BLOCK_LIMIT → is_marked settled k ≡ true → is_marked touched k ≡ false → is_marked new k ≡ true
-still-marked settled touched rest new n less marked k low high now off =
-    marked k low ∙ or_right (k == n) (is_marked rest k) (less k low high ∙ and_from (is_marked settled k) (not (is_marked touched k)) now (ap not off))
+pub still-marked : (settled touched rest new : Set) (n : ℕ) → ((m : ℕ) → has m (numbers_in rest) ≡ (has m (numbers_in settled) && not (has m (numbers_in touched)))) → ((m : ℕ) → has m (numbers_in new) ≡ (m == n || has m (numbers_in rest))) →
+    (k : ℕ) → has k (numbers_in settled) ≡ true → has k (numbers_in touched) ≡ false → has k (numbers_in new) ≡ true
+still-marked settled touched rest new n less marked k now off =
+    marked k ∙ or_right (k == n) (has k (numbers_in rest)) (less k ∙ and_from (has k (numbers_in settled)) (not (has k (numbers_in touched))) now (ap not off))
 
 -- nothing is asked for that isn't so
 pub none-asked : (first settled : Bool) → (first ≡ true → settled ≡ true) → settled ≡ false → first ≡ false
@@ -143,7 +133,7 @@ none-asked true settled asks off = absurd (true≢false (sym (asks refl) ∙ off
 
 -- ALL SETTLED
 
-pub all-settled : (d : Direction) (g : Ground) → IsOrdered g → (e : Moment) (times : List Times) → ((n : ℕ) → IsNumber g.problem n → IsStep d g e times n (times_at times n)) → AreAll d g e times
+pub all-settled : (d : Direction) (g : Ground) → IsAcyclic g → (e : Moment) (times : List Times) → ((n : ℕ) → IsNumber g.problem n → IsStep d g e times n (times_at times n)) → AreAll d g e times
 all-settled d g ordered e times good n is_n = up-to (rank d g n) n is_n (omega arith)
   where
     up-to : (h n : ℕ) → IsNumber g.problem n → rank d g n ≤ h → AreTimes g.problem (span_along d g e) n (times_at times n)
@@ -192,15 +182,15 @@ module _ (b : Problem) (before : ℕ → ℕ → Bool) (transitive : IsTransitiv
 
 -- MORE KNOWN, by a graph of the same block
 
-module _ (d : Direction) (g g2 : Ground) (ordered : IsOrdered g) (ordered2 : IsOrdered g2) (problem : g2.problem ≡ g.problem) (e : Moment) (begins : can_begin d e ≡ true) (times : List Times) (all : AreAll d g e times) (settled : Set) where
+module _ (d : Direction) (g g2 : Ground) (ordered : IsAcyclic g) (ordered2 : IsAcyclic g2) (problem : g2.problem ≡ g.problem) (e : Moment) (begins : can_begin d e ≡ true) (times : List Times) (all : AreAll d g e times) (settled : Set) where
   abbrev again : Ground
   again = record { problem = g.problem; marks = g2.marks; loads = g2.loads }
 
-  ordered-again : IsOrdered again
-  ordered-again = subst (λ b. IsOrdered (record { problem = b; marks = g2.marks; loads = g2.loads })) problem ordered2
+  ordered-again : IsAcyclic again
+  ordered-again = subst (λ b. IsAcyclic (record { problem = b; marks = g2.marks; loads = g2.loads })) problem ordered2
 
   -- what one step gives is the same
-  same-steps : ((k : ℕ) → IsNumber g.problem k → is_marked settled k ≡ true → step_of d g.problem g.marks g.loads e times k ≡ step_of d g.problem g2.marks g2.loads e times k) → AreSettled d g2 e times settled
+  same-steps : ((k : ℕ) → IsNumber g.problem k → has k (numbers_in settled) ≡ true → step_of d g.problem g.marks g.loads e times k ≡ step_of d g.problem g2.marks g2.loads e times k) → AreSettled d g2 e times settled
   same-steps same =
       subst (λ b. AreSettled d (record { problem = b; marks = g2.marks; loads = g2.loads }) e times settled) (sym problem) (λ k is_k now known.
       as-good g.problem (span_along d g e) (span_along d again e) k (times_at times k) (step_of d g.problem g2.marks g2.loads e times k) (all k is_k)
@@ -229,11 +219,11 @@ module _ (d : Direction) (g g2 : Ground) (ordered : IsOrdered g) (ordered2 : IsO
         ∙ (ap (λ t. before k j || t) (and_comm (k == m || before k m) (j == n || before n j))
         ∙ pair-kept g.problem (λ i j. before j i) (λ i j k is_i is_j is_k first then. ordered.transitive k j i is_k is_j is_i then first) (sooner-number Backward g ordered) n m k is_n is_k keep j))
 
-    pub settled-with_pair : ((k : ℕ) → IsNumber g.problem k → is_marked settled k ≡ true → Keeps d k) → AreSettled d g2 e times settled
+    pub settled-with_pair : ((k : ℕ) → IsNumber g.problem k → has k (numbers_in settled) ≡ true → Keeps d k) → AreSettled d g2 e times settled
     settled-with_pair keeps =
         same-steps (λ k is_k now.
         step-by d g.problem g.marks g2.marks g.loads g2.loads e times k
-        (gathered-same (λ j. sooner d before j k) (λ j. sooner d (before_in g2.marks) j k) (by_one d g.problem times k) (by_one d g.problem times k) (numbers g.problem.block) (kept d k is_k (keeps k is_k now)) (λ j first. refl))
+        (ap (λ test. by_all d g.problem test times k) (fun_ext (kept d k is_k (keeps k is_k now))))
         (λ s which. ap (λ ls. by_loads d ls times e (At k s)) loads-same))
 
   -- an arc of a load more
@@ -246,7 +236,7 @@ module _ (d : Direction) (g g2 : Ground) (ordered : IsOrdered g) (ordered2 : IsO
           | inr is ↦ ap (λ i. same_moment h (At k i)) is ∙ start
         ]
 
-    pub settled-with_load : ((k : ℕ) → IsNumber g.problem k → is_marked settled k ≡ true → (same_moment (arc_end d last) (At k Issue) || same_moment (arc_end d last) (At k Start)) ≡ false) → AreSettled d g2 e times settled
+    pub settled-with_load : ((k : ℕ) → IsNumber g.problem k → has k (numbers_in settled) ≡ true → (same_moment (arc_end d last) (At k Issue) || same_moment (arc_end d last) (At k Start)) ≡ false) → AreSettled d g2 e times settled
     settled-with_load others =
         same-steps (λ k is_k now.
         step-by d g.problem g.marks g2.marks g.loads g2.loads e times k (ap (λ ms. by_all d g.problem (λ m. sooner d (before_in ms) m k) times k) (sym marks)) (λ s which.

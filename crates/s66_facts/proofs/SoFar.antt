@@ -1,20 +1,23 @@
 -- What stands before a number by dependence, found from the first number on.
-use Rattle.std.proofs.Common.{ℕ, ◌+◌, ◌-◌, ◌≤◌, ◌<◌, ◌≡◌, ◌⊎◌, ◌==◌, ◌||◌, Bool, true, false, true≢false, List, length, get_or, refl, sym, ap, arith, inl, inr, ltb, ◌∙◌, subst}
+use Rattle.std.proofs.Common.{ℕ, ◌+◌, ◌-◌, ◌≤◌, ◌<◌, ◌≡◌, ◌⊎◌, ◌==◌, ◌||◌, true, false, true≢false, List, length, get_or, refl, sym, ap, arith, inl, inr, ltb, ◌∙◌, subst}
 use Rattle.std.proofs.lemmas.Bool.{and_parts, or_cases, or_left, or_right, eqb-true, eq-eqb, ltb-true, cases_lt}
 use Rattle.s66_isa.specs.declared.instr.Instr.{Instr}
 use Rattle.s66_isa.specs.Table.{instr_at}
 use Rattle.s66_model.specs.Dependence.{conflict, depends}
 use Rattle.s66_moments.specs.Networks.{precedes}
 use Rattle.s66_moments.proofs.Preceders.{precedes-near, precedes-far, precedes-cases}
+use Rattle.s66_facts.proofs.Each.{same-bool}
 use Rattle.s66_isa.specs.declared.set.Set.{Set}
-use Rattle.s66_facts.specs.Marked.{is_marked, no_marks, IsClosedUpTo}
+use Rattle.s66_isa.specs.Lists.{has}
+use Rattle.s66_isa.specs.Members.{numbers_in, no_set}
+use Rattle.s66_facts.specs.Marked.{IsClosedUpTo}
 
 -- what the numbers up to one give
 pub record IsSoFar (block : List Instr) (n count : ℕ) (sooner : Set) : Type 0 where
-  pub right : (m : ℕ) → 1 ≤ m → is_marked sooner m ≡ true → precedes block m n ≡ true
-  pub whole : (k m : ℕ) → 1 ≤ k → k ≤ count → 1 ≤ m → depends block k n ≡ true → ((m ≡ k) ⊎ (precedes block m k ≡ true)) → is_marked sooner m ≡ true
+  pub right : (m : ℕ) → 1 ≤ m → has m (numbers_in sooner) ≡ true → precedes block m n ≡ true
+  pub whole : (k m : ℕ) → 1 ≤ k → k ≤ count → 1 ≤ m → depends block k n ≡ true → ((m ≡ k) ⊎ (precedes block m k ≡ true)) → has m (numbers_in sooner) ≡ true
 
-pub so_far-none : (block : List Instr) (n : ℕ) (none : Set) → ((m : ℕ) → is_marked none m ≡ false) → IsSoFar block n 0 none
+pub so_far-none : (block : List Instr) (n : ℕ) (none : Set) → ((m : ℕ) → has m (numbers_in none) ≡ false) → IsSoFar block n 0 none
 so_far-none block n none off =
     record {
       right = λ m one is. absurd (true≢false (sym is ∙ off m));
@@ -25,32 +28,32 @@ module _ (block : List Instr) (n count : ℕ) (old : Set) (high_n : n ≤ length
   abbrev k : ℕ
   k = count + 1
 
-  pub so_far-more : (own both new : Set) → depends block k n ≡ true → IsSoFar block n count old → ((m : ℕ) → 1 ≤ m → is_marked own m ≡ precedes block m k) → ((m : ℕ) → is_marked both m ≡ (is_marked old m || is_marked own m)) → ((m : ℕ) → 1 ≤ m → is_marked new m ≡ (m == k || is_marked both m)) → IsSoFar block n (count + 1) new
+  pub so_far-more : (own both new : Set) → depends block k n ≡ true → IsSoFar block n count old → ((m : ℕ) → 1 ≤ m → has m (numbers_in own) ≡ precedes block m k) → ((m : ℕ) → has m (numbers_in both) ≡ (has m (numbers_in old) || has m (numbers_in own))) → ((m : ℕ) → 1 ≤ m → has m (numbers_in new) ≡ (m == k || has m (numbers_in both))) → IsSoFar block n (count + 1) new
   so_far-more own both new dep so own_is both_is new_is = record { right = right; whole = whole }
     where
-      right : (m : ℕ) → 1 ≤ m → is_marked new m ≡ true → precedes block m n ≡ true
+      right : (m : ℕ) → 1 ≤ m → has m (numbers_in new) ≡ true → precedes block m n ≡ true
       right m one is =
-          elim (or_cases (m == k) (is_marked both m) (sym (new_is m one) ∙ is)) [
+          elim (or_cases (m == k) (has m (numbers_in both)) (sym (new_is m one) ∙ is)) [
             | inl same ↦ precedes-near block m n (subst (λ j. depends block j n ≡ true) (sym (eqb-true m k same)) dep)
             | inr more ↦
-                elim (or_cases (is_marked old m) (is_marked own m) (sym (both_is m) ∙ more)) [
+                elim (or_cases (has m (numbers_in old)) (has m (numbers_in own)) (sym (both_is m) ∙ more)) [
                   | inl was ↦ so.right m one was
                   | inr its ↦ precedes-far block m k n high_n (sym (own_is m one) ∙ its) dep
                 ]
           ]
 
-      old-new : (m : ℕ) → 1 ≤ m → is_marked old m ≡ true → is_marked new m ≡ true
-      old-new m one is = new_is m one ∙ or_right (m == k) (is_marked both m) (both_is m ∙ or_left (is_marked old m) (is_marked own m) is)
+      old-new : (m : ℕ) → 1 ≤ m → has m (numbers_in old) ≡ true → has m (numbers_in new) ≡ true
+      old-new m one is = new_is m one ∙ or_right (m == k) (has m (numbers_in both)) (both_is m ∙ or_left (has m (numbers_in old)) (has m (numbers_in own)) is)
 
-      whole : (j m : ℕ) → 1 ≤ j → j ≤ k → 1 ≤ m → depends block j n ≡ true → ((m ≡ j) ⊎ (precedes block m j ≡ true)) → is_marked new m ≡ true
+      whole : (j m : ℕ) → 1 ≤ j → j ≤ k → 1 ≤ m → depends block j n ≡ true → ((m ≡ j) ⊎ (precedes block m j ≡ true)) → has m (numbers_in new) ≡ true
       whole j m low high one dep_j way =
           elim (cases_lt j k) [
             | inl less ↦ old-new m one (so.whole j m low (omega (arith, less)) one dep_j way)
             | inr ge ↦
                 let same : j ≡ k = omega (arith, high, ge) in
                 elim way [
-                  | inl is_j ↦ new_is m one ∙ or_left (m == k) (is_marked both m) (eq-eqb m k (is_j ∙ same))
-                  | inr first ↦ new_is m one ∙ or_right (m == k) (is_marked both m) (both_is m ∙ or_right (is_marked old m) (is_marked own m) (own_is m one ∙ subst (λ i. precedes block m i ≡ true) same first))
+                  | inl is_j ↦ new_is m one ∙ or_left (m == k) (has m (numbers_in both)) (eq-eqb m k (is_j ∙ same))
+                  | inr first ↦ new_is m one ∙ or_right (m == k) (has m (numbers_in both)) (both_is m ∙ or_right (has m (numbers_in old)) (has m (numbers_in own)) (own_is m one ∙ subst (λ i. precedes block m i ≡ true) same first))
                 ]
           ]
 
@@ -64,14 +67,9 @@ module _ (block : List Instr) (n count : ℕ) (old : Set) (high_n : n ≤ length
         ];
       }
 
-same-bool : (x y : Bool) → (x ≡ true → y ≡ true) → (y ≡ true → x ≡ true) → x ≡ y
-same-bool true y there back = sym (there refl)
-same-bool false true there back = absurd (true≢false (sym (back refl)))
-same-bool false false there back = refl
-
-pub so_far-all : (block : List Instr) (n count : ℕ) (sooner : Set) → 1 ≤ n → n ≤ length block → n ≤ count + 1 → IsSoFar block n count sooner → (m : ℕ) → 1 ≤ m → is_marked sooner m ≡ precedes block m n
+pub so_far-all : (block : List Instr) (n count : ℕ) (sooner : Set) → 1 ≤ n → n ≤ length block → n ≤ count + 1 → IsSoFar block n count sooner → (m : ℕ) → 1 ≤ m → has m (numbers_in sooner) ≡ precedes block m n
 so_far-all block n count sooner low high all so m one =
-    same-bool (is_marked sooner m) (precedes block m n) (so.right m one) (λ first.
+    same-bool (has m (numbers_in sooner)) (precedes block m n) (so.right m one) (λ first.
     elim (precedes-cases block m n low high first) [
       | inl dep ↦
           let less : m < n = ltb-true m n (and_parts (ltb m n) (conflict (instr_at block m) (instr_at block n)) dep).0 in
@@ -80,7 +78,7 @@ so_far-all block n count sooner low high all so m one =
     ])
 
 -- those of one
-pub closed-at : (block : List Instr) (marks : List Set) (count i : ℕ) (own : Set) → IsClosedUpTo block marks count → i < count → own ≡ get_or marks i no_marks → (m : ℕ) → 1 ≤ m → is_marked own m ≡ precedes block m (i + 1)
+pub closed-at : (block : List Instr) (marks : List Set) (count i : ℕ) (own : Set) → IsClosedUpTo block marks count → i < count → own ≡ get_or marks i no_set → (m : ℕ) → 1 ≤ m → has m (numbers_in own) ≡ precedes block m (i + 1)
 closed-at block marks count i own closed less there m one =
     let same : i ≡ i + 1 - 1 = omega arith in
-    ap (λ ms. is_marked ms m) (there ∙ ap (λ j. get_or marks j no_marks) same) ∙ closed (i + 1) m (omega arith) (omega (arith, less)) one
+    ap (λ ms. has m (numbers_in ms)) (there ∙ ap (λ j. get_or marks j no_set) same) ∙ closed (i + 1) m (omega arith) (omega (arith, less)) one

@@ -1,5 +1,5 @@
 -- Longest paths up to a moment: those from the moments of a number, by those of all that stands after it.
-use Rattle.std.proofs.Common.{ℕ, ◌+◌, ◌≤◌, ◌≡◌, not, Bool, true, List, [], ◌∷◌, refl, sym, ap, arith, inl, inr, ◌∙◌, Option, Some, None}
+use Rattle.std.proofs.Common.{ℕ, ◌+◌, ◌≤◌, ◌≡◌, not, Bool, true, List, refl, sym, ap, arith, inl, inr, ◌∙◌, Option, Some, None}
 use Rattle.std.proofs.lemmas.Bool.{or_left, or_right}
 use Rattle.s66_isa.specs.declared.reg.Reg.{Reg}
 use Rattle.s66_isa.specs.Table.{Write, has_reg, memory_pair, numbers}
@@ -17,16 +17,16 @@ use Rattle.s66_moments.proofs.Spans.{height-some, some-height}
 use Rattle.s66_facts.specs.declared.direction.Direction.TheVariants.{Backward}
 use Rattle.s66_facts.specs.declared.times.Times.{Times}
 use Rattle.s66_facts.specs.Marked.{before_in}
-use Rattle.s66_facts.specs.Ground.{Ground, ground_arcs, IsOrdered}
+use Rattle.s66_facts.specs.Ground.{Ground, ground_arcs, IsAcyclic}
 use Rattle.s66_facts.specs.Near.{uses, covers}
 use Rattle.s66_facts.specs.Passes.{no_times, add, when, times_at, latest_done, share_unit, latest_result, start_before, done_before, before_one, by_loads, by_all, tail_free, tail_done, tail_results, tail_start, tail_issue, times_of, AreResults, AreTimes}
 use Rattle.s66_facts.proofs.Latest.{later-assoc}
 use Rattle.s66_facts.proofs.Edges.{later-cases, is-stage, step, later_along, own-edge, later-edge}
 use Rattle.s66_facts.proofs.Walks.{Walk, IsHop, by-itself, by-others, results-go}
 use Rattle.s66_facts.proofs.Covered.{IsNearBy, covers-first, covers-second, covers-unit-back, covers-memory-back, if-only}
-use Rattle.s66_facts.proofs.Results.{issue-part, start-part, free-part, first-part, second-part, via, via_results, by_stages, via-if, via-zero, alone, alone-zero, results-none, results-one, results-latency, all-same}
+use Rattle.s66_facts.proofs.Results.{part, same-results, via, via_results, by_stages, via-if, via-zero, alone, alone-zero, results-none, results-one, results-latency, all-same}
 
-module _ (g : Ground) (ordered : IsOrdered g) (f : Moment) (last : is_back f ≡ true) (times : List Times) (n : ℕ) (is_n : IsNumber g.problem n) (near : ℕ → Bool) (is_near : IsNearBy g.problem (λ m k. before_in g.marks k m) near n) where
+module _ (g : Ground) (ordered : IsAcyclic g) (f : Moment) (last : is_back f ≡ true) (times : List Times) (n : ℕ) (is_n : IsNumber g.problem n) (near : ℕ → Bool) (is_near : IsNearBy g.problem (λ m k. before_in g.marks k m) near n) where
   abbrev b : Problem
   b = g.problem
 
@@ -165,7 +165,7 @@ module _ (g : Ground) (ordered : IsOrdered g) (f : Moment) (last : is_back f ≡
     free-is : free ≡ S (At n Free)
     free-is =
         by-others walk near-hop Free refl no_times (record { issue = λ v is. absurd (None-none v is); start = λ v is. absurd (None-none v is); free = λ v is. absurd (None-none v is); results = λ x v is. absurd (None-none v is) }) refl refl None before_these.free
-        (sym (results-none no_times its_writes)) (free-part near (before_one b times n) all ∙ all-same near (λ m. when (share_unit b n m) (T m).issue) (to_one Free) all free-one)
+        (sym (results-none no_times its_writes)) (part near (before_one b times n) (λ t. t.free) refl (λ s t. refl) all ∙ all-same near (λ m. when (share_unit b n m) (T m).issue) (to_one Free) all free-one)
 
     abbrev results : Times
     results = tail_results b f n before_these free
@@ -182,7 +182,7 @@ module _ (g : Ground) (ordered : IsOrdered g) (f : Moment) (last : is_back f ≡
     results-are : AreResults (λ x. S (At n (Done x))) results its_writes
     results-are =
         results-go (λ x. S (At n (Done x))) near all (λ m. done_before b m (T m)) (tail_done b f n free) its_writes before_these.first before_these.second results done-is
-        (first-part near (before_one b times n) all) (second-part near (before_one b times n) all) refl refl
+        (part near (before_one b times n) (λ t. t.first) refl (λ s t. refl) all) (part near (before_one b times n) (λ t. t.second) refl (λ s t. refl) all) refl refl
 
     abbrev start : Option ℕ
     start = tail_start b f n before_these results (by_loads Backward g.loads times f (At n Start))
@@ -196,7 +196,7 @@ module _ (g : Ground) (ordered : IsOrdered g) (f : Moment) (last : is_back f ≡
         later-assoc itself by_unit (later made rest)
         ∙ (ap (later itself) (sym (later-assoc by_unit made rest))
         ∙ by-itself walk near-hop Start refl results (record { issue = λ v is. absurd (None-none v is); start = λ v is. absurd (None-none v is); free = λ v is. free-is; results = λ x v is. results-are }) refl (later by_unit made) before_these.start
-        (ap (later by_unit) (sym (results-latency (row_at b n) results its_writes))) (start-part near (before_one b times n) all ∙ all-same near (λ m. start_before b n m (T m)) (to_one Start) all start-one))
+        (ap (later by_unit) (sym (results-latency (row_at b n) results its_writes))) (part near (before_one b times n) (λ t. t.start) refl (λ s t. refl) all ∙ all-same near (λ m. start_before b n m (T m)) (to_one Start) all start-one))
 
     abbrev with_start : Times
     with_start = record { issue = None; start = start; free = None; first = None; second = None }
@@ -205,12 +205,7 @@ module _ (g : Ground) (ordered : IsOrdered g) (f : Moment) (last : is_back f ≡
     issue-is =
         later-assoc (only_if (same_moment f (At n Issue)) 0) start (later before_these.issue (by_loads Backward g.loads times f (At n Issue)))
         ∙ by-itself walk near-hop Issue refl with_start (record { issue = λ v is. absurd (None-none v is); start = λ v is. start-is; free = λ v is. absurd (None-none v is); results = λ x v is. absurd (None-none v is) }) refl start before_these.issue
-        (sym (alone-zero start (via_results (λ x. None) with_start its_writes) (results-none with_start its_writes))) (issue-part near (before_one b times n) all ∙ all-same near (λ m. add (T m).issue (row_at b n).parcels) (to_one Issue) all issue-one)
+        (sym (alone-zero start (via_results (λ x. None) with_start its_writes) (results-none with_start its_writes))) (part near (before_one b times n) (λ t. t.issue) refl (λ s t. refl) all ∙ all-same near (λ m. add (T m).issue (row_at b n).parcels) (to_one Issue) all issue-one)
 
     pub tails-are : AreTimes b S n (times_of Backward g near f times n)
-    tails-are = record { issue = issue-is; start = start-is; free = free-is; results = whole-results (row_at b n).writes results-are }
-      where
-        whole-results : (ws : List Write) → AreResults (λ x. S (At n (Done x))) results ws → AreResults (λ x. S (At n (Done x))) (times_of Backward g near f times n) ws
-        whole-results [] are = tt
-        whole-results (v ∷ []) are = are
-        whole-results (v ∷ (w ∷ ws)) are = are
+    tails-are = record { issue = issue-is; start = start-is; free = free-is; results = same-results (λ x. S (At n (Done x))) (times_of Backward g near f times n) results its_writes refl refl results-are }

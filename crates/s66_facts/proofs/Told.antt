@@ -9,7 +9,7 @@ use Rattle.s66_facts.specs.declared.direction.Direction.{Direction}
 use Rattle.s66_facts.specs.declared.direction.Direction.TheVariants.{Forward, Backward}
 use Rattle.s66_facts.specs.declared.times.Times.{Times}
 use Rattle.s66_facts.specs.Marked.{before_in}
-use Rattle.s66_facts.specs.Ground.{Ground, IsOrdered}
+use Rattle.s66_facts.specs.Ground.{Ground, IsAcyclic}
 use Rattle.s66_facts.specs.Directions.{sooner, rank}
 use Rattle.s66_facts.specs.Settled.{nth_number}
 use Rattle.s66_facts.specs.Passes.{no_times, times_at}
@@ -26,7 +26,7 @@ set-other times n (suc i) t low one differ = get_or-set_other times (n - 1) i t 
 
 -- BY RANKS
 
-module _ (g : Ground) (ordered : IsOrdered g) where
+module _ (g : Ground) (ordered : IsAcyclic g) where
   abbrev place : ℕ → ℕ
   place = place_by g.problem (before_in g.marks)
 

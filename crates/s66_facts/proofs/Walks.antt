@@ -1,9 +1,8 @@
 -- Longest paths in a direction to the moments of a number, by those of all that comes sooner: what is true of each of its stages.
-use Rattle.std.proofs.Common.{ℕ, ◌+◌, ◌≤◌, ◌<◌, ◌≡◌, ◌⊎◌, Bool, true, false, true≢false, List, [], ◌∷◌, length, refl, sym, ap, arith, inl, inr, ◌∙◌, subst, Option, Some, None}
+use Rattle.std.proofs.Common.{ℕ, ◌+◌, ◌≤◌, ◌<◌, ◌≡◌, ◌⊎◌, Bool, true, false, true≢false, List, [], ◌∷◌, refl, sym, ap, arith, inl, inr, ◌∙◌, subst, Option, Some, None}
 use Rattle.s66_isa.specs.Lists.{Among}
 use Rattle.s66_isa.specs.declared.reg.Reg.{Reg}
 use Rattle.s66_isa.specs.Table.{Write, numbers}
-use Rattle.s66_isa.proofs.Lists.{rising-among, among-rising}
 use Rattle.s66_model.specs.Timing.{Problem, row_at}
 use Rattle.s66_moments.specs.declared.moment.Stage.{Stage}
 use Rattle.s66_moments.specs.declared.moment.Stage.TheVariants.{Issue, Start, Done, Free}
@@ -17,15 +16,16 @@ use Rattle.s66_moments.specs.Known.{later, latest, is_front, is_back, leads_up}
 use Rattle.s66_moments.proofs.TableArcs.{moment-parts, moment-number}
 use Rattle.s66_moments.proofs.MoreArcs.{same_moment-true, same_moment-self}
 use Rattle.s66_moments.proofs.KnownLines.{up-parts}
-use Rattle.s66_moments.proofs.Spans.{height, height-same, some-height, later-left, later-right, latest-high}
+use Rattle.s66_moments.proofs.Rings.{number-among, among-number}
+use Rattle.s66_moments.proofs.Spans.{same-high, height, height-same, some-height, later-left, later-right, latest-high}
 use Rattle.s66_facts.specs.declared.direction.Direction.{Direction}
 use Rattle.s66_facts.specs.declared.direction.Direction.TheVariants.{Forward, Backward}
 use Rattle.s66_facts.specs.declared.times.Times.{Times}
 use Rattle.s66_facts.specs.Marked.{before_in}
-use Rattle.s66_facts.specs.Ground.{Ground, ground_arcs, IsOrdered}
+use Rattle.s66_facts.specs.Ground.{Ground, ground_arcs, IsAcyclic}
 use Rattle.s66_facts.specs.Directions.{source, can_begin, sooner, arc_start, arc_end, arcs_along, span_along}
 use Rattle.s66_facts.specs.Passes.{add, when, times_at, first_of, second_of, time_along, by_arc, by_loads, AreResults, AreTimes}
-use Rattle.s66_facts.proofs.Edges.{later-low, latest-low, when-low, only_if-low, most_time, add-high, when-high, same-high, between, HasArc, own_along, later_along, is_reached, span-fits, none-high, last-arc, step, step-low, to-source, load-arc, own-edge, later-edge, source-edge, leads}
+use Rattle.s66_facts.proofs.Edges.{later-low, latest-low, when-low, only_if-low, most_time, add-high, when-high, between, HasArc, own_along, later_along, is_reached, span-fits, none-high, last-arc, step, step-low, to-source, load-arc, own-edge, later-edge, source-edge, leads}
 use Rattle.s66_facts.proofs.Covered.{IsNearBy}
 use Rattle.s66_facts.proofs.Results.{is_in, in-first, in-second, by_stages, IsRight, all-right, stages-high, stages-low, all-high, all-low, alone}
 
@@ -39,7 +39,7 @@ abbrev IsUp : Direction → (ℕ → ℕ → Bool) → Moment → Moment → Typ
 IsUp Forward before e f = leads_up before e f ≡ true
 IsUp Backward before e f = leads_up before f e ≡ true
 
-load-parts : (d : Direction) (g : Ground) → IsOrdered g → (l : KnownArc) → Among l g.loads →
+load-parts : (d : Direction) (g : Ground) → IsAcyclic g → (l : KnownArc) → Among l g.loads →
     (can_begin d (arc_start d l) ≡ true) × (is_moment g.problem (arc_start d l) ≡ true) × (can_end d (arc_end d l) ≡ true) × IsUp d (before_in g.marks) (arc_start d l) (arc_end d l)
 load-parts Forward g ordered l among = (let (is_f, is, is_b, is_to, up) = up-parts g.problem (before_in g.marks) l.from l.to (ordered.up l among) in (is_f, is, is_b, up))
 load-parts Backward g ordered l among = (let (is_f, is, is_b, is_to, up) = up-parts g.problem (before_in g.marks) l.from l.to (ordered.up l among) in (is_b, is_to, is_f, up))
@@ -48,7 +48,7 @@ load-parts Backward g ordered l among = (let (is_f, is, is_b, is_to, up) = up-pa
 pub record Walk : Type 0 where
   pub d : Direction
   pub g : Ground
-  pub ordered : IsOrdered g
+  pub ordered : IsAcyclic g
   pub e : Moment
   pub begins : can_begin d e ≡ true
   pub times : List Times
@@ -66,15 +66,13 @@ at-start : (a : Walk) (d : Direction) (first : Option ℕ) (time : Moment → Op
 at-start a Forward first time Origin t begins known is_f is up = begins
 at-start a Forward first time (At k Issue) t begins known is_f is up = (known k (moment-number a.g.problem k Issue is) up).issue
 at-start a Forward first time (At k Start) t begins known is_f is up = (known k (moment-number a.g.problem k Start is) up).start
-at-start a Forward first time (At k (Done x)) t begins known is_f is up = absurd (true≢false (sym is_f))
-at-start a Forward first time (At k Free) t begins known is_f is up = absurd (true≢false (sym is_f))
-at-start a Forward first time End t begins known is_f is up = absurd (true≢false (sym is_f))
 at-start a Backward first time Origin t begins known is_b is up = absurd (true≢false (sym is_b))
 at-start a Backward first time (At k Issue) t begins known is_b is up = (known k (moment-number a.g.problem k Issue is) up).issue
 at-start a Backward first time (At k Start) t begins known is_b is up = (known k (moment-number a.g.problem k Start is) up).start
 at-start a Backward first time (At k (Done x)) t begins known is_b is up = absurd (true≢false (sym is_b))
 at-start a Backward first time (At k Free) t begins known is_b is up = absurd (true≢false (sym is_b))
 at-start a Backward first time End t begins known is_b is up = begins
+at-start a Forward first time _ t begins known is_f is up = absurd (true≢false (sym is_f))
 
 module _ (a : Walk) where
   abbrev b : Problem
@@ -86,14 +84,8 @@ module _ (a : Walk) where
   abbrev pub IsSooner : ℕ → Type 0
   IsSooner m = sooner a.d (before_in a.g.marks) m a.n ≡ true
 
-  pub number-among : (m : ℕ) → IsNumber b m → Among m (numbers b.block)
-  number-among m is = rising-among (length b.block) 1 m is.0 (omega (arith, is.1))
-
-  pub among-number : (m : ℕ) → Among m (numbers b.block) → IsNumber b m
-  among-number m among = (let (low, high) = among-rising (length b.block) 1 m among in (low, omega (arith, high)))
-
   pub stands : (m : ℕ) → Among m (numbers b.block) → a.near m ≡ true → IsSooner m
-  stands m among is = a.is_near.within m (among-number m among) is
+  stands m among is = a.is_near.within m (among-number b m among) is
 
   -- FROM WHERE ALL PATHS BEGIN, AND FROM ITSELF
 
@@ -234,7 +226,7 @@ module _ (a : Walk) where
         (λ s u v is_s arc_is first sum. later-right before rest w (later-left own (later others loads) w
         (stages-high b S a.n mine (λ s. own_along a.d (row_at b a.n) s t) right s u v w (moment-parts b a.n s is_s).1 arc_is first sum fits)))
         (λ k s u v is_k k_near sooner_k arc_is first sum. later-right before rest w (later-right own (later others loads) w (later-left others loads w
-        (all-high a.near other k (numbers b.block) w (number-among k (moment-number b k s is_k)) k_near
+        (all-high a.near other k (numbers b.block) w (number-among b k (moment-number b k s is_k)) k_near
         (stages-high b S k (times_at a.times k) (λ s. later_along a.d b k a.n s t) (its k (moment-number b k s is_k) sooner_k) s u v w (moment-parts b k s is_k).1 arc_is first sum fits)))))
         (λ l among to high. later-right before rest w (later-right own (later others loads) w (later-right others loads w high)))
 
@@ -249,7 +241,7 @@ module _ (a : Walk) where
         others-low : (m : ℕ) → Among m (numbers b.block) → a.near m ≡ true → height (other m) ≤ h
         others-low m among is =
             let first : IsSooner m = stands m among is in
-            let is_m : IsNumber b m = among-number m among in
+            let is_m : IsNumber b m = among-number b m among in
             stages-low b S m (times_at a.times m) (λ s. later_along a.d b m a.n s t) (its m is_m first) h (λ s v is_s arc_is. step-low a.g a.ordered a.d a.e (At m s) (At a.n t) (S (At m s)) v refl (later-edge a.g a.ordered a.d m a.n is_m a.is_n first s t v is_s there arc_is))
 
     whole-is : whole ≡ S (At a.n t)

@@ -22,7 +22,7 @@ abbrev pub ground_arcs : Ground → Network
 ground_arcs g = arcs_of g.problem (known_of g)
 
 -- what is known forms no ring
-pub record IsOrdered (g : Ground) : Type 0 where
+pub record IsAcyclic (g : Ground) : Type 0 where
   pub few : length g.problem.block ≤ BLOCK_LIMIT
   pub count : length g.marks ≡ length g.problem.block
   pub transitive : IsTransitive g.problem (before_in g.marks)

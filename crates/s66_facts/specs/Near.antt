@@ -1,6 +1,5 @@
 -- Used by contracts: which of the numbers that stand before one, or after it, decide its times: each other one has what is asked of it handed on by one between.
-use Rattle.std.specs.Prelude.{ℕ, ◌-◌, ◌≡◌, ◌≤◌, ◌⊎◌, Bool, true, not, ◌||◌, ◌&&◌, List, length, map, get_or}
-use Rattle.s66_isa.specs.declared.limits.TheConstants.{BLOCK_LIMIT}
+use Rattle.std.specs.Prelude.{ℕ, ◌-◌, ◌≡◌, ◌⊎◌, Bool, true, not, ◌||◌, ◌&&◌, List, length, map, get_or}
 use Rattle.s66_isa.specs.declared.instr.Instr.{Instr}
 use Rattle.s66_isa.specs.declared.profile.Profile.{Profile}
 use Rattle.s66_isa.specs.declared.reg.Reg.{Reg}
@@ -11,8 +10,10 @@ use Rattle.s66_moments.specs.declared.fact_line.KnownArc.{KnownArc}
 use Rattle.s66_moments.specs.Moments.{writes}
 use Rattle.s66_moments.specs.Facts.{IsNumber}
 use Rattle.s66_isa.specs.declared.set.Set.{Set}
-use Rattle.s66_facts.specs.Marked.{is_marked, no_marks, before_in}
-use Rattle.s66_facts.specs.Ground.{IsOrdered}
+use Rattle.s66_isa.specs.Lists.{has}
+use Rattle.s66_isa.specs.Members.{numbers_in, no_set}
+use Rattle.s66_facts.specs.Marked.{before_in}
+use Rattle.s66_facts.specs.Ground.{IsAcyclic}
 use Rattle.s66_facts.specs.Passes.{share_unit}
 
 abbrev pub uses : Row → Reg → Bool
@@ -32,21 +33,21 @@ covers b m k n =
 
 -- by one that is marked
 abbrev pub IsCovered : Problem → (ℕ → ℕ → Bool) → Set → ℕ → ℕ → Type 0
-IsCovered b before near m n = (k : ℕ) × IsNumber b k × (is_marked near k ≡ true) × (before m k ≡ true) × (covers b m k n ≡ true)
+IsCovered b before near m n = (k : ℕ) × IsNumber b k × (has k (numbers_in near) ≡ true) × (before m k ≡ true) × (covers b m k n ≡ true)
 
 -- those that are marked stand before n, and cover all others that do
 pub record IsNear (b : Problem) (before : ℕ → ℕ → Bool) (near : Set) (n : ℕ) : Type 0 where
-  pub within : (m : ℕ) → 1 ≤ m → m ≤ BLOCK_LIMIT → is_marked near m ≡ true → before m n ≡ true
-  pub enough : (m : ℕ) → IsNumber b m → before m n ≡ true → (is_marked near m ≡ true) ⊎ IsCovered b before near m n
+  pub within : (m : ℕ) → has m (numbers_in near) ≡ true → before m n ≡ true
+  pub enough : (m : ℕ) → IsNumber b m → before m n ≡ true → (has m (numbers_in near) ≡ true) ⊎ IsCovered b before near m n
 
 -- of each number
 pub record AreNear (b : Problem) (sooner near : List Set) : Type 0 where
   pub count : length near ≡ length b.block
-  pub each : (n : ℕ) → IsNumber b n → IsNear b (before_in sooner) (get_or near (n - 1) no_marks) n
+  pub each : (n : ℕ) → IsNumber b n → IsNear b (before_in sooner) (get_or near (n - 1) no_set) n
 
 -- as it is kept, with the rows of the instructions, the numbers that stand after each, and those that decide the times of each
 pub record IsKept (block : List Instr) (profile : Profile) (rows : List Row) (marks later marks_near later_near : List Set) (loads : List KnownArc) : Type 0 where
-  pub ordered : IsOrdered (record { problem = record { block = block; profile = profile }; marks = marks; loads = loads })
+  pub ordered : IsAcyclic (record { problem = record { block = block; profile = profile }; marks = marks; loads = loads })
   pub known_rows : rows ≡ map (row profile) block
   pub count : length later ≡ length block
   pub turned : (m n : ℕ) → before_in later n m ≡ before_in marks m n

@@ -6,7 +6,9 @@ use Rattle.s66_facts.specs.declared.direction.Direction.{Direction}
 use Rattle.s66_facts.specs.declared.direction.Direction.TheVariants.{Forward, Backward}
 use Rattle.s66_isa.specs.declared.set.Set.{Set}
 use Rattle.s66_facts.specs.declared.times.Times.{Times}
-use Rattle.s66_facts.specs.Marked.{is_marked, before_in}
+use Rattle.s66_isa.specs.Lists.{has}
+use Rattle.s66_isa.specs.Members.{numbers_in}
+use Rattle.s66_facts.specs.Marked.{before_in}
 use Rattle.s66_facts.specs.Ground.{Ground}
 use Rattle.s66_facts.specs.Passes.{times_at, AreTimes}
 use Rattle.s66_facts.specs.Directions.{sooner, rank, span_along}
@@ -23,15 +25,15 @@ IsStep d g e times n t =
 
 -- so it is for each number that is marked
 abbrev pub AreSettled : Direction → Ground → Moment → List Times → Set → Type 0
-AreSettled d g e times settled = (n : ℕ) → IsNumber g.problem n → is_marked settled n ≡ true → IsStep d g e times n (times_at times n)
+AreSettled d g e times settled = (n : ℕ) → IsNumber g.problem n → has n (numbers_in settled) ≡ true → IsStep d g e times n (times_at times n)
 
 -- all that comes sooner is marked
 abbrev pub IsReady : Direction → Ground → Set → ℕ → Type 0
-IsReady d g done n = (m : ℕ) → IsNumber g.problem m → sooner d (before_in g.marks) m n ≡ true → is_marked done m ≡ true
+IsReady d g done n = (m : ℕ) → IsNumber g.problem m → sooner d (before_in g.marks) m n ≡ true → has m (numbers_in done) ≡ true
 
 -- all numbers are marked that have this rank at most; what comes sooner has a lesser one
 abbrev pub IsMarkedUpTo : Direction → Ground → ℕ → Set → Type 0
-IsMarkedUpTo d g h done = (n : ℕ) → IsNumber g.problem n → rank d g n ≤ h → is_marked done n ≡ true
+IsMarkedUpTo d g h done = (n : ℕ) → IsNumber g.problem n → rank d g n ≤ h → has n (numbers_in done) ≡ true
 
 -- the same numbers come sooner than k if m comes sooner than n too: k isn't n nor later, or is later than m already
 abbrev pub keeps : (ℕ → ℕ → Bool) → ℕ → ℕ → ℕ → Bool

@@ -9,8 +9,10 @@ ghost use Rattle.s66_moments.specs.declared.moment.Stage.TheVariants.{Issue, Sta
 ghost use Rattle.s66_moments.specs.declared.moment.Moment.TheVariants.{At};
 ghost use Rattle.s66_moments.specs.Facts.{IsNumber};
 ghost use Rattle.s66_moments.specs.Networks.{same_moment};
-ghost use Rattle.s66_facts.specs.Marked.{is_marked, before_in};
-ghost use Rattle.s66_facts.specs.Ground.{IsOrdered};
+ghost use Rattle.s66_isa.specs.Lists.{has};
+ghost use Rattle.s66_isa.specs.Members.{numbers_in};
+ghost use Rattle.s66_facts.specs.Marked.{before_in};
+ghost use Rattle.s66_facts.specs.Ground.{IsAcyclic};
 ghost use Rattle.s66_facts.specs.Directions.{can_begin, sooner};
 ghost use Rattle.s66_facts.specs.Settled.{AreAll, IsReady, IsMarkedUpTo, AreSettled, keeps, nth_number};
 
@@ -36,7 +38,7 @@ pub(crate) fn all_kept(direction: Direction, graph: &Graph, m: u8, n: u8) -> Set
     requires m { IsNumber graph.now.problem m }
     requires n { IsNumber graph.now.problem n }
     requires few { length graph.now.problem.block ≤ BLOCK_LIMIT }
-    ensures { (k : ℕ) → IsNumber graph.now.problem k → is_marked result k ≡ true →
+    ensures { (k : ℕ) → IsNumber graph.now.problem k → has k (numbers_in result) ≡ true →
         keeps (sooner direction (before_in graph.now.marks)) m n k ≡ true }
 {
     let mut same = Set::empty();
@@ -59,7 +61,7 @@ fn is_its(moment: &Moment, n: u8) -> bool
 /// All numbers but that of a moment, an issue or a start.
 pub(crate) fn all_but(graph: &Graph, moment: &Moment) -> Set
     requires { length graph.now.problem.block ≤ BLOCK_LIMIT }
-    ensures { (k : ℕ) → IsNumber graph.now.problem k → is_marked result k ≡ true →
+    ensures { (k : ℕ) → IsNumber graph.now.problem k → has k (numbers_in result) ≡ true →
         (same_moment moment.now (At k Issue) || same_moment moment.now (At k Start)) ≡ false }
 {
     let mut others = Set::empty();
@@ -82,14 +84,14 @@ fn settle(
 ) -> Set
     requires n { IsNumber graph.now.problem n }
     requires few { length graph.now.problem.block ≤ BLOCK_LIMIT }
-    requires ordered { IsOrdered graph.now }
+    requires ordered { IsAcyclic graph.now }
     requires from { can_begin direction from.now ≡ true }
     ensures right { AreSettled direction graph.now from.now times.old settled →
         AreSettled direction graph.now from.now times.new result }
-    ensures kept { (k : ℕ) → IsNumber graph.now.problem k → is_marked settled k ≡ true →
-        (sooner direction (before_in graph.now.marks) n k ≡ true → is_marked settled n ≡ true) →
-        is_marked result k ≡ true }
-    ensures ready { IsReady direction graph.now settled n → is_marked result n ≡ true }
+    ensures kept { (k : ℕ) → IsNumber graph.now.problem k → has k (numbers_in settled) ≡ true →
+        (sooner direction (before_in graph.now.marks) n k ≡ true → has n (numbers_in settled) ≡ true) →
+        has k (numbers_in result) ≡ true }
+    ensures ready { IsReady direction graph.now settled n → has n (numbers_in result) ≡ true }
 {
     if settled.has(n) {
         return settled;
@@ -126,7 +128,7 @@ fn settle_each(
     settled: Set,
 ) -> Set
     requires few { length graph.now.problem.block ≤ BLOCK_LIMIT }
-    requires ordered { IsOrdered graph.now }
+    requires ordered { IsAcyclic graph.now }
     requires from { can_begin direction from.now ≡ true }
     ensures right { AreSettled direction graph.now from.now times.old settled →
         AreSettled direction graph.now from.now times.new result }
@@ -144,7 +146,7 @@ fn settle_each(
 /// Whether all numbers are marked.
 fn are_all(graph: &Graph, done: &Set) -> bool
     requires { length graph.now.problem.block ≤ BLOCK_LIMIT }
-    ensures { IsTrue result → (n : ℕ) → IsNumber graph.now.problem n → is_marked done.now n ≡ true }
+    ensures { IsTrue result → (n : ℕ) → IsNumber graph.now.problem n → has n (numbers_in done.now) ≡ true }
 {
     for position in 0..graph.count() {
         if !done.has(position + 1) {
@@ -164,7 +166,7 @@ pub(crate) fn find_again(
     settled: Set,
 )
     requires few { length graph.now.problem.block ≤ BLOCK_LIMIT }
-    requires ordered { IsOrdered graph.now }
+    requires ordered { IsAcyclic graph.now }
     requires from { can_begin direction from.now ≡ true }
     requires settled { AreSettled direction graph.now from.now times.old settled }
     ensures { AreAll direction graph.now from.now times.new }
@@ -181,7 +183,7 @@ pub(crate) fn find_again(
 /// The longest paths from a moment to all instructions in a direction: each is settled once, with what comes sooner settled first.
 pub(crate) fn find_all(direction: Direction, graph: &Graph, from: &Moment) -> [Times; BLOCK_LIMIT]
     requires few { length graph.now.problem.block ≤ BLOCK_LIMIT }
-    requires ordered { IsOrdered graph.now }
+    requires ordered { IsAcyclic graph.now }
     requires from { can_begin direction from.now ≡ true }
     ensures { AreAll direction graph.now from.now result }
 {

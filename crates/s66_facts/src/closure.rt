@@ -5,7 +5,9 @@ ghost use Rattle.std.specs.Prelude.{ℕ, ◌≡◌, ◌+◌, ◌≤◌, ◌<◌,
 ghost use Rattle.s66_isa.specs.declared.limits.TheConstants.{BLOCK_LIMIT};
 ghost use Rattle.s66_model.specs.Dependence.{share, conflict, depends};
 ghost use Rattle.s66_moments.specs.Networks.{precedes};
-ghost use Rattle.s66_facts.specs.Marked.{is_marked, no_marks, IsClosedUpTo};
+ghost use Rattle.s66_isa.specs.Lists.{has};
+ghost use Rattle.s66_isa.specs.Members.{numbers_in, no_set};
+ghost use Rattle.s66_facts.specs.Marked.{IsClosedUpTo};
 
 use arrayvec::ArrayVec;
 use s66_isa::{BLOCK_LIMIT, Instr, Reg, Set, has_register, is_memory_conflict};
@@ -48,7 +50,7 @@ fn depends(block: &[Instr], earlier: usize, position: usize) -> bool
 /// Those at a position.
 pub(crate) fn marks_at(marks: &[Set], position: usize) -> Set
     requires { position < length marks.now }
-    ensures { result ≡ get_or marks.now position no_marks }
+    ensures { result ≡ get_or marks.now position no_set }
 {
     marks[position]
 }
@@ -59,7 +61,7 @@ fn before_at(block: &[Instr], before: &[Set], position: usize) -> Set
     requires place { position < length block.now }
     requires count { length before.now ≡ position }
     requires closed { IsClosedUpTo block.now before.now position }
-    ensures { (m : ℕ) → 1 ≤ m → is_marked result m ≡ precedes block.now m (position + 1) }
+    ensures { (m : ℕ) → 1 ≤ m → has m (numbers_in result) ≡ precedes block.now m (position + 1) }
 {
     let mut sooner = Set::empty();
     for earlier in 0..position {

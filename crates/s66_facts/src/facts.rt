@@ -57,7 +57,7 @@ impl Facts {
     ghost use Rattle.s66_isa.specs.Table.{numbers};
     ghost use Rattle.s66_moments.specs.Suppositions.{is_late_through, is_late as is_too_late};
     ghost use Rattle.s66_facts.specs.Marked.{before_in};
-    ghost use Rattle.s66_facts.specs.Ground.{IsOrdered, known_of};
+    ghost use Rattle.s66_facts.specs.Ground.{IsAcyclic, known_of};
     ghost use Rattle.s66_facts.specs.Passes.{times_at, AreTimes};
 
     /// What is known of a block under a profile by dependence alone. It takes the time of the longest paths from a moment and to
@@ -173,7 +173,7 @@ impl Facts {
     pub fn count(&self) -> u8
         ensures value { result ≡ length self.now.problem.block }
         ensures few { result ≤ BLOCK_LIMIT }
-        ensures ordered { IsOrdered self.now }
+        ensures ordered { IsAcyclic self.now }
     {
         self.graph.count()
     }

@@ -62,8 +62,10 @@ fn rows_of(block: &[Instr], profile: &Profile) -> ArrayVec<Row, BLOCK_LIMIT>
 impl Graph {
     ghost use Rattle.s66_model.specs.Timing.{row_at, copies};
     ghost use Rattle.s66_moments.specs.Facts.{IsNumber};
-    ghost use Rattle.s66_facts.specs.Marked.{is_marked, before_in};
-    ghost use Rattle.s66_facts.specs.Ground.{IsOrdered, known_of};
+    ghost use Rattle.s66_isa.specs.Lists.{has};
+    ghost use Rattle.s66_isa.specs.Members.{numbers_in};
+    ghost use Rattle.s66_facts.specs.Marked.{before_in};
+    ghost use Rattle.s66_facts.specs.Ground.{IsAcyclic, known_of};
     ghost use Rattle.s66_facts.specs.Directions.{sooner};
     ghost use Rattle.s66_facts.specs.Near.{IsNear};
     ghost use Rattle.s66_facts.specs.Passes.{share_unit};
@@ -151,7 +153,7 @@ impl Graph {
     pub(crate) fn count(&self) -> u8
         ensures value { result ≡ length self.now.problem.block }
         ensures few { result ≤ BLOCK_LIMIT }
-        ensures ordered { IsOrdered self.now }
+        ensures ordered { IsAcyclic self.now }
     {
         self.block.len() as u8
     }
@@ -199,7 +201,7 @@ impl Graph {
     pub(crate) fn later(&self, direction: Direction, n: u8) -> Set
         requires { IsNumber self.now.problem n }
         ensures { (m : ℕ) → IsNumber self.now.problem m →
-            is_marked result m ≡ sooner direction (before_in self.now.marks) n m }
+            has m (numbers_in result) ≡ sooner direction (before_in self.now.marks) n m }
     {
         match direction {
             Direction::Forward => self.after[n as usize - 1],

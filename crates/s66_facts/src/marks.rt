@@ -2,7 +2,8 @@
 
 ghost use Rattle.std.specs.Prelude.{ℕ, ◌-◌, ◌≡◌, ◌≤◌, false, length, get_or};
 ghost use Rattle.s66_isa.specs.declared.limits.TheConstants.{BLOCK_LIMIT};
-ghost use Rattle.s66_facts.specs.Marked.{is_marked, no_marks};
+ghost use Rattle.s66_isa.specs.Lists.{has};
+ghost use Rattle.s66_isa.specs.Members.{numbers_in, no_set};
 
 use arrayvec::ArrayVec;
 use s66_isa::{BLOCK_LIMIT, Set};
@@ -22,7 +23,7 @@ pub(crate) fn copy_of(marks: &[Set]) -> ArrayVec<Set, BLOCK_LIMIT>
 pub(crate) fn none_each(count: u8) -> ArrayVec<Set, BLOCK_LIMIT>
     requires { count ≤ BLOCK_LIMIT }
     ensures count { length result.items ≡ count }
-    ensures none { (m n : ℕ) → 1 ≤ n → n ≤ count → is_marked (get_or result.items (n - 1) no_marks) m ≡ false }
+    ensures none { (m n : ℕ) → 1 ≤ n → n ≤ count → has m (numbers_in (get_or result.items (n - 1) no_set)) ≡ false }
 {
     let mut all: ArrayVec<Set, BLOCK_LIMIT> = ArrayVec::new();
     for _position in 0..count {

@@ -7,7 +7,9 @@
 ghost use Rattle.std.specs.Prelude.{ℕ, ◌-◌, ◌≡◌, ◌≤◌, ◌⊎◌, ◌||◌, IsTrue, true, false, length, get_or};
 ghost use Rattle.s66_isa.specs.declared.limits.TheConstants.{BLOCK_LIMIT};
 ghost use Rattle.s66_moments.specs.Facts.{IsNumber};
-ghost use Rattle.s66_facts.specs.Marked.{is_marked, no_marks, before_in};
+ghost use Rattle.s66_isa.specs.Lists.{has};
+ghost use Rattle.s66_isa.specs.Members.{numbers_in, no_set};
+ghost use Rattle.s66_facts.specs.Marked.{before_in};
 ghost use Rattle.s66_facts.specs.Near.{uses, hands_on, covers, IsCovered, AreNear};
 
 use crate::closure::marks_at;
@@ -57,7 +59,7 @@ fn is_covered(graph: &Graph, sooner: &[Set], near: Set, m: u8, n: u8) -> bool
     requires n { IsNumber graph.now.problem n }
     requires few { length graph.now.problem.block ≤ BLOCK_LIMIT }
     requires count { length sooner.now ≡ length graph.now.problem.block }
-    requires near { (k : ℕ) → 1 ≤ k → k ≤ BLOCK_LIMIT → is_marked near k ≡ true → IsNumber graph.now.problem k }
+    requires near { (k : ℕ) → has k (numbers_in near) ≡ true → IsNumber graph.now.problem k }
     ensures { IsTrue result → IsCovered graph.now.problem (before_in sooner.now) near m n }
 {
     let mut rest = near;
@@ -74,13 +76,13 @@ fn with_one(graph: &Graph, sooner: &[Set], own: Set, near: Set, m: u8, n: u8) ->
     requires n { IsNumber graph.now.problem n }
     requires few { length graph.now.problem.block ≤ BLOCK_LIMIT }
     requires count { length sooner.now ≡ length graph.now.problem.block }
-    requires near { (k : ℕ) → 1 ≤ k → k ≤ BLOCK_LIMIT → is_marked near k ≡ true → IsNumber graph.now.problem k }
-    ensures old { (k : ℕ) → 1 ≤ k → k ≤ BLOCK_LIMIT → is_marked near k ≡ true → is_marked result k ≡ true }
-    ensures new { (k : ℕ) → 1 ≤ k → k ≤ BLOCK_LIMIT → is_marked result k ≡ true →
-        (is_marked near k || is_marked own k) ≡ true }
-    ensures numbers { (k : ℕ) → 1 ≤ k → k ≤ BLOCK_LIMIT → is_marked result k ≡ true → IsNumber graph.now.problem k }
-    ensures covered { IsNumber graph.now.problem m → is_marked own m ≡ true →
-        (is_marked result m ≡ true) ⊎ IsCovered graph.now.problem (before_in sooner.now) near m n }
+    requires near { (k : ℕ) → has k (numbers_in near) ≡ true → IsNumber graph.now.problem k }
+    ensures old { (k : ℕ) → has k (numbers_in near) ≡ true → has k (numbers_in result) ≡ true }
+    ensures new { (k : ℕ) → has k (numbers_in result) ≡ true →
+        (has k (numbers_in near) || has k (numbers_in own)) ≡ true }
+    ensures numbers { (k : ℕ) → has k (numbers_in result) ≡ true → IsNumber graph.now.problem k }
+    ensures covered { IsNumber graph.now.problem m → has m (numbers_in own) ≡ true →
+        (has m (numbers_in result) ≡ true) ⊎ IsCovered graph.now.problem (before_in sooner.now) near m n }
 {
     if !graph.is_number(m) || !own.has(m) || is_covered(graph, sooner, near, m, n) {
         near
@@ -94,14 +96,14 @@ fn with_near(graph: &Graph, sooner: &[Set], own: Set, near: Set, n: u8) -> Set
     requires n { IsNumber graph.now.problem n }
     requires few { length graph.now.problem.block ≤ BLOCK_LIMIT }
     requires count { length sooner.now ≡ length graph.now.problem.block }
-    requires near { (k : ℕ) → 1 ≤ k → k ≤ BLOCK_LIMIT → is_marked near k ≡ true → IsNumber graph.now.problem k }
-    requires other { is_marked own n ≡ false }
-    ensures old { (k : ℕ) → 1 ≤ k → k ≤ BLOCK_LIMIT → is_marked near k ≡ true → is_marked result k ≡ true }
-    ensures new { (k : ℕ) → 1 ≤ k → k ≤ BLOCK_LIMIT → is_marked result k ≡ true →
-        (is_marked near k || is_marked own k) ≡ true }
-    ensures numbers { (k : ℕ) → 1 ≤ k → k ≤ BLOCK_LIMIT → is_marked result k ≡ true → IsNumber graph.now.problem k }
-    ensures covered { (m : ℕ) → IsNumber graph.now.problem m → is_marked own m ≡ true →
-        (is_marked result m ≡ true) ⊎ IsCovered graph.now.problem (before_in sooner.now) result m n }
+    requires near { (k : ℕ) → has k (numbers_in near) ≡ true → IsNumber graph.now.problem k }
+    requires other { has n (numbers_in own) ≡ false }
+    ensures old { (k : ℕ) → has k (numbers_in near) ≡ true → has k (numbers_in result) ≡ true }
+    ensures new { (k : ℕ) → has k (numbers_in result) ≡ true →
+        (has k (numbers_in near) || has k (numbers_in own)) ≡ true }
+    ensures numbers { (k : ℕ) → has k (numbers_in result) ≡ true → IsNumber graph.now.problem k }
+    ensures covered { (m : ℕ) → IsNumber graph.now.problem m → has m (numbers_in own) ≡ true →
+        (has m (numbers_in result) ≡ true) ⊎ IsCovered graph.now.problem (before_in sooner.now) result m n }
 {
     let count = graph.count();
     let mut all = near;
@@ -126,7 +128,7 @@ pub(crate) fn near_each(
     requires few { length graph.now.problem.block ≤ BLOCK_LIMIT }
     requires count { length sooner.now ≡ length graph.now.problem.block }
     requires count_old { length old.now ≡ length graph.now.problem.block }
-    requires apart { (n : ℕ) → IsNumber graph.now.problem n → is_marked (get_or sooner.now (n - 1) no_marks) n ≡ false }
+    requires apart { (n : ℕ) → IsNumber graph.now.problem n → has n (numbers_in (get_or sooner.now (n - 1) no_set)) ≡ false }
     requires more { (m n : ℕ) → before_in old.now m n ≡ true → before_in sooner.now m n ≡ true }
     requires near { AreNear graph.now.problem old.now near.now }
     ensures { AreNear graph.now.problem sooner.now result.items }

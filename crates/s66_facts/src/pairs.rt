@@ -4,7 +4,9 @@
 ghost use Rattle.std.specs.Prelude.{ℕ, ◌≡◌, ◌≤◌, ◌<◌, ◌+◌, ◌-◌, ◌==◌, ◌||◌, ◌&&◌, length, get_or};
 ghost use Rattle.s66_isa.specs.declared.limits.TheConstants.{BLOCK_LIMIT};
 ghost use Rattle.s66_moments.specs.Networks.{with_pair};
-ghost use Rattle.s66_facts.specs.Marked.{is_marked, no_marks, before_in};
+ghost use Rattle.s66_isa.specs.Lists.{has};
+ghost use Rattle.s66_isa.specs.Members.{numbers_in, no_set};
+ghost use Rattle.s66_facts.specs.Marked.{before_in};
 
 use crate::closure::marks_at;
 use arrayvec::ArrayVec;
@@ -16,10 +18,9 @@ fn marks_with_pair(before: &[Set], j: u8, k: u8, position: usize) -> Set
     requires j { (1 ≤ j) × (j ≤ length before.now) }
     requires k { (1 ≤ k) × (k ≤ length before.now) }
     requires place { position < length before.now }
-    ensures { (m : ℕ) → 1 ≤ m → is_marked result m ≡
-        (is_marked (get_or before.now position no_marks)
-        m || (m == j || is_marked (get_or before.now (j - 1) no_marks) m) &&
-        (position + 1 == k || is_marked (get_or before.now position no_marks) k)) }
+    ensures { (m : ℕ) → has m (numbers_in result) ≡
+        (has m (numbers_in (get_or before.now position no_set)) || (m == j || has m (numbers_in (get_or before.now (j - 1) no_set))) &&
+        (position + 1 == k || has k (numbers_in (get_or before.now position no_set)))) }
 {
     let own = marks_at(before, position);
     if position + 1 == k as usize || own.has(k) {
@@ -50,7 +51,7 @@ pub(crate) fn with_pair(before: &[Set], j: u8, k: u8) -> ArrayVec<Set, BLOCK_LIM
 fn turned_at(before: &[Set], n: u8) -> Set
     requires few { length before.now ≤ BLOCK_LIMIT }
     requires n { (1 ≤ n) × (n ≤ length before.now) }
-    ensures { (m : ℕ) → 1 ≤ m → is_marked result m ≡ before_in before.now n m }
+    ensures { (m : ℕ) → has m (numbers_in result) ≡ before_in before.now n m }
 {
     let mut all = Set::empty();
     for position in 0..before.len() {
@@ -65,8 +66,8 @@ fn turned_at(before: &[Set], n: u8) -> Set
 pub(crate) fn turned(before: &[Set]) -> ArrayVec<Set, BLOCK_LIMIT>
     requires { length before.now ≤ BLOCK_LIMIT }
     ensures count { length result.items ≡ length before.now }
-    ensures each { (n : ℕ) → 1 ≤ n → n ≤ length before.now → (m : ℕ) → 1 ≤ m →
-        is_marked (get_or result.items (n - 1) no_marks) m ≡ before_in before.now n m }
+    ensures each { (n : ℕ) → 1 ≤ n → n ≤ length before.now → (m : ℕ) →
+        has m (numbers_in (get_or result.items (n - 1) no_set)) ≡ before_in before.now n m }
 {
     let mut all: ArrayVec<Set, BLOCK_LIMIT> = ArrayVec::new();
     for position in 0..before.len() {

@@ -1,11 +1,12 @@
 //! The longest paths between a moment and those of an instruction, in a direction, by those of what comes sooner.
 //! Here is one step of that: the times of a number, by those that decide them.
 
-ghost use Rattle.std.specs.Prelude.{ℕ, ◌≡◌, ◌≤◌, true};
+ghost use Rattle.std.specs.Prelude.{ℕ, ◌≡◌, true};
 ghost use Rattle.s66_isa.specs.declared.limits.TheConstants.{BLOCK_LIMIT};
 ghost use Rattle.s66_moments.specs.Facts.{IsNumber};
-ghost use Rattle.s66_facts.specs.Marked.{is_marked};
-ghost use Rattle.s66_facts.specs.Ground.{IsOrdered};
+ghost use Rattle.s66_isa.specs.Lists.{has};
+ghost use Rattle.s66_isa.specs.Members.{numbers_in};
+ghost use Rattle.s66_facts.specs.Ground.{IsAcyclic};
 ghost use Rattle.s66_facts.specs.Directions.{can_begin};
 ghost use Rattle.s66_facts.specs.Settled.{IsStep};
 ghost use Rattle.s66_facts.specs.Passes.{by_one, by_all, all_moments};
@@ -39,8 +40,8 @@ fn by_all(
     n: u8,
 ) -> Times
     requires n { IsNumber graph.now.problem n }
-    requires near { (m : ℕ) → 1 ≤ m → m ≤ BLOCK_LIMIT → is_marked near m ≡ true → IsNumber graph.now.problem m }
-    ensures { result ≡ by_all direction graph.now.problem (is_marked near) times.now n }
+    requires near { (m : ℕ) → has m (numbers_in near) ≡ true → IsNumber graph.now.problem m }
+    ensures { result ≡ by_all direction graph.now.problem (λ i. has i (numbers_in near)) times.now n }
 {
     // its clauses say that the block is short
     let _count = graph.count();
@@ -81,7 +82,7 @@ pub(crate) fn times_of(
     n: u8,
 ) -> Times
     requires n { IsNumber graph.now.problem n }
-    requires ordered { IsOrdered graph.now }
+    requires ordered { IsAcyclic graph.now }
     requires from { can_begin direction from.now ≡ true }
     ensures { IsStep direction graph.now from.now times.now n result }
 {

@@ -1,20 +1,22 @@
 use Rattle.std.proofs.Common.{◌+◌, ◌≡◌, ◌==◌, true, sym, subst, inl, inr, ◌∙◌}
 use Rattle.std.proofs.lemmas.Bool.{or_cases, eqb-true}
-use Rattle.s66_facts.specs.Marked.{is_marked, before_in}
+use Rattle.s66_isa.specs.Lists.{has}
+use Rattle.s66_isa.specs.Members.{numbers_in}
+use Rattle.s66_facts.specs.Marked.{before_in}
 use Rattle.s66_facts.specs.Directions.{sooner}
 use Rattle.s66_facts.specs.Settled.{keeps}
 use Rattle.s66_facts.proofs.again.all_kept.Goals.{then-keeps, else-keeps}
 use Rattle.s66_facts.proofs.again.all_kept.Goals as goal
 
 pub loop-position-preserved : goal.loop-position-preserved
-loop-position-preserved c = λ k low is.
+loop-position-preserved c = λ k is.
     let old = c.loop-position.invariant in
     let n = c.loop-position.position + 1 in
     elim c.if-keeps.branch [
       | then-keeps w ↦
-          elim (or_cases (k == n) (is_marked c.loop-position.same k) (sym (w.with-same.ensures k) ∙ subst (λ s. is_marked s k ≡ true) w.same-is is)) [
+          elim (or_cases (k == n) (has k (numbers_in c.loop-position.same)) (sym (w.with-same.ensures k) ∙ subst (λ s. has k (numbers_in s) ≡ true) w.same-is is)) [
             | inl here ↦ subst (λ j. keeps (sooner c.args.direction (before_in c.args.graph.now.marks)) c.args.m c.args.n j ≡ true) (sym (eqb-true k n here)) (sym c.keeps.ensures ∙ w.if-keeps.true)
-            | inr earlier ↦ old k low earlier
+            | inr earlier ↦ old k earlier
           ]
-      | else-keeps w ↦ old k low (subst (λ s. is_marked s k ≡ true) w.same-is is)
+      | else-keeps w ↦ old k (subst (λ s. has k (numbers_in s) ≡ true) w.same-is is)
     ]

@@ -1,8 +1,10 @@
-use Rattle.std.proofs.Common.{ℕ, ◌≡◌, ◌≤◌, true}
-use Rattle.s66_facts.specs.Marked.{is_marked, before_in}
+use Rattle.std.proofs.Common.{ℕ, ◌≡◌, true}
+use Rattle.s66_isa.specs.Lists.{has}
+use Rattle.s66_isa.specs.Members.{numbers_in}
+use Rattle.s66_facts.specs.Marked.{before_in}
 use Rattle.s66_facts.specs.Directions.{sooner}
 use Rattle.s66_facts.specs.Settled.{keeps}
 use Rattle.s66_facts.proofs.again.all_kept.Given as goal
 
 abbrev pub invariant-loop-position : goal.invariant-loop-position
-invariant-loop-position l = (k : ℕ) → 1 ≤ k → is_marked l.same k ≡ true → keeps (sooner l.direction (before_in l.graph.marks)) l.m l.n k ≡ true
+invariant-loop-position l = (k : ℕ) → has k (numbers_in l.same) ≡ true → keeps (sooner l.direction (before_in l.graph.marks)) l.m l.n k ≡ true

@@ -1,6 +1,7 @@
 use Rattle.std.proofs.Common.{ℕ, ◌≡◌, ◌≤◌, true}
-use Rattle.s66_facts.specs.Marked.{is_marked}
+use Rattle.s66_isa.specs.Lists.{has}
+use Rattle.s66_isa.specs.Members.{numbers_in}
 use Rattle.s66_facts.proofs.again.are_all.Given as goal
 
 abbrev pub invariant-loop-position : goal.invariant-loop-position
-invariant-loop-position l = (m : ℕ) → 1 ≤ m → m ≤ l.position → is_marked l.done m ≡ true
+invariant-loop-position l = (m : ℕ) → 1 ≤ m → m ≤ l.position → has m (numbers_in l.done) ≡ true

@@ -1,6 +1,7 @@
 use Rattle.std.proofs.Common.{ℕ, ◌+◌, ◌≡◌, ◌≤◌, ◌<◌, true, length, sym, subst, arith, inl, inr, ◌∙◌}
 use Rattle.s66_moments.specs.Facts.{IsNumber}
-use Rattle.s66_facts.specs.Marked.{is_marked}
+use Rattle.s66_isa.specs.Lists.{has}
+use Rattle.s66_isa.specs.Members.{numbers_in}
 use Rattle.s66_facts.specs.Directions.{rank}
 use Rattle.s66_facts.proofs.Told.{rank-less, nth-range, seen-none, seen-cases, seen-all}
 use Rattle.s66_facts.proofs.again.settle_each.Goals as goal
@@ -36,7 +37,7 @@ loop-position-preserved c =
         | inr here ↦
             let same : p ≡ k = c.number_after-n.ensures ∙ here in
             let its : rank d g p ≤ h + 1 = subst (λ i. rank d g i ≤ h + 1) (sym same) le in
-            subst (λ i. is_marked c.settle-done.result i ≡ true) same
+            subst (λ i. has i (numbers_in c.settle-done.result) ≡ true) same
             (told.ready (λ m is_m first. old.old h up m is_m (omega (arith, its, rank-less g c.requires.ordered d m p is_m is_p first))))
       ];
     }

@@ -1,17 +1,18 @@
-use Rattle.std.proofs.Common.{ℕ, ◌+◌, ◌≡◌, ◌≤◌, not, ◌||◌, ◌&&◌, List, true, false, length, get_or, sym, ap, subst, arith, ◌∙◌}
+use Rattle.std.proofs.Common.{ℕ, ◌+◌, ◌≡◌, not, ◌||◌, ◌&&◌, List, true, false, length, get_or, sym, ap, subst, arith, ◌∙◌}
 use Rattle.std.proofs.lemmas.Bool.{and_left}
-use Rattle.s66_isa.specs.declared.limits.TheConstants.{BLOCK_LIMIT}
 use Rattle.s66_moments.specs.Facts.{IsNumber}
 use Rattle.s66_isa.specs.declared.set.Set.{Set}
-use Rattle.s66_facts.specs.Marked.{is_marked, no_marks, before_in}
+use Rattle.s66_isa.specs.Lists.{has}
+use Rattle.s66_isa.specs.Members.{numbers_in, no_set}
+use Rattle.s66_facts.specs.Marked.{before_in}
 use Rattle.s66_facts.specs.Near.{IsNear}
 use Rattle.s66_facts.proofs.Each.{each-push}
 use Rattle.s66_facts.proofs.NearEach.{at, near-numbers, near-now}
 use Rattle.s66_facts.proofs.near.near_each.Goals as goal
 
 -- those at a position are those of its number
-next-at : (marks : List Set) (position : ℕ) → get_or marks position no_marks ≡ at marks (position + 1)
-next-at marks position = ap (λ i. get_or marks i no_marks) (omega arith)
+next-at : (marks : List Set) (position : ℕ) → get_or marks position no_set ≡ at marks (position + 1)
+next-at marks position = ap (λ i. get_or marks i no_set) (omega arith)
 
 pub loop-position-init : goal.loop-position-init
 loop-position-init c = record {
@@ -23,18 +24,18 @@ pub with_near-more-requires-clause-n : goal.with_near-more-requires-clause-n
 with_near-more-requires-clause-n c = (omega arith, omega (arith, c.loop-position-test.true, c.requires.count))
 
 pub with_near-more-requires-clause-near : goal.with_near-more-requires-clause-near
-with_near-more-requires-clause-near c = λ k low high marked.
+with_near-more-requires-clause-near c = λ k marked.
     let position = c.loop-position.position in
     let is_n : IsNumber c.args.graph.now.problem (position + 1) = (omega arith, omega (arith, c.loop-position-test.true, c.requires.count)) in
-    near-numbers c.args.graph.now.problem c.requires.few c.args.sooner.now c.args.old.now c.args.near.now c.requires.count c.requires.count_old c.requires.more c.requires.near (position + 1) is_n k low high
-    (subst (λ ms. is_marked ms k ≡ true) (c.marks_at-in-loop-position-2.ensures ∙ next-at c.args.near.now position) marked)
+    near-numbers c.args.graph.now.problem c.requires.few c.args.sooner.now c.args.old.now c.args.near.now c.requires.count c.requires.count_old c.requires.more c.requires.near (position + 1) is_n k
+    (subst (λ ms. has k (numbers_in ms) ≡ true) (c.marks_at-in-loop-position-2.ensures ∙ next-at c.args.near.now position) marked)
 
 pub with_near-more-requires-clause-other : goal.with_near-more-requires-clause-other
 with_near-more-requires-clause-other c =
     let position = c.loop-position.position in
     let is_n : IsNumber c.args.graph.now.problem (position + 1) = (omega arith, omega (arith, c.loop-position-test.true, c.requires.count)) in
-    let off : is_marked c.marks_at.result (position + 1) ≡ false = ap (λ ms. is_marked ms (position + 1)) (c.marks_at.ensures ∙ next-at c.args.sooner.now position) ∙ c.requires.apart (position + 1) is_n in
-    c.without-own.ensures (position + 1) ∙ and_left (is_marked c.marks_at.result (position + 1)) (not (is_marked c.marks_at-in-loop-position.result (position + 1))) off
+    let off : has (position + 1) (numbers_in c.marks_at.result) ≡ false = ap (λ ms. has (position + 1) (numbers_in ms)) (c.marks_at.ensures ∙ next-at c.args.sooner.now position) ∙ c.requires.apart (position + 1) is_n in
+    c.without-own.ensures (position + 1) ∙ and_left (has (position + 1) (numbers_in c.marks_at.result)) (not (has (position + 1) (numbers_in c.marks_at-in-loop-position.result))) off
 
 pub loop-position-preserved : goal.loop-position-preserved
 loop-position-preserved c =
@@ -46,12 +47,12 @@ loop-position-preserved c =
     let sooner-at : c.marks_at.result ≡ at c.args.sooner.now n = c.marks_at.ensures ∙ next-at c.args.sooner.now position in
     let old-at : c.marks_at-in-loop-position.result ≡ at c.args.old.now n = c.marks_at-in-loop-position.ensures ∙ next-at c.args.old.now position in
     let near-at : c.marks_at-in-loop-position-2.result ≡ at c.args.near.now n = c.marks_at-in-loop-position-2.ensures ∙ next-at c.args.near.now position in
-    let is-own : (m : ℕ) → 1 ≤ m → m ≤ BLOCK_LIMIT → is_marked c.without-own.result m ≡ (is_marked (at c.args.sooner.now n) m && not (is_marked (at c.args.old.now n) m)) =
-    λ m low high. c.without-own.ensures m ∙ (ap (λ ms. is_marked ms m && not (is_marked c.marks_at-in-loop-position.result m)) sooner-at ∙ ap (λ ms. is_marked (at c.args.sooner.now n) m && not (is_marked ms m)) old-at) in
+    let is-own : (m : ℕ) → has m (numbers_in c.without-own.result) ≡ (has m (numbers_in (at c.args.sooner.now n)) && not (has m (numbers_in (at c.args.old.now n)))) =
+    λ m. c.without-own.ensures m ∙ (ap (λ ms. has m (numbers_in ms) && not (has m (numbers_in c.marks_at-in-loop-position.result))) sooner-at ∙ ap (λ ms. has m (numbers_in (at c.args.sooner.now n)) && not (has m (numbers_in ms))) old-at) in
     let is-near : IsNear b (before_in c.args.sooner.now) c.with_near-more.result n =
     near-now b c.requires.few c.args.sooner.now c.args.old.now c.args.near.now c.requires.count c.requires.count_old c.requires.more c.requires.near n is_n c.without-own.result c.with_near-more.result is-own
-    (λ k low high marked. made.old k low high (subst (λ ms. is_marked ms k ≡ true) (sym near-at) marked))
-    (λ k low high marked. subst (λ ms. (is_marked ms k || is_marked c.without-own.result k) ≡ true) near-at (made.new k low high marked))
+    (λ k marked. made.old k (subst (λ ms. has k (numbers_in ms) ≡ true) (sym near-at) marked))
+    (λ k marked. subst (λ ms. (has k (numbers_in ms) || has k (numbers_in c.without-own.result)) ≡ true) near-at (made.new k marked))
     made.numbers made.covered in
     let both = each-push (λ k ms. IsNear b (before_in c.args.sooner.now) ms k) c.loop-position.all.items c.push.new.self.items c.with_near-more.result position c.loop-position.invariant.count c.loop-position.invariant.each is-near c.push.ensures.items in
     record { count = both.0; each = both.1 }

@@ -1,10 +1,11 @@
 use Rattle.std.proofs.Common.{ℕ, ◌-◌, ◌≡◌, ◌≤◌, length, get_or}
-use Rattle.s66_facts.specs.Marked.{no_marks, before_in}
+use Rattle.s66_isa.specs.Members.{no_set}
+use Rattle.s66_facts.specs.Marked.{before_in}
 use Rattle.s66_facts.specs.Near.{IsNear}
 use Rattle.s66_facts.proofs.near.near_each.Given as goal
 
 abbrev pub invariant-loop-position : goal.invariant-loop-position
 invariant-loop-position l = record {
   count : length l.all.items ≡ l.position;
-  each : (n : ℕ) → 1 ≤ n → n ≤ l.position → IsNear l.graph.problem (before_in l.sooner) (get_or l.all.items (n - 1) no_marks) n;
+  each : (n : ℕ) → 1 ≤ n → n ≤ l.position → IsNear l.graph.problem (before_in l.sooner) (get_or l.all.items (n - 1) no_set) n;
 }

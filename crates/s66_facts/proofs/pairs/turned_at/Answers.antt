@@ -16,7 +16,7 @@ loop-position-preserved c =
     let less : position < length before = omega (arith, c.loop-position-test.true) in
     let here = before-at before n position c.requires.n less c.marks_at.result c.marks_at.ensures in
     elim c.if-has.branch [
-      | then-has w ↦ subst (IsTurned before n (position + 1)) (sym w.all-is) (turned-more before n position old w.with-all.result (here ∙ (sym c.has.ensures ∙ w.if-has.true)) (λ m low. w.with-all.ensures m) c.loop-position.invariant)
+      | then-has w ↦ subst (IsTurned before n (position + 1)) (sym w.all-is) (turned-more before n position old w.with-all.result (here ∙ (sym c.has.ensures ∙ w.if-has.true)) w.with-all.ensures c.loop-position.invariant)
       | else-has w ↦ subst (IsTurned before n (position + 1)) (sym w.all-is) (turned-past before n position old (here ∙ (sym c.has.ensures ∙ w.if-has.false)) c.loop-position.invariant)
     ]
 

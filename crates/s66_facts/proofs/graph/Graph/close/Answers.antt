@@ -6,8 +6,10 @@ use Rattle.s66_model.specs.Timing.{Problem}
 use Rattle.s66_moments.specs.Known.{known_first}
 use Rattle.s66_moments.specs.declared.fact_line.KnownArc.{KnownArc}
 use Rattle.s66_isa.specs.declared.set.Set.{Set}
-use Rattle.s66_facts.specs.Marked.{is_marked, no_marks, before_in, IsClosedUpTo}
-use Rattle.s66_facts.specs.Ground.{IsOrdered, known_of}
+use Rattle.s66_isa.specs.Lists.{has}
+use Rattle.s66_isa.specs.Members.{numbers_in, no_set}
+use Rattle.s66_facts.specs.Marked.{before_in, IsClosedUpTo}
+use Rattle.s66_facts.specs.Ground.{IsAcyclic, known_of}
 use Rattle.s66_facts.proofs.FirstKnown.{before-is, first-known, first-ordered}
 use Rattle.s66_facts.proofs.NearEach.{turned-is, all-are}
 use Rattle.s66_facts.proofs.graph.Graph.close.Goals as goal
@@ -24,16 +26,16 @@ invariant_of-result c =
     let after = c.turned-after.result.items in
     let before-slice : c.as_slice.result.now ≡ marks = c.as_slice.ensures.value in
     let count_after : length after ≡ length block = c.turned-after.ensures.count ∙ (ap (λ (ms : List Set). length ms) c.as_slice-2.ensures.value ∙ count) in
-    let each : (n : ℕ) → 1 ≤ n → n ≤ length marks → (m : ℕ) → 1 ≤ m → is_marked (get_or after (n - 1) no_marks) m ≡ before_in marks n m =
-    subst (λ (ms : List Set). (n : ℕ) → 1 ≤ n → n ≤ length ms → (m : ℕ) → 1 ≤ m → is_marked (get_or after (n - 1) no_marks) m ≡ before_in ms n m) c.as_slice-2.ensures.value c.turned-after.ensures.each in
+    let each : (n : ℕ) → 1 ≤ n → n ≤ length marks → (m : ℕ) → has m (numbers_in (get_or after (n - 1) no_set)) ≡ before_in marks n m =
+    subst (λ (ms : List Set). (n : ℕ) → 1 ≤ n → n ≤ length ms → (m : ℕ) → has m (numbers_in (get_or after (n - 1) no_set)) ≡ before_in ms n m) c.as_slice-2.ensures.value c.turned-after.ensures.each in
     let turned : (m n : ℕ) → before_in after n m ≡ before_in marks m n = turned-is b marks after count count_after each in
     record {
-      ordered = subst (λ (loads : List KnownArc). IsOrdered (record { problem = b; marks = marks; loads = loads })) (sym c.none.ensures) (first-ordered b marks few count closed);
+      ordered = subst (λ (loads : List KnownArc). IsAcyclic (record { problem = b; marks = marks; loads = loads })) (sym c.none.ensures) (first-ordered b marks few count closed);
       known_rows = c.rows_of.ensures ∙ ap (map (row c.args.profile.now)) (sym copied);
       count = count_after;
       turned = turned;
       near_before = all-are b marks c.copy_of-near_before.result.items count (c.copy_of-near_before.ensures ∙ c.as_slice.ensures.value) (λ n is_n m low. closed n m is_n.0 is_n.1 low ∙ sym (ap (λ f. f m n) (before-is block marks count closed)));
-      near_after = all-are b after c.copy_of-near_after.result.items count_after (c.copy_of-near_after.ensures ∙ c.as_slice-3.ensures.value) (λ n is_n m low. each n is_n.0 (omega (arith, is_n.1, count)) m low ∙ sym (turned n m));
+      near_after = all-are b after c.copy_of-near_after.result.items count_after (c.copy_of-near_after.ensures ∙ c.as_slice-3.ensures.value) (λ n is_n m low. each n is_n.0 (omega (arith, is_n.1, count)) m ∙ sym (turned n m));
     }
 
 pub returns-clause-known : goal.returns-clause-known

@@ -1,6 +1,7 @@
 use Rattle.std.proofs.Common.{◌-◌, get_or, ap, sym, subst, ◌∙◌}
 use Rattle.s66_moments.specs.Facts.{IsNumber}
-use Rattle.s66_facts.specs.Marked.{no_marks, before_in}
+use Rattle.s66_isa.specs.Members.{no_set}
+use Rattle.s66_facts.specs.Marked.{before_in}
 use Rattle.s66_facts.specs.Near.{IsNear}
 use Rattle.s66_facts.specs.Ground.{Ground}
 use Rattle.s66_facts.proofs.NearEach.{turned-near}
@@ -12,5 +13,5 @@ returns c =
     let n = c.args.n in
     let is_n : IsNumber g.problem n = subst (λ (k : Ground). IsNumber k.problem n) (sym c.self.view_is) c.requires in
     subst (λ (k : Ground). IsNear k.problem (λ m i. before_in k.marks i m) c.marks_at.result n) c.self.view_is
-    (subst (λ near. IsNear g.problem (λ m i. before_in g.marks i m) near n) (sym (c.marks_at.ensures ∙ ap (λ ms. get_or ms (n - 1) no_marks) c.as_slice.ensures.value))
-    (turned-near g.problem g.marks c.self.inside.after.items (get_or c.self.inside.near_after.items (n - 1) no_marks) n c.self.invariant.turned (c.self.invariant.near_after.each n is_n)))
+    (subst (λ near. IsNear g.problem (λ m i. before_in g.marks i m) near n) (sym (c.marks_at.ensures ∙ ap (λ ms. get_or ms (n - 1) no_set) c.as_slice.ensures.value))
+    (turned-near g.problem g.marks c.self.inside.after.items (get_or c.self.inside.near_after.items (n - 1) no_set) n c.self.invariant.turned (c.self.invariant.near_after.each n is_n)))
