@@ -9,11 +9,11 @@ use Rattle.s66_line.specs.Fields.{last_line, lines_from}
 abbrev pub IsFirstNewline : List ℕ → Option ℕ → Type 0
 IsFirstNewline bytes index = IsFirstByte (is_byte 10) bytes index
 
-later : (b : ℕ) (bytes : List ℕ) (k : ℕ) → IsFirstNewline (b ∷ bytes) (Some (suc k)) → IsFirstNewline bytes (Some k)
+pub later : (b : ℕ) (bytes : List ℕ) (k : ℕ) → IsFirstNewline (b ∷ bytes) (Some (suc k)) → IsFirstNewline bytes (Some k)
 later b bytes k h =
     (record { low = omega arith; high = (let high = h.0.high in omega (arith, high)); before = λ i low below. h.0.before (suc i) (omega arith) (omega (arith, below)) }, h.1)
 
-nowhere : (b : ℕ) (bytes : List ℕ) → IsFirstNewline (b ∷ bytes) None → IsFirstNewline bytes None
+pub nowhere : (b : ℕ) (bytes : List ℕ) → IsFirstNewline (b ∷ bytes) None → IsFirstNewline bytes None
 nowhere b bytes h = λ i low below. h (suc i) (omega arith) (omega (arith, below))
 
 pub lines_from-here : (line bytes : List ℕ) (b : ℕ) → (b == 10) ≡ true → lines_from line (b ∷ bytes) ≡ line ∷ lines_from [] bytes

@@ -99,7 +99,7 @@ indented_no b bytes other =
 
 -- THE SPELLING of a line
 
-skip_blanks-length : (bytes : List ℕ) → length (skip_blanks bytes) ≤ length bytes
+pub skip_blanks-length : (bytes : List ℕ) → length (skip_blanks bytes) ≤ length bytes
 skip_blanks-length [] = omega arith
 skip_blanks-length (b ∷ bytes) =
     elim (is_blank b) as (λ t. length (cond t (skip_blanks bytes) (b ∷ bytes)) ≤ suc (length bytes))
@@ -160,7 +160,7 @@ trim-length test (b ∷ bytes) =
 
 -- the operation begins after column 1
 
-after_word-length : (bytes : List ℕ) → length (after_word bytes) ≤ length bytes
+pub after_word-length : (bytes : List ℕ) → length (after_word bytes) ≤ length bytes
 after_word-length [] = omega arith
 after_word-length (b ∷ bytes) =
     elim (is_blank b) as (λ t. length (cond t (b ∷ bytes) (after_word bytes)) ≤ suc (length bytes))
